@@ -1,0 +1,24 @@
+-- Bytes and fields, little-endian and in whole numbers.
+use Rattle.std.specs.Prelude.{ℕ, zero, suc, ◌+◌, ◌*◌, ◌/◌, ◌%◌, ◌<◌, slice_index, List, [], ◌∷◌, take, drop}
+
+-- the number that bytes spell, the least significant byte first (gABI 4, Data Encoding)
+unfoldable pub number : List ℕ → ℕ
+number [] = 0
+number (b ∷ bs) = b + 256 * number bs
+
+-- the bytes of a file from an offset on, so many of them
+abbrev pub slice : List ℕ → ℕ → ℕ → List ℕ
+slice file at size = take size (drop at file)
+
+-- the number in the field of so many bytes at an offset
+unfoldable pub field : List ℕ → ℕ → ℕ → ℕ
+field file at width = number (slice file at width)
+
+-- the bytes of a number in a field of so many bytes
+unfoldable pub little : ℕ → ℕ → List ℕ
+little zero n = []
+little (suc width) n = n % 256 ∷ little width (n / 256)
+
+-- each member is a byte
+abbrev pub IsBytes : List ℕ → Type 0
+IsBytes bytes = (i : ℕ) → slice_index bytes i < 256

@@ -1,0 +1,104 @@
+-- Checks in their order: the first one that fails is the answer. Sums are whole numbers.
+use Rattle.std.specs.Prelude.{ℕ, ◌+◌, ◌*◌, ◌%◌, ◌^◌, ◌==◌, ◌&&◌, ◌||◌, nat_lt, not, Bool, true, false, List, [], ◌∷◌, ◌++◌, length, Option, None, Some}
+use Rattle.elf_model.specs.Bytes.{field}
+use Rattle.elf_model.specs.Records.{e_phoff, e_shoff, e_phentsize, e_phnum, e_shentsize, e_shnum, e_shstrndx, sh_type, sh_offset, sh_size, sh_link, sh_entsize, section_at}
+use Rattle.elf_model.specs.Numbers.{PN_XNUM, SHN_XINDEX, SHT_STRTAB, SHT_SYMTAB, SHT_DYNSYM}
+use Rattle.elf_model.specs.declared.causes.Refusal.{Refusal}
+use Rattle.elf_model.specs.declared.causes.Cause.{Cause}
+use Rattle.elf_model.specs.declared.causes.Cause.TheVariants.{Short, NotElf, BadClass, BadData, BadVersion, TooLong, ExtendedNumbering, TooManyHeaders, EntrySize, TableOutside, BadLink, NotStrings, SizeNotWhole}
+
+-- a check: whether it fails, and the refusal that it then gives
+pub record Check : Type 0 where
+  pub fails : Bool
+  pub refusal : Refusal
+
+abbrev pub refuse : Bool → ℕ → Cause → Check
+refuse fails at cause = record { fails = fails; refusal = record { at = at; cause = cause } }
+
+abbrev pub first_refusal : List Check → Option Refusal
+first_refusal [] = None
+first_refusal (check ∷ checks) = elim check.fails [ true ↦ Some check.refusal | false ↦ first_refusal checks ]
+
+-- before anything is read: the file's length
+abbrev pub length_checks : ℕ → List Check
+length_checks size =
+    refuse (not (nat_lt size (2 ^ 63))) size TooLong
+    ∷ refuse (nat_lt size 64) size Short
+    ∷ []
+
+-- the identification: magic number, class, data encoding, version (gABI 4, ELF Identification)
+abbrev pub ident_checks : List ℕ → List Check
+ident_checks file =
+    refuse (not (field file 0 4 == 0x464c457f)) 0 NotElf
+    ∷ refuse (not (field file 4 1 == 2)) 4 BadClass
+    ∷ refuse (not (field file 5 1 == 1)) 5 BadData
+    ∷ refuse (not (field file 6 1 == 1)) 6 BadVersion
+    ∷ []
+
+-- the file header's checks
+abbrev pub header_checks : List ℕ → List Check
+header_checks file = length_checks (length file) ++ ident_checks file
+
+-- so many bytes from an offset end past the end of the file
+abbrev pub is_outside : ℕ → ℕ → ℕ → Bool
+is_outside file_size offset size = nat_lt file_size (offset + size)
+
+-- a section's bytes end past the end of the file
+abbrev pub is_section_outside : List ℕ → ℕ → Bool
+is_section_outside file at = is_outside (length file) (sh_offset file at) (sh_size file at)
+
+-- before the section headers are read, with so many headers permitted (gABI 4, ELF Header)
+abbrev pub early_checks : List ℕ → ℕ → List Check
+early_checks file headers =
+    refuse (e_phnum file == PN_XNUM) 0x38 ExtendedNumbering
+    ∷ refuse (e_shstrndx file == SHN_XINDEX) 0x3e ExtendedNumbering
+    ∷ refuse (e_shnum file == 0 && not (e_shoff file == 0)) 0x3c ExtendedNumbering
+    ∷ refuse (nat_lt headers (e_shnum file)) 0x3c TooManyHeaders
+    ∷ refuse (nat_lt headers (e_phnum file)) 0x38 TooManyHeaders
+    ∷ refuse (not (e_shnum file == 0) && not (e_shentsize file == 64)) 0x3a EntrySize
+    ∷ refuse (not (e_phnum file == 0) && not (e_phentsize file == 56)) 0x36 EntrySize
+    ∷ refuse (not (e_shnum file == 0) && is_outside (length file) (e_shoff file) (64 * e_shnum file)) 0x28 TableOutside
+    ∷ refuse (not (e_phnum file == 0) && is_outside (length file) (e_phoff file) (56 * e_phnum file)) 0x20 TableOutside
+    ∷ refuse (not (e_shnum file == 0) && not (nat_lt (e_shstrndx file) (e_shnum file))) 0x3e BadLink
+    ∷ []
+
+-- the file has a section of the section names
+abbrev pub has_section_names : List ℕ → Bool
+has_section_names file = not (e_shnum file == 0) && not (e_shstrndx file == 0)
+
+-- once the section headers are read: the section of the section names
+abbrev pub section_name_checks : List ℕ → List Check
+section_name_checks file =
+    let at = section_at file (e_shstrndx file) in
+    refuse (has_section_names file && not (sh_type file at == SHT_STRTAB)) at NotStrings
+    ∷ refuse (has_section_names file && is_section_outside file at) at TableOutside
+    ∷ []
+
+-- the load checks
+abbrev pub load_checks : List ℕ → ℕ → List Check
+load_checks file headers = early_checks file headers ++ section_name_checks file
+
+-- a section's bytes are within the file
+abbrev pub range_checks : List ℕ → ℕ → List Check
+range_checks file at = refuse (is_section_outside file at) at TableOutside ∷ []
+
+-- a section that is a table of entries of one size
+abbrev pub table_checks : List ℕ → ℕ → ℕ → List Check
+table_checks file at entry =
+    refuse (not (sh_entsize file at == entry)) at EntrySize
+    ∷ refuse (not (sh_size file at % entry == 0)) at SizeNotWhole
+    ∷ refuse (is_section_outside file at) at TableOutside
+    ∷ []
+
+-- the string table that a section at an offset refers to by its link
+abbrev pub strings_checks : List ℕ → ℕ → List Check
+strings_checks file at =
+    let linked = section_at file (sh_link file at) in
+    refuse (sh_link file at == 0 || not (nat_lt (sh_link file at) (e_shnum file))) at BadLink
+    ∷ refuse (not (sh_type file linked == SHT_STRTAB)) linked NotStrings
+    ∷ refuse (is_section_outside file linked) linked TableOutside
+    ∷ []
+
+-- a section holds symbols
+abbrev pub is_symbol_table : List ℕ → ℕ → Bool
+is_symbol_table file at = sh_type file at == SHT_SYMTAB || sh_type file at == SHT_DYNSYM

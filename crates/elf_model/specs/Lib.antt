@@ -1,0 +1,11 @@
+pub mod Bytes
+pub mod Records
+pub mod Numbers
+pub mod Names
+pub mod Text
+pub mod Causes
+pub mod Lines
+pub mod Checks
+pub mod Listing
+pub mod Fixtures
+pub mod Examples

@@ -1,0 +1,47 @@
+-- What a listing is: lines up to the first fault, and the fault's line.
+use Rattle.std.specs.Prelude.{ℕ, ◌==◌, Bool, true, false, List, [], ◌∷◌, ◌++◌, Option, None, Some, if◌then◌else◌}
+use Rattle.std.specs.Int.RustNames.{bit_and}
+use Rattle.elf_model.specs.Checks.{Check, first_refusal, header_checks}
+use Rattle.elf_model.specs.Lines.{header_line, refusal_line}
+use Rattle.elf_model.specs.declared.causes.Refusal.{Refusal}
+
+-- a member of a listing: a line, or a fault
+pub data Item : Type 0 where
+  Line : List ℕ → Item
+  Fault : Refusal → Item
+
+-- the lines before the first fault
+abbrev pub lines_of : List Item → List ℕ
+lines_of [] = []
+lines_of (Line text ∷ items) = text ++ lines_of items
+lines_of (Fault refusal ∷ items) = []
+
+-- the first fault
+abbrev pub fault_of : List Item → Option Refusal
+fault_of [] = None
+fault_of (Line text ∷ items) = fault_of items
+fault_of (Fault refusal ∷ items) = Some refusal
+
+-- the line of a fault, if there is one
+abbrev pub end_text : Option Refusal → List ℕ
+end_text None = []
+end_text (Some refusal) = refusal_line refusal
+
+-- the text of a listing: the lines before the first fault, and the fault's line
+abbrev pub report_of : List Item → List ℕ
+report_of items = lines_of items ++ end_text (fault_of items)
+
+-- the first check that fails is a fault in the place of the items
+abbrev pub checked : List Check → List Item → List Item
+checked checks items = elim (first_refusal checks) [ None ↦ items | Some refusal ↦ Fault refusal ∷ [] ]
+
+-- the parts of a listing are numbers of one bit; whether a set of parts has one
+abbrev pub HEADER : ℕ
+HEADER = 1
+
+abbrev pub has : ℕ → ℕ → Bool
+has parts part = bit_and parts part == part
+
+-- the file header's part: the first of its checks that fails, else its line where the parts have it
+unfoldable pub header_items : List ℕ → ℕ → List Item
+header_items file parts = checked (header_checks file) (if has parts HEADER then Line (header_line file) ∷ [] else [])

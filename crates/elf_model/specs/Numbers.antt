@@ -1,0 +1,54 @@
+-- The numbers that the standards give names to, as far as the checks need them.
+use Rattle.std.specs.Prelude.{ℕ}
+
+-- section types (gABI 4, Section Types)
+abbrev pub SHT_NULL : ℕ
+SHT_NULL = 0
+
+abbrev pub SHT_SYMTAB : ℕ
+SHT_SYMTAB = 2
+
+abbrev pub SHT_STRTAB : ℕ
+SHT_STRTAB = 3
+
+abbrev pub SHT_RELA : ℕ
+SHT_RELA = 4
+
+abbrev pub SHT_HASH : ℕ
+SHT_HASH = 5
+
+abbrev pub SHT_DYNAMIC : ℕ
+SHT_DYNAMIC = 6
+
+abbrev pub SHT_NOTE : ℕ
+SHT_NOTE = 7
+
+abbrev pub SHT_NOBITS : ℕ
+SHT_NOBITS = 8
+
+abbrev pub SHT_DYNSYM : ℕ
+SHT_DYNSYM = 11
+
+-- a segment of notes (gABI 5, Segment Types)
+abbrev pub PT_NOTE : ℕ
+PT_NOTE = 4
+
+-- special section indices (gABI 4, Special Section Indexes)
+abbrev pub SHN_UNDEF : ℕ
+SHN_UNDEF = 0
+
+abbrev pub SHN_LORESERVE : ℕ
+SHN_LORESERVE = 0xff00
+
+abbrev pub SHN_ABS : ℕ
+SHN_ABS = 0xfff1
+
+abbrev pub SHN_COMMON : ℕ
+SHN_COMMON = 0xfff2
+
+-- the marks of extended numbering: the program headers' number, and the section of the section names
+abbrev pub PN_XNUM : ℕ
+PN_XNUM = 0xffff
+
+abbrev pub SHN_XINDEX : ℕ
+SHN_XINDEX = 0xffff

@@ -1,0 +1,41 @@
+-- Numbers and texts in columns.
+use Rattle.std.specs.Prelude.{ℕ, suc, zero, ◌+◌, ◌-◌, ◌*◌, ◌/◌, ◌%◌, ◌^◌, ◌==◌, nat_lt, if◌then◌else◌, List, [], ◌∷◌, ◌++◌, length, decimal, replicate, Option, None, Some, unwrap_or}
+
+-- the hexadecimal digit of a number below 16, in lower case
+unfoldable pub digit : ℕ → ℕ
+digit n = if nat_lt n 10 then 48 + n else 87 + n
+
+-- the last k hexadecimal digits of a number, with leading zeros
+unfoldable pub hex : ℕ → ℕ → List ℕ
+hex zero n = []
+hex (suc k) n = digit (n / 16 ^ k % 16) ∷ hex k n
+
+abbrev pub spaces : ℕ → List ℕ
+spaces n = replicate n 32
+
+abbrev pub space : List ℕ
+space = 32 ∷ []
+
+abbrev pub newline : List ℕ
+newline = 10 ∷ []
+
+-- a text at the left of a column
+unfoldable pub left : ℕ → List ℕ → List ℕ
+left width text = text ++ spaces (width - length text)
+
+-- a text at the right of a column
+unfoldable pub right : ℕ → List ℕ → List ℕ
+right width text = spaces (width - length text) ++ text
+
+-- a decimal number at the right of a column
+unfoldable pub right_decimal : ℕ → ℕ → List ℕ
+right_decimal width n = right width (decimal n)
+
+-- the name of a number in a table of names
+unfoldable pub name_of : List (ℕ × List ℕ) → ℕ → Option (List ℕ)
+name_of [] n = None
+name_of (entry ∷ entries) n = if n == entry.0 then Some entry.1 else name_of entries n
+
+-- the name of a number in a table of names, else another text
+abbrev pub name_in : List (ℕ × List ℕ) → ℕ → List ℕ → List ℕ
+name_in names n other = unwrap_or (name_of names n) other

@@ -1,0 +1,3 @@
+pub mod EhdrLaws
+pub mod FieldReads
+pub mod PartLaws

@@ -1,0 +1,120 @@
+-- What holds of the bytes of parts one behind the other.
+use Rattle.std.proofs.Common.{◌≡◌, ℕ, zero, suc, ◌+◌, ◌-◌, ◌*◌, ◌/◌, ◌%◌, ◌^◌, ◌<◌, ◌≤◌, List, [], ◌∷◌, ◌++◌, length, get_or, take, drop, refl, sym, ◌∙◌, ap, arith, append_assoc, drop-cons, length-append, length-drop, append-nil, subst, zero-add, inl, inr}
+use Rattle.std.proofs.Math.Nat.{mod-eq_of_lt, pow-succ'}
+use Rattle.std.proofs.Math.Seq.{take-add}
+use Rattle.std.proofs.lemmas.Bool.{cases_lt}
+use Rattle.std.proofs.lemmas.List.{take_at, drop_at, drop-drop, get_or-take, get_or-drop, get_or_past, length-take, length-take-le, take_all}
+use Rattle.elf_model.specs.Bytes.{number, field, slice, little, IsBytes}
+use Rattle.elf_model.proofs.BytesLaws.{field-slice, slice-slice}
+use Rattle.elf_record.specs.Parts.{Part, Number, Raw, place, width_of, part_spelling, PartFits, PartStands, spelling, total_width, joined_onto, joined, AllFit, AllStand}
+
+pub length-little : (width n : ℕ) → length (little width n) ≡ width
+unfolding little
+length-little zero n = refl
+length-little (suc width) n = rw (length-little width (n / 256)) refl
+
+-- a number is read back from its bytes
+pub number-little : (width n : ℕ) → n < 256 ^ width → number (little width n) ≡ n
+unfolding little number
+number-little zero n h = omega arith
+number-little (suc width) n h =
+    let power : 256 ^ suc width ≡ 256 * 256 ^ width = pow-succ' 256 width in
+    let small : n / 256 < 256 ^ width = omega arith in
+    rw (number-little width (n / 256) small) (omega arith)
+
+length-part_spelling : (part : Part) → PartFits part → length (part_spelling part) ≡ width_of part
+length-part_spelling (Number width value) fits = length-little width value
+length-part_spelling (Raw width bytes) fits = fits
+
+-- a part's bytes are where it stands
+part_stands : (front rest : List ℕ) (at : ℕ) (part : Part) → length front ≡ at → PartFits part
+    → PartStands (front ++ (part_spelling part ++ rest)) at part
+unfolding field
+part_stands front rest at (Number width value) here fits =
+    sym (rw (drop_at front (little width value ++ rest) at here, take_at (little width value) rest width (length-little width value)) (number-little width value fits))
+part_stands front rest at (Raw width bytes) here fits =
+    sym (rw (drop_at front (bytes ++ rest) at here) (take_at bytes rest width fits))
+
+pub place-is : (at k : ℕ) → place at k ≡ at + k
+place-is at zero = omega arith
+place-is at (suc k) = refl
+
+-- parts one behind the other stand where their bytes are
+all_stand : (front : List ℕ) (k : ℕ) (parts : List Part) → length front ≡ k → AllFit parts → AllStand (front ++ spelling parts) 0 k parts
+all_stand front k [] here fits = tt
+all_stand front k (part ∷ parts) here fits =
+    let width : length (part_spelling part) ≡ width_of part = length-part_spelling part fits.0 in
+    let next : length (front ++ part_spelling part) ≡ k + width_of part = rw (length-append front (part_spelling part)) (omega arith) in
+    let later = all_stand (front ++ part_spelling part) (k + width_of part) parts next fits.1 in
+    let at : length front ≡ place 0 k = omega (arith, place-is 0 k) in
+    (part_stands front (spelling parts) (place 0 k) part at fits.0, rw append_assoc at later)
+
+-- bytes are the bytes of their number
+pub little-number : (bytes : List ℕ) → IsBytes bytes → little (length bytes) (number bytes) ≡ bytes
+unfolding little number
+little-number [] byte = refl
+little-number (b ∷ bytes) byte =
+    let small : b < 256 = byte 0 in
+    let low : (b + 256 * number bytes) % 256 ≡ b = omega arith in
+    let high : (b + 256 * number bytes) / 256 ≡ number bytes = omega arith in
+    rw (low, high) (ap (λ rest. b ∷ rest) (little-number bytes (λ i. byte (suc i))))
+
+-- a part of some bytes has bytes
+IsBytes-slice : (file : List ℕ) (at width : ℕ) → IsBytes file → IsBytes (slice file at width)
+IsBytes-slice file at width byte i =
+    elim (cases_lt i width) [
+      inl below ↦ rw (get_or-take width (drop at file) i 0 below, get_or-drop at file i 0) (byte (at + i))
+    | inr past ↦ rw (get_or_past (take width (drop at file)) i 0 (simp length-take (omega arith))) (omega arith)
+    ]
+
+part_is : (file : List ℕ) (at : ℕ) (part : Part) → IsBytes file → at + width_of part ≤ length file → PartStands file at part
+    → slice file at (width_of part) ≡ part_spelling part
+unfolding field
+part_is file at (Number width value) byte inside stands =
+    let room : width ≤ length (drop at file) = simp length-drop (omega arith) in
+    let size : length (slice file at width) ≡ width = length-take-le width (drop at file) room in
+    sym (ap (little width) stands ∙ (ap (λ n. little n (number (slice file at width))) (sym size) ∙ little-number (slice file at width) (IsBytes-slice file at width byte)))
+part_is file at (Raw width bytes) byte inside stands = sym stands
+
+-- where parts stand one behind the other, the bytes are theirs
+all_is : (file : List ℕ) (k : ℕ) (parts : List Part) → IsBytes file → k + total_width parts ≤ length file → AllStand file 0 k parts
+    → slice file k (total_width parts) ≡ spelling parts
+all_is file k [] byte inside stands = refl
+all_is file k (part ∷ parts) byte inside stands =
+    let here : PartStands file k part = let P : ℕ → Type 0 = λ at. PartStands file at part in subst P (place-is 0 k ∙ zero-add k) stands.0 in
+    take-add (width_of part) (total_width parts) (drop k file)
+    ∙ (ap (λ rest. slice file k (width_of part) ++ take (total_width parts) rest) (drop-drop (width_of part) k file)
+    ∙ (ap (λ front. front ++ slice file (k + width_of part) (total_width parts)) (part_is file k part byte (omega arith) here)
+    ∙ ap (λ rest. part_spelling part ++ rest) (all_is file (k + width_of part) parts byte (omega arith) stands.1)))
+
+-- what stands in a part of a file stands in the file
+part_in : (file : List ℕ) (at size k : ℕ) (part : Part) → k + width_of part ≤ size → PartStands (slice file at size) (place 0 k) part → PartStands file (place at k) part
+part_in file at size k (Number width value) inside stands =
+    stands ∙ (ap (λ p. field (slice file at size) p width) (place-is 0 k ∙ zero-add k) ∙ (field-slice file at size k width inside ∙ ap (λ p. field file p width) (sym (place-is at k))))
+part_in file at size k (Raw width bytes) inside stands =
+    stands ∙ (ap (λ p. slice (slice file at size) p width) (place-is 0 k ∙ zero-add k) ∙ (slice-slice file at size k width inside ∙ ap (λ p. slice file p width) (sym (place-is at k))))
+
+all_in : (file : List ℕ) (at size k : ℕ) (parts : List Part) → k + total_width parts ≤ size → AllStand (slice file at size) 0 k parts → AllStand file at k parts
+all_in file at size k [] inside stands = tt
+all_in file at size k (part ∷ parts) inside stands =
+    (part_in file at size k part (omega arith) stands.0, all_in file at size (k + width_of part) parts (omega arith) stands.1)
+
+-- the parts of some bytes of a file stand in the file
+pub parts_in_file : (file : List ℕ) (at : ℕ) (bytes : List ℕ) (parts : List Part) → bytes ≡ slice file at (total_width parts) → AllStand bytes 0 0 parts → AllStand file at 0 parts
+parts_in_file file at bytes parts is stands = all_in file at (total_width parts) 0 parts (omega arith) (rw is at stands)
+
+joined_onto-is : (front : List ℕ) (parts : List Part) → joined_onto front parts ≡ front ++ spelling parts
+joined_onto-is front [] = sym (append-nil front)
+joined_onto-is front (part ∷ parts) = joined_onto-is (front ++ part_spelling part) parts ∙ append_assoc front (part_spelling part) (spelling parts)
+
+pub joined-is : (parts : List Part) → joined parts ≡ spelling parts
+joined-is parts = joined_onto-is [] parts
+
+-- the bytes of parts are read back as those parts
+pub spelling_stands : (bytes : List ℕ) (parts : List Part) → bytes ≡ spelling parts → AllFit parts → AllStand bytes 0 0 parts
+spelling_stands bytes parts is fits = rw is (all_stand [] 0 parts refl fits)
+
+-- and no other bytes are
+pub only_spelling : (bytes : List ℕ) (parts : List Part) → IsBytes bytes → length bytes ≡ total_width parts → AllStand bytes 0 0 parts → bytes ≡ spelling parts
+only_spelling bytes parts byte size stands =
+    sym (take_all (total_width parts) bytes (omega arith)) ∙ all_is bytes 0 parts byte (omega arith) stands

@@ -1,0 +1,6 @@
+use Rattle.std.proofs.Common.{sym, arith, ◌∙◌, ◌≡◌, ◌+◌, ◌*◌, get_or, drop}
+use Rattle.elf_record.proofs.FieldReads.{byte_read}
+use Rattle.elf_record.proofs.fields.u8_at.Goals as goal
+
+pub returns : goal.returns
+returns c = sym (byte_read c.args.bytes.now c.args.at c.requires)

@@ -1,0 +1,2 @@
+pub mod Ehdr
+pub mod Parts

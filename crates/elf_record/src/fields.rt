@@ -1,0 +1,114 @@
+//! Little-endian numbers at a place in some bytes.
+ghost use Rattle.std.specs.Prelude.{◌≡◌, ◌+◌, ◌^◌, ◌<◌, ◌≤◌, ◌++◌, length};
+ghost use Rattle.elf_model.specs.Bytes.{field, slice, little};
+ghost use Rattle.arrayvec.specs.ArrayVec.{array_vec_len};
+
+use arrayvec::ArrayVec;
+use byteorder::{ByteOrder, LittleEndian};
+
+/// The byte at a place.
+pub(crate) fn u8_at(bytes: &[u8], at: usize) -> u8
+    requires { at + 1 ≤ length bytes.now }
+    ensures { result ≡ field bytes.now at 1 }
+{
+    bytes[at]
+}
+
+/// The number of two bytes at a place.
+pub(crate) fn u16_at(bytes: &[u8], at: usize) -> u16
+    requires { at + 2 ≤ length bytes.now }
+    ensures { result ≡ field bytes.now at 2 }
+{
+    LittleEndian::read_u16(&bytes[at..])
+}
+
+/// The number of four bytes at a place.
+pub(crate) fn u32_at(bytes: &[u8], at: usize) -> u32
+    requires { at + 4 ≤ length bytes.now }
+    ensures { result ≡ field bytes.now at 4 }
+{
+    LittleEndian::read_u32(&bytes[at..])
+}
+
+/// The number of eight bytes at a place.
+pub(crate) fn u64_at(bytes: &[u8], at: usize) -> u64
+    requires { at + 8 ≤ length bytes.now }
+    ensures { result ≡ field bytes.now at 8 }
+{
+    LittleEndian::read_u64(&bytes[at..])
+}
+
+/// The `N` bytes at a place.
+pub(crate) fn array_at<const N: usize>(bytes: &[u8], at: usize) -> [u8; N]
+    requires { at + N ≤ length bytes.now }
+    ensures { result ≡ slice bytes.now at N }
+{
+    let mut array = [0; N];
+    array.copy_from_slice(&bytes[at..at + N]);
+    array
+}
+
+/// Puts one byte at the end.
+pub(crate) fn put_u8<const N: usize>(out: &mut ArrayVec<u8, N>, value: u8)
+    requires { array_vec_len out.old + 1 ≤ N }
+    ensures items { out.new.items ≡ out.old.items ++ little 1 value }
+    ensures fits { value < 256 ^ 1 }
+    ensures len { array_vec_len out.new ≡ array_vec_len out.old + 1 }
+{
+    put_bytes(out, &[value]);
+}
+
+/// Puts the two bytes of a number at the end.
+pub(crate) fn put_u16<const N: usize>(out: &mut ArrayVec<u8, N>, value: u16)
+    requires { array_vec_len out.old + 2 ≤ N }
+    ensures items { out.new.items ≡ out.old.items ++ little 2 value }
+    ensures fits { value < 256 ^ 2 }
+    ensures len { array_vec_len out.new ≡ array_vec_len out.old + 2 }
+{
+    let mut bytes = [0; 2];
+    LittleEndian::write_u16(&mut bytes, value);
+    put_bytes(out, &bytes);
+}
+
+/// Puts the four bytes of a number at the end.
+pub(crate) fn put_u32<const N: usize>(out: &mut ArrayVec<u8, N>, value: u32)
+    requires { array_vec_len out.old + 4 ≤ N }
+    ensures items { out.new.items ≡ out.old.items ++ little 4 value }
+    ensures fits { value < 256 ^ 4 }
+    ensures len { array_vec_len out.new ≡ array_vec_len out.old + 4 }
+{
+    let mut bytes = [0; 4];
+    LittleEndian::write_u32(&mut bytes, value);
+    put_bytes(out, &bytes);
+}
+
+/// Puts the eight bytes of a number at the end.
+pub(crate) fn put_u64<const N: usize>(out: &mut ArrayVec<u8, N>, value: u64)
+    requires { array_vec_len out.old + 8 ≤ N }
+    ensures items { out.new.items ≡ out.old.items ++ little 8 value }
+    ensures fits { value < 256 ^ 8 }
+    ensures len { array_vec_len out.new ≡ array_vec_len out.old + 8 }
+{
+    let mut bytes = [0; 8];
+    LittleEndian::write_u64(&mut bytes, value);
+    put_bytes(out, &bytes);
+}
+
+/// Puts the bytes of an array at the end.
+pub(crate) fn put_array<const N: usize, const K: usize>(out: &mut ArrayVec<u8, N>, bytes: &[u8; K])
+    requires { array_vec_len out.old + K ≤ N }
+    ensures items { out.new.items ≡ out.old.items ++ bytes.now }
+    ensures fits { length bytes.now ≡ K }
+    ensures len { array_vec_len out.new ≡ array_vec_len out.old + K }
+{
+    put_bytes(out, bytes);
+}
+
+/// Puts bytes at the end.
+fn put_bytes<const N: usize>(out: &mut ArrayVec<u8, N>, bytes: &[u8])
+    requires { array_vec_len out.old + length bytes.now ≤ N }
+    ensures items { out.new.items ≡ out.old.items ++ bytes.now }
+    ensures len { array_vec_len out.new ≡ array_vec_len out.old + length bytes.now }
+{
+    out.try_extend_from_slice(bytes).unwrap();
+}

@@ -1,0 +1,44 @@
+//! The parts of a listing.
+ghost use Rattle.std.specs.Prelude.{⊤, [], ◌∷◌, codes};
+
+use bitflags::{Flag, Flags, bitflag_items};
+
+/// A set of parts of a listing, as the number of its bits: HEADER 1, SECTIONS 2, SEGMENTS 4,
+/// SYMBOLS 8, RELOCS 16, NOTES 32, DYNAMIC 64. Other bits have no meaning and are ignored.
+#[derive(Clone, Copy, Debug, PartialEq, Eq)]
+pub struct Parts(pub u8);
+
+bitflag_items! {
+    impl Parts: u8 {
+        const HEADER = 1;
+        const SECTIONS = 2;
+        const SEGMENTS = 4;
+        const SYMBOLS = 8;
+        const RELOCS = 16;
+        const NOTES = 32;
+        const DYNAMIC = 64;
+    }
+}
+
+impl Flags for Parts {
+    type Bits = u8;
+
+    ghost exact = { ⊤ };
+
+    ghost table = { (codes "HEADER", 1) ∷ (codes "SECTIONS", 2) ∷ (codes "SEGMENTS", 4)
+        ∷ (codes "SYMBOLS", 8) ∷ (codes "RELOCS", 16) ∷ (codes "NOTES", 32) ∷ (codes "DYNAMIC", 64) ∷ [] };
+
+    ghost set_of = { λ parts. parts.0 };
+
+    fn flags<'a>() -> &'a [Flag<Parts>] {
+        Parts::FLAGS
+    }
+
+    fn bits(&self) -> u8 {
+        self.0
+    }
+
+    fn from_bits_retain(bits: u8) -> Parts {
+        Parts(bits)
+    }
+}

@@ -1,0 +1,31 @@
+//! What a sink of bytes promises.
+ghost use Rattle.std.specs.Prelude.{◌≡◌, ℕ, ◌<◌, ◌≤◌, Bool, List, Option, length, is_err, IsTrue, IsErr, IfOk};
+ghost use Rattle.std.specs.Io.KnownBytes.{WriteAppends};
+
+use crate::faults::SinkFault;
+
+/// Takes bytes in order, until it fails for good.
+pub trait Sink {
+    /// The bytes taken so far, where the writer below tells them.
+    ghost taken: { Self → Option (List ℕ) };
+
+    /// The sink has failed.
+    ghost failed: { Self → Bool };
+
+    /// Takes some of `bytes`, which aren't empty: the first `count` of them at `Ok(count)`.
+    ///
+    /// # Errors
+    /// `SinkFault` where the sink fails or failed before. Then nothing is taken, by this call or a
+    /// later one.
+    fn take(&mut self, bytes: &[u8]) -> Result<usize, SinkFault>
+        requires { 0 < length bytes.now }
+        ensures some { IfOk result (λ count. 0 < count) }
+        ensures within { IfOk result (λ count. count ≤ length bytes.now) }
+        ensures bytes { WriteAppends (taken self.old) (taken self.new) result bytes.now }
+        ensures fails { failed self.new ≡ is_err result }
+        ensures for_good { IsTrue (failed self.old) → IsErr result };
+
+    /// Whether the sink has failed.
+    fn failed(&self) -> bool
+        ensures { result ≡ failed self.now };
+}

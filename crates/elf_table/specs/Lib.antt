@@ -1,0 +1,3 @@
+pub mod Caps
+pub mod Reading
+pub mod Tables

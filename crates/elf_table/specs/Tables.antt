@@ -1,0 +1,25 @@
+-- Where tables and string tables lie in a file.
+use Rattle.std.specs.Prelude.{ℕ, ◌+◌, ◌*◌, ◌^◌, ◌<◌, ◌≤◌}
+
+-- a table: the offset of its first row, how many rows there are, and the size of a row
+pub record Rows : Type 0 where
+  pub at : ℕ
+  pub count : ℕ
+  pub entry : ℕ
+
+-- how many bytes a table has
+abbrev pub size_of : Rows → ℕ
+size_of table = table.count * table.entry
+
+-- a table that is not empty ends within a source of this size
+abbrev pub RowsWithin : ℕ → Rows → Type 0
+RowsWithin size table = 0 < table.count → table.at + size_of table ≤ size
+
+-- a string table: the offset of its first byte, and how many bytes there are
+pub record Strings : Type 0 where
+  pub at : ℕ
+  pub size : ℕ
+
+-- a string table that is not empty ends within a source of this size
+abbrev pub StringsWithin : ℕ → Strings → Type 0
+StringsWithin size names = 0 < names.size → names.at + names.size ≤ size

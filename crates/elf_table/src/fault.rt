@@ -1,0 +1,20 @@
+//! Why a read of a file's structure stops.
+use elf_record::Refusal;
+use elf_source::SourceFault;
+use thiserror::Error;
+
+/// Why a file's structure could not be read.
+#[derive(Clone, Copy, Debug, PartialEq, Eq, Error)]
+pub enum Fault {
+    /// The file is refused.
+    #[error("refused")]
+    Refused(Refusal),
+    /// The source failed at a read.
+    #[error("the source failed")]
+    Source {
+        /// Why it failed.
+        fault: SourceFault,
+        /// The offset, in bytes, that was asked for.
+        at: u64,
+    },
+}

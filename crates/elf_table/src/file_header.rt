@@ -1,0 +1,61 @@
+//! The file header, read and checked.
+ghost use Rattle.std.specs.Prelude.{◌≡◌, ◌+◌, ◌-◌, ◌^◌, ◌≤◌, ℕ, List, Err, min, IfErr, MatchOption};
+ghost use Rattle.elf_model.specs.Checks.{first_refusal, length_checks};
+ghost use Rattle.elf_source.specs.Source.{Keeps};
+ghost use Rattle.elf_table.specs.Reading.{FaultBlames, HeaderRead};
+
+use crate::fault::Fault;
+use elf_record::{Cause, Ehdr, Refusal};
+use elf_source::{Counted, Source};
+
+/// The size of a file header in bytes.
+const HEADER_BYTES: u64 = 64;
+
+/// Reads and checks the file header: one read of 64 bytes at offset 0, or none where the length
+/// alone refuses the file (gABI 4, ELF Header).
+///
+/// # Errors
+/// The first check that fails: `TooLong` at the length where it is 2^63 or more, `Short` at the
+/// length where it is below 64, both with nothing read; then those of [`Ehdr::check`]. A fault of
+/// the source names offset 0.
+pub fn header<S: Source>(src: &mut Counted<S>) -> Result<Ehdr, Fault>
+    ensures kept { Keeps S.holds S.size S.failures src.old.source src.new.source }
+    ensures blames { IfErr result (FaultBlames S.holds S.failures src.old.source src.new.source) }
+    // One read of 64 bytes, or none where the length refuses the file.
+    ensures asked { MatchOption (first_refusal (length_checks (S.size src.old.source)))
+        (src.new.asked ≡ min (src.old.asked + 64) (2 ^ 128 - 1))
+        (λ refusal. (result ≡ Err (Fault.Refused refusal)) × (src.new ≡ src.old)) }
+    ensures at_most { src.new.asked ≤ src.old.asked + 64 }
+    ensures read { (file : List ℕ) → S.holds src.old.source file → HeaderRead file result }
+{
+    if let Some(refusal) = refused_length(src.length()) {
+        return Err(Fault::Refused(refusal));
+    }
+    let mut bytes = [0; 64];
+    if let Err(fault) = src.fill(0, &mut bytes) {
+        return Err(Fault::Source { fault, at: 0 });
+    }
+    match Ehdr::check(&bytes) {
+        Ok(header) => Ok(header),
+        Err(refusal) => Err(Fault::Refused(refusal)),
+    }
+}
+
+/// The refusal of a file of this length, before anything is read.
+fn refused_length(length: u64) -> Option<Refusal>
+    ensures { result ≡ first_refusal (length_checks length) }
+{
+    if length >= 1 << 63 {
+        return Some(Refusal {
+            at: length,
+            cause: Cause::TooLong,
+        });
+    }
+    if length < HEADER_BYTES {
+        return Some(Refusal {
+            at: length,
+            cause: Cause::Short,
+        });
+    }
+    None
+}

@@ -1,0 +1,68 @@
+//! A table of rows of one size.
+ghost use Rattle.std.specs.Prelude.{◌≡◌, ◌↔◌, ◌+◌, ◌*◌, ◌^◌, ◌<◌, ◌≤◌, IsTrue};
+
+use std::marker::Model;
+
+/// A table of rows of one size, somewhere in a file. It holds no bytes.
+#[derive(Clone, Copy, Debug, PartialEq, Eq)]
+pub struct Table {
+    at: u64,
+    count: u64,
+    entry: u64,
+}
+
+impl Model for Table {
+    ghost use Rattle.std.specs.Prelude.{◌+◌, ◌*◌, ◌^◌, ◌<◌, ◌≤◌};
+    ghost use Rattle.elf_table.specs.Tables.{Rows};
+
+    ghost Value = { Rows };
+
+    ghost view = { λ t. record { at = t.at; count = t.count; entry = t.entry } };
+
+    ghost invariant = { λ t. (0 < t.entry) × (t.entry ≤ 4096) × (t.at + t.count * t.entry < 2 ^ 64) };
+
+    ghost inverse = { λ t. record { at = t.at; count = t.count; entry = t.entry } };
+}
+
+impl Table {
+    /// A table of `count` rows of `entry` bytes from the offset `at` on.
+    pub(crate) fn new(at: u64, count: u64, entry: u64) -> Table
+        requires some { 0 < entry }
+        requires small { entry ≤ 4096 }
+        requires ends { at + count * entry < 2 ^ 64 }
+        ensures { result ≡ record { at = at; count = count; entry = entry } }
+    {
+        Table { at, count, entry }
+    }
+
+    /// The number of rows.
+    pub fn len(&self) -> u64
+        ensures { result ≡ self.now.count }
+    {
+        self.count
+    }
+
+    /// Whether there is no row.
+    pub fn is_empty(&self) -> bool
+        ensures { IsTrue result ↔ (self.now.count ≡ 0) }
+    {
+        self.count == 0
+    }
+
+    /// The file offset of the first row, in bytes.
+    pub fn at(&self) -> u64
+        ensures { result ≡ self.now.at }
+    {
+        self.at
+    }
+
+    /// The size of a row in bytes, 1 to 4,096.
+    pub fn entry(&self) -> u64
+        ensures value { result ≡ self.now.entry }
+        ensures some { 0 < self.now.entry }
+        ensures small { self.now.entry ≤ 4096 }
+        ensures ends { self.now.at + self.now.count * self.now.entry < 2 ^ 64 }
+    {
+        self.entry
+    }
+}

@@ -1,0 +1,4 @@
+//! elfsee lists ELF64 files, safely and in bounded memory.
+#![tactic(auto)]
+
+fn main() {}
