@@ -1,5 +1,5 @@
 -- What a listing is: lines up to the first fault, and the fault's line.
-use Rattle.std.specs.Prelude.{ℕ, ◌==◌, Bool, true, false, List, [], ◌∷◌, ◌++◌, Option, None, Some, if◌then◌else◌}
+use Rattle.std.specs.Prelude.{ℕ, suc, zero, ◌==◌, not, Bool, true, false, List, [], ◌∷◌, ◌++◌, Option, None, Some}
 use Rattle.std.specs.Int.RustNames.{bit_and}
 use Rattle.elf_model.specs.Checks.{Check, first_refusal, header_checks}
 use Rattle.elf_model.specs.Lines.{header_line, refusal_line}
@@ -31,17 +31,57 @@ end_text (Some refusal) = refusal_line refusal
 abbrev pub report_of : List Item → List ℕ
 report_of items = lines_of items ++ end_text (fault_of items)
 
--- the first check that fails is a fault in the place of the items
+-- the first check that fails is a fault in the place of the items, which mean nothing then
 abbrev pub checked : List Check → List Item → List Item
 checked checks items = elim (first_refusal checks) [ None ↦ items | Some refusal ↦ Fault refusal ∷ [] ]
 
--- the parts of a listing are numbers of one bit; whether a set of parts has one
+-- the items of so many rows, or tables, from a first one on
+unfoldable pub each : (ℕ → List Item) → ℕ → ℕ → List Item
+each row first zero = []
+each row first (suc count) = row first ++ each row (suc first) count
+
+-- the parts of a listing are numbers of one bit
 abbrev pub HEADER : ℕ
 HEADER = 1
 
+abbrev pub SECTIONS : ℕ
+SECTIONS = 2
+
+abbrev pub SEGMENTS : ℕ
+SEGMENTS = 4
+
+abbrev pub SYMBOLS : ℕ
+SYMBOLS = 8
+
+abbrev pub RELOCS : ℕ
+RELOCS = 16
+
+abbrev pub NOTES : ℕ
+NOTES = 32
+
+abbrev pub DYNAMIC : ℕ
+DYNAMIC = 64
+
+-- all parts but the file header's
+abbrev pub TABLES : ℕ
+TABLES = 126
+
+-- all parts
+abbrev pub ALL : ℕ
+ALL = 127
+
+-- a set of parts has one
 abbrev pub has : ℕ → ℕ → Bool
 has parts part = bit_and parts part == part
 
+-- a set of parts has more than the file header's; bits outside the seven mean nothing
+abbrev pub has_tables : ℕ → Bool
+has_tables parts = not (bit_and parts TABLES == 0)
+
+-- the items of a part, where the parts have it
+abbrev pub where_asked : ℕ → ℕ → List Item → List Item
+where_asked parts part items = elim (has parts part) [ true ↦ items | false ↦ [] ]
+
 -- the file header's part: the first of its checks that fails, else its line where the parts have it
 unfoldable pub header_items : List ℕ → ℕ → List Item
-header_items file parts = checked (header_checks file) (if has parts HEADER then Line (header_line file) ∷ [] else [])
+header_items file parts = checked (header_checks file) (where_asked parts HEADER (Line (header_line file) ∷ []))

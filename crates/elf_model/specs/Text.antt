@@ -1,5 +1,5 @@
 -- Numbers and texts in columns.
-use Rattle.std.specs.Prelude.{ℕ, suc, zero, ◌+◌, ◌-◌, ◌*◌, ◌/◌, ◌%◌, ◌^◌, ◌==◌, nat_lt, if◌then◌else◌, List, [], ◌∷◌, ◌++◌, length, decimal, replicate, Option, None, Some, unwrap_or}
+use Rattle.std.specs.Prelude.{ℕ, suc, zero, ◌+◌, ◌-◌, ◌/◌, ◌%◌, ◌^◌, ◌==◌, nat_lt, if◌then◌else◌, List, [], ◌∷◌, ◌++◌, length, decimal, replicate, Option, None, Some, unwrap_or}
 
 -- the hexadecimal digit of a number below 16, in lower case
 unfoldable pub digit : ℕ → ℕ

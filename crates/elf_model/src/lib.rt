@@ -1,9 +1,17 @@
 //! What the words of elfsee mean: the fields of an ELF64 file, the checks, the lines of a listing
 //! and the report, as definitions in `specs/`. As code there are only the causes of a refusal, and
-//! functions with no body whose contracts are laws and worked examples that the prover computes.
+//! functions with no body whose contracts are laws about the definitions.
 #![tactic(auto)]
 
+mod apply_laws;
 mod causes;
-mod examples;
+mod cost_laws;
+mod dynamic;
+mod hash_laws;
+mod listing_laws;
+mod names;
+mod notes;
+mod record_laws;
+mod value_laws;
 
 pub use causes::{Cause, Refusal};

@@ -1,8 +1,8 @@
 -- Fields as `byteorder` reads and writes them.
-use Rattle.std.proofs.Common.{◌≡◌, ℕ, zero, suc, ◌+◌, ◌-◌, ◌*◌, ◌/◌, ◌%◌, ◌^◌, ◌<◌, ◌≤◌, List, ◌∷◌, length, get_or, take, drop, refl, sym, ◌∙◌, ap, arith, drop-cons, length-drop}
+use Rattle.std.proofs.Common.{◌≡◌, ℕ, zero, suc, ◌+◌, ◌*◌, ◌/◌, ◌%◌, ◌^◌, ◌<◌, ◌≤◌, List, ◌∷◌, length, get_or, take, drop, refl, sym, ◌∙◌, ap, arith, drop-cons, length-drop}
 use Rattle.std.proofs.Math.Nat.{div-div-eq-div-mul, div-one, pow-suc}
 use Rattle.std.specs.Int.{bytes_low_first}
-use Rattle.elf_model.specs.Bytes.{number, field, slice, little}
+use Rattle.elf_model.specs.Bytes.{number, field, little}
 use Rattle.byteorder.specs.Endian.{little_from, little_number, little_bytes}
 
 -- the number of n bytes from place i, read byte by byte

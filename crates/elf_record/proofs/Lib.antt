@@ -1,3 +1,5 @@
 pub mod EhdrLaws
 pub mod FieldReads
 pub mod PartLaws
+pub mod RecordLaws
+pub mod SignedLaws

@@ -1,11 +1,11 @@
 -- What holds of the bytes of parts one behind the other.
-use Rattle.std.proofs.Common.{◌≡◌, ℕ, zero, suc, ◌+◌, ◌-◌, ◌*◌, ◌/◌, ◌%◌, ◌^◌, ◌<◌, ◌≤◌, List, [], ◌∷◌, ◌++◌, length, get_or, take, drop, refl, sym, ◌∙◌, ap, arith, append_assoc, drop-cons, length-append, length-drop, append-nil, subst, zero-add, inl, inr}
-use Rattle.std.proofs.Math.Nat.{mod-eq_of_lt, pow-succ'}
+use Rattle.std.proofs.Common.{◌≡◌, ℕ, zero, suc, ◌+◌, ◌*◌, ◌/◌, ◌%◌, ◌^◌, ◌<◌, ◌≤◌, List, [], ◌∷◌, ◌++◌, length, take, drop, refl, sym, ◌∙◌, ap, arith, append_assoc, length-append, length-drop, append-nil, subst, zero-add, inl, inr}
+use Rattle.std.proofs.Math.Nat.{pow-succ'}
 use Rattle.std.proofs.Math.Seq.{take-add}
 use Rattle.std.proofs.lemmas.Bool.{cases_lt}
 use Rattle.std.proofs.lemmas.List.{take_at, drop_at, drop-drop, get_or-take, get_or-drop, get_or_past, length-take, length-take-le, take_all}
 use Rattle.elf_model.specs.Bytes.{number, field, slice, little, IsBytes}
-use Rattle.elf_model.proofs.BytesLaws.{field-slice, slice-slice}
+use Rattle.elf_model.proofs.Slices.{field-slice, slice-slice}
 use Rattle.elf_record.specs.Parts.{Part, Number, Raw, place, width_of, part_spelling, PartFits, PartStands, spelling, total_width, joined_onto, joined, AllFit, AllStand}
 
 pub length-little : (width n : ℕ) → length (little width n) ≡ width
@@ -60,11 +60,11 @@ little-number (b ∷ bytes) byte =
     rw (low, high) (ap (λ rest. b ∷ rest) (little-number bytes (λ i. byte (suc i))))
 
 -- a part of some bytes has bytes
-IsBytes-slice : (file : List ℕ) (at width : ℕ) → IsBytes file → IsBytes (slice file at width)
+pub IsBytes-slice : (file : List ℕ) (at width : ℕ) → IsBytes file → IsBytes (slice file at width)
 IsBytes-slice file at width byte i =
     elim (cases_lt i width) [
-      inl below ↦ rw (get_or-take width (drop at file) i 0 below, get_or-drop at file i 0) (byte (at + i))
-    | inr past ↦ rw (get_or_past (take width (drop at file)) i 0 (simp length-take (omega arith))) (omega arith)
+      | inl below ↦ rw (get_or-take width (drop at file) i 0 below, get_or-drop at file i 0) (byte (at + i))
+      | inr past ↦ rw (get_or_past (take width (drop at file)) i 0 (simp length-take (omega arith))) (omega arith)
     ]
 
 part_is : (file : List ℕ) (at : ℕ) (part : Part) → IsBytes file → at + width_of part ≤ length file → PartStands file at part
@@ -118,3 +118,18 @@ spelling_stands bytes parts is fits = rw is (all_stand [] 0 parts refl fits)
 pub only_spelling : (bytes : List ℕ) (parts : List Part) → IsBytes bytes → length bytes ≡ total_width parts → AllStand bytes 0 0 parts → bytes ≡ spelling parts
 only_spelling bytes parts byte size stands =
     sym (take_all (total_width parts) bytes (omega arith)) ∙ all_is bytes 0 parts byte (omega arith) stands
+
+-- what is said of the bytes that some parts are encoded in
+pub record IsEncoding (result : List ℕ) (parts : List Part) : Type 0 where
+  pub spelled : result ≡ spelling parts
+  pub stands : AllStand result 0 0 parts
+  pub only : (bytes : List ℕ) → IsBytes bytes → length bytes ≡ total_width parts → AllStand bytes 0 0 parts → bytes ≡ result
+
+pub encoding : (result items : List ℕ) (parts : List Part) → result ≡ items → items ≡ joined parts → AllFit parts → IsEncoding result parts
+encoding result items parts is joins fit =
+    let spelt : result ≡ spelling parts = is ∙ (joins ∙ joined-is parts) in
+    record {
+      spelled = spelt;
+      stands = spelling_stands result parts spelt fit;
+      only = λ bytes byte size stands. only_spelling bytes parts byte size stands ∙ sym spelt;
+    }

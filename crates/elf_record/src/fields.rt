@@ -1,6 +1,8 @@
 //! Little-endian numbers at a place in some bytes.
 ghost use Rattle.std.specs.Prelude.{◌≡◌, ◌+◌, ◌^◌, ◌<◌, ◌≤◌, ◌++◌, length};
 ghost use Rattle.elf_model.specs.Bytes.{field, slice, little};
+ghost use Rattle.elf_model.specs.Records.{twos_complement};
+ghost use Rattle.std.specs.Int.{cast_unsigned, w64};
 ghost use Rattle.arrayvec.specs.ArrayVec.{array_vec_len};
 
 use arrayvec::ArrayVec;
@@ -36,6 +38,14 @@ pub(crate) fn u64_at(bytes: &[u8], at: usize) -> u64
     ensures { result ≡ field bytes.now at 8 }
 {
     LittleEndian::read_u64(&bytes[at..])
+}
+
+/// The signed number of eight bytes at a place, in two's complement.
+pub(crate) fn i64_at(bytes: &[u8], at: usize) -> i64
+    requires { at + 8 ≤ length bytes.now }
+    ensures { result ≡ twos_complement (field bytes.now at 8) }
+{
+    u64_at(bytes, at).cast_signed()
 }
 
 /// The `N` bytes at a place.
@@ -92,6 +102,17 @@ pub(crate) fn put_u64<const N: usize>(out: &mut ArrayVec<u8, N>, value: u64)
     let mut bytes = [0; 8];
     LittleEndian::write_u64(&mut bytes, value);
     put_bytes(out, &bytes);
+}
+
+/// Puts the eight bytes of a signed number at the end, in two's complement.
+pub(crate) fn put_i64<const N: usize>(out: &mut ArrayVec<u8, N>, value: i64)
+    requires { array_vec_len out.old + 8 ≤ N }
+    ensures items { out.new.items ≡ out.old.items ++ little 8 (cast_unsigned w64 value) }
+    ensures fits { cast_unsigned w64 value < 256 ^ 8 }
+    ensures signed { value ≡ twos_complement (cast_unsigned w64 value) }
+    ensures len { array_vec_len out.new ≡ array_vec_len out.old + 8 }
+{
+    put_u64(out, value.cast_unsigned());
 }
 
 /// Puts the bytes of an array at the end.

@@ -2,10 +2,26 @@
 //! bytes kept in fields.
 #![tactic(auto)]
 
+mod dyn_entry;
 mod ehdr;
 mod fields;
+mod flags;
+mod note_head;
 mod parts;
+mod phdr;
+mod rela;
+mod shdr;
+mod sym;
+#[cfg(test)]
+mod tests;
 
+pub use dyn_entry::Dyn;
 pub use ehdr::Ehdr;
 pub use elf_model::{Cause, Refusal};
+pub use flags::{SectionFlags, SegmentFlags};
+pub use note_head::NoteHead;
 pub use parts::Parts;
+pub use phdr::Phdr;
+pub use rela::Rela;
+pub use shdr::Shdr;
+pub use sym::{Place, Sym};

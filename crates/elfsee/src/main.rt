@@ -1,4 +1,135 @@
 //! elfsee lists ELF64 files, safely and in bounded memory.
 #![tactic(auto)]
 
-fn main() {}
+mod answering;
+mod requests;
+mod sample;
+#[cfg(test)]
+mod tests;
+mod words;
+
+ghost use Rattle.std.specs.Prelude.{IfOk};
+ghost use Rattle.elfsee.specs.Requests.{IsBuilt, parts_of};
+
+use answering::{outcome, refused, run};
+use elf_listing::RunFault;
+use elf_source::{Counted, MemorySource, Out, Source, StreamSource, WriteSink};
+use requests::Request;
+use sample::sample;
+use std::alloc::Global;
+use std::fs::File;
+use std::io::{BufWriter, ErrorKind, Write};
+use std::os::unix::fs::FileTypeExt;
+use std::process::ExitCode;
+use std::rt::{Env, Files};
+use std::{env, fs, io};
+use words::request;
+
+/// How many bytes of output are kept before they are written.
+const OUTPUT_BYTES: usize = 65_536;
+
+/// An exit status, and a line for standard error, which is empty where there is nothing to say.
+type Ending = (u8, &'static str);
+
+const OUT_OF_MEMORY: Ending = (3, "elfsee: out of memory");
+
+const CANNOT_OPEN: Ending = (3, "elfsee: cannot open");
+
+const READ_FAULT: Ending = (3, "elfsee: read fault");
+
+const WRITE_FAULT: Ending = (3, "elfsee: write fault");
+
+const NOT_UTF8: Ending = (2, "elfsee: words are not UTF-8");
+
+fn main(rt: HostRuntime) -> ExitCode {
+    let (status, line) = match answer(&rt) {
+        Ok(ending) => ending,
+        Err(ending) => ending,
+    };
+    if !line.is_empty() {
+        // Where standard error can't be written either, the status alone tells.
+        let _ = eprintln!(rt; "{line}");
+    }
+    ExitCode::from(status)
+}
+
+/// Reads the words, makes what memory is needed, opens the file, and carries the request out.
+fn answer<R: Env + Files + Print + AllocGlobal>(rt: &R) -> Result<Ending, Ending> {
+    let words = read_words(rt)?;
+    let request = read_request(rt.alloc(), &words)?;
+    let Ok(output) = BufWriter::with_capacity(rt.alloc(), OUTPUT_BYTES, io::writer(rt)) else {
+        return Err(OUT_OF_MEMORY);
+    };
+    match &request {
+        Request::Show { file, .. } => {
+            let source = open(rt, file.as_str())?;
+            Ok(write_answer(&request, source, output))
+        }
+        Request::Sample { .. } => Ok(write_answer(&request, MemorySource::new(sample()), output)),
+    }
+}
+
+/// The words behind the program's name.
+fn read_words<R: Env + AllocGlobal>(rt: &R) -> Result<Vec<String>, Ending> {
+    let mut words = match env::args(rt) {
+        Ok(words) => words,
+        Err(fault) if fault.kind() == ErrorKind::OutOfMemory => return Err(OUT_OF_MEMORY),
+        Err(_) => return Err(NOT_UTF8),
+    };
+    let _program = words.next();
+    words.collect(rt.alloc()).map_err(|_| OUT_OF_MEMORY)
+}
+
+fn read_request(alloc: Global, words: &[String]) -> Result<Request, Ending>
+    ensures { IfOk result (λ request. IsBuilt (parts_of request)) }
+{
+    let mut texts: Vec<&str> = Vec::new(alloc);
+    for word in words {
+        if texts.push(word.as_str()).is_err() {
+            return Err(OUT_OF_MEMORY);
+        }
+    }
+    request(alloc, texts.as_slice()).map_err(|fault| refused(&fault))
+}
+
+/// Opens a file that can be read at an offset. Folders, pipes and sockets are not opened, so that
+/// opening never waits.
+fn open<R: Files>(rt: &R, path: &str) -> Result<StreamSource<R::File>, Ending> {
+    let Ok(found) = fs::metadata(rt, path) else {
+        return Err(CANNOT_OPEN);
+    };
+    let kind = found.file_type();
+    if kind.is_dir() || kind.is_fifo() || kind.is_socket() {
+        return Err(CANNOT_OPEN);
+    }
+    let Ok(file) = fs::open(rt, path) else {
+        return Err(CANNOT_OPEN);
+    };
+    StreamSource::new(file).map_err(|_| READ_FAULT)
+}
+
+/// Carries a request out and writes what is left of the output. After a fault of the output nothing
+/// more is written.
+fn write_answer<S: Source + Drop, W: Write + Drop>(
+    request: &Request,
+    source: S,
+    output: BufWriter<W>,
+) -> Ending
+    requires { IsBuilt (parts_of request.now) }
+{
+    let mut src = Counted::new(source);
+    let mut out = Out::new(WriteSink::new(output));
+    let answer = run(request, &mut src, &mut out);
+    let mut output = out.into_inner().into_inner();
+    if let Err(RunFault::Out(_)) = answer {
+        let _ = output.into_parts();
+        return outcome(&answer);
+    }
+    if output.flush().is_err() {
+        let _ = output.into_parts();
+        if answer.is_ok() {
+            return WRITE_FAULT;
+        }
+    }
+    outcome(&answer)
+}

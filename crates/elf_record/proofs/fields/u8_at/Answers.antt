@@ -1,4 +1,4 @@
-use Rattle.std.proofs.Common.{sym, arith, ◌∙◌, ◌≡◌, ◌+◌, ◌*◌, get_or, drop}
+use Rattle.std.proofs.Common.{sym}
 use Rattle.elf_record.proofs.FieldReads.{byte_read}
 use Rattle.elf_record.proofs.fields.u8_at.Goals as goal
 

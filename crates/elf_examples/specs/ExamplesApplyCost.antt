@@ -1,0 +1,45 @@
+-- Worked examples of what applying costs.
+use Rattle.std.specs.Prelude.{◌≡◌, ◌++◌, ◌+◌, ◌*◌, true, false, []}
+use Rattle.elf_model.specs.ApplyCost.{apply_cost, apply_cost_in_order, apply_cost_by_order, offsets_never_fall}
+use Rattle.elf_model.specs.Fixtures.{zeros}
+use Rattle.elf_model.specs.FixturesApply.{relocation, relocated, overlapping_relocations, overlapping_in_other_order, third_overflows, rising_relocations, falling_relocations, one_call, two_relocation_sections, empty_layout, entry_layout, full_layout}
+
+-- two entries without symbols, and one call with a procedure linkage table entry
+abbrev pub CostsOfWindows : Type 0
+CostsOfWindows =
+    (apply_cost overlapping_relocations 3 1 empty_layout ≡ 456) × (apply_cost one_call 5 1 entry_layout ≡ 613)
+    × (apply_cost one_call 5 1 full_layout ≡ 741)
+
+-- in order one pass applies all entries; else each window of 64 bytes takes one
+abbrev pub CostsByOrder : Type 0
+CostsByOrder =
+    (apply_cost_by_order rising_relocations 3 1 empty_layout ≡ 768)
+    × (apply_cost_by_order falling_relocations 3 1 empty_layout ≡ 960)
+    × (apply_cost_by_order overlapping_relocations 3 1 empty_layout ≡ 456)
+    × (apply_cost_by_order overlapping_in_other_order 3 1 empty_layout ≡ 456)
+
+-- entries past a fault count, entries of a section that is refused do not
+abbrev pub EntriesThatCount : Type 0
+EntriesThatCount =
+    (apply_cost third_overflows 3 1 empty_layout ≡ 64 + 192 + 2 * 3 * 48 + 8)
+    × (apply_cost (two_relocation_sections 9 23) 4 1 empty_layout ≡ 64 + 256 + 2 * 1 * 48 + 8)
+    × (apply_cost (two_relocation_sections 9 24) 4 1 empty_layout ≡ 64 + 256 + 2 * 2 * 48 + 8)
+
+-- an entry that changes nothing has no part in the order
+abbrev pub OrderLeavesOutNone : Type 0
+OrderLeavesOutNone =
+    (offsets_never_fall (relocated (zeros 8) (relocation 4 10 0 ++ relocation 0 0 0 ++ relocation 4 12 0)) 1 ≡ true)
+    × (offsets_never_fall (relocated (zeros 8) (relocation 4 10 0 ++ relocation 0 10 0)) 1 ≡ false)
+
+-- what is refused before the entries costs no entries, and before the section headers those neither
+abbrev pub CostsOfRefusals : Type 0
+CostsOfRefusals =
+    (apply_cost one_call 5 0 entry_layout ≡ 64 + 320)
+    × (apply_cost one_call 4 1 entry_layout ≡ 64)
+    × (apply_cost_in_order one_call 4 1 entry_layout ≡ 64)
+
+-- in a section without bytes a pass to check is enough, so that two passes are the larger bound
+abbrev pub CostsWithoutBytes : Type 0
+CostsWithoutBytes =
+    (apply_cost (relocated [] (relocation 0 0 0)) 3 1 empty_layout ≡ 64 + 192 + 48)
+    × (apply_cost_in_order (relocated [] (relocation 0 0 0)) 3 1 empty_layout ≡ 64 + 192 + 2 * 48)

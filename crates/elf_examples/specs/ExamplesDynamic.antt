@@ -1,0 +1,23 @@
+-- Worked examples of dynamic entries.
+use Rattle.std.specs.Prelude.{◌≡◌, ℕ, List, [], ◌++◌}
+use Rattle.elf_model.specs.Dynamic.{dynamic_count}
+use Rattle.elf_model.specs.Fixtures.{zeros}
+use Rattle.elf_model.specs.Bytes.{little}
+
+-- a dynamic entry: its tag and its value
+unfoldable pub dynamic_entry : ℕ → ℕ → List ℕ
+dynamic_entry tag value = little 8 tag ++ little 8 value
+
+-- the entries up to and with the first DT_NULL are listed, also where it is not at the table's start in the file
+abbrev pub DynamicEndsAtNull : Type 0
+DynamicEndsAtNull =
+    (dynamic_count (dynamic_entry 1 1 ++ dynamic_entry 0 0 ++ dynamic_entry 1 99) 0 3 ≡ 2)
+    × (dynamic_count (zeros 24 ++ dynamic_entry 1 1 ++ dynamic_entry 0 0 ++ dynamic_entry 0 0) 24 3 ≡ 2)
+    × (dynamic_count (dynamic_entry 0 5 ++ dynamic_entry 1 1) 0 2 ≡ 1)
+
+-- without a DT_NULL all entries are listed
+abbrev pub DynamicWithoutNull : Type 0
+DynamicWithoutNull =
+    (dynamic_count (dynamic_entry 1 1 ++ dynamic_entry 5 0) 0 2 ≡ 2)
+    × (dynamic_count (dynamic_entry 0xffffffff00000000 0) 0 1 ≡ 1)
+    × (dynamic_count [] 0 0 ≡ 0)

@@ -1,0 +1,17 @@
+pub mod Examples
+pub mod ExamplesAnswers
+pub mod ExamplesApply
+pub mod ExamplesApplyCost
+pub mod ExamplesDynamic
+pub mod ExamplesHash
+pub mod ExamplesNames
+pub mod ExamplesNotes
+pub mod ExamplesValues
+pub mod ListedCosts
+pub mod ListedDynamic
+pub mod ListedHeaders
+pub mod ListedNotes
+pub mod ListedParts
+pub mod ListedRelocations
+pub mod ListedSections
+pub mod ListedSymbols

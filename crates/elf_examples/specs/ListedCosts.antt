@@ -1,0 +1,65 @@
+-- What listings ask for at most, and what they never pass.
+use Rattle.std.specs.Prelude.{◌≡◌, []}
+use Rattle.elf_model.specs.Listing.{HEADER, SECTIONS, SEGMENTS, SYMBOLS, RELOCS, NOTES, DYNAMIC, ALL}
+use Rattle.elf_model.specs.Cost.{cost, ceiling}
+use Rattle.elf_model.specs.Bytes.{little}
+use Rattle.elf_model.specs.Fixtures.{with_bytes, bare_header, one_symbol_table}
+use Rattle.elf_model.specs.FixturesHash.{hash_with_cycle}
+use Rattle.elf_model.specs.FixturesApply.{overlapping_relocations, one_call}
+use Rattle.elf_model.specs.FixturesTables.{tables_over_headers, one_table, one_load, build_note, note_segment, needed_library, named_section}
+
+-- whole listings
+abbrev pub CostsOfWholeListings : Type 0
+CostsOfWholeListings =
+    (cost one_symbol_table 3 63 ALL ≡ 432)
+    × (cost tables_over_headers 5 63 ALL ≡ 3552)
+    × (cost hash_with_cycle 4 63 ALL ≡ 584)
+    × (cost overlapping_relocations 3 63 ALL ≡ 480)
+    × (cost one_call 5 63 ALL ≡ 672)
+
+-- parts of listings
+abbrev pub CostsOfParts : Type 0
+CostsOfParts =
+    (cost named_section 3 63 SECTIONS ≡ 448)
+    × (cost one_call 5 63 RELOCS ≡ 496)
+    × (cost one_symbol_table 3 63 SYMBOLS ≡ 432)
+    × (cost one_symbol_table 3 63 SECTIONS ≡ 256)
+    × (cost needed_library 3 63 DYNAMIC ≡ 496)
+    × (cost (one_table 7 4 0 build_note []) 3 63 NOTES ≡ 292)
+
+-- files without sections: the program headers are read once for the segments and once for the notes
+abbrev pub CostsWithoutSections : Type 0
+CostsWithoutSections =
+    (cost one_load 1 63 SEGMENTS ≡ 120)
+    × (cost one_load 1 63 ALL ≡ 176)
+    × (cost note_segment 1 63 NOTES ≡ 140)
+    × (cost note_segment 1 63 ALL ≡ 196)
+
+-- the file header alone, or a fault before the section headers are read
+abbrev pub CostsOfTheHeaderAlone : Type 0
+CostsOfTheHeaderAlone =
+    (cost bare_header 1 63 ALL ≡ 64)
+    × (cost one_symbol_table 3 63 HEADER ≡ 64)
+    × (cost one_symbol_table 3 63 0 ≡ 64)
+    × (cost one_symbol_table 2 63 ALL ≡ 64)
+    × (cost [] 1 63 ALL ≡ 64)
+
+-- a table counts where its own checks pass, wherever the first fault is
+abbrev pub CostsOfTablesThatFail : Type 0
+CostsOfTablesThatFail =
+    (cost (with_bytes 0xe0 (little 4 0x0) one_symbol_table) 3 63 ALL ≡ 432)
+    × (cost (with_bytes 0xf0 (little 8 0x17) one_symbol_table) 3 63 ALL ≡ 256)
+    × (cost (with_bytes 0xe0 (little 4 0x9) (with_bytes 0xf0 (little 8 0x5) (with_bytes 0xd8 (little 8 0x0) one_symbol_table))) 3 63 ALL ≡ 256)
+    × (cost (with_bytes 0x58 (little 4 0xffffffff) one_symbol_table) 3 63 ALL ≡ 432)
+
+-- names of 63, 64 and 4,096 bytes
+abbrev pub CostsOfLongerNames : Type 0
+CostsOfLongerNames =
+    (cost one_symbol_table 3 63 ALL ≡ 432)
+    × (cost one_symbol_table 3 64 ALL ≡ 560)
+    × (cost one_symbol_table 3 4096 ALL ≡ 8624)
+
+-- the ceilings of files of 472 and 312 bytes
+abbrev pub Ceilings : Type 0
+Ceilings =
+    (ceiling 472 5 63 ≡ 17264) × (ceiling 312 3 63 ≡ 7024)

@@ -1,0 +1,60 @@
+-- Parts of a listing, alone and together.
+use Rattle.std.specs.Prelude.{◌≡◌, [], ◌++◌, codes, take}
+use Rattle.elf_model.specs.Listing.{HEADER, SECTIONS, SYMBOLS, RELOCS, ALL}
+use Rattle.elf_model.specs.Report.{report}
+use Rattle.elf_model.specs.Fixtures.{bare_header, one_symbol_table}
+use Rattle.elf_model.specs.FixturesApply.{one_call}
+use Rattle.elf_model.specs.Answer.{show_answer, sample_answer}
+
+-- each part of one file alone
+abbrev pub PartsAloneList : Type 0
+PartsAloneList =
+    (report one_call 5 63 HEADER
+    ≡ codes "H REL     62 0000000000000000 0000000000000000 0000000000000098 00000000     0     5     0\n")
+    × (report one_call 5 63 SECTIONS
+    ≡ codes "S     0 NULL                       0000000000000000 0000000000000000 0000000000000000 00000000 00000000 \n"
+    ++ codes "S     1 PROGBITS      AX           0000000000000000 0000000000000040 0000000000000005 00000000 00000000 \n"
+    ++ codes "S     2 RELA          I            0000000000000000 0000000000000048 0000000000000018 00000003 00000001 \n"
+    ++ codes "S     3 SYMTAB                     0000000000000000 0000000000000060 0000000000000030 00000004 00000001 \n"
+    ++ codes "S     4 STRTAB                     0000000000000000 0000000000000090 0000000000000003 00000000 00000000 \n")
+    × (report one_call 5 63 SYMBOLS
+    ≡ codes "Y     3          0 0000000000000000 0000000000000000 NOTYPE  LOCAL  DEFAULT   UND   \n"
+    ++ codes "Y     3          1 0000000000000000 0000000000000000 NOTYPE  GLOBAL DEFAULT   UND   f\n")
+    × (report one_call 5 63 RELOCS
+    ≡ codes "R     2 0000000000000001 PLT32      00000001 -0000000000000004 f\n")
+
+-- the file header and the symbols; the symbols and the relocation entries
+abbrev pub PartsTogetherList : Type 0
+PartsTogetherList =
+    (report one_call 5 63 9
+    ≡ codes "H REL     62 0000000000000000 0000000000000000 0000000000000098 00000000     0     5     0\n"
+    ++ codes "Y     3          0 0000000000000000 0000000000000000 NOTYPE  LOCAL  DEFAULT   UND   \n"
+    ++ codes "Y     3          1 0000000000000000 0000000000000000 NOTYPE  GLOBAL DEFAULT   UND   f\n")
+    × (report one_call 5 63 24
+    ≡ codes "Y     3          0 0000000000000000 0000000000000000 NOTYPE  LOCAL  DEFAULT   UND   \n"
+    ++ codes "Y     3          1 0000000000000000 0000000000000000 NOTYPE  GLOBAL DEFAULT   UND   f\n"
+    ++ codes "R     2 0000000000000001 PLT32      00000001 -0000000000000004 f\n")
+    × (report one_call 5 63 100
+    ≡ [])
+
+-- no parts: nothing, but the file header is checked; bits outside the seven mean nothing
+abbrev pub NoPartsListNothing : Type 0
+NoPartsListNothing =
+    (report one_symbol_table 3 63 0
+    ≡ [])
+    × (report one_symbol_table 1 63 0
+    ≡ [])
+    × (report (take 63 one_symbol_table) 3 63 0
+    ≡ codes "! 000000000000003f short\n")
+    × (report one_symbol_table 3 63 128
+    ≡ [])
+    × (report one_symbol_table 1 63 129
+    ≡ codes "H REL     62 0000000000000000 0000000000000000 0000000000000078 00000000     0     3     0\n")
+
+-- the status of a listing: 0 without a fault, 1 with one
+abbrev pub AnswersHaveAStatus : Type 0
+AnswersHaveAStatus =
+    ((show_answer one_symbol_table 3 63 ALL).status ≡ 0)
+    × ((show_answer one_symbol_table 2 63 ALL).status ≡ 1)
+    × (show_answer (take 63 bare_header) 1 63 ALL ≡ record { text = codes "! 000000000000003f short\n"; status = 1 })
+    × (sample_answer 4096 256 ALL ≡ record { text = report one_symbol_table 3 63 ALL; status = 0 })

@@ -1,0 +1,124 @@
+-- What a loop over a note table needs: the rows and the cut that are left, one note at a time.
+use Rattle.std.proofs.Common.{take, length-take, le_of_eq, take-take, min, ◌≡◌, ℕ, ◌+◌, ◌<◌, ◌≤◌, List, [], ◌∷◌, length, drop, ◌⊎◌, inl, inr, Option, Some, None, ap, sym, ◌∙◌, arith}
+use Rattle.std.proofs.lemmas.List.{drop_all, take_all}
+use Rattle.std.proofs.lemmas.Bool.{cases_lt}
+use Rattle.elf_model.specs.Bytes.{slice}
+use Rattle.elf_model.specs.Records.{n_namesz, n_descsz, n_type}
+use Rattle.elf_model.specs.Names.{nul_in}
+use Rattle.elf_model.specs.Names.Shown.{Whole, Cut}
+use Rattle.elf_model.specs.Notes.{before_nul, note_shown, Note, Ends, Broken, Found, Walk, NoteRow, to_next, padded_size, first_note, first_end, next_note, walked, note_rows}
+use Rattle.elf_model.proofs.Nuls.{free, none-free, some-free, free-some}
+use Rattle.elf_model.proofs.NameLoops.{nul_in-whole, nul_in-take-some}
+use Rattle.elf_model.proofs.Slices.{field-slice}
+use Rattle.elf_model.proofs.Spellings.{NextView, ends, tails, past, found, next_view}
+use Rattle.elf_model.proofs.Walks.{walk, walk-ends, walk-broken, walk-found}
+use Rattle.elf_model.proofs.NoteLaws.{walked-is, nothing-ends}
+use Rattle.elf_model.proofs.NoteRowLaws.{note-whole, note-cut, row_of, rows-nil, rows-cons, first-padded}
+
+-- the rows and the cut that are left from a place on
+abbrev pub rows_left : ℕ → ℕ → List ℕ → List NoteRow
+rows_left a place rest = note_rows a place (walk a place rest).notes
+
+abbrev pub cut_left : ℕ → ℕ → List ℕ → Option ℕ
+cut_left a place rest = (walk a place rest).cut
+
+pub rows-start : (a : ℕ) (table : List ℕ) → rows_left a 0 table ≡ note_rows a 0 (walked a table).notes
+rows-start a table = ap (λ (w : Walk). note_rows a 0 w.notes) (sym (walked-is a table))
+
+pub cut-start : (a : ℕ) (table : List ℕ) → cut_left a 0 table ≡ (walked a table).cut
+cut-start a table = ap (λ (w : Walk). w.cut) (sym (walked-is a table))
+
+pub rows-ends : (a place : ℕ) (rest : List ℕ) → next_note a rest ≡ Ends → (rows_left a place rest ≡ []) × (cut_left a place rest ≡ None)
+rows-ends a place rest e =
+    let w = walk-ends a place rest e in
+    (ap (λ (x : Walk). note_rows a place x.notes) w ∙ rows-nil a place, ap (λ (x : Walk). x.cut) w)
+
+pub rows-broken : (a place : ℕ) (rest : List ℕ) → next_note a rest ≡ Broken → (rows_left a place rest ≡ []) × (cut_left a place rest ≡ Some place)
+rows-broken a place rest e =
+    let w = walk-broken a place rest e in
+    (ap (λ (x : Walk). note_rows a place x.notes) w ∙ rows-nil a place, ap (λ (x : Walk). x.cut) w)
+
+-- what is found is the first note
+pub found-first : (a : ℕ) (rest : List ℕ) (note : Note) (size : ℕ) → next_note a rest ≡ Found note size
+    → (note ≡ first_note a rest) × (size ≡ min (first_end a rest + to_next a (first_end a rest)) (length rest)) × (12 ≤ length rest) × (first_end a rest ≤ length rest)
+found-first a rest note size e = go (next_view a rest)
+  where
+    go : NextView a rest → (note ≡ first_note a rest) × (size ≡ min (first_end a rest + to_next a (first_end a rest)) (length rest)) × (12 ≤ length rest) × (first_end a rest ≤ length rest)
+    go (ends h z n) = cc
+    go (tails h n) = cc
+    go (past n) = cc
+    go (found h l n) = (cc, cc, h, l)
+
+-- behind the last note, whose padding may be missing, no row is left at any place
+rows-end : (a at n : ℕ) (rest : List ℕ) → rest ≡ [] → note_rows a n (walk a at rest).notes ≡ []
+rows-end a at n rest e = rw (e) (ap (λ (w : Walk). note_rows a n w.notes) (nothing-ends a at) ∙ rows-nil a n)
+
+rows-behind : (a place : ℕ) (rest : List ℕ) (note : Note) (size : ℕ) → next_note a rest ≡ Found note size
+    → note_rows a (place + padded_size a note) (walk a (place + size) (drop size rest)).notes ≡ rows_left a (place + size) (drop size rest)
+rows-behind a place rest note size e = go (cases_lt (length rest) (first_end a rest + to_next a (first_end a rest)))
+  where
+    go : (length rest < first_end a rest + to_next a (first_end a rest)) ⊎ (first_end a rest + to_next a (first_end a rest) ≤ length rest)
+        → note_rows a (place + padded_size a note) (walk a (place + size) (drop size rest)).notes ≡ rows_left a (place + size) (drop size rest)
+    go (inl few) =
+        let f = found-first a rest note size e in
+        let nothing : drop size rest ≡ [] = drop_all size rest (omega arith) in
+        rows-end a (place + size) (place + padded_size a note) (drop size rest) nothing ∙ sym (rows-end a (place + size) (place + size) (drop size rest) nothing)
+    go (inr enough) =
+        let f = found-first a rest note size e in
+        let p = first-padded a rest f.2 f.3 in
+        let q : padded_size a note ≡ size = ap (padded_size a) f.0 ∙ omega arith in
+        ap (λ n. note_rows a (place + n) (walk a (place + size) (drop size rest)).notes) q
+
+pub rows-found : (a place : ℕ) (rest : List ℕ) (note : Note) (size : ℕ) → next_note a rest ≡ Found note size
+    → (rows_left a place rest ≡ row_of a place note ∷ rows_left a (place + size) (drop size rest))
+    × (cut_left a place rest ≡ cut_left a (place + size) (drop size rest))
+rows-found a place rest note size e =
+    let w = walk-found a place rest note size e in (
+      ap (λ (x : Walk). note_rows a place x.notes) w ∙ rows-cons a place note (walk a (place + size) (drop size rest)).notes
+          ∙ ap (λ x. row_of a place note ∷ x) (rows-behind a place rest note size e),
+      ap (λ (x : Walk). x.cut) w,
+    )
+
+-- the head of a note in a slice of the file is its first 12 bytes
+pub head-fields : (file : List ℕ) (from size : ℕ) → 12 ≤ size
+    → (n_namesz (slice file from size) 0 ≡ n_namesz (slice file from 12) 0) × (n_descsz (slice file from size) 0 ≡ n_descsz (slice file from 12) 0)
+    × (n_type (slice file from size) 0 ≡ n_type (slice file from 12) 0)
+head-fields file from size h = (
+  field-slice file from size 0 4 (omega arith) ∙ sym (field-slice file from 12 0 4 (omega arith)),
+  field-slice file from size 4 4 (omega arith) ∙ sym (field-slice file from 12 4 4 (omega arith)),
+  field-slice file from size 8 4 (omega arith) ∙ sym (field-slice file from 12 8 4 (omega arith)),
+)
+
+-- A note's name as it is shown, from a front of it.
+pub before_nul-some : (name : List ℕ) (place : ℕ) → nul_in name ≡ Some place → before_nul name ≡ take place name
+before_nul-some name place h = let f = some-free name place h in ap (λ n. take n name) f.0
+
+pub before_nul-none : (name : List ℕ) → nul_in name ≡ None → before_nul name ≡ name
+before_nul-none name h = take_all (free name) name (le_of_eq (sym (none-free name h)))
+
+pub note-shown-found : (cap n place : ℕ) (note : Note) → nul_in (take n note.name) ≡ Some place → place ≤ cap → note_shown cap note ≡ Whole (take place note.name)
+note-shown-found cap n place note h l =
+    let b = before_nul-some note.name place (nul_in-whole note.name n place h) in
+    let few : length (before_nul note.name) ≤ cap = rw b (omega (arith, length-take place note.name)) in
+    note-whole cap note few ∙ ap (λ (x : List ℕ). Whole x) b
+
+pub note-shown-all : (cap : ℕ) (note : Note) → nul_in note.name ≡ None → length note.name ≤ cap → note_shown cap note ≡ Whole note.name
+note-shown-all cap note h l =
+    let b = before_nul-none note.name h in
+    note-whole cap note (rw b l) ∙ ap (λ (x : List ℕ). Whole x) b
+
+-- without a NUL among the first cap + 1 bytes the first one stands behind them, if anywhere
+none-in-front : (name : List ℕ) (n : ℕ) → nul_in (take n name) ≡ None → n ≤ length name → n ≤ free name
+none-in-front name n h l = go (cases_lt (free name) n)
+  where
+    go : (free name < n) ⊎ (n ≤ free name) → n ≤ free name
+    go (inl k) =
+        let e = nul_in-take-some name n (free name) (free-some name (omega arith)) k in
+        cc
+    go (inr k) = k
+
+pub note-shown-over : (cap : ℕ) (note : Note) → nul_in (take (cap + 1) note.name) ≡ None → cap < length note.name → note_shown cap note ≡ Cut (take cap note.name)
+note-shown-over cap note h l =
+    let k = none-in-front note.name (cap + 1) h (omega arith) in
+    let more : cap < length (before_nul note.name) = omega (arith, length-take (free note.name) note.name) in
+    note-cut cap note more ∙ ap (λ (x : List ℕ). Cut x) (take-take cap (free note.name) note.name (omega arith))

@@ -1,0 +1,5 @@
+use Rattle.elf_model.proofs.WalkLaws.{long_walk_repeats}
+use Rattle.elf_model.proofs.hash_laws.long_walk_repeats.Goals as goal
+
+pub returns : goal.returns
+returns c = long_walk_repeats

@@ -1,0 +1,5 @@
+use Rattle.elf_model.proofs.NoteRowLaws.{note_shown_whole}
+use Rattle.elf_model.proofs.notes.note_shown_whole_exactly.Goals as goal
+
+pub returns : goal.returns
+returns c = note_shown_whole

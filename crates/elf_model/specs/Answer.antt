@@ -1,0 +1,23 @@
+-- What `show` and `sample` give: a text, and a status for the shell.
+use Rattle.std.specs.Prelude.{ℕ, List, Option, None, Some}
+use Rattle.elf_model.specs.Report.{report, report_fault}
+use Rattle.elf_model.specs.Fixtures.{one_symbol_table}
+use Rattle.elf_model.specs.declared.causes.Refusal.{Refusal}
+
+pub record Answer : Type 0 where
+  pub text : List ℕ
+  pub status : ℕ
+
+-- 0 without a fault, 1 with one
+abbrev pub status_of : Option Refusal → ℕ
+status_of None = 0
+status_of (Some refusal) = 1
+
+-- `show`: the listing of a file
+abbrev pub show_answer : List ℕ → ℕ → ℕ → ℕ → Answer
+show_answer file headers name parts =
+    record { text = report file headers name parts; status = status_of (report_fault file headers name parts) }
+
+-- `sample`: the listing of the file that the program carries
+abbrev pub sample_answer : ℕ → ℕ → ℕ → Answer
+sample_answer headers name parts = show_answer one_symbol_table headers name parts

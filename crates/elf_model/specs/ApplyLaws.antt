@@ -1,0 +1,66 @@
+-- Laws of patches: what a part of a patched section holds, and which parts later patches leave alone.
+use Rattle.std.specs.Prelude.{ℕ, ◌+◌, ◌-◌, ◌≤◌, ◌≡◌, ◌&&◌, nat_lt, nat_le, if◌then◌else◌, min, List, [], ◌∷◌, length, get_or, take, drop, map, All, Ok}
+use Rattle.elf_model.specs.Apply.{Patch, Target, changes_of, patches_of, patched}
+use Rattle.elf_model.specs.Bytes.{slice}
+
+-- a patch lies within so many bytes
+abbrev pub IsInside : ℕ → Patch → Type 0
+IsInside size patch = patch.at + length patch.bytes ≤ size
+
+abbrev pub AllInside : ℕ → List Patch → Type 0
+AllInside size patches = All (IsInside size) patches
+
+-- the byte at an offset once a patch is stored
+unfoldable pub byte_with : Patch → ℕ → ℕ → ℕ
+byte_with patch i byte =
+    if nat_le patch.at i && nat_lt i (patch.at + length patch.bytes) then get_or patch.bytes (i - patch.at) 0 else byte
+
+-- the byte at an offset once all patches are stored
+unfoldable pub byte_after : List Patch → ℕ → ℕ → ℕ
+byte_after [] i byte = byte
+byte_after (patch ∷ patches) i byte = byte_after patches i (byte_with patch i byte)
+
+-- the part of a patch that falls into a window of n bytes, as a patch of the window
+unfoldable pub clipped : ℕ → ℕ → Patch → Patch
+clipped low n patch =
+    record {
+      at = min (patch.at - low) n;
+      bytes = take (n - (patch.at - low)) (drop (low - patch.at) patch.bytes);
+    }
+
+-- patches within a section leave its length
+abbrev pub LengthKept : Type 0
+LengthKept =
+    (patches : List Patch) (base : List ℕ) → AllInside (length base) patches → length (patched patches base) ≡ length base
+
+-- each byte of a patched section is the byte after all patches
+abbrev pub BytePatched : Type 0
+BytePatched =
+    (patches : List Patch) (base : List ℕ) (i : ℕ)
+    → AllInside (length base) patches → get_or (patched patches base) i 0 ≡ byte_after patches i (get_or base i 0)
+
+-- a window of a patched section is the window with the parts of the patches that fall into it
+abbrev pub WindowPatched : Type 0
+WindowPatched =
+    (patches : List Patch) (base : List ℕ) (low n : ℕ)
+    → AllInside (length base) patches → low + n ≤ length base
+    → slice (patched patches base) low n ≡ patched (map (clipped low n) patches) (slice base low n)
+
+-- what stands before all patches stays
+abbrev pub FinalBelow : Type 0
+FinalBelow =
+    (patches : List Patch) (base : List ℕ) (low : ℕ)
+    → AllInside (length base) patches → All (λ patch. low ≤ patch.at) patches
+    → take low (patched patches base) ≡ take low base
+
+-- what stands behind all patches stays
+abbrev pub KeptAbove : Type 0
+KeptAbove =
+    (patches : List Patch) (base : List ℕ) (high : ℕ)
+    → AllInside (length base) patches → All (λ patch. patch.at + length patch.bytes ≤ high) patches
+    → drop high (patched patches base) ≡ drop high base
+
+-- what the relocation entries store lies in the section
+abbrev pub ChangesInside : Type 0
+ChangesInside =
+    (target : Target) (patches : List Patch) → patches_of (changes_of target) ≡ Ok patches → AllInside target.size patches

@@ -1,0 +1,32 @@
+-- Dynamic entries (gABI 5, Dynamic Section), each of 16 bytes.
+use Rattle.std.specs.Prelude.{◌≡◌, ◌≢◌, ℕ, zero, suc, ◌+◌, ◌*◌, ◌==◌, ◌<◌, ◌≤◌, true, false}
+use Rattle.std.specs.Prelude.{List}
+use Rattle.elf_model.specs.Records.{d_tag}
+
+-- the tag of the entry that ends the array (gABI 5, Dynamic Section)
+abbrev pub DT_NULL : ℕ
+DT_NULL = 0
+
+-- how many of the n entries at an offset are listed: up to and with the first whose tag is DT_NULL, or all
+unfoldable pub dynamic_count : List ℕ → ℕ → ℕ → ℕ
+dynamic_count file at zero = 0
+dynamic_count file at (suc n) = elim (d_tag file at == DT_NULL) [ true ↦ 1 | false ↦ suc (dynamic_count file (at + 16) n) ]
+
+-- where an entry stands
+abbrev pub entry_at : ℕ → ℕ → ℕ
+entry_at at i = at + 16 * i
+
+-- of n entries, those before `count` are listed: none but the last of them has the tag DT_NULL, and where
+-- there are more behind it the last has it
+pub record IsListed (file : List ℕ) (at n count : ℕ) : Type 0 where
+  pub within : count ≤ n
+  pub none_before : (i : ℕ) → suc i < count → d_tag file (entry_at at i) ≢ DT_NULL
+  pub ended : count < n → (last : ℕ) × (count ≡ suc last) × (d_tag file (entry_at at last) ≡ DT_NULL)
+
+-- the entries that are counted are those that are listed
+abbrev pub CountedIsListed : Type 0
+CountedIsListed = (file : List ℕ) (at n : ℕ) → IsListed file at n (dynamic_count file at n)
+
+-- the entries that are listed are those that are counted
+abbrev pub ListedIsCounted : Type 0
+ListedIsCounted = (file : List ℕ) (at n count : ℕ) → IsListed file at n count → dynamic_count file at n ≡ count

@@ -1,0 +1,48 @@
+-- What holds of listings.
+use Rattle.std.specs.Prelude.{◌≡◌, ℕ, true, false, List, ◌++◌, None, Some}
+use Rattle.elf_model.specs.Checks.{first_refusal, header_checks, load_checks}
+use Rattle.elf_model.specs.Lines.{header_line, refusal_line}
+use Rattle.elf_model.specs.Listing.{Item, lines_of, fault_of, has, has_tables, header_items, HEADER, ALL}
+use Rattle.elf_model.specs.Cost.{cost}
+use Rattle.std.specs.Int.RustNames.{bit_and}
+use Rattle.elf_model.specs.Report.{items, report, report_fault}
+use Rattle.elf_model.specs.declared.causes.Refusal.{Refusal}
+
+-- with no part but the file header's the listing is the file header's
+abbrev pub HeaderAloneIsListed : Type 0
+HeaderAloneIsListed =
+    (file : List ℕ) → (headers name parts : ℕ) → has_tables parts ≡ false
+    → items file headers name parts ≡ header_items file parts
+
+-- where a check of the file header fails, the listing is that fault's line alone, under any parts
+abbrev pub HeaderFaultIsListedAlone : Type 0
+HeaderFaultIsListedAlone =
+    (file : List ℕ) → (headers name parts : ℕ) → (refusal : Refusal) → first_refusal (header_checks file) ≡ Some refusal
+    → (report file headers name parts ≡ refusal_line refusal) × (report_fault file headers name parts ≡ Some refusal)
+
+-- where a load check fails, the listing of all parts is the file header's line and that fault's line
+abbrev pub LoadFaultIsListedSecond : Type 0
+LoadFaultIsListedSecond =
+    (file : List ℕ) → (headers name parts : ℕ) → (refusal : Refusal)
+    → first_refusal (header_checks file) ≡ None → first_refusal (load_checks file headers) ≡ Some refusal
+    → has parts HEADER ≡ true → has_tables parts ≡ true
+    → report file headers name parts ≡ header_line file ++ refusal_line refusal
+
+-- what stands behind the first fault of a listing is not shown
+abbrev pub NothingBehindTheFault : Type 0
+NothingBehindTheFault =
+    (front back : List Item) → (refusal : Refusal) → fault_of front ≡ Some refusal
+    → (lines_of (front ++ back) ≡ lines_of front) × (fault_of (front ++ back) ≡ Some refusal)
+
+-- two listings one behind the other, the first without a fault
+abbrev pub ListingsAppend : Type 0
+ListingsAppend =
+    (front back : List Item) → fault_of front ≡ None
+    → (lines_of (front ++ back) ≡ lines_of front ++ lines_of back) × (fault_of (front ++ back) ≡ fault_of back)
+
+-- bits outside the seven parts mean nothing
+abbrev pub OtherBitsMeanNothing : Type 0
+OtherBitsMeanNothing =
+    (file : List ℕ) → (headers name parts : ℕ)
+    → (items file headers name (bit_and parts ALL) ≡ items file headers name parts)
+    × (cost file headers name (bit_and parts ALL) ≡ cost file headers name parts)

@@ -1,0 +1,175 @@
+-- Notes (gABI 5, Note Section), each with a head of three words of four bytes.
+use Rattle.std.specs.Prelude.{◌≡◌, ℕ, zero, suc, ◌+◌, ◌-◌, ◌%◌, ◌==◌, ◌<◌, ◌≤◌, min, nat_lt, Bool, true, if◌then◌else◌, List, [], ◌∷◌, ◌++◌, length, take, drop, ◌⊎◌, Option, None, Some}
+use Rattle.std.specs.List.{list_all, before_first}
+use Rattle.elf_model.specs.Bytes.{slice}
+use Rattle.elf_model.specs.Records.{n_namesz, n_descsz, n_type}
+use Rattle.elf_model.specs.Names.{Shown}
+use Rattle.elf_model.specs.Names.Shown.{Whole, Cut}
+
+-- a note: its type, the bytes of its name and of its descriptor
+pub record Note : Type 0 where
+  pub kind : ℕ
+  pub name : List ℕ
+  pub descriptor : List ℕ
+
+-- notes are aligned to 8 bytes where the section or the segment is, else to 4
+abbrev pub note_align : ℕ → ℕ
+note_align align = if align == 8 then 8 else 4
+
+-- how many bytes there are from n to the next multiple of an alignment
+abbrev pub to_next : ℕ → ℕ → ℕ
+to_next a n = (a - n % a) % a
+
+-- the bytes between a name and its descriptor, for the two sizes: none where the descriptor is empty
+abbrev pub gap_between : ℕ → ℕ → ℕ → ℕ
+gap_between a namesz descsz = if descsz == 0 then 0 else to_next a (12 + namesz)
+
+-- the bytes from a note's start to its descriptor's start, for the two sizes
+abbrev pub descriptor_start : ℕ → ℕ → ℕ → ℕ
+descriptor_start a namesz descsz = 12 + namesz + gap_between a namesz descsz
+
+-- a text spells a note: the head with the two sizes and the type, the name, the gap, the descriptor
+pub record Spelt (a : ℕ) (note : Note) (text : List ℕ) : Type 0 where
+  pub head : List ℕ
+  pub gap : List ℕ
+  pub parts : text ≡ head ++ note.name ++ gap ++ note.descriptor
+  pub head_size : length head ≡ 12
+  pub namesz : n_namesz head 0 ≡ length note.name
+  pub descsz : n_descsz head 0 ≡ length note.descriptor
+  pub type : n_type head 0 ≡ note.kind
+  pub gap_size : length gap ≡ gap_between a (length note.name) (length note.descriptor)
+
+-- a text is a note's spelling and any bytes up to the next multiple of the alignment
+pub record Padded (a : ℕ) (note : Note) (text : List ℕ) : Type 0 where
+  pub spelling : List ℕ
+  pub padding : List ℕ
+  pub parts : text ≡ spelling ++ padding
+  pub spelt : Spelt a note spelling
+  pub padding_size : length padding ≡ to_next a (length spelling)
+
+-- a text is one padded text for each note, in order
+abbrev pub AllPadded : ℕ → List Note → List ℕ → Type 0
+AllPadded a [] text = text ≡ []
+AllPadded a (note ∷ notes) text =
+    (first : List ℕ) × (rest : List ℕ) × (text ≡ first ++ rest) × Padded a note first × AllPadded a notes rest
+
+-- all bytes are zero
+abbrev pub are_zeros : List ℕ → Bool
+are_zeros bytes = list_all (λ b. b == 0) bytes
+
+-- a table is padded notes and fewer than 12 zero bytes
+pub record Filled (a : ℕ) (notes : List Note) (table : List ℕ) : Type 0 where
+  pub front : List ℕ
+  pub tail : List ℕ
+  pub parts : table ≡ front ++ tail
+  pub padded : AllPadded a notes front
+  pub few : length tail < 12
+  pub zeros : are_zeros tail ≡ true
+
+-- a table is padded notes, and one more whose padding ends too early
+pub record Short (a : ℕ) (notes : List Note) (table : List ℕ) : Type 0 where
+  pub before : List Note
+  pub last : Note
+  pub front : List ℕ
+  pub spelling : List ℕ
+  pub padding : List ℕ
+  pub list : notes ≡ before ++ last ∷ []
+  pub parts : table ≡ front ++ spelling ++ padding
+  pub padded : AllPadded a before front
+  pub spelt : Spelt a last spelling
+  pub short : length padding < to_next a (length spelling)
+
+-- the notes of a table (gABI 5, Note Section)
+abbrev pub Notes : ℕ → List Note → List ℕ → Type 0
+Notes a notes table = Filled a notes table ⊎ Short a notes table
+
+-- no list of notes fits a table, and the longest front of it that is padded notes alone ends at a place
+pub record CutAt (a : ℕ) (notes : List Note) (place : ℕ) (table : List ℕ) : Type 0 where
+  pub within : place ≤ length table
+  pub padded : AllPadded a notes (take place table)
+  pub longest : (others : List Note) (other : ℕ) → other ≤ length table → AllPadded a others (take other table) → other ≤ place
+  pub none_fits : (others : List Note) → Notes a others table → ⊥
+
+-- what stands at the start of the bytes that are left of a table: its end, nothing that is a note, or a note
+-- and its size with its padding
+pub data Next : Type 0 where
+  Ends : Next
+  Broken : Next
+  Found : Note → ℕ → Next
+
+-- the note whose head stands at the start of some bytes
+abbrev pub first_note : ℕ → List ℕ → Note
+first_note a rest =
+    record {
+      kind = n_type rest 0;
+      name = slice rest 12 (n_namesz rest 0);
+      descriptor = slice rest (descriptor_start a (n_namesz rest 0) (n_descsz rest 0)) (n_descsz rest 0);
+    }
+
+-- where that note ends, without its padding
+abbrev pub first_end : ℕ → List ℕ → ℕ
+first_end a rest = descriptor_start a (n_namesz rest 0) (n_descsz rest 0) + n_descsz rest 0
+
+-- fewer than 12 bytes are the table's end where all are zero; a note ends within the bytes, but its padding may
+-- be missing
+unfoldable pub next_note : ℕ → List ℕ → Next
+next_note a rest =
+    if nat_lt (length rest) 12 then (if are_zeros rest then Ends else Broken)
+    else if nat_lt (length rest) (first_end a rest) then Broken
+    else Found (first_note a rest) (min (first_end a rest + to_next a (first_end a rest)) (length rest))
+
+-- the notes that a table has, up to the place where it is cut, if it is
+pub record Walk : Type 0 where
+  pub notes : List Note
+  pub cut : Option ℕ
+
+-- a note in front of the notes behind it
+abbrev pub with_note : Note → Walk → Walk
+with_note note walk = record { notes = note ∷ walk.notes; cut = walk.cut }
+
+-- the notes of the bytes from a place on, no more than so many notes
+unfoldable pub walk_from : ℕ → ℕ → ℕ → List ℕ → Walk
+walk_from a zero place rest = record { notes = []; cut = Some place }
+walk_from a (suc most) place rest =
+    elim (next_note a rest) [
+      | Ends ↦ record { notes = []; cut = None }
+      | Broken ↦ record { notes = []; cut = Some place }
+      | Found note size ↦ with_note note (walk_from a most (place + size) (drop size rest))
+    ]
+
+-- the notes of a table
+unfoldable pub walked : ℕ → List ℕ → Walk
+walked a table = walk_from a (suc (length table)) 0 table
+
+-- a note's size without its padding
+abbrev pub spelt_size : ℕ → Note → ℕ
+spelt_size a note = descriptor_start a (length note.name) (length note.descriptor) + length note.descriptor
+
+-- a note's size with its padding
+abbrev pub padded_size : ℕ → Note → ℕ
+padded_size a note = spelt_size a note + to_next a (spelt_size a note)
+
+-- a note and its place in its table; the descriptor's place, where it is empty the note's end
+pub record NoteRow : Type 0 where
+  pub at : ℕ
+  pub note : Note
+  pub descriptor_at : ℕ
+
+-- the notes from a place on, each with its place
+unfoldable pub note_rows : ℕ → ℕ → List Note → List NoteRow
+note_rows a place [] = []
+note_rows a place (note ∷ notes) =
+    record { at = place; note = note; descriptor_at = place + descriptor_start a (length note.name) (length note.descriptor) }
+    ∷ note_rows a (place + padded_size a note) notes
+
+-- a name up to its first NUL, or all of it
+abbrev pub before_nul : List ℕ → List ℕ
+before_nul name = before_first (λ b. b == 0) name
+
+-- a name whole, or cut to cap bytes where it has more
+abbrev pub capped : ℕ → List ℕ → Shown
+capped cap name = if nat_lt cap (length name) then Cut (take cap name) else Whole name
+
+-- a note's name as it is shown with at most cap bytes: up to its first NUL, or all of it
+unfoldable pub note_shown : ℕ → Note → Shown
+note_shown cap note = capped cap (before_nul note.name)

@@ -1,0 +1,111 @@
+-- Relocation values for x86-64 (psABI 4.4, Relocation). S is the value of the symbol, L the place of its
+-- procedure linkage table entry, A the addend, P the place of the bytes that are relocated.
+use Rattle.std.specs.Prelude.{ℕ, ◌-◌, ◌*◌, ◌%◌, ◌^◌, ◌==◌, ◌||◌, nat_lt, not, Bool, true, false, ℤ, pos, negsuc, ◌+ℤ◌, ◌-ℤ◌, List, [], ◌∷◌, Option, None, Some, Result, Ok, Err}
+use Rattle.elf_model.specs.Bytes.{little}
+use Rattle.elf_model.specs.declared.causes.Cause.{Cause}
+use Rattle.elf_model.specs.declared.causes.Cause.TheVariants.{Unsupported, Overflow}
+
+-- how a relocation type's value is calculated: nothing, S + A, S + A - P, L + A - P
+pub data Formula : Type 0 where
+  NoValue : Formula
+  Absolute : Formula
+  Relative : Formula
+  EntryRelative : Formula
+
+-- the terms of a formula
+pub record Terms : Type 0 where
+  pub symbol : ℕ
+  pub entry : ℕ
+  pub addend : ℤ
+  pub place : ℕ
+
+-- a formula's value, as a whole number
+unfoldable pub whole : Formula → Terms → ℤ
+whole NoValue terms = pos 0
+whole Absolute terms = pos terms.symbol +ℤ terms.addend
+whole Relative terms = (pos terms.symbol +ℤ terms.addend) -ℤ pos terms.place
+whole EntryRelative terms = (pos terms.entry +ℤ terms.addend) -ℤ pos terms.place
+
+-- a whole number modulo 2^64
+unfoldable pub modulo_2_64 : ℤ → ℕ
+modulo_2_64 (pos n) = n % 2 ^ 64
+modulo_2_64 (negsuc n) = 2 ^ 64 - 1 - n % 2 ^ 64
+
+-- which values a relocation type takes: any; those that its bytes hold as a number without a sign, in two's
+-- complement, or in one of the two
+pub data Range : Type 0 where
+  AnyValue : Range
+  Unsigned : Range
+  Signed : Range
+  EitherWay : Range
+
+-- a value modulo 2^64 is below 2^bits
+abbrev pub is_unsigned : ℕ → ℕ → Bool
+is_unsigned bits value = nat_lt value (2 ^ bits)
+
+-- a value modulo 2^64 is a number in two's complement of so many bits
+abbrev pub is_signed : ℕ → ℕ → Bool
+is_signed bits value = nat_lt value (2 ^ (bits - 1)) || not (nat_lt value (2 ^ 64 - 2 ^ (bits - 1)))
+
+-- a value modulo 2^64 is in the range, for so many bytes
+unfoldable pub fits : Range → ℕ → ℕ → Bool
+fits AnyValue width value = true
+fits Unsigned width value = is_unsigned (8 * width) value
+fits Signed width value = is_signed (8 * width) value
+fits EitherWay width value = is_unsigned (8 * width) value || is_signed (8 * width) value
+
+-- a relocation type: how many bytes it changes, its formula, and the values that it takes
+pub record Kind : Type 0 where
+  pub width : ℕ
+  pub formula : Formula
+  pub range : Range
+
+abbrev pub kind : ℕ → Formula → Range → Kind
+kind width formula range = record { width = width; formula = formula; range = range }
+
+-- the relocation type that changes nothing, R_X86_64_NONE
+abbrev pub R_NONE : ℕ
+R_NONE = 0
+
+-- the relocation types that are applied: R_X86_64_NONE, 64, PC32, PLT32, 32, 32S, 16, 8, PC64
+unfoldable pub kinds : List (ℕ × Kind)
+kinds =
+    (R_NONE, kind 0 NoValue AnyValue)
+    ∷ (1, kind 8 Absolute AnyValue)
+    ∷ (2, kind 4 Relative Signed)
+    ∷ (4, kind 4 EntryRelative Signed)
+    ∷ (10, kind 4 Absolute Unsigned)
+    ∷ (11, kind 4 Absolute Signed)
+    ∷ (12, kind 2 Absolute EitherWay)
+    ∷ (14, kind 1 Absolute EitherWay)
+    ∷ (24, kind 8 Relative AnyValue)
+    ∷ []
+
+-- the relocation type of a number, in a table
+unfoldable pub kind_in : List (ℕ × Kind) → ℕ → Option Kind
+kind_in [] n = None
+kind_in (entry ∷ entries) n = elim (n == entry.0) [ true ↦ Some entry.1 | false ↦ kind_in entries n ]
+
+-- the relocation type of a number, if it is one that is applied
+unfoldable pub kind_of : ℕ → Option Kind
+kind_of n = kind_in kinds n
+
+-- a relocation type's value modulo 2^64
+abbrev pub value_of : Kind → Terms → ℕ
+value_of type terms = modulo_2_64 (whole type.formula terms)
+
+-- the bytes of a relocation type's value, its low ones, if the value is in the type's range
+unfoldable pub patch_of : Kind → Terms → Result (List ℕ) Cause
+patch_of type terms =
+    elim (fits type.range type.width (value_of type terms)) [
+      | true ↦ Ok (little type.width (value_of type terms))
+      | false ↦ Err Overflow
+    ]
+
+-- the bytes that a relocation stores: its type's number, S, L, A and P
+unfoldable pub value : ℕ → ℕ → ℕ → ℤ → ℕ → Result (List ℕ) Cause
+value n s l a p =
+    elim (kind_of n) [
+      | None ↦ Err Unsupported
+      | Some type ↦ patch_of type (record { symbol = s; entry = l; addend = a; place = p })
+    ]

@@ -1,0 +1,32 @@
+//! Laws of relocations applied to a section, each proved of the definitions.
+ghost use Rattle.elf_model.specs.ApplyLaws.{LengthKept, BytePatched, WindowPatched, FinalBelow, KeptAbove, ChangesInside};
+
+/// Patches within a section leave its length.
+pub fn length_kept()
+    ensures { LengthKept }
+{}
+
+/// Each byte of a patched section is the byte after all patches.
+pub fn byte_patched()
+    ensures { BytePatched }
+{}
+
+/// A window of a patched section is the window with the parts of the patches that fall into it.
+pub fn window_patched()
+    ensures { WindowPatched }
+{}
+
+/// What stands before all patches stays.
+pub fn final_below()
+    ensures { FinalBelow }
+{}
+
+/// What stands behind all patches stays.
+pub fn kept_above()
+    ensures { KeptAbove }
+{}
+
+/// What the relocation entries store lies in the section.
+pub fn changes_inside()
+    ensures { ChangesInside }
+{}

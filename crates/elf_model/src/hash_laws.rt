@@ -1,0 +1,52 @@
+//! Laws of lookups in a hash table (gABI 5, Hash Table), each proved of the definitions.
+ghost use Rattle.elf_model.specs.HashLaws.{RepeatNeverEnds, LongWalkRepeats, LongWalkNeverEnds, LookupIsBounded, LookupAnswers, LookupIsOne, CycleIsEndless, CycleExactly, ComparedWithinChains, StepsAreCompared};
+
+/// A walk that comes to a word again before it ends never ends.
+pub fn repeat_never_ends()
+    ensures { RepeatNeverEnds }
+{}
+
+/// A walk over words below a bound that goes on for as many words comes to one of them again.
+pub fn long_walk_repeats()
+    ensures { LongWalkRepeats }
+{}
+
+/// A walk over words below a bound that goes on for as many words goes on for ever.
+pub fn long_walk_never_ends()
+    ensures { LongWalkNeverEnds }
+{}
+
+/// The words that do not end a lookup are above 0 and below the number of chains.
+pub fn lookup_is_bounded()
+    ensures { LookupIsBounded }
+{}
+
+/// The calculated answer of a lookup is an answer.
+pub fn lookup_answers()
+    ensures { LookupAnswers }
+{}
+
+/// A lookup has one answer only.
+pub fn lookup_is_one()
+    ensures { LookupIsOne }
+{}
+
+/// A lookup that goes on for as many words as there are chains, one at least, never ends.
+pub fn cycle_is_endless()
+    ensures { CycleIsEndless }
+{}
+
+/// The answer of a lookup is the cycle exactly where it never ends.
+pub fn cycle_exactly()
+    ensures { CycleExactly }
+{}
+
+/// A lookup compares no more symbols' names than there are chains.
+pub fn compared_within_chains()
+    ensures { ComparedWithinChains }
+{}
+
+/// The steps that a lookup tells are the number of symbols whose names it compares.
+pub fn steps_are_compared()
+    ensures { StepsAreCompared }
+{}

@@ -1,0 +1,32 @@
+//! The laws of listings.
+ghost use Rattle.elf_model.specs.ListingLaws.{HeaderAloneIsListed, HeaderFaultIsListedAlone, LoadFaultIsListedSecond, NothingBehindTheFault, ListingsAppend, OtherBitsMeanNothing};
+
+/// With no part but the file header's the listing is the file header's.
+pub fn header_alone_is_listed()
+    ensures { HeaderAloneIsListed }
+{}
+
+/// Where a check of the file header fails, that fault's line is the listing, under any parts.
+pub fn header_fault_is_listed_alone()
+    ensures { HeaderFaultIsListedAlone }
+{}
+
+/// Where a load check fails, the file header's line and that fault's line are the listing.
+pub fn load_fault_is_listed_second()
+    ensures { LoadFaultIsListedSecond }
+{}
+
+/// What stands behind the first fault of a listing is not shown.
+pub fn nothing_behind_the_fault()
+    ensures { NothingBehindTheFault }
+{}
+
+/// Two listings one behind the other, the first without a fault.
+pub fn listings_append()
+    ensures { ListingsAppend }
+{}
+
+/// Bits outside the seven parts mean nothing, for the listing and for its cost.
+pub fn other_bits_mean_nothing()
+    ensures { OtherBitsMeanNothing }
+{}

@@ -1,0 +1,52 @@
+-- A record in its own bytes is the one in the file.
+use Rattle.std.proofs.Common.{◌≡◌, ℕ, ◌+◌, ◌≤◌, List, ap, ◌∙◌, arith}
+use Rattle.elf_model.specs.Bytes.{field, slice}
+use Rattle.elf_model.specs.Records.{twos_complement}
+use Rattle.elf_model.proofs.Slices.{field-slice}
+use Rattle.elf_record.specs.Shdr.{IsShdr, shdr_parts}
+use Rattle.elf_record.specs.declared.shdr.Shdr.{Shdr}
+use Rattle.elf_record.specs.Phdr.{IsPhdr, phdr_parts}
+use Rattle.elf_record.specs.declared.phdr.Phdr.{Phdr}
+use Rattle.elf_record.specs.Sym.{IsSym, sym_parts}
+use Rattle.elf_record.specs.declared.sym.Sym.{Sym}
+use Rattle.elf_record.specs.Rela.{IsRela}
+use Rattle.elf_record.specs.declared.rela.Rela.{Rela}
+use Rattle.elf_record.specs.Dyn.{IsDyn}
+use Rattle.elf_record.specs.declared.dyn_entry.Dyn.{Dyn}
+use Rattle.elf_record.specs.NoteHead.{IsNoteHead, note_head_parts}
+use Rattle.elf_record.specs.declared.note_head.NoteHead.{NoteHead}
+use Rattle.elf_record.proofs.PartLaws.{parts_in_file}
+
+pub shdr_in_file : (file : List ℕ) (at : ℕ) (bytes : List ℕ) (r : Shdr) → bytes ≡ slice file at 64 → IsShdr bytes 0 r → IsShdr file at r
+shdr_in_file file at bytes r is stands = let there = parts_in_file file at bytes (shdr_parts r) is (assumption stands) in assumption there
+
+pub phdr_in_file : (file : List ℕ) (at : ℕ) (bytes : List ℕ) (r : Phdr) → bytes ≡ slice file at 56 → IsPhdr bytes 0 r → IsPhdr file at r
+phdr_in_file file at bytes r is stands = let there = parts_in_file file at bytes (phdr_parts r) is (assumption stands) in assumption there
+
+pub sym_in_file : (file : List ℕ) (at : ℕ) (bytes : List ℕ) (r : Sym) → bytes ≡ slice file at 24 → IsSym bytes 0 r → IsSym file at r
+sym_in_file file at bytes r is stands = let there = parts_in_file file at bytes (sym_parts r) is (assumption stands) in assumption there
+
+pub note_head_in_file : (file : List ℕ) (at : ℕ) (bytes : List ℕ) (r : NoteHead) → bytes ≡ slice file at 12 → IsNoteHead bytes 0 r → IsNoteHead file at r
+note_head_in_file file at bytes r is stands = let there = parts_in_file file at bytes (note_head_parts r) is (assumption stands) in assumption there
+
+-- a field of some bytes of a file is a field of the file
+field_in : (file : List ℕ) (at size : ℕ) (bytes : List ℕ) (k width : ℕ) → bytes ≡ slice file at size → k + width ≤ size → field bytes k width ≡ field file (at + k) width
+field_in file at size bytes k width is inside = ap (λ b. field b k width) is ∙ field-slice file at size k width inside
+
+first_field_in : (file : List ℕ) (at size : ℕ) (bytes : List ℕ) (width : ℕ) → bytes ≡ slice file at size → width ≤ size → field bytes 0 width ≡ field file at width
+first_field_in file at size bytes width is inside =
+    let here : at + 0 ≡ at = omega arith in
+    field_in file at size bytes 0 width is (omega arith) ∙ ap (λ place. field file place width) here
+
+pub rela_in_file : (file : List ℕ) (at : ℕ) (bytes : List ℕ) (r : Rela) → bytes ≡ slice file at 24 → IsRela bytes 0 r → IsRela file at r
+rela_in_file file at bytes r is stands = record {
+  r_offset = stands.r_offset ∙ first_field_in file at 24 bytes 8 is (omega arith);
+  r_info = stands.r_info ∙ field_in file at 24 bytes 8 8 is (omega arith);
+  r_addend = stands.r_addend ∙ ap twos_complement (field_in file at 24 bytes 16 8 is (omega arith));
+}
+
+pub dyn_in_file : (file : List ℕ) (at : ℕ) (bytes : List ℕ) (r : Dyn) → bytes ≡ slice file at 16 → IsDyn bytes 0 r → IsDyn file at r
+dyn_in_file file at bytes r is stands = record {
+  d_tag = stands.d_tag ∙ ap twos_complement (first_field_in file at 16 bytes 8 is (omega arith));
+  d_un = stands.d_un ∙ field_in file at 16 bytes 8 8 is (omega arith);
+}

@@ -1,0 +1,31 @@
+-- The symbol as a record of fields.
+use Rattle.std.specs.Prelude.{ℕ, ◌≡◌, ◌+◌, ◌<◌, ◌≤◌, ◌≢◌, List, [], ◌∷◌}
+use Rattle.elf_model.specs.Bytes.{field}
+use Rattle.elf_model.specs.Numbers.{SHN_UNDEF, SHN_LORESERVE, SHN_ABS, SHN_COMMON}
+use Rattle.elf_record.specs.Parts.{Part, Number}
+use Rattle.elf_record.specs.declared.sym.Sym.{Sym}
+use Rattle.elf_record.specs.declared.sym.Place.{Place}
+use Rattle.elf_record.specs.declared.sym.Place.TheVariants.{Undefined, Section, Absolute, Common, Reserved}
+
+-- at an offset stands a symbol with these fields, each at its place (gABI 4, Symbol Table)
+pub record IsSym (file : List ℕ) (at : ℕ) (r : Sym) : Type 0 where
+  pub st_name : r.st_name ≡ field file at 4
+  pub st_info : r.st_info ≡ field file (at + 4) 1
+  pub st_other : r.st_other ≡ field file (at + 5) 1
+  pub st_shndx : r.st_shndx ≡ field file (at + 6) 2
+  pub st_value : r.st_value ≡ field file (at + 8) 8
+  pub st_size : r.st_size ≡ field file (at + 16) 8
+
+-- a symbol's parts, in their order
+abbrev pub sym_parts : Sym → List Part
+sym_parts r =
+    Number 4 r.st_name ∷ Number 1 r.st_info ∷ Number 1 r.st_other ∷ Number 2 r.st_shndx
+    ∷ Number 8 r.st_value ∷ Number 8 r.st_size ∷ []
+
+-- where a symbol with this section index is defined (gABI 4, Special Section Indexes)
+abbrev pub IsPlace : ℕ → Place → Type 0
+IsPlace index Undefined = index ≡ SHN_UNDEF
+IsPlace index (Section section) = (index ≡ section) × (0 < index) × (index < SHN_LORESERVE)
+IsPlace index Absolute = index ≡ SHN_ABS
+IsPlace index Common = index ≡ SHN_COMMON
+IsPlace index (Reserved reserved) = (index ≡ reserved) × (SHN_LORESERVE ≤ index) × (index ≢ SHN_ABS) × (index ≢ SHN_COMMON)

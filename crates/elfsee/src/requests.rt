@@ -1,0 +1,51 @@
+//! What can be asked for.
+ghost use Rattle.std.specs.Prelude.{◌≤◌};
+
+use elf_record::Parts;
+use elf_table::Caps;
+use thiserror::Error;
+
+/// What is asked for.
+#[derive(Debug, PartialEq, Drop)]
+pub enum Request {
+    /// The listing of a file.
+    Show {
+        /// How many headers are permitted, and how many bytes of a name are shown.
+        caps: Caps,
+        /// The parts that are listed.
+        parts: Parts,
+        /// The file's path.
+        file: String,
+    },
+    /// The listing of the file that the program carries.
+    Sample {
+        /// How many headers are permitted, and how many bytes of a name are shown.
+        caps: Caps,
+        /// The parts that are listed.
+        parts: Parts,
+    },
+}
+
+impl Request {
+    /// How many slots the header store needs, 1 to 65,279.
+    pub fn headers(&self) -> u16
+        ensures some { 1 ≤ result }
+        ensures few { result ≤ 65279 }
+    {
+        match self {
+            Request::Show { caps, .. } => caps.headers(),
+            Request::Sample { caps, .. } => caps.headers(),
+        }
+    }
+}
+
+/// Why words are no request.
+#[derive(Clone, Copy, Debug, PartialEq, Eq, Error)]
+pub enum RequestFault {
+    /// The words ask for nothing that there is.
+    #[error("bad words")]
+    Words,
+    /// There was no memory for the request.
+    #[error("out of memory")]
+    Memory,
+}

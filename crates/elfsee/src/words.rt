@@ -1,0 +1,51 @@
+//! The words of a command line.
+ghost use Rattle.std.specs.Prelude.{IfOk};
+ghost use Rattle.elfsee.specs.Requests.{IsBuilt, parts_of};
+
+use crate::requests::{Request, RequestFault};
+use elf_record::Parts;
+use elf_table::Caps;
+use std::alloc::{AllocError, Global};
+
+/// How many headers are permitted where the words don't say.
+const DEFAULT_HEADERS: u16 = 4_096;
+/// How many bytes of a name are shown where the words don't say.
+const DEFAULT_NAME: u16 = 256;
+
+/// Reads the words of a command line, without the program's name: `show --only PART FILE` or
+/// `sample --only PART`, where PART is `header`. At most 4,096 headers are permitted, and 256 bytes
+/// of a name are shown.
+///
+/// # Errors
+/// `Words` for any other words, `Memory` where there is none for the file's path.
+pub fn request(alloc: Global, words: &[&str]) -> Result<Request, RequestFault>
+    ensures { IfOk result (λ request. IsBuilt (parts_of request)) }
+{
+    let Some(caps) = Caps::new(DEFAULT_HEADERS, DEFAULT_NAME) else {
+        return Err(RequestFault::Words);
+    };
+    match words {
+        ["show", "--only", part, file] => {
+            let parts = part_named(part)?;
+            match String::from_str(alloc, file) {
+                Ok(file) => Ok(Request::Show { caps, parts, file }),
+                Err(AllocError) => Err(RequestFault::Memory),
+            }
+        }
+        ["sample", "--only", part] => {
+            let parts = part_named(part)?;
+            Ok(Request::Sample { caps, parts })
+        }
+        _ => Err(RequestFault::Words),
+    }
+}
+
+/// The part of a listing that has this name.
+fn part_named(name: &str) -> Result<Parts, RequestFault>
+    ensures { IfOk result (λ parts. IsBuilt parts.0) }
+{
+    match name {
+        "header" => Ok(Parts::HEADER),
+        _ => Err(RequestFault::Words),
+    }
+}
