@@ -1,14 +1,14 @@
 -- The items of a file header's part, by what the read of the header answers.
-use Rattle.std.proofs.Common.{◌≡◌, ℕ, ◌^◌, ◌<◌, List, [], ◌∷◌, ◌++◌, Option, None, Some, Result, Ok, Err, refl, sym, ap, ◌∙◌, append-nil}
+use Rattle.std.proofs.Common.{◌≡◌, ℕ, ◌^◌, ◌<◌, List, [], ◌∷◌, Option, None, Some, Ok, Err, refl, append-nil}
 use Rattle.elf_model.specs.Checks.{first_refusal, header_checks}
-use Rattle.elf_model.specs.Listing.{Item, Line, Fault, lines_of, fault_of, header_items, HEADER}
+use Rattle.elf_model.specs.Listing.{Line, Fault, header_items, HEADER}
 use Rattle.elf_model.proofs.ListingLemmas.{checked-passes, checked-fault}
 use Rattle.elf_model.specs.Lines.{header_line}
 use Rattle.elf_model.specs.declared.causes.Refusal.{Refusal}
 use Rattle.elf_source.specs.declared.faults.OutFault.{OutFault}
-use Rattle.elf_source.specs.Output.{Takes, TakesFront, Puts}
+use Rattle.elf_source.specs.Output.{Takes, TakesFront}
 use Rattle.elf_listing.specs.Shows.{Shows}
-use Rattle.elf_listing.specs.declared.end.RunFault.TheVariants.{Source, Out}
+use Rattle.elf_listing.specs.declared.end.RunFault.TheVariants.{Out}
 use Rattle.elf_listing.proofs.ShowLaws.{Takes-nothing}
 
 pub header_items-passed : (file : List ℕ) → first_refusal (header_checks file) ≡ None → header_items file HEADER ≡ Line (header_line file) ∷ []

@@ -5,6 +5,8 @@ use Rattle.elf_model.specs.Listing.{Item, lines_of, fault_of, report_of}
 use Rattle.elf_model.specs.declared.causes.Refusal.{Refusal}
 use Rattle.elf_source.specs.Source.{Blames}
 use Rattle.elf_source.specs.Output.{Takes, TakesFront}
+use Rattle.elf_table.specs.declared.fault.Fault.{Fault}
+use Rattle.elf_table.specs.declared.fault.Fault.TheVariants.{Refused as Refuses, Source as Unread}
 use Rattle.elf_listing.specs.declared.end.End.{End}
 use Rattle.elf_listing.specs.declared.end.End.TheVariants.{Listed, Refused}
 use Rattle.elf_listing.specs.declared.end.RunFault.{RunFault}
@@ -40,3 +42,18 @@ abbrev pub is_out_fault : {X : Type 0} → Result X RunFault → Bool
 is_out_fault (Ok x) = false
 is_out_fault (Err (Source fault at)) = false
 is_out_fault (Err (Out fault)) = true
+
+-- a fault is one of the output
+abbrev pub IsOutFault : RunFault → Type 0
+IsOutFault (Source fault at) = ⊥
+IsOutFault (Out fault) = Unit {0}
+
+-- a fault of the source is the one that a read answered; a fault of the output may be any
+abbrev pub IsFaultOf : {X : Type 0} → Result X Fault → RunFault → Type 0
+IsFaultOf answer (Source fault at) = answer ≡ Err (Unread fault at)
+IsFaultOf answer (Out fault) = Unit {0}
+
+-- what a fault of a read is to a listing
+abbrev pub end_of : Fault → Result (Option Refusal) RunFault
+end_of (Refuses refusal) = Ok (Some refusal)
+end_of (Unread fault at) = Err (Source fault at)

@@ -1,7 +1,8 @@
 //! A line of a listing while it is put together, field by field.
-ghost use Rattle.std.specs.Prelude.{◌≡◌, ◌+◌, ◌<◌, ◌≤◌, ◌++◌, length, max, IfSome, unwrap_or, option_copied};
+ghost use Rattle.std.specs.Prelude.{◌≡◌, ◌+◌, ◌<◌, ◌≤◌, ◌++◌, [], if◌then◌else◌, length, max, IfSome, unwrap_or, option_copied};
 ghost use Rattle.arrayvec.specs.ArrayVec.{array_vec_len};
 ghost use Rattle.elf_model.specs.Text.{digit, hex, spaces, left, right, right_decimal};
+ghost use Rattle.elf_model.specs.NameTables.{name_or_decimal};
 
 use arrayvec::ArrayVec;
 use itoa::Buffer;
@@ -46,7 +47,13 @@ pub fn put_left(line: &mut Line, width: usize, text: &[u8])
 /// Puts a name at the left of a column of this width, or the last hexadecimal digits of a number
 /// that has none.
 #[tactic(auto, using(crate::proofs::Digits::length_hex), unfolding(elf_model::specs::Text::left))]
-pub fn put_name_or_hex(line: &mut Line, width: usize, name: Option<&'static str>, digits: u32, number: u64)
+pub fn put_name_or_hex(
+    line: &mut Line,
+    width: usize,
+    name: Option<&'static str>,
+    digits: u32,
+    number: u64,
+)
     requires room { array_vec_len line.old + 32 ≤ 256 }
     requires width { width ≤ 16 }
     requires digits { digits ≤ width }
@@ -74,6 +81,31 @@ pub fn put_decimal(line: &mut Line, width: usize, number: u64)
     let text = buffer.format(number).as_bytes();
     put_spaces(line, width.saturating_sub(text.len()));
     put(line, text);
+}
+
+/// Puts a name at the left of a column of this width, or a decimal number that has none at the right
+/// of it. A longer number is not cut.
+pub fn put_name_or_decimal(line: &mut Line, width: usize, name: Option<&'static str>, number: u64)
+    requires room { array_vec_len line.old + max width 20 ≤ 256 }
+    requires short { IfSome name (λ name. length name.now ≤ width) }
+    ensures items { line.new.items ≡ line.old.items ++ name_or_decimal width (option_copied name.entry) number }
+    ensures len { array_vec_len line.new ≤ array_vec_len line.old + max width 20 }
+{
+    match name {
+        Some(name) => put_left(line, width, name.as_bytes()),
+        None => put_decimal(line, width, number),
+    }
+}
+
+/// Puts a text at the end where a condition holds, else nothing.
+pub fn put_where(line: &mut Line, holds: bool, text: &[u8])
+    requires { array_vec_len line.old + length text.now ≤ 256 }
+    ensures items { line.new.items ≡ line.old.items ++ (if holds then text.now else []) }
+    ensures len { array_vec_len line.new ≤ array_vec_len line.old + length text.now }
+{
+    if holds {
+        put(line, text);
+    }
 }
 
 /// Puts the last hexadecimal digits of a number, in lower case, with leading zeros.

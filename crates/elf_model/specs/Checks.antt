@@ -82,13 +82,18 @@ load_checks file headers = early_checks file headers ++ section_name_checks file
 abbrev pub range_checks : List ℕ → ℕ → List Check
 range_checks file at = refuse (is_section_outside file at) at TableOutside ∷ []
 
--- a section that is a table of entries of one size
-abbrev pub table_checks : List ℕ → ℕ → ℕ → List Check
-table_checks file at entry =
-    refuse (not (sh_entsize file at == entry)) at EntrySize
-    ∷ refuse (not (sh_size file at % entry == 0)) at SizeNotWhole
-    ∷ refuse (is_section_outside file at) at TableOutside
+-- a section that is a table of entries of one size: its header stands at an offset of some bytes, in a
+-- file of so many bytes; the refusals name a place
+abbrev pub table_checks_of : List ℕ → ℕ → ℕ → ℕ → ℕ → List Check
+table_checks_of bytes at file_size place entry =
+    refuse (not (sh_entsize bytes at == entry)) place EntrySize
+    ∷ refuse (not (sh_size bytes at % entry == 0)) place SizeNotWhole
+    ∷ refuse (is_outside file_size (sh_offset bytes at) (sh_size bytes at)) place TableOutside
     ∷ []
+
+-- the same of a section header of the file
+abbrev pub table_checks : List ℕ → ℕ → ℕ → List Check
+table_checks file at entry = table_checks_of file at (length file) at entry
 
 -- the string table that a section at an offset refers to by its link
 abbrev pub strings_checks : List ℕ → ℕ → List Check

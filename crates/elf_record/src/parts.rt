@@ -10,12 +10,19 @@ pub struct Parts(pub u8);
 
 bitflag_items! {
     impl Parts: u8 {
+        /// The file header.
         const HEADER = 1;
+        /// The section headers.
         const SECTIONS = 2;
+        /// The program headers.
         const SEGMENTS = 4;
+        /// The symbols.
         const SYMBOLS = 8;
+        /// The relocation entries.
         const RELOCS = 16;
+        /// The notes.
         const NOTES = 32;
+        /// The dynamic entries.
         const DYNAMIC = 64;
     }
 }

@@ -17,3 +17,13 @@ abbrev pub HeaderRead : List ℕ → Result Ehdr Fault → Type 0
 HeaderRead file (Ok header) = (first_refusal (header_checks file) ≡ None) × IsEhdr file 0 header
 HeaderRead file (Err (Refused refusal)) = first_refusal (header_checks file) ≡ Some refusal
 HeaderRead file (Err (Source fault at)) = Unit {0}
+
+-- a fault of the source, no refusal
+abbrev pub IsSourceFault : Fault → Type 0
+IsSourceFault (Refused refusal) = ⊥
+IsSourceFault (Source fault at) = Unit {0}
+
+-- a refusal, no fault of the source
+abbrev pub IsRefusal : Fault → Type 0
+IsRefusal (Refused refusal) = Unit {0}
+IsRefusal (Source fault at) = ⊥

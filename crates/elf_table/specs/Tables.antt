@@ -1,5 +1,5 @@
 -- Where tables and string tables lie in a file.
-use Rattle.std.specs.Prelude.{ℕ, ◌+◌, ◌*◌, ◌^◌, ◌<◌, ◌≤◌}
+use Rattle.std.specs.Prelude.{ℕ, ◌+◌, ◌*◌, ◌<◌, ◌≤◌}
 
 -- a table: the offset of its first row, how many rows there are, and the size of a row
 pub record Rows : Type 0 where

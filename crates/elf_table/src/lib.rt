@@ -3,13 +3,35 @@
 #![tactic(auto)]
 
 mod caps;
+mod checks;
+mod cursor;
 mod fault;
 mod file_header;
+mod filling;
+#[cfg(test)]
+mod fixtures;
+#[cfg(test)]
+mod load_tests;
+mod loaded;
+mod loading;
+mod name_buf;
 mod names;
+mod ranges;
+mod row;
+mod rows;
+mod store;
 mod table;
+#[cfg(test)]
+mod tests;
 
 pub use caps::Caps;
+pub use cursor::Cursor;
 pub use fault::Fault;
 pub use file_header::header;
-pub use names::Names;
+pub use loaded::Loaded;
+pub use loading::load;
+pub use name_buf::NameBuf;
+pub use names::{NameEnd, Names};
+pub use row::Row;
+pub use store::HeaderStore;
 pub use table::Table;

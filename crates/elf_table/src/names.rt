@@ -1,7 +1,31 @@
 //! Names in a string table.
-ghost use Rattle.std.specs.Prelude.{◌≡◌, ◌+◌, ◌^◌, ◌<◌};
+ghost use Rattle.std.specs.Prelude.{◌≡◌, ◌≢◌, ℕ, ◌+◌, ◌-◌, ◌^◌, ◌<◌, ◌≤◌, List, [], length, slice_index, IfErr, MatchBool};
+ghost use Rattle.elf_model.specs.Bytes.{slice};
+ghost use Rattle.elf_model.specs.Names.{shown, same, pad64, name_bytes};
+ghost use Rattle.elf_source.specs.Source.{Keeps};
+ghost use Rattle.elf_table.specs.Reading.{FaultBlames, IsSourceFault};
+ghost use Rattle.elf_table.specs.Tables.{StringsWithin};
+ghost use Rattle.elf_table.specs.NamesRead.{NameRead, Compared, Searched, Matched, SameBelow, DifferBelow};
 
+use crate::fault::Fault;
+use crate::filling::fill;
+use crate::name_buf::NameBuf;
+use elf_record::{Cause, Refusal};
+use elf_source::{Counted, Source};
+use memchr::memchr;
 use std::marker::Model;
+
+/// How many bytes of a name are asked for at once.
+const PIECE: usize = 64;
+
+/// How a name that was read ends.
+#[derive(Clone, Copy, Debug, PartialEq, Eq)]
+pub enum NameEnd {
+    /// The name is whole.
+    Whole,
+    /// The name is longer than what is shown of it.
+    Cut,
+}
 
 /// A string table, somewhere in a file (gABI 4, String Table). It holds no bytes.
 #[derive(Clone, Copy, Debug, PartialEq, Eq)]
@@ -31,4 +55,183 @@ impl Names {
     {
         Names { at, size }
     }
+
+    /// Reads the name at the index `off` into `name`: the bytes before its NUL, or its first `cap`
+    /// bytes where it has more (gABI 4, String Table). An empty string table has the empty name at
+    /// index 0. It reads in pieces of 64 bytes, up to the first NUL, never past the string table's
+    /// end and at most `cap + 1` bytes. After a fault `name` holds any bytes.
+    ///
+    /// # Errors
+    /// Refused at `at`, the offset of the entry that holds the index: `NameOutside` where the index is
+    /// not below the table's size, `NameUnended` where no more than `cap` bytes are left and none is a
+    /// NUL. Else a fault of the source.
+    pub fn read<S: Source>(
+        &self,
+        src: &mut Counted<S>,
+        off: u64,
+        at: u64,
+        cap: u16,
+        name: &mut NameBuf,
+    ) -> Result<NameEnd, Fault>
+        requires some { 1 ≤ cap }
+        requires most { cap ≤ 4096 }
+        requires within { StringsWithin (S.size src.old.source) self.now }
+        ensures kept { Keeps S.holds S.size S.failures src.old.source src.new.source }
+        ensures blames { IfErr result (FaultBlames S.holds S.failures src.old.source src.new.source) }
+        ensures at_most { src.new.asked ≤ src.old.asked + name_bytes cap }
+        ensures not_past { src.new.asked ≤ src.old.asked + (self.now.size - off) }
+        ensures read { (file : List ℕ) → S.holds src.old.source file → NameRead at result name.new (shown (slice file self.now.at self.now.size) off cap) }
+    {
+        name.clear();
+        if self.size == 0 && off == 0 {
+            return Ok(NameEnd::Whole);
+        }
+        if off >= self.size {
+            return Err(refused(at, Cause::NameOutside));
+        }
+        let left = self.size - off;
+        let want = left.min(u64::from(cap) + 1);
+        if search(src, self.at + off, want, cap, name)? {
+            return Ok(NameEnd::Whole);
+        }
+        if left > u64::from(cap) {
+            return Ok(NameEnd::Cut);
+        }
+        Err(refused(at, Cause::NameUnended))
+    }
+
+    /// Whether the name at the index `off` is `wanted`, which has no NUL (gABI 4, String Table). It
+    /// reads in pieces of 64 bytes, up to the first byte that differs from `wanted` and a NUL, never
+    /// past the string table's end. In an empty string table the answer at index 0 is false.
+    ///
+    /// # Errors
+    /// Refused at `at`, the offset of the entry that holds the index: `NameOutside` where the index is
+    /// not below the table's size, `NameUnended` where the table ends before the name and its NUL, with
+    /// all bytes equal so far. Else a fault of the source.
+    pub fn equals<S: Source>(
+        &self,
+        src: &mut Counted<S>,
+        off: u64,
+        at: u64,
+        wanted: &[u8],
+    ) -> Result<bool, Fault>
+        requires most { length wanted.now ≤ 4096 }
+        requires within { StringsWithin (S.size src.old.source) self.now }
+        ensures kept { Keeps S.holds S.size S.failures src.old.source src.new.source }
+        ensures blames { IfErr result (FaultBlames S.holds S.failures src.old.source src.new.source) }
+        ensures at_most { src.new.asked ≤ src.old.asked + pad64 (length wanted.now + 1) }
+        ensures not_past { src.new.asked ≤ src.old.asked + (self.now.size - off) }
+        ensures compared { (file : List ℕ) → S.holds src.old.source file → Compared at result (same (slice file self.now.at self.now.size) off wanted.now) }
+    {
+        if self.size == 0 && off == 0 {
+            return Ok(false);
+        }
+        if off >= self.size {
+            return Err(refused(at, Cause::NameOutside));
+        }
+        let full = wanted.len() as u64 + 1;
+        let want = full.min(self.size - off);
+        if !matches(src, self.at + off, want, wanted)? {
+            return Ok(false);
+        }
+        if want == full {
+            return Ok(true);
+        }
+        Err(refused(at, Cause::NameUnended))
+    }
+}
+
+// The fault that refuses the file at an offset.
+fn refused(at: u64, cause: Cause) -> Fault
+    ensures { result ≡ Fault.Refused (record { at = at; cause = cause }) }
+{
+    Fault::Refused(Refusal { at, cause })
+}
+
+// Reads `want` bytes from `start` on, or fewer up to the first NUL, and adds those before it to
+// `name`, as far as `cap`. Answers whether there is a NUL.
+fn search<S: Source>(
+    src: &mut Counted<S>,
+    start: u64,
+    want: u64,
+    cap: u16,
+    name: &mut NameBuf,
+) -> Result<bool, Fault>
+    requires most { cap ≤ 4096 }
+    requires empty { name.old ≡ [] }
+    requires ends { start + want < 2 ^ 64 }
+    requires within { start + want ≤ S.size src.old.source }
+    ensures kept { Keeps S.holds S.size S.failures src.old.source src.new.source }
+    ensures blames { IfErr result (FaultBlames S.holds S.failures src.old.source src.new.source) }
+    ensures fault { IfErr result IsSourceFault }
+    ensures asked { src.new.asked ≤ src.old.asked + want }
+    ensures searched { (file : List ℕ) → S.holds src.old.source file → Searched (slice file start want) cap result name.new }
+{
+    let mut bytes = [0; PIECE];
+    let mut done: u64 = 0;
+    while done < want {
+        let count = (want - done).min(PIECE as u64) as usize;
+        let piece = &mut bytes[..count];
+        fill(src, start + done, piece)?;
+        if let Some(place) = memchr(0, piece) {
+            name.add(&piece[..place], cap);
+            return Ok(true);
+        }
+        name.add(piece, cap);
+        done += count as u64;
+    }
+    Ok(false)
+}
+
+// Reads `want` bytes from `start` on, or fewer up to the first that differs, and answers whether they
+// are those of `wanted` and a NUL.
+fn matches<S: Source>(
+    src: &mut Counted<S>,
+    start: u64,
+    want: u64,
+    wanted: &[u8],
+) -> Result<bool, Fault>
+    requires most { want ≤ length wanted.now + 1 }
+    requires ends { start + want < 2 ^ 64 }
+    requires within { start + want ≤ S.size src.old.source }
+    ensures kept { Keeps S.holds S.size S.failures src.old.source src.new.source }
+    ensures blames { IfErr result (FaultBlames S.holds S.failures src.old.source src.new.source) }
+    ensures fault { IfErr result IsSourceFault }
+    ensures asked { src.new.asked ≤ src.old.asked + want }
+    ensures matched { (file : List ℕ) → S.holds src.old.source file → Matched (slice file start want) wanted.now result }
+{
+    let mut bytes = [0; PIECE];
+    let mut done: u64 = 0;
+    while done < want {
+        let count = (want - done).min(PIECE as u64) as usize;
+        let piece = &mut bytes[..count];
+        fill(src, start + done, piece)?;
+        if !agrees(piece, wanted, done as usize) {
+            return Ok(false);
+        }
+        done += count as u64;
+    }
+    Ok(true)
+}
+
+// Whether a piece has the bytes of `wanted` from a place on, with a NUL where `wanted` ends.
+fn agrees(piece: &[u8], wanted: &[u8], done: usize) -> bool
+    requires { done + length piece.now < 2 ^ 64 }
+    ensures { MatchBool result
+        ((k : ℕ) → k < length piece.now → slice_index piece.now k ≡ slice_index wanted.now (done + k))
+        ((k : ℕ) × (k < length piece.now) × (slice_index piece.now k ≢ slice_index wanted.now (done + k))) }
+{
+    for (i, byte) in piece.iter().enumerate() {
+        if *byte != byte_or_nul(wanted, done + i) {
+            return false;
+        }
+    }
+    true
+}
+
+// The byte at a place, or a NUL past the end.
+fn byte_or_nul(bytes: &[u8], place: usize) -> u8
+    ensures { result ≡ slice_index bytes.now place }
+{
+    if place < bytes.len() { bytes[place] } else { 0 }
 }

@@ -1,6 +1,15 @@
 //! A table of rows of one size.
-ghost use Rattle.std.specs.Prelude.{◌≡◌, ◌↔◌, ◌+◌, ◌*◌, ◌^◌, ◌<◌, ◌≤◌, IsTrue};
+ghost use Rattle.std.specs.Prelude.{◌≡◌, ◌↔◌, ℕ, ◌+◌, ◌*◌, ◌^◌, ◌<◌, ◌≤◌, List, IsTrue, IfOk, IfErr};
+ghost use Rattle.elf_record.specs.Sym.{IsSym};
+ghost use Rattle.elf_source.specs.Source.{Keeps};
+ghost use Rattle.elf_table.specs.Cursors.{IsFaultAt, row_at};
+ghost use Rattle.elf_table.specs.Reading.{FaultBlames};
+ghost use Rattle.elf_table.specs.Tables.{RowsWithin};
 
+use crate::fault::Fault;
+use crate::filling::fill;
+use elf_record::Sym;
+use elf_source::{Counted, Source};
 use std::marker::Model;
 
 /// A table of rows of one size, somewhere in a file. It holds no bytes.
@@ -64,5 +73,26 @@ impl Table {
         ensures ends { self.now.at + self.now.count * self.now.entry < 2 ^ 64 }
     {
         self.entry
+    }
+
+    /// The symbol at the index `index`, which is below `len()`, of a table with rows of 24 bytes
+    /// (gABI 4, Symbol Table): one read of 24 bytes.
+    ///
+    /// # Errors
+    /// A fault of the source, at the symbol's offset.
+    pub fn symbol<S: Source>(&self, src: &mut Counted<S>, index: u64) -> Result<Sym, Fault>
+        requires rows { self.now.entry ≡ 24 }
+        requires below { index < self.now.count }
+        requires within { RowsWithin (S.size src.old.source) self.now }
+        ensures kept { Keeps S.holds S.size S.failures src.old.source src.new.source }
+        ensures blames { IfErr result (FaultBlames S.holds S.failures src.old.source src.new.source) }
+        ensures at { IfErr result (IsFaultAt (row_at self.now index)) }
+        ensures asked { src.new.asked ≤ src.old.asked + 24 }
+        ensures read { (file : List ℕ) → S.holds src.old.source file → IfOk result (IsSym file (row_at self.now index)) }
+    {
+        let at = self.at + index * self.entry;
+        let mut bytes = [0; 24];
+        fill(src, at, &mut bytes)?;
+        Ok(Sym::decode(&bytes))
     }
 }

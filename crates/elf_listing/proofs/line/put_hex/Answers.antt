@@ -6,10 +6,10 @@ use Rattle.elf_listing.proofs.line.put_hex.Goals as goal
 pub loop-left-preserved : goal.loop-left-preserved
 loop-left-preserved c = record {
   digits =
-    digit_put c.loop-left.line.items c.push.new.self.items c.loop-left.left c.args.number c.digit_of.result c.loop-left-test.true c.digit_of.ensures c.push.ensures.items
-    ∙ c.loop-left.invariant.digits;
+      digit_put c.loop-left.line.items c.push.new.self.items c.loop-left.left c.args.number c.digit_of.result c.loop-left-test.true c.digit_of.ensures c.push.ensures.items
+      ∙ c.loop-left.invariant.digits;
   length = omega (arith, c.push.ensures.len);
-  few = omega arith
+  few = omega arith;
 }
 
 pub returns-clause-items : goal.returns-clause-items

@@ -8,7 +8,7 @@ abbrev pub invariant-loop-left : goal.invariant-loop-left
 invariant-loop-left l = record {
   digits : l.line.items ++ hex l.left l.number ≡ l.fn.line.items ++ hex l.fn.digits l.number;
   length : array_vec_len l.line + l.left ≡ array_vec_len l.fn.line + l.fn.digits;
-  few : l.left ≤ 16
+  few : l.left ≤ 16;
 }
 
 abbrev pub decreases-loop-left : goal.decreases-loop-left

@@ -6,5 +6,5 @@ use Rattle.elf_listing.proofs.line.put_spaces.Given as goal
 abbrev pub invariant-loop : goal.invariant-loop
 invariant-loop l = record {
   items : l.line.items ≡ l.fn.line.items ++ spaces l.counter;
-  length : array_vec_len l.line ≡ array_vec_len l.fn.line + l.counter
+  length : array_vec_len l.line ≡ array_vec_len l.fn.line + l.counter;
 }

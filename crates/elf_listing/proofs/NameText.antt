@@ -1,0 +1,49 @@
+-- A name as it is written, byte by byte, and the line that ends in it.
+use Rattle.std.proofs.Common.{◌≡◌, ℕ, ◌+◌, ◌<◌, ◌≤◌, Bool, true, false, if◌then◌else◌, List, [], ◌++◌, Option, length, drop, get_or, refl, sym, ap, ◌∙◌, append_assoc, append-nil, add-one, drop-cons}
+use Rattle.std.proofs.lemmas.List.{drop_all}
+use Rattle.elf_model.specs.Text.{newline}
+use Rattle.elf_model.specs.Lines.{name_byte_text, escaped, cut_mark, name_text, named_line}
+use Rattle.elf_source.specs.Output.{TakesFront}
+use Rattle.elf_source.proofs.Puts.{TakesFront-more}
+use Rattle.elf_listing.specs.Pieces.{TakesBefore, shown_as}
+use Rattle.elf_listing.proofs.Pieces.{TakesBefore-more, TakesBefore-then}
+
+-- the bytes that are left are the next byte and those behind it
+pub escaped-next : (name : List ℕ) (i : ℕ) → i < length name → escaped (drop i name) ≡ name_byte_text (get_or name i 0) ++ escaped (drop (i + 1) name)
+unfolding escaped
+escaped-next name i inside = rw (add-one, drop-cons name i 0 inside) refl
+
+-- no bytes are left
+pub escaped-none : (items name : List ℕ) (i : ℕ) → length name ≤ i → items ++ escaped (drop i name) ≡ items
+unfolding escaped
+escaped-none items name i over = rw (drop_all i name over) (append-nil items)
+
+-- a byte is put behind a line that may have been begun anew
+pub TakesBefore-byte : (a b c : Option (List ℕ)) (l m n : ℕ) (text line room put name : List ℕ) (i : ℕ) → i < length name
+    → TakesBefore a b l m text (line ++ escaped (drop i name)) → TakesBefore b c m n line room
+    → put ≡ room ++ name_byte_text (get_or name i 0) → TakesBefore a c l n text (put ++ escaped (drop (i + 1) name))
+TakesBefore-byte a b c l m n text line room put name i inside before made is =
+    let rest = escaped (drop (i + 1) name) in
+    let same : room ++ escaped (drop i name) ≡ put ++ rest =
+    ap (λ xs. room ++ xs) (escaped-next name i inside) ∙ sym (append_assoc room (name_byte_text (get_or name i 0)) rest) ∙ ap (λ xs. xs ++ rest) (sym is) in
+    rw (sym same) (TakesBefore-then a b c l m n text (line ++ escaped (drop i name)) (room ++ escaped (drop i name)) before
+    (TakesBefore-more b c m n line room (escaped (drop i name)) made))
+
+-- what stands behind a name
+abbrev pub tail_of : Bool → List ℕ
+tail_of is_cut = (if is_cut then cut_mark else []) ++ newline
+
+regroup : (a b c d : List ℕ) → a ++ ((b ++ c) ++ d) ≡ (a ++ b) ++ (c ++ d)
+regroup a b c d = simp append_assoc
+
+-- a line that ends in a name, as its pieces
+pub named_line-pieces : (front name : List ℕ) (is_cut : Bool) → named_line front (shown_as is_cut name) ≡ (front ++ escaped name) ++ tail_of is_cut
+unfolding name_text
+named_line-pieces front name true = regroup front (escaped name) cut_mark newline
+named_line-pieces front name false = sym (append_assoc front (escaped name) newline)
+
+-- a front of the line's front and its name is one of the line
+pub TakesFront-named : (a b : Option (List ℕ)) (l m : ℕ) (front name : List ℕ) (is_cut : Bool) → TakesFront a b l m (front ++ escaped name)
+    → TakesFront a b l m (named_line front (shown_as is_cut name))
+TakesFront-named a b l m front name is_cut p =
+    rw (named_line-pieces front name is_cut) (TakesFront-more a b l m (front ++ escaped name) (tail_of is_cut) p)

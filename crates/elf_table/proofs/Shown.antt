@@ -1,0 +1,168 @@
+-- What the answers of a search and a comparison say of a name in a file's string table.
+use Rattle.std.proofs.Common.{◌≡◌, ℕ, zero, suc, ◌+◌, ◌-◌, ◌<◌, ◌≤◌, true, false, List, [], ◌∷◌, ◌++◌, length, get_or, take, drop, Ok, Err, refl, ap, sym, ◌∙◌, arith, length-take, length-drop, length-append, take-take, get_or-take, get_or-drop}
+use Rattle.std.proofs.lemmas.List.{take_all}
+use Rattle.elf_model.specs.Bytes.{slice}
+use Rattle.elf_model.specs.Names.{nul_in, shown, same, begins}
+use Rattle.elf_model.specs.Names.Shown.{Whole, Cut}
+use Rattle.elf_model.specs.declared.causes.Cause.TheVariants.{NameOutside, NameUnended}
+use Rattle.elf_model.proofs.Slices.{slice-slice}
+use Rattle.elf_model.proofs.Nuls.{some-free}
+use Rattle.elf_model.proofs.NameLemmas.{shown-empty, shown-outside}
+use Rattle.elf_model.proofs.NameLoops.{shown-found, shown-over, shown-open}
+use Rattle.elf_model.proofs.SameLaws.{Compared, is_alike, is_other, is_short, compared, same-empty, same-outside, same-inside}
+use Rattle.elf_table.specs.NamesRead.{Searched, SameBelow, DifferBelow, Refuses}
+use Rattle.elf_table.specs.Reading.{IsSourceFault}
+use Rattle.elf_table.specs.declared.fault.Fault.{Fault}
+use Rattle.elf_table.specs.declared.fault.Fault.TheVariants.{Refused, Source}
+use Rattle.elf_table.proofs.Windows.{slice-length, slice-rest}
+
+-- an empty string table
+pub shown-none : (file : List ℕ) (at size off cap : ℕ) → size ≡ 0 → off ≡ 0 → shown (slice file at size) off cap ≡ Ok (Whole [])
+shown-none file at size off cap z o = shown-empty (slice file at size) off cap (ap (slice file at) z, o)
+
+-- an index past the string table
+pub shown-past : (file : List ℕ) (at size off cap : ℕ) → size ≤ off → (size ≡ 0 → off ≡ 0 → ⊥) → shown (slice file at size) off cap ≡ Err NameOutside
+shown-past file at size off cap past some =
+    shown-outside (slice file at size) off cap (omega (arith, length-take size (drop at file)), λ e. some (omega arith) e.1)
+
+-- a NUL was found
+pub shown-whole : (file kept : List ℕ) (at size off want cap : ℕ) → at + size ≤ length file → off < size → off + want ≤ size → want ≤ cap + 1
+    → Searched (slice file (at + off) want) cap (Ok true) kept → shown (slice file at size) off cap ≡ Ok (Whole kept)
+shown-whole file kept at size off want cap inside below within few h =
+    let long = slice-length file at size inside in
+    let part = slice-slice file at size off want within in
+    let front = slice-length file (at + off) want (omega arith) in
+    let place = some-free (slice file (at + off) want) h.0 h.1 in
+    let short : length (take h.0 (slice file (at + off) want)) ≤ cap = omega (arith, length-take h.0 (slice file (at + off) want)) in
+    shown-found (slice file at size) off cap want h.0 (omega arith) few (ap nul_in part ∙ h.1)
+    ∙ ap (λ (x : List ℕ). Ok (Whole x))
+    (sym (take-take h.0 want (drop off (slice file at size)) (omega arith)) ∙ ap (take h.0) part ∙ sym (h.2 ∙ take_all cap (take h.0 (slice file (at + off) want)) short))
+
+-- no NUL was found in one byte more than the cap
+pub shown-cut : (file kept : List ℕ) (at size off want cap : ℕ) → at + size ≤ length file → want ≡ cap + 1 → off + want ≤ size
+    → Searched (slice file (at + off) want) cap (Ok false) kept → shown (slice file at size) off cap ≡ Ok (Cut kept)
+shown-cut file kept at size off want cap inside full within h =
+    let long = slice-length file at size inside in
+    let part = slice-slice file at size off want within in
+    shown-over (slice file at size) off cap (omega arith) (ap (λ (n : ℕ). nul_in (slice (slice file at size) off n)) (sym full) ∙ ap nul_in part ∙ h.0)
+    ∙ ap (λ (x : List ℕ). Ok (Cut x))
+    (sym (take-take cap want (drop off (slice file at size)) (omega arith)) ∙ ap (take cap) part ∙ sym h.1)
+
+-- what is left of a string table from an index on
+table-rest : (file : List ℕ) (at size off : ℕ) → off ≤ size → drop off (slice file at size) ≡ slice file (at + off) (size - off)
+table-rest file at size off below = ap (λ (n : ℕ). drop off (slice file at n)) (omega arith) ∙ slice-rest file at off (size - off)
+
+-- no NUL was found up to the string table's end
+pub shown-unended : (file kept : List ℕ) (at size off want cap : ℕ) → at + size ≤ length file → off < size → want ≡ size - off → size ≤ off + cap
+    → Searched (slice file (at + off) want) cap (Ok false) kept → shown (slice file at size) off cap ≡ Err NameUnended
+shown-unended file kept at size off want cap inside below all few h =
+    let long = slice-length file at size inside in
+    shown-open (slice file at size) off cap (omega arith) (omega arith)
+    (ap nul_in (table-rest file at size off (omega arith) ∙ ap (slice file (at + off)) (sym all)) ∙ h.0)
+
+-- a fault of the source refuses nothing
+pub Refuses-source : {X : Type 0} (at : ℕ) (fault : Fault) (answer : _) → IsSourceFault fault → Refuses {X = X} at fault answer
+Refuses-source at (Refused refusal) answer h = absurd h
+Refuses-source at (Source fault offset) answer h = tt
+
+-- the same, compared with a wanted name
+pub same-none : (file wanted : List ℕ) (at size off : ℕ) → size ≡ 0 → off ≡ 0 → same (slice file at size) off wanted ≡ Ok false
+same-none file wanted at size off z o = same-empty (slice file at size) off wanted (ap (slice file at) z, o)
+
+pub same-past : (file wanted : List ℕ) (at size off : ℕ) → size ≤ off → (size ≡ 0 → off ≡ 0 → ⊥) → same (slice file at size) off wanted ≡ Err NameOutside
+same-past file wanted at size off past some =
+    same-outside (slice file at size) off wanted (omega (arith, length-take size (drop at file)), λ e. some (omega arith) e.1)
+
+-- a byte of what is wanted with its NUL
+wanted-byte : (wanted : List ℕ) (k : ℕ) → get_or (wanted ++ 0 ∷ []) k 0 ≡ get_or wanted k 0
+wanted-byte [] zero = refl
+wanted-byte [] (suc k) = refl
+wanted-byte (w ∷ wanted) zero = refl
+wanted-byte (w ∷ wanted) (suc k) = wanted-byte wanted k
+
+-- a byte of what is left of a string table
+rest-byte : (file : List ℕ) (at size off want k : ℕ) → off + want ≤ size → k < want
+    → get_or (drop off (slice file at size)) k 0 ≡ get_or (slice file (at + off) want) k 0
+rest-byte file at size off want k within below =
+    get_or-drop off (slice file at size) k 0 ∙ get_or-take size (drop at file) (off + k) 0 (omega arith) ∙ get_or-drop at file (off + k) 0
+    ∙ ap (λ (n : ℕ). get_or file n 0) (omega arith) ∙ sym (get_or-take want (drop (at + off) file) k 0 below ∙ get_or-drop (at + off) file k 0)
+
+-- all bytes that were compared are those of the wanted name and its NUL
+alike-so_far : (file wanted : List ℕ) (at size off want : ℕ) → at + size ≤ length file → off + want ≤ size
+    → SameBelow (length (slice file (at + off) want)) (slice file (at + off) want) wanted
+    → (k : ℕ) → k < want → get_or (drop off (slice file at size)) k 0 ≡ get_or (wanted ++ 0 ∷ []) k 0
+alike-so_far file wanted at size off want inside within alike k below =
+    let front = slice-length file (at + off) want (omega arith) in
+    rest-byte file at size off want k within below ∙ alike k (omega arith) ∙ sym (wanted-byte wanted k)
+
+-- the wanted name and its NUL were found
+pub same-true : (file wanted : List ℕ) (at size off want : ℕ) → at + size ≤ length file → off < size → off + want ≤ size → want ≡ length wanted + 1
+    → SameBelow (length (slice file (at + off) want)) (slice file (at + off) want) wanted → same (slice file at size) off wanted ≡ Ok true
+same-true file wanted at size off want inside below within all alike =
+    let long = slice-length file at size inside in
+    same-inside (slice file at size) off wanted (omega arith) ∙ by (compared (drop off (slice file at size)) (wanted ++ 0 ∷ []))
+  where
+    by : Compared (drop off (slice file at size)) (wanted ++ 0 ∷ []) → begins (drop off (slice file at size)) (wanted ++ 0 ∷ []) ≡ Ok true
+    by (is_alike e s) = s
+    by (is_other d s) =
+        let l = length-append wanted (0 ∷ []) in
+        let b = d.2 in
+        absurd (d.3 (alike-so_far file wanted at size off want inside within alike d.0 (omega arith)))
+    by (is_short l e s) =
+        let long = slice-length file at size inside in
+        let rest = length-drop off (slice file at size) in
+        let w = length-append wanted (0 ∷ []) in
+        absurd (omega arith)
+
+-- the string table ends, with all bytes equal so far
+pub same-unended : (file wanted : List ℕ) (at size off want : ℕ) → at + size ≤ length file → off < size → want ≡ size - off → want < length wanted + 1
+    → SameBelow (length (slice file (at + off) want)) (slice file (at + off) want) wanted → same (slice file at size) off wanted ≡ Err NameUnended
+same-unended file wanted at size off want inside below all few alike =
+    let long = slice-length file at size inside in
+    same-inside (slice file at size) off wanted (omega arith) ∙ by (compared (drop off (slice file at size)) (wanted ++ 0 ∷ []))
+  where
+    by : Compared (drop off (slice file at size)) (wanted ++ 0 ∷ []) → begins (drop off (slice file at size)) (wanted ++ 0 ∷ []) ≡ Err NameUnended
+    by (is_alike e s) =
+        let long = slice-length file at size inside in
+        let rest = length-drop off (slice file at size) in
+        let w = length-append wanted (0 ∷ []) in
+        let t = length-take (length (wanted ++ 0 ∷ [])) (drop off (slice file at size)) in
+        let q = ap length e in
+        absurd (omega arith)
+    by (is_other d s) =
+        let long = slice-length file at size inside in
+        let rest = length-drop off (slice file at size) in
+        let b = d.1 in
+        absurd (d.3 (alike-so_far file wanted at size off want inside (omega arith) alike d.0 (omega arith)))
+    by (is_short l e s) = s
+
+-- a byte differs
+pub same-false : (file wanted : List ℕ) (at size off want : ℕ) → at + size ≤ length file → off < size → off + want ≤ size → want ≤ length wanted + 1
+    → DifferBelow (length (slice file (at + off) want)) (slice file (at + off) want) wanted → same (slice file at size) off wanted ≡ Ok false
+same-false file wanted at size off want inside below within few other =
+    let long = slice-length file at size inside in
+    same-inside (slice file at size) off wanted (omega arith) ∙ by (compared (drop off (slice file at size)) (wanted ++ 0 ∷ []))
+  where
+    k : ℕ
+    k = other.0
+
+    within_front : k < want
+    within_front = let front = slice-length file (at + off) want (omega arith) in let b = other.1 in omega arith
+
+    not_same : get_or (drop off (slice file at size)) k 0 ≡ get_or (wanted ++ 0 ∷ []) k 0 → ⊥
+    not_same e = other.2 (sym (rest-byte file at size off want k within within_front) ∙ e ∙ wanted-byte wanted k)
+
+    by : Compared (drop off (slice file at size)) (wanted ++ 0 ∷ []) → begins (drop off (slice file at size)) (wanted ++ 0 ∷ []) ≡ Ok false
+    by (is_alike e s) =
+        let w = length-append wanted (0 ∷ []) in
+        let b = within_front in
+        absurd (not_same
+        (sym (get_or-take (length (wanted ++ 0 ∷ [])) (drop off (slice file at size)) k 0 (omega arith)) ∙ ap (λ (x : List ℕ). get_or x k 0) e))
+    by (is_other d s) = s
+    by (is_short l e s) =
+        let long = slice-length file at size inside in
+        let rest = length-drop off (slice file at size) in
+        let b = within_front in
+        absurd (not_same
+        (ap (λ (x : List ℕ). get_or x k 0) e
+        ∙ get_or-take (length (drop off (slice file at size))) (wanted ++ 0 ∷ []) k 0 (omega arith)))

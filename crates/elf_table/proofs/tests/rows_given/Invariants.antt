@@ -1,0 +1,11 @@
+use Rattle.std.proofs.Common.{◌≡◌}
+use Rattle.elf_table.proofs.tests.rows_given.Given as goal
+
+abbrev pub invariant-loop-row : goal.invariant-loop-row
+invariant-loop-row g l = record {
+  same_table : l.cursor.table ≡ l.fn.cursor.table;
+  same_size : g.S.Source.size l.src.source ≡ g.S.Source.size l.fn.src.source;
+}
+
+abbrev pub decreases-loop-row : goal.decreases-loop-row
+decreases-loop-row g l = l.cursor.left

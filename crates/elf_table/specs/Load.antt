@@ -1,0 +1,62 @@
+-- The load of a file's section headers.
+use Rattle.std.specs.Prelude.{ℕ, ◌≡◌, ◌+◌, ◌*◌, ◌^◌, ◌<◌, ◌≤◌, ◌==◌, ◌&&◌, nat_lt, not, List, [], ◌∷◌, length, None, Some, Result, Ok, Err}
+use Rattle.elf_model.specs.Checks.{Check, refuse, first_refusal, is_outside, load_checks}
+use Rattle.elf_model.specs.Numbers.{PN_XNUM, SHN_XINDEX}
+use Rattle.elf_model.specs.declared.causes.Cause.TheVariants.{ExtendedNumbering, TooManyHeaders, EntrySize, TableOutside, BadLink}
+use Rattle.elf_record.specs.Ehdr.{IsEhdr}
+use Rattle.elf_record.specs.declared.ehdr.Ehdr.{Ehdr}
+use Rattle.elf_table.specs.Store.{Stored, Holds}
+use Rattle.elf_table.specs.declared.fault.Fault.{Fault}
+use Rattle.elf_table.specs.declared.fault.Fault.TheVariants.{Refused, Source}
+
+-- a file that was loaded: its length, and its file header
+pub record Opened : Type 0 where
+  pub size : ℕ
+  pub header : Ehdr
+
+-- the checks before the section headers are read, over the fields of the file header
+abbrev pub early_of : Ehdr → ℕ → ℕ → List Check
+early_of header size headers =
+    refuse (header.e_phnum == PN_XNUM) 0x38 ExtendedNumbering
+    ∷ refuse (header.e_shstrndx == SHN_XINDEX) 0x3e ExtendedNumbering
+    ∷ refuse (header.e_shnum == 0 && not (header.e_shoff == 0)) 0x3c ExtendedNumbering
+    ∷ refuse (nat_lt headers header.e_shnum) 0x3c TooManyHeaders
+    ∷ refuse (nat_lt headers header.e_phnum) 0x38 TooManyHeaders
+    ∷ refuse (not (header.e_shnum == 0) && not (header.e_shentsize == 64)) 0x3a EntrySize
+    ∷ refuse (not (header.e_phnum == 0) && not (header.e_phentsize == 56)) 0x36 EntrySize
+    ∷ refuse (not (header.e_shnum == 0) && is_outside size header.e_shoff (64 * header.e_shnum)) 0x28 TableOutside
+    ∷ refuse (not (header.e_phnum == 0) && is_outside size header.e_phoff (56 * header.e_phnum)) 0x20 TableOutside
+    ∷ refuse (not (header.e_shnum == 0) && not (nat_lt header.e_shstrndx header.e_shnum)) 0x3e BadLink
+    ∷ []
+
+-- what those checks leave: headers within the file and within the slots, the section names among the sections
+pub record Passes (size headers : ℕ) (header : Ehdr) : Type 0 where
+  pub few : header.e_shnum ≤ headers
+  pub fits : size < 2 ^ 64
+  pub sections : header.e_shoff + 64 * header.e_shnum ≤ size
+  pub segments : 0 < header.e_phnum → header.e_phoff + 56 * header.e_phnum ≤ size
+  pub named : 0 < header.e_shnum → header.e_shstrndx < header.e_shnum
+
+-- the file offset of the section header of an index
+abbrev pub section_place : Ehdr → ℕ → ℕ
+section_place header i = header.e_shoff + 64 * i
+
+-- a file of this size with this file header was loaded into the store
+pub record IsOpened (loaded : Opened) (size : ℕ) (header : Ehdr) (store : Stored) : Type 0 where
+  pub same_size : loaded.size ≡ size
+  pub same_header : loaded.header ≡ header
+  pub count : store.loaded ≡ header.e_shnum
+
+-- this file was loaded, and the store holds its section headers
+pub record Belongs (file : List ℕ) (loaded : Opened) (store : Stored) : Type 0 where
+  pub size : loaded.size ≡ length file
+  pub header : IsEhdr file 0 loaded.header
+  pub count : store.loaded ≡ loaded.header.e_shnum
+  pub rows : Holds file store
+  pub passes : first_refusal (load_checks file store.slots) ≡ None
+
+-- the answer of a load: a file that was loaded, or the first check that fails
+abbrev pub LoadedAs : List ℕ → Result Opened Fault → Stored → Type 0
+LoadedAs file (Ok loaded) store = Belongs file loaded store
+LoadedAs file (Err (Refused refusal)) store = first_refusal (load_checks file store.slots) ≡ Some refusal
+LoadedAs file (Err (Source fault at)) store = Unit {0}

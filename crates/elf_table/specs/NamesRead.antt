@@ -1,0 +1,45 @@
+-- What a read of a name answers.
+use Rattle.std.specs.Prelude.{ℕ, ◌≡◌, ◌<◌, ◌≢◌, Bool, List, length, take, slice_index, true, false, None, Some, Result, Ok, Err}
+use Rattle.elf_model.specs.Names.{Shown, nul_in}
+use Rattle.elf_model.specs.Names.Shown.{Whole as ShownWhole, Cut as ShownCut}
+use Rattle.elf_model.specs.declared.causes.Cause.{Cause}
+use Rattle.elf_table.specs.declared.fault.Fault.{Fault}
+use Rattle.elf_table.specs.declared.fault.Fault.TheVariants.{Refused, Source}
+use Rattle.elf_table.specs.declared.names.NameEnd.{NameEnd}
+use Rattle.elf_table.specs.declared.names.NameEnd.TheVariants.{Whole, Cut}
+
+-- a refusal names the entry that holds the index, and has the cause of the refused answer
+abbrev pub Refuses : {X : Type 0} → ℕ → Fault → Result X Cause → Type 0
+Refuses at (Refused refusal) answer = (refusal.at ≡ at) × (answer ≡ Err refusal.cause)
+Refuses at (Source fault offset) answer = Unit {0}
+
+-- a read of a name answers what is shown of it, or refuses for its cause
+abbrev pub NameRead : ℕ → Result NameEnd Fault → List ℕ → Result Shown Cause → Type 0
+NameRead at (Ok Whole) bytes answer = answer ≡ Ok (ShownWhole bytes)
+NameRead at (Ok Cut) bytes answer = answer ≡ Ok (ShownCut bytes)
+NameRead at (Err fault) bytes answer = Refuses at fault answer
+
+-- a comparison answers whether the name is the wanted one, or refuses for its cause
+abbrev pub Compared : ℕ → Result Bool Fault → Result Bool Cause → Type 0
+Compared at (Ok equal) answer = answer ≡ Ok equal
+Compared at (Err fault) answer = Refuses at fault answer
+
+-- bytes were searched for a NUL: those before it are kept, or all, as far as the cap
+abbrev pub Searched : List ℕ → ℕ → Result Bool Fault → List ℕ → Type 0
+Searched front cap (Ok true) kept = (place : ℕ) × (nul_in front ≡ Some place) × (kept ≡ take cap (take place front))
+Searched front cap (Ok false) kept = (nul_in front ≡ None) × (kept ≡ take cap front)
+Searched front cap (Err fault) kept = Unit {0}
+
+-- two lists have the same bytes at the places below a number, missing bytes being 0
+abbrev pub SameBelow : ℕ → List ℕ → List ℕ → Type 0
+SameBelow n a b = (k : ℕ) → k < n → slice_index a k ≡ slice_index b k
+
+-- two lists have another byte at a place below a number, missing bytes being 0
+abbrev pub DifferBelow : ℕ → List ℕ → List ℕ → Type 0
+DifferBelow n a b = (k : ℕ) × (k < n) × (slice_index a k ≢ slice_index b k)
+
+-- bytes were compared with what is wanted and a NUL
+abbrev pub Matched : List ℕ → List ℕ → Result Bool Fault → Type 0
+Matched front wanted (Ok true) = SameBelow (length front) front wanted
+Matched front wanted (Ok false) = DifferBelow (length front) front wanted
+Matched front wanted (Err fault) = Unit {0}

@@ -1,0 +1,85 @@
+-- What the sections of a loaded file answer for: tables, string tables, symbols with their names.
+use Rattle.std.specs.Prelude.{ℕ, ◌/◌, ◌==◌, true, false, not, List, [], ◌∷◌, ◌++◌, length, Option, None, Some, Result, Ok, Err}
+use Rattle.elf_model.specs.Checks.{Check, refuse, first_refusal, is_outside, table_checks, table_checks_of, strings_checks, has_section_names}
+use Rattle.elf_model.specs.Tables.{has_symbols}
+use Rattle.elf_model.specs.Records.{sh_type, sh_offset, sh_size, sh_link, e_shstrndx, section_at}
+use Rattle.elf_model.specs.Numbers.{SHT_STRTAB}
+use Rattle.elf_model.specs.declared.causes.Refusal.{Refusal}
+use Rattle.elf_model.specs.declared.causes.Cause.TheVariants.{NotStrings, TableOutside}
+use Rattle.elf_table.specs.Tables.{Rows, Strings}
+use Rattle.elf_table.specs.declared.fault.Fault.{Fault}
+use Rattle.elf_table.specs.declared.fault.Fault.TheVariants.{Refused}
+
+-- a refusal if there is one, else a value
+abbrev pub answered : {A : Type 0} → Option Refusal → A → Result A Fault
+answered None value = Ok value
+answered (Some refusal) value = Err (Refused refusal)
+
+-- the first check that fails, else a value
+abbrev pub checked : {A : Type 0} → List Check → A → Result A Fault
+checked checks value = answered (first_refusal checks) value
+
+-- so many rows of one size from an offset on
+abbrev pub rows : ℕ → ℕ → ℕ → Rows
+rows at count entry = record { at = at; count = count; entry = entry }
+
+-- so many bytes of names from an offset on
+abbrev pub strings : ℕ → ℕ → Strings
+strings at size = record { at = at; size = size }
+
+-- the table of a section whose header stands at an offset of some bytes, in a file of so many bytes;
+-- an empty one has no checks
+abbrev pub table_of : List ℕ → ℕ → ℕ → ℕ → ℕ → Result Rows Fault
+table_of bytes at file_size place entry =
+    elim (sh_size bytes at == 0) [
+      | true ↦ Ok (rows (sh_offset bytes at) 0 entry)
+      | false ↦ checked (table_checks_of bytes at file_size place entry) (rows (sh_offset bytes at) (sh_size bytes at / entry) entry)
+    ]
+
+-- the table of a section of the file
+abbrev pub table_at : List ℕ → ℕ → ℕ → Result Rows Fault
+table_at file at entry = table_of file at (length file) at entry
+
+-- the names in a section of the file
+abbrev pub names_at : List ℕ → ℕ → Strings
+names_at file at = strings (sh_offset file at) (sh_size file at)
+
+-- a section that is to be a string table, as `table_of` is told of it
+abbrev pub strings_of : List ℕ → ℕ → ℕ → ℕ → Result Strings Fault
+strings_of bytes at file_size place =
+    checked (refuse (not (sh_type bytes at == SHT_STRTAB)) place NotStrings ∷ refuse (is_outside file_size (sh_offset bytes at) (sh_size bytes at)) place TableOutside ∷ [])
+    (strings (sh_offset bytes at) (sh_size bytes at))
+
+-- the string table that a section of the file refers to
+abbrev pub strings_at : List ℕ → ℕ → Result Strings Fault
+strings_at file at = checked (strings_checks file at) (names_at file (section_at file (sh_link file at)))
+
+-- the string table of the section names
+abbrev pub section_names : List ℕ → Option Strings
+section_names file = elim (has_section_names file) [ true ↦ Some (names_at file (section_at file (e_shstrndx file))) | false ↦ None ]
+
+-- so many bytes of the file as rows of one byte; none has no check
+abbrev pub bytes_of : ℕ → ℕ → ℕ → ℕ → Result Rows Fault
+bytes_of file_size offset size place =
+    elim (size == 0) [
+      | true ↦ Ok (rows offset 0 1)
+      | false ↦ checked (refuse (is_outside file_size offset size) place TableOutside ∷ []) (rows offset size 1)
+    ]
+
+-- the symbols of a section of the file with their string table; two empty ones where it is empty
+abbrev pub symbols_at : List ℕ → ℕ → Result (Rows × Strings) Fault
+symbols_at file at =
+    elim (sh_size file at == 0) [
+      | true ↦ Ok (rows (sh_offset file at) 0 24, strings (sh_offset file at) 0)
+      | false ↦ checked (table_checks file at 24 ++ strings_checks file at)
+          (rows (sh_offset file at) (sh_size file at / 24) 24, names_at file (section_at file (sh_link file at)))
+    ]
+
+-- an answer that is there
+abbrev pub there : {A : Type 0} → Result A Fault → Result (Option A) Fault
+there (Ok value) = Ok (Some value)
+there (Err fault) = Err fault
+
+-- the symbols that a section of relocations refers to, if there are any
+abbrev pub linked_at : List ℕ → ℕ → Result (Option (Rows × Strings)) Fault
+linked_at file at = elim (has_symbols file at) [ true ↦ there (symbols_at file (section_at file (sh_link file at))) | false ↦ Ok None ]

@@ -1,0 +1,69 @@
+//! The checks of one section by its header.
+ghost use Rattle.std.specs.Prelude.{◌≡◌, ℕ, ◌<◌, ◌≤◌, List, IfOk, Err};
+ghost use Rattle.elf_model.specs.Checks.{is_symbol_table};
+ghost use Rattle.elf_record.specs.Shdr.{IsShdr};
+ghost use Rattle.elf_table.specs.Sections.{table_of, strings_of};
+ghost use Rattle.elf_table.specs.Tables.{RowsWithin, StringsWithin, size_of};
+
+use crate::fault::Fault;
+use crate::names::Names;
+use crate::ranges::{SHT_DYNSYM, SHT_STRTAB, SHT_SYMTAB, ends_outside};
+use crate::table::Table;
+use elf_record::{Cause, Refusal, Shdr};
+
+/// The section as a table of rows of `entry` bytes, in a file of `size` bytes. Refusals name `place`.
+pub(crate) fn checked_table(
+    header: &Shdr,
+    size: u64,
+    place: u64,
+    entry: u64,
+) -> Result<Table, Fault>
+    requires some { 0 < entry }
+    requires small { entry ≤ 4096 }
+    ensures value { (bytes : List ℕ) (at : ℕ) → IsShdr bytes at header.now → result ≡ table_of bytes at size place entry }
+    ensures within { IfOk result (RowsWithin size) }
+    ensures entry { IfOk result (λ table. table.entry ≡ entry) }
+    ensures sized { IfOk result (λ table. size_of table ≡ header.now.sh_size) }
+{
+    if header.sh_size == 0 {
+        return Ok(Table::new(header.sh_offset, 0, entry));
+    }
+    if header.sh_entsize != entry {
+        return refused(place, Cause::EntrySize);
+    }
+    if header.sh_size % entry != 0 {
+        return refused(place, Cause::SizeNotWhole);
+    }
+    if ends_outside(size, header.sh_offset, header.sh_size) {
+        return refused(place, Cause::TableOutside);
+    }
+    Ok(Table::new(header.sh_offset, header.sh_size / entry, entry))
+}
+
+/// The section as a string table, in a file of `size` bytes. Refusals name `place`.
+pub(crate) fn checked_strings(header: &Shdr, size: u64, place: u64) -> Result<Names, Fault>
+    ensures value { (bytes : List ℕ) (at : ℕ) → IsShdr bytes at header.now → result ≡ strings_of bytes at size place }
+    ensures within { IfOk result (StringsWithin size) }
+{
+    if header.sh_type != SHT_STRTAB {
+        return refused(place, Cause::NotStrings);
+    }
+    if ends_outside(size, header.sh_offset, header.sh_size) {
+        return refused(place, Cause::TableOutside);
+    }
+    Ok(Names::new(header.sh_offset, header.sh_size))
+}
+
+/// Whether the section holds symbols (gABI 4, Symbol Table).
+pub(crate) fn holds_symbols(header: &Shdr) -> bool
+    ensures { (file : List ℕ) (at : ℕ) → IsShdr file at header.now → result ≡ is_symbol_table file at }
+{
+    header.sh_type == SHT_SYMTAB || header.sh_type == SHT_DYNSYM
+}
+
+/// The refusal for a cause at a file offset.
+pub(crate) fn refused<T>(at: u64, cause: Cause) -> Result<T, Fault>
+    ensures { result ≡ Err (Fault.Refused (record { at = at; cause = cause })) }
+{
+    Err(Fault::Refused(Refusal { at, cause }))
+}

@@ -1,0 +1,61 @@
+//! A buffer for the bytes of a name.
+ghost use Rattle.std.specs.Prelude.{◌≡◌, ◌≤◌, [], ◌++◌, length, take};
+
+use std::marker::Model;
+
+/// The bytes of a name, at most 4,096.
+#[derive(Drop)]
+pub struct NameBuf {
+    bytes: [u8; 4096],
+    len: usize,
+}
+
+impl Model for NameBuf {
+    ghost use Rattle.std.specs.Prelude.{ℕ, ◌≤◌, List, take};
+
+    ghost Value = { List ℕ };
+
+    ghost view = { λ n. take n.len n.bytes };
+
+    ghost invariant = { λ n. n.len ≤ 4096 };
+}
+
+impl NameBuf {
+    /// An empty buffer.
+    pub fn new() -> NameBuf
+        ensures { result ≡ [] }
+    {
+        NameBuf {
+            bytes: [0; 4096],
+            len: 0,
+        }
+    }
+
+    /// The bytes of the name, without a NUL, at most 4,096.
+    pub fn bytes(&self) -> &[u8]
+        ensures value { result.now ≡ self.now }
+        ensures fits { length self.now ≤ 4096 }
+    {
+        &self.bytes[..self.len]
+    }
+
+    /// Empties the buffer.
+    pub fn clear(&mut self)
+        ensures { self.new ≡ [] }
+    {
+        self.len = 0;
+    }
+
+    /// Adds `bytes` at the end, as far as the name then has no more than `cap` bytes.
+    pub fn add(&mut self, bytes: &[u8], cap: u16)
+        requires most { cap ≤ 4096 }
+        requires within { length self.old ≤ cap }
+        ensures { self.new ≡ take cap (self.old ++ bytes.now) }
+    {
+        let room = cap as usize - self.len;
+        let count = bytes.len().min(room);
+        let end = self.len + count;
+        self.bytes[self.len..end].copy_from_slice(&bytes[..count]);
+        self.len = end;
+    }
+}

@@ -1,0 +1,23 @@
+//! Sizes of the fixed records, and ranges of a file in whole numbers.
+ghost use Rattle.std.specs.Prelude.{◌≡◌};
+ghost use Rattle.elf_model.specs.Checks.{is_outside};
+
+/// The size of a section header in bytes.
+pub(crate) const SECTION_HEADER_BYTES: u64 = 64;
+/// The size of a program header in bytes.
+pub(crate) const PROGRAM_HEADER_BYTES: u64 = 56;
+/// The size of a symbol in bytes.
+pub(crate) const SYMBOL_BYTES: u64 = 24;
+/// The section type of a symbol table.
+pub(crate) const SHT_SYMTAB: u32 = 2;
+/// The section type of a string table.
+pub(crate) const SHT_STRTAB: u32 = 3;
+/// The section type of a symbol table for dynamic linking.
+pub(crate) const SHT_DYNSYM: u32 = 11;
+
+/// Whether `bytes` bytes from `offset` on end past a file of `size` bytes.
+pub(crate) fn ends_outside(size: u64, offset: u64, bytes: u64) -> bool
+    ensures { result ≡ is_outside size offset bytes }
+{
+    u128::from(offset) + u128::from(bytes) > u128::from(size)
+}
