@@ -55,7 +55,7 @@ impl Table {
     pub fn is_empty(&self) -> bool
         ensures { IsTrue result ↔ (self.now.count ≡ 0) }
     {
-        self.count == 0
+        self.len() == 0
     }
 
     /// The file offset of the first row, in bytes.

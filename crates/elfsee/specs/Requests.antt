@@ -12,3 +12,8 @@ parts_of (Sample caps parts) = parts.0
 -- the parts that can be asked for today
 abbrev pub IsBuilt : ℕ → Type 0
 IsBuilt parts = parts ≡ HEADER
+
+-- how many headers are permitted
+abbrev pub headers_of : Request → ℕ
+headers_of (Show caps parts file) = caps.headers
+headers_of (Sample caps parts) = caps.headers

@@ -1,6 +1,4 @@
 //! What can be asked for.
-ghost use Rattle.std.specs.Prelude.{◌≤◌};
-
 use elf_record::Parts;
 use elf_table::Caps;
 use thiserror::Error;
@@ -27,8 +25,12 @@ pub enum Request {
 }
 
 impl Request {
+    ghost use Rattle.std.specs.Prelude.{◌≡◌, ◌≤◌};
+    ghost use Rattle.elfsee.specs.Requests.{headers_of};
+
     /// How many slots the header store needs, 1 to 65,279.
     pub fn headers(&self) -> u16
+        ensures value { result ≡ headers_of self.now }
         ensures some { 1 ≤ result }
         ensures few { result ≤ 65279 }
     {

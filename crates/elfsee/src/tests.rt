@@ -4,8 +4,12 @@ use crate::requests::{Request, RequestFault};
 use crate::words::request;
 use elf_listing::{End, RunFault, show_header};
 use elf_record::{Cause, Parts, Refusal};
-use elf_source::{Counted, MemorySource, Out, OutFault, SliceSink, Source, SourceFault, WriteSink};
+use elf_source::{
+    Counted, MemorySource, Out, OutFault, SliceSink, Source, SourceFault, StreamSource, WriteSink,
+};
 use elf_table::Caps;
+use std::io;
+use std::io::{Read, Seek, SeekFrom};
 use std::process::Abort;
 use std::test::Fail;
 
@@ -250,4 +254,42 @@ fn endings(rt: HostRuntime) {
         refused(&RequestFault::Memory),
         (3, "elfsee: out of memory")
     );
+}
+
+/// A reader of a bare header that gives one byte at each read.
+#[derive(Drop)]
+struct Dribble {
+    at: u64,
+}
+
+impl Read for Dribble {
+    fn read(&mut self, buf: &mut [u8]) -> io::Result<usize> {
+        if self.at >= 64 || buf.is_empty() {
+            return Ok(0);
+        }
+        buf[0] = BARE[self.at as usize];
+        self.at += 1;
+        Ok(1)
+    }
+}
+
+impl Seek for Dribble {
+    fn seek(&mut self, to: SeekFrom) -> io::Result<u64> {
+        self.at = match to {
+            SeekFrom::Start(at) => at,
+            _ => 64,
+        };
+        Ok(self.at)
+    }
+}
+
+#[test]
+fn a_stream_lists_as_memory_does(rt: HostRuntime) -> Result<(), Fail> {
+    let mut buffer = [0; 256];
+    let mut src = Counted::new(StreamSource::new(Dribble { at: 0 })?);
+    let mut out = Out::new(SliceSink::new(&mut buffer));
+    assert_eq!(rt; show_header(&mut src, &mut out), Ok(End::Listed));
+    assert_eq!(rt; out.into_inner().written(), BARE_LINE.as_bytes());
+    assert_eq!(rt; src.asked(), 64);
+    Ok(())
 }
