@@ -2,7 +2,9 @@ pub mod Examples
 pub mod ExamplesAnswers
 pub mod ExamplesApply
 pub mod ExamplesApplyCost
+pub mod ExamplesApplyOrder
 pub mod ExamplesDynamic
+pub mod ExamplesFields
 pub mod ExamplesHash
 pub mod ExamplesNames
 pub mod ExamplesNotes
@@ -11,6 +13,7 @@ pub mod ListedCosts
 pub mod ListedDynamic
 pub mod ListedHeaders
 pub mod ListedNotes
+pub mod ListedOrder
 pub mod ListedParts
 pub mod ListedRelocations
 pub mod ListedSections

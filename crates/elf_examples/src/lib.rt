@@ -5,14 +5,17 @@
 
 mod answer_rows;
 mod apply_cost_rows;
+mod apply_order_rows;
 mod apply_rows;
 mod dynamic_rows;
 mod examples;
+mod field_rows;
 mod hash_rows;
 mod listed_costs;
 mod listed_dynamic;
 mod listed_headers;
 mod listed_notes;
+mod listed_order;
 mod listed_parts;
 mod listed_relocations;
 mod listed_sections;

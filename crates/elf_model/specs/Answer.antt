@@ -4,6 +4,7 @@ use Rattle.elf_model.specs.Report.{report, report_fault}
 use Rattle.elf_model.specs.Fixtures.{one_symbol_table}
 use Rattle.elf_model.specs.declared.causes.Refusal.{Refusal}
 
+-- an answer: what is written to standard output, and the status
 pub record Answer : Type 0 where
   pub text : List ℕ
   pub status : ℕ

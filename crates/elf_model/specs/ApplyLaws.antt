@@ -7,6 +7,7 @@ use Rattle.elf_model.specs.Bytes.{slice}
 abbrev pub IsInside : ℕ → Patch → Type 0
 IsInside size patch = patch.at + length patch.bytes ≤ size
 
+-- all patches lie within so many bytes
 abbrev pub AllInside : ℕ → List Patch → Type 0
 AllInside size patches = All (IsInside size) patches
 

@@ -3,6 +3,7 @@ use Rattle.std.specs.Prelude.{ℕ, List, codes}
 use Rattle.elf_model.specs.declared.causes.Cause.{Cause}
 use Rattle.elf_model.specs.declared.causes.Cause.TheVariants.{Short, NotElf, BadClass, BadData, BadVersion, ExtendedNumbering, TooManyHeaders, EntrySize, TableOutside, BadLink, NotStrings, SizeNotWhole, NameOutside, NameUnended, NoteCut, NoHash, HashShape, HashIndex, HashCycle, Unsupported, Overflow, LayoutFull, LayoutRepeat, NotRel, Unplaced, Undefined, PlaceOutside, SymbolIndex, TooLong}
 
+-- a cause's word
 unfoldable pub cause_word : Cause → List ℕ
 cause_word Short = codes "short"
 cause_word NotElf = codes "not-elf"

@@ -12,9 +12,11 @@ pub record Check : Type 0 where
   pub fails : Bool
   pub refusal : Refusal
 
+-- a check by its condition, and the offset and the cause that it gives
 abbrev pub refuse : Bool → ℕ → Cause → Check
 refuse fails at cause = record { fails = fails; refusal = record { at = at; cause = cause } }
 
+-- the refusal of the first check that fails
 abbrev pub first_refusal : List Check → Option Refusal
 first_refusal [] = None
 first_refusal (check ∷ checks) = elim check.fails [ true ↦ Some check.refusal | false ↦ first_refusal checks ]

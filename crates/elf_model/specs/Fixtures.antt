@@ -2,6 +2,7 @@
 use Rattle.std.specs.Prelude.{ℕ, ◌+◌, ◌==◌, if◌then◌else◌, List, [], ◌∷◌, ◌++◌, length, take, drop, replicate, codes}
 use Rattle.elf_model.specs.Bytes.{little}
 
+-- so many zero bytes
 unfoldable pub zeros : ℕ → List ℕ
 zeros n = replicate n 0
 

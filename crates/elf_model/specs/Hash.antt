@@ -86,6 +86,7 @@ same_symbol file table wanted index = same (strings_of file table) (st_name file
 abbrev pub is_index : List ℕ → ℕ → ℕ → Bool
 is_index file at word = nat_lt word (nchain file at) && nat_lt word (symbol_count file (linked_at file at))
 
+-- what a word of a lookup is: 0 ends the chain, else it is an index whose symbol's name is compared, or no index
 unfoldable pub word_is : List ℕ → ℕ → List ℕ → ℕ → Word
 word_is file at wanted zero = ChainEnd
 word_is file at wanted (suc word) =
@@ -102,6 +103,7 @@ is_last (Nameless cause) = true
 is_last Wanted = true
 is_last Other = false
 
+-- the same as a test of the word
 unfoldable pub decides : List ℕ → ℕ → List ℕ → ℕ → Bool
 decides file at wanted word = is_last (word_is file at wanted word)
 
@@ -112,6 +114,7 @@ pub data Lookup : Type 0 where
   Absent : ℕ → Lookup
   Refused : Refusal → Lookup
 
+-- a lookup that is refused at an offset
 abbrev pub refused : ℕ → Cause → Lookup
 refused at cause = Refused (record { at = at; cause = cause })
 
@@ -126,6 +129,7 @@ answer_of file at wanted i Wanted =
     (symbol_place file (linked_at file at) (lookup_word file at wanted i)) (suc i)
 answer_of file at wanted i Other = refused (bucket_of file at wanted) HashCycle
 
+-- what the word number i of a lookup gives
 unfoldable pub answer_after : List ℕ → ℕ → List ℕ → ℕ → Lookup
 answer_after file at wanted i = answer_of file at wanted i (word_is file at wanted (lookup_word file at wanted i))
 
@@ -168,6 +172,7 @@ unfoldable pub lookup_end : List ℕ → ℕ → List ℕ → ℕ → Option ℕ
 lookup_end file at wanted n =
     first_in_walk (decides file at wanted) (next_in_chain file at) (field file (bucket_of file at wanted) 4) 0 n
 
+-- what the first word that ends the lookup gives; the cycle where there is none
 abbrev pub answer_at : List ℕ → ℕ → List ℕ → Option ℕ → Lookup
 answer_at file at wanted None = cycle file at wanted
 answer_at file at wanted (Some i) = answer_after file at wanted i
@@ -189,5 +194,6 @@ abbrev pub compared_at : List ℕ → ℕ → List ℕ → Option ℕ → ℕ
 compared_at file at wanted None = nchain file at
 compared_at file at wanted (Some i) = compared_until i (word_is file at wanted (lookup_word file at wanted i))
 
+-- the number of symbols whose names a lookup compares
 unfoldable pub compared_in : List ℕ → ℕ → List ℕ → ℕ
 compared_in file at wanted = compared_at file at wanted (lookup_end file at wanted (suc (nchain file at)))

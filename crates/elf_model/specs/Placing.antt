@@ -34,6 +34,7 @@ address_named table index (item ∷ items) =
 abbrev pub STB_WEAK : ℕ
 STB_WEAK = 2
 
+-- a refusal at an offset in the place of a value
 abbrev pub refusal_at : {A : Type 0} → ℕ → Cause → Result A Refusal
 refusal_at at cause = Err (record { at = at; cause = cause })
 

@@ -10,12 +10,15 @@ unfoldable pub hex : ℕ → ℕ → List ℕ
 hex zero n = []
 hex (suc k) n = digit (n / 16 ^ k % 16) ∷ hex k n
 
+-- so many spaces
 abbrev pub spaces : ℕ → List ℕ
 spaces n = replicate n 32
 
+-- one space, as it stands between two fields
 abbrev pub space : List ℕ
 space = 32 ∷ []
 
+-- the byte that ends a line
 abbrev pub newline : List ℕ
 newline = 10 ∷ []
 

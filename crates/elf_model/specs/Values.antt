@@ -60,6 +60,7 @@ pub record Kind : Type 0 where
   pub formula : Formula
   pub range : Range
 
+-- a relocation type by its width, formula and range
 abbrev pub kind : ℕ → Formula → Range → Kind
 kind width formula range = record { width = width; formula = formula; range = range }
 

@@ -1,0 +1,50 @@
+//! Which of several faults comes first, and a listing with a table of each kind, each computed by the prover.
+ghost use Rattle.elf_examples.specs.ListedOrder.{IdentFaultsInOrder, LoadFaultsInOrder, SymbolFaultsInOrder, LinkFaultsComeLater, EveryTableIsListed, NotesAlignFromTheirTable, SectionZeroIsATable, SegmentNotesByFileSize};
+
+/// The order of the identification's checks.
+#[tactic(auto, unfolding(elf_model::proofs::OnLiterals::on_literals, crate::proofs::OnExamples::on_examples))]
+pub fn ident_faults_in_order()
+    ensures { IdentFaultsInOrder }
+{}
+
+/// The order of the load checks.
+#[tactic(auto, unfolding(elf_model::proofs::OnLiterals::on_literals, crate::proofs::OnExamples::on_examples))]
+pub fn load_faults_in_order()
+    ensures { LoadFaultsInOrder }
+{}
+
+/// The order of a symbol table's checks.
+#[tactic(auto, unfolding(elf_model::proofs::OnLiterals::on_literals, crate::proofs::OnExamples::on_examples))]
+pub fn symbol_faults_in_order()
+    ensures { SymbolFaultsInOrder }
+{}
+
+/// The checks of what a table links to.
+#[tactic(auto, unfolding(elf_model::proofs::OnLiterals::on_literals, crate::proofs::OnExamples::on_examples))]
+pub fn link_faults_come_later()
+    ensures { LinkFaultsComeLater }
+{}
+
+/// A file with a table of each kind.
+#[tactic(auto, unfolding(elf_model::proofs::OnLiterals::on_literals, crate::proofs::OnExamples::on_examples))]
+pub fn every_table_is_listed()
+    ensures { EveryTableIsListed }
+{}
+
+/// Notes whose table starts at no multiple of their alignment.
+#[tactic(auto, unfolding(elf_model::proofs::OnLiterals::on_literals, crate::proofs::OnExamples::on_examples))]
+pub fn notes_align_from_their_table()
+    ensures { NotesAlignFromTheirTable }
+{}
+
+/// Section 0 as a table.
+#[tactic(auto, unfolding(elf_model::proofs::OnLiterals::on_literals, crate::proofs::OnExamples::on_examples))]
+pub fn section_zero_is_a_table()
+    ensures { SectionZeroIsATable }
+{}
+
+/// The notes of a segment with another size in memory.
+#[tactic(auto, unfolding(elf_model::proofs::OnLiterals::on_literals, crate::proofs::OnExamples::on_examples))]
+pub fn segment_notes_by_file_size()
+    ensures { SegmentNotesByFileSize }
+{}
