@@ -1,10 +1,7 @@
 -- A name as it is written, byte by byte, and the line that ends in it.
 use Rattle.std.proofs.Common.{◌≡◌, ℕ, ◌+◌, ◌<◌, ◌≤◌, Bool, true, false, if◌then◌else◌, List, [], ◌++◌, Option, length, drop, get_or, refl, sym, ap, ◌∙◌, append_assoc, append-nil, add-one, drop-cons}
 use Rattle.std.proofs.lemmas.List.{drop_all}
-use Rattle.elf_model.specs.Text.{newline}
-use Rattle.elf_model.specs.Lines.{name_byte_text, escaped, cut_mark, name_text, named_line}
-use Rattle.elf_source.specs.Output.{TakesFront}
-use Rattle.elf_source.proofs.Puts.{TakesFront-more}
+use Rattle.elf_model.specs.Lines.{name_byte_text, escaped, cut_mark, name_text}
 use Rattle.elf_listing.specs.Pieces.{TakesBefore, shown_as}
 use Rattle.elf_listing.proofs.Pieces.{TakesBefore-more, TakesBefore-then}
 
@@ -29,21 +26,12 @@ TakesBefore-byte a b c l m n text line room put name i inside before made is =
     rw (sym same) (TakesBefore-then a b c l m n text (line ++ escaped (drop i name)) (room ++ escaped (drop i name)) before
     (TakesBefore-more b c m n line room (escaped (drop i name)) made))
 
--- what stands behind a name
-abbrev pub tail_of : Bool → List ℕ
-tail_of is_cut = (if is_cut then cut_mark else []) ++ newline
-
 regroup : (a b c d : List ℕ) → a ++ ((b ++ c) ++ d) ≡ (a ++ b) ++ (c ++ d)
 regroup a b c d = simp append_assoc
 
--- a line that ends in a name, as its pieces
-pub named_line-pieces : (front name : List ℕ) (is_cut : Bool) → named_line front (shown_as is_cut name) ≡ (front ++ escaped name) ++ tail_of is_cut
+-- a name between what stands before it and behind it, as its pieces
+pub name_text-pieces : (front name tail : List ℕ) (is_cut : Bool)
+    → front ++ (name_text (shown_as is_cut name) ++ tail) ≡ (front ++ escaped name) ++ ((if is_cut then cut_mark else []) ++ tail)
 unfolding name_text
-named_line-pieces front name true = regroup front (escaped name) cut_mark newline
-named_line-pieces front name false = sym (append_assoc front (escaped name) newline)
-
--- a front of the line's front and its name is one of the line
-pub TakesFront-named : (a b : Option (List ℕ)) (l m : ℕ) (front name : List ℕ) (is_cut : Bool) → TakesFront a b l m (front ++ escaped name)
-    → TakesFront a b l m (named_line front (shown_as is_cut name))
-TakesFront-named a b l m front name is_cut p =
-    rw (named_line-pieces front name is_cut) (TakesFront-more a b l m (front ++ escaped name) (tail_of is_cut) p)
+name_text-pieces front name tail true = regroup front (escaped name) cut_mark tail
+name_text-pieces front name tail false = sym (append_assoc front (escaped name) tail)

@@ -1,9 +1,13 @@
 //! The listing of an ELF64 file: its lines, and the call that writes them.
 #![tactic(auto)]
 
+mod dynamic_rows;
 mod end;
 mod line;
+mod lookup_rows;
 mod named;
+mod note_rows;
+mod relocation_rows;
 mod row;
 mod rows;
 mod section_rows;
@@ -11,8 +15,16 @@ mod segment_rows;
 mod show;
 mod symbol_rows;
 mod table_rows;
+#[cfg(test)]
+mod tests;
 
+pub use dynamic_rows::dynamic_front;
 pub use end::{End, RunFault};
+pub use lookup_rows::show_steps;
+pub use note_rows::{note_front, show_note};
+pub use relocation_rows::relocation_front;
 pub use rows::cause_word;
+pub use section_rows::section_front;
+pub use segment_rows::segment_row;
 pub use show::{show_header, show_refusal};
-pub use symbol_rows::show_symbol;
+pub use symbol_rows::{show_symbol, symbol_front};

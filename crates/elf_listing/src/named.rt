@@ -1,11 +1,11 @@
 //! Lines with a name, which is of any length: a line is written in pieces.
-ghost use Rattle.std.specs.Prelude.{◌≡◌, ◌+◌, ◌^◌, ◌<◌, ◌≤◌, ◌++◌, is_err, IsErr, IsOk, IsTrue};
+ghost use Rattle.std.specs.Prelude.{◌≡◌, ◌+◌, ◌^◌, ◌<◌, ◌≤◌, ◌++◌, length, is_err, IsErr, IsOk, IsTrue};
 ghost use Rattle.arrayvec.specs.ArrayVec.{array_vec_len};
 ghost use Rattle.elf_model.specs.Lines.{escaped, named_line, name_byte_text};
 ghost use Rattle.elf_source.specs.Output.{Puts};
 ghost use Rattle.elf_listing.specs.Pieces.{PutsBefore, shown_as};
 
-use crate::line::{LINE_BYTES, Line, put, put_hex, put_where};
+use crate::line::{LINE_BYTES, Line, put, put_hex};
 use elf_source::{Out, OutFault, Sink};
 
 /// Writes a line that ends in a name: its front, the name as it is spelt in a listing, the mark `\+`
@@ -24,13 +24,33 @@ pub fn show_named<W: Sink>(
     ensures fails { W.failed out.new.sink ≡ is_err result }
     ensures fits { out.new.written < 2 ^ 128 }
 {
+    let tail = if is_cut { "\\+\n" } else { "\n" };
+    show_around(front, name, tail.as_bytes(), out)
+}
+
+/// Writes what stands before a name, the name as it is spelt in a listing, and what stands behind it,
+/// which is at most 256 bytes long.
+///
+/// # Errors
+/// A fault of the output, with a front of these bytes written.
+pub fn show_around<W: Sink>(
+    front: Line,
+    name: &[u8],
+    tail: &[u8],
+    out: &mut Out<W>,
+) -> Result<(), OutFault>
+    requires { length tail.now ≤ 256 }
+    ensures line { Puts (W.taken out.old.sink) (W.taken out.new.sink) out.old.written out.new.written result
+        ((front.items ++ escaped name.now) ++ tail.now) }
+    ensures fails { W.failed out.new.sink ≡ is_err result }
+    ensures fits { out.new.written < 2 ^ 128 }
+{
     // The count is below 2^128.
     let _count = out.written();
     let mut line = front;
     put_escaped(&mut line, name, out)?;
-    make_room(&mut line, 3, out)?;
-    put_where(&mut line, is_cut, b"\\+");
-    put(&mut line, b"\n");
+    make_room(&mut line, tail.len(), out)?;
+    put(&mut line, tail);
     out.put(&line)
 }
 
@@ -39,7 +59,7 @@ pub fn show_named<W: Sink>(
 ///
 /// # Errors
 /// A fault of the output, with a front of the line and the name written.
-pub fn put_escaped<W: Sink>(line: &mut Line, name: &[u8], out: &mut Out<W>) -> Result<(), OutFault>
+fn put_escaped<W: Sink>(line: &mut Line, name: &[u8], out: &mut Out<W>) -> Result<(), OutFault>
     requires { out.old.written < 2 ^ 128 }
     ensures puts { PutsBefore (W.taken out.old.sink) (W.taken out.new.sink) out.old.written out.new.written result
         (line.old.items ++ escaped name.now) line.new.items }
@@ -57,7 +77,7 @@ pub fn put_escaped<W: Sink>(line: &mut Line, name: &[u8], out: &mut Out<W>) -> R
 ///
 /// # Errors
 /// A fault of the output, with a front of the line written.
-pub fn make_room<W: Sink>(line: &mut Line, count: usize, out: &mut Out<W>) -> Result<(), OutFault>
+fn make_room<W: Sink>(line: &mut Line, count: usize, out: &mut Out<W>) -> Result<(), OutFault>
     requires count { count ≤ 256 }
     requires written { out.old.written < 2 ^ 128 }
     ensures puts { PutsBefore (W.taken out.old.sink) (W.taken out.new.sink) out.old.written out.new.written result
