@@ -27,8 +27,8 @@ table_place (Symbols section names) file = sh_offset file (section_at file secti
 
 -- the items of the row of an index
 abbrev pub row_items : Kind → List ℕ → ℕ → ℕ → List Item
-row_items Segments file cap index = segment_row file index
-row_items (Symbols section names) file cap index = symbol_row file cap section (section_at file section) index
+row_items Segments file cap = segment_row file
+row_items (Symbols section names) file cap = symbol_row file cap section (section_at file section)
 
 -- the string table of a kind lies within a source of this size
 abbrev pub KindWithin : ℕ → Kind → Type 0

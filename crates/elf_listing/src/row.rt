@@ -47,7 +47,7 @@ pub(crate) fn whole_row<'a, const N: usize>(row: &'a Row<'_>) -> &'a [u8; N]
 }
 
 /// Writes a line.
-fn put_line<W: Sink>(line: &[u8], out: &mut Out<W>) -> Result<Option<Refusal>, RunFault>
+pub(crate) fn put_line<W: Sink>(line: &[u8], out: &mut Out<W>) -> Result<Option<Refusal>, RunFault>
     ensures out_fails { IsTrue (is_out_fault result) → IsTrue (W.failed out.new.sink) }
     ensures out_only { IfErr result IsOutFault }
     ensures fits { out.new.written < 2 ^ 128 }
@@ -91,7 +91,7 @@ pub(crate) fn show_symbol_row<S: Source, W: Sink>(
 }
 
 /// Writes a line that ends in a name, where the name was read.
-fn put_named<W: Sink>(
+pub(crate) fn put_named<W: Sink>(
     front: Line,
     end: Result<NameEnd, Fault>,
     name: &NameBuf,

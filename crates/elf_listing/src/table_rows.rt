@@ -14,6 +14,7 @@ use elf_source::{Counted, Out, Sink, Source};
 use elf_table::{Cursor, Fault, NameBuf, Names, Row, Table};
 
 /// What the rows of a table are listed as.
+#[derive(Drop)]
 pub(crate) enum Kind {
     /// Program headers, a `P` line each.
     Segments,
@@ -48,7 +49,7 @@ pub(crate) fn show_rows<S: Source, W: Sink>(
     ensures out_fails { IsTrue (is_out_fault result) → IsTrue (W.failed out.new.sink) }
     ensures fits { out.new.written < 2 ^ 128 }
     ensures asked { src.new.asked ≤ src.old.asked + table.count * (row_size kind.now + own_cost kind.now cap) }
-    ensures text { (file : List ℕ) → S.holds src.old.source file → KindOf file kind.now → (0 < table.count → table.at ≡ table_place kind.now file) →
+    ensures text { (file : List ℕ) → S.holds src.old.source file → (0 < table.count → KindOf file kind.now × (table.at ≡ table_place kind.now file)) →
         Shows (W.taken out.old.sink) (W.taken out.new.sink) out.old.written out.new.written result (each (row_items kind.now file cap) 0 table.count) }
 {
     let mut cursor = Cursor::new(table);

@@ -26,7 +26,7 @@ checked-passes checks members h = rw (h, checked) refl
 pub asked-true : (parts part : ℕ) (members : List Item) → has parts part ≡ true → where_asked parts part members ≡ members
 asked-true parts part members h = rw (h, where_asked) refl
 
-load_none : (file : List ℕ) (headers name parts : ℕ) → has_tables parts ≡ false → load_items file headers name parts ≡ []
+pub load_none : (file : List ℕ) (headers name parts : ℕ) → has_tables parts ≡ false → load_items file headers name parts ≡ []
 unfolding load_items
 load_none file headers name parts h = by_cases (has_tables parts) h
   where
@@ -35,7 +35,7 @@ load_none file headers name parts h = by_cases (has_tables parts) h
     by_cases false h = refl
     by_cases true h = cc
 
-load_some : (file : List ℕ) (headers name parts : ℕ) → has_tables parts ≡ true
+pub load_some : (file : List ℕ) (headers name parts : ℕ) → has_tables parts ≡ true
     → load_items file headers name parts ≡ checked (load_checks file headers) (table_items file name parts)
 unfolding load_items
 load_some file headers name parts h = by_cases (has_tables parts) (checked (load_checks file headers) (table_items file name parts)) h

@@ -32,6 +32,7 @@ early_of header size headers =
 -- what those checks leave: headers within the file and within the slots, the section names among the sections
 pub record Passes (size headers : ℕ) (header : Ehdr) : Type 0 where
   pub few : header.e_shnum ≤ headers
+  pub few_segments : header.e_phnum ≤ headers
   pub fits : size < 2 ^ 64
   pub sections : header.e_shoff + 64 * header.e_shnum ≤ size
   pub segments : 0 < header.e_phnum → header.e_phoff + 56 * header.e_phnum ≤ size

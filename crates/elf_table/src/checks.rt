@@ -55,7 +55,7 @@ pub(crate) fn checked_strings(header: &Shdr, size: u64, place: u64) -> Result<Na
 }
 
 /// Whether the section holds symbols (gABI 4, Symbol Table).
-pub(crate) fn holds_symbols(header: &Shdr) -> bool
+pub fn holds_symbols(header: &Shdr) -> bool
     ensures { (file : List ℕ) (at : ℕ) → IsShdr file at header.now → result ≡ is_symbol_table file at }
 {
     header.sh_type == SHT_SYMTAB || header.sh_type == SHT_DYNSYM

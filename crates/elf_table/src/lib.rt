@@ -25,6 +25,7 @@ mod table;
 mod tests;
 
 pub use caps::Caps;
+pub use checks::holds_symbols;
 pub use cursor::Cursor;
 pub use fault::Fault;
 pub use file_header::header;

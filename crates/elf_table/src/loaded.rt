@@ -55,9 +55,11 @@ impl Loaded {
         self.header
     }
 
-    /// The program headers, rows of 56 bytes; none where e_phnum is 0 (gABI 5, Program Header).
+    /// The program headers, rows of 56 bytes, at most 65,279; none where e_phnum is 0 (gABI 5, Program
+    /// Header).
     pub fn segments(&self) -> Table
         ensures value { result ≡ record { at = self.now.header.e_phoff; count = self.now.header.e_phnum; entry = 56 } }
+        ensures few { result.count ≤ 65279 }
         ensures within { RowsWithin self.now.size result }
     {
         Table::new(
@@ -201,8 +203,9 @@ impl Loaded {
         Ok(Some(symbols))
     }
 
-    /// The file offset of the section header of an index below e_shnum.
-    fn place(&self, section: u16) -> u64
+    /// The file offset of the section header of an index below e_shnum, in bytes (gABI 4, Section
+    /// Header).
+    pub fn place(&self, section: u16) -> u64
         requires { section < self.now.header.e_shnum }
         ensures value { result ≡ section_place self.now.header section }
     {

@@ -36,6 +36,7 @@ pub fn load<S: Source>(
 ) -> Result<Loaded, Fault>
     ensures slots { store.new.slots ≡ store.old.slots }
     ensures loaded { IfOk result (λ loaded. IsOpened loaded (S.size src.old.source) header.now store.new) }
+    ensures passes { IfOk result (λ _. Passes (S.size src.old.source) store.old.slots header.now) }
     ensures forgotten { OnErr result (store.new.loaded ≡ 0) }
     ensures kept { Keeps S.holds S.size S.failures src.old.source src.new.source }
     ensures blames { IfErr result (FaultBlames S.holds S.failures src.old.source src.new.source) }
@@ -44,6 +45,7 @@ pub fn load<S: Source>(
         (src.new.asked ≤ src.old.asked + 64 * header.now.e_shnum)
         (λ refusal. (result ≡ Err (Fault.Refused refusal)) × (src.new ≡ src.old)) }
     ensures at_most { src.new.asked ≤ src.old.asked + 64 * header.now.e_shnum }
+    ensures in_slots { src.new.asked ≤ src.old.asked + 64 * store.old.slots }
     ensures held { (file : List ℕ) → S.holds src.old.source file → IsEhdr file 0 header.now → LoadedAs file result store.new }
 {
     store.forget();

@@ -8,12 +8,14 @@ mod sample;
 mod tests;
 mod words;
 
-ghost use Rattle.std.specs.Prelude.{IfOk};
-ghost use Rattle.elfsee.specs.Requests.{IsBuilt, parts_of};
+ghost use Rattle.std.specs.Prelude.{◌≡◌, IfOk};
+ghost use Rattle.elf_listing.specs.Sections.{AreListed};
+ghost use Rattle.elfsee.specs.Requests.{headers_of, parts_of};
 
 use answering::{outcome, refused, run};
 use elf_listing::RunFault;
 use elf_source::{Counted, MemorySource, Out, Source, StreamSource, WriteSink};
+use elf_table::HeaderStore;
 use requests::Request;
 use sample::sample;
 use std::alloc::Global;
@@ -57,15 +59,21 @@ fn main(rt: HostRuntime) -> ExitCode {
 fn answer<R: Env + Files + Print + AllocGlobal>(rt: &R) -> Result<Ending, Ending> {
     let words = read_words(rt)?;
     let request = read_request(rt.alloc(), &words)?;
+    let Ok(store) = HeaderStore::new(rt.alloc(), request.headers()) else {
+        return Err(OUT_OF_MEMORY);
+    };
     let Ok(output) = BufWriter::with_capacity(rt.alloc(), OUTPUT_BYTES, io::writer(rt)) else {
         return Err(OUT_OF_MEMORY);
     };
     match &request {
         Request::Show { file, .. } => {
             let source = open(rt, file.as_str())?;
-            Ok(write_answer(&request, source, output))
+            Ok(write_answer(&request, source, store, output))
         }
-        Request::Sample { .. } => Ok(write_answer(&request, MemorySource::new(sample()), output)),
+        Request::Sample { .. } => {
+            let source = MemorySource::new(sample());
+            Ok(write_answer(&request, source, store, output))
+        }
     }
 }
 
@@ -81,7 +89,7 @@ fn read_words<R: Env + AllocGlobal>(rt: &R) -> Result<Vec<String>, Ending> {
 }
 
 fn read_request(alloc: Global, words: &[String]) -> Result<Request, Ending>
-    ensures { IfOk result (λ request. IsBuilt (parts_of request)) }
+    ensures { IfOk result (λ request. AreListed (parts_of request)) }
 {
     let mut texts: Vec<&str> = Vec::new(alloc);
     for word in words {
@@ -113,13 +121,15 @@ fn open<R: Files>(rt: &R, path: &str) -> Result<StreamSource<R::File>, Ending> {
 fn write_answer<S: Source + Drop, W: Write + Drop>(
     request: &Request,
     source: S,
+    mut store: HeaderStore,
     output: BufWriter<W>,
 ) -> Ending
-    requires { IsBuilt (parts_of request.now) }
+    requires listed { AreListed (parts_of request.now) }
+    requires slots { store.slots ≡ headers_of request.now }
 {
     let mut src = Counted::new(source);
     let mut out = Out::new(WriteSink::new(output));
-    let answer = run(request, &mut src, &mut out);
+    let answer = run(request, &mut src, &mut store, &mut out);
     let mut output = out.into_inner().into_inner();
     if let Err(RunFault::Out(_)) = answer {
         let _ = output.into_parts();

@@ -1,6 +1,7 @@
 //! The words of a command line.
 ghost use Rattle.std.specs.Prelude.{IfOk};
-ghost use Rattle.elfsee.specs.Requests.{IsBuilt, parts_of};
+ghost use Rattle.elf_listing.specs.Sections.{AreListed};
+ghost use Rattle.elfsee.specs.Requests.{parts_of};
 
 use crate::requests::{Request, RequestFault};
 use elf_record::Parts;
@@ -13,13 +14,13 @@ const DEFAULT_HEADERS: u16 = 4_096;
 const DEFAULT_NAME: u16 = 256;
 
 /// Reads the words of a command line, without the program's name: `show --only PART FILE` or
-/// `sample --only PART`, where PART is `header`. At most 4,096 headers are permitted, and 256 bytes
-/// of a name are shown.
+/// `sample --only PART`, where PART is `header`, `sections`, `segments` or `symbols`. At most 4,096
+/// headers are permitted, and 256 bytes of a name are shown.
 ///
 /// # Errors
 /// `Words` for any other words, `Memory` where there is none for the file's path.
 pub fn request(alloc: Global, words: &[&str]) -> Result<Request, RequestFault>
-    ensures { IfOk result (λ request. IsBuilt (parts_of request)) }
+    ensures { IfOk result (λ request. AreListed (parts_of request)) }
 {
     let Some(caps) = Caps::new(DEFAULT_HEADERS, DEFAULT_NAME) else {
         return Err(RequestFault::Words);
@@ -42,10 +43,13 @@ pub fn request(alloc: Global, words: &[&str]) -> Result<Request, RequestFault>
 
 /// The part of a listing that has this name.
 fn part_named(name: &str) -> Result<Parts, RequestFault>
-    ensures { IfOk result (λ parts. IsBuilt parts.0) }
+    ensures { IfOk result (λ parts. AreListed parts.0) }
 {
     match name {
         "header" => Ok(Parts::HEADER),
+        "sections" => Ok(Parts::SECTIONS),
+        "segments" => Ok(Parts::SEGMENTS),
+        "symbols" => Ok(Parts::SYMBOLS),
         _ => Err(RequestFault::Words),
     }
 }

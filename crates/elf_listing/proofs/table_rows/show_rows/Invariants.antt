@@ -19,7 +19,7 @@ invariant-rows g l =
       asked : l.src.asked + (unread_bytes l.cursor + l.cursor.left * own) ≤ l.fn.src.asked + (size_of l.fn.table + l.fn.table.count * own);
       agrees : (file : List ℕ) → g.S.Source.holds l.fn.src.source file → Agrees file l.cursor;
       fits : l.out.written < 2 ^ 128;
-      text : (file : List ℕ) → g.S.Source.holds l.fn.src.source file → KindOf file l.fn.kind → (0 < l.fn.table.count → l.fn.table.at ≡ table_place l.fn.kind file)
+      text : (file : List ℕ) → g.S.Source.holds l.fn.src.source file → (0 < l.fn.table.count → KindOf file l.fn.kind × (l.fn.table.at ≡ table_place l.fn.kind file))
           → Shows (g.W.Sink.taken l.fn.out.sink) (g.W.Sink.taken l.out.sink) l.fn.out.written l.out.written (Ok None) (each (row_items l.fn.kind file l.fn.cap) 0 l.cursor.index);
     }
 

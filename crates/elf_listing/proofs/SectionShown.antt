@@ -1,0 +1,161 @@
+-- The items of one section, by what the store and the checks of a loaded file answer.
+use Rattle.std.proofs.Common.{◌≡◌, ◌≢◌, ℕ, ◌+◌, ◌*◌, ◌/◌, ◌<◌, ◌≤◌, ◌==◌, ◌&&◌, not, Bool, true, false, if◌then◌else◌, List, [], ◌∷◌, ◌++◌, Option, None, Some, Result, Ok, Err, refl, sym, ap, ◌∙◌, ◌^◌, subst, arith}
+use Rattle.std.proofs.lemmas.Bool.{eqb-true}
+use Rattle.elf_model.specs.Bytes.{slice}
+use Rattle.elf_model.specs.Checks.{Check, first_refusal, is_symbol_table, has_section_names, table_checks, strings_checks}
+use Rattle.elf_model.specs.LineFronts.{section_front}
+use Rattle.elf_model.specs.Listing.{Item, Fault, each, checked, lines_of}
+use Rattle.elf_model.specs.Names.{Shown, shown}
+use Rattle.elf_model.specs.Records.{e_shnum, e_shstrndx, sh_name, sh_offset, sh_size, sh_link, section_at}
+use Rattle.elf_model.specs.Rows.{section_row, section_name, symbol_row, symbol_rows, named_row, no_name}
+use Rattle.elf_model.proofs.ListingLemmas.{checked-passes, checked-fault}
+use Rattle.elf_model.specs.Tables.{section_bytes, strings_of, entry_count, symbol_table_checks}
+use Rattle.elf_model.specs.declared.causes.Cause.{Cause}
+use Rattle.elf_model.specs.declared.causes.Refusal.{Refusal}
+use Rattle.elf_table.specs.Tables.{Rows, Strings}
+use Rattle.elf_table.specs.Sections.{answered, names_at, rows, strings, section_names, symbols_at, checked as checked_as}
+use Rattle.elf_table.specs.declared.fault.Fault.{Fault as TableFault}
+use Rattle.elf_table.specs.declared.fault.Fault.TheVariants.{Refused, Source as Unread}
+use Rattle.elf_listing.specs.Sections.{name_in}
+use Rattle.elf_listing.specs.Shows.{Shows, end_of}
+use Rattle.elf_listing.proofs.ShowLaws.{Takes-nothing}
+use Rattle.elf_listing.specs.declared.end.RunFault.{RunFault}
+use Rattle.elf_listing.specs.declared.end.RunFault.TheVariants.{Source}
+use Rattle.elf_source.specs.declared.faults.SourceFault.{SourceFault}
+
+-- the name of a section, in the string table of the section names or without one
+name_by_cases : (file : List ℕ) (a b : Bool) (names : Strings) (off cap : ℕ) → a ≡ false
+    → name_in file (elim (not a && not b) [ true ↦ Some names | false ↦ None ]) off cap ≡ (if b then no_name else shown (slice file names.at names.size) off cap)
+name_by_cases file false true names off cap h = refl
+name_by_cases file false false names off cap h = refl
+name_by_cases file true b names off cap h = cc
+
+some_sections : (n : ℕ) → 0 < n → (n == 0) ≡ false
+some_sections n h = grind (arith)
+
+name_is : (file : List ℕ) (names : Option Strings) (off at cap : ℕ) → names ≡ section_names file → 0 < e_shnum file → off ≡ sh_name file at
+    → name_in file names off cap ≡ section_name file at cap
+unfolding section_name
+name_is file names off at cap same some is =
+    ap (λ table. name_in file table off cap) same
+    ∙ (name_by_cases file (e_shnum file == 0) (e_shstrndx file == 0) (names_at file (section_at file (e_shstrndx file))) off cap (some_sections (e_shnum file) some)
+    ∙ ap (λ index. if e_shstrndx file == 0 then no_name else shown (section_bytes file (section_at file (e_shstrndx file))) index cap) is)
+
+-- the row of a section header, by its front and its name
+section_is : (file front : List ℕ) (names : Option Strings) (off at index cap : ℕ) → names ≡ section_names file → 0 < e_shnum file → at ≡ section_at file index
+    → off ≡ sh_name file (section_at file index) → front ≡ section_front file (section_at file index) index
+    → named_row front at (name_in file names off cap) ≡ section_row file cap index
+unfolding section_row
+section_is file front names off at index cap same some place is before =
+    ap (λ text. named_row text at (name_in file names off cap)) before
+    ∙ (ap (λ p. named_row (section_front file (section_at file index) index) p (name_in file names off cap)) place
+    ∙ ap (named_row (section_front file (section_at file index) index) (section_at file index)) (name_is file names off (section_at file index) cap same some is))
+
+pub Shows-section : (a b : Option (List ℕ)) (m n : ℕ) (result : Result (Option Refusal) RunFault) (file front : List ℕ) (names : Option Strings) (off at index cap : ℕ)
+    → names ≡ section_names file → 0 < e_shnum file → at ≡ section_at file index → off ≡ sh_name file (section_at file index) → front ≡ section_front file (section_at file index) index
+    → Shows a b m n result (named_row front at (name_in file names off cap)) → Shows a b m n result (section_row file cap index)
+Shows-section a b m n result file front names off at index cap same some place is before row =
+    let P : List Item → Type 0 = λ items. Shows a b m n result items in subst P (section_is file front names off at index cap same some place is before) row
+
+-- a section that holds no symbols has no rows of symbols
+pub no_symbols : (file : List ℕ) (cap section : ℕ) → is_symbol_table file (section_at file section) ≡ false → symbol_rows file cap section ≡ []
+unfolding symbol_rows
+no_symbols file cap section h = rw (h, symbol_rows) refl
+
+-- one that holds symbols has them behind its checks
+symbols_are : (file : List ℕ) (cap section : ℕ) → is_symbol_table file (section_at file section) ≡ true
+    → symbol_rows file cap section ≡ checked (symbol_table_checks file (section_at file section)) (each (symbol_row file cap section (section_at file section)) 0 (entry_count file (section_at file section) 24))
+unfolding symbol_rows
+symbols_are file cap section h = rw (h, symbol_rows) refl
+
+refused_first : {A : Type 0} (first : Option Refusal) (value : A) (refusal : Refusal) → answered first value ≡ Err (Refused refusal) → first ≡ Some refusal
+refused_first None value refusal h = cc
+refused_first (Some other) value refusal h = cc
+
+passed_first : {A : Type 0} (first : Option Refusal) (value result : A) → answered first value ≡ Ok result → (first ≡ None) × (value ≡ result)
+passed_first None value result h = (refl, cc)
+passed_first (Some other) value result h = cc
+
+-- the first fault of a table that may be empty
+fails_by_cases : {A : Type 0} (empty : Bool) (none some : A) (checks : List Check) (refusal : Refusal)
+    → (elim empty as (λ _. Result A TableFault) [ true ↦ Ok none | false ↦ checked_as checks some ]) ≡ Err (Refused refusal)
+    → first_refusal (if empty then [] else checks) ≡ Some refusal
+fails_by_cases true none some checks refusal h = cc
+fails_by_cases false none some checks refusal h = refused_first (first_refusal checks) some refusal h
+
+pub symbols_fault : (file : List ℕ) (cap section : ℕ) (refusal : Refusal) → is_symbol_table file (section_at file section) ≡ true
+    → symbols_at file (section_at file section) ≡ Err (Refused refusal) → symbol_rows file cap section ≡ Fault refusal ∷ []
+symbols_fault file cap section refusal kind h =
+    let at : ℕ = section_at file section in
+    let first : first_refusal (symbol_table_checks file at) ≡ Some refusal =
+    fails_by_cases (sh_size file at == 0) (rows (sh_offset file at) 0 24, strings (sh_offset file at) 0)
+    (rows (sh_offset file at) (sh_size file at / 24) 24, names_at file (section_at file (sh_link file at)))
+    (table_checks file at 24 ++ strings_checks file at) refusal h in
+    symbols_are file cap section kind ∙ checked-fault (symbol_table_checks file at) _ refusal first
+
+-- what the checks of a table of symbols leave, where they pass
+pub record SymbolsOf (file : List ℕ) (section : ℕ) (table : Rows) (names : Strings) : Type 0 where
+  pub pass : first_refusal (symbol_table_checks file (section_at file section)) ≡ None
+  pub counted : table.count ≡ entry_count file (section_at file section) 24
+  pub named : 0 < table.count → slice file names.at names.size ≡ strings_of file (section_at file section)
+  pub placed : 0 < table.count → table.at ≡ sh_offset file (section_at file section)
+
+passes_by_cases : (empty : Bool) (offset size : ℕ) (named : Strings) (checks : List Check) (table : Rows) (names : Strings) → empty ≡ (size == 0)
+    → (elim empty as (λ _. Result (Rows × Strings) TableFault) [ true ↦ Ok (rows offset 0 24, strings offset 0) | false ↦ checked_as checks (rows offset (size / 24) 24, named) ]) ≡ Ok (table, names)
+    → (first_refusal (if empty then [] else checks) ≡ None) × (table.count ≡ size / 24) × (0 < table.count → (names ≡ named) × (table.at ≡ offset))
+passes_by_cases true offset size named checks table names e h =
+    let both : (rows offset 0 24, strings offset 0) ≡ (table, names) = cc in
+    let t : rows offset 0 24 ≡ table = ap (λ (answer : Rows × Strings). answer.0) both in
+    let zero : size ≡ 0 = eqb-true size 0 (sym e) in
+    let none : table.count ≡ 0 = ap (λ (r : Rows). r.count) (sym t) in
+    (refl, none ∙ ap (λ n. n / 24) (sym zero), λ some. absurd (impossible none some))
+  where
+    impossible : table.count ≡ 0 → 0 < table.count → ⊥
+    impossible a b = omega (arith, a, b)
+passes_by_cases false offset size named checks table names e h =
+    let p = passed_first (first_refusal checks) (rows offset (size / 24) 24, named) (table, names) h in
+    let t : rows offset (size / 24) 24 ≡ table = ap (λ (both : Rows × Strings). both.0) p.1 in
+    let s : named ≡ names = ap (λ (both : Rows × Strings). both.1) p.1 in
+    (p.0, ap (λ (r : Rows). r.count) (sym t), λ some. (sym s, ap (λ (r : Rows). r.at) (sym t)))
+
+pub symbols_pass : (file : List ℕ) (section : ℕ) (table : Rows) (names : Strings) → symbols_at file (section_at file section) ≡ Ok (table, names)
+    → SymbolsOf file section table names
+symbols_pass file section table names h =
+    let at : ℕ = section_at file section in
+    let p = passes_by_cases (sh_size file at == 0) (sh_offset file at) (sh_size file at) (names_at file (section_at file (sh_link file at))) (table_checks file at 24 ++ strings_checks file at) table names refl h in
+    record {
+      pass = p.0;
+      counted = p.1;
+      named = λ some. ap (λ (s : Strings). slice file s.at s.size) ((p.2 some).0);
+      placed = λ some. (p.2 some).1;
+    }
+
+pub Shows-symbols : (a b : Option (List ℕ)) (m n : ℕ) (result : Result (Option Refusal) RunFault) (file : List ℕ) (cap section count : ℕ)
+    → is_symbol_table file (section_at file section) ≡ true → first_refusal (symbol_table_checks file (section_at file section)) ≡ None
+    → count ≡ entry_count file (section_at file section) 24
+    → Shows a b m n result (each (symbol_row file cap section (section_at file section)) 0 count) → Shows a b m n result (symbol_rows file cap section)
+Shows-symbols a b m n result file cap section count kind pass same shown =
+    let row : ℕ → List Item = symbol_row file cap section (section_at file section) in
+    let behind : checked (symbol_table_checks file (section_at file section)) (each row 0 (entry_count file (section_at file section) 24)) ≡ each row 0 (entry_count file (section_at file section) 24) =
+    checked-passes (symbol_table_checks file (section_at file section)) _ pass in
+    let P : List Item → Type 0 = λ items. Shows a b m n result items in
+    subst P (sym (symbols_are file cap section kind ∙ behind)) (subst P (ap (each row 0) same) shown)
+
+-- nothing was shown where there is nothing to show
+pub Shows-nothing : (a : Option (List ℕ)) (m : ℕ) (items : List Item) → m < 2 ^ 128 → items ≡ [] → Shows a a m m (Ok None) items
+Shows-nothing a m items small none =
+    let P : List Item → Type 0 = λ shown. Shows a a m m (Ok None) shown in subst P (sym none) (Takes-nothing a m small, refl)
+
+-- the source failed before anything was shown
+pub Shows-unread : (a : Option (List ℕ)) (m : ℕ) (items : List Item) (fault : SourceFault) (at : ℕ) → m < 2 ^ 128 → Shows a a m m (Err (Source fault at)) items
+Shows-unread a m items fault at small = record { front = []; rest = lines_of items; split = refl; takes = Takes-nothing a m small }
+
+-- a fault of a read before anything was shown: a refusal stands in the place of all items
+pub Shows-fault : (a : Option (List ℕ)) (m : ℕ) (items : List Item) (fault : TableFault) (result : Result (Option Refusal) RunFault) → m < 2 ^ 128 → result ≡ end_of fault
+    → ((refusal : Refusal) → fault ≡ Refused refusal → items ≡ Fault refusal ∷ []) → Shows a a m m result items
+Shows-fault a m items (Unread fault at) result small is alone =
+    let Q : Result (Option Refusal) RunFault → Type 0 = λ answer. Shows a a m m answer items in subst Q (sym is) (Shows-unread a m items fault at small)
+Shows-fault a m items (Refused first) result small is alone =
+    let P : List Item → Type 0 = λ shown. Shows a a m m (Ok (Some first)) shown in
+    let Q : Result (Option Refusal) RunFault → Type 0 = λ answer. Shows a a m m answer items in
+    subst Q (sym is) (subst P (sym (alone first refl)) (Takes-nothing a m small, refl))
