@@ -2,6 +2,8 @@
 #![tactic(auto)]
 
 mod answering;
+#[cfg(test)]
+mod listing_tests;
 mod requests;
 mod sample;
 #[cfg(test)]

@@ -1,13 +1,16 @@
-//! Rows of the file header's listing, over honest sources and over sources and sinks that fail.
+//! The file header's listing over honest sources, and over sources and sinks that fail; words and endings.
+ghost use Rattle.std.specs.Prelude.{◌≡◌, ◌≤◌, IfOk};
+ghost use Rattle.elf_listing.specs.Sections.{AreListed};
+
 use crate::answering::{outcome, refused, run};
 use crate::requests::{Request, RequestFault};
 use crate::words::request;
-use elf_listing::{End, RunFault, show_header};
+use elf_listing::{End, RunFault, show};
 use elf_record::{Cause, Parts, Refusal};
 use elf_source::{
     Counted, MemorySource, Out, OutFault, SliceSink, Source, SourceFault, StreamSource, WriteSink,
 };
-use elf_table::Caps;
+use elf_table::{Caps, HeaderStore};
 use std::io;
 use std::io::{Read, Seek, SeekFrom};
 use std::process::Abort;
@@ -32,19 +35,38 @@ fn with_byte(at: usize, byte: u8) -> [u8; 64] {
     file
 }
 
-/// Lists a file's header from memory into memory, and checks the text, the end, and the bytes asked.
-fn check_listing(rt: &impl Abort, file: &[u8], text: &str, end: End, asked: u128) {
+/// A store of one slot, and the caps for it.
+fn one_slot(rt: &impl AllocGlobal) -> Result<(HeaderStore, Caps), Fail>
+    ensures { IfOk result (λ both. (both.0.slots ≡ 1) × (both.1.headers ≡ 1)) }
+{
+    let store = HeaderStore::new(rt.alloc(), 1)?;
+    let caps = Caps::new(1, 256).ok_or("caps")?;
+    Ok((store, caps))
+}
+
+/// Lists a file from memory into memory, and checks the text, the end, and the bytes asked.
+fn check_listing(
+    rt: &(impl Abort + AllocGlobal),
+    file: &[u8],
+    parts: Parts,
+    text: &str,
+    end: End,
+    asked: u128,
+) -> Result<(), Fail>
+    requires { AreListed parts.0 }
+{
+    let (mut store, caps) = one_slot(rt)?;
     let mut buffer = [0; 256];
     let mut src = Counted::new(MemorySource::new(file));
     let mut out = Out::new(SliceSink::new(&mut buffer));
-    let answer = show_header(&mut src, &mut out);
-    assert_eq!(rt; answer, Ok(end), "the end of {text}");
-    assert_eq!(rt;
-        out.into_inner().written(),
-        text.as_bytes(),
+    let answer = show(&mut src, &mut store, caps, parts, &mut out);
+    assert!(rt; answer == Ok(end), "the end of {text}");
+    assert!(rt;
+        out.into_inner().written() == text.as_bytes(),
         "the text {text}"
     );
-    assert_eq!(rt; src.asked(), asked, "the bytes asked of {text}");
+    assert!(rt; src.asked() == asked, "the bytes asked of {text}");
+    Ok(())
 }
 
 fn refusal(at: u64, cause: Cause) -> End {
@@ -52,47 +74,47 @@ fn refusal(at: u64, cause: Cause) -> End {
 }
 
 #[test]
-fn lists_and_refuses(rt: HostRuntime) {
-    check_listing(&rt, &BARE, BARE_LINE, End::Listed, 64);
-    let short = refusal(0, Cause::Short);
-    check_listing(&rt, &[], "! 0000000000000000 short\n", short, 0);
-    let short = refusal(63, Cause::Short);
-    check_listing(&rt, &BARE[..63], "! 000000000000003f short\n", short, 0);
-    let not_elf = refusal(0, Cause::NotElf);
-    check_listing(
-        &rt,
-        &with_byte(3, 0x47),
-        "! 0000000000000000 not-elf\n",
-        not_elf,
-        64,
-    );
-    let class = refusal(4, Cause::BadClass);
-    check_listing(
-        &rt,
-        &with_byte(4, 1),
-        "! 0000000000000004 class\n",
-        class,
-        64,
-    );
-    let data = refusal(5, Cause::BadData);
-    check_listing(&rt, &with_byte(5, 2), "! 0000000000000005 data\n", data, 64);
-    let version = refusal(6, Cause::BadVersion);
-    check_listing(
-        &rt,
-        &with_byte(6, 0),
-        "! 0000000000000006 version\n",
-        version,
-        64,
-    );
+fn a_header_is_listed(rt: HostRuntime) -> Result<(), Fail> {
+    check_listing(&rt, &BARE, Parts::HEADER, BARE_LINE, End::Listed, 64)?;
+    check_listing(&rt, &BARE, Parts(15), BARE_LINE, End::Listed, 64)?;
+    check_listing(&rt, &BARE, Parts(0x80), "", End::Listed, 64)?;
+    check_listing(&rt, &BARE, Parts::SECTIONS, "", End::Listed, 64)
 }
 
 #[test]
-fn extended_numbering_lists_under_header_alone(rt: HostRuntime) {
+fn short_files_are_refused_unread(rt: HostRuntime) -> Result<(), Fail> {
+    let short = refusal(0, Cause::Short);
+    let text = "! 0000000000000000 short\n";
+    check_listing(&rt, &[], Parts::HEADER, text, short, 0)?;
+    let short = refusal(63, Cause::Short);
+    let text = "! 000000000000003f short\n";
+    check_listing(&rt, &BARE[..63], Parts::SYMBOLS, text, short, 0)
+}
+
+#[test]
+fn the_identification_is_checked(rt: HostRuntime) -> Result<(), Fail> {
+    for (at, byte, named, cause, text) in [
+        (3, 0x47, 0, Cause::NotElf, "! 0000000000000000 not-elf\n"),
+        (4, 1, 4, Cause::BadClass, "! 0000000000000004 class\n"),
+        (5, 2, 5, Cause::BadData, "! 0000000000000005 data\n"),
+        (6, 0, 6, Cause::BadVersion, "! 0000000000000006 version\n"),
+    ] {
+        let file = with_byte(at, byte);
+        check_listing(&rt, &file, Parts::HEADER, text, refusal(named, cause), 64)?;
+    }
+    Ok(())
+}
+
+#[test]
+fn extended_numbering_lists_under_header_alone(rt: HostRuntime) -> Result<(), Fail> {
     let mut file = with_byte(56, 0xff);
     file[57] = 0xff;
     let line =
         "H REL     62 0000000000000000 0000000000000000 0000000000000000 00000000 65535     0     0\n";
-    check_listing(&rt, &file, line, End::Listed, 64);
+    check_listing(&rt, &file, Parts::HEADER, line, End::Listed, 64)?;
+    let refused = refusal(0x38, Cause::ExtendedNumbering);
+    let text = "! 0000000000000038 extended-numbering\n";
+    check_listing(&rt, &file, Parts::SYMBOLS, text, refused, 64)
 }
 
 /// A source of this length that must not be asked for anything.
@@ -121,18 +143,17 @@ impl Source for Unread {
 }
 
 #[test]
-fn too_long_is_refused_unread(rt: HostRuntime) {
+fn too_long_is_refused_unread(rt: HostRuntime) -> Result<(), Fail> {
+    let (mut store, caps) = one_slot(&rt)?;
     let mut buffer = [0; 256];
     let mut src = Counted::new(Unread { length: 1 << 63 });
     let mut out = Out::new(SliceSink::new(&mut buffer));
-    let answer = show_header(&mut src, &mut out);
-    assert_eq!(rt; answer, Ok(refusal(1 << 63, Cause::TooLong)));
-    assert_eq!(rt;
-        out.into_inner().written(),
-        b"! 8000000000000000 too-long\n".as_slice()
-    );
-    assert_eq!(rt; src.asked(), 0);
+    let answer = show(&mut src, &mut store, caps, Parts::SECTIONS, &mut out);
+    assert!(rt; answer == Ok(refusal(1 << 63, Cause::TooLong)));
+    assert!(rt; out.into_inner().written() == b"! 8000000000000000 too-long\n".as_slice());
+    assert!(rt; src.asked() == 0);
     let Unread { length: _ } = src.into_inner();
+    Ok(())
 }
 
 /// A source over a bare header whose every read fails.
@@ -165,67 +186,81 @@ impl Source for Broken {
 }
 
 #[test]
-fn a_failing_read_writes_nothing(rt: HostRuntime) {
+fn a_failing_read_writes_nothing(rt: HostRuntime) -> Result<(), Fail> {
+    let (mut store, caps) = one_slot(&rt)?;
     let mut buffer = [0; 256];
     let mut src = Counted::new(Broken { failures: 0 });
     let mut out = Out::new(SliceSink::new(&mut buffer));
-    let answer = show_header(&mut src, &mut out);
+    let answer = show(&mut src, &mut store, caps, Parts::HEADER, &mut out);
     let fault = SourceFault::Device;
-    assert_eq!(rt; answer, Err(RunFault::Source { fault, at: 0 }));
+    assert!(rt; answer == Err(RunFault::Source { fault, at: 0 }));
     assert!(rt; out.into_inner().written().is_empty());
-    assert_eq!(rt; src.asked(), 64);
+    assert!(rt; src.asked() == 64);
     let Broken { failures } = src.into_inner();
-    assert_eq!(rt; failures, 1);
+    assert!(rt; failures == 1);
+    Ok(())
 }
 
 /// Carries a request out into so many bytes of memory, and checks what was written and how it ended.
-fn check_run(rt: &impl Abort, room: usize, text: &str, answer: Result<u8, RunFault>) {
-    let Some(caps) = Caps::new(4096, 256) else {
-        return;
-    };
+fn check_run(
+    rt: &(impl Abort + AllocGlobal),
+    room: usize,
+    text: &str,
+    answer: Result<u8, RunFault>,
+) -> Result<(), Fail>
+    requires { room ≤ 256 }
+{
+    let (mut store, caps) = one_slot(rt)?;
     let mut buffer = [0; 256];
-    let asked = Request::Sample {
-        caps,
-        parts: Parts::HEADER,
-    };
-    if room <= 256 {
-        let mut src = Counted::new(MemorySource::new(&BARE));
-        let mut out = Out::new(SliceSink::new(&mut buffer[..room]));
-        assert_eq!(rt; run(&asked, &mut src, &mut out), answer);
-        assert_eq!(rt; out.into_inner().written(), text.as_bytes());
-    }
-}
-
-#[test]
-fn output_that_ends_early(rt: HostRuntime) {
-    check_run(&rt, 256, BARE_LINE, Ok(0));
-    let fault = Err(RunFault::Out(OutFault { written: 10 }));
-    check_run(&rt, 10, "H REL     ", fault);
-    let fault = Err(RunFault::Out(OutFault { written: 0 }));
-    check_run(&rt, 0, "", fault);
-}
-
-#[test]
-fn a_writer_gets_the_line(rt: HostRuntime) -> Result<(), Fail> {
+    let parts = Parts::HEADER;
+    let asked = Request::Sample { caps, parts };
     let mut src = Counted::new(MemorySource::new(&BARE));
-    let mut out = Out::new(WriteSink::new(Vec::new(rt.alloc())));
-    assert_eq!(rt; show_header(&mut src, &mut out), Ok(End::Listed));
-    assert_eq!(rt;
-        out.into_inner().into_inner().as_slice(),
-        BARE_LINE.as_bytes()
-    );
+    let mut out = Out::new(SliceSink::new(&mut buffer[..room]));
+    assert!(rt; run(&asked, &mut src, &mut store, &mut out) == answer);
+    assert!(rt; out.into_inner().written() == text.as_bytes());
     Ok(())
 }
 
 #[test]
-fn words_ask_for_a_header(rt: HostRuntime) -> Result<(), Fail> {
+fn output_that_ends_early(rt: HostRuntime) -> Result<(), Fail> {
+    check_run(&rt, 256, BARE_LINE, Ok(0))?;
+    let fault = Err(RunFault::Out(OutFault { written: 10 }));
+    check_run(&rt, 10, "H REL     ", fault)?;
+    let fault = Err(RunFault::Out(OutFault { written: 0 }));
+    check_run(&rt, 0, "", fault)
+}
+
+#[test]
+fn a_writer_gets_the_line(rt: HostRuntime) -> Result<(), Fail> {
+    let (mut store, caps) = one_slot(&rt)?;
+    let mut src = Counted::new(MemorySource::new(&BARE));
+    let mut out = Out::new(WriteSink::new(Vec::new(rt.alloc())));
+    let answer = show(&mut src, &mut store, caps, Parts::HEADER, &mut out);
+    assert!(rt; answer == Ok(End::Listed));
+    assert!(rt; out.into_inner().into_inner().as_slice() == BARE_LINE.as_bytes());
+    Ok(())
+}
+
+#[test]
+fn words_name_a_part(rt: HostRuntime) -> Result<(), Fail> {
     let caps = Caps::new(4096, 256).ok_or("caps")?;
-    let parts = Parts::HEADER;
-    let sample = request(rt.alloc(), &["sample", "--only", "header"])?;
-    assert_eq!(rt; sample, Request::Sample { caps, parts });
-    let show = request(rt.alloc(), &["show", "--only", "header", "a file"])?;
-    let file = String::from_str(rt.alloc(), "a file")?;
-    assert_eq!(rt; show, Request::Show { caps, parts, file });
+    for (part, parts) in [
+        ("header", Parts::HEADER),
+        ("sections", Parts::SECTIONS),
+        ("segments", Parts::SEGMENTS),
+        ("symbols", Parts::SYMBOLS),
+    ] {
+        let sample = request(rt.alloc(), &["sample", "--only", part])?;
+        assert!(rt; sample == Request::Sample { caps, parts });
+        let show = request(rt.alloc(), &["show", "--only", part, "a file"])?;
+        let file = String::from_str(rt.alloc(), "a file")?;
+        assert!(rt; show == Request::Show { caps, parts, file });
+    }
+    Ok(())
+}
+
+#[test]
+fn other_words_are_refused(rt: HostRuntime) -> Result<(), Fail> {
     for words in [
         [].as_slice(),
         &["show"],
@@ -235,7 +270,7 @@ fn words_ask_for_a_header(rt: HostRuntime) -> Result<(), Fail> {
         &["sample", "--only", "header", "f"],
         &["find", "--only", "header"],
     ] {
-        assert_eq!(rt; request(rt.alloc(), words).err(), Some(RequestFault::Words));
+        assert!(rt; request(rt.alloc(), words).err() == Some(RequestFault::Words));
     }
     Ok(())
 }
@@ -285,11 +320,13 @@ impl Seek for Dribble {
 
 #[test]
 fn a_stream_lists_as_memory_does(rt: HostRuntime) -> Result<(), Fail> {
+    let (mut store, caps) = one_slot(&rt)?;
     let mut buffer = [0; 256];
     let mut src = Counted::new(StreamSource::new(Dribble { at: 0 })?);
     let mut out = Out::new(SliceSink::new(&mut buffer));
-    assert_eq!(rt; show_header(&mut src, &mut out), Ok(End::Listed));
-    assert_eq!(rt; out.into_inner().written(), BARE_LINE.as_bytes());
-    assert_eq!(rt; src.asked(), 64);
+    let answer = show(&mut src, &mut store, caps, Parts(15), &mut out);
+    assert!(rt; answer == Ok(End::Listed));
+    assert!(rt; out.into_inner().written() == BARE_LINE.as_bytes());
+    assert!(rt; src.asked() == 64);
     Ok(())
 }
