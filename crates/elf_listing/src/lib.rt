@@ -1,6 +1,7 @@
 //! The listing of an ELF64 file: its lines, and the call that writes them.
 #![tactic(auto)]
 
+mod buffers;
 mod dynamic_rows;
 mod end;
 mod line;
@@ -20,6 +21,7 @@ mod tables;
 #[cfg(test)]
 mod tests;
 
+pub use buffers::FIXED_BYTES;
 pub use dynamic_rows::dynamic_front;
 pub use end::{End, RunFault};
 pub use listing::{show, show_refusal};

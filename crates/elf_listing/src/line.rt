@@ -9,6 +9,8 @@ use itoa::Buffer;
 
 /// The bytes that a line may have, but for its name.
 pub const LINE_BYTES: usize = 256;
+/// The bytes that the digits of a number are put in.
+pub const DIGIT_BYTES: usize = 40;
 
 /// A line, or the front of one.
 pub type Line = ArrayVec<u8, 256>;

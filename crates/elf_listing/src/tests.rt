@@ -1,4 +1,5 @@
 //! Lines as a reader of a listing sees them.
+use crate::buffers::FIXED_BYTES;
 use crate::dynamic_rows::dynamic_front;
 use crate::line::Line;
 use crate::lookup_rows::show_steps;
@@ -161,4 +162,10 @@ fn a_full_sink_is_a_fault(rt: HostRuntime) {
     assert_eq!(rt; show_named(Line::new(), &name, false, &mut out), full);
     assert_eq!(rt; show_steps(true, 1, &mut out), full);
     assert_eq!(rt; out.into_inner().written().len(), 600);
+}
+
+#[test]
+fn the_fixed_buffers_are_small(rt: HostRuntime) {
+    assert!(rt; FIXED_BYTES == 64 + 4096 + 64 + 4096 + 4096 + 64 + 24 + 2 * 256 + 40);
+    assert!(rt; FIXED_BYTES <= 16_384);
 }

@@ -14,7 +14,7 @@ use elf_source::{Counted, Source};
 use std::marker::Model;
 
 /// The size of a window in bytes.
-const WINDOW: u64 = 4096;
+pub(crate) const WINDOW_BYTES: usize = 4096;
 
 /// A cursor over the rows of a table. It reads as many whole rows at once as 4,096 bytes hold, never
 /// past the table's end, and lends each row from there.
@@ -26,7 +26,7 @@ pub struct Cursor {
     unread: u64,
     from: u64,
     failed: Option<Fault>,
-    window: [u8; 4096],
+    window: [u8; WINDOW_BYTES],
 }
 
 impl Model for Cursor {
@@ -60,7 +60,7 @@ impl Cursor {
             unread,
             from: 0,
             failed: None,
-            window: [0; 4096],
+            window: [0; WINDOW_BYTES],
         }
     }
 
@@ -135,7 +135,7 @@ impl Cursor {
         ensures fails { IfErr result (Fails self.old self.new src.old.asked src.new.asked) }
     {
         let entry = self.table.entry();
-        let rows = self.unread.min(WINDOW / entry);
+        let rows = self.unread.min(WINDOW_BYTES as u64 / entry);
         let size = rows * entry;
         let at = self.table.at() + self.index * entry;
         self.from = 0;

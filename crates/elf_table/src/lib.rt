@@ -2,6 +2,7 @@
 //! cursors over tables, and names in string tables. No call takes memory but `HeaderStore::new`.
 #![tactic(auto)]
 
+mod buffers;
 mod caps;
 mod checks;
 mod cursor;
@@ -24,6 +25,7 @@ mod table;
 #[cfg(test)]
 mod tests;
 
+pub use buffers::BUFFER_BYTES;
 pub use caps::Caps;
 pub use checks::holds_symbols;
 pub use cursor::Cursor;

@@ -3,10 +3,13 @@ ghost use Rattle.std.specs.Prelude.{◌≡◌, ◌≤◌, [], ◌++◌, length, 
 
 use std::marker::Model;
 
+/// The size of the buffer in bytes.
+pub(crate) const NAME_BYTES: usize = 4096;
+
 /// The bytes of a name, at most 4,096.
 #[derive(Drop)]
 pub struct NameBuf {
-    bytes: [u8; 4096],
+    bytes: [u8; NAME_BYTES],
     len: usize,
 }
 
@@ -26,7 +29,7 @@ impl NameBuf {
         ensures { result ≡ [] }
     {
         NameBuf {
-            bytes: [0; 4096],
+            bytes: [0; NAME_BYTES],
             len: 0,
         }
     }

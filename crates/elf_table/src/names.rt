@@ -16,7 +16,7 @@ use memchr::memchr;
 use std::marker::Model;
 
 /// How many bytes of a name are asked for at once.
-const PIECE: usize = 64;
+pub(crate) const PIECE: usize = 64;
 
 /// How a name that was read ends.
 #[derive(Clone, Copy, Debug, PartialEq, Eq)]

@@ -9,9 +9,11 @@ use crate::fault::Fault;
 use elf_source::{Counted, Source};
 
 /// The size of a row in bytes.
-const ROW: usize = 64;
+pub(crate) const ROW: usize = 64;
 /// How many rows are read at once.
 const PAGE_ROWS: usize = 64;
+/// The size of a page in bytes.
+pub(crate) const PAGE_BYTES: usize = ROW * PAGE_ROWS;
 
 /// Reads `count` rows from the offset `from` on into the first slots, by pages.
 pub(crate) fn read_rows<S: Source>(
@@ -59,7 +61,7 @@ fn read_page<S: Source>(
         → OnOk result (AreRows file from (first + rows) slots.new) }
 {
     let at = from + 64 * first as u64;
-    let mut page = [0; ROW * PAGE_ROWS];
+    let mut page = [0; PAGE_BYTES];
     let bytes = &mut page[..ROW * rows];
     if let Err(fault) = src.fill(at, bytes) {
         return Err(Fault::Source { fault, at });

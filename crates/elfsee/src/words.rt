@@ -1,7 +1,8 @@
 //! The words of a command line.
-ghost use Rattle.std.specs.Prelude.{IfOk};
+ghost use Rattle.std.specs.Prelude.{◌≡◌, IfOk, Some};
+ghost use Rattle.elf_model.specs.Text.{name_of};
 ghost use Rattle.elf_listing.specs.Sections.{AreListed};
-ghost use Rattle.elfsee.specs.Requests.{parts_of};
+ghost use Rattle.elfsee.specs.Requests.{part_names, parts_of};
 
 use crate::requests::{Request, RequestFault};
 use elf_record::Parts;
@@ -42,8 +43,10 @@ pub fn request(alloc: Global, words: &[&str]) -> Result<Request, RequestFault>
 }
 
 /// The part of a listing that has this name.
+#[tactic(auto, unfolding(elf_model::specs::Text::name_of))]
 fn part_named(name: &str) -> Result<Parts, RequestFault>
-    ensures { IfOk result (λ parts. AreListed parts.0) }
+    ensures listed { IfOk result (λ parts. AreListed parts.0) }
+    ensures named { IfOk result (λ parts. name_of part_names parts.0 ≡ Some name.now) }
 {
     match name {
         "header" => Ok(Parts::HEADER),
