@@ -4,6 +4,7 @@
 mod answering;
 #[cfg(test)]
 mod listing_tests;
+mod offset_reader;
 mod requests;
 mod sample;
 #[cfg(test)]
@@ -18,12 +19,13 @@ use answering::{outcome, refused, run};
 use elf_listing::RunFault;
 use elf_source::{Counted, MemorySource, Out, Source, StreamSource, WriteSink};
 use elf_table::HeaderStore;
+use offset_reader::OffsetReader;
 use requests::Request;
 use sample::sample;
 use std::alloc::Global;
 use std::fs::File;
 use std::io::{BufWriter, ErrorKind, Write};
-use std::os::unix::fs::FileTypeExt;
+use std::os::unix::fs::{FileExt, FileTypeExt};
 use std::process::ExitCode;
 use std::rt::{Env, Files};
 use std::{env, fs, io};
@@ -58,7 +60,10 @@ fn main(rt: HostRuntime) -> ExitCode {
 }
 
 /// Reads the words, makes what memory is needed, opens the file, and carries the request out.
-fn answer<R: Env + Files + Print + AllocGlobal>(rt: &R) -> Result<Ending, Ending> {
+fn answer<R: Env + Files + Print + AllocGlobal>(rt: &R) -> Result<Ending, Ending>
+where
+    R::File: FileExt,
+{
     let words = read_words(rt)?;
     let request = read_request(rt.alloc(), &words)?;
     let Ok(store) = HeaderStore::new(rt.alloc(), request.headers()) else {
@@ -104,7 +109,10 @@ fn read_request(alloc: Global, words: &[String]) -> Result<Request, Ending>
 
 /// Opens a file that can be read at an offset. Folders, pipes and sockets are not opened, so that
 /// opening never waits.
-fn open<R: Files>(rt: &R, path: &str) -> Result<StreamSource<R::File>, Ending> {
+fn open<R: Files>(rt: &R, path: &str) -> Result<StreamSource<OffsetReader<R::File>>, Ending>
+where
+    R::File: FileExt,
+{
     let Ok(found) = fs::metadata(rt, path) else {
         return Err(CANNOT_OPEN);
     };
@@ -115,7 +123,7 @@ fn open<R: Files>(rt: &R, path: &str) -> Result<StreamSource<R::File>, Ending> {
     let Ok(file) = fs::open(rt, path) else {
         return Err(CANNOT_OPEN);
     };
-    StreamSource::new(file).map_err(|_| READ_FAULT)
+    StreamSource::new(OffsetReader::new(file)).map_err(|_| READ_FAULT)
 }
 
 /// Carries a request out and writes what is left of the output. After a fault of the output nothing
