@@ -50,11 +50,11 @@ fn headers_have_their_columns(rt: HostRuntime) {
     let section = section_front(2, &RELOCATIONS);
     let text =
         "S     2 RELA          I            0000000000000000 0000000000000048 0000000000000030 00000000 00000001 ";
-    assert_eq!(rt; section.as_slice(), text.as_bytes());
+    assert!(rt; section.as_slice() == text.as_bytes());
     let segment = segment_row(0, &CODE);
     let text =
         "P     0 LOAD     R-X 0000000000001000 0000000000401000 0000000000401000 000000000000001d 0000000000000020 0000000000001000\n";
-    assert_eq!(rt; segment.as_slice(), text.as_bytes());
+    assert!(rt; segment.as_slice() == text.as_bytes());
 }
 
 #[test]
@@ -65,7 +65,7 @@ fn numbers_stand_for_what_has_no_name(rt: HostRuntime) {
     let section = section_front(65279, &header);
     let text =
         "S 65279 6ffffff6      WAX?         0000000000000000 0000000000000048 0000000000000030 00000000 00000001 ";
-    assert_eq!(rt; section.as_slice(), text.as_bytes());
+    assert!(rt; section.as_slice() == text.as_bytes());
     let mut symbol = MAIN;
     symbol.st_info = 0xa7;
     symbol.st_other = 3;
@@ -73,7 +73,7 @@ fn numbers_stand_for_what_has_no_name(rt: HostRuntime) {
     let front = symbol_front(1, 12_345_678_901, &symbol);
     let text =
         "Y     1 12345678901 0000000000001000 0000000000000010       7     10 PROTECTED 65535 ";
-    assert_eq!(rt; front.as_slice(), text.as_bytes());
+    assert!(rt; front.as_slice() == text.as_bytes());
 }
 
 #[test]
@@ -85,25 +85,25 @@ fn relocations_have_types_of_their_machine(rt: HostRuntime) {
     };
     let front = relocation_front(3, 62, &entry);
     let text = "R     3 0000000000000010 PLT32      00000005 -8000000000000000 ";
-    assert_eq!(rt; front.as_slice(), text.as_bytes());
+    assert!(rt; front.as_slice() == text.as_bytes());
     let front = relocation_front(3, 183, &entry);
     let text = "R     3 0000000000000010 #4         00000005 -8000000000000000 ";
-    assert_eq!(rt; front.as_slice(), text.as_bytes());
+    assert!(rt; front.as_slice() == text.as_bytes());
     entry.r_info = u64::MAX;
     entry.r_addend = 0;
     let front = relocation_front(3, 62, &entry);
     let text = "R     3 0000000000000010 #4294967295 ffffffff +0000000000000000 ";
-    assert_eq!(rt; front.as_slice(), text.as_bytes());
+    assert!(rt; front.as_slice() == text.as_bytes());
 }
 
 #[test]
 fn dynamic_entries_show_their_tag(rt: HostRuntime) {
     let mut entry = Dyn { d_tag: 1, d_un: 16 };
     let text = "D     0 NEEDED           0000000000000010 ";
-    assert_eq!(rt; dynamic_front(0, &entry).as_slice(), text.as_bytes());
+    assert!(rt; dynamic_front(0, &entry).as_slice() == text.as_bytes());
     entry.d_tag = -1;
     let text = "D 100000 ffffffffffffffff 0000000000000010 ";
-    assert_eq!(rt; dynamic_front(100_000, &entry).as_slice(), text.as_bytes());
+    assert!(rt; dynamic_front(100_000, &entry).as_slice() == text.as_bytes());
 }
 
 #[test]
@@ -115,23 +115,19 @@ fn lines_are_written_with_their_names(rt: HostRuntime) {
     };
     let mut buffer = [0; 400];
     let mut out = Out::new(SliceSink::new(&mut buffer));
-    assert_eq!(rt; show_symbol(1, 1, &MAIN, b"main", &mut out), Ok(()));
-    assert_eq!(rt;
-        show_note(7, &head, b"G\\U", false, &[0xab; 32], &mut out),
-        Ok(())
-    );
-    assert_eq!(rt; show_steps(true, 3, &mut out), Ok(()));
-    assert_eq!(rt; show_steps(false, u32::MAX, &mut out), Ok(()));
+    assert!(rt; show_symbol(1, 1, &MAIN, b"main", &mut out) == Ok(()));
+    assert!(rt; show_note(7, &head, b"G\\U", false, &[0xab; 32], &mut out) == Ok(()));
+    assert!(rt; show_steps(true, 3, &mut out) == Ok(()));
+    assert!(rt; show_steps(false, u32::MAX, &mut out) == Ok(()));
     let text = concat!(
         "Y     1          1 0000000000001000 0000000000000010 FUNC    GLOBAL DEFAULT   ABS   main\n",
         "N     7 00000003 00000004 00000021 G\\\\U abababababababababababababababababababababababababababababababab\\+\n",
         "F found           3\n",
         "F absent 4294967295\n",
     );
-    assert_eq!(rt; out.into_inner().written(), text.as_bytes());
-    assert_eq!(rt;
-        note_front(0, &head).as_slice(),
-        b"N     0 00000003 00000004 00000021 ".as_slice()
+    assert!(rt; out.into_inner().written() == text.as_bytes());
+    assert!(rt;
+        note_front(0, &head).as_slice() == b"N     0 00000003 00000004 00000021 ".as_slice()
     );
 }
 
@@ -142,15 +138,15 @@ fn a_long_name_is_written_in_pieces(rt: HostRuntime) {
     let name = [0x7f; 300];
     let mut front = Line::new();
     front.push(b'S');
-    assert_eq!(rt; show_named(front, &name, true, &mut out), Ok(()));
+    assert!(rt; show_named(front, &name, true, &mut out) == Ok(()));
     let sink = out.into_inner();
     let text = sink.written();
-    assert_eq!(rt; text.len(), 1204);
-    assert_eq!(rt; &text[..1], b"S".as_slice());
+    assert!(rt; text.len() == 1204);
+    assert!(rt; &text[..1] == b"S".as_slice());
     for k in 0..300 {
-        assert_eq!(rt; &text[1 + 4 * k..5 + 4 * k], b"\\x7f".as_slice());
+        assert!(rt; &text[1 + 4 * k..5 + 4 * k] == b"\\x7f".as_slice());
     }
-    assert_eq!(rt; &text[1201..], b"\\+\n".as_slice());
+    assert!(rt; &text[1201..] == b"\\+\n".as_slice());
 }
 
 #[test]
@@ -159,9 +155,9 @@ fn a_full_sink_is_a_fault(rt: HostRuntime) {
     let mut out = Out::new(SliceSink::new(&mut buffer));
     let name = [0; 300];
     let full = Err(OutFault { written: 600 });
-    assert_eq!(rt; show_named(Line::new(), &name, false, &mut out), full);
-    assert_eq!(rt; show_steps(true, 1, &mut out), full);
-    assert_eq!(rt; out.into_inner().written().len(), 600);
+    assert!(rt; show_named(Line::new(), &name, false, &mut out) == full);
+    assert!(rt; show_steps(true, 1, &mut out) == full);
+    assert!(rt; out.into_inner().written().len() == 600);
 }
 
 #[test]

@@ -15,37 +15,35 @@ const HEADER: [u8; 64] = [
 #[test]
 fn a_file_header_is_decoded(rt: HostRuntime) {
     let header = Ehdr::decode(&HEADER);
-    assert_eq!(rt;
-        header,
-        Ehdr {
-            ident_magic: [0x7f, 0x45, 0x4c, 0x46],
-            ident_class: 2,
-            ident_data: 1,
-            ident_version: 1,
-            ident_osabi: 0,
-            ident_abi_version: 0,
-            ident_padding: [0; 7],
-            e_type: 1,
-            e_machine: 62,
-            e_version: 0,
-            e_entry: 0,
-            e_phoff: 0,
-            e_shoff: 0x78,
-            e_flags: 0,
-            e_ehsize: 0,
-            e_phentsize: 0,
-            e_phnum: 0,
-            e_shentsize: 64,
-            e_shnum: 3,
-            e_shstrndx: 0,
-        }
-    );
-    assert_eq!(rt; header.encode(), HEADER);
+    let want = Ehdr {
+        ident_magic: [0x7f, 0x45, 0x4c, 0x46],
+        ident_class: 2,
+        ident_data: 1,
+        ident_version: 1,
+        ident_osabi: 0,
+        ident_abi_version: 0,
+        ident_padding: [0; 7],
+        e_type: 1,
+        e_machine: 62,
+        e_version: 0,
+        e_entry: 0,
+        e_phoff: 0,
+        e_shoff: 0x78,
+        e_flags: 0,
+        e_ehsize: 0,
+        e_phentsize: 0,
+        e_phnum: 0,
+        e_shentsize: 64,
+        e_shnum: 3,
+        e_shstrndx: 0,
+    };
+    assert!(rt; header == want);
+    assert!(rt; header.encode() == HEADER);
 }
 
 #[test]
 fn a_file_header_is_checked(rt: HostRuntime) {
-    assert_eq!(rt; Ehdr::check(&HEADER), Ok(Ehdr::decode(&HEADER)));
+    assert!(rt; Ehdr::check(&HEADER) == Ok(Ehdr::decode(&HEADER)));
     for (place, cause) in [
         (0, Cause::NotElf),
         (3, Cause::NotElf),
@@ -56,9 +54,8 @@ fn a_file_header_is_checked(rt: HostRuntime) {
         let mut bytes = HEADER;
         bytes[place] = 0;
         let at = if place == 3 { 0 } else { place as u64 };
-        assert_eq!(rt;
-            Ehdr::check(&bytes),
-            Err(Refusal { at, cause }),
+        assert!(rt;
+            Ehdr::check(&bytes) == Err(Refusal { at, cause }),
             "byte {place}"
         );
     }
@@ -74,22 +71,20 @@ const SECTION: [u8; 64] = [
 #[test]
 fn a_section_header_is_decoded(rt: HostRuntime) {
     let section = Shdr::decode(&SECTION);
-    assert_eq!(rt;
-        section,
-        Shdr {
-            sh_name: 0,
-            sh_type: 2,
-            sh_flags: 0,
-            sh_addr: 0,
-            sh_offset: 0x40,
-            sh_size: 0x30,
-            sh_link: 2,
-            sh_info: 1,
-            sh_addralign: 8,
-            sh_entsize: 24,
-        }
-    );
-    assert_eq!(rt; section.encode(), SECTION);
+    let want = Shdr {
+        sh_name: 0,
+        sh_type: 2,
+        sh_flags: 0,
+        sh_addr: 0,
+        sh_offset: 0x40,
+        sh_size: 0x30,
+        sh_link: 2,
+        sh_info: 1,
+        sh_addralign: 8,
+        sh_entsize: 24,
+    };
+    assert!(rt; section == want);
+    assert!(rt; section.encode() == SECTION);
 }
 
 #[test]
@@ -100,22 +95,20 @@ fn a_program_header_is_decoded(rt: HostRuntime) {
         0,
     ];
     let segment = Phdr::decode(&bytes);
-    assert_eq!(rt;
-        segment,
-        Phdr {
-            p_type: 1,
-            p_flags: 5,
-            p_offset: 0,
-            p_vaddr: 0x40_0000,
-            p_paddr: 0x40_0000,
-            p_filesz: 0x78,
-            p_memsz: 0x79,
-            p_align: 0x1000,
-        }
-    );
-    assert_eq!(rt; segment.encode(), bytes);
+    let want = Phdr {
+        p_type: 1,
+        p_flags: 5,
+        p_offset: 0,
+        p_vaddr: 0x40_0000,
+        p_paddr: 0x40_0000,
+        p_filesz: 0x78,
+        p_memsz: 0x79,
+        p_align: 0x1000,
+    };
+    assert!(rt; segment == want);
+    assert!(rt; segment.encode() == bytes);
     let flags = SegmentFlags(segment.p_flags);
-    assert_eq!(rt; flags, SegmentFlags::R | SegmentFlags::X);
+    assert!(rt; flags == SegmentFlags::R | SegmentFlags::X);
 }
 
 #[test]
@@ -124,21 +117,19 @@ fn a_symbol_is_decoded(rt: HostRuntime) {
         1, 0, 0, 0, 0x12, 0xfe, 0xf1, 0xff, 0, 0x10, 0, 0, 0, 0, 0, 0, 0x10, 0, 0, 0, 0, 0, 0, 0,
     ];
     let symbol = Sym::decode(&bytes);
-    assert_eq!(rt;
-        symbol,
-        Sym {
-            st_name: 1,
-            st_info: 0x12,
-            st_other: 0xfe,
-            st_shndx: 0xfff1,
-            st_value: 0x1000,
-            st_size: 0x10,
-        }
-    );
-    assert_eq!(rt; symbol.encode(), bytes);
-    assert_eq!(rt; symbol.binding(), 1);
-    assert_eq!(rt; symbol.kind(), 2);
-    assert_eq!(rt; symbol.visibility(), 2);
+    let want = Sym {
+        st_name: 1,
+        st_info: 0x12,
+        st_other: 0xfe,
+        st_shndx: 0xfff1,
+        st_value: 0x1000,
+        st_size: 0x10,
+    };
+    assert!(rt; symbol == want);
+    assert!(rt; symbol.encode() == bytes);
+    assert!(rt; symbol.binding() == 1);
+    assert!(rt; symbol.kind() == 2);
+    assert!(rt; symbol.visibility() == 2);
 }
 
 #[test]
@@ -154,7 +145,7 @@ fn symbols_are_placed(rt: HostRuntime) {
     ] {
         let mut symbol = Sym::decode(&[0; 24]);
         symbol.st_shndx = st_shndx;
-        assert_eq!(rt; symbol.place(), place, "index {st_shndx}");
+        assert!(rt; symbol.place() == place, "index {st_shndx}");
     }
 }
 
@@ -165,55 +156,49 @@ fn a_relocation_entry_is_decoded(rt: HostRuntime) {
         0xff,
     ];
     let entry = Rela::decode(&bytes);
-    assert_eq!(rt;
-        entry,
-        Rela {
-            r_offset: 1,
-            r_info: 0x1_0000_0004,
-            r_addend: -4,
-        }
-    );
-    assert_eq!(rt; entry.encode(), bytes);
-    assert_eq!(rt; entry.symbol(), 1);
-    assert_eq!(rt; entry.kind(), 4);
+    let want = Rela {
+        r_offset: 1,
+        r_info: 0x1_0000_0004,
+        r_addend: -4,
+    };
+    assert!(rt; entry == want);
+    assert!(rt; entry.encode() == bytes);
+    assert!(rt; entry.symbol() == 1);
+    assert!(rt; entry.kind() == 4);
 }
 
 #[test]
 fn a_dynamic_entry_is_decoded(rt: HostRuntime) {
     let bytes = [0xfb, 0xff, 0xff, 0x6f, 0, 0, 0, 0, 1, 0, 0, 8, 0, 0, 0, 0];
     let entry = Dyn::decode(&bytes);
-    assert_eq!(rt;
-        entry,
-        Dyn {
-            d_tag: 0x6fff_fffb,
-            d_un: 0x0800_0001,
-        }
-    );
-    assert_eq!(rt; entry.encode(), bytes);
+    let want = Dyn {
+        d_tag: 0x6fff_fffb,
+        d_un: 0x0800_0001,
+    };
+    assert!(rt; entry == want);
+    assert!(rt; entry.encode() == bytes);
 }
 
 #[test]
 fn a_notes_head_is_decoded(rt: HostRuntime) {
     let bytes = [4, 0, 0, 0, 0x14, 0, 0, 0, 3, 0, 0, 0];
     let head = NoteHead::decode(&bytes);
-    assert_eq!(rt;
-        head,
-        NoteHead {
-            namesz: 4,
-            descsz: 20,
-            kind: 3,
-        }
-    );
-    assert_eq!(rt; head.encode(), bytes);
+    let want = NoteHead {
+        namesz: 4,
+        descsz: 20,
+        kind: 3,
+    };
+    assert!(rt; head == want);
+    assert!(rt; head.encode() == bytes);
 }
 
 #[test]
 fn flags_have_their_bits(rt: HostRuntime) {
-    assert_eq!(rt; Parts::SYMBOLS.bits(), 8);
+    assert!(rt; Parts::SYMBOLS.bits() == 8);
     let section = SectionFlags(0x8000_0006);
     assert!(rt; section.contains(SectionFlags::ALLOC | SectionFlags::EXECINSTR));
     assert!(rt; !section.contains(SectionFlags::WRITE));
-    assert_eq!(rt; section.bits(), 0x8000_0006);
-    assert_eq!(rt; SectionFlags::COMPRESSED.bits(), 0x800);
-    assert_eq!(rt; SegmentFlags::all().bits(), 7);
+    assert!(rt; section.bits() == 0x8000_0006);
+    assert!(rt; SectionFlags::COMPRESSED.bits() == 0x800);
+    assert!(rt; SegmentFlags::all().bits() == 7);
 }

@@ -3,6 +3,7 @@ use crate::{
     Counted, MemorySource, Out, OutFault, Sink, SinkFault, SliceSink, Source, SourceFault,
     StreamSource, WriteSink,
 };
+use std::alloc::Global;
 use std::cell::Cell;
 use std::io;
 use std::io::{Cursor, Error, ErrorKind, Read, Seek, SeekFrom, Write};
@@ -120,6 +121,34 @@ fn read_from<S: Source>(
     source.fill(at, out)
 }
 
+// Whether at most three bytes from `at` on are read so.
+fn gives<S: Source>(source: &mut S, at: u64, want: &[u8], rt: &impl Abort) -> bool {
+    assert!(rt; want.len() <= 3);
+    let mut bytes = [0; 3];
+    let out = &mut bytes[..want.len()];
+    read_from(source, at, out, rt) == Ok(()) && *out == *want
+}
+
+// A stream over six bytes that gives at most `most` of them at a read.
+fn stream<'a>(most: usize, plan: &'a Plan) -> Result<StreamSource<Device<'a>>, SourceFault> {
+    StreamSource::new(Device::new(b"abcdef", most, plan))
+}
+
+// A sink over a tape that takes at most `most` bytes at a write.
+fn tape_sink<'a>(most: usize, plan: &'a Plan, alloc: Global) -> WriteSink<Tape<'a>> {
+    WriteSink::new(Tape {
+        inner: Vec::new(alloc),
+        most,
+        plan,
+    })
+}
+
+// Whether a sink takes nothing of a text, and has failed then.
+fn refuses<W: Sink>(sink: &mut W, text: &[u8], rt: &impl Abort) -> bool {
+    assert!(rt; !text.is_empty());
+    sink.take(text) == Err(SinkFault) && sink.failed()
+}
+
 // Puts two texts, one after the other, and an empty one.
 fn put_texts<W: Sink>(out: &mut Out<W>) -> Result<(), OutFault> {
     out.put(b"one, ")?;
@@ -127,67 +156,58 @@ fn put_texts<W: Sink>(out: &mut Out<W>) -> Result<(), OutFault> {
     out.put(b"two")
 }
 
+// Whether a text is not put, after ten bytes that were written.
+fn is_full<W: Sink>(out: &mut Out<W>, text: &[u8]) -> bool {
+    out.put(text) == Err(OutFault { written: 10 }) && out.failed()
+}
+
 #[test]
 fn memory_gives_the_slice(rt: HostRuntime) {
     let mut source = MemorySource::new(b"abcdef");
-    let mut three = [0; 3];
-    assert_eq!(rt; source.length(), 6);
-    assert_eq!(rt; read_from(&mut source, 2, &mut three, &rt), Ok(()));
-    assert_eq!(rt; three, *b"cde");
+    assert!(rt; source.length() == 6);
+    assert!(rt; gives(&mut source, 2, b"cde", &rt));
 }
 
 #[test]
 fn one_byte_at_each_read_gives_the_slice(rt: HostRuntime) -> Result<(), Fail> {
     let plan = Plan::new();
-    let mut source = StreamSource::new(Device::new(b"abcdef", 1, &plan))?;
-    assert_eq!(rt; source.length(), 6);
-    let mut three = [0; 3];
-    assert_eq!(rt; read_from(&mut source, 1, &mut three, &rt), Ok(()));
-    assert_eq!(rt; three, *b"bcd");
-    assert_eq!(rt; plan.calls.get(), 5);
+    let mut source = stream(1, &plan)?;
+    assert!(rt; source.length() == 6);
+    assert!(rt; gives(&mut source, 1, b"bcd", &rt));
+    assert!(rt; plan.calls.get() == 5);
     Ok(())
 }
 
 #[test]
 fn reads_that_follow_one_another_seek_once(rt: HostRuntime) -> Result<(), Fail> {
     let plan = Plan::new();
-    let mut source = StreamSource::new(Device::new(b"abcdef", 9, &plan))?;
-    assert_eq!(rt; plan.seeks.get(), 1);
-    let mut two = [0; 2];
-    for (at, want, seeks) in [
-        (1, *b"bc", 2),
-        (3, *b"de", 2),
-        (0, *b"ab", 3),
-        (2, *b"cd", 3),
-    ] {
-        assert_eq!(rt; read_from(&mut source, at, &mut two, &rt), Ok(()));
-        assert_eq!(rt; two, want);
-        assert_eq!(rt; plan.seeks.get(), seeks, "at {at}");
+    let mut source = stream(9, &plan)?;
+    assert!(rt; plan.seeks.get() == 1);
+    for (at, want, seeks) in [(1, b"bc", 2), (3, b"de", 2), (0, b"ab", 3), (2, b"cd", 3)] {
+        let given = gives(&mut source, at, want, &rt);
+        assert!(rt; given && plan.seeks.get() == seeks, "at {at}");
     }
     let calls = plan.calls.get();
-    assert_eq!(rt; read_from(&mut source, 6, &mut [], &rt), Ok(()));
-    assert_eq!(rt; plan.calls.get(), calls);
+    assert!(rt; gives(&mut source, 6, b"", &rt));
+    assert!(rt; plan.calls.get() == calls);
     Ok(())
 }
 
 #[test]
 fn the_sixty_fourth_interruption_is_a_failure(rt: HostRuntime) -> Result<(), Fail> {
     let plan = Plan::new();
-    let mut source = StreamSource::new(Device::new(b"abcdef", 1, &plan))?;
+    let mut source = stream(1, &plan)?;
     let mut two = [0; 2];
     for (interrupted, want) in [(63, Ok(())), (64, Err(SourceFault::Device)), (0, Ok(()))] {
         plan.interrupted.set(interrupted);
-        assert_eq!(rt; read_from(&mut source, 1, &mut two, &rt), want);
-        assert_eq!(rt; plan.interrupted.get(), 0);
+        assert!(rt; read_from(&mut source, 1, &mut two, &rt) == want);
+        assert!(rt; plan.interrupted.get() == 0);
         two = [0; 2];
         plan.interrupted.set(interrupted);
-        assert_eq!(rt;
-            read_from(&mut source, 3, &mut two, &rt),
-            want,
-            "{interrupted}"
-        );
+        let answer = read_from(&mut source, 3, &mut two, &rt);
+        assert!(rt; answer == want, "{interrupted}");
     }
-    assert_eq!(rt; two, *b"de");
+    assert!(rt; two == *b"de");
     Ok(())
 }
 
@@ -197,31 +217,23 @@ fn a_reader_that_ends_early_is_not_honest(rt: HostRuntime) -> Result<(), Fail> {
     let mut device = Device::new(b"abcdef", 4, &plan);
     device.missing = 1;
     let mut source = StreamSource::new(device)?;
-    assert_eq!(rt; source.length(), 7);
-    let mut two = [0; 2];
-    assert_eq!(rt;
-        read_from(&mut source, 5, &mut two, &rt),
-        Err(SourceFault::Ended)
-    );
-    assert_eq!(rt; read_from(&mut source, 4, &mut two, &rt), Ok(()));
-    assert_eq!(rt; two, *b"ef");
+    assert!(rt; source.length() == 7);
+    let ended = read_from(&mut source, 5, &mut [0; 2], &rt);
+    assert!(rt; ended == Err(SourceFault::Ended));
+    assert!(rt; gives(&mut source, 4, b"ef", &rt));
     Ok(())
 }
 
 #[test]
 fn a_failed_read_is_asked_again(rt: HostRuntime) -> Result<(), Fail> {
     let plan = Plan::new();
-    let mut source = StreamSource::new(Device::new(b"abcdef", 1, &plan))?;
-    let mut two = [0; 2];
-    for at in [0, 2, 4] {
+    let mut source = stream(1, &plan)?;
+    for (at, want) in [(0, b"ab"), (2, b"cd"), (4, b"ef")] {
         plan.failing.set(1);
-        assert_eq!(rt;
-            read_from(&mut source, at, &mut two, &rt),
-            Err(SourceFault::Device)
-        );
-        assert_eq!(rt; read_from(&mut source, at, &mut two, &rt), Ok(()));
+        let failed = read_from(&mut source, at, &mut [0; 2], &rt);
+        assert!(rt; failed == Err(SourceFault::Device));
+        assert!(rt; gives(&mut source, at, want, &rt));
     }
-    assert_eq!(rt; two, *b"ef");
     Ok(())
 }
 
@@ -239,105 +251,97 @@ fn a_length_that_is_not_found_is_a_failure(rt: HostRuntime) {
     assert!(rt; matches!(&made, Ok(_)));
 }
 
+// Fills two bytes from 1 on: the answer, the bytes, and how many were asked for until then.
+fn fill_two<S: Source>(
+    source: &mut Counted<S>,
+    rt: &impl Abort,
+) -> (Result<(), SourceFault>, [u8; 2], u128) {
+    assert!(rt; source.length() == 6);
+    let mut two = [0; 2];
+    let answer = source.fill(1, &mut two);
+    (answer, two, source.asked())
+}
+
 #[test]
 fn failed_reads_are_counted(rt: HostRuntime) -> Result<(), Fail> {
     let plan = Plan::new();
-    let mut source = Counted::new(StreamSource::new(Device::new(b"abcdef", 1, &plan))?);
-    assert!(rt; source.length() == 6);
-    let mut two = [0; 2];
+    let mut source = Counted::new(stream(1, &plan)?);
     plan.failing.set(1);
-    assert_eq!(rt; source.fill(1, &mut two), Err(SourceFault::Device));
-    assert_eq!(rt; source.asked(), 2);
-    assert_eq!(rt; source.fill(1, &mut two), Ok(()));
-    assert_eq!(rt; source.asked(), 4);
-    assert_eq!(rt; two, *b"bc");
-    let mut inner = source.into_inner();
-    assert_eq!(rt; read_from(&mut inner, 5, &mut [0; 1], &rt), Ok(()));
+    let (answer, _two, asked) = fill_two(&mut source, &rt);
+    assert!(rt; answer == Err(SourceFault::Device));
+    assert!(rt; asked == 2);
+    assert!(rt; fill_two(&mut source, &rt) == (Ok(()), *b"bc", 4));
+    assert!(rt; gives(&mut source.into_inner(), 5, b"f", &rt));
     Ok(())
 }
 
 #[test]
-fn one_byte_at_each_write_writes_what_a_slice_takes(rt: HostRuntime) -> Result<(), Fail> {
+fn one_byte_at_each_write_writes_the_texts(rt: HostRuntime) {
     let plan = Plan::new();
-    let mut slow = Out::new(WriteSink::new(Tape {
-        inner: Vec::new(rt.alloc()),
-        most: 1,
-        plan: &plan,
-    }));
-    let mut buffer = [0; 20];
-    let mut quick = Out::new(SliceSink::new(&mut buffer));
-    assert_eq!(rt; put_texts(&mut slow), Ok(()));
-    assert_eq!(rt; put_texts(&mut quick), Ok(()));
-    assert_eq!(rt; slow.written(), 8);
-    assert_eq!(rt; quick.written(), 8);
-    let tape = slow.into_inner().into_inner();
-    let sink = quick.into_inner();
-    assert_eq!(rt; tape.inner.as_slice(), sink.written());
-    assert_eq!(rt; sink.written(), b"one, two".as_slice());
-    assert_eq!(rt; sink.free(), 12);
-    assert_eq!(rt; plan.calls.get(), 8);
-    Ok(())
+    let mut out = Out::new(tape_sink(1, &plan, rt.alloc()));
+    assert!(rt; put_texts(&mut out) == Ok(()));
+    assert!(rt; out.written() == 8);
+    let tape = out.into_inner().into_inner();
+    assert!(rt; tape.inner.as_slice() == b"one, two".as_slice());
+    assert!(rt; plan.calls.get() == 8);
 }
 
 #[test]
-fn a_writer_fails_its_sink_for_good(rt: HostRuntime) -> Result<(), Fail> {
+fn a_slice_has_the_texts(rt: HostRuntime) {
+    let mut buffer = [0; 20];
+    let mut out = Out::new(SliceSink::new(&mut buffer));
+    assert!(rt; put_texts(&mut out) == Ok(()));
+    assert!(rt; out.written() == 8);
+    let sink = out.into_inner();
+    assert!(rt; sink.written() == b"one, two".as_slice());
+    assert!(rt; sink.free() == 12);
+}
+
+#[test]
+fn a_writer_fails_its_sink_for_good(rt: HostRuntime) {
     for (most, failing, interrupted, calls) in [(0, 0, 0, 1), (9, 1, 0, 1), (9, 0, 64, 64)] {
         let plan = Plan::new();
         plan.failing.set(failing);
         plan.interrupted.set(interrupted);
-        let mut sink = WriteSink::new(Tape {
-            inner: Vec::new(rt.alloc()),
-            most,
-            plan: &plan,
-        });
+        let mut sink = tape_sink(most, &plan, rt.alloc());
         assert!(rt; !sink.failed());
-        assert_eq!(rt; sink.take(b"abc"), Err(SinkFault));
-        assert!(rt; sink.failed());
-        assert_eq!(rt; sink.take(b"abc"), Err(SinkFault));
-        assert_eq!(rt; plan.calls.get(), calls);
-        assert_eq!(rt; sink.into_inner().inner.len(), 0);
+        assert!(rt; refuses(&mut sink, b"abc", &rt));
+        assert!(rt; refuses(&mut sink, b"abc", &rt));
+        assert!(rt; plan.calls.get() == calls);
+        assert!(rt; sink.into_inner().inner.is_empty());
     }
-    Ok(())
 }
 
 #[test]
-fn a_write_that_is_interrupted_is_tried_again(rt: HostRuntime) -> Result<(), Fail> {
+fn a_write_that_is_interrupted_is_tried_again(rt: HostRuntime) {
     let plan = Plan::new();
     plan.interrupted.set(63);
-    let mut sink = WriteSink::new(Tape {
-        inner: Vec::new(rt.alloc()),
-        most: 2,
-        plan: &plan,
-    });
-    assert_eq!(rt; sink.take(b"abc"), Ok(2));
-    assert_eq!(rt; plan.calls.get(), 64);
-    assert_eq!(rt; sink.into_inner().inner.as_slice(), b"ab".as_slice());
-    Ok(())
+    let mut sink = tape_sink(2, &plan, rt.alloc());
+    assert!(rt; sink.take(b"abc") == Ok(2));
+    assert!(rt; plan.calls.get() == 64);
+    assert!(rt; sink.into_inner().inner.as_slice() == b"ab".as_slice());
 }
 
 #[test]
 fn a_slice_takes_what_it_has_room_for(rt: HostRuntime) {
     let mut buffer = [0; 4];
     let mut sink = SliceSink::new(&mut buffer);
-    assert_eq!(rt; sink.take(b"abc"), Ok(3));
-    assert_eq!(rt; sink.take(b"def"), Ok(1));
+    assert!(rt; sink.take(b"abc") == Ok(3));
+    assert!(rt; sink.take(b"def") == Ok(1));
     assert!(rt; !sink.failed());
-    assert_eq!(rt; sink.take(b"ef"), Err(SinkFault));
-    assert!(rt; sink.failed());
-    assert_eq!(rt; sink.written(), b"abcd".as_slice());
-    assert_eq!(rt; sink.free(), 0);
+    assert!(rt; refuses(&mut sink, b"ef", &rt));
+    assert!(rt; sink.written() == b"abcd".as_slice());
+    assert!(rt; sink.free() == 0);
 }
 
 #[test]
 fn a_fault_tells_what_was_written(rt: HostRuntime) {
     let mut buffer = [0; 10];
     let mut out = Out::new(SliceSink::new(&mut buffer));
-    let full = Err(OutFault { written: 10 });
-    assert_eq!(rt; out.put(b"H REL "), Ok(()));
-    assert_eq!(rt; out.put(b"    62 0000"), full);
-    assert!(rt; out.failed());
-    assert_eq!(rt; out.put(b"0000"), full);
-    assert_eq!(rt; out.put(b""), full);
-    assert_eq!(rt; out.written(), 10);
-    assert_eq!(rt; out.into_inner().written(), b"H REL     ".as_slice());
+    assert!(rt; out.put(b"H REL ") == Ok(()));
+    assert!(rt; is_full(&mut out, b"    62 0000"));
+    assert!(rt; is_full(&mut out, b"0000"));
+    assert!(rt; is_full(&mut out, b""));
+    assert!(rt; out.written() == 10);
+    assert!(rt; out.into_inner().written() == b"H REL     ".as_slice());
 }

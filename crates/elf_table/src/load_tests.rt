@@ -1,8 +1,11 @@
 //! What no clause says: that the store can be made, and the answers at files with known ones.
+ghost use Rattle.std.specs.Prelude.{◌≡◌};
+
 use crate::fixtures::{FIVE_SECTIONS, ONE_SYMBOL_TABLE};
 use crate::{Fault, HeaderStore, Loaded, Names, Table, header, load};
-use elf_record::{Cause, Ehdr, Refusal};
+use elf_record::{Cause, Ehdr, Refusal, Shdr};
 use elf_source::{Counted, MemorySource, Source, SourceFault};
+use std::process::Abort;
 use std::test::Fail;
 
 /// A source that is never honest: it has a length, and each read ends.
@@ -41,30 +44,66 @@ fn run(file: &[u8], store: &mut HeaderStore) -> (Result<Loaded, Fault>, u128) {
     (answer, src.asked())
 }
 
+/// Loads a file that has to pass the checks, and says how many bytes were asked for.
+fn run_well(file: &[u8], store: &mut HeaderStore, rt: &impl Abort) -> u128 {
+    let (answer, asked) = run(file, store);
+    assert!(rt; answer.is_ok());
+    asked
+}
+
 fn refused<T>(at: u64, cause: Cause) -> Result<T, Fault> {
     Err(Fault::Refused(Refusal { at, cause }))
+}
+
+/// The section header of an index, which has to be loaded.
+fn section(store: &HeaderStore, i: u16, rt: &impl Abort) -> Shdr {
+    assert!(rt; i < store.loaded());
+    store.section(i)
+}
+
+/// Loads a file of three section headers, which has to pass the checks.
+fn three_sections(file: &[u8], store: &mut HeaderStore, rt: &impl Abort) -> Loaded
+    ensures stored { store.new.loaded ≡ 3 }
+    ensures counted { result.header.e_shnum ≡ 3 }
+{
+    let mut src = Counted::new(MemorySource::new(file));
+    let header = header(&mut src).expect(rt, "a header");
+    let loaded = load(&mut src, store, &header).expect(rt, "a file that passes");
+    assert!(rt; loaded.header().e_shnum == 3);
+    loaded
+}
+
+/// The file with one symbol table, whose section 2 has the section names and a link to section 1.
+fn linked_file() -> [u8; 312] {
+    let mut file = ONE_SYMBOL_TABLE;
+    file[0x3e] = 2;
+    file[0x120] = 1;
+    file
+}
+
+/// The symbols of that file, and their names.
+fn symbols_and_names() -> (Table, Names) {
+    (Table::new(0x40, 2, 24), Names::new(0x70, 6))
 }
 
 #[test]
 fn two_slots_are_too_few_for_three_headers(rt: HostRuntime) -> Result<(), Fail> {
     let mut store = HeaderStore::new(rt.alloc(), 2)?;
-    assert_eq!(rt; store.bytes(), 128);
-    let (answer, asked) = run(&ONE_SYMBOL_TABLE, &mut store);
-    assert_eq!(rt; answer, refused(0x3c, Cause::TooManyHeaders));
-    assert_eq!(rt; asked, 64);
-    assert_eq!(rt; store.bytes(), 128);
+    assert!(rt; store.bytes() == 128);
+    let answer = run(&ONE_SYMBOL_TABLE, &mut store);
+    assert!(rt; answer == (refused(0x3c, Cause::TooManyHeaders), 64));
+    assert!(rt; store.bytes() == 128);
     Ok(())
 }
 
 #[test]
 fn three_slots_are_enough(rt: HostRuntime) -> Result<(), Fail> {
     let mut store = HeaderStore::new(rt.alloc(), 3)?;
-    let (answer, asked) = run(&ONE_SYMBOL_TABLE, &mut store);
-    assert!(rt; answer.is_ok());
-    assert_eq!(rt; asked, 256);
+    let asked = run_well(&ONE_SYMBOL_TABLE, &mut store, &rt);
+    assert!(rt; asked == 256);
     assert!(rt; store.loaded() == 3);
-    assert_eq!(rt; store.section(1).sh_size, 0x30);
-    assert_eq!(rt; store.bytes(), 192);
+    assert!(rt; section(&store, 1, &rt).sh_size == 0x30);
+    assert!(rt; store.bytes() == 192);
     Ok(())
 }
 
@@ -82,8 +121,8 @@ fn a_load_refuses_by_the_first_check_that_fails(rt: HostRuntime) -> Result<(), F
         let mut file = ONE_SYMBOL_TABLE;
         file[place] = value;
         let (answer, _asked) = run(&file, &mut store);
-        assert_eq!(rt; answer, refused(at, cause));
-        assert_eq!(rt; store.loaded(), 0);
+        assert!(rt; answer == refused(at, cause));
+        assert!(rt; store.loaded() == 0);
     }
     Ok(())
 }
@@ -92,18 +131,17 @@ fn a_load_refuses_by_the_first_check_that_fails(rt: HostRuntime) -> Result<(), F
 fn a_store_that_refused_is_loaded_again(rt: HostRuntime) -> Result<(), Fail> {
     let mut store = HeaderStore::new(rt.alloc(), 3)?;
     let (answer, _asked) = run(&FIVE_SECTIONS, &mut store);
-    assert_eq!(rt; answer, refused(0x3c, Cause::TooManyHeaders));
-    let (answer, _asked) = run(&ONE_SYMBOL_TABLE, &mut store);
-    assert!(rt; answer.is_ok());
-    assert_eq!(rt; store.loaded(), 3);
+    assert!(rt; answer == refused(0x3c, Cause::TooManyHeaders));
+    let _asked = run_well(&ONE_SYMBOL_TABLE, &mut store, &rt);
+    assert!(rt; store.loaded() == 3);
     Ok(())
 }
 
 #[test]
 fn a_length_of_two_to_the_63_is_too_long(rt: HostRuntime) {
     let mut src = Counted::new(Ending { length: 1 << 63 });
-    assert_eq!(rt; header(&mut src), refused(1 << 63, Cause::TooLong));
-    assert_eq!(rt; src.asked(), 0);
+    assert!(rt; header(&mut src) == refused(1 << 63, Cause::TooLong));
+    assert!(rt; src.asked() == 0);
 }
 
 #[test]
@@ -114,58 +152,66 @@ fn a_read_that_ends_names_the_offset_asked_for(rt: HostRuntime) -> Result<(), Fa
     let header = Ehdr::decode(&bytes);
     let mut src = Counted::new(Ending { length: 312 });
     let fault = SourceFault::Ended;
-    assert_eq!(rt;
-        load(&mut src, &mut store, &header),
-        Err(Fault::Source { fault, at: 0x78 })
-    );
-    assert_eq!(rt; store.loaded(), 0);
+    let answer = load(&mut src, &mut store, &header);
+    assert!(rt; answer == Err(Fault::Source { fault, at: 0x78 }));
+    assert!(rt; store.loaded() == 0);
     Ok(())
 }
 
-#[test]
-fn rows_behind_the_first_page_are_loaded(rt: HostRuntime) -> Result<(), Fail> {
+/// A file of 65 section headers, one more than a page has.
+fn two_pages() -> [u8; 64 + 64 * 65] {
     let mut file = [0; 64 + 64 * 65];
     file[..64].copy_from_slice(&FIVE_SECTIONS[..64]);
     file[0x3c] = 65;
     file[64 + 64 * 63] = 5;
     file[64 + 64 * 64] = 6;
+    file
+}
+
+#[test]
+fn rows_behind_the_first_page_are_loaded(rt: HostRuntime) -> Result<(), Fail> {
     let mut store = HeaderStore::new(rt.alloc(), 65)?;
-    let (answer, asked) = run(&file, &mut store);
-    assert!(rt; answer.is_ok());
-    assert_eq!(rt; asked, 64 + 64 * 65);
+    let asked = run_well(&two_pages(), &mut store, &rt);
+    assert!(rt; asked == 64 + 64 * 65);
     assert!(rt; store.loaded() == 65);
-    assert_eq!(rt; store.section(63).sh_name, 5);
-    assert_eq!(rt; store.section(64).sh_name, 6);
+    assert!(rt; section(&store, 63, &rt).sh_name == 5);
+    assert!(rt; section(&store, 64, &rt).sh_name == 6);
     Ok(())
 }
 
 #[test]
-fn sections_answer_for_their_tables(rt: HostRuntime) -> Result<(), Fail> {
+fn tables_are_checked_by_their_section(rt: HostRuntime) -> Result<(), Fail> {
     let mut store = HeaderStore::new(rt.alloc(), 3)?;
-    let mut file = ONE_SYMBOL_TABLE;
-    // The section of the section names, and the link of section 2.
-    file[0x3e] = 2;
-    file[0x120] = 1;
-    let mut src = Counted::new(MemorySource::new(&file));
-    let head = header(&mut src)?;
-    let loaded = load(&mut src, &mut store, &head)?;
-    assert!(rt; loaded.header().e_shnum == 3);
-    let symbols = Table::new(0x40, 2, 24);
-    let names = Names::new(0x70, 6);
-    assert_eq!(rt; loaded.table(&store, 1, 24), Ok(symbols));
-    assert_eq!(rt;
-        loaded.table(&store, 1, 16),
-        refused(0xb8, Cause::EntrySize)
-    );
-    assert_eq!(rt; loaded.table(&store, 0, 16), Ok(Table::new(0, 0, 16)));
-    assert_eq!(rt; loaded.strings(&store, 1), Ok(names));
-    assert_eq!(rt; loaded.strings(&store, 0), refused(0x78, Cause::BadLink));
-    assert_eq!(rt; loaded.strings(&store, 2), refused(0xb8, Cause::NotStrings));
-    assert_eq!(rt; loaded.names(&store), Some(names));
-    assert_eq!(rt; loaded.symbols(&store, 1), Ok((symbols, names)));
-    assert_eq!(rt; loaded.linked(&store, 2), Ok(Some((symbols, names))));
-    assert_eq!(rt; loaded.linked(&store, 0), Ok(None));
+    let loaded = three_sections(&linked_file(), &mut store, &rt);
+    let (symbols, _names) = symbols_and_names();
+    let none = Table::new(0, 0, 16);
+    assert!(rt; loaded.table(&store, 1, 24) == Ok(symbols));
+    assert!(rt; loaded.table(&store, 1, 16) == refused(0xb8, Cause::EntrySize));
+    assert!(rt; loaded.table(&store, 0, 16) == Ok(none));
     assert!(rt; loaded.segments().is_empty());
+    Ok(())
+}
+
+#[test]
+fn strings_are_checked_by_their_section(rt: HostRuntime) -> Result<(), Fail> {
+    let mut store = HeaderStore::new(rt.alloc(), 3)?;
+    let loaded = three_sections(&linked_file(), &mut store, &rt);
+    let (_symbols, names) = symbols_and_names();
+    assert!(rt; loaded.strings(&store, 1) == Ok(names));
+    assert!(rt; loaded.strings(&store, 0) == refused(0x78, Cause::BadLink));
+    assert!(rt; loaded.strings(&store, 2) == refused(0xb8, Cause::NotStrings));
+    assert!(rt; loaded.names(&store) == Some(names));
+    Ok(())
+}
+
+#[test]
+fn symbols_come_with_their_names(rt: HostRuntime) -> Result<(), Fail> {
+    let mut store = HeaderStore::new(rt.alloc(), 3)?;
+    let loaded = three_sections(&linked_file(), &mut store, &rt);
+    let (symbols, names) = symbols_and_names();
+    assert!(rt; loaded.symbols(&store, 1) == Ok((symbols, names)));
+    assert!(rt; loaded.linked(&store, 2) == Ok(Some((symbols, names))));
+    assert!(rt; loaded.linked(&store, 0) == Ok(None));
     Ok(())
 }
 
@@ -176,22 +222,12 @@ fn ranges_are_whole_numbers(rt: HostRuntime) -> Result<(), Fail> {
     // Section 1 at 2^64 - 8, of 24 bytes.
     file[0xd0..0xd8].copy_from_slice(&(u64::MAX - 7).to_le_bytes());
     file[0xd8] = 24;
-    let mut src = Counted::new(MemorySource::new(&file));
-    let head = header(&mut src)?;
-    let loaded = load(&mut src, &mut store, &head)?;
-    assert!(rt; loaded.header().e_shnum == 3);
-    assert_eq!(rt;
-        loaded.symbols(&store, 1),
-        refused(0xb8, Cause::TableOutside)
-    );
-    assert_eq!(rt; loaded.bytes(0x70, 6, 9), Ok(Table::new(0x70, 6, 1)));
-    assert_eq!(rt;
-        loaded.bytes(u64::MAX, 6, 9),
-        refused(9, Cause::TableOutside)
-    );
-    assert_eq!(rt;
-        loaded.bytes(u64::MAX, 0, 9),
-        Ok(Table::new(u64::MAX, 0, 1))
-    );
+    let loaded = three_sections(&file, &mut store, &rt);
+    let outside = refused(9, Cause::TableOutside);
+    let symbols = loaded.symbols(&store, 1);
+    assert!(rt; symbols == refused(0xb8, Cause::TableOutside));
+    assert!(rt; loaded.bytes(0x70, 6, 9) == Ok(Table::new(0x70, 6, 1)));
+    assert!(rt; loaded.bytes(u64::MAX, 6, 9) == outside);
+    assert!(rt; loaded.bytes(u64::MAX, 0, 9) == Ok(Table::new(u64::MAX, 0, 1)));
     Ok(())
 }

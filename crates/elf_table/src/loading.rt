@@ -1,5 +1,5 @@
 //! The load of a file's section headers.
-ghost use Rattle.std.specs.Prelude.{◌≡◌, ℕ, ◌+◌, ◌*◌, ◌≤◌, List, length, None, Some, Err, IfErr, IfOk, OnErr, MatchOption};
+ghost use Rattle.std.specs.Prelude.{◌≡◌, ℕ, ◌+◌, ◌*◌, ◌≤◌, List, [], length, None, Some, Err, IfErr, IfOk, OnErr, MatchOption};
 ghost use Rattle.elf_model.specs.Checks.{first_refusal, section_name_checks};
 ghost use Rattle.elf_record.specs.Ehdr.{IsEhdr};
 ghost use Rattle.elf_source.specs.Source.{Keeps};
@@ -50,15 +50,30 @@ pub fn load<S: Source>(
 {
     store.forget();
     let size = src.length();
-    if let Some(refusal) = refused_early(header, size, store.slots()) {
+    if let Some(refusal) = refused_early(header, size, store) {
         return Err(Fault::Refused(refusal));
     }
     store.fill(src, header.e_shnum, header.e_shoff)?;
-    if let Some(refusal) = refused_names(store, header, size) {
-        store.forget();
+    if let Some(refusal) = refused_late(store, header, size) {
         return Err(Fault::Refused(refusal));
     }
     Ok(Loaded::new(size, header))
+}
+
+/// The first check that fails once the section headers are loaded, as [`refused_names`] answers it; with
+/// a refusal no section header stays loaded.
+fn refused_late(store: &mut HeaderStore, header: &Ehdr, size: u64) -> Option<Refusal>
+    requires passes { Passes size store.old.slots header.now }
+    requires count { store.old.loaded ≡ header.now.e_shnum }
+    ensures kept { MatchOption result (store.new ≡ store.old) (λ _. store.new ≡ record { slots = store.old.slots; loaded = 0; rows = [] }) }
+    ensures held { (file : List ℕ) → length file ≡ size → IsEhdr file 0 header.now → Holds file store.old
+        → result ≡ first_refusal (section_name_checks file) }
+{
+    let refusal = refused_names(store, header, size);
+    if refusal.is_some() {
+        store.forget();
+    }
+    refusal
 }
 
 /// The first check of the section of the section names that fails; none where there is no such section
@@ -84,11 +99,13 @@ fn refused_names(store: &HeaderStore, header: &Ehdr, size: u64) -> Option<Refusa
 }
 
 /// The first check before the section headers are read that fails, in a file of `size` bytes and with
-/// so many headers permitted (gABI 4, ELF Header).
-fn refused_early(header: &Ehdr, size: u64, headers: u16) -> Option<Refusal>
-    ensures refusal { result ≡ first_refusal (early_of header.now size headers) }
-    ensures passes { MatchOption result (Passes size headers header.now) (λ _. Unit {0}) }
+/// as many headers permitted as the store has slots (gABI 4, ELF Header).
+fn refused_early(header: &Ehdr, size: u64, store: &HeaderStore) -> Option<Refusal>
+    ensures refusal { result ≡ first_refusal (early_of header.now size store.now.slots) }
+    ensures passes { MatchOption result (Passes size store.now.slots header.now) (λ _. Unit {0}) }
+    ensures permitted { store.now.slots ≤ 65279 }
 {
+    let headers = store.slots();
     let sections = SECTION_HEADER_BYTES * u64::from(header.e_shnum);
     let segments = PROGRAM_HEADER_BYTES * u64::from(header.e_phnum);
     if header.e_phnum == PN_XNUM {

@@ -60,88 +60,102 @@ impl<'a> Source for Planned<'a> {
 }
 
 // A refusal of the entry at 7.
-fn refused(cause: Cause) -> Result<NameEnd, Fault> {
+fn refused<T>(cause: Cause) -> Result<T, Fault> {
     Err(Fault::Refused(Refusal { at: 7, cause }))
 }
 
-// Reads a name of a string table whose entry is at 7.
+// Reads a name of a string table whose entry is at 7, and counts the bytes asked for.
 fn read_name(
     strings: &[u8],
     off: u64,
     cap: u16,
     name: &mut NameBuf,
     rt: &impl Abort,
-) -> Result<NameEnd, Fault> {
+) -> (Result<NameEnd, Fault>, u128) {
     assert!(rt; cap >= 1 && cap <= 4096);
     let mut src = Counted::new(MemorySource::new(strings));
-    Names::new(0, strings.len() as u64).read(&mut src, off, 7, cap, name)
+    let answer = Names::new(0, strings.len() as u64).read(&mut src, off, 7, cap, name);
+    (answer, src.asked())
+}
+
+// Whether a name ends so, shows these bytes and asks for so many.
+fn shows(
+    strings: &[u8],
+    off: u64,
+    cap: u16,
+    name: &mut NameBuf,
+    (end, bytes, asked): (NameEnd, &[u8], u128),
+    rt: &impl Abort,
+) -> bool {
+    let answer = read_name(strings, off, cap, name, rt);
+    answer == (Ok(end), asked) && name.bytes() == bytes
 }
 
 #[test]
-fn names_are_whole_cut_or_refused(rt: HostRuntime) {
+fn names_are_whole_or_cut(rt: HostRuntime) {
     let whole = b"\0abc\0";
     let open = b"\0abc";
-    let outside = refused(Cause::NameOutside);
-    let unended = refused(Cause::NameUnended);
     let mut name = NameBuf::new();
-    assert_eq!(rt; read_name(whole, 1, 3, &mut name, &rt), Ok(NameEnd::Whole));
-    assert_eq!(rt; name.bytes(), b"abc".as_slice());
-    assert_eq!(rt; read_name(whole, 1, 2, &mut name, &rt), Ok(NameEnd::Cut));
-    assert_eq!(rt; name.bytes(), b"ab".as_slice());
-    assert_eq!(rt; read_name(whole, 5, 3, &mut name, &rt), outside);
-    assert_eq!(rt; read_name(open, 1, 3, &mut name, &rt), unended);
-    assert_eq!(rt; read_name(open, 1, 2, &mut name, &rt), Ok(NameEnd::Cut));
-    assert_eq!(rt; name.bytes(), b"ab".as_slice());
-    assert_eq!(rt; read_name(b"", 0, 3, &mut name, &rt), Ok(NameEnd::Whole));
-    assert_eq!(rt; name.bytes(), b"".as_slice());
-    assert_eq!(rt; read_name(b"", 1, 3, &mut name, &rt), outside);
+    let abc = (NameEnd::Whole, b"abc".as_slice(), 4);
+    let ab = (NameEnd::Cut, b"ab".as_slice(), 3);
+    let empty = (NameEnd::Whole, b"".as_slice(), 0);
+    assert!(rt; shows(whole, 1, 3, &mut name, abc, &rt));
+    assert!(rt; shows(whole, 1, 2, &mut name, ab, &rt));
+    assert!(rt; shows(open, 1, 2, &mut name, ab, &rt));
+    assert!(rt; shows(b"", 0, 3, &mut name, empty, &rt));
+}
+
+#[test]
+fn names_are_refused(rt: HostRuntime) {
+    let mut name = NameBuf::new();
+    let (answer, _asked) = read_name(b"\0abc\0", 5, 3, &mut name, &rt);
+    assert!(rt; answer == refused(Cause::NameOutside));
+    let (answer, _asked) = read_name(b"\0abc", 1, 3, &mut name, &rt);
+    assert!(rt; answer == refused(Cause::NameUnended));
+    let (answer, _asked) = read_name(b"", 1, 3, &mut name, &rt);
+    assert!(rt; answer == refused(Cause::NameOutside));
 }
 
 #[test]
 fn the_longest_name_fills_the_buffer(rt: HostRuntime) {
+    let longest = [b'a'; 4096];
     let mut strings = [b'a'; 4200];
     let mut name = NameBuf::new();
-    assert_eq!(rt;
-        read_name(&strings, 0, 4096, &mut name, &rt),
-        Ok(NameEnd::Cut)
-    );
-    assert_eq!(rt; name.bytes(), &strings[..4096]);
+    let cut = (NameEnd::Cut, longest.as_slice(), 4097);
+    let whole = (NameEnd::Whole, longest.as_slice(), 4097);
+    assert!(rt; shows(&strings, 0, 4096, &mut name, cut, &rt));
     strings[4096] = 0;
-    let mut src = Counted::new(MemorySource::new(&strings));
-    let names = Names::new(0, 4200);
-    assert_eq!(rt;
-        names.read(&mut src, 0, 7, 4096, &mut name),
-        Ok(NameEnd::Whole)
-    );
-    assert_eq!(rt; name.bytes(), &strings[..4096]);
-    assert_eq!(rt; src.asked(), 4097);
+    assert!(rt; shows(&strings, 0, 4096, &mut name, whole, &rt));
 }
 
-// Compares a name of a string table whose entry is at 7.
-fn compare(strings: &[u8], off: u64, wanted: &[u8], rt: &impl Abort) -> Result<bool, Fault> {
+// Whether comparing a name of a string table, whose entry is at 7, has this answer.
+fn compares(
+    strings: &[u8],
+    off: u64,
+    wanted: &[u8],
+    answer: Result<bool, Fault>,
+    rt: &impl Abort,
+) -> bool {
     assert!(rt; wanted.len() <= 4096);
     let mut src = Counted::new(MemorySource::new(strings));
-    Names::new(0, strings.len() as u64).equals(&mut src, off, 7, wanted)
+    let names = Names::new(0, strings.len() as u64);
+    names.equals(&mut src, off, 7, wanted) == answer
 }
 
 #[test]
 fn names_are_compared_with_their_end(rt: HostRuntime) {
-    let outside = Err(Fault::Refused(Refusal {
-        at: 7,
-        cause: Cause::NameOutside,
-    }));
-    let unended = Err(Fault::Refused(Refusal {
-        at: 7,
-        cause: Cause::NameUnended,
-    }));
-    assert_eq!(rt; compare(b"\0abc\0", 1, b"abc", &rt), Ok(true));
-    assert_eq!(rt; compare(b"\0abc\0", 2, b"bc", &rt), Ok(true));
-    assert_eq!(rt; compare(b"\0abc\0", 1, b"ab", &rt), Ok(false));
-    assert_eq!(rt; compare(b"\0abc\0", 1, b"abcd", &rt), Ok(false));
-    assert_eq!(rt; compare(b"\0abc", 1, b"abc", &rt), unended);
-    assert_eq!(rt; compare(b"\0abc", 1, b"abd", &rt), Ok(false));
-    assert_eq!(rt; compare(b"\0abc", 4, b"abc", &rt), outside);
-    assert_eq!(rt; compare(b"", 0, b"abc", &rt), Ok(false));
+    let whole = b"\0abc\0";
+    let open = b"\0abc";
+    let unended = refused(Cause::NameUnended);
+    let outside = refused(Cause::NameOutside);
+    assert!(rt; compares(whole, 1, b"abc", Ok(true), &rt));
+    assert!(rt; compares(whole, 2, b"bc", Ok(true), &rt));
+    assert!(rt; compares(whole, 1, b"ab", Ok(false), &rt));
+    assert!(rt; compares(whole, 1, b"abcd", Ok(false), &rt));
+    assert!(rt; compares(open, 1, b"abc", unended, &rt));
+    assert!(rt; compares(open, 1, b"abd", Ok(false), &rt));
+    assert!(rt; compares(open, 4, b"abc", outside, &rt));
+    assert!(rt; compares(b"", 0, b"abc", Ok(false), &rt));
 }
 
 // How many rows of 24 bytes a cursor gives, each with its index and offset.
@@ -164,32 +178,40 @@ fn rows_given<S: Source>(
     Ok(count)
 }
 
+// Goes over a table of so many rows twice, where the read with the number `failing` fails: both
+// answers, how often the source was read, and how many bytes were asked for.
+fn walk_twice(
+    count: u64,
+    failing: u32,
+    rt: &impl Abort,
+) -> (Result<u64, Fault>, Result<u64, Fault>, u32, u128) {
+    let bytes = [7; 4104];
+    assert!(rt; count <= 171);
+    let mut src = Counted::new(Planned::new(&bytes, failing));
+    let mut cursor = Cursor::new(Table::new(0, count, 24));
+    let first = rows_given(&mut cursor, &mut src, rt);
+    let second = rows_given(&mut cursor, &mut src, rt);
+    let asked = src.asked();
+    (first, second, src.into_inner().reads, asked)
+}
+
 #[test]
 fn rows_are_read_by_pages(rt: HostRuntime) {
-    let bytes = [7; 4104];
     for (count, reads, asked) in [(0, 0, 0), (1, 1, 24), (170, 1, 4080), (171, 2, 4104)] {
-        let mut src = Counted::new(Planned::new(&bytes, 0));
-        assert!(rt; count <= 171);
-        let mut cursor = Cursor::new(Table::new(0, count, 24));
-        assert_eq!(rt; rows_given(&mut cursor, &mut src, &rt), Ok(count));
-        assert_eq!(rt; src.asked(), asked);
-        assert_eq!(rt; src.into_inner().reads, reads);
+        assert!(rt;
+            walk_twice(count, 0, &rt) == (Ok(count), Ok(0), reads, asked),
+            "{count} rows"
+        );
     }
 }
 
 #[test]
 fn a_failed_cursor_fails_the_same_for_good(rt: HostRuntime) {
-    let bytes = [7; 4104];
-    let mut src = Counted::new(Planned::new(&bytes, 2));
-    let mut cursor = Cursor::new(Table::new(0, 171, 24));
     let fault = Fault::Source {
         fault: SourceFault::Device,
         at: 4080,
     };
-    assert_eq!(rt; rows_given(&mut cursor, &mut src, &rt), Err(fault));
-    assert_eq!(rt; rows_given(&mut cursor, &mut src, &rt), Err(fault));
-    assert_eq!(rt; src.asked(), 4104);
-    assert_eq!(rt; src.into_inner().reads, 2);
+    assert!(rt; walk_twice(171, 2, &rt) == (Err(fault), Err(fault), 2, 4104));
 }
 
 #[test]
@@ -200,6 +222,6 @@ fn a_symbol_is_read_by_its_index(rt: HostRuntime) {
     let table = Table::new(0, 3, 24);
     let mut src = Counted::new(MemorySource::new(&bytes));
     let symbol = table.symbol(&mut src, 1);
-    assert!(rt; symbol.is_ok_and(|symbol| symbol.st_name == 5));
-    assert_eq!(rt; src.asked(), 24);
+    assert!(rt; matches!(&symbol, Ok(symbol) if symbol.st_name == 5));
+    assert!(rt; src.asked() == 24);
 }
