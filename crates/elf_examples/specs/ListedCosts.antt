@@ -1,5 +1,5 @@
 -- What listings ask for at most, and what they never pass.
-use Rattle.std.specs.Prelude.{◌≡◌, []}
+use Rattle.std.specs.Prelude.{ℕ, ◌≡◌, ◌+◌, []}
 use Rattle.elf_model.specs.Listing.{HEADER, SECTIONS, SEGMENTS, SYMBOLS, RELOCS, NOTES, DYNAMIC, ALL}
 use Rattle.elf_model.specs.Cost.{cost, ceiling}
 use Rattle.elf_model.specs.Bytes.{little}
@@ -17,12 +17,22 @@ CostsOfWholeListings =
     × (cost overlapping_relocations 3 63 ALL ≡ 480)
     × (cost one_call 5 63 ALL ≡ 672)
 
+-- the file header, the sections, the program headers and the symbols
+abbrev LISTED : ℕ
+LISTED = HEADER + SECTIONS + SEGMENTS + SYMBOLS
+
 -- parts of listings
 abbrev pub CostsOfParts : Type 0
 CostsOfParts =
     (cost named_section 3 63 SECTIONS ≡ 448)
     × (cost one_call 5 63 RELOCS ≡ 496)
     × (cost one_symbol_table 3 63 SYMBOLS ≡ 432)
+    × (cost one_symbol_table 3 63 LISTED ≡ 432)
+    × (cost tables_over_headers 5 63 LISTED ≡ 3552)
+    × (cost hash_with_cycle 4 63 LISTED ≡ 584)
+    × (cost overlapping_relocations 3 63 LISTED ≡ 256)
+    × (cost one_call 5 63 LISTED ≡ 560)
+    × (cost one_load 1 63 LISTED ≡ 120)
     × (cost one_symbol_table 3 63 SECTIONS ≡ 256)
     × (cost needed_library 3 63 DYNAMIC ≡ 496)
     × (cost (one_table 7 4 0 build_note []) 3 63 NOTES ≡ 292)

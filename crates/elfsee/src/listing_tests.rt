@@ -3,6 +3,7 @@ ghost use Rattle.std.specs.Prelude.{◌≡◌, ◌+◌, ◌≤◌, length};
 ghost use Rattle.elf_listing.specs.Sections.{AreListed};
 
 use crate::answering::run;
+use crate::fixtures::{HASH_TABLE, ONE_CALL, RELOCATIONS};
 use crate::requests::Request;
 use crate::sample::SAMPLE;
 use elf_listing::RunFault;
@@ -15,9 +16,12 @@ use std::test::Fail;
 /// The parts that are listed: the file header, sections, program headers, symbols.
 const LISTED: Parts = Parts(15);
 
-/// The sample's lines before its symbols.
-const HEADERS: &str = concat!(
-    "H REL     62 0000000000000000 0000000000000000 0000000000000078 00000000     0     3     0\n",
+/// The sample's file header.
+const HEADER: &str =
+    "H REL     62 0000000000000000 0000000000000000 0000000000000078 00000000     0     3     0\n";
+
+/// The sample's section headers.
+const SECTIONS: &str = concat!(
     "S     0 NULL                       0000000000000000 0000000000000000 0000000000000000 00000000 00000000 \n",
     "S     1 SYMTAB                     0000000000000000 0000000000000040 0000000000000030 00000002 00000001 \n",
     "S     2 STRTAB                     0000000000000000 0000000000000070 0000000000000006 00000000 00000000 \n",
@@ -77,21 +81,21 @@ const MAIN: &str =
 
 #[test]
 fn the_sample_is_listed_whole(rt: HostRuntime) -> Result<(), Fail> {
-    let text = [HEADERS, NO_SYMBOL, MAIN];
+    let text = [HEADER, SECTIONS, NO_SYMBOL, MAIN];
     check_listing(&rt, &SAMPLE, (3, 63), LISTED, &text, 0, 432)?;
-    check_listing(&rt, &SAMPLE, (3, 63), Parts::SYMBOLS, &text[1..], 0, 432)
+    check_listing(&rt, &SAMPLE, (3, 63), Parts::SYMBOLS, &text[2..], 0, 432)
 }
 
 #[test]
 fn too_few_headers_permitted(rt: HostRuntime) -> Result<(), Fail> {
-    let text = ["! 000000000000003c too-many-headers\n"];
-    check_listing(&rt, &SAMPLE, (2, 63), Parts::SECTIONS, &text, 1, 64)
+    let text = [HEADER, "! 000000000000003c too-many-headers\n"];
+    check_listing(&rt, &SAMPLE, (2, 63), LISTED, &text, 1, 64)
 }
 
 #[test]
 fn a_file_cut_in_its_section_headers(rt: HostRuntime) -> Result<(), Fail> {
-    let text = ["! 0000000000000028 table-outside\n"];
-    check_listing(&rt, &SAMPLE[..311], (3, 63), Parts::SYMBOLS, &text, 1, 64)
+    let text = [HEADER, "! 0000000000000028 table-outside\n"];
+    check_listing(&rt, &SAMPLE[..311], (3, 63), LISTED, &text, 1, 64)
 }
 
 /// The sample with section 1 of this type, at 2^64 - 8 and 24 bytes long.
@@ -234,6 +238,33 @@ fn tables_may_overlap_the_section_headers(rt: HostRuntime) -> Result<(), Fail> {
     Ok(())
 }
 
+/// Lists a file whole, and checks that no more bytes were asked for than the listing costs.
+fn check_cost(
+    rt: &(impl Abort + AllocGlobal),
+    file: &[u8],
+    headers: u16,
+    cost: u128,
+) -> Result<(), Fail> {
+    let caps = Caps::new(headers, 63).ok_or("caps")?;
+    let mut store = HeaderStore::new(rt.alloc(), caps.headers())?;
+    let mut buffer = [0; 4096];
+    let mut src = Counted::new(MemorySource::new(file));
+    let mut out = Out::new(SliceSink::new(&mut buffer));
+    let parts = LISTED;
+    let request = Request::Sample { caps, parts };
+    assert!(rt; run(&request, &mut src, &mut store, &mut out) == Ok(0));
+    assert!(rt; src.asked() <= cost);
+    Ok(())
+}
+
+#[test]
+fn other_files_are_listed_within_their_cost(rt: HostRuntime) -> Result<(), Fail> {
+    check_cost(&rt, &overlapping(), 5, 3552)?;
+    check_cost(&rt, &HASH_TABLE, 4, 584)?;
+    check_cost(&rt, &RELOCATIONS, 3, 256)?;
+    check_cost(&rt, &ONE_CALL, 5, 560)
+}
+
 /// The sample, of which so many reads succeed.
 struct Failing {
     reads: u8,
@@ -285,7 +316,11 @@ fn a_fault_leaves_the_lines_before_it(rt: HostRuntime) -> Result<(), Fail> {
     let answer = run(&request, &mut src, &mut store, &mut out);
     let fault = SourceFault::Device;
     assert!(rt; answer == Err(RunFault::Source { fault, at: 0x71 }));
-    check_text(&rt, out.into_inner().written(), &[HEADERS, NO_SYMBOL]);
+    check_text(
+        &rt,
+        out.into_inner().written(),
+        &[HEADER, SECTIONS, NO_SYMBOL],
+    );
     let Failing { reads, failures } = src.into_inner();
     assert!(rt; reads == 0);
     assert!(rt; failures == 1);

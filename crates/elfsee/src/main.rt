@@ -3,6 +3,8 @@
 
 mod answering;
 #[cfg(test)]
+mod fixtures;
+#[cfg(test)]
 mod listing_tests;
 mod offset_reader;
 mod requests;
