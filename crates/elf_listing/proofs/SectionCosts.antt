@@ -1,16 +1,15 @@
 -- What the tables of a loaded file ask for, by the section headers in the store.
-use Rattle.std.proofs.Common.{◌≡◌, ℕ, suc, zero, ◌+◌, ◌*◌, ◌/◌, ◌%◌, ◌<◌, ◌≤◌, ◌==◌, ◌&&◌, not, Bool, true, false, List, [], ◌∷◌, ◌++◌, length, Option, None, Some, Result, Ok, Err, refl, sym, ap, ◌∙◌, arith, zero-add}
+use Rattle.std.proofs.Common.{◌≡◌, ℕ, ◌+◌, ◌*◌, ◌/◌, ◌%◌, ◌<◌, ◌≤◌, ◌==◌, ◌&&◌, not, Bool, true, false, List, [], ◌∷◌, ◌++◌, length, Option, None, Some, Result, Ok, refl, sym, ap, ◌∙◌, arith, zero-add}
 use Rattle.std.proofs.Math.Nat.{mul-le-mul_left}
 use Rattle.std.proofs.lemmas.Bool.{eqb-true}
-use Rattle.std.specs.Prelude.{is_none, MatchOption}
-use Rattle.elf_model.specs.Bytes.{slice}
+use Rattle.std.specs.Prelude.{MatchOption}
 use Rattle.elf_model.specs.Checks.{Check, first_refusal, header_checks, early_checks, section_name_checks, is_outside, is_symbol_table, table_checks_of}
-use Rattle.elf_model.specs.Cost.{sum_over, cost_where, is_table, entries_cost, symbols_cost, relocations_cost, section_notes_cost, dynamic_cost, table_cost, is_loadable, sections_cost, segments_cost, tables_cost, cost, ceiling}
+use Rattle.elf_model.specs.Cost.{sum_over, cost_where, is_table, entries_cost, symbols_cost, table_cost, is_loadable, sections_cost, segments_cost, tables_cost, cost, ceiling}
 use Rattle.elf_model.specs.Listing.{has, has_tables, SECTIONS, SEGMENTS, SYMBOLS}
 use Rattle.elf_model.specs.Names.{name_bytes}
-use Rattle.elf_model.specs.Records.{e_shnum, e_phnum, e_shstrndx, sh_offset, sh_size, sh_entsize, section_at}
+use Rattle.elf_model.specs.Records.{e_shnum, e_phnum, e_shstrndx, sh_offset, sh_size, sh_entsize}
 use Rattle.elf_model.specs.declared.causes.Refusal.{Refusal}
-use Rattle.elf_model.proofs.CostLemmas.{cost_where-le, cost_where-mono, sum_over-le}
+use Rattle.elf_model.proofs.CostLemmas.{cost_where-le, sum_over-le}
 use Rattle.elf_model.proofs.RecordLemmas.{last_cost, sums_grow}
 use Rattle.elf_model.proofs.StoreLemmas.{rows_cost, part_by_part, any_rows}
 use Rattle.elf_record.specs.Ehdr.{IsEhdr}

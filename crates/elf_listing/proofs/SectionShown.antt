@@ -1,16 +1,15 @@
 -- The items of one section, by what the store and the checks of a loaded file answer.
-use Rattle.std.proofs.Common.{◌≡◌, ◌≢◌, ℕ, ◌+◌, ◌*◌, ◌/◌, ◌<◌, ◌≤◌, ◌==◌, ◌&&◌, not, Bool, true, false, if◌then◌else◌, List, [], ◌∷◌, ◌++◌, Option, None, Some, Result, Ok, Err, refl, sym, ap, ◌∙◌, ◌^◌, subst, arith}
+use Rattle.std.proofs.Common.{◌≡◌, ℕ, ◌/◌, ◌<◌, ◌==◌, ◌&&◌, not, Bool, true, false, if◌then◌else◌, List, [], ◌∷◌, ◌++◌, Option, None, Some, Result, Ok, Err, refl, sym, ap, ◌∙◌, ◌^◌, subst, arith}
 use Rattle.std.proofs.lemmas.Bool.{eqb-true}
 use Rattle.elf_model.specs.Bytes.{slice}
-use Rattle.elf_model.specs.Checks.{Check, first_refusal, is_symbol_table, has_section_names, table_checks, strings_checks}
+use Rattle.elf_model.specs.Checks.{Check, first_refusal, is_symbol_table, table_checks, strings_checks}
 use Rattle.elf_model.specs.LineFronts.{section_front}
 use Rattle.elf_model.specs.Listing.{Item, Fault, each, checked, lines_of}
-use Rattle.elf_model.specs.Names.{Shown, shown}
+use Rattle.elf_model.specs.Names.{shown}
 use Rattle.elf_model.specs.Records.{e_shnum, e_shstrndx, sh_name, sh_offset, sh_size, sh_link, section_at}
 use Rattle.elf_model.specs.Rows.{section_row, section_name, symbol_row, symbol_rows, named_row, no_name}
 use Rattle.elf_model.proofs.ListingLemmas.{checked-passes, checked-fault}
 use Rattle.elf_model.specs.Tables.{section_bytes, strings_of, entry_count, symbol_table_checks}
-use Rattle.elf_model.specs.declared.causes.Cause.{Cause}
 use Rattle.elf_model.specs.declared.causes.Refusal.{Refusal}
 use Rattle.elf_table.specs.Tables.{Rows, Strings}
 use Rattle.elf_table.specs.Sections.{answered, names_at, rows, strings, section_names, symbols_at, checked as checked_as}

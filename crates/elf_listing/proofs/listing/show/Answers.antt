@@ -1,5 +1,4 @@
 -- The listing is ended by the line of its first fault.
-use Rattle.std.proofs.Common.{◌≡◌, sym, ap}
 use Rattle.std.proofs.lemmas.Result.{err_from_is_err_and}
 use Rattle.elf_model.specs.Report.{items}
 use Rattle.elf_listing.proofs.ShowLaws.{Reports-ended-fault, Reports-stopped}

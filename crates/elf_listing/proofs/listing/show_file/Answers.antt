@@ -1,7 +1,6 @@
 -- The file header's checks stand before all, and its line before what is loaded.
-use Rattle.std.proofs.Common.{rules, ◌≡◌, ◌++◌, None, sym, subst, List, arith}
+use Rattle.std.proofs.Common.{rules, ◌≡◌, None, arith}
 use Rattle.std.proofs.lemmas.Result.{err_from_is_err_and}
-use Rattle.elf_model.specs.Listing.{Item}
 use Rattle.elf_model.specs.Report.{load_items}
 use Rattle.elf_listing.proofs.FileShown.{header_part, items_are, header_alone}
 use Rattle.elf_listing.proofs.SectionCosts.{slots_below, header_within}

@@ -1,5 +1,5 @@
 -- Each section is shown behind those before it.
-use Rattle.std.proofs.Common.{◌<◌, ◌≤◌, refl, arith}
+use Rattle.std.proofs.Common.{refl, arith}
 use Rattle.elf_table.proofs.Keeping.{Keeps-then}
 use Rattle.elf_listing.specs.Sections.{part_items, part_cost}
 use Rattle.elf_listing.proofs.SectionCosts.{sum_step, sum_within}

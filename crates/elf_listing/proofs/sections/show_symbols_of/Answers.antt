@@ -1,5 +1,5 @@
 -- The table's checks and its string table's stand before its rows.
-use Rattle.std.proofs.Common.{◌≡◌, false, true, Err, sym, ap, ◌∙◌, not, arith}
+use Rattle.std.proofs.Common.{◌≡◌, false, true, Err, sym, ap, ◌∙◌}
 use Rattle.elf_model.specs.Checks.{is_symbol_table}
 use Rattle.elf_model.specs.Records.{section_at}
 use Rattle.elf_table.specs.Store.{row}
