@@ -38,13 +38,12 @@ fn check_listing(rt: &impl Abort, file: &[u8], text: &str, end: End, asked: u128
     let mut src = Counted::new(MemorySource::new(file));
     let mut out = Out::new(SliceSink::new(&mut buffer));
     let answer = show_header(&mut src, &mut out);
-    assert_eq!(rt; answer, Ok(end), "the end of {text}");
-    assert_eq!(rt;
-        out.into_inner().written(),
-        text.as_bytes(),
+    assert!(rt; answer == Ok(end), "the end of {text}");
+    assert!(rt;
+        out.into_inner().written() == text.as_bytes(),
         "the text {text}"
     );
-    assert_eq!(rt; src.asked(), asked, "the bytes asked of {text}");
+    assert!(rt; src.asked() == asked, "the bytes asked of {text}");
 }
 
 fn refusal(at: u64, cause: Cause) -> End {
@@ -126,12 +125,9 @@ fn too_long_is_refused_unread(rt: HostRuntime) {
     let mut src = Counted::new(Unread { length: 1 << 63 });
     let mut out = Out::new(SliceSink::new(&mut buffer));
     let answer = show_header(&mut src, &mut out);
-    assert_eq!(rt; answer, Ok(refusal(1 << 63, Cause::TooLong)));
-    assert_eq!(rt;
-        out.into_inner().written(),
-        b"! 8000000000000000 too-long\n".as_slice()
-    );
-    assert_eq!(rt; src.asked(), 0);
+    assert!(rt; answer == Ok(refusal(1 << 63, Cause::TooLong)));
+    assert!(rt; out.into_inner().written() == b"! 8000000000000000 too-long\n".as_slice());
+    assert!(rt; src.asked() == 0);
     let Unread { length: _ } = src.into_inner();
 }
 
@@ -171,11 +167,11 @@ fn a_failing_read_writes_nothing(rt: HostRuntime) {
     let mut out = Out::new(SliceSink::new(&mut buffer));
     let answer = show_header(&mut src, &mut out);
     let fault = SourceFault::Device;
-    assert_eq!(rt; answer, Err(RunFault::Source { fault, at: 0 }));
+    assert!(rt; answer == Err(RunFault::Source { fault, at: 0 }));
     assert!(rt; out.into_inner().written().is_empty());
-    assert_eq!(rt; src.asked(), 64);
+    assert!(rt; src.asked() == 64);
     let Broken { failures } = src.into_inner();
-    assert_eq!(rt; failures, 1);
+    assert!(rt; failures == 1);
 }
 
 /// Carries a request out into so many bytes of memory, and checks what was written and how it ended.
@@ -191,8 +187,8 @@ fn check_run(rt: &impl Abort, room: usize, text: &str, answer: Result<u8, RunFau
     if room <= 256 {
         let mut src = Counted::new(MemorySource::new(&BARE));
         let mut out = Out::new(SliceSink::new(&mut buffer[..room]));
-        assert_eq!(rt; run(&asked, &mut src, &mut out), answer);
-        assert_eq!(rt; out.into_inner().written(), text.as_bytes());
+        assert!(rt; run(&asked, &mut src, &mut out) == answer);
+        assert!(rt; out.into_inner().written() == text.as_bytes());
     }
 }
 
@@ -209,11 +205,8 @@ fn output_that_ends_early(rt: HostRuntime) {
 fn a_writer_gets_the_line(rt: HostRuntime) -> Result<(), Fail> {
     let mut src = Counted::new(MemorySource::new(&BARE));
     let mut out = Out::new(WriteSink::new(Vec::new(rt.alloc())));
-    assert_eq!(rt; show_header(&mut src, &mut out), Ok(End::Listed));
-    assert_eq!(rt;
-        out.into_inner().into_inner().as_slice(),
-        BARE_LINE.as_bytes()
-    );
+    assert!(rt; show_header(&mut src, &mut out) == Ok(End::Listed));
+    assert!(rt; out.into_inner().into_inner().as_slice() == BARE_LINE.as_bytes());
     Ok(())
 }
 
@@ -222,10 +215,10 @@ fn words_ask_for_a_header(rt: HostRuntime) -> Result<(), Fail> {
     let caps = Caps::new(4096, 256).ok_or("caps")?;
     let parts = Parts::HEADER;
     let sample = request(rt.alloc(), &["sample", "--only", "header"])?;
-    assert_eq!(rt; sample, Request::Sample { caps, parts });
+    assert!(rt; sample == Request::Sample { caps, parts });
     let show = request(rt.alloc(), &["show", "--only", "header", "a file"])?;
     let file = String::from_str(rt.alloc(), "a file")?;
-    assert_eq!(rt; show, Request::Show { caps, parts, file });
+    assert!(rt; show == Request::Show { caps, parts, file });
     for words in [
         [].as_slice(),
         &["show"],
@@ -235,7 +228,7 @@ fn words_ask_for_a_header(rt: HostRuntime) -> Result<(), Fail> {
         &["sample", "--only", "header", "f"],
         &["find", "--only", "header"],
     ] {
-        assert_eq!(rt; request(rt.alloc(), words).err(), Some(RequestFault::Words));
+        assert!(rt; request(rt.alloc(), words).err() == Some(RequestFault::Words));
     }
     Ok(())
 }
@@ -245,15 +238,12 @@ fn endings(rt: HostRuntime) {
     let fault = SourceFault::Ended;
     let read = Err(RunFault::Source { fault, at: 0 });
     let write = Err(RunFault::Out(OutFault { written: 3 }));
-    assert_eq!(rt; outcome(&Ok(0)), (0, ""));
-    assert_eq!(rt; outcome(&Ok(1)), (1, ""));
-    assert_eq!(rt; outcome(&read), (3, "elfsee: read fault"));
-    assert_eq!(rt; outcome(&write), (3, "elfsee: write fault"));
-    assert_eq!(rt; refused(&RequestFault::Words), (2, "elfsee: bad words"));
-    assert_eq!(rt;
-        refused(&RequestFault::Memory),
-        (3, "elfsee: out of memory")
-    );
+    assert!(rt; outcome(&Ok(0)) == (0, ""));
+    assert!(rt; outcome(&Ok(1)) == (1, ""));
+    assert!(rt; outcome(&read) == (3, "elfsee: read fault"));
+    assert!(rt; outcome(&write) == (3, "elfsee: write fault"));
+    assert!(rt; refused(&RequestFault::Words) == (2, "elfsee: bad words"));
+    assert!(rt; refused(&RequestFault::Memory) == (3, "elfsee: out of memory"));
 }
 
 /// A reader of a bare header that gives one byte at each read.
@@ -288,8 +278,8 @@ fn a_stream_lists_as_memory_does(rt: HostRuntime) -> Result<(), Fail> {
     let mut buffer = [0; 256];
     let mut src = Counted::new(StreamSource::new(Dribble { at: 0 })?);
     let mut out = Out::new(SliceSink::new(&mut buffer));
-    assert_eq!(rt; show_header(&mut src, &mut out), Ok(End::Listed));
-    assert_eq!(rt; out.into_inner().written(), BARE_LINE.as_bytes());
-    assert_eq!(rt; src.asked(), 64);
+    assert!(rt; show_header(&mut src, &mut out) == Ok(End::Listed));
+    assert!(rt; out.into_inner().written() == BARE_LINE.as_bytes());
+    assert!(rt; src.asked() == 64);
     Ok(())
 }
