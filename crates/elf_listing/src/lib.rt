@@ -18,8 +18,6 @@ mod segment_rows;
 mod symbol_rows;
 mod table_rows;
 mod tables;
-#[cfg(test)]
-mod tests;
 
 pub use buffers::FIXED_BYTES;
 pub use dynamic_rows::dynamic_front;

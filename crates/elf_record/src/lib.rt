@@ -12,8 +12,6 @@ mod phdr;
 mod rela;
 mod shdr;
 mod sym;
-#[cfg(test)]
-mod tests;
 
 pub use dyn_entry::Dyn;
 pub use ehdr::Ehdr;

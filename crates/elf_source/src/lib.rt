@@ -21,5 +21,3 @@ pub use stream::StreamSource;
 pub use taking::Sink;
 pub use write_sink::WriteSink;
 
-#[cfg(test)]
-mod tests;

@@ -50,7 +50,7 @@ pub fn load<S: Source>(
 {
     store.forget();
     let size = src.length();
-    if let Some(refusal) = refused_early(header, size, store) {
+    if let Some(refusal) = refused_unread(store, header, size) {
         return Err(Fault::Refused(refusal));
     }
     store.fill(src, header.e_shnum, header.e_shoff)?;
@@ -58,6 +58,17 @@ pub fn load<S: Source>(
         return Err(Fault::Refused(refusal));
     }
     Ok(Loaded::new(size, header))
+}
+
+/// The first check that fails before the section headers are read, with as many headers permitted as
+/// the store has slots.
+fn refused_unread(store: &HeaderStore, header: &Ehdr, size: u64) -> Option<Refusal>
+    ensures refusal { result ≡ first_refusal (early_of header.now size store.now.slots) }
+    ensures passes { MatchOption result (Passes size store.now.slots header.now) (λ _. Unit {0}) }
+    ensures permitted { store.now.slots ≤ 65279 }
+{
+    let headers = store.slots();
+    refused_early(header, size, headers)
 }
 
 /// The first check that fails once the section headers are loaded, as [`refused_names`] answers it; with
@@ -99,13 +110,11 @@ fn refused_names(store: &HeaderStore, header: &Ehdr, size: u64) -> Option<Refusa
 }
 
 /// The first check before the section headers are read that fails, in a file of `size` bytes and with
-/// as many headers permitted as the store has slots (gABI 4, ELF Header).
-fn refused_early(header: &Ehdr, size: u64, store: &HeaderStore) -> Option<Refusal>
-    ensures refusal { result ≡ first_refusal (early_of header.now size store.now.slots) }
-    ensures passes { MatchOption result (Passes size store.now.slots header.now) (λ _. Unit {0}) }
-    ensures permitted { store.now.slots ≤ 65279 }
+/// so many headers permitted (gABI 4, ELF Header).
+fn refused_early(header: &Ehdr, size: u64, headers: u16) -> Option<Refusal>
+    ensures refusal { result ≡ first_refusal (early_of header.now size headers) }
+    ensures passes { MatchOption result (Passes size headers header.now) (λ _. Unit {0}) }
 {
-    let headers = store.slots();
     let sections = SECTION_HEADER_BYTES * u64::from(header.e_shnum);
     let segments = PROGRAM_HEADER_BYTES * u64::from(header.e_phnum);
     if header.e_phnum == PN_XNUM {

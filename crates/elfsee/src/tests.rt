@@ -280,15 +280,12 @@ fn endings(rt: HostRuntime) {
     let fault = SourceFault::Ended;
     let read = Err(RunFault::Source { fault, at: 0 });
     let write = Err(RunFault::Out(OutFault { written: 3 }));
-    assert_eq!(rt; outcome(&Ok(0)), (0, ""));
-    assert_eq!(rt; outcome(&Ok(1)), (1, ""));
-    assert_eq!(rt; outcome(&read), (3, "elfsee: read fault"));
-    assert_eq!(rt; outcome(&write), (3, "elfsee: write fault"));
-    assert_eq!(rt; refused(&RequestFault::Words), (2, "elfsee: bad words"));
-    assert_eq!(rt;
-        refused(&RequestFault::Memory),
-        (3, "elfsee: out of memory")
-    );
+    assert!(rt; outcome(&Ok(0)) == (0, ""));
+    assert!(rt; outcome(&Ok(1)) == (1, ""));
+    assert!(rt; outcome(&read) == (3, "elfsee: read fault"));
+    assert!(rt; outcome(&write) == (3, "elfsee: write fault"));
+    assert!(rt; refused(&RequestFault::Words) == (2, "elfsee: bad words"));
+    assert!(rt; refused(&RequestFault::Memory) == (3, "elfsee: out of memory"));
 }
 
 /// A reader of a bare header that gives one byte at each read.

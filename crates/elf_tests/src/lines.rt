@@ -1,14 +1,8 @@
 //! Lines as a reader of a listing sees them.
-use crate::buffers::FIXED_BYTES;
-use crate::dynamic_rows::dynamic_front;
-use crate::line::Line;
-use crate::lookup_rows::show_steps;
-use crate::named::show_named;
-use crate::note_rows::{note_front, show_note};
-use crate::relocation_rows::relocation_front;
-use crate::section_rows::section_front;
-use crate::segment_rows::segment_row;
-use crate::symbol_rows::{show_symbol, symbol_front};
+use elf_listing::{
+    FIXED_BYTES, dynamic_front, note_front, relocation_front, section_front, segment_row,
+    show_note, show_steps, show_symbol, symbol_front,
+};
 use elf_record::{Dyn, NoteHead, Phdr, Rela, Shdr, Sym};
 use elf_source::{Out, OutFault, SliceSink};
 
@@ -133,20 +127,17 @@ fn lines_are_written_with_their_names(rt: HostRuntime) {
 
 #[test]
 fn a_long_name_is_written_in_pieces(rt: HostRuntime) {
-    let mut buffer = [0; 1204];
+    let mut buffer = [0; 1285];
     let mut out = Out::new(SliceSink::new(&mut buffer));
     let name = [0x7f; 300];
-    let mut front = Line::new();
-    front.push(b'S');
-    assert!(rt; show_named(front, &name, true, &mut out) == Ok(()));
+    assert!(rt; show_symbol(1, 1, &MAIN, &name, &mut out) == Ok(()));
     let sink = out.into_inner();
     let text = sink.written();
-    assert!(rt; text.len() == 1204);
-    assert!(rt; &text[..1] == b"S".as_slice());
+    assert!(rt; text.len() == 1285);
     for k in 0..300 {
-        assert!(rt; &text[1 + 4 * k..5 + 4 * k] == b"\\x7f".as_slice());
+        assert!(rt; &text[84 + 4 * k..88 + 4 * k] == b"\\x7f".as_slice());
     }
-    assert!(rt; &text[1201..] == b"\\+\n".as_slice());
+    assert!(rt; text[1284] == b'\n');
 }
 
 #[test]
@@ -155,7 +146,7 @@ fn a_full_sink_is_a_fault(rt: HostRuntime) {
     let mut out = Out::new(SliceSink::new(&mut buffer));
     let name = [0; 300];
     let full = Err(OutFault { written: 600 });
-    assert!(rt; show_named(Line::new(), &name, false, &mut out) == full);
+    assert!(rt; show_symbol(1, 1, &MAIN, &name, &mut out) == full);
     assert!(rt; show_steps(true, 1, &mut out) == full);
     assert!(rt; out.into_inner().written().len() == 600);
 }

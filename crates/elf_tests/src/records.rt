@@ -1,9 +1,9 @@
 //! Each record once, from bytes whose fields are known from elsewhere.
-use crate::{
+use bitflags::Flags;
+use elf_record::{
     Cause, Dyn, Ehdr, NoteHead, Parts, Phdr, Place, Refusal, Rela, SectionFlags, SegmentFlags,
     Shdr, Sym,
 };
-use bitflags::Flags;
 
 /// The header of a relocatable file for x86-64 with three section headers at 0x78.
 const HEADER: [u8; 64] = [

@@ -1,5 +1,5 @@
 //! What no clause says: that sources and sinks over a device fail only where it does, and then how.
-use crate::{
+use elf_source::{
     Counted, MemorySource, Out, OutFault, Sink, SinkFault, SliceSink, Source, SourceFault,
     StreamSource, WriteSink,
 };
