@@ -20,4 +20,3 @@ pub use slice_sink::SliceSink;
 pub use stream::StreamSource;
 pub use taking::Sink;
 pub use write_sink::WriteSink;
-
