@@ -3,6 +3,7 @@ ghost use Rattle.std.specs.Prelude.{◌≡◌, ◌≤◌, IfOk};
 ghost use Rattle.elf_listing.specs.Sections.{AreListed};
 
 use crate::answering::{outcome, refused, run};
+use crate::offset_reader::OffsetReader;
 use crate::requests::{Request, RequestFault};
 use crate::words::request;
 use elf_listing::{End, RunFault, show};
@@ -13,6 +14,7 @@ use elf_source::{
 use elf_table::{Caps, HeaderStore};
 use std::io;
 use std::io::{Read, Seek, SeekFrom};
+use std::os::unix::fs::FileExt;
 use std::process::Abort;
 use std::test::Fail;
 
@@ -326,4 +328,45 @@ fn a_stream_lists_as_memory_does(rt: HostRuntime) -> Result<(), Fail> {
     assert!(rt; out.into_inner().written() == BARE_LINE.as_bytes());
     assert!(rt; src.asked() == 64);
     Ok(())
+}
+
+/// The bare header as a file that can be read at offsets, one byte at each read.
+#[derive(Drop)]
+struct Tape;
+
+impl FileExt for Tape {
+    fn read_at(&self, buf: &mut [u8], offset: u64) -> io::Result<usize> {
+        if offset >= 64 || buf.is_empty() {
+            return Ok(0);
+        }
+        buf[0] = BARE[offset as usize];
+        Ok(1)
+    }
+
+    fn write_at(&self, _buf: &[u8], _offset: u64) -> io::Result<usize> {
+        Ok(0)
+    }
+}
+
+impl Seek for Tape {
+    fn seek(&mut self, _to: SeekFrom) -> io::Result<u64> {
+        Ok(64)
+    }
+}
+
+#[test]
+fn a_file_is_read_where_a_seek_left_it(rt: HostRuntime) {
+    let mut reader = OffsetReader::new(Tape);
+    let mut byte = [0];
+    assert!(rt; reader.read(&mut byte).is_ok());
+    assert!(rt; byte[0] == 0x7f);
+    assert!(rt; reader.seek(SeekFrom::Start(16)).ok() == Some(16));
+    assert!(rt; reader.read(&mut byte).is_ok());
+    assert!(rt; byte[0] == 1);
+    assert!(rt; reader.seek(SeekFrom::Current(1)).ok() == Some(18));
+    assert!(rt; reader.read(&mut byte).is_ok());
+    assert!(rt; byte[0] == 62);
+    assert!(rt; reader.seek(SeekFrom::Current(-20)).is_err());
+    assert!(rt; reader.seek(SeekFrom::End(0)).ok() == Some(64));
+    assert!(rt; reader.read(&mut byte).ok() == Some(0));
 }
