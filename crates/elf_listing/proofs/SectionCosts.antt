@@ -1,5 +1,5 @@
 -- What the tables of a loaded file ask for, by the section headers in the store.
-use Rattle.std.proofs.Common.{◌≡◌, ℕ, ◌+◌, ◌*◌, ◌/◌, ◌%◌, ◌<◌, ◌≤◌, ◌==◌, ◌&&◌, not, Bool, true, false, List, [], ◌∷◌, ◌++◌, length, Option, None, Some, Result, Ok, refl, sym, ap, ◌∙◌, arith, zero-add}
+use Rattle.std.proofs.Common.{◌≡◌, ℕ, ◌+◌, ◌*◌, ◌/◌, ◌%◌, ◌<◌, ◌≤◌, ◌==◌, ◌&&◌, not, Bool, true, false, List, [], ◌++◌, length, Option, None, Some, Result, Ok, refl, sym, ap, ◌∙◌, arith, zero-add}
 use Rattle.std.proofs.Math.Nat.{mul-le-mul_left}
 use Rattle.std.proofs.lemmas.Bool.{eqb-true}
 use Rattle.std.specs.Prelude.{MatchOption}
@@ -9,6 +9,7 @@ use Rattle.elf_model.specs.Listing.{has, has_tables, SECTIONS, SEGMENTS, SYMBOLS
 use Rattle.elf_model.specs.Names.{name_bytes}
 use Rattle.elf_model.specs.Records.{e_shnum, e_phnum, e_shstrndx, sh_offset, sh_size, sh_entsize}
 use Rattle.elf_model.specs.declared.causes.Refusal.{Refusal}
+use Rattle.elf_model.proofs.CheckSteps.{first_refusal-none, first_refusal-some}
 use Rattle.elf_model.proofs.CostLemmas.{cost_where-le, sum_over-le}
 use Rattle.elf_model.proofs.RecordLemmas.{last_cost, sums_grow}
 use Rattle.elf_model.proofs.StoreLemmas.{rows_cost, part_by_part, any_rows}
@@ -106,19 +107,9 @@ pub early_is : (file : List ℕ) (header : Ehdr) (size headers : ℕ) → IsEhdr
 early_is file header size headers is same =
     rw (same, is.e_phnum, is.e_shstrndx, is.e_shnum, is.e_shoff, is.e_shentsize, is.e_phentsize, is.e_phoff) refl
 
-behind : (front rest : List Check) → first_refusal front ≡ None → first_refusal (front ++ rest) ≡ first_refusal rest
-behind [] rest h = refl
-behind (check ∷ front) rest h =
-    elim check.fails as (λ b. (elim b as (λ _. Option Refusal) [ true ↦ Some check.refusal | false ↦ first_refusal front ]) ≡ None
-    → (elim b as (λ _. Option Refusal) [ true ↦ Some check.refusal | false ↦ first_refusal (front ++ rest) ]) ≡ first_refusal rest)
-    [ true ↦ (λ k. absurd (some_none check.refusal k)) | false ↦ behind front rest ] h
-  where
-    some_none : (refusal : Refusal) → Some refusal ≡ None → ⊥
-    some_none refusal k = cc
-
 pub loadable : (file : List ℕ) (headers : ℕ) → first_refusal (header_checks file) ≡ None → first_refusal (early_checks file headers) ≡ None → is_loadable file headers ≡ true
 unfolding is_loadable
-loadable file headers passed early = rw (behind (header_checks file) (early_checks file headers) passed ∙ early) refl
+loadable file headers passed early = rw (first_refusal-none (header_checks file) (early_checks file headers) passed ∙ early) refl
 
 names_cost-le : (names : Option Strings) (cap : ℕ) → names_cost names cap ≤ name_bytes cap
 names_cost-le None cap = omega arith
@@ -138,12 +129,13 @@ names_within names index parts cap count start after asked unnamed within = rw a
         let each_name : count * names_cost names cap ≤ count * name_bytes cap = mul-le-mul_left count (names_cost-le names cap) in
         omega (arith, within, sum_of_equal (names_cost names cap) count, each_name)
 
+-- where two lists of checks pass, the first does
 passes_front : (front rest : List Check) → first_refusal (front ++ rest) ≡ None → first_refusal front ≡ None
-passes_front [] rest h = refl
-passes_front (check ∷ front) rest h =
-    elim check.fails as (λ b. (elim b as (λ _. Option Refusal) [ true ↦ Some check.refusal | false ↦ first_refusal (front ++ rest) ]) ≡ None
-    → (elim b as (λ _. Option Refusal) [ true ↦ Some check.refusal | false ↦ first_refusal front ]) ≡ None)
-    [ true ↦ (λ k. k) | false ↦ passes_front front rest ] h
+passes_front front rest h = by_cases (first_refusal front) (λ refusal fails. first_refusal-some front rest refusal fails)
+  where
+    by_cases : (first : Option Refusal) → ((refusal : Refusal) → first ≡ Some refusal → first_refusal (front ++ rest) ≡ Some refusal) → first ≡ None
+    by_cases None fails = refl
+    by_cases (Some refusal) fails = let refused = fails refusal refl in cc
 
 -- how many bytes are asked for behind the file header at most
 abbrev pub behind_header : List ℕ → ℕ → ℕ → ℕ → ℕ
