@@ -1,18 +1,18 @@
 -- What the tables of a loaded file ask for, by the section headers in the store.
-use Rattle.std.proofs.Common.{◌≡◌, ℕ, ◌+◌, ◌*◌, ◌/◌, ◌%◌, ◌<◌, ◌≤◌, ◌==◌, ◌&&◌, not, Bool, true, false, List, [], ◌++◌, length, Option, None, Some, Result, Ok, refl, sym, ap, ◌∙◌, arith, zero-add}
+use Rattle.std.proofs.Common.{◌≡◌, ℕ, ◌+◌, ◌*◌, ◌/◌, ◌<◌, ◌≤◌, ◌==◌, ◌&&◌, not, Bool, true, false, List, [], ◌++◌, length, Option, None, Some, Result, Ok, refl, sym, ap, ◌∙◌, arith, zero-add}
 use Rattle.std.proofs.Math.Nat.{mul-le-mul_left}
 use Rattle.std.proofs.lemmas.Bool.{eqb-true}
-use Rattle.std.specs.Prelude.{MatchOption}
-use Rattle.elf_model.specs.Checks.{Check, first_refusal, header_checks, early_checks, section_name_checks, is_outside, is_symbol_table, table_checks_of}
-use Rattle.elf_model.specs.Cost.{sum_over, cost_where, is_table, entries_cost, symbols_cost, table_cost, is_loadable, sections_cost, segments_cost, tables_cost, cost, ceiling}
+use Rattle.std.specs.Prelude.{is_none, MatchOption}
+use Rattle.elf_model.specs.Checks.{Check, first_refusal, header_checks, early_checks, section_name_checks, is_symbol_table, table_checks_of}
+use Rattle.elf_model.specs.Cost.{sum_over, cost_where, is_table, is_table, entries_cost, symbols_cost, table_cost, is_loadable, sections_cost, segments_cost, tables_cost, cost, ceiling}
 use Rattle.elf_model.specs.Listing.{has, has_tables, SECTIONS, SEGMENTS, SYMBOLS}
 use Rattle.elf_model.specs.Names.{name_bytes}
-use Rattle.elf_model.specs.Records.{e_shnum, e_phnum, e_shstrndx, sh_offset, sh_size, sh_entsize}
+use Rattle.elf_model.specs.Records.{e_shnum, e_phnum, e_shstrndx, sh_offset, sh_size}
 use Rattle.elf_model.specs.declared.causes.Refusal.{Refusal}
 use Rattle.elf_model.proofs.CheckSteps.{first_refusal-none, first_refusal-some}
 use Rattle.elf_model.proofs.CostLemmas.{cost_where-le, sum_over-le}
 use Rattle.elf_model.proofs.RecordLemmas.{last_cost, sums_grow}
-use Rattle.elf_model.proofs.StoreLemmas.{rows_cost, part_by_part, any_rows}
+use Rattle.elf_model.proofs.StoreLemmas.{rows_cost, part_by_part, any_rows, tables_count}
 use Rattle.elf_record.specs.Ehdr.{IsEhdr}
 use Rattle.elf_record.specs.declared.ehdr.Ehdr.{Ehdr}
 use Rattle.elf_source.specs.Source.{Asked}
@@ -38,13 +38,6 @@ pub sum_of_equal : (amount count : ℕ) → sum_over (λ i. amount) 0 count ≤ 
 sum_of_equal amount count = sum_over-le (λ i. amount) amount 0 count (λ i. omega arith)
 
 -- a table that was answered passes its checks, and counts
-counts_by_cases : (a b c : Bool) (first : Option Refusal) (x y z : Refusal)
-    → first ≡ (elim (not a) [ true ↦ Some x | false ↦ elim (not b) [ true ↦ Some y | false ↦ elim c [ true ↦ Some z | false ↦ None ] ] ]) → first ≡ None → (a && b && not c) ≡ true
-counts_by_cases true true true first x y z h k = cc
-counts_by_cases true true false first x y z h k = refl
-counts_by_cases true false c first x y z h k = cc
-counts_by_cases false b c first x y z h k = cc
-
 rows_within : (counts : Bool) (first : Option Refusal) (at n entry each_entry : ℕ) (table : Rows) → (first ≡ None → counts ≡ true)
     → answered first (rows at n entry) ≡ Ok table → table.count * each_entry ≤ cost_where counts (n * each_entry)
 rows_within true None at n entry each_entry table h k = let t : rows at n entry ≡ table = cc in rw (ap (λ (r : Rows). r.count) (sym t)) (omega arith)
@@ -60,10 +53,10 @@ entries_by_cases false counts checks at n entry each_entry table h k = rows_with
 
 pub entries_within : (bytes : List ℕ) (at size place entry each_entry : ℕ) (table : Rows) → Ok table ≡ table_of bytes at size place entry
     → table.count * each_entry ≤ entries_cost bytes at size entry each_entry
-unfolding entries_cost is_table
+unfolding entries_cost
 entries_within bytes at size place entry each_entry table h =
-    entries_by_cases (sh_size bytes at == 0) _ (table_checks_of bytes at size place entry) (sh_offset bytes at) (sh_size bytes at / entry) entry each_entry table
-    (λ none. counts_by_cases (sh_entsize bytes at == entry) (sh_size bytes at % entry == 0) (is_outside size (sh_offset bytes at) (sh_size bytes at)) _ _ _ _ refl none) (sym h)
+    entries_by_cases (sh_size bytes at == 0) (is_table bytes at size entry) (table_checks_of bytes at size place entry) (sh_offset bytes at) (sh_size bytes at / entry) entry each_entry table
+    (λ none. tables_count bytes at size place entry ∙ ap is_none none) (sym h)
 
 pub symbols_within : (bytes : List ℕ) (size place cap : ℕ) (table : Rows) (start after : ℕ) → is_symbol_table bytes 0 ≡ true → Ok table ≡ table_of bytes 0 size place 24
     → after ≤ start + table.count * (24 + name_bytes cap) → after ≤ start + symbols_cost bytes 0 size cap

@@ -1,14 +1,12 @@
 -- Section headers that are read at their own bytes cost what they cost in the file.
-use Rattle.std.proofs.Common.{◌≡◌, ℕ, suc, zero, ◌+◌, ◌-◌, ◌*◌, ◌/◌, ◌%◌, ◌<◌, ◌≤◌, ◌==◌, ◌&&◌, not, Bool, true, false, List, length, take, drop, Some, None, refl, ap, ◌∙◌, arith}
+use Rattle.std.proofs.Common.{◌≡◌, ℕ, suc, zero, ◌+◌, ◌*◌, ◌/◌, ◌%◌, ◌<◌, ◌≤◌, ◌==◌, ◌&&◌, not, Bool, true, false, List, length, Some, None, refl, ap, ◌∙◌, arith}
 use Rattle.std.proofs.Math.Nat.{mul-le-mul_right, mul-add}
-use Rattle.std.proofs.Common.{drop-drop}
-use Rattle.std.proofs.lemmas.List.{take-take, drop-take}
 use Rattle.std.specs.Prelude.{is_none}
-use Rattle.elf_model.specs.Bytes.{number, slice, field}
+use Rattle.elf_model.specs.Bytes.{slice}
 use Rattle.elf_model.proofs.Slices.{field-slice}
-use Rattle.elf_model.specs.Records.{e_shnum, sh_size, sh_entsize, section_at}
+use Rattle.elf_model.specs.Records.{e_shnum, sh_offset, sh_size, sh_entsize, section_at}
 use Rattle.elf_model.specs.Names.{name_bytes}
-use Rattle.elf_model.specs.Checks.{is_section_outside}
+use Rattle.elf_model.specs.Checks.{is_outside}
 use Rattle.elf_model.specs.declared.causes.Refusal.{Refusal}
 use Rattle.elf_model.specs.declared.causes.Cause.{Cause}
 use Rattle.elf_model.specs.declared.causes.Cause.TheVariants.{EntrySize, SizeNotWhole, TableOutside}
@@ -104,10 +102,10 @@ refusal_of cause at = record { at = at; cause = cause }
 -- the three checks of a table, read one at a time
 pub tables_count : TablesCountWhereChecksPass
 unfolding is_table
-tables_count file at entry = by_cases (sh_entsize file at == entry) (sh_size file at % entry == 0) (is_section_outside file at)
+tables_count bytes at size place entry = by_cases (sh_entsize bytes at == entry) (sh_size bytes at % entry == 0) (is_outside size (sh_offset bytes at) (sh_size bytes at))
   where
     by_cases : (a b c : Bool)
-        → a && b && not c ≡ is_none (elim (not a) [ true ↦ Some (refusal_of EntrySize at) | false ↦ elim (not b) [ true ↦ Some (refusal_of SizeNotWhole at) | false ↦ elim c [ true ↦ Some (refusal_of TableOutside at) | false ↦ None ] ] ])
+        → a && b && not c ≡ is_none (elim (not a) [ true ↦ Some (refusal_of EntrySize place) | false ↦ elim (not b) [ true ↦ Some (refusal_of SizeNotWhole place) | false ↦ elim c [ true ↦ Some (refusal_of TableOutside place) | false ↦ None ] ] ])
     by_cases true true true = refl
     by_cases true true false = refl
     by_cases true false c = refl

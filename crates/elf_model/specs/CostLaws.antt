@@ -3,7 +3,7 @@ use Rattle.std.specs.Prelude.{◌≡◌, ℕ, ◌+◌, ◌*◌, ◌<◌, ◌≤�
 use Rattle.elf_model.specs.Bytes.{slice}
 use Rattle.elf_model.specs.Records.{e_shnum, section_at}
 use Rattle.elf_model.specs.Names.{name_bytes}
-use Rattle.elf_model.specs.Checks.{first_refusal, table_checks}
+use Rattle.elf_model.specs.Checks.{first_refusal, table_checks_of}
 use Rattle.elf_model.specs.Listing.{has, SYMBOLS, RELOCS, NOTES, DYNAMIC}
 use Rattle.elf_model.specs.Cost.{sum_over, cost_where, is_table, symbols_cost, relocations_cost, section_notes_cost, dynamic_cost, table_cost, tables_cost, cost, ceiling}
 
@@ -12,11 +12,11 @@ abbrev pub CostIsWithinCeiling : Type 0
 CostIsWithinCeiling =
     (file : List ℕ) → (headers name parts : ℕ) → cost file headers name parts ≤ ceiling (length file) headers name
 
--- a table that is not empty counts exactly where its own checks pass
+-- a table that is not empty counts exactly where its own checks pass, wherever its header stands and whatever place they name
 abbrev pub TablesCountWhereChecksPass : Type 0
 TablesCountWhereChecksPass =
-    (file : List ℕ) → (at entry : ℕ)
-    → is_table file at (length file) entry ≡ is_none (first_refusal (table_checks file at entry))
+    (bytes : List ℕ) → (at size place entry : ℕ)
+    → is_table bytes at size entry ≡ is_none (first_refusal (table_checks_of bytes at size place entry))
 
 -- where some rows are the section headers of a file, the tables that they describe cost what the file's tables cost
 abbrev pub RowsCostWhatTheFileCosts : Type 0
