@@ -4,7 +4,7 @@ use Rattle.std.proofs.Math.Nat.{mul-le-mul_left}
 use Rattle.std.proofs.lemmas.Bool.{eqb-true}
 use Rattle.std.specs.Prelude.{is_none, MatchOption}
 use Rattle.elf_model.specs.Checks.{Check, first_refusal, header_checks, early_checks, section_name_checks, is_symbol_table, table_checks_of}
-use Rattle.elf_model.specs.Cost.{sum_over, cost_where, is_table, is_table, entries_cost, symbols_cost, table_cost, is_loadable, sections_cost, segments_cost, tables_cost, cost, ceiling}
+use Rattle.elf_model.specs.Cost.{sum_over, cost_where, is_table, entries_cost, symbols_cost, table_cost, is_loadable, sections_cost, segments_cost, tables_cost, cost, ceiling}
 use Rattle.elf_model.specs.Listing.{has, has_tables, SECTIONS, SEGMENTS, SYMBOLS}
 use Rattle.elf_model.specs.Names.{name_bytes}
 use Rattle.elf_model.specs.Records.{e_shnum, e_phnum, e_shstrndx, sh_offset, sh_size}

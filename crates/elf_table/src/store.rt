@@ -107,7 +107,7 @@ impl HeaderStore {
         ensures fault { IfErr result IsSourceFault }
         ensures rows { (file : List ℕ) → S.holds src.old.source file → OnOk result (AreRows file from count self.new.rows) }
     {
-        self.loaded = 0;
+        self.forget();
         read_rows(src, &mut self.slots, count as usize, from)?;
         self.loaded = count;
         Ok(())
