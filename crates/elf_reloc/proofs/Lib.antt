@@ -1,0 +1,2 @@
+pub mod ValueSteps
+pub mod WrappingSums

@@ -1,0 +1,9 @@
+//! Relocations of x86-64: the values that they store.
+#![tactic(auto)]
+
+mod patch;
+mod relocation_types;
+mod values;
+
+pub use patch::Patch;
+pub use values::{ValueFault, value};
