@@ -1,5 +1,5 @@
 -- Where tables and string tables lie in a file.
-use Rattle.std.specs.Prelude.{ℕ, ◌+◌, ◌*◌, ◌<◌, ◌≤◌}
+use Rattle.std.specs.Prelude.{ℕ, ◌≡◌, ◌+◌, ◌*◌, ◌<◌, ◌≤◌}
 
 -- a table: the offset of its first row, how many rows there are, and the size of a row
 pub record Rows : Type 0 where
@@ -23,3 +23,7 @@ pub record Strings : Type 0 where
 -- a string table that is not empty ends within a source of this size
 abbrev pub StringsWithin : ℕ → Strings → Type 0
 StringsWithin size names = 0 < names.size → names.at + names.size ≤ size
+
+-- symbols with their string table lie within a source of this size
+abbrev pub SymbolsWithin : ℕ → Rows × Strings → Type 0
+SymbolsWithin size symbols = (symbols.0.entry ≡ 24) × RowsWithin size symbols.0 × StringsWithin size symbols.1

@@ -3,14 +3,16 @@ ghost use Rattle.std.specs.Prelude.{◌≡◌, ℕ, ◌<◌, ◌≤◌, List, No
 ghost use Rattle.elf_model.specs.Records.{section_at, sh_size};
 ghost use Rattle.elf_table.specs.Load.{Belongs, Passes, section_place};
 ghost use Rattle.elf_table.specs.Reading.{IsRefusal};
-ghost use Rattle.elf_table.specs.Sections.{bytes_of, table_of, table_at, strings_at, section_names, symbols_at, linked_at};
+ghost use Rattle.elf_table.specs.Sections.{bytes_of, table_of, table_at, strings_at, section_names, symbols_at, linked_at, relocations_at};
 ghost use Rattle.elf_table.specs.Store.{row};
-ghost use Rattle.elf_table.specs.Tables.{RowsWithin, StringsWithin, size_of};
+ghost use Rattle.elf_table.specs.Tables.{RowsWithin, StringsWithin, SymbolsWithin, size_of};
 
 use crate::checks::{checked_strings, checked_table, holds_symbols, refused};
 use crate::fault::Fault;
 use crate::names::Names;
-use crate::ranges::{PROGRAM_HEADER_BYTES, SECTION_HEADER_BYTES, SYMBOL_BYTES, ends_outside};
+use crate::ranges::{
+    PROGRAM_HEADER_BYTES, RELOCATION_BYTES, SECTION_HEADER_BYTES, SYMBOL_BYTES, ends_outside,
+};
 use crate::store::HeaderStore;
 use crate::table::Table;
 use elf_record::{Cause, Ehdr};
@@ -201,6 +203,34 @@ impl Loaded {
         }
         let symbols = self.symbols(store, link)?;
         Ok(Some(symbols))
+    }
+
+    /// The relocation entries of a section, rows of 24 bytes, and the symbols that they refer to, as
+    /// [`Loaded::linked`] answers; no rows and None where the section is empty, with no check. The
+    /// section's type is not looked at. No bytes are read (gABI 4, Relocation).
+    ///
+    /// # Errors
+    /// The first check that fails: those of [`Loaded::table`], then those of [`Loaded::linked`].
+    pub fn relocations(
+        &self,
+        store: &HeaderStore,
+        section: u16,
+    ) -> Result<(Table, Option<(Table, Names)>), Fault>
+        requires loaded { store.now.loaded ≡ self.now.header.e_shnum }
+        requires below { section < store.now.loaded }
+        ensures held { (file : List ℕ) → Belongs file self.now store.now → result ≡ relocations_at file (section_at file section) }
+        ensures table { IfOk result (λ found. Ok found.0 ≡ table_of (row store.now section) 0 self.now.size (section_place self.now.header section) 24) }
+        ensures entry { IfOk result (λ found. found.0.entry ≡ 24) }
+        ensures within { IfOk result (λ found. RowsWithin self.now.size found.0) }
+        ensures linked { IfOk result (λ found. IfSome found.1 (SymbolsWithin self.now.size)) }
+        ensures refusal { IfErr result IsRefusal }
+    {
+        let table = self.table(store, section, RELOCATION_BYTES)?;
+        if table.is_empty() {
+            return Ok((table, None));
+        }
+        let linked = self.linked(store, section)?;
+        Ok((table, linked))
     }
 
     /// The file offset of the section header of an index below e_shnum, in bytes (gABI 4, Section

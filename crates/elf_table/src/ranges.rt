@@ -8,6 +8,8 @@ pub(crate) const SECTION_HEADER_BYTES: u64 = 64;
 pub(crate) const PROGRAM_HEADER_BYTES: u64 = 56;
 /// The size of a symbol in bytes.
 pub(crate) const SYMBOL_BYTES: u64 = 24;
+/// The size of a relocation entry with an addend in bytes.
+pub(crate) const RELOCATION_BYTES: u64 = 24;
 /// The section type of a symbol table.
 pub(crate) const SHT_SYMTAB: u32 = 2;
 /// The section type of a string table.

@@ -75,6 +75,14 @@ impl Table {
         self.entry
     }
 
+    /// The file offset of the row of an index below `len()`, in bytes.
+    pub fn place(&self, index: u64) -> u64
+        requires { index < self.now.count }
+        ensures { result ≡ row_at self.now index }
+    {
+        index * self.entry + self.at
+    }
+
     /// The symbol at the index `index`, which is below `len()`, of a table with rows of 24 bytes
     /// (gABI 4, Symbol Table): one read of 24 bytes.
     ///
@@ -90,9 +98,8 @@ impl Table {
         ensures asked { src.new.asked ≤ src.old.asked + 24 }
         ensures read { (file : List ℕ) → S.holds src.old.source file → IfOk result (IsSym file (row_at self.now index)) }
     {
-        let at = self.at + index * self.entry;
         let mut bytes = [0; 24];
-        fill(src, at, &mut bytes)?;
+        fill(src, self.place(index), &mut bytes)?;
         Ok(Sym::decode(&bytes))
     }
 }
