@@ -9,10 +9,6 @@ mod cursor;
 mod fault;
 mod file_header;
 mod filling;
-#[cfg(test)]
-mod fixtures;
-#[cfg(test)]
-mod load_tests;
 mod loaded;
 mod loading;
 mod name_buf;
@@ -22,8 +18,6 @@ mod row;
 mod rows;
 mod store;
 mod table;
-#[cfg(test)]
-mod tests;
 
 pub use buffers::BUFFER_BYTES;
 pub use caps::Caps;

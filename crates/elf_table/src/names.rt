@@ -48,8 +48,13 @@ impl Model for Names {
 }
 
 impl Names {
-    /// The string table of `size` bytes from the offset `at` on.
-    pub(crate) fn new(at: u64, size: u64) -> Names
+    /// The string table of `size` bytes from the file offset `at` on. Its end `at + size` is an offset
+    /// below 2^64.
+    ///
+    /// No file is looked at, and the string table has had no check: it may lie past the end of a file.
+    /// The calls that read through it, [`Names::read`] and [`Names::equals`], have the condition that a
+    /// string table with bytes ends at or below the source's length.
+    pub fn new(at: u64, size: u64) -> Names
         requires { at + size < 2 ^ 64 }
         ensures { result ≡ record { at = at; size = size } }
     {

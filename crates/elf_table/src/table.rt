@@ -34,8 +34,13 @@ impl Model for Table {
 }
 
 impl Table {
-    /// A table of `count` rows of `entry` bytes from the offset `at` on.
-    pub(crate) fn new(at: u64, count: u64, entry: u64) -> Table
+    /// A table of `count` rows of `entry` bytes each, 1 to 4,096, from the file offset `at` on. Its end
+    /// `at + count * entry` is an offset below 2^64.
+    ///
+    /// No file is looked at, and the table has had no check: it may lie past the end of a file. The
+    /// calls that read through it, [`Table::symbol`] and those of a `Cursor` over it, have the condition
+    /// that a table with rows ends at or below the source's length.
+    pub fn new(at: u64, count: u64, entry: u64) -> Table
         requires some { 0 < entry }
         requires small { entry ≤ 4096 }
         requires ends { at + count * entry < 2 ^ 64 }

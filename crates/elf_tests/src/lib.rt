@@ -1,9 +1,18 @@
-//! Tests of sources, sinks, records and lines, in a crate of their own: a crate with tests is proved twice.
+//! Tests of sources, sinks, records, loads, tables, names and lines, in a crate of their own: a crate
+//! with tests is proved twice.
 #![tactic(auto)]
 
 #[cfg(test)]
+mod fixtures;
+#[cfg(test)]
 mod lines;
+#[cfg(test)]
+mod loads;
+#[cfg(test)]
+mod names;
 #[cfg(test)]
 mod records;
 #[cfg(test)]
 mod sources;
+#[cfg(test)]
+mod tables;

@@ -1,4 +1,11 @@
-//! Files for the tests, byte by byte.
+//! Files for the tests, byte by byte, and the answer that refuses one.
+use elf_record::{Cause, Refusal};
+use elf_table::Fault;
+
+/// A refusal at an offset.
+pub(crate) fn refused<T>(at: u64, cause: Cause) -> Result<T, Fault> {
+    Err(Fault::Refused(Refusal { at, cause }))
+}
 
 /// Three section headers at 0x78: none, a symbol table of two symbols at 0x40, its six bytes of names at 0x70.
 pub(crate) const ONE_SYMBOL_TABLE: [u8; 312] = [

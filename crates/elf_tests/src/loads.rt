@@ -1,10 +1,10 @@
 //! What no clause says: that the store can be made, and the answers at files with known ones.
 ghost use Rattle.std.specs.Prelude.{◌≡◌};
 
-use crate::fixtures::{FIVE_SECTIONS, ONE_SYMBOL_TABLE};
-use crate::{Fault, HeaderStore, Loaded, Names, Table, header, load};
-use elf_record::{Cause, Ehdr, Refusal, Shdr};
+use crate::fixtures::{FIVE_SECTIONS, ONE_SYMBOL_TABLE, refused};
+use elf_record::{Cause, Ehdr, Shdr};
 use elf_source::{Counted, MemorySource, Source, SourceFault};
+use elf_table::{Fault, HeaderStore, Loaded, Names, Table, header, load};
 use std::process::Abort;
 use std::test::Fail;
 
@@ -49,10 +49,6 @@ fn run_well(file: &[u8], store: &mut HeaderStore, rt: &impl Abort) -> u128 {
     let (answer, asked) = run(file, store);
     assert!(rt; answer.is_ok());
     asked
-}
-
-fn refused<T>(at: u64, cause: Cause) -> Result<T, Fault> {
-    Err(Fault::Refused(Refusal { at, cause }))
 }
 
 /// The section header of an index, which has to be loaded.

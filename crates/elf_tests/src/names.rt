@@ -1,0 +1,100 @@
+//! Worked names, and how many bytes they ask for.
+use crate::fixtures::refused;
+use elf_record::Cause;
+use elf_source::{Counted, MemorySource};
+use elf_table::{Fault, NameBuf, NameEnd, Names};
+use std::process::Abort;
+
+// Reads a name of a string table whose entry is at 7, and counts the bytes asked for.
+fn read_name(
+    strings: &[u8],
+    off: u64,
+    cap: u16,
+    name: &mut NameBuf,
+    rt: &impl Abort,
+) -> (Result<NameEnd, Fault>, u128) {
+    assert!(rt; cap >= 1 && cap <= 4096);
+    let mut src = Counted::new(MemorySource::new(strings));
+    let answer = Names::new(0, strings.len() as u64).read(&mut src, off, 7, cap, name);
+    (answer, src.asked())
+}
+
+// Whether a name ends so, shows these bytes and asks for so many.
+fn shows(
+    strings: &[u8],
+    off: u64,
+    cap: u16,
+    name: &mut NameBuf,
+    (end, bytes, asked): (NameEnd, &[u8], u128),
+    rt: &impl Abort,
+) -> bool {
+    let answer = read_name(strings, off, cap, name, rt);
+    answer == (Ok(end), asked) && name.bytes() == bytes
+}
+
+#[test]
+fn names_are_whole_or_cut(rt: HostRuntime) {
+    let whole = b"\0abc\0";
+    let open = b"\0abc";
+    let mut name = NameBuf::new();
+    let abc = (NameEnd::Whole, b"abc".as_slice(), 4);
+    let ab = (NameEnd::Cut, b"ab".as_slice(), 3);
+    let empty = (NameEnd::Whole, b"".as_slice(), 0);
+    assert!(rt; shows(whole, 1, 3, &mut name, abc, &rt));
+    assert!(rt; shows(whole, 1, 2, &mut name, ab, &rt));
+    assert!(rt; shows(open, 1, 2, &mut name, ab, &rt));
+    assert!(rt; shows(b"", 0, 3, &mut name, empty, &rt));
+}
+
+#[test]
+fn names_are_refused(rt: HostRuntime) {
+    let mut name = NameBuf::new();
+    let (answer, _asked) = read_name(b"\0abc\0", 5, 3, &mut name, &rt);
+    assert!(rt; answer == refused(7, Cause::NameOutside));
+    let (answer, _asked) = read_name(b"\0abc", 1, 3, &mut name, &rt);
+    assert!(rt; answer == refused(7, Cause::NameUnended));
+    let (answer, _asked) = read_name(b"", 1, 3, &mut name, &rt);
+    assert!(rt; answer == refused(7, Cause::NameOutside));
+}
+
+#[test]
+fn the_longest_name_fills_the_buffer(rt: HostRuntime) {
+    let longest = [b'a'; 4096];
+    let mut strings = [b'a'; 4200];
+    let mut name = NameBuf::new();
+    let cut = (NameEnd::Cut, longest.as_slice(), 4097);
+    let whole = (NameEnd::Whole, longest.as_slice(), 4097);
+    assert!(rt; shows(&strings, 0, 4096, &mut name, cut, &rt));
+    strings[4096] = 0;
+    assert!(rt; shows(&strings, 0, 4096, &mut name, whole, &rt));
+}
+
+// Whether comparing a name of a string table, whose entry is at 7, has this answer.
+fn compares(
+    strings: &[u8],
+    off: u64,
+    wanted: &[u8],
+    answer: Result<bool, Fault>,
+    rt: &impl Abort,
+) -> bool {
+    assert!(rt; wanted.len() <= 4096);
+    let mut src = Counted::new(MemorySource::new(strings));
+    let names = Names::new(0, strings.len() as u64);
+    names.equals(&mut src, off, 7, wanted) == answer
+}
+
+#[test]
+fn names_are_compared_with_their_end(rt: HostRuntime) {
+    let whole = b"\0abc\0";
+    let open = b"\0abc";
+    let unended = refused(7, Cause::NameUnended);
+    let outside = refused(7, Cause::NameOutside);
+    assert!(rt; compares(whole, 1, b"abc", Ok(true), &rt));
+    assert!(rt; compares(whole, 2, b"bc", Ok(true), &rt));
+    assert!(rt; compares(whole, 1, b"ab", Ok(false), &rt));
+    assert!(rt; compares(whole, 1, b"abcd", Ok(false), &rt));
+    assert!(rt; compares(open, 1, b"abc", unended, &rt));
+    assert!(rt; compares(open, 1, b"abd", Ok(false), &rt));
+    assert!(rt; compares(open, 4, b"abc", outside, &rt));
+    assert!(rt; compares(b"", 0, b"abc", Ok(false), &rt));
+}

@@ -1,0 +1,127 @@
+//! Worked rows, and how often a source is asked.
+ghost use Rattle.std.specs.Prelude.{◌≡◌};
+ghost use Rattle.elf_table.specs.Tables.{RowsWithin};
+
+use elf_source::{Counted, MemorySource, Source, SourceFault};
+use elf_table::{Cursor, Fault, Table};
+use std::process::Abort;
+
+/// A source over a slice that counts its reads and fails one of them.
+#[derive(Drop)]
+struct Planned<'a> {
+    bytes: &'a [u8],
+    reads: u32,
+    failing: u32,
+    failed: bool,
+}
+
+impl<'a> Planned<'a> {
+    // The read with the number `failing` fails, counted from 1 on.
+    fn new(bytes: &'a [u8], failing: u32) -> Self
+        ensures { result.bytes.now ≡ bytes.now }
+    {
+        Planned {
+            bytes,
+            reads: 0,
+            failing,
+            failed: false,
+        }
+    }
+}
+
+impl<'a> Source for Planned<'a> {
+    ghost use Rattle.std.specs.Prelude.{◌≡◌, length, if◌then◌else◌};
+
+    ghost holds = { λ s file. s.bytes.now ≡ file };
+
+    ghost failures = { λ s. if s.failed then 1 else 0 };
+
+    ghost size = { λ s. length s.bytes.now };
+
+    fn length(&self) -> u64 {
+        self.bytes.len() as u64
+    }
+
+    fn fill(&mut self, at: u64, out: &mut [u8]) -> Result<(), SourceFault> {
+        self.reads = self.reads.saturating_add(1);
+        if !self.failed && self.reads == self.failing {
+            self.failed = true;
+            return Err(SourceFault::Device);
+        }
+        let start = at as usize;
+        out.copy_from_slice(&self.bytes[start..start + out.len()]);
+        Ok(())
+    }
+
+    ghost use Rattle.std.proofs.Common.{ap, sym};
+
+    ghost sized = { λ s file h. ap length (sym h) };
+}
+
+// How many rows of 24 bytes a cursor gives, each with its index and offset.
+fn rows_given<S: Source>(
+    cursor: &mut Cursor,
+    src: &mut Counted<S>,
+    rt: &impl Abort,
+) -> Result<u64, Fault>
+    requires { RowsWithin (S.size src.old.source) cursor.old.table }
+    ensures table { cursor.new.table ≡ cursor.old.table }
+    ensures size { S.size src.new.source ≡ S.size src.old.source }
+{
+    let mut count: u64 = 0;
+    while let Some(row) = cursor.next(src)? {
+        assert!(rt; row.index == count);
+        assert!(rt; row.at == count.saturating_mul(24));
+        assert!(rt; row.bytes.len() == 24);
+        count = count.saturating_add(1);
+    }
+    Ok(count)
+}
+
+// Goes over a table of so many rows twice, where the read with the number `failing` fails: both
+// answers, how often the source was read, and how many bytes were asked for.
+fn walk_twice(
+    count: u64,
+    failing: u32,
+    rt: &impl Abort,
+) -> (Result<u64, Fault>, Result<u64, Fault>, u32, u128) {
+    let bytes = [7; 4104];
+    assert!(rt; count <= 171);
+    let mut src = Counted::new(Planned::new(&bytes, failing));
+    let mut cursor = Cursor::new(Table::new(0, count, 24));
+    let first = rows_given(&mut cursor, &mut src, rt);
+    let second = rows_given(&mut cursor, &mut src, rt);
+    let asked = src.asked();
+    (first, second, src.into_inner().reads, asked)
+}
+
+#[test]
+fn rows_are_read_by_pages(rt: HostRuntime) {
+    for (count, reads, asked) in [(0, 0, 0), (1, 1, 24), (170, 1, 4080), (171, 2, 4104)] {
+        assert!(rt;
+            walk_twice(count, 0, &rt) == (Ok(count), Ok(0), reads, asked),
+            "{count} rows"
+        );
+    }
+}
+
+#[test]
+fn a_failed_cursor_fails_the_same_for_good(rt: HostRuntime) {
+    let fault = Fault::Source {
+        fault: SourceFault::Device,
+        at: 4080,
+    };
+    assert!(rt; walk_twice(171, 2, &rt) == (Err(fault), Err(fault), 2, 4104));
+}
+
+#[test]
+fn a_symbol_is_read_by_its_index(rt: HostRuntime) {
+    let mut bytes = [0; 72];
+    bytes[24] = 5;
+    bytes[48] = 9;
+    let table = Table::new(0, 3, 24);
+    let mut src = Counted::new(MemorySource::new(&bytes));
+    let symbol = table.symbol(&mut src, 1);
+    assert!(rt; matches!(&symbol, Ok(symbol) if symbol.st_name == 5));
+    assert!(rt; src.asked() == 24);
+}
