@@ -1,4 +1,3 @@
 pub mod Kinds
 pub mod Sections
 pub mod Shows
-pub mod Pieces

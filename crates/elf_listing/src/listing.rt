@@ -1,8 +1,8 @@
-//! The calls that write a listing.
-ghost use Rattle.std.specs.Prelude.{◌≡◌, ◌+◌, ◌^◌, ◌<◌, ◌≤◌, ◌&&◌, ◌++◌, false, ℕ, List, [], ◌∷◌, Some, None, is_err, IfErr, IfOk, IsErr, IsTrue};
+//! The call that writes a listing.
+ghost use Rattle.std.specs.Prelude.{◌≡◌, ◌+◌, ◌^◌, ◌<◌, ◌≤◌, ◌&&◌, ◌++◌, false, ℕ, List, [], ◌∷◌, Some, None, IfErr, IfOk, IsErr, IsTrue};
 ghost use Rattle.elf_model.specs.Checks.{first_refusal, header_checks, length_checks};
 ghost use Rattle.elf_model.specs.Cost.{cost, ceiling, cost_where, is_loadable, sections_cost, segments_cost, tables_cost};
-ghost use Rattle.elf_model.specs.Lines.{header_line, refusal_line};
+ghost use Rattle.elf_model.specs.Lines.{header_line};
 ghost use Rattle.elf_model.specs.Listing.{Line as LineItem, end_text, has_tables, where_asked, HEADER};
 ghost use Rattle.elf_model.specs.Report.{items, load_items};
 ghost use Rattle.elf_record.specs.Ehdr.{IsEhdr};
@@ -14,10 +14,10 @@ ghost use Rattle.elf_listing.specs.Shows.{Shows, Reports, fault_at, RunBlames, i
 
 use crate::end::{End, RunFault};
 use crate::row::put_line;
-use crate::rows::{header_row, refusal_row};
 use crate::table_rows::ended;
 use crate::tables::show_tables;
 use bitflags::Flags;
+use elf_lines::{header_row, show_refusal};
 use elf_record::{Ehdr, Parts, Refusal};
 use elf_source::{Counted, Out, OutFault, Sink, Source};
 use elf_table::{Caps, HeaderStore, header, load};
@@ -165,16 +165,4 @@ fn finish<W: Sink>(end: Option<Refusal>, out: &mut Out<W>) -> Result<End, OutFau
     };
     show_refusal(refusal, out)?;
     Ok(End::Refused(refusal))
-}
-
-/// Writes the line of a refusal: `!`, the file offset that it points to in 16 hexadecimal digits,
-/// and the word of its cause.
-///
-/// # Errors
-/// A fault of the output, with a front of the line written.
-pub fn show_refusal<W: Sink>(refusal: Refusal, out: &mut Out<W>) -> Result<(), OutFault>
-    ensures line { Puts (W.taken out.old.sink) (W.taken out.new.sink) out.old.written out.new.written result (refusal_line refusal) }
-    ensures fails { W.failed out.new.sink ≡ is_err result }
-{
-    out.put(&refusal_row(refusal))
 }

@@ -12,12 +12,8 @@ ghost use Rattle.elf_table.specs.Tables.{StringsWithin};
 ghost use Rattle.elf_listing.specs.Shows.{Shows, RunBlames, IsFaultOf, IsOutFault, is_out_fault};
 
 use crate::end::RunFault;
-use crate::line::Line;
-use crate::named::show_named;
-use crate::section_rows::section_front;
-use crate::segment_rows::segment_row;
-use crate::symbol_rows::symbol_front;
-use elf_record::{Phdr, Refusal, Shdr, Sym};
+use elf_lines::{Line, segment_row, show_named, symbol_front};
+use elf_record::{Phdr, Refusal, Sym};
 use elf_source::{Counted, Out, Sink, Source};
 use elf_table::{Fault, NameBuf, NameEnd, Names, Row};
 

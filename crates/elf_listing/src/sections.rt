@@ -16,8 +16,8 @@ ghost use Rattle.elf_listing.specs.Shows.{Shows, RunBlames, is_out_fault};
 
 use crate::end::RunFault;
 use crate::row::put_named;
-use crate::section_rows::section_front;
 use crate::table_rows::{Kind, ended, show_rows};
+use elf_lines::section_front;
 use elf_record::Refusal;
 use elf_source::{Counted, Out, Sink, Source};
 use elf_table::{Fault, HeaderStore, Loaded, NameBuf, NameEnd, Names, holds_symbols};

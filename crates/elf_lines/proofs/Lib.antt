@@ -1,0 +1,5 @@
+pub mod Digits
+pub mod HexText
+pub mod NameText
+pub mod Pieces
+pub mod TagBits

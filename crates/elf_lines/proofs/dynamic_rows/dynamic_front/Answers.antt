@@ -1,0 +1,26 @@
+-- The tag is shown as its bits.
+use Rattle.std.proofs.Common.{◌≡◌, refl}
+use Rattle.elf_model.specs.Records.{d_tag}
+use Rattle.elf_model.specs.NameTables.{dynamic_tag_text}
+use Rattle.elf_model.specs.LineFronts.{dynamic_front}
+use Rattle.elf_lines.proofs.TagBits.{tag_bits}
+use Rattle.elf_lines.proofs.dynamic_rows.dynamic_front.Goals as goal
+
+pub returns : goal.returns
+unfolding dynamic_front dynamic_tag_text
+returns c = λ file at is byte.
+    let bits : c.cast_unsigned-tag.result ≡ d_tag file at = tag_bits _ _ file at byte is.d_tag c.cast_unsigned-tag.ensures in
+    rw (
+      c.put-4.ensures.items,
+      c.put_hex.ensures.items,
+      c.put-3.ensures.items,
+      c.put_name_or_hex.ensures.items,
+      c.put-2.ensures.items,
+      c.put_decimal.ensures.items,
+      c.put.ensures.items,
+      c.new-line.ensures,
+      c.tag_name.ensures.name,
+      bits,
+      is.d_un,
+    )
+    refl

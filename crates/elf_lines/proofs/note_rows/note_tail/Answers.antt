@@ -1,0 +1,24 @@
+-- The pieces stand in the order of the puts.
+use Rattle.std.proofs.Common.{◌≡◌, ℕ, nat_lt, if◌then◌else◌, List, [], ◌++◌, length, take, append_assoc}
+use Rattle.elf_model.specs.Text.{space, newline}
+use Rattle.elf_model.specs.Lines.{cut_mark, hex_bytes, note_tail, descriptor_text}
+use Rattle.elf_lines.proofs.note_rows.note_tail.Goals as goal
+
+regroup : (a b c d e : List ℕ) → (((a ++ b) ++ c) ++ d) ++ e ≡ a ++ ((b ++ (c ++ d)) ++ e)
+regroup a b c d e = simp append_assoc
+
+pub returns : goal.returns
+unfolding note_tail descriptor_text
+returns c = λ descriptor first size.
+    rw (
+      c.put-2.ensures.items,
+      c.put_where-2.ensures.items,
+      c.put_bytes.ensures.items,
+      c.put.ensures.items,
+      c.put_where.ensures.items,
+      c.new-line.ensures,
+      first,
+      size,
+    )
+    (regroup (if c.args.is_cut then cut_mark else []) space (hex_bytes (take 32 descriptor))
+    (if nat_lt 32 (length descriptor) then cut_mark else []) newline)

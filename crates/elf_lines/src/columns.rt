@@ -1,0 +1,137 @@
+//! A line of a listing while it is put together, field by field.
+ghost use Rattle.std.specs.Prelude.{◌≡◌, ◌+◌, ◌<◌, ◌≤◌, ◌++◌, [], if◌then◌else◌, length, max, IfSome, unwrap_or, option_copied};
+ghost use Rattle.arrayvec.specs.ArrayVec.{array_vec_len};
+ghost use Rattle.elf_model.specs.Text.{digit, hex, spaces, left, right, right_decimal};
+ghost use Rattle.elf_model.specs.NameTables.{name_or_decimal};
+
+use arrayvec::ArrayVec;
+use itoa::Buffer;
+
+/// The bytes that a line may have, but for its name.
+pub const LINE_BYTES: usize = 256;
+/// The bytes that the digits of a number are put in.
+pub const DIGIT_BYTES: usize = 40;
+
+/// A line, or the front of one: at most 256 bytes.
+pub type Line = ArrayVec<u8, 256>;
+
+/// Puts a text at the end.
+pub fn put(line: &mut Line, text: &[u8])
+    requires { array_vec_len line.old + length text.now ≤ 256 }
+    ensures items { line.new.items ≡ line.old.items ++ text.now }
+    ensures len { array_vec_len line.new ≡ array_vec_len line.old + length text.now }
+{
+    line.try_extend_from_slice(text).unwrap();
+}
+
+/// Puts so many spaces at the end.
+pub fn put_spaces(line: &mut Line, count: usize)
+    requires { array_vec_len line.old + count ≤ 256 }
+    ensures items { line.new.items ≡ line.old.items ++ spaces count }
+    ensures len { array_vec_len line.new ≡ array_vec_len line.old + count }
+{
+    for _ in 0..count {
+        line.push(b' ');
+    }
+}
+
+/// Puts a text at the left of a column of this width. A longer text is not cut.
+#[tactic(auto, unfolding(elf_model::specs::Text::left))]
+pub fn put_left(line: &mut Line, width: usize, text: &[u8])
+    requires { array_vec_len line.old + max width (length text.now) ≤ 256 }
+    ensures items { line.new.items ≡ line.old.items ++ left width text.now }
+    ensures len { array_vec_len line.new ≡ array_vec_len line.old + max width (length text.now) }
+{
+    put(line, text);
+    put_spaces(line, width.saturating_sub(text.len()));
+}
+
+/// Puts a name at the left of a column of this width, or the last hexadecimal digits of a number
+/// that has none.
+#[tactic(auto, using(crate::proofs::Digits::length_hex), unfolding(elf_model::specs::Text::left))]
+pub fn put_name_or_hex(
+    line: &mut Line,
+    width: usize,
+    name: Option<&'static str>,
+    digits: u32,
+    number: u64,
+)
+    requires room { array_vec_len line.old + 32 ≤ 256 }
+    requires width { width ≤ 16 }
+    requires digits { digits ≤ width }
+    requires short { IfSome name (λ name. length name.now ≤ width) }
+    ensures items { line.new.items ≡ line.old.items ++ left width (unwrap_or (option_copied name.entry) (hex digits number)) }
+    ensures len { array_vec_len line.new ≡ array_vec_len line.old + width }
+{
+    match name {
+        Some(name) => put_left(line, width, name.as_bytes()),
+        None => {
+            put_hex(line, digits, number);
+            put_spaces(line, width - digits as usize);
+        }
+    }
+}
+
+/// Puts a decimal number at the right of a column of this width. A longer number is not cut.
+#[tactic(auto, unfolding(elf_model::specs::Text::right_decimal, elf_model::specs::Text::right))]
+pub fn put_decimal(line: &mut Line, width: usize, number: u64)
+    requires { array_vec_len line.old + max width 20 ≤ 256 }
+    ensures items { line.new.items ≡ line.old.items ++ right_decimal width number }
+    ensures len { array_vec_len line.new ≤ array_vec_len line.old + max width 20 }
+{
+    let mut buffer = Buffer::new();
+    let text = buffer.format(number).as_bytes();
+    put_spaces(line, width.saturating_sub(text.len()));
+    put(line, text);
+}
+
+/// Puts a name at the left of a column of this width, or a decimal number that has none at the right
+/// of it. A longer number is not cut.
+pub fn put_name_or_decimal(line: &mut Line, width: usize, name: Option<&'static str>, number: u64)
+    requires room { array_vec_len line.old + max width 20 ≤ 256 }
+    requires short { IfSome name (λ name. length name.now ≤ width) }
+    ensures items { line.new.items ≡ line.old.items ++ name_or_decimal width (option_copied name.entry) number }
+    ensures len { array_vec_len line.new ≤ array_vec_len line.old + max width 20 }
+{
+    match name {
+        Some(name) => put_left(line, width, name.as_bytes()),
+        None => put_decimal(line, width, number),
+    }
+}
+
+/// Puts a text at the end where a condition holds, else nothing.
+pub fn put_where(line: &mut Line, holds: bool, text: &[u8])
+    requires { array_vec_len line.old + length text.now ≤ 256 }
+    ensures items { line.new.items ≡ line.old.items ++ (if holds then text.now else []) }
+    ensures len { array_vec_len line.new ≤ array_vec_len line.old + length text.now }
+{
+    if holds {
+        put(line, text);
+    }
+}
+
+/// Puts the last hexadecimal digits of a number, in lower case, with leading zeros.
+pub fn put_hex(line: &mut Line, digits: u32, number: u64)
+    requires room { array_vec_len line.old + digits ≤ 256 }
+    requires digits { digits ≤ 16 }
+    ensures items { line.new.items ≡ line.old.items ++ hex digits number }
+    ensures len { array_vec_len line.new ≡ array_vec_len line.old + digits }
+{
+    let mut left = digits;
+    while left > 0 {
+        left -= 1;
+        line.push(digit_of((number >> (4 * left)) % 16));
+    }
+}
+
+#[tactic(auto, unfolding(elf_model::specs::Text::digit))]
+fn digit_of(value: u64) -> u8
+    requires { value < 16 }
+    ensures { result ≡ digit value }
+{
+    if value < 10 {
+        b'0' + value as u8
+    } else {
+        b'a' + (value - 10) as u8
+    }
+}

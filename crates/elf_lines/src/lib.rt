@@ -1,0 +1,27 @@
+//! The lines of a listing: each from its record or answer, with a name of any length, and the calls that
+//! write one.
+#![tactic(auto)]
+
+mod buffers;
+mod columns;
+mod dynamic_rows;
+mod lookup_rows;
+mod named;
+mod note_rows;
+mod relocation_rows;
+mod rows;
+mod section_rows;
+mod segment_rows;
+mod symbol_rows;
+
+pub use buffers::BUFFER_BYTES;
+pub use columns::Line;
+pub use dynamic_rows::dynamic_front;
+pub use lookup_rows::show_steps;
+pub use named::show_named;
+pub use note_rows::{note_front, show_note};
+pub use relocation_rows::relocation_front;
+pub use rows::{cause_word, header_row, show_refusal};
+pub use section_rows::section_front;
+pub use segment_rows::segment_row;
+pub use symbol_rows::{show_symbol, symbol_front};

@@ -1,0 +1,34 @@
+//! The line that ends a lookup.
+ghost use Rattle.std.specs.Prelude.{◌≡◌, ◌^◌, ◌<◌, is_err};
+ghost use Rattle.elf_model.specs.Lines.{steps_line};
+ghost use Rattle.elf_source.specs.Output.{Puts};
+
+use crate::columns::{Line, put, put_decimal, put_left};
+use elf_source::{Out, OutFault, Sink};
+
+/// The line that ends a lookup: whether the name was found, and how many symbols were compared.
+#[tactic(auto, unfolding(elf_model::specs::Lines::steps_line))]
+pub fn steps_row(found: bool, steps: u32) -> Line
+    ensures { result.items ≡ steps_line found steps }
+{
+    let word = if found { "found" } else { "absent" };
+    let mut line = Line::new();
+    put(&mut line, b"F ");
+    put_left(&mut line, 6, word.as_bytes());
+    put(&mut line, b" ");
+    put_decimal(&mut line, 10, u64::from(steps));
+    put(&mut line, b"\n");
+    line
+}
+
+/// Writes the line that ends a lookup: whether the name was found, and how many symbols were compared.
+///
+/// # Errors
+/// A fault of the output, with a front of the line written.
+pub fn show_steps<W: Sink>(found: bool, steps: u32, out: &mut Out<W>) -> Result<(), OutFault>
+    ensures line { Puts (W.taken out.old.sink) (W.taken out.new.sink) out.old.written out.new.written result (steps_line found steps) }
+    ensures fails { W.failed out.new.sink ≡ is_err result }
+    ensures fits { out.new.written < 2 ^ 128 }
+{
+    out.put(&steps_row(found, steps))
+}

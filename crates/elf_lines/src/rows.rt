@@ -1,0 +1,122 @@
+//! The lines of a file header and of a refusal.
+ghost use Rattle.std.specs.Prelude.{◌≡◌, ℕ, ◌≤◌, List, length, is_err, IfSome, option_copied};
+ghost use Rattle.elf_model.specs.Text.{name_of};
+ghost use Rattle.elf_model.specs.Causes.{cause_word};
+ghost use Rattle.elf_model.specs.Lines.{file_types, header_line, refusal_line};
+ghost use Rattle.elf_record.specs.Ehdr.{IsEhdr};
+ghost use Rattle.elf_source.specs.Output.{Puts};
+
+use crate::columns::{Line, put, put_decimal, put_hex, put_name_or_hex};
+use elf_record::{Cause, Ehdr, Refusal};
+use elf_source::{Out, OutFault, Sink};
+
+/// The line of a file header: type, machine, entry point, the places of the program headers and the
+/// section headers, flags, their numbers, and the section of the section names (gABI 4, ELF Header).
+#[tactic(auto, unfolding(elf_model::specs::Lines::header_line, elf_model::specs::Lines::file_type_text))]
+pub fn header_row(header: &Ehdr) -> Line
+    ensures { (file : List ℕ) → IsEhdr file 0 header.now → result.items ≡ header_line file }
+{
+    let mut line = Line::new();
+    put(&mut line, b"H ");
+    let name = file_type_name(header.e_type);
+    put_name_or_hex(&mut line, 4, name, 4, u64::from(header.e_type));
+    put(&mut line, b" ");
+    put_decimal(&mut line, 5, u64::from(header.e_machine));
+    put(&mut line, b" ");
+    put_hex(&mut line, 16, header.e_entry);
+    put(&mut line, b" ");
+    put_hex(&mut line, 16, header.e_phoff);
+    put(&mut line, b" ");
+    put_hex(&mut line, 16, header.e_shoff);
+    put(&mut line, b" ");
+    put_hex(&mut line, 8, u64::from(header.e_flags));
+    put(&mut line, b" ");
+    put_decimal(&mut line, 5, u64::from(header.e_phnum));
+    put(&mut line, b" ");
+    put_decimal(&mut line, 5, u64::from(header.e_shnum));
+    put(&mut line, b" ");
+    put_decimal(&mut line, 5, u64::from(header.e_shstrndx));
+    put(&mut line, b"\n");
+    line
+}
+
+/// The line of a refusal: the file offset that it points to, and its cause.
+#[tactic(auto, unfolding(elf_model::specs::Lines::refusal_line))]
+pub fn refusal_row(refusal: Refusal) -> Line
+    ensures { result.items ≡ refusal_line refusal }
+{
+    let mut line = Line::new();
+    put(&mut line, b"! ");
+    put_hex(&mut line, 16, refusal.at);
+    put(&mut line, b" ");
+    put(&mut line, cause_word(refusal.cause).as_bytes());
+    put(&mut line, b"\n");
+    line
+}
+
+/// Writes the line of a refusal: `!`, the file offset that it points to in 16 hexadecimal digits,
+/// and the word of its cause.
+///
+/// # Errors
+/// A fault of the output, with a front of the line written.
+pub fn show_refusal<W: Sink>(refusal: Refusal, out: &mut Out<W>) -> Result<(), OutFault>
+    ensures line { Puts (W.taken out.old.sink) (W.taken out.new.sink) out.old.written out.new.written result (refusal_line refusal) }
+    ensures fails { W.failed out.new.sink ≡ is_err result }
+{
+    out.put(&refusal_row(refusal))
+}
+
+/// The word of a cause in a listing.
+#[tactic(auto, unfolding(elf_model::specs::Causes::cause_word))]
+pub fn cause_word(cause: Cause) -> &'static str
+    ensures word { result.now ≡ cause_word cause }
+    ensures short { length result.now ≤ 18 }
+{
+    match cause {
+        Cause::Short => "short",
+        Cause::NotElf => "not-elf",
+        Cause::BadClass => "class",
+        Cause::BadData => "data",
+        Cause::BadVersion => "version",
+        Cause::ExtendedNumbering => "extended-numbering",
+        Cause::TooManyHeaders => "too-many-headers",
+        Cause::EntrySize => "entry-size",
+        Cause::TableOutside => "table-outside",
+        Cause::BadLink => "bad-link",
+        Cause::NotStrings => "not-strings",
+        Cause::SizeNotWhole => "size-not-whole",
+        Cause::NameOutside => "name-outside",
+        Cause::NameUnended => "name-unended",
+        Cause::NoteCut => "note-cut",
+        Cause::NoHash => "no-hash",
+        Cause::HashShape => "hash-shape",
+        Cause::HashIndex => "hash-index",
+        Cause::HashCycle => "hash-cycle",
+        Cause::Unsupported => "unsupported",
+        Cause::Overflow => "overflow",
+        Cause::LayoutFull => "layout-full",
+        Cause::LayoutRepeat => "layout-repeat",
+        Cause::NotRel => "not-rel",
+        Cause::Unplaced => "unplaced",
+        Cause::Undefined => "undefined",
+        Cause::PlaceOutside => "place-outside",
+        Cause::SymbolIndex => "symbol-index",
+        Cause::TooLong => "too-long",
+    }
+}
+
+/// The name of an object file type (gABI 4, ELF Header).
+#[tactic(auto, unfolding(elf_model::specs::Lines::file_types, elf_model::specs::Text::name_of))]
+fn file_type_name(kind: u16) -> Option<&'static str>
+    ensures name { option_copied result ≡ name_of file_types kind }
+    ensures short { IfSome result (λ name. length name.now ≤ 4) }
+{
+    match kind {
+        0 => Some("NONE"),
+        1 => Some("REL"),
+        2 => Some("EXEC"),
+        3 => Some("DYN"),
+        4 => Some("CORE"),
+        _ => None,
+    }
+}

@@ -1,0 +1,81 @@
+//! The lines of program headers.
+ghost use Rattle.std.specs.Prelude.{◌≡◌, ◌+◌, ◌≤◌, ◌++◌, ◌∷◌, [], if◌then◌else◌, ℕ, List, length, codes, IfSome, option_copied};
+ghost use Rattle.arrayvec.specs.ArrayVec.{array_vec_len};
+ghost use Rattle.elf_model.specs.Text.{name_of};
+ghost use Rattle.elf_model.specs.NameTables.{segment_types, segment_flags_text};
+ghost use Rattle.elf_model.specs.Lines.{segment_line};
+ghost use Rattle.elf_record.specs.Phdr.{IsPhdr};
+
+use crate::columns::{Line, put, put_decimal, put_hex, put_name_or_hex};
+use bitflags::Flags;
+use elf_record::{Phdr, SegmentFlags};
+
+/// The line of a program header: its index, type, permissions, file offset, virtual and physical
+/// address, size in the file and in memory, and alignment.
+#[tactic(auto, unfolding(elf_model::specs::Lines::segment_line, elf_model::specs::NameTables::segment_type_text))]
+pub fn segment_row(index: u16, header: &Phdr) -> Line
+    ensures { (file : List ℕ) (at : ℕ) → IsPhdr file at header.now → result.items ≡ segment_line file at index }
+{
+    let mut line = Line::new();
+    put(&mut line, b"P ");
+    put_decimal(&mut line, 5, u64::from(index));
+    put(&mut line, b" ");
+    let name = segment_type_name(header.p_type);
+    put_name_or_hex(&mut line, 8, name, 8, u64::from(header.p_type));
+    put(&mut line, b" ");
+    put_permissions(&mut line, SegmentFlags(header.p_flags));
+    put(&mut line, b" ");
+    put_hex(&mut line, 16, header.p_offset);
+    put(&mut line, b" ");
+    put_hex(&mut line, 16, header.p_vaddr);
+    put(&mut line, b" ");
+    put_hex(&mut line, 16, header.p_paddr);
+    put(&mut line, b" ");
+    put_hex(&mut line, 16, header.p_filesz);
+    put(&mut line, b" ");
+    put_hex(&mut line, 16, header.p_memsz);
+    put(&mut line, b" ");
+    put_hex(&mut line, 16, header.p_align);
+    put(&mut line, b"\n");
+    line
+}
+
+/// Puts a segment's permissions: the letters of read, write and execute, or a dash for each that is
+/// not given. Other bits are not shown (gABI 5, Segment Flag Bits).
+fn put_permissions(line: &mut Line, flags: SegmentFlags)
+    requires { array_vec_len line.old + 3 ≤ 256 }
+    ensures items { line.new.items ≡ line.old.items ++ segment_flags_text flags.0 }
+    ensures len { array_vec_len line.new ≡ array_vec_len line.old + 3 }
+{
+    put_letter(line, flags.contains(SegmentFlags::R), b'R');
+    put_letter(line, flags.contains(SegmentFlags::W), b'W');
+    put_letter(line, flags.contains(SegmentFlags::X), b'X');
+}
+
+/// Puts a flag's letter, or a dash where it is not set.
+fn put_letter(line: &mut Line, is_set: bool, letter: u8)
+    requires { array_vec_len line.old + 1 ≤ 256 }
+    ensures items { line.new.items ≡ line.old.items ++ (if is_set then letter ∷ [] else codes "-") }
+    ensures len { array_vec_len line.new ≡ array_vec_len line.old + 1 }
+{
+    line.push(if is_set { letter } else { b'-' });
+}
+
+/// The name of a segment type (gABI 5, Segment Types).
+#[tactic(auto, unfolding(elf_model::specs::NameTables::segment_types, elf_model::specs::Text::name_of))]
+fn segment_type_name(kind: u32) -> Option<&'static str>
+    ensures name { option_copied result ≡ name_of segment_types kind }
+    ensures short { IfSome result (λ name. length name.now ≤ 8) }
+{
+    match kind {
+        0 => Some("NULL"),
+        1 => Some("LOAD"),
+        2 => Some("DYNAMIC"),
+        3 => Some("INTERP"),
+        4 => Some("NOTE"),
+        5 => Some("SHLIB"),
+        6 => Some("PHDR"),
+        7 => Some("TLS"),
+        _ => None,
+    }
+}

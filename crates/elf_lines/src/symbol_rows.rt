@@ -1,0 +1,135 @@
+//! The lines of symbols.
+ghost use Rattle.std.specs.Prelude.{◌≡◌, ◌^◌, ◌<◌, ◌≤◌, ℕ, List, length, is_err, IfSome, option_copied};
+ghost use Rattle.elf_model.specs.Text.{name_of};
+ghost use Rattle.elf_model.specs.NameTables.{symbol_types, bindings, visibilities, places};
+ghost use Rattle.elf_model.specs.LineFronts.{symbol_front};
+ghost use Rattle.elf_model.specs.Lines.{named_line};
+ghost use Rattle.elf_model.specs.Names.Shown.{Whole};
+ghost use Rattle.elf_record.specs.Sym.{IsSym};
+ghost use Rattle.elf_source.specs.Output.{Puts};
+
+use crate::columns::{Line, put, put_decimal, put_hex, put_name_or_decimal};
+use crate::named::show_named;
+use elf_record::Sym;
+use elf_source::{Out, OutFault, Sink};
+
+/// The line of a symbol up to the name: the index of its section, its own index, value, size, type,
+/// binding, visibility and place. The space before the name is the last byte.
+#[tactic(auto, unfolding(elf_model::specs::LineFronts::symbol_front))]
+pub fn symbol_front(section: u16, index: u64, symbol: &Sym) -> Line
+    ensures { (file : List ℕ) (at : ℕ) → IsSym file at symbol.now → result.items ≡ symbol_front file at section index }
+{
+    let mut line = Line::new();
+    put(&mut line, b"Y ");
+    put_decimal(&mut line, 5, u64::from(section));
+    put(&mut line, b" ");
+    put_decimal(&mut line, 10, index);
+    put(&mut line, b" ");
+    put_hex(&mut line, 16, symbol.st_value);
+    put(&mut line, b" ");
+    put_hex(&mut line, 16, symbol.st_size);
+    put(&mut line, b" ");
+    let kind = symbol.kind();
+    put_name_or_decimal(&mut line, 7, symbol_type_name(kind), u64::from(kind));
+    put(&mut line, b" ");
+    let binding = symbol.binding();
+    put_name_or_decimal(&mut line, 6, binding_name(binding), u64::from(binding));
+    put(&mut line, b" ");
+    let visibility = symbol.visibility();
+    put_name_or_decimal(
+        &mut line,
+        9,
+        visibility_name(visibility),
+        u64::from(visibility),
+    );
+    put(&mut line, b" ");
+    put_name_or_decimal(
+        &mut line,
+        5,
+        place_name(symbol.st_shndx),
+        u64::from(symbol.st_shndx),
+    );
+    put(&mut line, b" ");
+    line
+}
+
+/// Writes the line of a symbol with its name, whole, as it is given.
+///
+/// # Errors
+/// A fault of the output, with a front of the line written.
+pub fn show_symbol<W: Sink>(
+    section: u16,
+    index: u64,
+    symbol: &Sym,
+    name: &[u8],
+    out: &mut Out<W>,
+) -> Result<(), OutFault>
+    ensures line { (file : List ℕ) (at : ℕ) → IsSym file at symbol.now →
+        Puts (W.taken out.old.sink) (W.taken out.new.sink) out.old.written out.new.written result
+        (named_line (symbol_front file at section index) (Whole name.now)) }
+    ensures fails { W.failed out.new.sink ≡ is_err result }
+    ensures fits { out.new.written < 2 ^ 128 }
+{
+    show_named(symbol_front(section, index, symbol), name, false, out)
+}
+
+/// The name of a symbol type (gABI 4, Symbol Types).
+#[tactic(auto, unfolding(elf_model::specs::NameTables::symbol_types, elf_model::specs::Text::name_of))]
+fn symbol_type_name(kind: u8) -> Option<&'static str>
+    ensures name { option_copied result ≡ name_of symbol_types kind }
+    ensures short { IfSome result (λ name. length name.now ≤ 7) }
+{
+    match kind {
+        0 => Some("NOTYPE"),
+        1 => Some("OBJECT"),
+        2 => Some("FUNC"),
+        3 => Some("SECTION"),
+        4 => Some("FILE"),
+        5 => Some("COMMON"),
+        6 => Some("TLS"),
+        _ => None,
+    }
+}
+
+/// The name of a symbol's binding (gABI 4, Symbol Binding).
+#[tactic(auto, unfolding(elf_model::specs::NameTables::bindings, elf_model::specs::Text::name_of))]
+fn binding_name(binding: u8) -> Option<&'static str>
+    ensures name { option_copied result ≡ name_of bindings binding }
+    ensures short { IfSome result (λ name. length name.now ≤ 6) }
+{
+    match binding {
+        0 => Some("LOCAL"),
+        1 => Some("GLOBAL"),
+        2 => Some("WEAK"),
+        _ => None,
+    }
+}
+
+/// The name of a symbol's visibility (gABI 4, Symbol Visibility).
+#[tactic(auto, unfolding(elf_model::specs::NameTables::visibilities, elf_model::specs::Text::name_of))]
+fn visibility_name(visibility: u8) -> Option<&'static str>
+    ensures name { option_copied result ≡ name_of visibilities visibility }
+    ensures short { IfSome result (λ name. length name.now ≤ 9) }
+{
+    match visibility {
+        0 => Some("DEFAULT"),
+        1 => Some("INTERNAL"),
+        2 => Some("HIDDEN"),
+        3 => Some("PROTECTED"),
+        _ => None,
+    }
+}
+
+/// The name of a special section index that a symbol may have (gABI 4, Special Section Indexes).
+#[tactic(auto, unfolding(elf_model::specs::NameTables::places, elf_model::specs::Text::name_of))]
+fn place_name(index: u16) -> Option<&'static str>
+    ensures name { option_copied result ≡ name_of places index }
+    ensures short { IfSome result (λ name. length name.now ≤ 5) }
+{
+    match index {
+        0 => Some("UND"),
+        0xfff1 => Some("ABS"),
+        0xfff2 => Some("COM"),
+        _ => None,
+    }
+}
