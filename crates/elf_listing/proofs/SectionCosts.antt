@@ -4,10 +4,11 @@ use Rattle.std.proofs.Math.Nat.{mul-le-mul_left}
 use Rattle.std.proofs.lemmas.Bool.{eqb-true}
 use Rattle.std.specs.Prelude.{is_none, MatchOption}
 use Rattle.elf_model.specs.Checks.{Check, first_refusal, header_checks, early_checks, section_name_checks, is_symbol_table, table_checks_of}
-use Rattle.elf_model.specs.Cost.{sum_over, cost_where, is_table, entries_cost, symbols_cost, table_cost, is_loadable, sections_cost, segments_cost, tables_cost, cost, ceiling}
-use Rattle.elf_model.specs.Listing.{has, has_tables, SECTIONS, SEGMENTS, SYMBOLS}
+use Rattle.elf_model.specs.Cost.{sum_over, cost_where, is_table, entries_cost, symbols_cost, relocations_cost, table_cost, is_loadable, sections_cost, segments_cost, tables_cost, cost, ceiling}
+use Rattle.elf_model.specs.Listing.{has, has_tables, SECTIONS, SEGMENTS, SYMBOLS, RELOCS}
 use Rattle.elf_model.specs.Names.{name_bytes}
-use Rattle.elf_model.specs.Records.{e_shnum, e_phnum, e_shstrndx, sh_offset, sh_size}
+use Rattle.elf_model.specs.Numbers.{SHT_RELA}
+use Rattle.elf_model.specs.Records.{e_shnum, e_phnum, e_shstrndx, sh_type, sh_offset, sh_size}
 use Rattle.elf_model.specs.declared.causes.Refusal.{Refusal}
 use Rattle.elf_model.proofs.CheckSteps.{first_refusal-none, first_refusal-some}
 use Rattle.elf_model.proofs.CostLemmas.{cost_where-le, sum_over-le}
@@ -64,10 +65,17 @@ unfolding symbols_cost
 symbols_within bytes size place cap table start after kind h asked =
     let within = entries_within bytes 0 size place 24 (24 + name_bytes cap) table h in rw kind (omega arith)
 
--- the symbols of all sections are among their tables
-pub symbols_among : (store : Stored) (size cap parts : ℕ)
-    → cost_where (has parts SYMBOLS) (sum_over (λ i. symbols_cost (row store i) 0 size cap) 0 store.loaded) ≤ sum_over (λ i. table_cost (row store i) 0 size cap parts) 0 store.loaded
-symbols_among store size cap parts = let sum = part_by_part (row store) (λ i. 0) size cap parts store.loaded in omega arith
+pub relocations_within : (bytes : List ℕ) (size place cap : ℕ) (table : Rows) (start after : ℕ) → sh_type bytes 0 ≡ SHT_RELA → Ok table ≡ table_of bytes 0 size place 24
+    → after ≤ start + table.count * (24 + (24 + name_bytes cap)) → after ≤ start + relocations_cost bytes 0 size cap
+unfolding relocations_cost
+relocations_within bytes size place cap table start after kind h asked =
+    let within = entries_within bytes 0 size place 24 (24 + 24 + name_bytes cap) table h in rw kind (omega arith)
+
+-- the symbols and the relocation entries of all sections are among their tables
+pub entries_among : (store : Stored) (size cap parts : ℕ)
+    → cost_where (has parts SYMBOLS) (sum_over (λ i. symbols_cost (row store i) 0 size cap) 0 store.loaded)
+    + cost_where (has parts RELOCS) (sum_over (λ i. relocations_cost (row store i) 0 size cap) 0 store.loaded) ≤ sum_over (λ i. table_cost (row store i) 0 size cap parts) 0 store.loaded
+entries_among store size cap parts = let sum = part_by_part (row store) (λ i. 0) size cap parts store.loaded in omega arith
 
 -- what is listed of a file that was loaded is within its cost
 pub listed_within : (file : List ℕ) (loaded : Opened) (store : Stored) (cap parts : ℕ) → Belongs file loaded store

@@ -6,13 +6,14 @@ use Rattle.elf_model.specs.Checks.{Check, first_refusal, is_symbol_table, table_
 use Rattle.elf_model.specs.LineFronts.{section_front}
 use Rattle.elf_model.specs.Listing.{Item, Fault, each, checked, lines_of}
 use Rattle.elf_model.specs.Names.{shown}
-use Rattle.elf_model.specs.Records.{e_shnum, e_shstrndx, sh_name, sh_offset, sh_size, sh_link, section_at}
-use Rattle.elf_model.specs.Rows.{section_row, section_name, symbol_row, symbol_rows, named_row, no_name}
+use Rattle.elf_model.specs.Numbers.{SHT_RELA}
+use Rattle.elf_model.specs.Records.{e_shnum, e_shstrndx, sh_name, sh_type, sh_offset, sh_size, sh_link, section_at}
+use Rattle.elf_model.specs.Rows.{section_row, section_name, symbol_row, symbol_rows, relocation_row, relocation_rows, named_row, no_name}
 use Rattle.elf_model.proofs.ListingLemmas.{checked-passes, checked-fault}
-use Rattle.elf_model.specs.Tables.{section_bytes, strings_of, entry_count, symbol_table_checks}
+use Rattle.elf_model.specs.Tables.{section_bytes, strings_of, entry_count, symbol_table_checks, relocation_table_checks}
 use Rattle.elf_model.specs.declared.causes.Refusal.{Refusal}
 use Rattle.elf_table.specs.Tables.{Rows, Strings}
-use Rattle.elf_table.specs.Sections.{answered, names_at, rows, strings, section_names, symbols_at, checked as checked_as}
+use Rattle.elf_table.specs.Sections.{answered, names_at, rows, strings, section_names, symbols_at, symbols_linked, linked_checks, relocations_at, checked as checked_as}
 use Rattle.elf_table.specs.declared.fault.Fault.{Fault as TableFault}
 use Rattle.elf_table.specs.declared.fault.Fault.TheVariants.{Refused, Source as Unread}
 use Rattle.elf_listing.specs.Sections.{name_in}
@@ -99,29 +100,35 @@ pub record SymbolsOf (file : List ℕ) (section : ℕ) (table : Rows) (names : S
   pub named : 0 < table.count → slice file names.at names.size ≡ strings_of file (section_at file section)
   pub placed : 0 < table.count → table.at ≡ sh_offset file (section_at file section)
 
-passes_by_cases : (empty : Bool) (offset size : ℕ) (named : Strings) (checks : List Check) (table : Rows) (names : Strings) → empty ≡ (size == 0)
-    → (elim empty as (λ _. Result (Rows × Strings) TableFault) [ true ↦ Ok (rows offset 0 24, strings offset 0) | false ↦ checked_as checks (rows offset (size / 24) 24, named) ]) ≡ Ok (table, names)
-    → (first_refusal (if empty then [] else checks) ≡ None) × (table.count ≡ size / 24) × (0 < table.count → (names ≡ named) × (table.at ≡ offset))
-passes_by_cases true offset size named checks table names e h =
-    let both : (rows offset 0 24, strings offset 0) ≡ (table, names) = cc in
-    let t : rows offset 0 24 ≡ table = ap (λ (answer : Rows × Strings). answer.0) both in
+passes_by_cases : {B : Type 0} (empty : Bool) (offset size : ℕ) (none some : B) (checks : List Check) (table : Rows) (names : B) → empty ≡ (size == 0)
+    → (elim empty as (λ _. Result (Rows × B) TableFault) [ true ↦ Ok (rows offset 0 24, none) | false ↦ checked_as checks (rows offset (size / 24) 24, some) ]) ≡ Ok (table, names)
+    → (first_refusal (if empty then [] else checks) ≡ None) × (table.count ≡ size / 24) × (0 < table.count → (names ≡ some) × (table.at ≡ offset))
+passes_by_cases {B = B} true offset size none some checks table names e h =
+    let P : Type 0 = Rows × B in
+    let empty_table : P = (rows offset 0 24, none) in
+    let result : P = (table, names) in
+    let same : empty_table ≡ result = cc in
+    let both : rows offset 0 24 ≡ table = ap (λ (both : P). both.0) same in
     let zero : size ≡ 0 = eqb-true size 0 (sym e) in
-    let none : table.count ≡ 0 = ap (λ (r : Rows). r.count) (sym t) in
-    (refl, none ∙ ap (λ n. n / 24) (sym zero), λ some. absurd (impossible none some))
+    let no_row : table.count ≡ 0 = ap (λ (r : Rows). r.count) (sym both) in
+    (refl, no_row ∙ ap (λ n. n / 24) (sym zero), λ many. absurd (impossible no_row many))
   where
     impossible : table.count ≡ 0 → 0 < table.count → ⊥
     impossible a b = omega (arith, a, b)
-passes_by_cases false offset size named checks table names e h =
-    let p = passed_first (first_refusal checks) (rows offset (size / 24) 24, named) (table, names) h in
-    let t : rows offset (size / 24) 24 ≡ table = ap (λ (both : Rows × Strings). both.0) p.1 in
-    let s : named ≡ names = ap (λ (both : Rows × Strings). both.1) p.1 in
-    (p.0, ap (λ (r : Rows). r.count) (sym t), λ some. (sym s, ap (λ (r : Rows). r.at) (sym t)))
+passes_by_cases {B = B} false offset size none some checks table names e h =
+    let P : Type 0 = Rows × B in
+    let value : P = (rows offset (size / 24) 24, some) in
+    let result : P = (table, names) in
+    let p = passed_first (first_refusal checks) value result h in
+    let t : rows offset (size / 24) 24 ≡ table = ap (λ (both : P). both.0) p.1 in
+    let s : some ≡ names = ap (λ (both : P). both.1) p.1 in
+    (p.0, ap (λ (r : Rows). r.count) (sym t), λ many. (sym s, ap (λ (r : Rows). r.at) (sym t)))
 
 pub symbols_pass : (file : List ℕ) (section : ℕ) (table : Rows) (names : Strings) → symbols_at file (section_at file section) ≡ Ok (table, names)
     → SymbolsOf file section table names
 symbols_pass file section table names h =
     let at : ℕ = section_at file section in
-    let p = passes_by_cases (sh_size file at == 0) (sh_offset file at) (sh_size file at) (names_at file (section_at file (sh_link file at))) (table_checks file at 24 ++ strings_checks file at) table names refl h in
+    let p = passes_by_cases (sh_size file at == 0) (sh_offset file at) (sh_size file at) (strings (sh_offset file at) 0) (names_at file (section_at file (sh_link file at))) (table_checks file at 24 ++ strings_checks file at) table names refl h in
     record {
       pass = p.0;
       counted = p.1;
@@ -158,3 +165,59 @@ Shows-fault a m items (Refused first) result small is alone =
     let P : List Item → Type 0 = λ shown. Shows a a m m (Ok (Some first)) shown in
     let Q : Result (Option Refusal) RunFault → Type 0 = λ answer. Shows a a m m answer items in
     subst Q (sym is) (subst P (sym (alone first refl)) (Takes-nothing a m small, refl))
+
+-- a section of another type has no rows of relocation entries
+pub no_relocations : (file : List ℕ) (cap section : ℕ) → (sh_type file (section_at file section) ≡ SHT_RELA → ⊥) → relocation_rows file cap section ≡ []
+unfolding relocation_rows
+no_relocations file cap section h =
+    let other : (sh_type file (section_at file section) == SHT_RELA) ≡ false = by_cases (sh_type file (section_at file section) == SHT_RELA) (λ e. h (eqb-true (sh_type file (section_at file section)) SHT_RELA e)) in
+    rw (other, relocation_rows) refl
+  where
+    by_cases : (b : Bool) → (b ≡ true → ⊥) → b ≡ false
+    by_cases true k = absurd (k refl)
+    by_cases false k = refl
+
+-- one of that type has them behind its checks
+relocations_are : (file : List ℕ) (cap section : ℕ) → sh_type file (section_at file section) ≡ SHT_RELA
+    → relocation_rows file cap section ≡ checked (relocation_table_checks file (section_at file section)) (each (relocation_row file cap section (section_at file section)) 0 (entry_count file (section_at file section) 24))
+unfolding relocation_rows
+relocations_are file cap section h = rw (h, relocation_rows) refl
+
+pub relocations_fault : (file : List ℕ) (cap section : ℕ) (refusal : Refusal) → sh_type file (section_at file section) ≡ SHT_RELA
+    → relocations_at file (section_at file section) ≡ Err (Refused refusal) → relocation_rows file cap section ≡ Fault refusal ∷ []
+relocations_fault file cap section refusal kind h =
+    let at : ℕ = section_at file section in
+    let first : first_refusal (relocation_table_checks file at) ≡ Some refusal =
+    fails_by_cases (sh_size file at == 0) (rows (sh_offset file at) 0 24, None)
+    (rows (sh_offset file at) (sh_size file at / 24) 24, symbols_linked file at) (table_checks file at 24 ++ linked_checks file at) refusal h in
+    relocations_are file cap section kind ∙ checked-fault (relocation_table_checks file at) _ refusal first
+
+-- what the checks of a table of relocation entries leave, where they pass
+pub record RelocationsOf (file : List ℕ) (section : ℕ) (table : Rows) (linked : Option (Rows × Strings)) : Type 0 where
+  pub pass : first_refusal (relocation_table_checks file (section_at file section)) ≡ None
+  pub counted : table.count ≡ entry_count file (section_at file section) 24
+  pub refers : 0 < table.count → linked ≡ symbols_linked file (section_at file section)
+  pub placed : 0 < table.count → table.at ≡ sh_offset file (section_at file section)
+
+pub relocations_pass : (file : List ℕ) (section : ℕ) (table : Rows) (linked : Option (Rows × Strings)) → relocations_at file (section_at file section) ≡ Ok (table, linked)
+    → RelocationsOf file section table linked
+relocations_pass file section table linked h =
+    let at : ℕ = section_at file section in
+    let p = passes_by_cases (sh_size file at == 0) (sh_offset file at) (sh_size file at) None (symbols_linked file at) (table_checks file at 24 ++ linked_checks file at) table linked refl h in
+    record {
+      pass = p.0;
+      counted = p.1;
+      refers = λ some. (p.2 some).0;
+      placed = λ some. (p.2 some).1;
+    }
+
+pub Shows-relocations : (a b : Option (List ℕ)) (m n : ℕ) (result : Result (Option Refusal) RunFault) (file : List ℕ) (cap section count : ℕ)
+    → sh_type file (section_at file section) ≡ SHT_RELA → first_refusal (relocation_table_checks file (section_at file section)) ≡ None
+    → count ≡ entry_count file (section_at file section) 24
+    → Shows a b m n result (each (relocation_row file cap section (section_at file section)) 0 count) → Shows a b m n result (relocation_rows file cap section)
+Shows-relocations a b m n result file cap section count kind pass same shown =
+    let row : ℕ → List Item = relocation_row file cap section (section_at file section) in
+    let behind : checked (relocation_table_checks file (section_at file section)) (each row 0 (entry_count file (section_at file section) 24)) ≡ each row 0 (entry_count file (section_at file section) 24) =
+    checked-passes (relocation_table_checks file (section_at file section)) _ pass in
+    let P : List Item → Type 0 = λ items. Shows a b m n result items in
+    subst P (sym (relocations_are file cap section kind ∙ behind)) (subst P (ap (each row 0) same) shown)

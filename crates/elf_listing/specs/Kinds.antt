@@ -1,46 +1,54 @@
 -- The kinds of tables whose rows are listed.
-use Rattle.std.specs.Prelude.{ℕ, ◌≡◌, ◌^◌, ◌<◌, List}
+use Rattle.std.specs.Prelude.{ℕ, ◌≡◌, ◌+◌, ◌^◌, ◌<◌, List, IfSome}
 use Rattle.elf_model.specs.Bytes.{slice}
-use Rattle.elf_model.specs.Records.{e_phoff, sh_offset, section_at}
+use Rattle.elf_model.specs.Records.{e_phoff, e_machine, sh_offset, section_at}
 use Rattle.elf_model.specs.Names.{name_bytes}
-use Rattle.elf_model.specs.Tables.{SYMBOL_SIZE, strings_of}
+use Rattle.elf_model.specs.Tables.{SYMBOL_SIZE, RELA_SIZE, strings_of}
 use Rattle.elf_model.specs.Listing.{Item}
-use Rattle.elf_model.specs.Rows.{segment_row, symbol_row}
-use Rattle.elf_table.specs.Tables.{StringsWithin}
+use Rattle.elf_model.specs.Rows.{segment_row, symbol_row, relocation_row}
+use Rattle.elf_table.specs.Sections.{symbols_linked}
+use Rattle.elf_table.specs.Tables.{StringsWithin, SymbolsWithin}
 use Rattle.elf_listing.specs.declared.table_rows.Kind.{Kind}
-use Rattle.elf_listing.specs.declared.table_rows.Kind.TheVariants.{Segments, Symbols}
+use Rattle.elf_listing.specs.declared.table_rows.Kind.TheVariants.{Segments, Symbols, Relocations}
 
 -- the size of a row in bytes
 abbrev pub row_size : Kind → ℕ
 row_size Segments = 56
 row_size (Symbols section names) = SYMBOL_SIZE
+row_size (Relocations section machine linked) = RELA_SIZE
 
 -- how many bytes a row asks for at most beside its own
 abbrev pub own_cost : Kind → ℕ → ℕ
 own_cost Segments cap = 0
 own_cost (Symbols section names) cap = name_bytes cap
+own_cost (Relocations section machine linked) cap = SYMBOL_SIZE + name_bytes cap
 
 -- where the table of a kind stands in a file
 abbrev pub table_place : Kind → List ℕ → ℕ
 table_place Segments file = e_phoff file
 table_place (Symbols section names) file = sh_offset file (section_at file section)
+table_place (Relocations section machine linked) file = sh_offset file (section_at file section)
 
 -- the items of the row of an index
 abbrev pub row_items : Kind → List ℕ → ℕ → ℕ → List Item
 row_items Segments file cap = segment_row file
 row_items (Symbols section names) file cap = symbol_row file cap section (section_at file section)
+row_items (Relocations section machine linked) file cap = relocation_row file cap section (section_at file section)
 
--- the string table of a kind lies within a source of this size
+-- the tables that a kind's names are read from lie within a source of this size
 abbrev pub KindWithin : ℕ → Kind → Type 0
 KindWithin size Segments = Unit {0}
 KindWithin size (Symbols section names) = StringsWithin size names
+KindWithin size (Relocations section machine linked) = IfSome linked (SymbolsWithin size)
 
--- the string table of a kind is that of the file's section
+-- the tables that a kind's names are read from are those that the file's section refers to, and the machine is the file's
 abbrev pub KindOf : List ℕ → Kind → Type 0
 KindOf file Segments = Unit {0}
 KindOf file (Symbols section names) = slice file names.at names.size ≡ strings_of file (section_at file section)
+KindOf file (Relocations section machine linked) = (machine ≡ e_machine file) × (linked ≡ symbols_linked file (section_at file section))
 
 -- an index of a kind's rows fits the column's type
 abbrev pub IndexFits : Kind → ℕ → Type 0
 IndexFits Segments index = index < 2 ^ 16
 IndexFits (Symbols section names) index = Unit {0}
+IndexFits (Relocations section machine linked) index = Unit {0}

@@ -1,3 +1,4 @@
 pub mod Kinds
+pub mod Relocations
 pub mod Sections
 pub mod Shows

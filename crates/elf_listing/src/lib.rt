@@ -4,6 +4,7 @@
 mod buffers;
 mod end;
 mod listing;
+mod relocation_row;
 mod row;
 mod sections;
 mod table_rows;

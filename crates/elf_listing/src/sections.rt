@@ -1,10 +1,10 @@
 //! What is listed of each section, one section after another.
 ghost use Rattle.std.specs.Prelude.{◌≡◌, ◌+◌, ◌^◌, ◌<◌, ◌≤◌, ℕ, List, IfErr, IsTrue};
-ghost use Rattle.elf_model.specs.Cost.{sum_over, symbols_cost};
+ghost use Rattle.elf_model.specs.Cost.{sum_over, symbols_cost, relocations_cost};
 ghost use Rattle.elf_model.specs.Listing.{each};
 ghost use Rattle.elf_model.specs.Names.{name_bytes};
 ghost use Rattle.elf_model.specs.Records.{e_shnum, section_at, sh_name};
-ghost use Rattle.elf_model.specs.Rows.{section_name, section_row, symbol_rows};
+ghost use Rattle.elf_model.specs.Rows.{section_name, section_row, symbol_rows, relocation_rows};
 ghost use Rattle.elf_source.specs.Source.{Keeps};
 ghost use Rattle.elf_table.specs.Load.{Belongs};
 ghost use Rattle.elf_table.specs.NamesRead.{NameRead};
@@ -22,6 +22,9 @@ use elf_record::Refusal;
 use elf_source::{Counted, Out, Sink, Source};
 use elf_table::{Fault, HeaderStore, Loaded, NameBuf, NameEnd, Names, holds_symbols};
 
+/// The section type of relocation entries with addends.
+const SHT_RELA: u32 = 4;
+
 /// What is listed of each section.
 #[derive(Drop)]
 pub(crate) enum Part {
@@ -32,6 +35,8 @@ pub(crate) enum Part {
     },
     /// Its symbols, a `Y` line each.
     Symbols,
+    /// Its relocation entries, an `R` line each.
+    Relocations,
 }
 
 /// Shows a part of each section in the order of the section headers, up to the first that is refused.
@@ -103,6 +108,7 @@ fn show_part<S: Source, W: Sink>(
             show_section(src, store, loaded, section, *names, cap, name, out)
         }
         Part::Symbols => show_symbols_of(src, store, loaded, section, cap, name, out),
+        Part::Relocations => show_relocations_of(src, store, loaded, section, cap, name, out),
     }
 }
 
@@ -202,6 +208,54 @@ fn show_symbols_of<S: Source, W: Sink>(
         src,
         table,
         &Kind::Symbols { section, names },
+        cap,
+        name,
+        out,
+    )
+}
+
+/// Shows the relocation entries of a section, where it holds them: an `R` line each, or the first
+/// refusal of its table, of the symbols that they refer to or of an entry (gABI 4, Relocation).
+fn show_relocations_of<S: Source, W: Sink>(
+    src: &mut Counted<S>,
+    store: &HeaderStore,
+    loaded: &Loaded,
+    section: u16,
+    cap: u16,
+    name: &mut NameBuf,
+    out: &mut Out<W>,
+) -> Result<Option<Refusal>, RunFault>
+    requires loaded { store.now.loaded ≡ loaded.now.header.e_shnum }
+    requires below { section < store.now.loaded }
+    requires size { loaded.now.size ≡ S.size src.old.source }
+    requires cap_some { 1 ≤ cap }
+    requires cap_most { cap ≤ 4096 }
+    requires written { out.old.written < 2 ^ 128 }
+    ensures kept { Keeps S.holds S.size S.failures src.old.source src.new.source }
+    ensures blames { IfErr result (RunBlames S.holds S.failures src.old.source src.new.source) }
+    ensures out_fails { IsTrue (is_out_fault result) → IsTrue (W.failed out.new.sink) }
+    ensures fits { out.new.written < 2 ^ 128 }
+    ensures asked { src.new.asked ≤ src.old.asked + relocations_cost (row store.now section) 0 loaded.now.size cap }
+    ensures text { (file : List ℕ) → S.holds src.old.source file → Belongs file loaded.now store.now →
+        Shows (W.taken out.old.sink) (W.taken out.new.sink) out.old.written out.new.written result (relocation_rows file cap section) }
+{
+    if store.section(section).sh_type != SHT_RELA {
+        let _written = out.written();
+        return Ok(None);
+    }
+    let (table, linked) = match loaded.relocations(store, section) {
+        Ok(relocations) => relocations,
+        Err(fault) => return ended(fault),
+    };
+    let machine = loaded.header().e_machine;
+    show_rows(
+        src,
+        table,
+        &Kind::Relocations {
+            section,
+            machine,
+            linked,
+        },
         cap,
         name,
         out,

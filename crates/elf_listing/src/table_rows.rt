@@ -8,6 +8,7 @@ ghost use Rattle.elf_listing.specs.Kinds.{row_size, own_cost, table_place, row_i
 ghost use Rattle.elf_listing.specs.Shows.{Shows, RunBlames, end_of, is_out_fault};
 
 use crate::end::RunFault;
+use crate::relocation_row::show_relocation_row;
 use crate::row::{show_segment, show_symbol_row};
 use elf_record::Refusal;
 use elf_source::{Counted, Out, Sink, Source};
@@ -24,6 +25,15 @@ pub(crate) enum Kind {
         section: u16,
         /// The string table with the symbols' names.
         names: Names,
+    },
+    /// The relocation entries of a section, an `R` line each.
+    Relocations {
+        /// The section's index.
+        section: u16,
+        /// The file's machine, which the relocation types have their names by.
+        machine: u16,
+        /// The symbols that the entries refer to, with their names, if there are any.
+        linked: Option<(Table, Names)>,
     },
 }
 
@@ -106,5 +116,10 @@ fn show_row<S: Source, W: Sink>(
         Kind::Symbols { section, names } => {
             show_symbol_row(src, row, *section, names, cap, name, out)
         }
+        Kind::Relocations {
+            section,
+            machine,
+            linked,
+        } => show_relocation_row(src, row, *section, *machine, *linked, cap, name, out),
     }
 }

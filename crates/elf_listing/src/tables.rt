@@ -1,16 +1,16 @@
 //! The tables of a loaded file, part by part.
 ghost use Rattle.std.specs.Prelude.{◌≡◌, ◌+◌, ◌*◌, ◌^◌, ◌<◌, ◌≤◌, ◌==◌, ◌&&◌, not, ℕ, List, IfErr, IsTrue};
-ghost use Rattle.elf_model.specs.Cost.{cost_where, sum_over, symbols_cost};
-ghost use Rattle.elf_model.specs.Listing.{each, has, where_asked, SECTIONS, SEGMENTS, SYMBOLS};
+ghost use Rattle.elf_model.specs.Cost.{cost_where, sum_over, symbols_cost, relocations_cost};
+ghost use Rattle.elf_model.specs.Listing.{each, has, where_asked, SECTIONS, SEGMENTS, SYMBOLS, RELOCS};
 ghost use Rattle.elf_model.specs.Names.{name_bytes};
 ghost use Rattle.elf_model.specs.Records.{e_shnum, e_phnum};
 ghost use Rattle.elf_model.specs.Report.{table_items};
-ghost use Rattle.elf_model.specs.Rows.{section_row, segment_row, symbol_rows};
+ghost use Rattle.elf_model.specs.Rows.{section_row, segment_row, symbol_rows, relocation_rows};
 ghost use Rattle.elf_source.specs.Source.{Keeps};
 ghost use Rattle.elf_table.specs.Load.{Belongs};
 ghost use Rattle.elf_table.specs.Store.{row};
 ghost use Rattle.elf_record.specs.Ehdr.{IsEhdr};
-ghost use Rattle.elf_listing.specs.Sections.{AreListed, listed_cost};
+ghost use Rattle.elf_listing.specs.Sections.{AreListed, listed_cost, headers_cost, entries_cost, header_items, entry_items};
 ghost use Rattle.elf_listing.specs.Shows.{Shows, RunBlames, is_out_fault};
 
 use crate::end::RunFault;
@@ -46,13 +46,69 @@ pub(crate) fn show_tables<S: Source, W: Sink>(
         Shows (W.taken out.old.sink) (W.taken out.new.sink) out.old.written out.new.written result (table_items file cap parts.0) }
 {
     let mut name = NameBuf::new();
-    if let Some(refusal) = show_sections(src, store, loaded, cap, parts, &mut name, out)? {
+    if let Some(refusal) = show_headers(src, store, loaded, cap, parts, &mut name, out)? {
         return Ok(Some(refusal));
     }
-    if let Some(refusal) = show_segments(src, loaded, cap, parts, &mut name, out)? {
+    show_entries(src, store, loaded, cap, parts, &mut name, out)
+}
+
+/// Shows the section headers and then the program headers, where the parts have them, up to the first
+/// refusal.
+fn show_headers<S: Source, W: Sink>(
+    src: &mut Counted<S>,
+    store: &HeaderStore,
+    loaded: &Loaded,
+    cap: u16,
+    parts: Parts,
+    name: &mut NameBuf,
+    out: &mut Out<W>,
+) -> Result<Option<Refusal>, RunFault>
+    requires loaded { store.now.loaded ≡ loaded.now.header.e_shnum }
+    requires size { loaded.now.size ≡ S.size src.old.source }
+    requires cap_some { 1 ≤ cap }
+    requires cap_most { cap ≤ 4096 }
+    requires written { out.old.written < 2 ^ 128 }
+    ensures kept { Keeps S.holds S.size S.failures src.old.source src.new.source }
+    ensures blames { IfErr result (RunBlames S.holds S.failures src.old.source src.new.source) }
+    ensures out_fails { IsTrue (is_out_fault result) → IsTrue (W.failed out.new.sink) }
+    ensures fits { out.new.written < 2 ^ 128 }
+    ensures asked { src.new.asked ≤ src.old.asked + headers_cost loaded.now store.now cap parts.0 }
+    ensures text { (file : List ℕ) → S.holds src.old.source file → Belongs file loaded.now store.now →
+        Shows (W.taken out.old.sink) (W.taken out.new.sink) out.old.written out.new.written result (header_items file cap parts.0) }
+{
+    if let Some(refusal) = show_sections(src, store, loaded, cap, parts, name, out)? {
         return Ok(Some(refusal));
     }
-    show_symbols(src, store, loaded, cap, parts, &mut name, out)
+    show_segments(src, loaded, cap, parts, name, out)
+}
+
+/// Shows the symbols and then the relocation entries, where the parts have them, up to the first refusal.
+fn show_entries<S: Source, W: Sink>(
+    src: &mut Counted<S>,
+    store: &HeaderStore,
+    loaded: &Loaded,
+    cap: u16,
+    parts: Parts,
+    name: &mut NameBuf,
+    out: &mut Out<W>,
+) -> Result<Option<Refusal>, RunFault>
+    requires loaded { store.now.loaded ≡ loaded.now.header.e_shnum }
+    requires size { loaded.now.size ≡ S.size src.old.source }
+    requires cap_some { 1 ≤ cap }
+    requires cap_most { cap ≤ 4096 }
+    requires written { out.old.written < 2 ^ 128 }
+    ensures kept { Keeps S.holds S.size S.failures src.old.source src.new.source }
+    ensures blames { IfErr result (RunBlames S.holds S.failures src.old.source src.new.source) }
+    ensures out_fails { IsTrue (is_out_fault result) → IsTrue (W.failed out.new.sink) }
+    ensures fits { out.new.written < 2 ^ 128 }
+    ensures asked { src.new.asked ≤ src.old.asked + entries_cost loaded.now store.now cap parts.0 }
+    ensures text { (file : List ℕ) → S.holds src.old.source file → Belongs file loaded.now store.now →
+        Shows (W.taken out.old.sink) (W.taken out.new.sink) out.old.written out.new.written result (entry_items file cap parts.0) }
+{
+    if let Some(refusal) = show_symbols(src, store, loaded, cap, parts, name, out)? {
+        return Ok(Some(refusal));
+    }
+    show_relocations(src, store, loaded, cap, parts, name, out)
 }
 
 /// Shows the section headers, where the parts have them: an `S` line each (gABI 4, Section Header).
@@ -143,4 +199,35 @@ fn show_symbols<S: Source, W: Sink>(
         return Ok(None);
     }
     show_each(src, store, loaded, &Part::Symbols, cap, name, out)
+}
+
+/// Shows the relocation entries of all sections that hold them, where the parts have them: an `R` line
+/// each (gABI 4, Relocation).
+fn show_relocations<S: Source, W: Sink>(
+    src: &mut Counted<S>,
+    store: &HeaderStore,
+    loaded: &Loaded,
+    cap: u16,
+    parts: Parts,
+    name: &mut NameBuf,
+    out: &mut Out<W>,
+) -> Result<Option<Refusal>, RunFault>
+    requires loaded { store.now.loaded ≡ loaded.now.header.e_shnum }
+    requires size { loaded.now.size ≡ S.size src.old.source }
+    requires cap_some { 1 ≤ cap }
+    requires cap_most { cap ≤ 4096 }
+    requires written { out.old.written < 2 ^ 128 }
+    ensures kept { Keeps S.holds S.size S.failures src.old.source src.new.source }
+    ensures blames { IfErr result (RunBlames S.holds S.failures src.old.source src.new.source) }
+    ensures out_fails { IsTrue (is_out_fault result) → IsTrue (W.failed out.new.sink) }
+    ensures fits { out.new.written < 2 ^ 128 }
+    ensures asked { src.new.asked ≤ src.old.asked + cost_where (has parts.0 RELOCS) (sum_over (λ i. relocations_cost (row store.now i) 0 loaded.now.size cap) 0 store.now.loaded) }
+    ensures text { (file : List ℕ) → S.holds src.old.source file → Belongs file loaded.now store.now →
+        Shows (W.taken out.old.sink) (W.taken out.new.sink) out.old.written out.new.written result
+        (where_asked parts.0 RELOCS (each (relocation_rows file cap) 0 (e_shnum file))) }
+{
+    if !parts.contains(Parts::RELOCS) {
+        return Ok(None);
+    }
+    show_each(src, store, loaded, &Part::Relocations, cap, name, out)
 }
