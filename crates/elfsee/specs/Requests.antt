@@ -1,6 +1,6 @@
 -- What a request asks for.
 use Rattle.std.specs.Prelude.{ℕ, List, [], ◌∷◌, codes}
-use Rattle.elf_model.specs.Listing.{HEADER, SECTIONS, SEGMENTS, SYMBOLS}
+use Rattle.elf_model.specs.Listing.{HEADER, SECTIONS, SEGMENTS, SYMBOLS, RELOCS}
 use Rattle.elfsee.specs.declared.requests.Request.{Request}
 use Rattle.elfsee.specs.declared.requests.Request.TheVariants.{Show, Sample}
 
@@ -21,4 +21,4 @@ name_of (Sample caps parts) = caps.name
 
 -- the names of the parts that can be asked for
 abbrev pub part_names : List (ℕ × List ℕ)
-part_names = (HEADER, codes "header") ∷ (SECTIONS, codes "sections") ∷ (SEGMENTS, codes "segments") ∷ (SYMBOLS, codes "symbols") ∷ []
+part_names = (HEADER, codes "header") ∷ (SECTIONS, codes "sections") ∷ (SEGMENTS, codes "segments") ∷ (SYMBOLS, codes "symbols") ∷ (RELOCS, codes "relocs") ∷ []

@@ -1,4 +1,5 @@
-//! Whole listings of small files: sections, program headers and symbols, and where they are refused.
+//! Whole listings of small files: sections, program headers, symbols and relocation entries, and where
+//! they are refused.
 ghost use Rattle.std.specs.Prelude.{◌≡◌, ◌+◌, ◌≤◌, length};
 ghost use Rattle.elf_listing.specs.Sections.{AreListed};
 
@@ -13,8 +14,8 @@ use elf_table::{Caps, HeaderStore};
 use std::process::Abort;
 use std::test::Fail;
 
-/// The parts that are listed: the file header, sections, program headers, symbols.
-const LISTED: Parts = Parts(15);
+/// The parts that are listed: the file header, sections, program headers, symbols, relocation entries.
+const LISTED: Parts = Parts(31);
 
 /// The sample's file header.
 const HEADER: &str =
@@ -238,6 +239,44 @@ fn tables_may_overlap_the_section_headers(rt: HostRuntime) -> Result<(), Fail> {
     Ok(())
 }
 
+#[test]
+fn relocation_entries_are_listed(rt: HostRuntime) -> Result<(), Fail> {
+    let text = [
+        "R     2 0000000000000000 32         00000000 +0000000011223344 \n",
+        "R     2 0000000000000002 16         00000000 +000000000000ffff \n",
+    ];
+    check_listing(&rt, &RELOCATIONS, (3, 63), Parts::RELOCS, &text, 0, 480)
+}
+
+/// The call with one byte of the file changed, its relocation entries listed.
+fn check_call(
+    rt: &(impl Abort + AllocGlobal),
+    at: usize,
+    byte: u8,
+    text: &str,
+    status: u8,
+) -> Result<(), Fail> {
+    assert!(rt; at < 472);
+    let mut file = ONE_CALL;
+    file[at] = byte;
+    check_listing(rt, &file, (5, 63), Parts::RELOCS, &[text], status, 496)
+}
+
+#[test]
+fn a_relocation_entry_has_its_symbols_name(rt: HostRuntime) -> Result<(), Fail> {
+    let text = "R     2 0000000000000001 PLT32      00000001 -0000000000000004 f\n";
+    check_call(&rt, 0, 0x7f, text, 0)?;
+    let text = "R     2 0000000000000001 #4         00000001 -0000000000000004 f\n";
+    check_call(&rt, 0x12, 183, text, 0)
+}
+
+#[test]
+fn a_relocation_entry_without_its_symbol_is_refused(rt: HostRuntime) -> Result<(), Fail> {
+    check_call(&rt, 0x54, 2, "! 0000000000000048 symbol-index\n", 1)?;
+    check_call(&rt, 0x140, 1, "! 0000000000000048 bad-link\n", 1)?;
+    check_call(&rt, 0x78, 3, "! 0000000000000078 name-outside\n", 1)
+}
+
 /// Lists a file whole, and checks that no more bytes were asked for than the listing costs.
 fn check_cost(
     rt: &(impl Abort + AllocGlobal),
@@ -261,8 +300,8 @@ fn check_cost(
 fn other_files_are_listed_within_their_cost(rt: HostRuntime) -> Result<(), Fail> {
     check_cost(&rt, &overlapping(), 5, 3552)?;
     check_cost(&rt, &HASH_TABLE, 4, 584)?;
-    check_cost(&rt, &RELOCATIONS, 3, 256)?;
-    check_cost(&rt, &ONE_CALL, 5, 560)
+    check_cost(&rt, &RELOCATIONS, 3, 480)?;
+    check_cost(&rt, &ONE_CALL, 5, 672)
 }
 
 /// The sample, of which so many reads succeed.

@@ -251,6 +251,7 @@ fn words_name_a_part(rt: HostRuntime) -> Result<(), Fail> {
         ("sections", Parts::SECTIONS),
         ("segments", Parts::SEGMENTS),
         ("symbols", Parts::SYMBOLS),
+        ("relocs", Parts::RELOCS),
     ] {
         let sample = request(rt.alloc(), &["sample", "--only", part])?;
         assert!(rt; sample == Request::Sample { caps, parts });

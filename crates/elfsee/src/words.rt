@@ -15,8 +15,8 @@ const DEFAULT_HEADERS: u16 = 4_096;
 const DEFAULT_NAME: u16 = 256;
 
 /// Reads the words of a command line, without the program's name: `show --only PART FILE` or
-/// `sample --only PART`, where PART is `header`, `sections`, `segments` or `symbols`. At most 4,096
-/// headers are permitted, and 256 bytes of a name are shown.
+/// `sample --only PART`, where PART is `header`, `sections`, `segments`, `symbols` or `relocs`. At most
+/// 4,096 headers are permitted, and 256 bytes of a name are shown.
 ///
 /// # Errors
 /// `Words` for any other words, `Memory` where there is none for the file's path.
@@ -53,6 +53,7 @@ fn part_named(name: &str) -> Result<Parts, RequestFault>
         "sections" => Ok(Parts::SECTIONS),
         "segments" => Ok(Parts::SEGMENTS),
         "symbols" => Ok(Parts::SYMBOLS),
+        "relocs" => Ok(Parts::RELOCS),
         _ => Err(RequestFault::Words),
     }
 }
