@@ -26,8 +26,9 @@ use elf_table::{Caps, HeaderStore, header, load};
 const TABLES: Parts = Parts(126);
 
 /// Writes the listing of a file, as far as `parts` has it: the file header, the section headers, the
-/// program headers, the symbols; at the first fault its line ends the listing. The store has a slot for
-/// each header that the caps permit, and is loaded with the file's section headers.
+/// program headers, the symbols, the relocation entries; at the first fault its line ends the listing.
+/// The store has a slot for each header that the caps permit, and is loaded with the file's section
+/// headers.
 ///
 /// # Errors
 /// A fault of the source or of the output. What went out is a front of the listing.

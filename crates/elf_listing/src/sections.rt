@@ -197,7 +197,6 @@ fn show_symbols_of<S: Source, W: Sink>(
         Shows (W.taken out.old.sink) (W.taken out.new.sink) out.old.written out.new.written result (symbol_rows file cap section) }
 {
     if !holds_symbols(&store.section(section)) {
-        let _written = out.written();
         return Ok(None);
     }
     let (table, names) = match loaded.symbols(store, section) {
@@ -240,7 +239,6 @@ fn show_relocations_of<S: Source, W: Sink>(
         Shows (W.taken out.old.sink) (W.taken out.new.sink) out.old.written out.new.written result (relocation_rows file cap section) }
 {
     if store.section(section).sh_type != SHT_RELA {
-        let _written = out.written();
         return Ok(None);
     }
     let (table, linked) = match loaded.relocations(store, section) {
