@@ -63,7 +63,7 @@ unfolding symbol_rows
 no_symbols file cap section h = rw (h, symbol_rows) refl
 
 -- one that holds symbols has them behind its checks
-symbols_are : (file : List ℕ) (cap section : ℕ) → is_symbol_table file (section_at file section) ≡ true
+pub symbols_are : (file : List ℕ) (cap section : ℕ) → is_symbol_table file (section_at file section) ≡ true
     → symbol_rows file cap section ≡ checked (symbol_table_checks file (section_at file section)) (each (symbol_row file cap section (section_at file section)) 0 (entry_count file (section_at file section) 24))
 unfolding symbol_rows
 symbols_are file cap section h = rw (h, symbol_rows) refl
@@ -136,16 +136,12 @@ symbols_pass file section table names h =
       placed = λ some. (p.2 some).1;
     }
 
-pub Shows-symbols : (a b : Option (List ℕ)) (m n : ℕ) (result : Result (Option Refusal) RunFault) (file : List ℕ) (cap section count : ℕ)
-    → is_symbol_table file (section_at file section) ≡ true → first_refusal (symbol_table_checks file (section_at file section)) ≡ None
-    → count ≡ entry_count file (section_at file section) 24
-    → Shows a b m n result (each (symbol_row file cap section (section_at file section)) 0 count) → Shows a b m n result (symbol_rows file cap section)
-Shows-symbols a b m n result file cap section count kind pass same shown =
-    let row : ℕ → List Item = symbol_row file cap section (section_at file section) in
-    let behind : checked (symbol_table_checks file (section_at file section)) (each row 0 (entry_count file (section_at file section) 24)) ≡ each row 0 (entry_count file (section_at file section) 24) =
-    checked-passes (symbol_table_checks file (section_at file section)) _ pass in
-    let P : List Item → Type 0 = λ items. Shows a b m n result items in
-    subst P (sym (symbols_are file cap section kind ∙ behind)) (subst P (ap (each row 0) same) shown)
+-- rows behind checks that pass
+pub Shows-checked : (a b : Option (List ℕ)) (m n : ℕ) (result : Result (Option Refusal) RunFault) (checks : List Check) (row : ℕ → List Item) (count entries : ℕ) (items : List Item)
+    → items ≡ checked checks (each row 0 entries) → first_refusal checks ≡ None → count ≡ entries → Shows a b m n result (each row 0 count) → Shows a b m n result items
+Shows-checked a b m n result checks row count entries items are pass same rows_shown =
+    let P : List Item → Type 0 = λ some. Shows a b m n result some in
+    subst P (sym (are ∙ checked-passes checks (each row 0 entries) pass)) (subst P (ap (each row 0) same) rows_shown)
 
 -- nothing was shown where there is nothing to show
 pub Shows-nothing : (a : Option (List ℕ)) (m : ℕ) (items : List Item) → m < 2 ^ 128 → items ≡ [] → Shows a a m m (Ok None) items
@@ -178,7 +174,7 @@ no_relocations file cap section h =
     by_cases false k = refl
 
 -- one of that type has them behind its checks
-relocations_are : (file : List ℕ) (cap section : ℕ) → sh_type file (section_at file section) ≡ SHT_RELA
+pub relocations_are : (file : List ℕ) (cap section : ℕ) → sh_type file (section_at file section) ≡ SHT_RELA
     → relocation_rows file cap section ≡ checked (relocation_table_checks file (section_at file section)) (each (relocation_row file cap section (section_at file section)) 0 (entry_count file (section_at file section) 24))
 unfolding relocation_rows
 relocations_are file cap section h = rw (h, relocation_rows) refl
@@ -210,14 +206,3 @@ relocations_pass file section table linked h =
       refers = λ some. (p.2 some).0;
       placed = λ some. (p.2 some).1;
     }
-
-pub Shows-relocations : (a b : Option (List ℕ)) (m n : ℕ) (result : Result (Option Refusal) RunFault) (file : List ℕ) (cap section count : ℕ)
-    → sh_type file (section_at file section) ≡ SHT_RELA → first_refusal (relocation_table_checks file (section_at file section)) ≡ None
-    → count ≡ entry_count file (section_at file section) 24
-    → Shows a b m n result (each (relocation_row file cap section (section_at file section)) 0 count) → Shows a b m n result (relocation_rows file cap section)
-Shows-relocations a b m n result file cap section count kind pass same shown =
-    let row : ℕ → List Item = relocation_row file cap section (section_at file section) in
-    let behind : checked (relocation_table_checks file (section_at file section)) (each row 0 (entry_count file (section_at file section) 24)) ≡ each row 0 (entry_count file (section_at file section) 24) =
-    checked-passes (relocation_table_checks file (section_at file section)) _ pass in
-    let P : List Item → Type 0 = λ items. Shows a b m n result items in
-    subst P (sym (relocations_are file cap section kind ∙ behind)) (subst P (ap (each row 0) same) shown)

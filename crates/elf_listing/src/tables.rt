@@ -1,16 +1,15 @@
 //! The tables of a loaded file, part by part.
 ghost use Rattle.std.specs.Prelude.{◌≡◌, ◌+◌, ◌*◌, ◌^◌, ◌<◌, ◌≤◌, ◌==◌, ◌&&◌, not, ℕ, List, IfErr, IsTrue};
-ghost use Rattle.elf_model.specs.Cost.{cost_where, sum_over, symbols_cost, relocations_cost};
-ghost use Rattle.elf_model.specs.Listing.{each, has, where_asked, SECTIONS, SEGMENTS, SYMBOLS, RELOCS};
+ghost use Rattle.elf_model.specs.Cost.{cost_where, sum_over};
+ghost use Rattle.elf_model.specs.Listing.{each, has, where_asked, SECTIONS, SEGMENTS};
 ghost use Rattle.elf_model.specs.Names.{name_bytes};
 ghost use Rattle.elf_model.specs.Records.{e_shnum, e_phnum};
 ghost use Rattle.elf_model.specs.Report.{table_items};
-ghost use Rattle.elf_model.specs.Rows.{section_row, segment_row, symbol_rows, relocation_rows};
+ghost use Rattle.elf_model.specs.Rows.{section_row, segment_row};
 ghost use Rattle.elf_source.specs.Source.{Keeps};
 ghost use Rattle.elf_table.specs.Load.{Belongs};
-ghost use Rattle.elf_table.specs.Store.{row};
 ghost use Rattle.elf_record.specs.Ehdr.{IsEhdr};
-ghost use Rattle.elf_listing.specs.Sections.{AreListed, listed_cost, headers_cost, entries_cost, header_items, entry_items};
+ghost use Rattle.elf_listing.specs.Sections.{AreListed, listed_cost, headers_cost, entries_cost, header_items, entry_items, part_items, part_cost, PartWithin, PartOf};
 ghost use Rattle.elf_listing.specs.Shows.{Shows, RunBlames, is_out_fault};
 
 use crate::end::RunFault;
@@ -105,10 +104,30 @@ fn show_entries<S: Source, W: Sink>(
     ensures text { (file : List ℕ) → S.holds src.old.source file → Belongs file loaded.now store.now →
         Shows (W.taken out.old.sink) (W.taken out.new.sink) out.old.written out.new.written result (entry_items file cap parts.0) }
 {
-    if let Some(refusal) = show_symbols(src, store, loaded, cap, parts, name, out)? {
+    if let Some(refusal) = show_asked(
+        src,
+        store,
+        loaded,
+        &Part::Symbols,
+        Parts::SYMBOLS,
+        parts,
+        cap,
+        name,
+        out,
+    )? {
         return Ok(Some(refusal));
     }
-    show_relocations(src, store, loaded, cap, parts, name, out)
+    show_asked(
+        src,
+        store,
+        loaded,
+        &Part::Relocations,
+        Parts::RELOCS,
+        parts,
+        cap,
+        name,
+        out,
+    )
 }
 
 /// Shows the section headers, where the parts have them: an `S` line each (gABI 4, Section Header).
@@ -170,19 +189,21 @@ fn show_segments<S: Source, W: Sink>(
     show_rows(src, loaded.segments(), &Kind::Segments, cap, name, out)
 }
 
-/// Shows the symbols of all sections that hold symbols, where the parts have them: a `Y` line each
-/// (gABI 4, Symbol Table).
-fn show_symbols<S: Source, W: Sink>(
+/// Shows a part of each section, where the parts of the listing have `asked`.
+fn show_asked<S: Source, W: Sink>(
     src: &mut Counted<S>,
     store: &HeaderStore,
     loaded: &Loaded,
-    cap: u16,
+    part: &Part,
+    asked: Parts,
     parts: Parts,
+    cap: u16,
     name: &mut NameBuf,
     out: &mut Out<W>,
 ) -> Result<Option<Refusal>, RunFault>
     requires loaded { store.now.loaded ≡ loaded.now.header.e_shnum }
     requires size { loaded.now.size ≡ S.size src.old.source }
+    requires names { PartWithin (S.size src.old.source) part.now }
     requires cap_some { 1 ≤ cap }
     requires cap_most { cap ≤ 4096 }
     requires written { out.old.written < 2 ^ 128 }
@@ -190,44 +211,13 @@ fn show_symbols<S: Source, W: Sink>(
     ensures blames { IfErr result (RunBlames S.holds S.failures src.old.source src.new.source) }
     ensures out_fails { IsTrue (is_out_fault result) → IsTrue (W.failed out.new.sink) }
     ensures fits { out.new.written < 2 ^ 128 }
-    ensures asked { src.new.asked ≤ src.old.asked + cost_where (has parts.0 SYMBOLS) (sum_over (λ i. symbols_cost (row store.now i) 0 loaded.now.size cap) 0 store.now.loaded) }
-    ensures text { (file : List ℕ) → S.holds src.old.source file → Belongs file loaded.now store.now →
+    ensures asked { src.new.asked ≤ src.old.asked + cost_where (has parts.0 asked.0) (sum_over (part_cost part.now store.now loaded.now.size cap) 0 store.now.loaded) }
+    ensures text { (file : List ℕ) → S.holds src.old.source file → Belongs file loaded.now store.now → PartOf file part.now →
         Shows (W.taken out.old.sink) (W.taken out.new.sink) out.old.written out.new.written result
-        (where_asked parts.0 SYMBOLS (each (symbol_rows file cap) 0 (e_shnum file))) }
+        (where_asked parts.0 asked.0 (each (part_items part.now file cap) 0 (e_shnum file))) }
 {
-    if !parts.contains(Parts::SYMBOLS) {
+    if !parts.contains(asked) {
         return Ok(None);
     }
-    show_each(src, store, loaded, &Part::Symbols, cap, name, out)
-}
-
-/// Shows the relocation entries of all sections that hold them, where the parts have them: an `R` line
-/// each (gABI 4, Relocation).
-fn show_relocations<S: Source, W: Sink>(
-    src: &mut Counted<S>,
-    store: &HeaderStore,
-    loaded: &Loaded,
-    cap: u16,
-    parts: Parts,
-    name: &mut NameBuf,
-    out: &mut Out<W>,
-) -> Result<Option<Refusal>, RunFault>
-    requires loaded { store.now.loaded ≡ loaded.now.header.e_shnum }
-    requires size { loaded.now.size ≡ S.size src.old.source }
-    requires cap_some { 1 ≤ cap }
-    requires cap_most { cap ≤ 4096 }
-    requires written { out.old.written < 2 ^ 128 }
-    ensures kept { Keeps S.holds S.size S.failures src.old.source src.new.source }
-    ensures blames { IfErr result (RunBlames S.holds S.failures src.old.source src.new.source) }
-    ensures out_fails { IsTrue (is_out_fault result) → IsTrue (W.failed out.new.sink) }
-    ensures fits { out.new.written < 2 ^ 128 }
-    ensures asked { src.new.asked ≤ src.old.asked + cost_where (has parts.0 RELOCS) (sum_over (λ i. relocations_cost (row store.now i) 0 loaded.now.size cap) 0 store.now.loaded) }
-    ensures text { (file : List ℕ) → S.holds src.old.source file → Belongs file loaded.now store.now →
-        Shows (W.taken out.old.sink) (W.taken out.new.sink) out.old.written out.new.written result
-        (where_asked parts.0 RELOCS (each (relocation_rows file cap) 0 (e_shnum file))) }
-{
-    if !parts.contains(Parts::RELOCS) {
-        return Ok(None);
-    }
-    show_each(src, store, loaded, &Part::Relocations, cap, name, out)
+    show_each(src, store, loaded, part, cap, name, out)
 }

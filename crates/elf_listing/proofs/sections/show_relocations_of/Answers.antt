@@ -1,9 +1,12 @@
 -- The table's checks and those of the symbols that it refers to stand before its rows.
 use Rattle.std.proofs.Common.{Err, sym, ap, ◌∙◌}
+use Rattle.elf_model.specs.Records.{section_at}
+use Rattle.elf_model.specs.Rows.{relocation_row}
+use Rattle.elf_model.specs.Tables.{relocation_table_checks}
 use Rattle.elf_record.specs.declared.ehdr.Ehdr.{Ehdr}
 use Rattle.elf_table.specs.Store.{row}
 use Rattle.elf_listing.proofs.SectionCosts.{relocations_within}
-use Rattle.elf_listing.proofs.SectionShown.{no_relocations, relocations_fault, relocations_pass, Shows-nothing, Shows-fault, Shows-relocations}
+use Rattle.elf_listing.proofs.SectionShown.{no_relocations, relocations_fault, relocations_pass, relocations_are, Shows-nothing, Shows-fault, Shows-checked}
 use Rattle.elf_listing.proofs.sections.show_relocations_of.Goals as goal
 
 pub returns-then-section-ne-SHT_RELA-clause-text : goal.returns-then-section-ne-SHT_RELA-clause-text
@@ -25,7 +28,8 @@ returns-clause-asked g c =
 pub returns-clause-text : goal.returns-clause-text
 returns-clause-text g c = λ file held belongs.
     let kind = sym (c.section.ensures.stands file belongs.rows).sh_type ∙ c.if-section-ne-SHT_RELA.false in
+    let at = section_at file c.args.section in
     let found = relocations_pass file c.args.section _ _ (sym (c.in-Ok.ensures.held file belongs)) in
     let machine = ap (λ (header : Ehdr). header.e_machine) c.header-machine.ensures ∙ belongs.header.e_machine in
-    Shows-relocations _ _ _ _ _ file c.args.cap c.args.section _ kind found.pass found.counted
+    Shows-checked _ _ _ _ _ (relocation_table_checks file at) (relocation_row file c.args.cap c.args.section at) _ _ _ (relocations_are file c.args.cap c.args.section kind) found.pass found.counted
     (c.show_rows.ensures.text file held (λ some. ((machine, found.refers some), found.placed some)))

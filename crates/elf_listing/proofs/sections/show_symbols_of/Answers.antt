@@ -2,9 +2,11 @@
 use Rattle.std.proofs.Common.{◌≡◌, false, true, Err, sym, ap, ◌∙◌}
 use Rattle.elf_model.specs.Checks.{is_symbol_table}
 use Rattle.elf_model.specs.Records.{section_at}
+use Rattle.elf_model.specs.Rows.{symbol_row}
+use Rattle.elf_model.specs.Tables.{symbol_table_checks}
 use Rattle.elf_table.specs.Store.{row}
 use Rattle.elf_listing.proofs.SectionCosts.{symbols_within}
-use Rattle.elf_listing.proofs.SectionShown.{no_symbols, symbols_fault, symbols_pass, Shows-nothing, Shows-fault, Shows-symbols}
+use Rattle.elf_listing.proofs.SectionShown.{no_symbols, symbols_fault, symbols_pass, symbols_are, Shows-nothing, Shows-fault, Shows-checked}
 use Rattle.elf_listing.proofs.sections.show_symbols_of.Goals as goal
 
 pub returns-then-not-holds_symbols-clause-text : goal.returns-then-not-holds_symbols-clause-text
@@ -31,5 +33,5 @@ returns-clause-text g c = λ file held belongs.
     let at = section_at file c.args.section in
     let kind : is_symbol_table file at ≡ true = let is = c.holds_symbols.ensures file at (c.section.ensures.stands file belongs.rows) in cc in
     let symbols = symbols_pass file c.args.section _ _ (sym (c.in-Ok.ensures.held file belongs)) in
-    Shows-symbols _ _ _ _ _ file c.args.cap c.args.section _ kind symbols.pass symbols.counted
+    Shows-checked _ _ _ _ _ (symbol_table_checks file at) (symbol_row file c.args.cap c.args.section at) _ _ _ (symbols_are file c.args.cap c.args.section kind) symbols.pass symbols.counted
     (c.show_rows.ensures.text file held (λ some. (symbols.named some, symbols.placed some)))
