@@ -1,6 +1,5 @@
 //! The lines of dynamic entries.
 ghost use Rattle.std.specs.Prelude.{◌≡◌, ◌≤◌, ℕ, List, length, IfSome, option_copied};
-ghost use Rattle.elf_model.specs.Bytes.{IsBytes, slice};
 ghost use Rattle.elf_model.specs.Text.{name_of};
 ghost use Rattle.elf_model.specs.NameTables.{dynamic_tags};
 ghost use Rattle.elf_model.specs.LineFronts.{dynamic_front};
@@ -13,7 +12,7 @@ use elf_record::Dyn;
 /// before the name is the last byte.
 pub fn dynamic_front(index: u64, entry: &Dyn) -> Line
     // A tag is read as a signed number, and shown as its bits.
-    ensures { (file : List ℕ) (at : ℕ) → IsDyn file at entry.now → IsBytes (slice file at 16) → result.items ≡ dynamic_front file at index }
+    ensures { (file : List ℕ) (at : ℕ) → IsDyn file at entry.now → result.items ≡ dynamic_front file at index }
 {
     let tag = entry.d_tag.cast_unsigned();
     let mut line = Line::new();

@@ -48,5 +48,7 @@ rela_in_file file at bytes r is stands = record {
 pub dyn_in_file : (file : List ℕ) (at : ℕ) (bytes : List ℕ) (r : Dyn) → bytes ≡ slice file at 16 → IsDyn bytes 0 r → IsDyn file at r
 dyn_in_file file at bytes r is stands = record {
   d_tag = stands.d_tag ∙ ap twos_complement (first_field_in file at 16 bytes 8 is (omega arith));
+  d_tag_bits = stands.d_tag_bits ∙ first_field_in file at 16 bytes 8 is (omega arith);
+  d_tag_low = omega (arith, stands.d_tag_low, first_field_in file at 16 bytes 8 is (omega arith));
   d_un = stands.d_un ∙ field_in file at 16 bytes 8 8 is (omega arith);
 }

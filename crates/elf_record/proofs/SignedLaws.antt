@@ -49,11 +49,13 @@ rela_of_parts bytes r signed stands = record {
 pub rela_to_parts : (bytes : List ℕ) (r : Rela) → IsBytes bytes → length bytes ≡ 24 → IsRela bytes 0 r → AllStand bytes 0 0 (rela_parts r)
 rela_to_parts bytes r byte size is = (is.r_offset, (is.r_info, (signed_bits r.r_addend bytes 16 byte (omega arith) is.r_addend, tt)))
 
-pub dyn_of_parts : (bytes : List ℕ) (r : Dyn) → r.d_tag ≡ twos_complement (cast_unsigned w64 r.d_tag) → AllStand bytes 0 0 (dyn_parts r) → IsDyn bytes 0 r
-dyn_of_parts bytes r signed stands = record {
+pub dyn_of_parts : (bytes : List ℕ) (r : Dyn) → r.d_tag ≡ twos_complement (cast_unsigned w64 r.d_tag) → cast_unsigned w64 r.d_tag < 256 ^ 8 → AllStand bytes 0 0 (dyn_parts r) → IsDyn bytes 0 r
+dyn_of_parts bytes r signed low stands = record {
   d_tag = signed ∙ ap twos_complement stands.0;
+  d_tag_bits = stands.0;
+  d_tag_low = omega (arith, stands.0, low);
   d_un = stands.1.0;
 }
 
-pub dyn_to_parts : (bytes : List ℕ) (r : Dyn) → IsBytes bytes → length bytes ≡ 16 → IsDyn bytes 0 r → AllStand bytes 0 0 (dyn_parts r)
-dyn_to_parts bytes r byte size is = (signed_bits r.d_tag bytes 0 byte (omega arith) is.d_tag, (is.d_un, tt))
+pub dyn_to_parts : (bytes : List ℕ) (r : Dyn) → IsDyn bytes 0 r → AllStand bytes 0 0 (dyn_parts r)
+dyn_to_parts bytes r is = (is.d_tag_bits, (is.d_un, tt))

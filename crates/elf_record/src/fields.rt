@@ -43,7 +43,9 @@ pub(crate) fn u64_at(bytes: &[u8], at: usize) -> u64
 /// The signed number of eight bytes at a place, in two's complement.
 pub(crate) fn i64_at(bytes: &[u8], at: usize) -> i64
     requires { at + 8 ≤ length bytes.now }
-    ensures { result ≡ twos_complement (field bytes.now at 8) }
+    ensures value { result ≡ twos_complement (field bytes.now at 8) }
+    ensures bits { cast_unsigned w64 result ≡ field bytes.now at 8 }
+    ensures low { field bytes.now at 8 < 2 ^ 64 }
 {
     u64_at(bytes, at).cast_signed()
 }

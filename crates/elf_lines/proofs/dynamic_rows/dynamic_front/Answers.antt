@@ -8,8 +8,8 @@ use Rattle.elf_lines.proofs.dynamic_rows.dynamic_front.Goals as goal
 
 pub returns : goal.returns
 unfolding dynamic_front dynamic_tag_text
-returns c = λ file at is byte.
-    let bits : c.cast_unsigned-tag.result ≡ d_tag file at = tag_bits _ _ file at byte is.d_tag c.cast_unsigned-tag.ensures in
+returns c = λ file at is.
+    let bits : c.cast_unsigned-tag.result ≡ d_tag file at = tag_bits c.args.entry.now.d_tag _ _ is.d_tag_bits is.d_tag_low c.cast_unsigned-tag.ensures in
     rw (
       c.put-4.ensures.items,
       c.put_hex.ensures.items,
