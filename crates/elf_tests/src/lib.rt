@@ -1,5 +1,5 @@
-//! Tests of sources, sinks, records, loads, tables, names and lines, in a crate of their own: a crate
-//! with tests is proved twice.
+//! Tests of sources, sinks, records, loads, tables, names, relocations and lines, in a crate of their
+//! own: a crate with tests is proved twice.
 #![tactic(auto)]
 
 #[cfg(test)]
@@ -16,3 +16,5 @@ mod records;
 mod sources;
 #[cfg(test)]
 mod tables;
+#[cfg(test)]
+mod values;
