@@ -13,6 +13,8 @@ mod names;
 #[cfg(test)]
 mod records;
 #[cfg(test)]
+mod relocations;
+#[cfg(test)]
 mod sources;
 #[cfg(test)]
 mod tables;
