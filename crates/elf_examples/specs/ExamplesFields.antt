@@ -1,7 +1,6 @@
 -- Worked examples of fields and names: records whose bytes all differ, and each number that has a name.
-use Rattle.std.specs.Prelude.{◌≡◌, ℕ, ◌^◌, List, [], ◌∷◌, codes, map}
+use Rattle.std.specs.Prelude.{◌≡◌, ℕ, List, [], ◌∷◌, codes, map}
 use Rattle.elf_model.specs.Records.{e_phentsize, e_shentsize, sh_name, sh_addralign, sh_entsize, st_name, n_namesz, n_descsz, n_type}
-use Rattle.elf_model.specs.Text.{right_decimal}
 use Rattle.elf_model.specs.NameTables.{section_type_text, section_flags_text, segment_type_text, segment_flags_text, symbol_types, bindings, visibilities, places, name_or_number, relocation_type_text, dynamic_tag_text}
 use Rattle.elf_model.specs.Lines.{file_type_text, header_line, segment_line, escaped}
 use Rattle.elf_model.specs.LineFronts.{section_front, symbol_front, relocation_front, dynamic_front}

@@ -1,5 +1,5 @@
 -- What listings ask for at most, and what they never pass.
-use Rattle.std.specs.Prelude.{ℕ, ◌≡◌, ◌+◌, []}
+use Rattle.std.specs.Prelude.{ℕ, ◌≡◌, ◌+◌, ◌++◌, []}
 use Rattle.elf_model.specs.Listing.{HEADER, SECTIONS, SEGMENTS, SYMBOLS, RELOCS, NOTES, DYNAMIC, ALL}
 use Rattle.elf_model.specs.Cost.{cost, ceiling}
 use Rattle.elf_model.specs.Bytes.{little}
@@ -61,6 +61,20 @@ CostsOfTablesThatFail =
     × (cost (with_bytes 0xf0 (little 8 0x17) one_symbol_table) 3 63 ALL ≡ 256)
     × (cost (with_bytes 0xe0 (little 4 0x9) (with_bytes 0xf0 (little 8 0x5) (with_bytes 0xd8 (little 8 0x0) one_symbol_table))) 3 63 ALL ≡ 256)
     × (cost (with_bytes 0x58 (little 4 0xffffffff) one_symbol_table) 3 63 ALL ≡ 432)
+
+-- relocation entries count where their own table's checks pass, whatever they link to; and where a later check of the
+-- section of the section names fails they count, since the section headers are read before it
+abbrev pub CostsOfRelocations : Type 0
+CostsOfRelocations =
+    (cost (with_bytes 0x54 (little 4 0x0) one_call) 5 63 RELOCS ≡ 64 + 320 + 112)
+    × (cost (with_bytes 0x140 (little 4 0x9) one_call) 5 63 RELOCS ≡ 64 + 320 + 112)
+    × (cost (with_bytes 0x19c (little 4 0x1) one_call) 5 63 RELOCS ≡ 64 + 320 + 112)
+    × (cost (with_bytes 0x150 (little 8 0x10) one_call) 5 63 RELOCS ≡ 64 + 320)
+    × (cost (with_bytes 0x138 (little 8 0x0 ++ little 4 0x9) one_call) 5 63 RELOCS ≡ 64 + 320)
+    × (cost (with_bytes 0x3e (little 2 0x1) one_call) 5 63 RELOCS ≡ 64 + 320 + 112)
+    × (cost (with_bytes 0x1b8 (little 8 0x149) (with_bytes 0x3e (little 2 0x4) one_call)) 5 63 RELOCS ≡ 64 + 320 + 112)
+    × (cost (with_bytes 0x3e (little 2 0x5) one_call) 5 63 RELOCS ≡ 64)
+    × (cost one_call 4 63 RELOCS ≡ 64)
 
 -- names of 63, 64 and 4,096 bytes
 abbrev pub CostsOfLongerNames : Type 0

@@ -10,7 +10,7 @@ use Rattle.elf_model.specs.Fixtures.{zeros, with_bytes, file_header, section_hea
 use Rattle.elf_model.specs.FixturesApply.{relocation, overlapping_relocations, one_call}
 use Rattle.elf_model.specs.FixturesTables.{program_header, one_segment, plain_note, aligned_note, build_note, note_segment, one_table, tagged, needed_library}
 use Rattle.elf_model.specs.declared.causes.Cause.{Cause}
-use Rattle.elf_model.specs.declared.causes.Cause.TheVariants.{NotElf, BadClass, BadData, ExtendedNumbering, TooManyHeaders, EntrySize, SizeNotWhole, TableOutside, BadLink, NotStrings}
+use Rattle.elf_model.specs.declared.causes.Cause.TheVariants.{NotElf, BadClass, BadData, ExtendedNumbering, TooManyHeaders, EntrySize, SizeNotWhole, TableOutside, NotStrings}
 
 -- one symbol table with other bytes at 0x38: the program headers' number, the size and the number of section headers,
 -- and the section of the section names

@@ -4,7 +4,7 @@ use Rattle.elf_model.specs.Listing.{RELOCS, ALL}
 use Rattle.elf_model.specs.Report.{report}
 use Rattle.elf_model.specs.Bytes.{little}
 use Rattle.elf_model.specs.Fixtures.{with_bytes}
-use Rattle.elf_model.specs.FixturesApply.{overlapping_relocations, one_call}
+use Rattle.elf_model.specs.FixturesApply.{overlapping_relocations, one_call, two_relocation_sections}
 use Rattle.elf_model.specs.FixturesTables.{linked_to_first}
 
 -- two relocation entries without symbols: the whole listing
@@ -101,3 +101,86 @@ abbrev pub EmptyRelocationsAreNotChecked : Type 0
 EmptyRelocationsAreNotChecked =
     report (with_bytes 0x190 (little 8 0x5) (with_bytes 0x150 (little 8 0x5) (with_bytes 0x138 (little 8 0x0) one_call))) 5 63 RELOCS
     ≡ []
+
+-- a table of dynamic symbols is a symbol table too
+abbrev pub LinkToDynamicSymbols : Type 0
+LinkToDynamicSymbols =
+    report (with_bytes 0x15c (little 4 0xb) one_call) 5 63 RELOCS
+    ≡ codes "R     2 0000000000000001 PLT32      00000001 -0000000000000004 f\n"
+
+-- links to no symbol table: no section, section 0 that is none, the entries themselves, the string table
+abbrev pub LinksToNoSymbols : Type 0
+LinksToNoSymbols =
+    (report (with_bytes 0x140 (little 4 0x5) one_call) 5 63 RELOCS
+    ≡ codes "! 0000000000000048 bad-link\n")
+    × (report (with_bytes 0x140 (little 4 0x10003) one_call) 5 63 RELOCS
+    ≡ codes "! 0000000000000048 bad-link\n")
+    × (report (with_bytes 0x140 (little 4 0x0) one_call) 5 63 RELOCS
+    ≡ codes "! 0000000000000048 bad-link\n")
+    × (report (with_bytes 0x140 (little 4 0x2) one_call) 5 63 RELOCS
+    ≡ codes "! 0000000000000048 bad-link\n")
+    × (report (with_bytes 0x140 (little 4 0x4) one_call) 5 63 RELOCS
+    ≡ codes "! 0000000000000048 bad-link\n")
+
+-- an entry without a symbol has no name: it is listed whatever its section links to, as long as that passes its checks
+abbrev pub EntryWithoutSymbolLists : Type 0
+EntryWithoutSymbolLists =
+    (report (with_bytes 0x54 (little 4 0x0) one_call) 5 63 RELOCS
+    ≡ codes "R     2 0000000000000001 PLT32      00000000 -0000000000000004 \n")
+    × (report (with_bytes 0x140 (little 4 0x5) (with_bytes 0x54 (little 4 0x0) one_call)) 5 63 RELOCS
+    ≡ codes "R     2 0000000000000001 PLT32      00000000 -0000000000000004 \n")
+    × (report (with_bytes 0x60 (little 4 0x3) (with_bytes 0x54 (little 4 0x0) one_call)) 5 63 RELOCS
+    ≡ codes "R     2 0000000000000001 PLT32      00000000 -0000000000000004 \n")
+
+-- the linked symbol table and its string table are checked before the first entry, also where no entry has a symbol
+abbrev pub LinkedSymbolsAreCheckedFirst : Type 0
+LinkedSymbolsAreCheckedFirst =
+    (report (with_bytes 0x190 (little 8 0x10) (with_bytes 0x54 (little 4 0x0) one_call)) 5 63 RELOCS
+    ≡ codes "! 0000000000000158 entry-size\n")
+    × (report (with_bytes 0x178 (little 8 0x31) (with_bytes 0x54 (little 4 0x0) one_call)) 5 63 RELOCS
+    ≡ codes "! 0000000000000158 size-not-whole\n")
+    × (report (with_bytes 0x170 (little 8 0xfffffffffffffff8) (with_bytes 0x54 (little 4 0x0) one_call)) 5 63 RELOCS
+    ≡ codes "! 0000000000000158 table-outside\n")
+    × (report (with_bytes 0x180 (little 4 0x5) (with_bytes 0x54 (little 4 0x0) one_call)) 5 63 RELOCS
+    ≡ codes "! 0000000000000158 bad-link\n")
+    × (report (with_bytes 0x180 (little 4 0x3) (with_bytes 0x54 (little 4 0x0) one_call)) 5 63 RELOCS
+    ≡ codes "! 0000000000000158 not-strings\n")
+    × (report (with_bytes 0x1b8 (little 8 0x149) (with_bytes 0x54 (little 4 0x0) one_call)) 5 63 RELOCS
+    ≡ codes "! 0000000000000198 table-outside\n")
+
+-- the entries of an earlier section are listed before a later section's check fails
+abbrev pub EarlierRelocationsAreListed : Type 0
+EarlierRelocationsAreListed =
+    report (two_relocation_sections 10 16) 4 63 RELOCS
+    ≡ codes "R     2 0000000000000000 32         00000000 +0000000000000001 \n"
+    ++ codes "! 0000000000000138 entry-size\n"
+
+-- relocation entries of size 0 are not checked: a link to no section, to symbols whose string table is none, a table past the end
+abbrev pub EmptyRelocationsHaveNoLink : Type 0
+EmptyRelocationsHaveNoLink =
+    (report (with_bytes 0x138 (little 8 0x0 ++ little 4 0x5) one_call) 5 63 RELOCS
+    ≡ [])
+    × (report (with_bytes 0x19c (little 4 0x1) (with_bytes 0x138 (little 8 0x0) one_call)) 5 63 RELOCS
+    ≡ [])
+    × (report (with_bytes 0x130 (little 8 0xffffffffffffffff ++ little 8 0x0) one_call) 5 63 RELOCS
+    ≡ [])
+
+-- with a symbol table of size 0, whose own link names no section, an entry without a symbol is listed, and no other
+abbrev pub EmptySymbolsHaveNoLink : Type 0
+EmptySymbolsHaveNoLink =
+    (report (with_bytes 0x7c (little 4 0x0) (linked_to_first 0 5)) 3 63 RELOCS
+    ≡ codes "R     1 0000000000000000 32         00000000 -8000000000000000 \n")
+    × (report (with_bytes 0x178 (little 8 0x0 ++ little 4 0x9) (with_bytes 0x54 (little 4 0x0) one_call)) 5 63 RELOCS
+    ≡ codes "R     2 0000000000000001 PLT32      00000000 -0000000000000004 \n")
+    × (report (with_bytes 0x178 (little 8 0x0 ++ little 4 0x9) one_call) 5 63 RELOCS
+    ≡ codes "! 0000000000000048 symbol-index\n")
+
+-- a fault of the section of the section names comes before the entries
+abbrev pub RelocationsAfterLoadChecks : Type 0
+RelocationsAfterLoadChecks =
+    (report (with_bytes 0x3e (little 2 0x1) one_call) 5 63 RELOCS
+    ≡ codes "! 00000000000000d8 not-strings\n")
+    × (report (with_bytes 0x1b8 (little 8 0x149) (with_bytes 0x3e (little 2 0x4) one_call)) 5 63 RELOCS
+    ≡ codes "! 0000000000000198 table-outside\n")
+    × (report (with_bytes 0x3e (little 2 0x5) one_call) 5 63 RELOCS
+    ≡ codes "! 000000000000003e bad-link\n")

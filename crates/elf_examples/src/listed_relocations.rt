@@ -1,5 +1,5 @@
 //! Listings of relocation entries, each computed by the prover.
-ghost use Rattle.elf_examples.specs.ListedRelocations.{OverlappingRelocationsList, RelocationWithoutSymbols, OneCallLists, RelocationSymbolsAreChecked, RelocationTypesOfOtherMachines, AddendsList, RelocationChecksInOrder, LinkToSectionZero, LinkToEmptySymbols, EmptyRelocationsAreNotChecked};
+ghost use Rattle.elf_examples.specs.ListedRelocations.{OverlappingRelocationsList, RelocationWithoutSymbols, OneCallLists, RelocationSymbolsAreChecked, RelocationTypesOfOtherMachines, AddendsList, RelocationChecksInOrder, LinkToSectionZero, LinkToEmptySymbols, EmptyRelocationsAreNotChecked, LinkToDynamicSymbols, LinksToNoSymbols, EntryWithoutSymbolLists, LinkedSymbolsAreCheckedFirst, EarlierRelocationsAreListed, EmptyRelocationsHaveNoLink, EmptySymbolsHaveNoLink, RelocationsAfterLoadChecks};
 
 /// Two relocation entries without symbols: the whole listing.
 #[tactic(auto, unfolding(elf_model::proofs::OnLiterals::on_literals))]
@@ -59,4 +59,52 @@ pub fn link_to_empty_symbols()
 #[tactic(auto, unfolding(elf_model::proofs::OnLiterals::on_literals))]
 pub fn empty_relocations_are_not_checked()
     ensures { EmptyRelocationsAreNotChecked }
+{}
+
+/// A link to a table of dynamic symbols.
+#[tactic(auto, unfolding(elf_model::proofs::OnLiterals::on_literals))]
+pub fn link_to_dynamic_symbols()
+    ensures { LinkToDynamicSymbols }
+{}
+
+/// Links to sections that are no symbol table, and to none.
+#[tactic(auto, unfolding(elf_model::proofs::OnLiterals::on_literals))]
+pub fn links_to_no_symbols()
+    ensures { LinksToNoSymbols }
+{}
+
+/// An entry without a symbol, whatever its section links to.
+#[tactic(auto, unfolding(elf_model::proofs::OnLiterals::on_literals))]
+pub fn entry_without_symbol_lists()
+    ensures { EntryWithoutSymbolLists }
+{}
+
+/// The checks of the linked tables, where no entry has a symbol.
+#[tactic(auto, unfolding(elf_model::proofs::OnLiterals::on_literals))]
+pub fn linked_symbols_are_checked_first()
+    ensures { LinkedSymbolsAreCheckedFirst }
+{}
+
+/// Two sections of entries, the later one with a fault.
+#[tactic(auto, unfolding(elf_model::proofs::OnLiterals::on_literals))]
+pub fn earlier_relocations_are_listed()
+    ensures { EarlierRelocationsAreListed }
+{}
+
+/// Relocation entries of size 0, whatever they link to.
+#[tactic(auto, unfolding(elf_model::proofs::OnLiterals::on_literals))]
+pub fn empty_relocations_have_no_link()
+    ensures { EmptyRelocationsHaveNoLink }
+{}
+
+/// A symbol table of size 0, whatever it links to.
+#[tactic(auto, unfolding(elf_model::proofs::OnLiterals::on_literals))]
+pub fn empty_symbols_have_no_link()
+    ensures { EmptySymbolsHaveNoLink }
+{}
+
+/// The load checks come before the entries.
+#[tactic(auto, unfolding(elf_model::proofs::OnLiterals::on_literals))]
+pub fn relocations_after_load_checks()
+    ensures { RelocationsAfterLoadChecks }
 {}

@@ -1,5 +1,5 @@
-//! Tests of sources, sinks, records, loads, tables, names and lines, in a crate of their own: a crate
-//! with tests is proved twice.
+//! Tests of sources, sinks, records, loads, tables, names, relocations and lines, in a crate of their
+//! own: a crate with tests is proved twice.
 #![tactic(auto)]
 
 #[cfg(test)]
@@ -13,6 +13,10 @@ mod names;
 #[cfg(test)]
 mod records;
 #[cfg(test)]
+mod relocations;
+#[cfg(test)]
 mod sources;
 #[cfg(test)]
 mod tables;
+#[cfg(test)]
+mod values;

@@ -125,3 +125,15 @@ fn a_symbol_is_read_by_its_index(rt: HostRuntime) {
     assert!(rt; matches!(&symbol, Ok(symbol) if symbol.st_name == 5));
     assert!(rt; src.asked() == 24);
 }
+
+#[test]
+fn a_symbol_that_failed_is_read_again(rt: HostRuntime) {
+    let bytes = [0; 72];
+    let table = Table::new(0, 3, 24);
+    let mut src = Counted::new(Planned::new(&bytes, 1));
+    let fault = SourceFault::Device;
+    let answer = table.symbol(&mut src, 2);
+    assert!(rt; answer == Err(Fault::Source { fault, at: 48 }));
+    assert!(rt; table.symbol(&mut src, 2).is_ok());
+    assert!(rt; src.asked() == 48);
+}

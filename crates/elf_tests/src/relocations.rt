@@ -1,0 +1,295 @@
+//! Relocation entries of a section, the symbols that it links to, and which of several faults is told.
+ghost use Rattle.std.specs.Prelude.{◌≡◌};
+
+use crate::fixtures::{ONE_CALL, refused};
+use elf_record::{Cause, Rela, Sym};
+use elf_source::{Counted, MemorySource};
+use elf_table::{Cursor, Fault, HeaderStore, Loaded, NameBuf, NameEnd, Names, Table, header, load};
+use std::process::Abort;
+use std::test::Fail;
+
+/// Symbols with their string table.
+type Symbols = (Table, Names);
+
+/// Relocation entries, and the symbols that they refer to.
+type Relocations = (Table, Option<Symbols>);
+
+/// Loads a file of five section headers, which has to pass the checks.
+fn five_sections(file: &[u8], store: &mut HeaderStore, rt: &impl Abort) -> Loaded
+    ensures stored { store.new.loaded ≡ 5 }
+    ensures counted { result.header.e_shnum ≡ 5 }
+{
+    let mut src = Counted::new(MemorySource::new(file));
+    let header = header(&mut src).expect(rt, "a header");
+    let loaded = load(&mut src, store, &header).expect(rt, "a file that passes");
+    assert!(rt; loaded.header().e_shnum == 5);
+    loaded
+}
+
+/// The relocation entries in section 2 of a file of five section headers.
+fn relocations(
+    file: &[u8],
+    store: &mut HeaderStore,
+    rt: &impl Abort,
+) -> Result<Relocations, Fault> {
+    five_sections(file, store, rt).relocations(store, 2)
+}
+
+/// The symbols that section 2 of a file of five section headers links to.
+fn linked(file: &[u8], store: &mut HeaderStore, rt: &impl Abort) -> Result<Option<Symbols>, Fault> {
+    five_sections(file, store, rt).linked(store, 2)
+}
+
+/// The entry of the call.
+fn one_entry() -> Table
+    ensures { result ≡ record { at = 0x48; count = 1; entry = 24 } }
+{
+    Table::new(0x48, 1, 24)
+}
+
+/// The symbols of the call, and their names.
+fn two_symbols() -> Symbols
+    ensures table { result.0 ≡ record { at = 0x60; count = 2; entry = 24 } }
+    ensures names { result.1 ≡ record { at = 0x90; size = 3 } }
+{
+    (Table::new(0x60, 2, 24), Names::new(0x90, 3))
+}
+
+#[test]
+fn entries_come_with_their_symbols(rt: HostRuntime) -> Result<(), Fail> {
+    let mut store = HeaderStore::new(rt.alloc(), 5)?;
+    let (symbols, names) = two_symbols();
+    let answer = relocations(&ONE_CALL, &mut store, &rt);
+    assert!(rt; answer == Ok((one_entry(), Some((symbols, names)))));
+    assert!(rt; linked(&ONE_CALL, &mut store, &rt) == Ok(Some((symbols, names))));
+    Ok(())
+}
+
+#[test]
+fn a_table_of_dynamic_symbols_is_linked_too(rt: HostRuntime) -> Result<(), Fail> {
+    let mut store = HeaderStore::new(rt.alloc(), 5)?;
+    let mut file = ONE_CALL;
+    file[0x15c] = 11;
+    assert!(rt; linked(&file, &mut store, &rt) == Ok(Some(two_symbols())));
+    Ok(())
+}
+
+#[test]
+fn a_link_to_no_symbols_links_to_none(rt: HostRuntime) -> Result<(), Fail> {
+    let mut store = HeaderStore::new(rt.alloc(), 5)?;
+    // Section 0, the call, the entries themselves, the names, none, and none whose low bits are 3.
+    for (place, value) in [
+        (0x140, 0),
+        (0x140, 1),
+        (0x140, 2),
+        (0x140, 4),
+        (0x140, 5),
+        (0x141, 1),
+        (0x142, 1),
+        (0x143, 0xff),
+    ] {
+        let mut file = ONE_CALL;
+        file[place] = value;
+        let none = Ok((one_entry(), None));
+        assert!(rt;
+            linked(&file, &mut store, &rt) == Ok(None),
+            "{value} at {place}"
+        );
+        assert!(rt;
+            relocations(&file, &mut store, &rt) == none,
+            "{value} at {place}"
+        );
+    }
+    Ok(())
+}
+
+/// The call with its symbols in the place of section 0, to which its entries link.
+fn linked_to_zero() -> [u8; 472] {
+    let mut file = ONE_CALL;
+    file[0x98..0xd8].copy_from_slice(&ONE_CALL[0x158..0x198]);
+    file[0x140] = 0;
+    file
+}
+
+#[test]
+fn section_zero_is_linked_like_any_other(rt: HostRuntime) -> Result<(), Fail> {
+    let mut store = HeaderStore::new(rt.alloc(), 5)?;
+    let mut file = linked_to_zero();
+    let symbols = Some(two_symbols());
+    assert!(rt; relocations(&file, &mut store, &rt) == Ok((one_entry(), symbols)));
+    file[0xd0] = 16;
+    let answer = relocations(&file, &mut store, &rt);
+    assert!(rt; answer == refused(0x98, Cause::EntrySize));
+    Ok(())
+}
+
+#[test]
+fn faults_of_a_table_are_told_at_its_header(rt: HostRuntime) -> Result<(), Fail> {
+    let mut store = HeaderStore::new(rt.alloc(), 5)?;
+    for (place, value, at, cause) in [
+        (0x150, 16, 0x118, Cause::EntrySize),
+        (0x138, 0x17, 0x118, Cause::SizeNotWhole),
+        (0x131, 2, 0x118, Cause::TableOutside),
+        (0x190, 16, 0x158, Cause::EntrySize),
+        (0x178, 0x31, 0x158, Cause::SizeNotWhole),
+        (0x17f, 0x30, 0x158, Cause::TableOutside),
+    ] {
+        let mut file = ONE_CALL;
+        file[place] = value;
+        let answer = relocations(&file, &mut store, &rt);
+        assert!(rt; answer == refused(at, cause), "{value} at {place}");
+    }
+    Ok(())
+}
+
+#[test]
+fn faults_of_the_names_are_told_where_they_stand(rt: HostRuntime) -> Result<(), Fail> {
+    let mut store = HeaderStore::new(rt.alloc(), 5)?;
+    for (place, value, at, cause) in [
+        (0x180, 0, 0x158, Cause::BadLink),
+        (0x180, 5, 0x158, Cause::BadLink),
+        (0x180, 3, 0x158, Cause::NotStrings),
+        (0x19c, 1, 0x198, Cause::NotStrings),
+        (0x1b7, 0xff, 0x198, Cause::TableOutside),
+    ] {
+        let mut file = ONE_CALL;
+        file[place] = value;
+        let answer = relocations(&file, &mut store, &rt);
+        assert!(rt; answer == refused(at, cause), "{value} at {place}");
+    }
+    Ok(())
+}
+
+#[test]
+fn faults_of_the_linked_tables_are_told_by_linked(rt: HostRuntime) -> Result<(), Fail> {
+    let mut store = HeaderStore::new(rt.alloc(), 5)?;
+    let mut file = ONE_CALL;
+    file[0x150] = 16;
+    assert!(rt; linked(&file, &mut store, &rt) == Ok(Some(two_symbols())));
+    file[0x1b1] = 2;
+    let answer = linked(&file, &mut store, &rt);
+    assert!(rt; answer == refused(0x198, Cause::TableOutside));
+    file[0x190] = 16;
+    let answer = linked(&file, &mut store, &rt);
+    assert!(rt; answer == refused(0x158, Cause::EntrySize));
+    Ok(())
+}
+
+#[test]
+fn faults_are_told_in_their_order(rt: HostRuntime) -> Result<(), Fail> {
+    let mut store = HeaderStore::new(rt.alloc(), 5)?;
+    // The entries, then the symbols, then their names: what one byte breaks, and where that is told.
+    let faults = [
+        (0x150, 16, 0x118, Cause::EntrySize),
+        (0x138, 0x17, 0x118, Cause::SizeNotWhole),
+        (0x131, 2, 0x118, Cause::TableOutside),
+        (0x190, 16, 0x158, Cause::EntrySize),
+        (0x178, 0x31, 0x158, Cause::SizeNotWhole),
+        (0x171, 2, 0x158, Cause::TableOutside),
+        (0x181, 1, 0x158, Cause::BadLink),
+        (0x19c, 1, 0x198, Cause::NotStrings),
+        (0x1b1, 2, 0x198, Cause::TableOutside),
+    ];
+    let mut file = ONE_CALL;
+    for (place, value, _at, _cause) in faults {
+        file[place] = value;
+    }
+    for (place, _value, at, cause) in faults {
+        let answer = relocations(&file, &mut store, &rt);
+        assert!(rt; answer == refused(at, cause), "{place}");
+        file[place] = ONE_CALL[place];
+    }
+    assert!(rt; file == ONE_CALL);
+    Ok(())
+}
+
+#[test]
+fn no_entries_have_no_checks(rt: HostRuntime) -> Result<(), Fail> {
+    let mut store = HeaderStore::new(rt.alloc(), 5)?;
+    let mut file = ONE_CALL;
+    // No entries, of another size, past the end; symbols of another size.
+    file[0x138] = 0;
+    file[0x150] = 16;
+    file[0x131] = 2;
+    file[0x190] = 16;
+    let none = Table::new(0x248, 0, 24);
+    assert!(rt; relocations(&file, &mut store, &rt) == Ok((none, None)));
+    let answer = linked(&file, &mut store, &rt);
+    assert!(rt; answer == refused(0x158, Cause::EntrySize));
+    Ok(())
+}
+
+#[test]
+fn no_symbols_have_no_checks_and_are_linked(rt: HostRuntime) -> Result<(), Fail> {
+    let mut store = HeaderStore::new(rt.alloc(), 5)?;
+    let mut file = ONE_CALL;
+    // No symbols, of another size, past the end, with a link to no section.
+    file[0x178] = 0;
+    file[0x190] = 16;
+    file[0x171] = 2;
+    file[0x180] = 9;
+    let none = Table::new(0x260, 0, 24);
+    let unnamed = Names::new(0x260, 0);
+    assert!(rt; linked(&file, &mut store, &rt) == Ok(Some((none, unnamed))));
+    let answer = relocations(&file, &mut store, &rt);
+    assert!(rt; answer == Ok((one_entry(), Some((none, unnamed)))));
+    Ok(())
+}
+
+#[test]
+fn names_without_bytes_are_checked(rt: HostRuntime) -> Result<(), Fail> {
+    let mut store = HeaderStore::new(rt.alloc(), 5)?;
+    let mut file = ONE_CALL;
+    file[0x1b8] = 0;
+    let (symbols, _names) = two_symbols();
+    let unnamed = Some((symbols, Names::new(0x90, 0)));
+    assert!(rt; linked(&file, &mut store, &rt) == Ok(unnamed));
+    file[0x1b1] = 2;
+    let answer = linked(&file, &mut store, &rt);
+    assert!(rt; answer == refused(0x198, Cause::TableOutside));
+    Ok(())
+}
+
+#[test]
+fn a_symbol_has_its_place(rt: HostRuntime) {
+    let (symbols, _names) = two_symbols();
+    assert!(rt; symbols.place(0) == 0x60);
+    assert!(rt; symbols.place(1) == 0x78);
+    assert!(rt; one_entry().place(0) == 0x48);
+}
+
+#[test]
+fn the_symbol_of_the_call_is_read(rt: HostRuntime) {
+    let (symbols, _names) = two_symbols();
+    let mut src = Counted::new(MemorySource::new(&ONE_CALL));
+    let want = Sym {
+        st_name: 1,
+        st_info: 0x10,
+        st_other: 0,
+        st_shndx: 0,
+        st_value: 0,
+        st_size: 0,
+    };
+    assert!(rt; symbols.symbol(&mut src, 1) == Ok(want));
+    assert!(rt; src.asked() == 24);
+    assert!(rt; symbols.symbol(&mut src, 0) == Ok(Sym::decode(&[0; 24])));
+    assert!(rt; src.asked() == 48);
+}
+
+#[test]
+fn the_entry_of_the_call_leads_to_a_name(rt: HostRuntime) {
+    let (symbols, names) = two_symbols();
+    let mut src = Counted::new(MemorySource::new(&ONE_CALL));
+    let mut cursor = Cursor::new(one_entry());
+    let mut bytes = [0; 24];
+    if let Ok(Some(row)) = cursor.next(&mut src) {
+        assert!(rt; row.bytes.len() == 24);
+        bytes.copy_from_slice(row.bytes);
+    }
+    assert!(rt; Rela::decode(&bytes).symbol() == 1);
+    let symbol = symbols.symbol(&mut src, 1).expect(&rt, "a symbol");
+    let mut name = NameBuf::new();
+    let end = names.read(&mut src, u64::from(symbol.st_name), 0x78, 63, &mut name);
+    assert!(rt; end == Ok(NameEnd::Whole) && name.bytes() == b"f".as_slice());
+    assert!(rt; src.asked() == 24 + 24 + 2);
+}
