@@ -1,14 +1,5 @@
 pub mod Examples
-pub mod ExamplesAnswers
-pub mod ExamplesApply
-pub mod ExamplesApplyCost
-pub mod ExamplesApplyOrder
-pub mod ExamplesDynamic
 pub mod ExamplesFields
-pub mod ExamplesHash
-pub mod ExamplesNames
-pub mod ExamplesNotes
-pub mod ExamplesValues
 pub mod ListedCosts
 pub mod ListedDynamic
 pub mod ListedHeaders

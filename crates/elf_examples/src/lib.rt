@@ -1,16 +1,10 @@
-//! Worked examples of the definitions: whole listings, costs, lookups, values and applied sections of
-//! files that are written out. Each is the contract of a function with an empty body, and the prover
-//! computes it.
+//! Worked examples of the definitions: fields and their texts, whole listings and their costs, of files
+//! that are written out. Each is the contract of a function with an empty body, and the prover computes
+//! it.
 #![tactic(auto)]
 
-mod answer_rows;
-mod apply_cost_rows;
-mod apply_order_rows;
-mod apply_rows;
-mod dynamic_rows;
 mod examples;
 mod field_rows;
-mod hash_rows;
 mod listed_costs;
 mod listed_dynamic;
 mod listed_headers;
@@ -20,6 +14,3 @@ mod listed_parts;
 mod listed_relocations;
 mod listed_sections;
 mod listed_symbols;
-mod name_rows;
-mod note_rows;
-mod value_rows;

@@ -1,5 +1,5 @@
 //! Worked lookups, each a theorem about the definitions that the prover computes.
-ghost use Rattle.elf_examples.specs.ExamplesHash.{KnownHashes, FirstIsFound, SecondIsFound, CycleIsRefused, EndIsAbsent, WrongWordIsRefused, WrongCountsAreRefused, NoTableIsRefused, HashSectionInOrder, HashLinksInOrder, NameFaultsAreRefused, EmptySymbolTable, SectionZeroAsHash, FindCostsAtLeast, TwoBuckets, HashLinkPastSections};
+ghost use Rattle.elf_answers.specs.ExamplesHash.{KnownHashes, FirstIsFound, SecondIsFound, CycleIsRefused, EndIsAbsent, WrongWordIsRefused, WrongCountsAreRefused, NoTableIsRefused, HashSectionInOrder, HashLinksInOrder, NameFaultsAreRefused, EmptySymbolTable, SectionZeroAsHash, FindCostsAtLeast, TwoBuckets, HashLinkPastSections};
 
 /// The hashes of some names.
 #[tactic(auto, unfolding(elf_model::proofs::OnLiterals::on_literals, crate::proofs::OnExamples::on_examples))]

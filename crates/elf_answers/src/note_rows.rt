@@ -1,5 +1,5 @@
 //! Worked examples of note tables, each a theorem about the definitions that the prover computes.
-ghost use Rattle.elf_examples.specs.ExamplesNotes.{NoteFills, NoteTail, NoteOfZeros, NotePastEnd, NoteAlignedToEight, NoteAlignedToFour, NoteAlignments, NoteNames, NoteShapes, NoteEmptyDescriptor};
+ghost use Rattle.elf_answers.specs.ExamplesNotes.{NoteFills, NoteTail, NoteOfZeros, NotePastEnd, NoteAlignedToEight, NoteAlignedToFour, NoteAlignments, NoteNames, NoteShapes, NoteEmptyDescriptor};
 
 /// One note that fills its table.
 #[tactic(auto, unfolding(elf_model::proofs::OnLiterals::on_literals, crate::proofs::OnExamples::on_examples))]

@@ -1,5 +1,5 @@
 //! Worked relocation values, each a theorem about the definitions that the prover computes.
-ghost use Rattle.elf_examples.specs.ExamplesValues.{RelativeIsSigned, CallTakesEntry, Bits32, Bits64, Bits16, Bits8, OtherTypes};
+ghost use Rattle.elf_answers.specs.ExamplesValues.{RelativeIsSigned, CallTakesEntry, Bits32, Bits64, Bits16, Bits8, OtherTypes};
 
 /// A value relative to the place is a number in two's complement of 32 bits.
 #[tactic(auto, unfolding(elf_model::proofs::OnLiterals::on_literals, crate::proofs::OnExamples::on_examples))]

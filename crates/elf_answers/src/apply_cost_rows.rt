@@ -1,5 +1,5 @@
 //! Worked costs of applying, each a theorem about the definitions that the prover computes.
-ghost use Rattle.elf_examples.specs.ExamplesApplyCost.{CostsOfWindows, CostsByOrder, EntriesThatCount, OrderLeavesOutNone, CostsOfRefusals, CostsWithoutBytes};
+ghost use Rattle.elf_answers.specs.ExamplesApplyCost.{CostsOfWindows, CostsByOrder, EntriesThatCount, OrderLeavesOutNone, CostsOfRefusals, CostsWithoutBytes};
 
 /// What windows of 64 bytes cost.
 #[tactic(auto, unfolding(elf_model::proofs::OnLiterals::on_literals, crate::proofs::OnExamples::on_examples))]

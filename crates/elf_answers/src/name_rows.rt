@@ -1,5 +1,5 @@
 //! Worked examples of names in string tables, each a theorem about the definitions that the prover computes.
-ghost use Rattle.elf_examples.specs.ExamplesNames.{NameAtCap, NameInsideAnother, NameOutsideTable, NameUnendedOrCut, NameInEmptyTable, NameCompared, NameComparedAtEnd, NameBytes};
+ghost use Rattle.elf_answers.specs.ExamplesNames.{NameAtCap, NameInsideAnother, NameOutsideTable, NameUnendedOrCut, NameInEmptyTable, NameCompared, NameComparedAtEnd, NameBytes};
 
 /// A name of exactly cap bytes is whole, a longer one is cut to cap bytes.
 #[tactic(auto, unfolding(elf_model::proofs::OnLiterals::on_literals, crate::proofs::OnExamples::on_examples))]

@@ -1,5 +1,5 @@
 //! Worked relocations, each a theorem about the definitions that the prover computes.
-ghost use Rattle.elf_examples.specs.ExamplesApply.{LaterStands, OverflowRefusesAll, EitherOrderIsApplied, CallIsApplied, CallIsRefused, SymbolsAreValued, NothingIsChecked, RequestInOrder, NoBytesAreApplied, LinkZeroCounts, EmptySymbolsApply, EmptyTablesApply, FaultsInterleave, NamesAreLookedAtLate, WeakCommonIsUndefined, UndefinedBeforeUnplaced};
+ghost use Rattle.elf_answers.specs.ExamplesApply.{LaterStands, OverflowRefusesAll, EitherOrderIsApplied, CallIsApplied, CallIsRefused, SymbolsAreValued, NothingIsChecked, RequestInOrder, NoBytesAreApplied, LinkZeroCounts, EmptySymbolsApply, EmptyTablesApply, FaultsInterleave, NamesAreLookedAtLate, WeakCommonIsUndefined, UndefinedBeforeUnplaced};
 
 /// Of two entries that overlap the later one stands.
 #[tactic(auto, unfolding(elf_model::proofs::OnLiterals::on_literals, crate::proofs::OnExamples::on_examples))]

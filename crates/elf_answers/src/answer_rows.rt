@@ -1,5 +1,5 @@
 //! Worked answers of lookups and of relocations, each a theorem about the definitions that the prover computes.
-ghost use Rattle.elf_examples.specs.ExamplesAnswers.{FoundIsWritten, AbsentIsWritten, RefusalIsWritten, AppliedIsWritten};
+ghost use Rattle.elf_answers.specs.ExamplesAnswers.{FoundIsWritten, AbsentIsWritten, RefusalIsWritten, AppliedIsWritten};
 
 /// Names that are found.
 #[tactic(auto, unfolding(elf_model::proofs::OnLiterals::on_literals, crate::proofs::OnExamples::on_examples))]

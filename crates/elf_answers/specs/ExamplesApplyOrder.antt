@@ -11,8 +11,8 @@ use Rattle.elf_model.specs.Fixtures.{zeros, with_bytes, section_header, one_symb
 use Rattle.elf_model.specs.FixturesHash.{hash_with_cycle, with_hash_header}
 use Rattle.elf_model.specs.FixturesApply.{relocation, relocated, overlapping_relocations, one_call, with_symbol, empty_layout, placed_layout, entry_layout, unplaced_layout, full_layout}
 use Rattle.elf_model.specs.Placing.{Layout}
-use Rattle.elf_examples.specs.ExamplesApply.{Applies, RefusesToApply}
-use Rattle.elf_examples.specs.ExamplesHash.{Refuses}
+use Rattle.elf_answers.specs.ExamplesApply.{Applies, RefusesToApply}
+use Rattle.elf_answers.specs.ExamplesHash.{Refuses}
 use Rattle.elf_model.specs.declared.causes.Cause.TheVariants.{Unsupported, Overflow, BadLink, Unplaced, PlaceOutside, SymbolIndex, NameOutside}
 
 -- the type, the place, the symbol, its name, the section's address, the value: each entry here fails the next check as well

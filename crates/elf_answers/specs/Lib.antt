@@ -1,0 +1,9 @@
+pub mod ExamplesAnswers
+pub mod ExamplesApply
+pub mod ExamplesApplyCost
+pub mod ExamplesApplyOrder
+pub mod ExamplesDynamic
+pub mod ExamplesHash
+pub mod ExamplesNames
+pub mod ExamplesNotes
+pub mod ExamplesValues
