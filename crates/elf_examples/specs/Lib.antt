@@ -6,6 +6,8 @@ pub mod ExamplesApplyOrder
 pub mod ExamplesDynamic
 pub mod ExamplesFields
 pub mod ExamplesHash
+pub mod ExamplesLayouts
+pub mod ExamplesLookups
 pub mod ExamplesNames
 pub mod ExamplesNotes
 pub mod ExamplesValues
@@ -18,3 +20,4 @@ pub mod ListedParts
 pub mod ListedRelocations
 pub mod ListedSections
 pub mod ListedSymbols
+pub mod ListedTags

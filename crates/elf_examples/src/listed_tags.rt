@@ -1,0 +1,26 @@
+//! Listings of dynamic entries by their tags and of notes in later segments, each computed by the prover.
+ghost use Rattle.elf_examples.specs.ListedTags.{OtherTagsHaveNoString, UnnamedTagsHaveNoString, LaterSegmentsList, LaterSegmentsCost};
+
+/// The tags with a name whose value is no string.
+#[tactic(auto, unfolding(elf_model::proofs::OnLiterals::on_literals))]
+pub fn other_tags_have_no_string()
+    ensures { OtherTagsHaveNoString }
+{}
+
+/// Tags without a name.
+#[tactic(auto, unfolding(elf_model::proofs::OnLiterals::on_literals))]
+pub fn unnamed_tags_have_no_string()
+    ensures { UnnamedTagsHaveNoString }
+{}
+
+/// The notes of a segment that is not the first.
+#[tactic(auto, unfolding(elf_model::proofs::OnLiterals::on_literals))]
+pub fn later_segments_list()
+    ensures { LaterSegmentsList }
+{}
+
+/// What the notes of two segments cost.
+#[tactic(auto, unfolding(elf_model::proofs::OnLiterals::on_literals))]
+pub fn later_segments_cost()
+    ensures { LaterSegmentsCost }
+{}
