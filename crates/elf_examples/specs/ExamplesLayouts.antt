@@ -1,5 +1,5 @@
 -- Worked examples of symbols in a layout, of what comes before relocation entries, and of what that costs.
-use Rattle.std.specs.Prelude.{◌≡◌, ◌+◌, ◌*◌, ◌-◌, ◌^◌, ◌++◌, [], ◌∷◌, true, false, Ok, Err}
+use Rattle.std.specs.Prelude.{◌≡◌, ◌+◌, ◌*◌, ◌-◌, ◌^◌, ◌++◌, pos, [], ◌∷◌, map, replicate, true, false, Ok, Err}
 use Rattle.elf_model.specs.Bytes.{little}
 use Rattle.elf_model.specs.Apply.{applied}
 use Rattle.elf_model.specs.ApplyCost.{apply_cost, apply_cost_in_order, offsets_never_fall}
@@ -7,9 +7,11 @@ use Rattle.elf_model.specs.Cost.{cost}
 use Rattle.elf_model.specs.Listing.{ALL}
 use Rattle.elf_model.specs.Fixtures.{zeros, with_bytes, one_symbol_table}
 use Rattle.elf_model.specs.FixturesApply.{relocation, relocated, one_call, two_relocation_sections, with_symbol, with_entries_header, empty_layout, placed_layout, defined_layout, entry_layout}
+use Rattle.elf_model.specs.FixturesTables.{numbers_from}
 use Rattle.elf_model.specs.Placing.{Layout}
+use Rattle.elf_model.specs.Values.{value}
 use Rattle.elf_examples.specs.ExamplesApply.{Applies, RefusesSection, RefusesToApply}
-use Rattle.elf_model.specs.declared.causes.Cause.TheVariants.{BadClass, TooManyHeaders, TableOutside, BadLink, NotStrings, NameOutside, Unplaced, Undefined, PlaceOutside}
+use Rattle.elf_model.specs.declared.causes.Cause.TheVariants.{BadClass, TooManyHeaders, TableOutside, BadLink, NotStrings, NameOutside, Unsupported, Unplaced, Undefined, PlaceOutside}
 
 -- an undefined symbol of no other binding than the weak one is 0
 abbrev pub WeakAloneIsZero : Type 0
@@ -88,3 +90,22 @@ abbrev pub NoBytesCost : Type 0
 NoBytesCost =
     (apply_cost (with_bytes 0x11c (little 4 8) (relocated (zeros 128) (relocation 0 0 0))) 3 1 empty_layout ≡ 64 + 192 + 48)
     × (apply_cost_in_order (with_bytes 0x11c (little 4 8) (relocated (zeros 128) (relocation 0 0 0))) 3 1 empty_layout ≡ 64 + 192 + 2 * 48)
+
+-- a type that is not applied has a part in the order too
+abbrev pub OrderHasEachType : Type 0
+OrderHasEachType =
+    (offsets_never_fall (relocated (zeros 8) (relocation 4 10 0 ++ relocation 0 9 0)) 1 ≡ false)
+    × (offsets_never_fall (relocated (zeros 8) (relocation 4 10 0 ++ relocation 4 9 0)) 1 ≡ true)
+
+-- entries without addends are not applied
+abbrev pub EntriesWithoutAddends : Type 0
+EntriesWithoutAddends =
+    Applies (with_entries_header 4 (little 4 9)) entry_layout (0xe8 ∷ zeros 4)
+    × (apply_cost (with_entries_header 4 (little 4 9)) 5 1 entry_layout ≡ 64 + 320 + 5)
+
+-- the numbers between the types that are applied, and behind them
+abbrev pub OtherTypesAreUnsupported : Type 0
+OtherTypesAreUnsupported =
+    map (λ type. value type 0 0 (pos 0) 0)
+    (3 ∷ 5 ∷ 6 ∷ 7 ∷ 8 ∷ 9 ∷ 13 ∷ numbers_from 15 9 ++ numbers_from 25 18 ++ 256 ∷ 65537 ∷ [])
+    ≡ replicate 36 (Err Unsupported)

@@ -7,7 +7,7 @@ use Rattle.elf_model.specs.Fixtures.{zeros, with_bytes}
 use Rattle.elf_model.specs.FixturesHash.{hash_file, hash_with_cycle, with_hash_header, with_symbols_header, with_strings_header}
 use Rattle.elf_model.specs.Hash.{sysv_hash, Found, Absent, refused}
 use Rattle.elf_examples.specs.ExamplesHash.{Refuses}
-use Rattle.elf_model.specs.declared.causes.Cause.TheVariants.{BadClass, TooManyHeaders, TableOutside, BadLink, NotStrings, HashIndex, HashCycle}
+use Rattle.elf_model.specs.declared.causes.Cause.TheVariants.{BadClass, TooManyHeaders, TableOutside, BadLink, NotStrings, NoHash, HashIndex, HashCycle}
 
 -- names whose hash has each of its top four bits set on the way, and bytes above 127
 abbrev pub LongerHashes : Type 0
@@ -78,3 +78,13 @@ WantedNameIsWritten =
           ++ codes "F found           1\n";
       status = 0;
     })
+
+-- a hash table of another kind, of type 0x6ffffff6, is none
+abbrev pub OtherHashIsNone : Type 0
+OtherHashIsNone = Refuses (with_hash_header 4 (little 4 0x6ffffff6)) (codes "a") 0x28 NoHash
+
+-- a symbol that is not defined is found too, and a local one
+abbrev pub UndefinedIsFound : Type 0
+UndefinedIsFound =
+    (looked (with_bytes 0x76 (zeros 2) hash_with_cycle) 4 (codes "a") ≡ Found 2 1 0x70 1)
+    × (looked (with_bytes 0x74 (zeros 4) hash_with_cycle) 4 (codes "a") ≡ Found 2 1 0x70 1)

@@ -78,3 +78,9 @@ LaterSegmentsCost =
     (cost (two_segments 1 4) 2 63 NOTES ≡ 64 + 112 + 20)
     × (cost (two_segments 4 4) 2 63 NOTES ≡ 64 + 112 + 20 + 20)
     × (cost (with_bytes 0x80 (little 8 0x1000) (two_segments 4 4)) 2 63 NOTES ≡ 64 + 112 + 20)
+
+-- a string's index is the whole value
+abbrev pub StringsByTheWholeValue : Type 0
+StringsByTheWholeValue =
+    report (one_table 6 8 16 (tagged 1 1 ++ tagged 1 0x100000001) (0 ∷ codes "a" ++ zeros 1)) 3 63 DYNAMIC
+    ≡ codes "D     0 NEEDED           0000000000000001 a\n" ++ codes "! 0000000000000050 name-outside\n"

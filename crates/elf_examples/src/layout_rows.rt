@@ -1,5 +1,5 @@
 //! Worked symbols in layouts and requests to apply, each a theorem about the definitions that the prover computes.
-ghost use Rattle.elf_examples.specs.ExamplesLayouts.{WeakAloneIsZero, ReservedIndicesAreUnplaced, DefinitionsAreForUndefined, EntriesAreForAll, SectionBytesAreChecked, RequestsCheckTheFile, PlacesAreWhole, BadHeadersCost, OrderOverSections, NoBytesCost};
+ghost use Rattle.elf_examples.specs.ExamplesLayouts.{WeakAloneIsZero, ReservedIndicesAreUnplaced, DefinitionsAreForUndefined, EntriesAreForAll, SectionBytesAreChecked, RequestsCheckTheFile, PlacesAreWhole, BadHeadersCost, OrderOverSections, NoBytesCost, OrderHasEachType, EntriesWithoutAddends, OtherTypesAreUnsupported};
 
 /// Undefined symbols by their binding.
 #[tactic(auto, unfolding(elf_model::proofs::OnLiterals::on_literals, crate::proofs::OnExamples::on_examples))]
@@ -59,4 +59,22 @@ pub fn order_over_sections()
 #[tactic(auto, unfolding(elf_model::proofs::OnLiterals::on_literals, crate::proofs::OnExamples::on_examples))]
 pub fn no_bytes_cost()
     ensures { NoBytesCost }
+{}
+
+/// The order of entries of a type that is not applied.
+#[tactic(auto, unfolding(elf_model::proofs::OnLiterals::on_literals, crate::proofs::OnExamples::on_examples))]
+pub fn order_has_each_type()
+    ensures { OrderHasEachType }
+{}
+
+/// Entries without addends.
+#[tactic(auto, unfolding(elf_model::proofs::OnLiterals::on_literals, crate::proofs::OnExamples::on_examples))]
+pub fn entries_without_addends()
+    ensures { EntriesWithoutAddends }
+{}
+
+/// The types that are not applied.
+#[tactic(auto, unfolding(elf_model::proofs::OnLiterals::on_literals, crate::proofs::OnExamples::on_examples))]
+pub fn other_types_are_unsupported()
+    ensures { OtherTypesAreUnsupported }
 {}

@@ -1,5 +1,5 @@
 //! Listings of dynamic entries by their tags and of notes in later segments, each computed by the prover.
-ghost use Rattle.elf_examples.specs.ListedTags.{OtherTagsHaveNoString, UnnamedTagsHaveNoString, LaterSegmentsList, LaterSegmentsCost};
+ghost use Rattle.elf_examples.specs.ListedTags.{OtherTagsHaveNoString, UnnamedTagsHaveNoString, LaterSegmentsList, LaterSegmentsCost, StringsByTheWholeValue};
 
 /// The tags with a name whose value is no string.
 #[tactic(auto, unfolding(elf_model::proofs::OnLiterals::on_literals))]
@@ -23,4 +23,10 @@ pub fn later_segments_list()
 #[tactic(auto, unfolding(elf_model::proofs::OnLiterals::on_literals))]
 pub fn later_segments_cost()
     ensures { LaterSegmentsCost }
+{}
+
+/// A value past 32 bits.
+#[tactic(auto, unfolding(elf_model::proofs::OnLiterals::on_literals))]
+pub fn strings_by_the_whole_value()
+    ensures { StringsByTheWholeValue }
 {}

@@ -1,5 +1,5 @@
 //! More worked lookups, each a theorem about the definitions that the prover computes.
-ghost use Rattle.elf_examples.specs.ExamplesLookups.{LongerHashes, MoreChainsThanSymbols, CycleInTheSecondBucket, NoChains, EmptyHashIsChecked, LookupsCheckTheFile, RefusalsCompareNothing, WantedNameIsWritten};
+ghost use Rattle.elf_examples.specs.ExamplesLookups.{LongerHashes, MoreChainsThanSymbols, CycleInTheSecondBucket, NoChains, EmptyHashIsChecked, LookupsCheckTheFile, RefusalsCompareNothing, WantedNameIsWritten, OtherHashIsNone, UndefinedIsFound};
 
 /// The hashes of longer names.
 #[tactic(auto, unfolding(elf_model::proofs::OnLiterals::on_literals, crate::proofs::OnExamples::on_examples))]
@@ -47,4 +47,16 @@ pub fn refusals_compare_nothing()
 #[tactic(auto, unfolding(elf_model::proofs::OnLiterals::on_literals, crate::proofs::OnExamples::on_examples))]
 pub fn wanted_name_is_written()
     ensures { WantedNameIsWritten }
+{}
+
+/// A hash table of another kind.
+#[tactic(auto, unfolding(elf_model::proofs::OnLiterals::on_literals, crate::proofs::OnExamples::on_examples))]
+pub fn other_hash_is_none()
+    ensures { OtherHashIsNone }
+{}
+
+/// Symbols that are not defined, and local ones.
+#[tactic(auto, unfolding(elf_model::proofs::OnLiterals::on_literals, crate::proofs::OnExamples::on_examples))]
+pub fn undefined_is_found()
+    ensures { UndefinedIsFound }
 {}
