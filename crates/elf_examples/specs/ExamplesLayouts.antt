@@ -5,8 +5,8 @@ use Rattle.elf_model.specs.Apply.{applied}
 use Rattle.elf_model.specs.ApplyCost.{apply_cost, apply_cost_in_order, offsets_never_fall}
 use Rattle.elf_model.specs.Cost.{cost}
 use Rattle.elf_model.specs.Listing.{ALL}
-use Rattle.elf_model.specs.Fixtures.{zeros, with_bytes, one_symbol_table}
-use Rattle.elf_model.specs.FixturesApply.{relocation, relocated, one_call, two_relocation_sections, with_symbol, with_entries_header, empty_layout, placed_layout, defined_layout, entry_layout}
+use Rattle.elf_model.specs.Fixtures.{zeros, with_bytes, section_header, one_symbol_table}
+use Rattle.elf_model.specs.FixturesApply.{relocation, relocated, overlapping_relocations, one_call, two_relocation_sections, with_symbol, with_entries_header, empty_layout, placed_layout, defined_layout, entry_layout}
 use Rattle.elf_model.specs.FixturesTables.{numbers_from}
 use Rattle.elf_model.specs.Placing.{Layout}
 use Rattle.elf_model.specs.Values.{value}
@@ -109,3 +109,15 @@ OtherTypesAreUnsupported =
     map (λ type. value type 0 0 (pos 0) 0)
     (3 ∷ 5 ∷ 6 ∷ 7 ∷ 8 ∷ 9 ∷ 13 ∷ numbers_from 15 9 ++ numbers_from 25 18 ++ 256 ∷ 65537 ∷ [])
     ≡ replicate 36 (Err Unsupported)
+
+-- a definition is for a weak symbol too, and its name is looked at
+abbrev pub WeakIsDefined : Type 0
+WeakIsDefined =
+    Applies (with_symbol 4 (little 1 0x20)) defined_layout (0xe8 ∷ 0xfb ∷ 0x1f ∷ 0 ∷ 0 ∷ [])
+    × RefusesToApply (with_symbol 0 (little 4 0xffffffff ++ little 1 0x20)) defined_layout 0x78 NameOutside
+
+-- behind the last section there are no entries
+abbrev pub EntriesPastTheLastSection : Type 0
+EntriesPastTheLastSection =
+    let file = overlapping_relocations ++ section_header 4 0x40 0x48 0x18 0 1 0 24 in
+    (applied file 3 1 empty_layout ≡ Ok (0x44 ∷ 0x33 ∷ 0xff ∷ 0xff ∷ zeros 4)) × (apply_cost file 3 1 empty_layout ≡ 456)

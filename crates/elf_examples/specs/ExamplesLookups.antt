@@ -3,7 +3,7 @@ use Rattle.std.specs.Prelude.{◌≡◌, ◌+◌, ◌++◌, [], ◌∷◌, codes
 use Rattle.elf_model.specs.Bytes.{little}
 use Rattle.elf_model.specs.Find.{looked, compared, find_cost}
 use Rattle.elf_model.specs.FindApplyAnswer.{find_answer}
-use Rattle.elf_model.specs.Fixtures.{zeros, with_bytes}
+use Rattle.elf_model.specs.Fixtures.{zeros, with_bytes, section_header, one_symbol_table}
 use Rattle.elf_model.specs.FixturesHash.{hash_file, hash_with_cycle, with_hash_header, with_symbols_header, with_strings_header}
 use Rattle.elf_model.specs.Hash.{sysv_hash, Found, Absent, refused}
 use Rattle.elf_examples.specs.ExamplesHash.{Refuses}
@@ -88,3 +88,7 @@ abbrev pub UndefinedIsFound : Type 0
 UndefinedIsFound =
     (looked (with_bytes 0x76 (zeros 2) hash_with_cycle) 4 (codes "a") ≡ Found 2 1 0x70 1)
     × (looked (with_bytes 0x74 (zeros 4) hash_with_cycle) 4 (codes "a") ≡ Found 2 1 0x70 1)
+
+-- behind the last section there is none
+abbrev pub HashPastTheLastSection : Type 0
+HashPastTheLastSection = Refuses (one_symbol_table ++ section_header 5 0 0x40 0x18 1 0 0 4) (codes "main") 0x28 NoHash

@@ -4,8 +4,8 @@ use Rattle.elf_model.specs.Bytes.{little}
 use Rattle.elf_model.specs.Cost.{cost}
 use Rattle.elf_model.specs.Listing.{NOTES, DYNAMIC}
 use Rattle.elf_model.specs.Report.{report}
-use Rattle.elf_model.specs.Fixtures.{zeros, with_bytes, file_header}
-use Rattle.elf_model.specs.FixturesTables.{numbers_from, one_table, program_header, plain_note, tagged}
+use Rattle.elf_model.specs.Fixtures.{zeros, with_bytes, file_header, section_header}
+use Rattle.elf_model.specs.FixturesTables.{numbers_from, one_table, program_header, plain_note, build_note, tagged, needed_library}
 
 -- a table of dynamic entries with these tags, each with the value 99, which is past the end of its string table
 abbrev pub tags : List ℕ → List ℕ
@@ -84,3 +84,14 @@ abbrev pub StringsByTheWholeValue : Type 0
 StringsByTheWholeValue =
     report (one_table 6 8 16 (tagged 1 1 ++ tagged 1 0x100000001) (0 ∷ codes "a" ++ zeros 1)) 3 63 DYNAMIC
     ≡ codes "D     0 NEEDED           0000000000000001 a\n" ++ codes "! 0000000000000050 name-outside\n"
+
+-- behind the last section and the last program header there are no tables
+abbrev pub NothingPastTheLastHeader : Type 0
+NothingPastTheLastHeader =
+    (report (needed_library ++ section_header 6 0 0x50 16 2 0 8 16) 3 63 DYNAMIC
+    ≡ codes "D     0 NEEDED           0000000000000001 libc.so.6\n" ++ codes "D     1 NULL             0000000000000000 \n")
+    × (report (one_table 7 4 0 build_note [] ++ section_header 7 0 0x40 36 2 0 4 0) 3 63 NOTES
+    ≡ codes "N     1 00000003 00000004 00000014 GNU 000102030405060708090a0b0c0d0e0f10111213\n")
+    × (report (with_bytes 0x38 (little 2 1) (two_segments 4 4)) 2 63 NOTES
+    ≡ codes "N     0 00000001 00000004 00000004 GNU 2a000000\n")
+    × (cost (with_bytes 0x38 (little 2 1) (two_segments 4 4)) 2 63 NOTES ≡ 64 + 56 + 20)

@@ -1,5 +1,5 @@
 //! Worked symbols in layouts and requests to apply, each a theorem about the definitions that the prover computes.
-ghost use Rattle.elf_examples.specs.ExamplesLayouts.{WeakAloneIsZero, ReservedIndicesAreUnplaced, DefinitionsAreForUndefined, EntriesAreForAll, SectionBytesAreChecked, RequestsCheckTheFile, PlacesAreWhole, BadHeadersCost, OrderOverSections, NoBytesCost, OrderHasEachType, EntriesWithoutAddends, OtherTypesAreUnsupported};
+ghost use Rattle.elf_examples.specs.ExamplesLayouts.{WeakAloneIsZero, ReservedIndicesAreUnplaced, DefinitionsAreForUndefined, EntriesAreForAll, SectionBytesAreChecked, RequestsCheckTheFile, PlacesAreWhole, BadHeadersCost, OrderOverSections, NoBytesCost, OrderHasEachType, EntriesWithoutAddends, OtherTypesAreUnsupported, WeakIsDefined, EntriesPastTheLastSection};
 
 /// Undefined symbols by their binding.
 #[tactic(auto, unfolding(elf_model::proofs::OnLiterals::on_literals, crate::proofs::OnExamples::on_examples))]
@@ -77,4 +77,16 @@ pub fn entries_without_addends()
 #[tactic(auto, unfolding(elf_model::proofs::OnLiterals::on_literals, crate::proofs::OnExamples::on_examples))]
 pub fn other_types_are_unsupported()
     ensures { OtherTypesAreUnsupported }
+{}
+
+/// Definitions of weak symbols.
+#[tactic(auto, unfolding(elf_model::proofs::OnLiterals::on_literals, crate::proofs::OnExamples::on_examples))]
+pub fn weak_is_defined()
+    ensures { WeakIsDefined }
+{}
+
+/// Entries behind the last section.
+#[tactic(auto, unfolding(elf_model::proofs::OnLiterals::on_literals, crate::proofs::OnExamples::on_examples))]
+pub fn entries_past_the_last_section()
+    ensures { EntriesPastTheLastSection }
 {}

@@ -1,5 +1,5 @@
 //! Listings of dynamic entries by their tags and of notes in later segments, each computed by the prover.
-ghost use Rattle.elf_examples.specs.ListedTags.{OtherTagsHaveNoString, UnnamedTagsHaveNoString, LaterSegmentsList, LaterSegmentsCost, StringsByTheWholeValue};
+ghost use Rattle.elf_examples.specs.ListedTags.{OtherTagsHaveNoString, UnnamedTagsHaveNoString, LaterSegmentsList, LaterSegmentsCost, StringsByTheWholeValue, NothingPastTheLastHeader};
 
 /// The tags with a name whose value is no string.
 #[tactic(auto, unfolding(elf_model::proofs::OnLiterals::on_literals))]
@@ -29,4 +29,10 @@ pub fn later_segments_cost()
 #[tactic(auto, unfolding(elf_model::proofs::OnLiterals::on_literals))]
 pub fn strings_by_the_whole_value()
     ensures { StringsByTheWholeValue }
+{}
+
+/// What would be headers behind the last one.
+#[tactic(auto, unfolding(elf_model::proofs::OnLiterals::on_literals))]
+pub fn nothing_past_the_last_header()
+    ensures { NothingPastTheLastHeader }
 {}
