@@ -1,11 +1,13 @@
--- Listings of dynamic entries by their tags, and of the notes of later segments.
+-- Listings of dynamic entries by their tags, and of later notes and the notes of later segments.
 use Rattle.std.specs.Prelude.{◌≡◌, ◌+◌, List, ◌∷◌, ◌++◌, ℕ, [], codes, flat_map}
 use Rattle.elf_model.specs.Bytes.{little}
 use Rattle.elf_model.specs.Cost.{cost}
 use Rattle.elf_model.specs.Listing.{NOTES, DYNAMIC}
+use Rattle.elf_model.specs.Notes.{note_rows}
 use Rattle.elf_model.specs.Report.{report}
 use Rattle.elf_model.specs.Fixtures.{zeros, with_bytes, file_header, section_header}
 use Rattle.elf_model.specs.FixturesTables.{numbers_from, one_table, program_header, plain_note, build_note, tagged, needed_library}
+use Rattle.elf_examples.specs.ExamplesNotes.{note}
 
 -- a table of dynamic entries with these tags, each with the value 99, which is past the end of its string table
 abbrev pub tags : List ℕ → List ℕ
@@ -95,3 +97,25 @@ NothingPastTheLastHeader =
     × (report (with_bytes 0x38 (little 2 1) (two_segments 4 4)) 2 63 NOTES
     ≡ codes "N     0 00000001 00000004 00000004 GNU 2a000000\n")
     × (cost (with_bytes 0x38 (little 2 1) (two_segments 4 4)) 2 63 NOTES ≡ 64 + 56 + 20)
+
+-- a tag whose low 32 bits are 0 is not the end
+abbrev pub EndByTheWholeTag : Type 0
+EndByTheWholeTag =
+    report (tags (0x100000000 ∷ 2 ∷ [])) 3 63 DYNAMIC
+    ≡ codes "D     0 0000000100000000 0000000000000063 \n" ++ codes "D     1 PLTRELSZ         0000000000000063 \n"
+
+-- a table that is cut behind its second note
+abbrev pub NotesCutLater : Type 0
+NotesCutLater =
+    report (one_table 7 4 0 (build_note ++ build_note ++ 1 ∷ []) []) 3 63 NOTES
+    ≡ codes "N     1 00000003 00000004 00000014 GNU 000102030405060708090a0b0c0d0e0f10111213\n"
+    ++ codes "N     1 00000003 00000004 00000014 GNU 000102030405060708090a0b0c0d0e0f10111213\n"
+    ++ codes "! 0000000000000088 note-cut\n"
+
+-- a note stands behind the padding of the one before it
+abbrev pub LaterNotesStand : Type 0
+LaterNotesStand =
+    let first = note 1 (codes "ABCD" ++ zeros 1) (1 ∷ 2 ∷ 3 ∷ 4 ∷ []) in
+    let second = note 2 (codes "GNU" ++ zeros 1) (5 ∷ []) in
+    note_rows 8 0 (first ∷ second ∷ [])
+    ≡ record { at = 0; note = first; descriptor_at = 24 } ∷ record { at = 32; note = second; descriptor_at = 48 } ∷ []

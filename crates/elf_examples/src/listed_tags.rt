@@ -1,5 +1,5 @@
-//! Listings of dynamic entries by their tags and of notes in later segments, each computed by the prover.
-ghost use Rattle.elf_examples.specs.ListedTags.{OtherTagsHaveNoString, UnnamedTagsHaveNoString, LaterSegmentsList, LaterSegmentsCost, StringsByTheWholeValue, NothingPastTheLastHeader};
+//! Listings of dynamic entries by their tags, of later notes and of notes in later segments, each computed by the prover.
+ghost use Rattle.elf_examples.specs.ListedTags.{OtherTagsHaveNoString, UnnamedTagsHaveNoString, LaterSegmentsList, LaterSegmentsCost, StringsByTheWholeValue, NothingPastTheLastHeader, EndByTheWholeTag, NotesCutLater, LaterNotesStand};
 
 /// The tags with a name whose value is no string.
 #[tactic(auto, unfolding(elf_model::proofs::OnLiterals::on_literals))]
@@ -35,4 +35,22 @@ pub fn strings_by_the_whole_value()
 #[tactic(auto, unfolding(elf_model::proofs::OnLiterals::on_literals))]
 pub fn nothing_past_the_last_header()
     ensures { NothingPastTheLastHeader }
+{}
+
+/// A tag whose low 32 bits are 0.
+#[tactic(auto, unfolding(elf_model::proofs::OnLiterals::on_literals))]
+pub fn end_by_the_whole_tag()
+    ensures { EndByTheWholeTag }
+{}
+
+/// A table of notes that is cut behind its second note.
+#[tactic(auto, unfolding(elf_model::proofs::OnLiterals::on_literals))]
+pub fn notes_cut_later()
+    ensures { NotesCutLater }
+{}
+
+/// Where a note behind another stands.
+#[tactic(auto, unfolding(elf_model::proofs::OnLiterals::on_literals))]
+pub fn later_notes_stand()
+    ensures { LaterNotesStand }
 {}
