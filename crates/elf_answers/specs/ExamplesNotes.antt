@@ -113,3 +113,11 @@ NoteEmptyDescriptor =
     (walked 8 (note_head 5 0 7 ++ codes "abcde") ≡ whole (first ∷ []))
     × (note_rows 8 0 (first ∷ []) ≡ record { at = 0; note = first; descriptor_at = 17 } ∷ [])
     × (walked 8 (note_head 5 0 7 ++ codes "abcde" ++ (6 ∷ 6 ∷ 6 ∷ 6 ∷ 6 ∷ 6 ∷ 6 ∷ []) ++ zeros 12) ≡ whole (first ∷ note 0 [] [] ∷ []))
+
+-- a note stands behind the padding of the one before it
+abbrev pub LaterNotesStand : Type 0
+LaterNotesStand =
+    let first = note 1 (codes "ABCD" ++ zeros 1) (1 ∷ 2 ∷ 3 ∷ 4 ∷ []) in
+    let second = note 2 (codes "GNU" ++ zeros 1) (5 ∷ []) in
+    note_rows 8 0 (first ∷ second ∷ [])
+    ≡ record { at = 0; note = first; descriptor_at = 24 } ∷ record { at = 32; note = second; descriptor_at = 48 } ∷ []

@@ -4,6 +4,8 @@ pub mod ExamplesApplyCost
 pub mod ExamplesApplyOrder
 pub mod ExamplesDynamic
 pub mod ExamplesHash
+pub mod ExamplesLayouts
+pub mod ExamplesLookups
 pub mod ExamplesNames
 pub mod ExamplesNotes
 pub mod ExamplesValues

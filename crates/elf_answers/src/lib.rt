@@ -9,6 +9,8 @@ mod apply_order_rows;
 mod apply_rows;
 mod dynamic_rows;
 mod hash_rows;
+mod layout_rows;
+mod lookup_rows;
 mod name_rows;
 mod note_rows;
 mod value_rows;

@@ -1,5 +1,5 @@
 //! Worked examples of note tables, each a theorem about the definitions that the prover computes.
-ghost use Rattle.elf_answers.specs.ExamplesNotes.{NoteFills, NoteTail, NoteOfZeros, NotePastEnd, NoteAlignedToEight, NoteAlignedToFour, NoteAlignments, NoteNames, NoteShapes, NoteEmptyDescriptor};
+ghost use Rattle.elf_answers.specs.ExamplesNotes.{NoteFills, NoteTail, NoteOfZeros, NotePastEnd, NoteAlignedToEight, NoteAlignedToFour, NoteAlignments, NoteNames, NoteShapes, NoteEmptyDescriptor, LaterNotesStand};
 
 /// One note that fills its table.
 #[tactic(auto, unfolding(elf_model::proofs::OnLiterals::on_literals, crate::proofs::OnExamples::on_examples))]
@@ -59,4 +59,10 @@ pub fn note_shapes()
 #[tactic(auto, unfolding(elf_model::proofs::OnLiterals::on_literals, crate::proofs::OnExamples::on_examples))]
 pub fn note_empty_descriptor()
     ensures { NoteEmptyDescriptor }
+{}
+
+/// Where a note behind another stands.
+#[tactic(auto, unfolding(elf_model::proofs::OnLiterals::on_literals))]
+pub fn later_notes_stand()
+    ensures { LaterNotesStand }
 {}

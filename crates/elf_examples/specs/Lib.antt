@@ -9,3 +9,4 @@ pub mod ListedParts
 pub mod ListedRelocations
 pub mod ListedSections
 pub mod ListedSymbols
+pub mod ListedTags

@@ -14,3 +14,4 @@ mod listed_parts;
 mod listed_relocations;
 mod listed_sections;
 mod listed_symbols;
+mod listed_tags;
