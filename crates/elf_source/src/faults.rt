@@ -12,6 +12,28 @@ pub enum SourceFault {
     Ended,
 }
 
+/// Why a turn of a reader gave nothing.
+#[derive(Clone, Copy, PartialEq, Eq, Debug, Error)]
+pub enum ReaderFault {
+    /// The turn was interrupted. It may be taken again.
+    #[error("the turn was interrupted")]
+    Interrupted,
+    /// The device failed.
+    #[error("the device failed")]
+    Failed,
+}
+
+/// Why a read that is counted failed.
+#[derive(Clone, Copy, PartialEq, Eq, Debug, Error)]
+pub enum AskFault {
+    /// The source failed.
+    #[error("the source failed")]
+    Source(SourceFault),
+    /// The limit has too few bytes left for this read. Nothing was asked, and nothing has changed.
+    #[error("the limit has too few bytes left")]
+    Budget,
+}
+
 /// A sink took nothing, and takes nothing from now on.
 #[derive(Clone, Copy, PartialEq, Eq, Debug, Error)]
 #[error("the sink failed")]

@@ -3,7 +3,7 @@ ghost use Rattle.std.specs.Prelude.{◌≡◌, ◌-◌, ◌<◌, ◌≤◌, ◌�
 ghost use Rattle.std.specs.Io.KnownBytes.{WriteAppends};
 
 use crate::faults::SinkFault;
-use crate::taking::Sink;
+use crate::sink::Sink;
 use std::marker::Model;
 
 /// A sink that writes a slice from its front, and tells its bytes.

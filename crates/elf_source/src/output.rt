@@ -1,31 +1,33 @@
 //! Output that counts what its sink took.
-ghost use Rattle.std.specs.Prelude.{◌≡◌, ◌^◌, ◌<◌, ◌≤◌, false, length, take, is_err, IsTrue};
+ghost use Rattle.std.specs.Prelude.{◌≡◌, ◌^◌, ◌<◌, ◌≤◌, false, length, take, IsTrue};
 ghost use Rattle.std.specs.Io.KnownBytes.{Appends};
 ghost use Rattle.elf_source.specs.Output.{Puts};
 
 use crate::faults::{OutFault, SinkFault};
-use crate::taking::Sink;
+use crate::sink::Sink;
 use std::marker::Model;
 
 /// A sink, and how many bytes it took.
 #[derive(Drop)]
-pub struct Out<W> {
+pub struct Out<W: Sink> {
     sink: W,
     written: u128,
+    ghost fits: { written < 2 ^ 128 },
 }
 
-impl<W> Model for Out<W> {
-    ghost use Rattle.elf_source.specs.Output.{Putting};
+impl<W: Sink> Model for Out<W> {
+    ghost use Rattle.elf_source.specs.Output.{Written};
 
-    ghost Value = { Putting W };
+    ghost Value = { Written };
 
-    ghost view = { λ o. record { sink = o.sink; written = o.written } };
+    ghost view = { λ o. record { taken = W.taken o.sink; written = o.written; failed = W.failed o.sink; fits = o.fits } };
 }
 
 impl<W: Sink> Out<W> {
     /// Counts what `sink` takes from now on.
     pub fn new(sink: W) -> Self
-        ensures sink { result.sink ≡ sink }
+        ensures taken { result.taken ≡ W.taken sink }
+        ensures failed { result.failed ≡ W.failed sink }
         ensures written { result.written ≡ 0 }
     {
         Out { sink, written: 0 }
@@ -33,15 +35,14 @@ impl<W: Sink> Out<W> {
 
     /// How many bytes the sink took. It stays at 2^128 - 1.
     pub fn written(&self) -> u128
-        ensures value { result ≡ self.now.written }
-        ensures fits { self.now.written < 2 ^ 128 }
+        ensures { result ≡ self.now.written }
     {
         self.written
     }
 
     /// Whether the sink has failed.
     pub fn failed(&self) -> bool
-        ensures { result ≡ W.failed self.now.sink }
+        ensures { result ≡ self.now.failed }
     {
         self.sink.failed()
     }
@@ -54,21 +55,19 @@ impl<W: Sink> Out<W> {
     /// and the fault has `written` as it is then. Each later call, an empty one too, answers the
     /// same and changes nothing.
     pub fn put(&mut self, bytes: &[u8]) -> Result<(), OutFault>
-        ensures puts { Puts (W.taken self.old.sink) (W.taken self.new.sink) self.old.written self.new.written result bytes.now }
-        ensures fails { W.failed self.new.sink ≡ is_err result }
-        ensures for_good { IsTrue (W.failed self.old.sink) → self.new ≡ self.old }
-        ensures fits { self.new.written < 2 ^ 128 }
+        ensures puts { Puts self.old self.new result bytes.now }
+        ensures for_good { IsTrue self.old.failed → self.new ≡ self.old }
     {
         if self.failed() {
             return Err(OutFault {
-                written: self.written(),
+                written: self.written,
             });
         }
         let count = give(&mut self.sink, bytes);
         self.written = self.written.saturating_add(count as u128);
         if self.sink.failed() {
             return Err(OutFault {
-                written: self.written(),
+                written: self.written,
             });
         }
         Ok(())
@@ -76,9 +75,10 @@ impl<W: Sink> Out<W> {
 
     /// Gives the sink back.
     pub fn into_inner(self) -> W
-        ensures { result ≡ self.sink }
+        ensures taken { W.taken result ≡ self.taken }
+        ensures failed { W.failed result ≡ self.failed }
     {
-        let Out { sink, written: _ } = self;
+        let Out { sink, .. } = self;
         sink
     }
 }

@@ -1,8 +1,6 @@
 //! A source over bytes in memory.
-ghost use Rattle.std.specs.Prelude.{◌≡◌, length};
-
 use crate::faults::SourceFault;
-use crate::reading::Source;
+use crate::source::Source;
 use std::marker::Model;
 
 /// A source over a slice: it is honest, and never fails.
@@ -20,6 +18,8 @@ impl<'a> Model for MemorySource<'a> {
 }
 
 impl<'a> MemorySource<'a> {
+    ghost use Rattle.std.specs.Prelude.{◌≡◌};
+
     /// A source whose file is `bytes`.
     pub fn new(bytes: &'a [u8]) -> Self
         ensures { result ≡ bytes.now }
@@ -29,11 +29,12 @@ impl<'a> MemorySource<'a> {
 }
 
 impl<'a> Source for MemorySource<'a> {
-    ghost holds = { λ s file. s ≡ file };
+    ghost use Rattle.std.specs.Prelude.{◌≡◌};
+    ghost use Rattle.elf_source.specs.Source.{honest};
 
-    ghost failures = { λ _. 0 };
+    ghost seen = { honest };
 
-    ghost size = { length };
+    ghost one_read = { λ before _ _ after. after ≡ before };
 
     fn length(&self) -> u64 {
         self.bytes.len() as u64
@@ -44,8 +45,4 @@ impl<'a> Source for MemorySource<'a> {
         out.copy_from_slice(&self.bytes[start..start + out.len()]);
         Ok(())
     }
-
-    ghost use Rattle.std.proofs.Common.{ap, sym};
-
-    ghost sized = { λ s file h. ap length (sym h) };
 }

@@ -1,6 +1,6 @@
 use Rattle.std.proofs.Common.{rules}
 use Rattle.elf_source.proofs.Known.{Appends-turn}
-use Rattle.elf_source.proofs.putting.give.Goals as goal
+use Rattle.elf_source.proofs.output.give.Goals as goal
 
 pub loop-done-preserved : goal.loop-done-preserved
 loop-done-preserved g c = record {
