@@ -71,11 +71,14 @@ impl Cursor {
     /// A fault of the source at the next row's offset. From then on each call answers the same fault
     /// and reads nothing.
     pub fn advance<S: Source>(&mut self, src: &mut Counted<S>) -> Result<bool, Fault>
-        requires { RowsWithin (S.size src.old.source) self.old.table }
-        ensures kept { Keeps S.holds S.size S.failures src.old.source src.new.source }
-        ensures blames { self.old.failed ≡ None → IfErr result (FaultBlames S.holds S.failures src.old.source src.new.source) }
-        ensures again { (fault : Fault) → self.old.failed ≡ Some fault → (result ≡ Err fault) × (src.new ≡ src.old) }
-        ensures steps { Advances (S.holds src.old.source) self.old self.new src.old.asked src.new.asked result }
+        requires { RowsWithin src.old.seen.size self.old.table }
+        ensures reads { Reads src.old src.new (unread_bytes self.old) }
+        ensures says { self.old.failed ≡ None →
+            IfErr result (Says src.old src.new (unread_bytes self.old)) }
+        ensures account { src.new.asked + unread_bytes self.new ≤ src.old.asked + unread_bytes self.old }
+        ensures steps { Advances src.old.seen.file self.old self.new result }
+        ensures again { (fault : Fault) → self.old.failed ≡ Some fault →
+            (result ≡ Err fault) × (src.new ≡ src.old) × (self.new ≡ self.old) }
     {
         if let Some(fault) = self.failed {
             return Err(fault);

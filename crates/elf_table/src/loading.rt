@@ -1,10 +1,11 @@
 //! The load of a file's section headers.
-ghost use Rattle.std.specs.Prelude.{◌≡◌, ℕ, ◌+◌, ◌*◌, ◌≤◌, List, [], length, None, Some, Err, IfErr, IfOk, OnErr, MatchOption};
+ghost use Rattle.std.specs.Prelude.{◌≡◌, ℕ, ◌+◌, ◌*◌, ◌≤◌, List, [], length, None, Some, Err, IfErr, MatchOption};
 ghost use Rattle.elf_model.specs.Checks.{first_refusal, section_name_checks};
+ghost use Rattle.elf_model.specs.declared.causes.Refusal.{Refusal as Refuses};
 ghost use Rattle.elf_record.specs.Ehdr.{IsEhdr};
-ghost use Rattle.elf_source.specs.Source.{Keeps};
-ghost use Rattle.elf_table.specs.Load.{early_of, Passes, IsOpened, LoadedAs};
-ghost use Rattle.elf_table.specs.Reading.{FaultBlames};
+ghost use Rattle.elf_source.specs.Source.{Reads};
+ghost use Rattle.elf_table.specs.Faults.{Says};
+ghost use Rattle.elf_table.specs.Load.{early_of, load_cost, Passes, Opens, LoadedAs};
 ghost use Rattle.elf_table.specs.Store.{Holds};
 
 use crate::fault::Fault;
@@ -28,25 +29,23 @@ const SHN_XINDEX: u16 = 0xffff;
 /// 0x3e or 0x3c; `TooManyHeaders` at 0x3c or 0x38, more headers than the store has slots; `EntrySize`
 /// at 0x3a or 0x36; `TableOutside` at 0x28 or 0x20; `BadLink` at 0x3e. Then of the section of the
 /// section names, where there is one: `NotStrings` and `TableOutside` at its section header. A fault
-/// of the source names the offset that was asked for.
+/// of a read names the offset that was asked for.
 pub fn load<S: Source>(
     src: &mut Counted<S>,
     store: &mut HeaderStore,
     header: &Ehdr,
 ) -> Result<Loaded, Fault>
     ensures slots { store.new.slots ≡ store.old.slots }
-    ensures loaded { IfOk result (λ loaded. IsOpened loaded (S.size src.old.source) header.now store.new) }
-    ensures passes { IfOk result (λ _. Passes (S.size src.old.source) store.old.slots header.now) }
-    ensures forgotten { OnErr result (store.new.loaded ≡ 0) }
-    ensures kept { Keeps S.holds S.size S.failures src.old.source src.new.source }
-    ensures blames { IfErr result (FaultBlames S.holds S.failures src.old.source src.new.source) }
-    // The section headers, or nothing where the file header refuses the file.
-    ensures asked { MatchOption (first_refusal (early_of header.now (S.size src.old.source) store.old.slots))
-        (src.new.asked ≤ src.old.asked + 64 * header.now.e_shnum)
-        (λ refusal. (result ≡ Err (Fault.Refused refusal)) × (src.new ≡ src.old)) }
-    ensures at_most { src.new.asked ≤ src.old.asked + 64 * header.now.e_shnum }
-    ensures in_slots { src.new.asked ≤ src.old.asked + 64 * store.old.slots }
-    ensures held { (file : List ℕ) → S.holds src.old.source file → IsEhdr file 0 header.now → LoadedAs file result store.new }
+    // The section headers are asked for, or nothing where the file header refuses the file.
+    ensures reads { Reads src.old src.new (load_cost header.now src.old.seen.size store.old.slots) }
+    ensures says { IfErr result
+        (Says src.old src.new (load_cost header.now src.old.seen.size store.old.slots)) }
+    ensures early { (refusal : Refuses) →
+        first_refusal (early_of header.now src.old.seen.size store.old.slots) ≡ Some refusal →
+        (result ≡ Err (Fault.Refused refusal)) × (src.new ≡ src.old) }
+    ensures opens { Opens src.old.seen.size header.now store.new result }
+    ensures held { (file : List ℕ) → src.old.seen.file ≡ Some file → IsEhdr file 0 header.now →
+        LoadedAs file result store.new }
 {
     store.forget();
     let size = src.length();

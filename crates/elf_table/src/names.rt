@@ -7,6 +7,7 @@ ghost use Rattle.elf_table.specs.Reading.{FaultBlames, IsSourceFault};
 ghost use Rattle.elf_table.specs.Tables.{StringsWithin};
 ghost use Rattle.elf_table.specs.NamesRead.{NameRead, Compared, Searched, Matched, SameBelow, DifferBelow};
 
+use crate::caps::Cap;
 use crate::fault::Fault;
 use crate::filling::fill;
 use crate::name_buf::NameBuf;
@@ -75,17 +76,15 @@ impl Names {
         src: &mut Counted<S>,
         off: u64,
         at: u64,
-        cap: u16,
+        cap: Cap,
         name: &mut NameBuf,
     ) -> Result<NameEnd, Fault>
-        requires some { 1 ≤ cap }
-        requires most { cap ≤ 4096 }
-        requires within { StringsWithin (S.size src.old.source) self.now }
-        ensures kept { Keeps S.holds S.size S.failures src.old.source src.new.source }
-        ensures blames { IfErr result (FaultBlames S.holds S.failures src.old.source src.new.source) }
-        ensures at_most { src.new.asked ≤ src.old.asked + name_bytes cap }
+        requires { StringsWithin src.old.seen.size self.now }
+        ensures reads { Reads src.old src.new (name_bytes cap.bytes) }
+        ensures says { IfErr result (Says src.old src.new (name_bytes cap.bytes)) }
         ensures not_past { src.new.asked ≤ src.old.asked + (self.now.size - off) }
-        ensures read { (file : List ℕ) → S.holds src.old.source file → NameRead at result name.new (shown (slice file self.now.at self.now.size) off cap) }
+        ensures read { (file : List ℕ) → src.old.seen.file ≡ Some file →
+            NameRead at result name.new (shown (strings_in file self.now) off cap.bytes) }
     {
         name.clear();
         if self.size == 0 && off == 0 {
@@ -95,11 +94,11 @@ impl Names {
             return Err(refused(at, Cause::NameOutside));
         }
         let left = self.size - off;
-        let want = left.min(u64::from(cap) + 1);
+        let want = left.min(u64::from(cap.bytes) + 1);
         if search(src, self.at + off, want, cap, name)? {
             return Ok(NameEnd::Whole);
         }
-        if left > u64::from(cap) {
+        if left > u64::from(cap.bytes) {
             return Ok(NameEnd::Cut);
         }
         Err(refused(at, Cause::NameUnended))
@@ -121,12 +120,12 @@ impl Names {
         wanted: &[u8],
     ) -> Result<bool, Fault>
         requires most { length wanted.now ≤ 4096 }
-        requires within { StringsWithin (S.size src.old.source) self.now }
-        ensures kept { Keeps S.holds S.size S.failures src.old.source src.new.source }
-        ensures blames { IfErr result (FaultBlames S.holds S.failures src.old.source src.new.source) }
-        ensures at_most { src.new.asked ≤ src.old.asked + pad64 (length wanted.now + 1) }
+        requires within { StringsWithin src.old.seen.size self.now }
+        ensures reads { Reads src.old src.new (pad64 (length wanted.now + 1)) }
+        ensures says { IfErr result (Says src.old src.new (pad64 (length wanted.now + 1))) }
         ensures not_past { src.new.asked ≤ src.old.asked + (self.now.size - off) }
-        ensures compared { (file : List ℕ) → S.holds src.old.source file → Compared at result (same (slice file self.now.at self.now.size) off wanted.now) }
+        ensures compared { (file : List ℕ) → src.old.seen.file ≡ Some file →
+            Compared at result (same (strings_in file self.now) off wanted.now) }
     {
         if self.size == 0 && off == 0 {
             return Ok(false);
@@ -159,10 +158,9 @@ fn search<S: Source>(
     src: &mut Counted<S>,
     start: u64,
     want: u64,
-    cap: u16,
+    cap: Cap,
     name: &mut NameBuf,
 ) -> Result<bool, Fault>
-    requires most { cap ≤ 4096 }
     requires empty { name.old ≡ [] }
     requires ends { start + want < 2 ^ 64 }
     requires within { start + want ≤ S.size src.old.source }
@@ -179,10 +177,10 @@ fn search<S: Source>(
         let piece = &mut bytes[..count];
         fill(src, start + done, piece)?;
         if let Some(place) = memchr(0, piece) {
-            name.add(&piece[..place], cap);
+            name.add(&piece[..place], cap.bytes);
             return Ok(true);
         }
-        name.add(piece, cap);
+        name.add(piece, cap.bytes);
         done += count as u64;
     }
     Ok(false)
