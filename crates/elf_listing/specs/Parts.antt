@@ -1,11 +1,13 @@
 -- The parts of a listing behind the file header: what is listed of each section, and what it asks for.
-use Rattle.std.specs.Prelude.{ℕ, ◌≡◌, ◌+◌, ◌*◌, ◌==◌, ◌&&◌, not, false, List}
+use Rattle.std.specs.Prelude.{ℕ, ◌≡◌, ◌+◌, ◌*◌, ◌==◌, not, false, List, Option, None, Some, Result}
 use Rattle.elf_model.specs.Cost.{sum_over, cost_where, symbols_cost, relocations_cost}
 use Rattle.elf_model.specs.Listing.{Item, each, has, SECTIONS, SEGMENTS, SYMBOLS, RELOCS, NOTES, DYNAMIC}
-use Rattle.elf_model.specs.Names.{name_bytes}
+use Rattle.elf_model.specs.Names.{Shown, shown, name_bytes}
 use Rattle.elf_model.specs.Records.{e_shnum}
-use Rattle.elf_model.specs.Rows.{section_row, symbol_rows, relocation_rows}
+use Rattle.elf_model.specs.Rows.{no_name, section_row, symbol_rows, relocation_rows}
+use Rattle.elf_model.specs.declared.causes.Cause.{Cause}
 use Rattle.elf_table.specs.Store.{row}
+use Rattle.elf_table.specs.Tables.{Strings, strings_in}
 use Rattle.elf_table.specs.declared.file.File.{File}
 use Rattle.elf_listing.specs.declared.parts.Part.{Part}
 use Rattle.elf_listing.specs.declared.parts.Part.TheVariants.{Headers, Symbols, Relocations}
@@ -25,6 +27,16 @@ section_items Relocations cap section file = relocation_rows file cap section
 -- the items of all sections
 abbrev pub part_items : Part → ℕ → List ℕ → List Item
 part_items part cap file = each (λ section. section_items part cap section file) 0 (e_shnum file)
+
+-- the name that an index gives in a string table of the file, as it is shown; empty without a string table
+abbrev pub name_in : List ℕ → Option Strings → ℕ → ℕ → Result Shown Cause
+name_in file None off cap = no_name
+name_in file (Some names) off cap = shown (strings_in file names) off cap
+
+-- how many bytes a name in a string table asks for at most: none without one
+abbrev pub names_cost : Option Strings → ℕ → ℕ
+names_cost None cap = 0
+names_cost (Some names) cap = name_bytes cap
 
 -- how many bytes the section of an index asks for at most, by its section header in the store
 abbrev pub section_cost : Part → File → ℕ → ℕ → ℕ

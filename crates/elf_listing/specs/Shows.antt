@@ -1,5 +1,5 @@
 -- What a call that writes a part of a listing did.
-use Rattle.std.specs.Prelude.{ℕ, ◌≡◌, List, ◌∷◌, ◌++◌, None, Some, Result, Ok, Err, IfErr}
+use Rattle.std.specs.Prelude.{ℕ, ◌≡◌, Bool, true, false, List, ◌∷◌, ◌++◌, None, Some, Result, Ok, Err, IfErr}
 use Rattle.elf_model.specs.Budget.{IsBudget}
 use Rattle.elf_model.specs.Listing.{Item, Fault, lines_of, fault_of}
 use Rattle.elf_model.specs.Names.{Shown}
@@ -13,6 +13,7 @@ use Rattle.elf_source.specs.declared.sink.Sink.{Ghosts as Sinks}
 use Rattle.elf_table.specs.Faults.{RefusalSays}
 use Rattle.elf_table.specs.NamesRead.{NameRead}
 use Rattle.elf_table.specs.declared.names.NameEnd.{NameEnd}
+use Rattle.elf_table.specs.declared.names.NameEnd.TheVariants.{Whole as NameWhole, Cut as NameCut}
 use Rattle.elf_listing.specs.declared.listing.Listing.{Listing}
 use Rattle.elf_listing.specs.declared.stop.Stop.{Stop}
 use Rattle.elf_listing.specs.declared.stop.Stop.TheVariants.{Refused, Source, Out}
@@ -75,6 +76,11 @@ Lists old new result n = SameFile old new × Reads old.src.now new.src.now n × 
 -- WHAT IT WROTE: where the source is honest, the items of its file
 abbrev pub Shows : {S W X : Type 0} {s : Sources S} {w : Sinks W} → Listing S W s w → Listing S W s w → Result X Stop → (List ℕ → List Item) → Type 0
 Shows old new result items = (file : List ℕ) → old.src.now.seen.file ≡ Some file → Writes old.out.now new.out.now result (items file)
+
+-- whether a name is cut
+abbrev pub cut_of : NameEnd → Bool
+cut_of NameWhole = false
+cut_of NameCut = true
 
 -- what it wrote of a line that ends in the name that was read: the line with what is shown of the name
 abbrev pub OfName : {S W X : Type 0} {s : Sources S} {w : Sinks W} → Listing S W s w → Listing S W s w → Result X Stop → List ℕ → NameEnd → Type 0

@@ -3,7 +3,7 @@ ghost use Rattle.std.specs.Prelude.{◌≡◌, ◌^◌, ◌<◌, length};
 ghost use Rattle.elf_model.specs.Names.{name_bytes};
 ghost use Rattle.elf_table.specs.Tables.{StringsWithin};
 ghost use Rattle.elf_listing.specs.Kinds.{OfRow};
-ghost use Rattle.elf_listing.specs.Shows.{Lists, OfName};
+ghost use Rattle.elf_listing.specs.Shows.{Lists, OfName, cut_of};
 ghost use Rattle.elf_listing.specs.declared.rows.Kind.TheVariants.{Segments, Symbols};
 
 use crate::listing::Listing;
@@ -50,8 +50,18 @@ impl<S: Source, W: Sink> Listing<'_, '_, '_, S, W> {
         ensures lists { Lists self.old self.new result 0 }
         ensures shows { OfName self.old self.new result front.items end }
     {
-        show_named(front, self.name.bytes(), end == NameEnd::Cut, self.out)?;
+        show_named(front, self.name.bytes(), is_cut(end), self.out)?;
         Ok(())
+    }
+}
+
+/// Whether a name is cut.
+fn is_cut(end: NameEnd) -> bool
+    ensures { result ≡ cut_of end }
+{
+    match end {
+        NameEnd::Whole => false,
+        NameEnd::Cut => true,
     }
 }
 

@@ -1,7 +1,10 @@
 //! What is listed of each section, one section after another.
-ghost use Rattle.std.specs.Prelude.{◌≡◌, ◌<◌, ℕ, List, Some};
-ghost use Rattle.elf_model.specs.Rows.{section_row};
-ghost use Rattle.elf_listing.specs.Parts.{part_cost, part_items, section_cost, section_items};
+ghost use Rattle.std.specs.Prelude.{◌≡◌, ◌<◌, ℕ, List, Some, IfErr, IfSome};
+ghost use Rattle.elf_source.specs.Source.{Reads};
+ghost use Rattle.elf_table.specs.Faults.{Says};
+ghost use Rattle.elf_table.specs.NamesRead.{NameRead};
+ghost use Rattle.elf_table.specs.Tables.{StringsWithin};
+ghost use Rattle.elf_listing.specs.Parts.{part_cost, part_items, section_cost, section_items, names_cost, name_in};
 ghost use Rattle.elf_listing.specs.Shows.{Lists, Shows};
 ghost use Rattle.elf_listing.specs.declared.parts.Part.TheVariants.{Headers, Symbols, Relocations};
 
@@ -10,8 +13,8 @@ use crate::parts::Part;
 use crate::rows::Kind;
 use crate::stop::Stop;
 use elf_lines::section_front;
-use elf_source::{Sink, Source};
-use elf_table::{NameEnd, holds_symbols};
+use elf_source::{Counted, Sink, Source};
+use elf_table::{Cap, Fault, NameBuf, NameEnd, Names, holds_symbols};
 
 /// The section type of relocation entries with addends.
 const SHT_RELA: u32 = 4;
@@ -55,16 +58,9 @@ impl<S: Source, W: Sink> Listing<'_, '_, '_, S, W> {
     {
         let header = self.file.section(section);
         let place = self.file.place(section);
-        let end = match self.file.names() {
-            Some(names) => {
-                let off = u64::from(header.sh_name);
-                names.read(self.src, off, place, self.cap, &mut self.name)?
-            }
-            None => {
-                self.name.clear();
-                NameEnd::Whole
-            }
-        };
+        let names = self.file.names();
+        let off = header.sh_name;
+        let end = read_section_name(self.src, names, off, place, self.cap, &mut self.name)?;
         self.named_line(section_front(section, &header), end)
     }
 
@@ -107,5 +103,30 @@ impl<S: Source, W: Sink> Listing<'_, '_, '_, S, W> {
                 linked,
             },
         )
+    }
+}
+
+/// Reads the name of a section at the index `off` into `name`; without a string table it is empty. A
+/// refusal names `place`.
+fn read_section_name<S: Source>(
+    src: &mut Counted<S>,
+    names: Option<Names>,
+    off: u32,
+    place: u64,
+    cap: Cap,
+    name: &mut NameBuf,
+) -> Result<NameEnd, Fault>
+    requires { IfSome names (StringsWithin src.old.seen.size) }
+    ensures reads { Reads src.old src.new (names_cost names cap.bytes) }
+    ensures says { IfErr result (Says src.old src.new (names_cost names cap.bytes)) }
+    ensures read { (file : List ℕ) → src.old.seen.file ≡ Some file →
+        NameRead place result name.new (name_in file names off cap.bytes) }
+{
+    match names {
+        Some(names) => names.read(src, u64::from(off), place, cap, name),
+        None => {
+            name.clear();
+            Ok(NameEnd::Whole)
+        }
     }
 }

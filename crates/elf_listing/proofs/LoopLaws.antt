@@ -1,0 +1,70 @@
+-- The loops of a listing: over a cursor's rows, and over the sections.
+use Rattle.std.proofs.Common.{◌≡◌, ℕ, ◌+◌, ◌*◌, ◌<◌, ◌≤◌, List, [], Option, Some, refl, sym, ap, ◌∙◌, arith, zero-add}
+use Rattle.elf_model.specs.Bytes.{slice}
+use Rattle.elf_model.specs.Cost.{sum_over}
+use Rattle.elf_model.specs.Listing.{Item, each}
+use Rattle.elf_model.proofs.RecordLemmas.{last_cost, sums_grow}
+use Rattle.elf_source.specs.Output.{Written}
+use Rattle.elf_table.specs.Faults.{IsAt}
+use Rattle.elf_table.specs.Cursors.{Reading, Gives, Agrees, unread_bytes, place, Shows as Lends}
+use Rattle.elf_table.specs.Tables.{Rows, size_of}
+use Rattle.elf_table.specs.declared.fault.Fault.{Fault}
+use Rattle.elf_table.specs.declared.row.Row.{Row}
+use Rattle.elf_listing.specs.Kinds.{row_size, table_place, IsRowOf}
+use Rattle.elf_listing.specs.Shows.{Whole, Stopped}
+use Rattle.elf_listing.specs.Stops.{stop_of}
+use Rattle.elf_listing.specs.declared.rows.Kind.{Kind}
+use Rattle.elf_listing.specs.declared.stop.Stop.{Stop}
+use Rattle.elf_listing.proofs.EachLaws.{each-none, each-more, each-front}
+use Rattle.elf_listing.proofs.ShowLaws.{Whole-none, Whole-then, Stopped-then, Stopped-more, Stopped-unread}
+
+-- no row was shown yet
+pub rows_none : (row : ℕ → List Item) (i : ℕ) (a : Written) → i ≡ 0 → Whole a a (each row 0 i)
+rows_none row i a first = rw (first, each-none row) (Whole-none a)
+
+-- a row more was shown
+pub rows_more : (row : ℕ → List Item) (i next : ℕ) {a b c : Written} → next ≡ i + 1 → Whole a b (each row 0 i) → Whole b c (row i) → Whole a c (each row 0 next)
+rows_more row i next step before this = rw (step, each-more row i) (Whole-then before this)
+
+-- a read failed before the next row
+pub rows_unread : (row : ℕ → List Item) (i count : ℕ) (a b : Written) (fault : Fault) (at : ℕ) → i ≤ count → IsAt at fault → Whole a b (each row 0 i) → Stopped a b (stop_of fault) (each row 0 count)
+rows_unread row i count a b fault at within is before =
+    let more = each-front row i count within in rw more.1 (Stopped-unread a b fault at (each row 0 i) more.0 is before)
+
+-- a row stopped
+pub rows_stopped : (row : ℕ → List Item) (i count : ℕ) (a b c : Written) (stop : Stop) → i < count → Whole a b (each row 0 i) → Stopped b c stop (row i) → Stopped a c stop (each row 0 count)
+rows_stopped row i count a b c stop below before this =
+    let more = each-front row (i + 1) count (omega arith) in
+    let shown = rw (← each-more row i) at (Stopped-then a b c stop (each row 0 i) (row i) before this) in
+    rw more.1 (Stopped-more a c stop (each row 0 (i + 1)) more.0 shown)
+
+-- the account of a loop: what was asked for, what is unread, and what the rows that are left ask for stay within a bound
+pub account_step : (old new : Reading) (before after later own bound : ℕ) → new.left + 1 ≡ old.left → after + unread_bytes new ≤ before + unread_bytes old
+    → later ≤ after + own → before + (unread_bytes old + old.left * own) ≤ bound → later + (unread_bytes new + new.left * own) ≤ bound
+account_step old new before after later own bound less step more within =
+    let product = ap (λ (n : ℕ). n * own) less in omega arith
+
+-- the row that a step gave
+pub given_row : {holds : Option (List ℕ)} {old new : Reading} {row : Row} (file : List ℕ) (kind : Kind) (table : Rows)
+    → Gives holds old new → Lends new row → holds ≡ Some file → Agrees file old → old.table ≡ table → table.entry ≡ row_size kind → table.at ≡ table_place kind file
+    → IsRowOf file kind row
+given_row {old = old} {new = new} {row = row} file kind table gives lends held agrees same entry at =
+    let index : row.index ≡ old.index = omega (arith, lends.its_index, gives.next_index) in
+    let moved : row.at ≡ place old =
+    lends.its_offset ∙ ap (λ (t : Rows). t.at + row.index * t.entry) gives.same_table ∙ ap (λ (i : ℕ). old.table.at + i * old.table.entry) index in
+    let whole : old.table.entry ≡ row_size kind = ap (λ (t : Rows). t.entry) same ∙ entry in
+    let from_ : old.table.at ≡ table_place kind file = ap (λ (t : Rows). t.at) same ∙ at in
+    record {
+      bytes = lends.its_bytes ∙ (gives.exact file held agrees ∙ (ap (λ (p : ℕ). slice file p old.table.entry) (sym moved) ∙ ap (λ (n : ℕ). slice file row.at n) whole));
+      here = moved ∙ (ap (λ (n : ℕ). old.table.at + old.index * n) whole ∙ (ap (λ (p : ℕ). p + old.index * row_size kind) from_ ∙ ap (λ (i : ℕ). table_place kind file + i * row_size kind) (sym index)));
+    }
+
+-- one section's cost more
+pub sum_step : (amount : ℕ → ℕ) (i start before after : ℕ) → before ≤ start + sum_over amount 0 i → after ≤ before + amount i → after ≤ start + sum_over amount 0 (i + 1)
+sum_step amount i start before after h k =
+    let last : sum_over amount 0 (i + 1) ≡ sum_over amount 0 i + amount i = last_cost amount 0 i ∙ ap (λ n. sum_over amount 0 i + amount n) (zero-add i) in
+    omega arith
+
+-- some of the costs are within all
+pub sum_within : (amount : ℕ → ℕ) (i count start after : ℕ) → i < count → after ≤ start + sum_over amount 0 (i + 1) → after ≤ start + sum_over amount 0 count
+sum_within amount i count start after below h = let more = sums_grow amount 0 (i + 1) count (omega arith) in omega arith

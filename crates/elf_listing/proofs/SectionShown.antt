@@ -1,0 +1,186 @@
+-- The items of one section, by what the store and the checks of a loaded file answer.
+use Rattle.std.proofs.Common.{◌≡◌, ℕ, ◌/◌, ◌<◌, ◌==◌, ◌&&◌, not, Bool, true, false, if◌then◌else◌, List, [], ◌∷◌, ◌++◌, Option, None, Some, Result, Ok, Err, refl, sym, ap, ◌∙◌, ◌^◌, subst, arith}
+use Rattle.std.proofs.lemmas.Bool.{eqb-true}
+use Rattle.elf_model.specs.Bytes.{slice}
+use Rattle.elf_model.specs.Checks.{Check, first_refusal, is_symbol_table, table_checks, strings_checks}
+use Rattle.elf_model.specs.LineFronts.{section_front}
+use Rattle.elf_model.specs.Listing.{Item, Fault, each, checked}
+use Rattle.elf_model.specs.Names.{shown}
+use Rattle.elf_model.specs.Numbers.{SHT_RELA}
+use Rattle.elf_model.specs.Records.{e_shnum, e_shstrndx, sh_name, sh_type, sh_offset, sh_size, sh_link, section_at}
+use Rattle.elf_model.specs.Rows.{section_row, section_name, symbol_row, symbol_rows, relocation_row, relocation_rows, named_row, no_name}
+use Rattle.elf_model.proofs.ListingLemmas.{checked-passes, checked-fault}
+use Rattle.elf_model.specs.Tables.{section_bytes, strings_of, entry_count, symbol_table_checks, relocation_table_checks}
+use Rattle.elf_model.specs.declared.causes.Refusal.{Refusal}
+use Rattle.elf_table.specs.Tables.{Rows, Strings}
+use Rattle.elf_table.specs.Sections.{answered, names_at, rows, strings, section_names, symbols_at, symbols_linked, linked_checks, relocations_at, checked as checked_as}
+use Rattle.elf_table.specs.declared.fault.Fault.{Fault as TableFault}
+use Rattle.elf_table.specs.declared.fault.Fault.TheVariants.{Refused, Source as Unread}
+use Rattle.elf_listing.specs.Parts.{name_in}
+
+-- the name of a section, in the string table of the section names or without one
+name_by_cases : (file : List ℕ) (a b : Bool) (names : Strings) (off cap : ℕ) → a ≡ false
+    → name_in file (elim (not a && not b) [ true ↦ Some names | false ↦ None ]) off cap ≡ (if b then no_name else shown (slice file names.at names.size) off cap)
+name_by_cases file false true names off cap h = refl
+name_by_cases file false false names off cap h = refl
+name_by_cases file true b names off cap h = cc
+
+some_sections : (n : ℕ) → 0 < n → (n == 0) ≡ false
+some_sections n h = grind (arith)
+
+name_is : (file : List ℕ) (names : Option Strings) (off at cap : ℕ) → names ≡ section_names file → 0 < e_shnum file → off ≡ sh_name file at
+    → name_in file names off cap ≡ section_name file at cap
+unfolding section_name
+name_is file names off at cap same some is =
+    ap (λ table. name_in file table off cap) same
+    ∙ (name_by_cases file (e_shnum file == 0) (e_shstrndx file == 0) (names_at file (section_at file (e_shstrndx file))) off cap (some_sections (e_shnum file) some)
+    ∙ ap (λ index. if e_shstrndx file == 0 then no_name else shown (section_bytes file (section_at file (e_shstrndx file))) index cap) is)
+
+-- the row of a section header, by its front and its name
+pub section_is : (file front : List ℕ) (names : Option Strings) (off at index cap : ℕ) → names ≡ section_names file → 0 < e_shnum file → at ≡ section_at file index
+    → off ≡ sh_name file (section_at file index) → front ≡ section_front file (section_at file index) index
+    → section_row file cap index ≡ named_row front at (name_in file names off cap)
+unfolding section_row
+section_is file front names off at index cap same some place is before = sym (
+    ap (λ text. named_row text at (name_in file names off cap)) before
+    ∙ (ap (λ p. named_row (section_front file (section_at file index) index) p (name_in file names off cap)) place
+    ∙ ap (named_row (section_front file (section_at file index) index) (section_at file index)) (name_is file names off (section_at file index) cap same some is)))
+
+
+
+-- a section that holds no symbols has no rows of symbols
+pub no_symbols : (file : List ℕ) (cap section : ℕ) → is_symbol_table file (section_at file section) ≡ false → symbol_rows file cap section ≡ []
+unfolding symbol_rows
+no_symbols file cap section h = rw (h, symbol_rows) refl
+
+-- one that holds symbols has them behind its checks
+pub symbols_are : (file : List ℕ) (cap section : ℕ) → is_symbol_table file (section_at file section) ≡ true
+    → symbol_rows file cap section ≡ checked (symbol_table_checks file (section_at file section)) (each (symbol_row file cap section (section_at file section)) 0 (entry_count file (section_at file section) 24))
+unfolding symbol_rows
+symbols_are file cap section h = rw (h, symbol_rows) refl
+
+refused_first : {A : Type 0} (first : Option Refusal) (value : A) (refusal : Refusal) → answered first value ≡ Err (Refused refusal) → first ≡ Some refusal
+refused_first None value refusal h = cc
+refused_first (Some other) value refusal h = cc
+
+passed_first : {A : Type 0} (first : Option Refusal) (value result : A) → answered first value ≡ Ok result → (first ≡ None) × (value ≡ result)
+passed_first None value result h = (refl, cc)
+passed_first (Some other) value result h = cc
+
+-- the first fault of a table that may be empty
+fails_by_cases : {A : Type 0} (empty : Bool) (none some : A) (checks : List Check) (refusal : Refusal)
+    → (elim empty as (λ _. Result A TableFault) [ true ↦ Ok none | false ↦ checked_as checks some ]) ≡ Err (Refused refusal)
+    → first_refusal (if empty then [] else checks) ≡ Some refusal
+fails_by_cases true none some checks refusal h = cc
+fails_by_cases false none some checks refusal h = refused_first (first_refusal checks) some refusal h
+
+pub symbols_fault : (file : List ℕ) (cap section : ℕ) (refusal : Refusal) → is_symbol_table file (section_at file section) ≡ true
+    → symbols_at file (section_at file section) ≡ Err (Refused refusal) → symbol_rows file cap section ≡ Fault refusal ∷ []
+symbols_fault file cap section refusal kind h =
+    let at : ℕ = section_at file section in
+    let first : first_refusal (symbol_table_checks file at) ≡ Some refusal =
+    fails_by_cases (sh_size file at == 0) (rows (sh_offset file at) 0 24, strings (sh_offset file at) 0)
+    (rows (sh_offset file at) (sh_size file at / 24) 24, names_at file (section_at file (sh_link file at)))
+    (table_checks file at 24 ++ strings_checks file at) refusal h in
+    symbols_are file cap section kind ∙ checked-fault (symbol_table_checks file at) _ refusal first
+
+-- what the checks of a table of symbols leave, where they pass
+pub record SymbolsOf (file : List ℕ) (section : ℕ) (table : Rows) (names : Strings) : Type 0 where
+  pub pass : first_refusal (symbol_table_checks file (section_at file section)) ≡ None
+  pub counted : table.count ≡ entry_count file (section_at file section) 24
+  pub named : 0 < table.count → slice file names.at names.size ≡ strings_of file (section_at file section)
+  pub placed : 0 < table.count → table.at ≡ sh_offset file (section_at file section)
+
+passes_by_cases : {B : Type 0} (empty : Bool) (offset size : ℕ) (none some : B) (checks : List Check) (table : Rows) (names : B) → empty ≡ (size == 0)
+    → (elim empty as (λ _. Result (Rows × B) TableFault) [ true ↦ Ok (rows offset 0 24, none) | false ↦ checked_as checks (rows offset (size / 24) 24, some) ]) ≡ Ok (table, names)
+    → (first_refusal (if empty then [] else checks) ≡ None) × (table.count ≡ size / 24) × (0 < table.count → (names ≡ some) × (table.at ≡ offset))
+passes_by_cases {B = B} true offset size none some checks table names e h =
+    let P : Type 0 = Rows × B in
+    let empty_table : P = (rows offset 0 24, none) in
+    let result : P = (table, names) in
+    let same : empty_table ≡ result = cc in
+    let both : rows offset 0 24 ≡ table = ap (λ (both : P). both.0) same in
+    let zero : size ≡ 0 = eqb-true size 0 (sym e) in
+    let no_row : table.count ≡ 0 = ap (λ (r : Rows). r.count) (sym both) in
+    (refl, no_row ∙ ap (λ n. n / 24) (sym zero), λ many. absurd (impossible no_row many))
+  where
+    impossible : table.count ≡ 0 → 0 < table.count → ⊥
+    impossible a b = omega (arith, a, b)
+passes_by_cases {B = B} false offset size none some checks table names e h =
+    let P : Type 0 = Rows × B in
+    let value : P = (rows offset (size / 24) 24, some) in
+    let result : P = (table, names) in
+    let p = passed_first (first_refusal checks) value result h in
+    let t : rows offset (size / 24) 24 ≡ table = ap (λ (both : P). both.0) p.1 in
+    let s : some ≡ names = ap (λ (both : P). both.1) p.1 in
+    (p.0, ap (λ (r : Rows). r.count) (sym t), λ many. (sym s, ap (λ (r : Rows). r.at) (sym t)))
+
+pub symbols_pass : (file : List ℕ) (section : ℕ) (table : Rows) (names : Strings) → symbols_at file (section_at file section) ≡ Ok (table, names)
+    → SymbolsOf file section table names
+symbols_pass file section table names h =
+    let at : ℕ = section_at file section in
+    let p = passes_by_cases (sh_size file at == 0) (sh_offset file at) (sh_size file at) (strings (sh_offset file at) 0) (names_at file (section_at file (sh_link file at))) (table_checks file at 24 ++ strings_checks file at) table names refl h in
+    record {
+      pass = p.0;
+      counted = p.1;
+      named = λ some. ap (λ (s : Strings). slice file s.at s.size) ((p.2 some).0);
+      placed = λ some. (p.2 some).1;
+    }
+
+
+
+
+
+
+
+
+
+-- a section of another type has no rows of relocation entries
+pub no_relocations : (file : List ℕ) (cap section : ℕ) → (sh_type file (section_at file section) ≡ SHT_RELA → ⊥) → relocation_rows file cap section ≡ []
+unfolding relocation_rows
+no_relocations file cap section h =
+    let other : (sh_type file (section_at file section) == SHT_RELA) ≡ false = by_cases (sh_type file (section_at file section) == SHT_RELA) (λ e. h (eqb-true (sh_type file (section_at file section)) SHT_RELA e)) in
+    rw (other, relocation_rows) refl
+  where
+    by_cases : (b : Bool) → (b ≡ true → ⊥) → b ≡ false
+    by_cases true k = absurd (k refl)
+    by_cases false k = refl
+
+-- one of that type has them behind its checks
+pub relocations_are : (file : List ℕ) (cap section : ℕ) → sh_type file (section_at file section) ≡ SHT_RELA
+    → relocation_rows file cap section ≡ checked (relocation_table_checks file (section_at file section)) (each (relocation_row file cap section (section_at file section)) 0 (entry_count file (section_at file section) 24))
+unfolding relocation_rows
+relocations_are file cap section h = rw (h, relocation_rows) refl
+
+pub relocations_fault : (file : List ℕ) (cap section : ℕ) (refusal : Refusal) → sh_type file (section_at file section) ≡ SHT_RELA
+    → relocations_at file (section_at file section) ≡ Err (Refused refusal) → relocation_rows file cap section ≡ Fault refusal ∷ []
+relocations_fault file cap section refusal kind h =
+    let at : ℕ = section_at file section in
+    let first : first_refusal (relocation_table_checks file at) ≡ Some refusal =
+    fails_by_cases (sh_size file at == 0) (rows (sh_offset file at) 0 24, None)
+    (rows (sh_offset file at) (sh_size file at / 24) 24, symbols_linked file at) (table_checks file at 24 ++ linked_checks file at) refusal h in
+    relocations_are file cap section kind ∙ checked-fault (relocation_table_checks file at) _ refusal first
+
+-- what the checks of a table of relocation entries leave, where they pass
+pub record RelocationsOf (file : List ℕ) (section : ℕ) (table : Rows) (linked : Option (Rows × Strings)) : Type 0 where
+  pub pass : first_refusal (relocation_table_checks file (section_at file section)) ≡ None
+  pub counted : table.count ≡ entry_count file (section_at file section) 24
+  pub refers : 0 < table.count → linked ≡ symbols_linked file (section_at file section)
+  pub placed : 0 < table.count → table.at ≡ sh_offset file (section_at file section)
+
+pub relocations_pass : (file : List ℕ) (section : ℕ) (table : Rows) (linked : Option (Rows × Strings)) → relocations_at file (section_at file section) ≡ Ok (table, linked)
+    → RelocationsOf file section table linked
+relocations_pass file section table linked h =
+    let at : ℕ = section_at file section in
+    let p = passes_by_cases (sh_size file at == 0) (sh_offset file at) (sh_size file at) None (symbols_linked file at) (table_checks file at 24 ++ linked_checks file at) table linked refl h in
+    record {
+      pass = p.0;
+      counted = p.1;
+      refers = λ some. (p.2 some).0;
+      placed = λ some. (p.2 some).1;
+    }
+
+-- rows behind checks that pass
+pub rows_checked : (checks : List Check) (row : ℕ → List Item) (count entries : ℕ) (items : List Item)
+    → items ≡ checked checks (each row 0 entries) → first_refusal checks ≡ None → count ≡ entries → items ≡ each row 0 count
+rows_checked checks row count entries items are pass same = are ∙ (checked-passes checks (each row 0 entries) pass ∙ ap (each row 0) (sym same))
