@@ -1,4 +1,3 @@
-pub mod Keeping
 pub mod Pages
 pub mod Paging
 pub mod Pieces
