@@ -1,7 +1,8 @@
-pub mod Keeping
 pub mod Pages
+pub mod Paging
 pub mod Pieces
+pub mod SaysOfReads
 pub mod SectionLaws
 pub mod Shown
+pub mod Standing
 pub mod Walking
-pub mod Windows

@@ -1,13 +1,14 @@
 -- What a cursor over a table gives, row by row.
-use Rattle.std.specs.Prelude.{ℕ, zero, suc, ◌≡◌, ◌+◌, ◌*◌, ◌≤◌, Bool, true, false, List, [], ◌∷◌, length, Option, None, Some, Result, Ok, Err}
+use Rattle.std.specs.Prelude.{ℕ, zero, suc, ◌≡◌, ◌+◌, ◌*◌, ◌/◌, Bool, true, false, List, [], ◌∷◌, length, Option, None, Some, Result, Ok, Err}
 use Rattle.elf_model.specs.Bytes.{slice}
 use Rattle.elf_table.specs.Tables.{Rows}
 use Rattle.elf_table.specs.declared.fault.Fault.{Fault}
 use Rattle.elf_table.specs.Faults.{IsAt}
 use Rattle.elf_table.specs.declared.row.Row.{Row}
+use Rattle.elf_table.specs.Windows.{Ahead}
 
--- a cursor: its table, the index of the next row, how many rows are left to give and how many of them are not
--- asked for yet, the bytes that it holds of the next rows, the bytes of the row that it shows, and where it failed
+-- a cursor: its table, the index of the next row, how many rows are left to give, how many bytes are not asked for yet,
+-- the bytes that it holds of the next rows, the bytes of the row that it shows, and the fault where it failed
 pub record Reading : Type 0 where
   pub table : Rows
   pub index : ℕ
@@ -25,13 +26,24 @@ row_at table index = table.at + index * table.entry
 abbrev pub place : Reading → ℕ
 place c = row_at c.table c.index
 
+-- how many bytes a cursor reads at once: whole rows
+abbrev pub page_of : ℕ → ℕ
+page_of entry = 4096 / entry * entry
+
+-- a window stands at the row that is shown, which has so many bytes, and holds whole rows behind it
+pub record Stands (table : Rows) (index shown : ℕ) (w : Ahead) : Type 0 where
+  pub its_place : w.at + shown ≡ row_at table index
+  pub rows : ℕ
+  pub whole : length w.held ≡ shown + rows * table.entry
+
+-- a number, unless there is a fault
 abbrev pub unless_failed : Option Fault → ℕ → ℕ
 unless_failed None n = n
 unless_failed (Some fault) n = 0
 
 -- how many bytes a cursor may still ask for
 abbrev pub unread_bytes : Reading → ℕ
-unread_bytes c = unless_failed c.failed (c.unread * c.table.entry)
+unread_bytes c = unless_failed c.failed c.unread
 
 -- what a cursor holds of the next rows is what the file has there
 abbrev pub Agrees : List ℕ → Reading → Type 0

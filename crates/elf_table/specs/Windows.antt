@@ -1,6 +1,8 @@
 -- What a window over a range of a file shows.
-use Rattle.std.specs.Prelude.{ℕ, ◌≡◌, ◌+◌, ◌≤◌, ◌<◌, List, length, Option, Some}
+use Rattle.std.specs.Prelude.{ℕ, ◌≡◌, ◌+◌, ◌≤◌, ◌<◌, min, List, length, Option, Some, Result, Ok, Err}
 use Rattle.elf_model.specs.Bytes.{slice}
+use Rattle.elf_table.specs.declared.fault.Fault.{Fault}
+use Rattle.elf_table.specs.Faults.{IsAt}
 
 -- a window: the offset of the next byte, the bytes that it holds from there on, how many bytes of its range behind
 -- those are not asked for yet, and how many it holds at most
@@ -41,3 +43,15 @@ pub record Moves (old new : Ahead) (before after : ℕ) : Type 0 where
   pub same_end : range_end new ≡ range_end old
   pub onward : old.at ≤ new.at
   pub account : after + new.unread ≤ before + old.unread
+
+-- a window that holds so many bytes: it is as it was where it held them, and else it holds a page, or all that are left
+pub record Holds (old new : Ahead) (count : ℕ) : Type 0 where
+  pub stays : new.at ≡ old.at
+  pub long : count ≤ length new.held
+  pub unchanged : count ≤ length old.held → new ≡ old
+  pub whole : length old.held < count → length new.held ≡ min old.page (left old)
+
+-- a window was to hold so many bytes. A fault is of a read of bytes that it did not hold, at the first of them
+abbrev pub Brings : {X : Type 0} → Ahead → Ahead → ℕ → Result X Fault → Type 0
+Brings old new count (Ok x) = Holds old new count
+Brings old new count (Err fault) = (length old.held < count) × IsAt (frontier old) fault

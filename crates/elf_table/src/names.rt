@@ -1,11 +1,11 @@
 //! Names in a string table.
-ghost use Rattle.std.specs.Prelude.{◌≡◌, ◌≢◌, ℕ, ◌+◌, ◌-◌, ◌^◌, ◌<◌, ◌≤◌, List, [], length, slice_index, IfErr, MatchBool};
+ghost use Rattle.std.specs.Prelude.{◌≡◌, ◌≢◌, ℕ, ◌+◌, ◌-◌, ◌^◌, ◌<◌, ◌≤◌, List, [], length, slice_index, Some, IfErr, MatchBool};
 ghost use Rattle.elf_model.specs.Bytes.{slice};
 ghost use Rattle.elf_model.specs.Names.{shown, same, pad64, name_bytes};
-ghost use Rattle.elf_source.specs.Source.{Keeps};
-ghost use Rattle.elf_table.specs.Reading.{FaultBlames, IsSourceFault};
-ghost use Rattle.elf_table.specs.Tables.{StringsWithin};
-ghost use Rattle.elf_table.specs.NamesRead.{NameRead, Compared, Searched, Matched, SameBelow, DifferBelow};
+ghost use Rattle.elf_source.specs.Source.{Reads};
+ghost use Rattle.elf_table.specs.Faults.{IsOfRead, Says};
+ghost use Rattle.elf_table.specs.NamesRead.{NameRead, Compared, Searched, Matched};
+ghost use Rattle.elf_table.specs.Tables.{StringsWithin, strings_in};
 
 use crate::caps::Cap;
 use crate::fault::Fault;
@@ -163,12 +163,12 @@ fn search<S: Source>(
 ) -> Result<bool, Fault>
     requires empty { name.old ≡ [] }
     requires ends { start + want < 2 ^ 64 }
-    requires within { start + want ≤ S.size src.old.source }
-    ensures kept { Keeps S.holds S.size S.failures src.old.source src.new.source }
-    ensures blames { IfErr result (FaultBlames S.holds S.failures src.old.source src.new.source) }
-    ensures fault { IfErr result IsSourceFault }
-    ensures asked { src.new.asked ≤ src.old.asked + want }
-    ensures searched { (file : List ℕ) → S.holds src.old.source file → Searched (slice file start want) cap result name.new }
+    requires within { start + want ≤ src.old.seen.size }
+    ensures reads { Reads src.old src.new want }
+    ensures says { IfErr result (Says src.old src.new want) }
+    ensures fault { IfErr result IsOfRead }
+    ensures searched { (file : List ℕ) → src.old.seen.file ≡ Some file →
+        Searched (slice file start want) cap.bytes result name.new }
 {
     let mut bytes = [0; PIECE];
     let mut done: u64 = 0;
@@ -177,10 +177,10 @@ fn search<S: Source>(
         let piece = &mut bytes[..count];
         fill(src, start + done, piece)?;
         if let Some(place) = memchr(0, piece) {
-            name.add(&piece[..place], cap.bytes);
+            name.add(&piece[..place], cap);
             return Ok(true);
         }
-        name.add(piece, cap.bytes);
+        name.add(piece, cap);
         done += count as u64;
     }
     Ok(false)
@@ -196,12 +196,12 @@ fn matches<S: Source>(
 ) -> Result<bool, Fault>
     requires most { want ≤ length wanted.now + 1 }
     requires ends { start + want < 2 ^ 64 }
-    requires within { start + want ≤ S.size src.old.source }
-    ensures kept { Keeps S.holds S.size S.failures src.old.source src.new.source }
-    ensures blames { IfErr result (FaultBlames S.holds S.failures src.old.source src.new.source) }
-    ensures fault { IfErr result IsSourceFault }
-    ensures asked { src.new.asked ≤ src.old.asked + want }
-    ensures matched { (file : List ℕ) → S.holds src.old.source file → Matched (slice file start want) wanted.now result }
+    requires within { start + want ≤ src.old.seen.size }
+    ensures reads { Reads src.old src.new want }
+    ensures says { IfErr result (Says src.old src.new want) }
+    ensures fault { IfErr result IsOfRead }
+    ensures matched { (file : List ℕ) → src.old.seen.file ≡ Some file →
+        Matched (slice file start want) wanted.now result }
 {
     let mut bytes = [0; PIECE];
     let mut done: u64 = 0;

@@ -1,9 +1,9 @@
 //! A window over a range of a file.
-ghost use Rattle.std.specs.Prelude.{◌≡◌, ℕ, ◌+◌, ◌^◌, ◌<◌, ◌≤◌, List, [], length, take, drop, Some, IfErr, OnOk};
+ghost use Rattle.std.specs.Prelude.{◌≡◌, ℕ, ◌+◌, ◌^◌, ◌<◌, ◌≤◌, List, [], length, min, take, drop, IfErr, OnOk};
 ghost use Rattle.elf_model.specs.Bytes.{slice};
 ghost use Rattle.elf_source.specs.Source.{Reads};
 ghost use Rattle.elf_table.specs.Faults.{Says, IsAt};
-ghost use Rattle.elf_table.specs.Windows.{AgreesWith, IsWithin, Moves, left, frontier, range_end};
+ghost use Rattle.elf_table.specs.Windows.{Agrees, AgreesWith, Brings, IsWithin, Moves, left, frontier, range_end};
 
 use crate::fault::Fault;
 use crate::filling::fill;
@@ -80,21 +80,20 @@ impl Window {
         &self.bytes[self.from as usize..end as usize]
     }
 
-    /// Holds at least `count` bytes.
+    /// Holds at least `count` bytes: those that it holds, where they are enough, and else a page, or
+    /// all bytes that are left.
     ///
     /// # Errors
-    /// A fault of a read at the first byte that was not asked for yet. Where the source failed, the place
-    /// is then behind what was asked for.
+    /// A fault of a read at the first byte that was not asked for yet. The place is then behind the
+    /// bytes that were to be read.
     pub fn bring<S: Source>(&mut self, src: &mut Counted<S>, count: u64) -> Result<(), Fault>
         requires enough { count ≤ left self.old }
         requires small { count ≤ self.old.page }
         requires within { IsWithin src.old.seen.size self.old }
         ensures reads { Reads src.old src.new self.old.unread }
         ensures says { IfErr result (Says src.old src.new self.old.unread) }
-        ensures fault { IfErr result (IsAt (frontier self.old)) }
         ensures moves { Moves self.old self.new src.old.asked src.new.asked }
-        ensures stays { OnOk result (self.new.at ≡ self.old.at) }
-        ensures long { OnOk result (count ≤ length self.new.held) }
+        ensures brings { Brings self.old self.new count result }
         ensures agrees { AgreesWith src.old.seen.file self.old self.new }
     {
         if self.held >= count {
@@ -112,7 +111,7 @@ impl Window {
         ensures unread { self.new.unread ≤ self.old.unread }
         ensures held { self.new.held ≡ drop count self.old.held }
         ensures end { range_end self.new ≡ range_end self.old }
-        ensures agrees { (file : List ℕ) → AgreesWith (Some file) self.old self.new }
+        ensures agrees { (file : List ℕ) → Agrees file self.old → Agrees file self.new }
     {
         let held = count.min(self.held);
         self.at += count;
@@ -131,8 +130,7 @@ impl Window {
         ensures fault { IfErr result (IsAt (frontier self.old)) }
         ensures moves { Moves self.old self.new src.old.asked src.new.asked }
         ensures stays { OnOk result (self.new.at ≡ self.old.at) }
-        ensures long { (count : ℕ) → count ≤ left self.old → count ≤ self.old.page →
-            OnOk result (count ≤ length self.new.held) }
+        ensures whole { OnOk result (length self.new.held ≡ min self.old.page (left self.old)) }
         ensures agrees { AgreesWith src.old.seen.file self.old self.new }
     {
         gather(&mut self.bytes, self.from as usize, self.held as usize);
