@@ -1,6 +1,7 @@
-pub mod Keeping
 pub mod Pages
 pub mod Pieces
+pub mod RowsHeld
+pub mod SaysLaws
 pub mod SectionLaws
 pub mod Shown
 pub mod Walking

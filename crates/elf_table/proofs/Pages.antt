@@ -1,28 +1,27 @@
--- The rows of a page, behind those before it.
-use Rattle.std.proofs.Common.{◌≡◌, ℕ, ◌+◌, ◌-◌, ◌*◌, ◌<◌, ◌≤◌, List, [], inl, inr, ◌∙◌, ap, subst, arith}
-use Rattle.std.specs.Prelude.{slice_index_or}
-use Rattle.std.proofs.lemmas.Bool.{cases_lt}
+-- Pages of a file that are read one behind the other.
+use Rattle.std.proofs.Common.{◌≡◌, ℕ, ◌+◌, ◌-◌, ◌≤◌, List, ◌++◌, length, take, drop, sym, ap, ◌∙◌, arith, length-drop, length-take-le}
+use Rattle.std.proofs.Math.Seq.{take-add}
+use Rattle.std.proofs.lemmas.List.{drop-drop}
+use Rattle.std.proofs.lemmas.Slice.{take-put_mid}
 use Rattle.elf_model.specs.Bytes.{slice}
-use Rattle.elf_model.proofs.Slices.{slice-slice}
-use Rattle.elf_table.specs.Store.{AreRows}
+use borrow.Rule.Slice.PartMut.{put_mid, mid_of, same_len_mid}
 
-row_in_page : (file page : List ℕ) (from first rows i : ℕ) → page ≡ slice file (from + 64 * first) (64 * rows) → i < rows → slice page (64 * i) 64 ≡ slice file (from + 64 * (first + i)) 64
-row_in_page file page from first rows i is below =
-    let place : from + 64 * first + 64 * i ≡ from + 64 * (first + i) = omega arith in
-    let inside : 64 * i + 64 ≤ 64 * rows = omega arith in
-    ap (λ bytes. slice bytes (64 * i) 64) is
-    ∙ (slice-slice file (from + 64 * first) (64 * rows) (64 * i) 64 inside
-    ∙ ap (λ at. slice file at 64) place)
+-- how many bytes a page has
+pub page-size : (done count : ℕ) (bytes : List ℕ) → done + count ≤ length bytes → length (mid_of done (done + count - done) bytes) ≡ count
+page-size done count bytes within =
+    let width : done + count - done ≡ count = omega arith in
+    length-take-le (done + count - done) (drop done bytes) (omega (arith, length-drop done bytes)) ∙ width
 
-pub page_added : (file page : List ℕ) (from first rows size : ℕ) (old new : List (List ℕ)) → size ≡ 64 * rows → page ≡ slice file (from + 64 * first) size
-    → AreRows file from first old → ((i : ℕ) → i < first → slice_index_or new i [] ≡ slice_index_or old i [])
-    → ((i : ℕ) → i < rows → slice_index_or new (first + i) [] ≡ slice page (64 * i) 64) → AreRows file from (first + rows) new
-page_added file page from first rows size old new sized is before kept put = λ i below.
-    elim (cases_lt i first) [
-      | inl early ↦ kept i early ∙ before i early
-      | inr late ↦
-          let k : i - first < rows = omega arith in
-          let back : first + (i - first) ≡ i = omega arith in
-          let whole : page ≡ slice file (from + 64 * first) (64 * rows) = subst (λ (n : ℕ). page ≡ slice file (from + 64 * first) n) sized is in
-          subst (λ (n : ℕ). slice_index_or new n [] ≡ slice file (from + 64 * n) 64) back (put (i - first) k ∙ row_in_page file page from first rows (i - first) whole k)
-    ]
+-- a page put behind those before it
+pub page-added : (file bytes page : List ℕ) (from done count room : ℕ) → done ≤ length bytes → length page ≡ count
+    → take done bytes ≡ slice file from done → page ≡ slice file (from + done) count
+    → take (done + count) (put_mid done room bytes page) ≡ slice file from (done + count)
+page-added file bytes page from done count room within size before turn =
+    take-put_mid done room bytes page (done + count) (ap (λ (n : ℕ). done + n) (sym size)) within
+    ∙ ap (λ front. front ++ page) before
+    ∙ ap (λ rest. slice file from done ++ rest) (turn ∙ ap (take count) (sym (drop-drop done from file)))
+    ∙ sym (take-add done count (drop from file))
+
+-- a buffer keeps its length
+pub page-kept : (done room : ℕ) (bytes page : List ℕ) → length page ≡ length (mid_of done room bytes) → length (put_mid done room bytes page) ≡ length bytes
+page-kept done room bytes page same = same_len_mid done room bytes page same

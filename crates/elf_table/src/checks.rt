@@ -7,8 +7,9 @@ ghost use Rattle.elf_table.specs.Tables.{RowsWithin, StringsWithin, size_of};
 
 use crate::fault::Fault;
 use crate::names::Names;
-use crate::ranges::{SHT_DYNSYM, SHT_STRTAB, SHT_SYMTAB, ends_outside};
+use crate::ranges::ends_outside;
 use crate::table::Table;
+use elf_record::numbers::{SHT_DYNSYM, SHT_STRTAB, SHT_SYMTAB};
 use elf_record::{Cause, Refusal, Shdr};
 
 /// The section as a table of rows of `entry` bytes, in a file of `size` bytes. Refusals name `place`.

@@ -1,5 +1,6 @@
 //! The load of a file's section headers.
-ghost use Rattle.std.specs.Prelude.{◌≡◌, ℕ, ◌+◌, ◌*◌, ◌≤◌, List, [], length, None, Some, Err, IfErr, MatchOption};
+ghost use Rattle.std.specs.Prelude.{◌≡◌, ℕ, ◌+◌, ◌*◌, ◌≤◌, List, [], length, None, Some, Err, IfErr, IfSome, MatchOption};
+ghost use Rattle.elf_model.specs.Budget.{IsBudget};
 ghost use Rattle.elf_model.specs.Checks.{first_refusal, section_name_checks};
 ghost use Rattle.elf_model.specs.declared.causes.Refusal.{Refusal as Refuses};
 ghost use Rattle.elf_record.specs.Ehdr.{IsEhdr};
@@ -10,15 +11,11 @@ ghost use Rattle.elf_table.specs.Store.{Holds};
 
 use crate::fault::Fault;
 use crate::loaded::Loaded;
-use crate::ranges::{PROGRAM_HEADER_BYTES, SECTION_HEADER_BYTES, SHT_STRTAB, ends_outside};
+use crate::ranges::{PROGRAM_HEADER_BYTES, SECTION_HEADER_BYTES, ends_outside};
 use crate::store::HeaderStore;
+use elf_record::numbers::{PN_XNUM, SHN_XINDEX, SHT_STRTAB};
 use elf_record::{Cause, Ehdr, Refusal};
 use elf_source::{Counted, Source};
-
-/// The number of program headers that says that it stands in section 0.
-const PN_XNUM: u16 = 0xffff;
-/// The section index that says that the index of the section names stands in section 0.
-const SHN_XINDEX: u16 = 0xffff;
 
 /// Loads the section headers of a file into the store, each read once, and checks the file header's
 /// counts and places and the section of the section names (gABI 4, ELF Header). `header` is the file's
@@ -76,6 +73,7 @@ fn refused_late(store: &mut HeaderStore, header: &Ehdr, size: u64) -> Option<Ref
     requires passes { Passes size store.old.slots header.now }
     requires count { store.old.loaded ≡ header.now.e_shnum }
     ensures kept { MatchOption result (store.new ≡ store.old) (λ _. store.new ≡ record { slots = store.old.slots; loaded = 0; rows = [] }) }
+    ensures checked { IfSome result (λ refusal. IsBudget refusal → ⊥) }
     ensures held { (file : List ℕ) → length file ≡ size → IsEhdr file 0 header.now → Holds file store.old
         → result ≡ first_refusal (section_name_checks file) }
 {
@@ -91,7 +89,8 @@ fn refused_late(store: &mut HeaderStore, header: &Ehdr, size: u64) -> Option<Ref
 fn refused_names(store: &HeaderStore, header: &Ehdr, size: u64) -> Option<Refusal>
     requires passes { Passes size store.now.slots header.now }
     requires count { store.now.loaded ≡ header.now.e_shnum }
-    ensures { (file : List ℕ) → length file ≡ size → IsEhdr file 0 header.now → Holds file store.now
+    ensures checked { IfSome result (λ refusal. IsBudget refusal → ⊥) }
+    ensures held { (file : List ℕ) → length file ≡ size → IsEhdr file 0 header.now → Holds file store.now
         → result ≡ first_refusal (section_name_checks file) }
 {
     if header.e_shnum == 0 || header.e_shstrndx == 0 {

@@ -107,7 +107,11 @@ impl File<'_> {
             return refused(self.place(section), Cause::BadLink);
         }
         let link = link as u16;
-        checked_strings(&self.store.section(link), self.loaded.size(), self.place(link))
+        checked_strings(
+            &self.store.section(link),
+            self.loaded.size(),
+            self.place(link),
+        )
     }
 
     /// The string table of the section names; None where e_shnum or e_shstrndx is 0 (gABI 4, ELF
@@ -185,10 +189,7 @@ impl File<'_> {
     ///
     /// # Errors
     /// The first check that fails: those of [`File::table`], then those of [`File::linked`].
-    pub fn relocations(
-        &self,
-        section: u16,
-    ) -> Result<(Table, Option<(Table, Names)>), Fault>
+    pub fn relocations(&self, section: u16) -> Result<(Table, Option<(Table, Names)>), Fault>
         requires below { section < self.now.store.now.loaded }
         ensures held { (file : List ℕ) → Belongs file self.now.loaded self.now.store.now → result ≡ relocations_at file (section_at file section) }
         ensures table { IfOk result (λ found. Ok found.0 ≡ table_of (row self.now.store.now section) 0 self.now.loaded.size (section_place self.now.loaded.header section) 24) }
