@@ -1,4 +1,4 @@
-pub mod Pages
+pub mod PagesRead
 pub mod Pieces
 pub mod RowsHeld
 pub mod SaysLaws

@@ -1,9 +1,9 @@
 -- Another page is read behind those before it.
-use Rattle.std.proofs.Common.{◌≡◌, ℕ, ◌+◌, ◌-◌, ◌≤◌, length, ap, subst, ◌∙◌, arith}
+use Rattle.std.proofs.Common.{ℕ, ◌+◌, ap, subst, ◌∙◌, arith}
 use Rattle.elf_model.specs.Bytes.{slice}
 use Rattle.elf_source.specs.Source.{Reads}
 use Rattle.elf_source.proofs.ReadsLaws.{Reads-then}
-use Rattle.elf_table.proofs.Pages.{page-size, page-kept, page-added}
+use Rattle.elf_table.proofs.PagesRead.{page-size, page-kept, page-added}
 use Rattle.elf_table.proofs.store.read_front.Goals as goal
 
 pub loop-done-preserved : goal.loop-done-preserved
