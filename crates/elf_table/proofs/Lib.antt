@@ -1,6 +1,8 @@
-pub mod Pages
+pub mod PagesRead
 pub mod Paging
 pub mod Pieces
+pub mod RowsHeld
+pub mod SaysLaws
 pub mod SaysOfReads
 pub mod SectionLaws
 pub mod Shown

@@ -2,7 +2,7 @@
 use Rattle.std.proofs.Common.{◌≡◌, false, true, Err, sym, ◌∙◌, ap}
 use Rattle.std.proofs.lemmas.Result.{err_from_is_err_and}
 use Rattle.elf_table.proofs.SectionLaws.{relocations_table-fails, relocations_linked-fail, relocations_are}
-use Rattle.elf_table.proofs.loaded.Loaded.relocations.Goals as goal
+use Rattle.elf_table.proofs.file.File.relocations.Goals as goal
 
 pub returns-in_err-table-clause-held : goal.returns-in_err-table-clause-held
 returns-in_err-table-clause-held c = λ file belongs.

@@ -2,7 +2,7 @@
 use Rattle.std.proofs.Common.{◌≡◌, false, true, Err, sym, ◌∙◌, ap}
 use Rattle.std.proofs.lemmas.Result.{err_from_is_err_and}
 use Rattle.elf_table.proofs.SectionLaws.{symbols_table-fails, symbols_strings-fail}
-use Rattle.elf_table.proofs.loaded.Loaded.symbols.Goals as goal
+use Rattle.elf_table.proofs.file.File.symbols.Goals as goal
 
 pub returns-in_err-table-clause-held : goal.returns-in_err-table-clause-held
 returns-in_err-table-clause-held c = λ file belongs.
