@@ -1,5 +1,5 @@
 -- The report of a listing, and of one that a budget cuts short.
-use Rattle.std.proofs.Common.{◌≡◌, ℕ, ◌+◌, ◌<◌, ◌≤◌, List, [], ◌∷◌, ◌++◌, length, None, Some, Result, Ok, Err, Option, option_map, refl, sym, ap, ◌∙◌, inl, inr, ◌⊎◌, append-nil, arith, min}
+use Rattle.std.proofs.Common.{◌≡◌, ℕ, ◌+◌, ◌^◌, ◌<◌, ◌≤◌, List, [], ◌∷◌, ◌++◌, length, None, Some, Result, Ok, Err, Option, option_map, refl, sym, ap, ◌∙◌, inl, inr, ◌⊎◌, append-nil, arith, min}
 use Rattle.elf_model.specs.Budget.{IsBudget, IsBudgeted, IsReport, IsCut}
 use Rattle.elf_model.specs.Cost.{cost}
 use Rattle.elf_model.specs.Lines.{refusal_line}

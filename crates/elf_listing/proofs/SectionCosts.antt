@@ -1,15 +1,15 @@
 -- What the tables of a loaded file ask for, by the section headers in the store.
-use Rattle.std.proofs.Common.{◌≡◌, ℕ, ◌+◌, ◌*◌, ◌/◌, ◌<◌, ◌≤◌, ◌==◌, ◌&&◌, not, nat_lt, Bool, true, false, List, [], ◌++◌, length, Option, None, Some, Result, Ok, refl, sym, ap, ◌∙◌, arith, zero-add}
+use Rattle.std.proofs.Common.{◌≡◌, ℕ, ◌+◌, ◌*◌, ◌/◌, ◌<◌, ◌≤◌, ◌==◌, ◌&&◌, not, nat_lt, Bool, true, false, List, [], ◌∷◌, ◌++◌, length, drop, Option, None, Some, Result, Ok, refl, sym, ap, ◌∙◌, arith, zero-add}
 use Rattle.std.proofs.Math.Nat.{mul-le-mul_left}
-use Rattle.std.proofs.lemmas.Bool.{eqb-true}
-use Rattle.std.proofs.lemmas.Bool.Decides.{nat_tests}
+use Rattle.std.proofs.lemmas.Bool.{eqb-true, ltb-false}
 use Rattle.std.specs.Prelude.{is_none}
 use Rattle.elf_model.specs.Checks.{Check, first_refusal, header_checks, early_checks, section_name_checks, is_symbol_table, table_checks_of}
 use Rattle.elf_model.specs.Cost.{sum_over, cost_where, is_table, entries_cost, symbols_cost, relocations_cost, table_cost, is_loadable, sections_cost, segments_cost, tables_cost, behind_header, ceiling}
 use Rattle.elf_model.specs.Listing.{has, has_tables, SECTIONS, SEGMENTS, SYMBOLS, RELOCS}
 use Rattle.elf_model.specs.Names.{name_bytes}
-use Rattle.elf_model.specs.Numbers.{SHT_RELA}
+use Rattle.elf_model.specs.Numbers.{SHT_RELA, PN_XNUM, SHN_XINDEX}
 use Rattle.elf_model.specs.Records.{e_shnum, e_phnum, e_shstrndx, sh_type, sh_offset, sh_size}
+use Rattle.elf_model.specs.declared.causes.Cause.TheVariants.{ExtendedNumbering, TooManyHeaders}
 use Rattle.elf_model.specs.declared.causes.Refusal.{Refusal}
 use Rattle.elf_model.proofs.CheckSteps.{first_refusal-none, first_refusal-some}
 use Rattle.elf_model.proofs.CostLemmas.{cost_where-le, sum_over-le}
@@ -146,21 +146,22 @@ load_within file header size slots cap parts is same passed tables = by_cases (f
 pub load_most : (header : Ehdr) (size slots : ℕ) → load_cost header size slots ≤ 64 * header.e_shnum
 load_most header size slots = cost_where-le (is_none (first_refusal (early_of header size slots))) (64 * header.e_shnum)
 
--- checks that pass, from the first on
-first_by : (fails : Bool) (refusal : Refusal) (checks : List Check) → (elim fails as (λ _. Option Refusal) [ true ↦ Some refusal | false ↦ first_refusal checks ]) ≡ None
-    → (fails ≡ false) × (first_refusal checks ≡ None)
-first_by true refusal checks h = cc
-first_by false refusal checks h = (refl, h)
+-- where checks pass the fourth does
+fourth_passes : (p q r s : Bool) (w x y z : Refusal) (rest : List Check)
+    → first_refusal (record { fails = p; refusal = w } ∷ record { fails = q; refusal = x } ∷ record { fails = r; refusal = y } ∷ record { fails = s; refusal = z } ∷ rest) ≡ None → s ≡ false
+fourth_passes true q r s w x y z rest h = cc
+fourth_passes false true r s w x y z rest h = cc
+fourth_passes false false true s w x y z rest h = cc
+fourth_passes false false false true w x y z rest h = cc
+fourth_passes false false false false w x y z rest h = refl
 
 -- the load checks leave no more section headers than slots
 few_sections : (header : Ehdr) (size slots : ℕ) → first_refusal (early_of header size slots) ≡ None → header.e_shnum ≤ slots
 few_sections header size slots passes =
-    let first = first_by _ _ _ passes in
-    let second = first_by _ _ _ first.1 in
-    let third = first_by _ _ _ second.1 in
-    let fourth = first_by (nat_lt slots header.e_shnum) _ _ third.1 in
-    let none = fourth.0 in
-    grind (arith, nat_tests)
+    ltb-false slots header.e_shnum
+    (fourth_passes (header.e_phnum == PN_XNUM) (header.e_shstrndx == SHN_XINDEX) (header.e_shnum == 0 && not (header.e_shoff == 0)) (nat_lt slots header.e_shnum)
+    (record { at = 0x38; cause = ExtendedNumbering }) (record { at = 0x3e; cause = ExtendedNumbering }) (record { at = 0x3c; cause = ExtendedNumbering }) (record { at = 0x3c; cause = TooManyHeaders })
+    (drop 4 (early_of header size slots)) passes)
 
 pub load_below : (header : Ehdr) (size slots cap : ℕ) → 64 + load_cost header size slots ≤ ceiling size slots cap
 load_below header size slots cap = by_cases (first_refusal (early_of header size slots)) refl

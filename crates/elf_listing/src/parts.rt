@@ -65,7 +65,8 @@ impl<S: Source, W: Sink> Listing<'_, '_, '_, S, W> {
         if !parts.contains(Parts::SEGMENTS) {
             return Ok(());
         }
-        self.rows(self.file.segments(), &Kind::Segments)
+        let table = self.file.segments();
+        self.rows(table, &Kind::Segments)
     }
 }
 

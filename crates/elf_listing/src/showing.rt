@@ -126,28 +126,29 @@ fn list_loaded<S: Source, W: Sink>(
         loaded,
         store,
     };
-    list_tables(src, file, cap, parts, out)
+    list_tables(src, out, file, cap, parts)
 }
 
 /// Lists the tables of a loaded file.
-fn list_tables<S: Source, W: Sink>(
-    src: &mut Counted<S>,
-    file: File<'_>,
+fn list_tables<'s, 'o, 'f, S: Source, W: Sink>(
+    src: &'s mut Counted<S>,
+    out: &'o mut Out<W>,
+    file: File<'f>,
     cap: Cap,
     parts: Parts,
-    out: &mut Out<W>,
 ) -> Result<(), Stop>
     requires { IsOpen src.old file.loaded file.store.now × AreListed parts.0 }
-    ensures costs { Costs src.old src.new out.new result (tables_listed parts.0 file cap.bytes) }
+    ensures costs { Costs src.old src.new out.new result (tables_listed parts.0 file.entry cap.bytes) }
     ensures text { (bytes : List ℕ) → src.old.seen.file ≡ Some bytes →
         Writes out.old out.new result (table_items bytes cap.bytes parts.0) }
 {
+    let name = NameBuf::new();
     let mut listing = Listing {
         src,
         out,
         file,
         cap,
-        name: NameBuf::new(),
+        name,
     };
     listing.tables(parts)
 }
