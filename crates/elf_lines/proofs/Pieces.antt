@@ -37,6 +37,7 @@ TakesBefore-front {a} {b} {c} {text} {rest} p q =
 
 -- the rest was put
 pub Puts-rest : {X : Type 0} {a b : Written} {text rest : List ℕ} (c : Written)
-    → (result : Result X OutFault) → TakesBefore a b text rest → Puts b c result rest → Puts a c result text
+    → (result : Result X OutFault) → TakesBefore a b text rest
+    → Puts b c result rest → Puts a c result text
 Puts-rest c (Ok x) p q = (TakesBefore-whole p q.0, q.1)
 Puts-rest c (Err fault) p q = (TakesBefore-front p q.0, q.1)

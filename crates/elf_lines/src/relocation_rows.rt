@@ -77,7 +77,7 @@ fn put_addend(line: &mut Line, addend: i64)
 }
 
 /// The name of a relocation type of x86-64 (x86-64 psABI, Relocation Types).
-#[tactic(auto, unfolding(elf_model::specs::NameTables::relocation_types, elf_model::specs::Text::name_of))]
+#[tactic(auto, unfolding(crate::specs::Rows::relocation_types, crate::specs::Rows::name_of))]
 fn relocation_type_name(kind: u32) -> Option<&'static str>
     ensures name { option_copied result ≡ name_of relocation_types kind }
     ensures short { IfSome result (λ name. length name.now ≤ 10) }

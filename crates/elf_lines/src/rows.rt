@@ -13,7 +13,7 @@ use elf_source::{Out, OutFault, Sink};
 /// The line of a file header: type, machine, entry point, the places of the program headers and the
 /// section headers, flags, their numbers, and the section of the section names (gABI 4, ELF
 /// Header).
-#[tactic(auto, unfolding(elf_model::specs::Lines::header_line, elf_model::specs::Lines::file_type_text))]
+#[tactic(auto, unfolding(crate::specs::Rows::header_line, crate::specs::Rows::file_type_text))]
 pub fn header_row(header: &Ehdr) -> Line
     ensures { (file : List ℕ) → IsEhdr file 0 header.now → result.items ≡ header_line file }
 {
@@ -107,7 +107,7 @@ pub fn cause_word(cause: Cause) -> &'static str
 }
 
 /// The name of an object file type (gABI 4, ELF Header).
-#[tactic(auto, unfolding(elf_model::specs::Lines::file_types, elf_model::specs::Text::name_of))]
+#[tactic(auto, unfolding(crate::specs::Rows::file_types, crate::specs::Rows::name_of))]
 fn file_type_name(kind: u16) -> Option<&'static str>
     ensures name { option_copied result ≡ name_of file_types kind }
     ensures short { IfSome result (λ name. length name.now ≤ 4) }

@@ -73,7 +73,7 @@ pub fn show_symbol<W: Sink>(
 }
 
 /// The name of a symbol type (gABI 4, Symbol Types).
-#[tactic(auto, unfolding(elf_model::specs::NameTables::symbol_types, elf_model::specs::Text::name_of))]
+#[tactic(auto, unfolding(crate::specs::Rows::symbol_types, crate::specs::Rows::name_of))]
 fn symbol_type_name(kind: u8) -> Option<&'static str>
     ensures name { option_copied result ≡ name_of symbol_types kind }
     ensures short { IfSome result (λ name. length name.now ≤ 7) }
@@ -91,7 +91,7 @@ fn symbol_type_name(kind: u8) -> Option<&'static str>
 }
 
 /// The name of a symbol's binding (gABI 4, Symbol Binding).
-#[tactic(auto, unfolding(elf_model::specs::NameTables::bindings, elf_model::specs::Text::name_of))]
+#[tactic(auto, unfolding(crate::specs::Rows::bindings, crate::specs::Rows::name_of))]
 fn binding_name(binding: u8) -> Option<&'static str>
     ensures name { option_copied result ≡ name_of bindings binding }
     ensures short { IfSome result (λ name. length name.now ≤ 6) }
@@ -105,7 +105,7 @@ fn binding_name(binding: u8) -> Option<&'static str>
 }
 
 /// The name of a symbol's visibility (gABI 4, Symbol Visibility).
-#[tactic(auto, unfolding(elf_model::specs::NameTables::visibilities, elf_model::specs::Text::name_of))]
+#[tactic(auto, unfolding(crate::specs::Rows::visibilities, crate::specs::Rows::name_of))]
 fn visibility_name(visibility: u8) -> Option<&'static str>
     ensures name { option_copied result ≡ name_of visibilities visibility }
     ensures short { IfSome result (λ name. length name.now ≤ 9) }
@@ -120,7 +120,7 @@ fn visibility_name(visibility: u8) -> Option<&'static str>
 }
 
 /// The name of a special section index that a symbol may have (gABI 4, Special Section Indexes).
-#[tactic(auto, unfolding(elf_model::specs::NameTables::places, elf_model::specs::Text::name_of))]
+#[tactic(auto, unfolding(crate::specs::Rows::places, crate::specs::Rows::name_of))]
 fn place_name(index: u16) -> Option<&'static str>
     ensures name { option_copied result ≡ name_of places index }
     ensures short { IfSome result (λ name. length name.now ≤ 5) }

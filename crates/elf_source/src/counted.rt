@@ -93,12 +93,13 @@ impl<S: Source> Counted<S> {
         ensures asks { Asks self.old self.new (length out.old) result }
         ensures once { AsksOnce S.one_read self.old self.new at (length out.old) result }
     {
+        let count = out.len();
         if let Some(left) = self.left() {
-            if out.len() as u64 > left {
+            if count as u64 > left {
                 return Err(AskFault::Budget);
             }
         }
-        self.asked = self.asked.saturating_add(out.len() as u128);
+        self.asked = self.asked.saturating_add(count as u128);
         match self.source.fill(at, out) {
             Ok(()) => Ok(()),
             Err(fault) => Err(AskFault::Source(fault)),

@@ -175,11 +175,7 @@ fn seek_to<R: Reader>(reader: &mut R, at: u64, turns: &mut Turns) -> Result<(), 
 }
 
 // Fills `out` from the place on where the reader stands. Each turn gets a byte, ends, or is interrupted.
-fn read_all<R: Reader>(
-    reader: &mut R,
-    out: &mut [u8],
-    turns: &mut Turns,
-) -> Result<(), SourceFault>
+fn read_all<R: Reader>(reader: &mut R, out: &mut [u8], turns: &mut Turns) -> Result<(), SourceFault>
     ensures same { R.file reader.new ≡ R.file reader.old }
     ensures few { R.interrupted reader.new ≤ R.interrupted reader.old + turns.old.left + 1 }
     ensures stands { (at : ℕ) → IsTrue (R.stands reader.old at) → OnOk result (IsTrue (R.stands reader.new (at + length out.old))) }

@@ -1,4 +1,4 @@
-use Rattle.std.proofs.Common.{rules, arith, ap, ◌+◌, ◌∙◌, IsTrue, subst}
+use Rattle.std.proofs.Common.{rules, arith, ◌+◌, ◌∙◌, IsTrue, subst}
 use Rattle.elf_source.proofs.FilledLaws.{filled-then}
 use Rattle.elf_source.proofs.stream_source.read_all.Goals as goal
 
