@@ -19,7 +19,7 @@ use std::marker::Model;
 pub struct Cursor {
     table: Table,
     index: u64,
-    window: Window,
+    window: Window<WINDOW_BYTES>,
     shown: u64,
     failed: Option<Fault>,
 }
