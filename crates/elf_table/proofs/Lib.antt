@@ -1,3 +1,4 @@
+pub mod NameWindows
 pub mod Pages
 pub mod Paging
 pub mod Pieces
