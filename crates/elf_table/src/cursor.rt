@@ -69,8 +69,7 @@ impl Cursor {
         ensures reads { Reads src.old src.new (unread_bytes self.old) }
         ensures says { self.old.failed ≡ None →
             IfErr result (Says src.old src.new (unread_bytes self.old)) }
-        ensures account {
-            src.new.asked + unread_bytes self.new ≤ src.old.asked + unread_bytes self.old }
+        ensures account { src.new.asked + unread_bytes self.new ≤ src.old.asked + unread_bytes self.old }
         ensures steps { Advances src.old.seen.file self.old self.new result }
         ensures again { (fault : Fault) → self.old.failed ≡ Some fault →
             (result ≡ Err fault) × (src.new ≡ src.old) × (self.new ≡ self.old) }
@@ -133,7 +132,7 @@ impl Cursor {
             (result ≡ Err fault) × (src.new ≡ src.old) }
         ensures* after { sem 𝓛 (follows_so the_row the_row self.entry.ghost_name none (λ _ _. ⊤)
             (λ new. (src.new.asked + unread_bytes new ≤ src.old.asked + unread_bytes self.old)
-                × Steps src.old.seen.file self.old new result)) }
+            × Steps src.old.seen.file self.old new result)) }
     {
         if !self.advance(src)? {
             return Ok(None);

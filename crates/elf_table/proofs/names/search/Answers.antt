@@ -1,4 +1,4 @@
-use Rattle.std.proofs.Common.{◌≡◌, ℕ, ◌+◌, List, Some, length, take, ap, ◌∙◌, arith, length-take}
+use Rattle.std.proofs.Common.{◌≡◌, ℕ, ◌+◌, List, Some, length, ap, ◌∙◌, arith, length-take}
 use Rattle.elf_model.specs.Bytes.{slice}
 use Rattle.elf_table.proofs.NameWindows.{piece-of_file, piece-some, Between-next, Reads-next}
 use Rattle.elf_table.proofs.Pieces.{search-more, kept-more, search-found, kept-found}
