@@ -2,7 +2,6 @@ pub mod NameWindows
 pub mod Pages
 pub mod Paging
 pub mod Pieces
-pub mod SaysOfReads
 pub mod SectionLaws
 pub mod Shown
 pub mod Standing
