@@ -32,9 +32,20 @@ impl Model for Cursor {
 
     ghost Value = { Reading };
 
-    ghost view = { λ c. record { table = c.table; index = c.index; left = c.table.count - c.index; unread = c.window.unread; held = drop c.shown c.window.held; row = take c.shown c.window.held; failed = c.failed } };
+    ghost view = { λ c. record {
+      table = c.table;
+      index = c.index;
+      left = c.table.count - c.index;
+      unread = c.window.unread;
+      held = drop c.shown c.window.held;
+      row = take c.shown c.window.held;
+      failed = c.failed;
+    } };
 
-    ghost invariant = { λ c. (c.index ≤ c.table.count) × (c.shown ≤ length c.window.held) × (c.window.page ≡ page_of c.table.entry) × (range_end c.window ≡ c.table.at + size_of c.table) × (c.failed ≡ None → Stands c.table c.index c.shown c.window) };
+    ghost invariant = { λ c. (c.index ≤ c.table.count) × (c.shown ≤ length c.window.held)
+        × (c.window.page ≡ page_of c.table.entry)
+        × (range_end c.window ≡ c.table.at + size_of c.table)
+        × (c.failed ≡ None → Stands c.table c.index c.shown c.window) };
 }
 
 impl Cursor {

@@ -223,8 +223,10 @@ fn matches<S: Source>(
 fn agrees(piece: &[u8], wanted: &[u8], done: usize) -> bool
     requires { done + length piece.now < 2 ^ 64 }
     ensures { MatchBool result
-        ((k : ℕ) → k < length piece.now → slice_index piece.now k ≡ slice_index wanted.now (done + k))
-        ((k : ℕ) × (k < length piece.now) × (slice_index piece.now k ≢ slice_index wanted.now (done + k))) }
+        ((k : ℕ) → k < length piece.now →
+        slice_index piece.now k ≡ slice_index wanted.now (done + k))
+        ((k : ℕ) × (k < length piece.now)
+        × (slice_index piece.now k ≢ slice_index wanted.now (done + k))) }
 {
     for (i, byte) in piece.iter().enumerate() {
         if *byte != byte_or_nul(wanted, done + i) {

@@ -14,8 +14,8 @@ use std::marker::Model;
 pub(crate) const WINDOW_BYTES: usize = 4096;
 
 /// A window over a range of a file: a place, and the bytes that were read ahead from there on. Each
-/// byte of the range is asked for at most once, in order, and none past the range's end. Whole pages
-/// are read, as many bytes as the window was told, at most `N` and 4,096, or as are left.
+/// byte of the range is asked for at most once, in order, and none past the range's end. Pages are
+/// read, of as many bytes as the window was told, at most `N` and 4,096, or of all that are left.
 #[derive(Drop)]
 pub struct Window<const N: usize> {
     at: u64,
@@ -33,14 +33,20 @@ impl<const N: usize> Model for Window<N> {
 
     ghost Value = { Ahead };
 
-    ghost view = { λ w. record { at = w.at; held = slice w.bytes w.from w.held; unread = w.unread; page = w.page } };
+    ghost view = { λ w. record {
+      at = w.at;
+      held = slice w.bytes w.from w.held;
+      unread = w.unread;
+      page = w.page;
+    } };
 
-    ghost invariant = { λ w. (w.page ≤ N) × (w.page ≤ 4096) × (w.from + w.held ≤ w.page) × (w.at + w.held + w.unread < 2 ^ 64) };
+    ghost invariant = { λ w. (w.page ≤ N) × (w.page ≤ 4096) × (w.from + w.held ≤ w.page)
+        × (w.at + w.held + w.unread < 2 ^ 64) };
 }
 
 impl<const N: usize> Window<N> {
-    /// A window before the first of the `size` bytes from the offset `at` on, which asks for at most
-    /// `page` bytes at once, no more than `N` and no more than 4,096.
+    /// A window before the first of the `size` bytes from the offset `at` on, which asks for at
+    /// most `page` bytes at once, no more than `N` and no more than 4,096.
     pub fn new(at: u64, size: u64, page: u64) -> Window<N>
         requires ends { at + size < 2 ^ 64 }
         requires fits { page ≤ N }
@@ -82,8 +88,8 @@ impl<const N: usize> Window<N> {
         &bytes[self.from as usize..end as usize]
     }
 
-    /// Holds at least `count` bytes: those that it holds, where they are enough, and else a page, or
-    /// all bytes that are left.
+    /// Holds at least `count` bytes: those that it holds, where they are enough, and else a page,
+    /// or all bytes that are left.
     ///
     /// # Errors
     /// A fault of a read at the first byte that was not asked for yet. The place is then behind the
