@@ -12,7 +12,8 @@ use elf_record::Dyn;
 /// before the name is the last byte.
 pub fn dynamic_front(index: u64, entry: &Dyn) -> Line
     // A tag is read as a signed number, and shown as its bits.
-    ensures { (file : List ℕ) (at : ℕ) → IsDyn file at entry.now → result.items ≡ dynamic_front file at index }
+    ensures { (file : List ℕ) (at : ℕ) → IsDyn file at entry.now →
+        result.items ≡ dynamic_front file at index }
 {
     let tag = entry.d_tag.cast_unsigned();
     let mut line = Line::new();

@@ -17,7 +17,8 @@ const EM_X86_64: u16 = 62;
 /// machine, symbol and addend. The space before the name is the last byte.
 #[tactic(auto, unfolding(elf_model::specs::LineFronts::relocation_front))]
 pub fn relocation_front(section: u16, machine: u16, entry: &Rela) -> Line
-    ensures { (file : List ℕ) (at : ℕ) → IsRela file at entry.now → result.items ≡ relocation_front file at machine section }
+    ensures { (file : List ℕ) (at : ℕ) → IsRela file at entry.now →
+        result.items ≡ relocation_front file at machine section }
 {
     let mut line = Line::new();
     put(&mut line, b"R ");

@@ -14,7 +14,8 @@ use elf_record::{SectionFlags, Shdr};
 /// link and info. The space before the name is the last byte.
 #[tactic(auto, unfolding(elf_model::specs::LineFronts::section_front, elf_model::specs::NameTables::section_type_text))]
 pub fn section_front(index: u16, header: &Shdr) -> Line
-    ensures { (file : List ℕ) (at : ℕ) → IsShdr file at header.now → result.items ≡ section_front file at index }
+    ensures { (file : List ℕ) (at : ℕ) → IsShdr file at header.now →
+        result.items ≡ section_front file at index }
 {
     let mut line = Line::new();
     put(&mut line, b"S ");
@@ -39,8 +40,8 @@ pub fn section_front(index: u16, header: &Shdr) -> Line
     line
 }
 
-/// The letters of a section's flags, and a question mark where any other bit is set (gABI 4, Section
-/// Attribute Flags).
+/// The letters of a section's flags, and a question mark where any other bit is set (gABI 4,
+/// Section Attribute Flags).
 fn section_letters(bits: u64) -> Line
     ensures text { result.items ≡ section_flags_text bits }
     ensures short { array_vec_len result ≤ 12 }

@@ -1,5 +1,6 @@
 //! The lines of program headers.
-ghost use Rattle.std.specs.Prelude.{◌≡◌, ◌+◌, ◌≤◌, ◌++◌, ◌∷◌, [], if◌then◌else◌, ℕ, List, length, codes, IfSome, option_copied};
+ghost use Rattle.std.specs.Prelude.{◌≡◌, ◌+◌, ◌≤◌, ◌++◌, ◌∷◌, [], if◌then◌else◌, ℕ, List, length};
+ghost use Rattle.std.specs.Prelude.{codes, IfSome, option_copied};
 ghost use Rattle.arrayvec.specs.ArrayVec.{array_vec_len};
 ghost use Rattle.elf_model.specs.Text.{name_of};
 ghost use Rattle.elf_model.specs.NameTables.{segment_types, segment_flags_text};
@@ -14,7 +15,8 @@ use elf_record::{Phdr, SegmentFlags};
 /// address, size in the file and in memory, and alignment.
 #[tactic(auto, unfolding(elf_model::specs::Lines::segment_line, elf_model::specs::NameTables::segment_type_text))]
 pub fn segment_row(index: u16, header: &Phdr) -> Line
-    ensures { (file : List ℕ) (at : ℕ) → IsPhdr file at header.now → result.items ≡ segment_line file at index }
+    ensures { (file : List ℕ) (at : ℕ) → IsPhdr file at header.now →
+        result.items ≡ segment_line file at index }
 {
     let mut line = Line::new();
     put(&mut line, b"P ");

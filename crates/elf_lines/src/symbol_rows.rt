@@ -1,5 +1,5 @@
 //! The lines of symbols.
-ghost use Rattle.std.specs.Prelude.{◌≡◌, ◌^◌, ◌<◌, ◌≤◌, ℕ, List, length, is_err, IfSome, option_copied};
+ghost use Rattle.std.specs.Prelude.{◌≡◌, ◌≤◌, ℕ, List, length, IfSome, option_copied};
 ghost use Rattle.elf_model.specs.Text.{name_of};
 ghost use Rattle.elf_model.specs.NameTables.{symbol_types, bindings, visibilities, places};
 ghost use Rattle.elf_model.specs.LineFronts.{symbol_front};
@@ -17,7 +17,8 @@ use elf_source::{Out, OutFault, Sink};
 /// binding, visibility and place. The space before the name is the last byte.
 #[tactic(auto, unfolding(elf_model::specs::LineFronts::symbol_front))]
 pub fn symbol_front(section: u16, index: u64, symbol: &Sym) -> Line
-    ensures { (file : List ℕ) (at : ℕ) → IsSym file at symbol.now → result.items ≡ symbol_front file at section index }
+    ensures { (file : List ℕ) (at : ℕ) → IsSym file at symbol.now →
+        result.items ≡ symbol_front file at section index }
 {
     let mut line = Line::new();
     put(&mut line, b"Y ");
@@ -64,11 +65,9 @@ pub fn show_symbol<W: Sink>(
     name: &[u8],
     out: &mut Out<W>,
 ) -> Result<(), OutFault>
-    ensures line { (file : List ℕ) (at : ℕ) → IsSym file at symbol.now →
-        Puts (W.taken out.old.sink) (W.taken out.new.sink) out.old.written out.new.written result
-        (named_line (symbol_front file at section index) (Whole name.now)) }
-    ensures fails { W.failed out.new.sink ≡ is_err result }
-    ensures fits { out.new.written < 2 ^ 128 }
+    ensures puts { (file : List ℕ) (at : ℕ) → IsSym file at symbol.now →
+        let front = symbol_front file at section index in
+        Puts out.old out.new result (named_line front (Whole name.now)) }
 {
     show_named(symbol_front(section, index, symbol), name, false, out)
 }

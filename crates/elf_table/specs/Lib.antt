@@ -1,5 +1,6 @@
 pub mod Cursors
 pub mod Faults
+pub mod Files
 pub mod Load
 pub mod NamesRead
 pub mod Permitted

@@ -33,8 +33,8 @@ impl Caps {
     ghost use Rattle.std.specs.Prelude.{◌≡◌, None, Some};
     ghost use Rattle.elf_table.specs.Permitted.{Permits};
 
-    /// The caps of 1 to 65,279 headers and 1 to 4,096 bytes of a name, with no limit on what is read;
-    /// None for other numbers.
+    /// The caps of 1 to 65,279 headers and 1 to 4,096 bytes of a name, with no limit on what is
+    /// read; None for other numbers.
     pub fn new(headers: u16, name: u16) -> Option<Caps>
         ensures { Permits headers name result }
     {

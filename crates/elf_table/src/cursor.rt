@@ -80,7 +80,8 @@ impl Cursor {
         ensures reads { Reads src.old src.new (unread_bytes self.old) }
         ensures says { self.old.failed ≡ None →
             IfErr result (Says src.old src.new (unread_bytes self.old)) }
-        ensures account { src.new.asked + unread_bytes self.new ≤ src.old.asked + unread_bytes self.old }
+        ensures account { src.new.asked + unread_bytes self.new
+            ≤ src.old.asked + unread_bytes self.old }
         ensures steps { Advances src.old.seen.file self.old self.new result }
         ensures again { (fault : Fault) → self.old.failed ≡ Some fault →
             (result ≡ Err fault) × (src.new ≡ src.old) × (self.new ≡ self.old) }

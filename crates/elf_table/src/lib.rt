@@ -1,5 +1,6 @@
-//! The tables of an ELF64 file: the file header, the store of section headers, the checks of a load,
-//! cursors over tables, and names in string tables. No call takes memory but `HeaderStore::new`.
+//! The tables of an ELF64 file: the file header, the store of section headers, the checks of a
+//! load, cursors over tables, and names in string tables. No call takes memory but
+//! `HeaderStore::new`.
 #![tactic(auto)]
 
 mod buffers;

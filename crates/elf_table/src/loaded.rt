@@ -44,9 +44,10 @@ impl Loaded {
         self.size
     }
 
-    /// The file header.
+    /// The file header, whose headers lie within the file.
     pub fn header(&self) -> Ehdr
-        ensures { result ≡ self.now.header }
+        ensures value { result ≡ self.now.header }
+        ensures passes { Passes self.now.size 65279 self.now.header }
     {
         self.header
     }

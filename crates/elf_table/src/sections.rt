@@ -1,10 +1,12 @@
 //! The checks of a loaded file's sections.
 ghost use Rattle.std.specs.Prelude.{◌≡◌, ℕ, ◌<◌, ◌≤◌, List, None, Ok, IfOk, IfErr, IfSome};
-ghost use Rattle.elf_model.specs.Records.{section_at, sh_size};
+ghost use Rattle.elf_model.specs.Records.{section_at};
 ghost use Rattle.elf_record.specs.Shdr.{IsShdr};
 ghost use Rattle.elf_table.specs.Load.{Belongs, Passes, section_place};
 ghost use Rattle.elf_table.specs.Faults.{IsOfCheck};
-ghost use Rattle.elf_table.specs.Sections.{bytes_of, table_of, table_at, strings_at, section_names, symbols_at, linked_at, relocations_at};
+ghost use Rattle.elf_table.specs.Files.{Tells, program_headers, table_in, size_in};
+ghost use Rattle.elf_table.specs.Sections.{bytes_of, table_at, strings_at, section_names};
+ghost use Rattle.elf_table.specs.Sections.{symbols_at, linked_at, relocations_at};
 ghost use Rattle.elf_table.specs.Store.{row};
 ghost use Rattle.elf_table.specs.Tables.{RowsWithin, StringsWithin, SymbolsWithin, size_of};
 
@@ -36,10 +38,10 @@ impl File<'_> {
         self.store.section(section)
     }
 
-    /// The program headers, rows of 56 bytes, at most 65,279; none where e_phnum is 0 (gABI 5, Program
-    /// Header).
+    /// The program headers, rows of 56 bytes, at most 65,279; none where e_phnum is 0 (gABI 5,
+    /// Program Header).
     pub fn segments(&self) -> Table
-        ensures value { result ≡ record { at = self.now.loaded.header.e_phoff; count = self.now.loaded.header.e_phnum; entry = 56 } }
+        ensures value { result ≡ program_headers self.now.loaded.header }
         ensures few { result.count ≤ 65279 }
         ensures within { RowsWithin self.now.loaded.size result }
     {
@@ -50,8 +52,8 @@ impl File<'_> {
         )
     }
 
-    /// `size` bytes of the file from `offset` on, as rows of one byte; none are not checked. A refusal
-    /// names `at`.
+    /// `size` bytes of the file from `offset` on, as rows of one byte; none are not checked. A
+    /// refusal names `at`.
     ///
     /// # Errors
     /// `TableOutside` at `at` where they end past the end of the file.
@@ -65,21 +67,22 @@ impl File<'_> {
         Ok(Table::new(offset, size, 1))
     }
 
-    /// The section as a table of rows of `entry` bytes. One of size 0 is not checked. No bytes are read.
+    /// The section as a table of rows of `entry` bytes. One of size 0 is not checked. No bytes are
+    /// read.
     ///
     /// # Errors
     /// The first check that fails, at the section's header: `EntrySize` where sh_entsize is another
-    /// size, `SizeNotWhole` where sh_size is no multiple of it, `TableOutside` where the section ends
-    /// past the end of the file.
+    /// size, `SizeNotWhole` where sh_size is no multiple of it, `TableOutside` where the section
+    /// ends past the end of the file.
     pub fn table(&self, section: u16, entry: u64) -> Result<Table, Fault>
         requires below { section < self.now.store.now.loaded }
         requires some { 0 < entry }
         requires small { entry ≤ 4096 }
-        ensures value { result ≡ table_of (row self.now.store.now section) 0 self.now.loaded.size (section_place self.now.loaded.header section) entry }
-        ensures held { (file : List ℕ) → Belongs file self.now.loaded self.now.store.now → result ≡ table_at file (section_at file section) entry }
+        ensures value { result ≡ table_in self.now section entry }
+        ensures held { Tells self.now section result (λ file at. table_at file at entry) }
         ensures within { IfOk result (RowsWithin self.now.loaded.size) }
         ensures entry { IfOk result (λ table. table.entry ≡ entry) }
-        ensures sized { IfOk result (λ table. size_of table ≡ sh_size (row self.now.store.now section) 0) }
+        ensures sized { IfOk result (λ table. size_of table ≡ size_in self.now section) }
     {
         checked_table(
             &self.store.section(section),
@@ -89,16 +92,16 @@ impl File<'_> {
         )
     }
 
-    /// The string table that a section refers to by its sh_link. It is checked at every size. No bytes
-    /// are read (gABI 4, String Table).
+    /// The string table that a section refers to by its sh_link. It is checked at every size. No
+    /// bytes are read (gABI 4, String Table).
     ///
     /// # Errors
-    /// The first check that fails: `BadLink` at the header of `section` where its link is 0 or names no
-    /// section; `NotStrings` where the linked section is no string table, and `TableOutside` where it
-    /// ends past the end of the file, both at the linked section's header.
+    /// The first check that fails: `BadLink` at the header of `section` where its link is 0 or
+    /// names no section; `NotStrings` where the linked section is no string table, and
+    /// `TableOutside` where it ends past the end of the file, both at the linked section's header.
     pub fn strings(&self, section: u16) -> Result<Names, Fault>
         requires below { section < self.now.store.now.loaded }
-        ensures held { (file : List ℕ) → Belongs file self.now.loaded self.now.store.now → result ≡ strings_at file (section_at file section) }
+        ensures held { Tells self.now section result strings_at }
         ensures within { IfOk result (StringsWithin self.now.loaded.size) }
         ensures refusal { IfErr result IsOfCheck }
     {
@@ -107,16 +110,21 @@ impl File<'_> {
             return refused(self.place(section), Cause::BadLink);
         }
         let link = link as u16;
-        checked_strings(&self.store.section(link), self.loaded.size(), self.place(link))
+        checked_strings(
+            &self.store.section(link),
+            self.loaded.size(),
+            self.place(link),
+        )
     }
 
     /// The string table of the section names; None where e_shnum or e_shstrndx is 0 (gABI 4, ELF
     /// Header). No bytes are read.
     ///
-    /// It lies within the file, as `load` checked. With the headers of another file in the store it may
-    /// not, and then the answer is None too.
+    /// It lies within the file, as `load` checked. With the headers of another file in the store it
+    /// may not, and then the answer is None too.
     pub fn names(&self) -> Option<Names>
-        ensures held { (file : List ℕ) → Belongs file self.now.loaded self.now.store.now → result ≡ section_names file }
+        ensures held { (file : List ℕ) → Belongs file self.now.loaded self.now.store.now →
+            result ≡ section_names file }
         ensures within { IfSome result (StringsWithin self.now.loaded.size) }
         ensures none { self.now.loaded.header.e_shnum ≡ 0 → result ≡ None }
         ensures unnamed { self.now.loaded.header.e_shstrndx ≡ 0 → result ≡ None }
@@ -131,19 +139,18 @@ impl File<'_> {
         Some(Names::new(section.sh_offset, section.sh_size))
     }
 
-    /// The symbols of a section, rows of 24 bytes, and the string table with their names; two empty ones
-    /// where the section is empty, with no check. The section's type is not looked at. No bytes are
-    /// read (gABI 4, Symbol Table).
+    /// The symbols of a section, rows of 24 bytes, and the string table with their names; two empty
+    /// ones where the section is empty, with no check. The section's type is not looked at. No
+    /// bytes are read (gABI 4, Symbol Table).
     ///
     /// # Errors
     /// The first check that fails: those of [`File::table`], then those of [`File::strings`].
     pub fn symbols(&self, section: u16) -> Result<(Table, Names), Fault>
         requires below { section < self.now.store.now.loaded }
-        ensures held { (file : List ℕ) → Belongs file self.now.loaded self.now.store.now → result ≡ symbols_at file (section_at file section) }
-        ensures table { IfOk result (λ symbols. Ok symbols.0 ≡ table_of (row self.now.store.now section) 0 self.now.loaded.size (section_place self.now.loaded.header section) 24) }
-        ensures sized { IfOk result (λ symbols. size_of symbols.0 ≡ sh_size (row self.now.store.now section) 0) }
-        ensures entry { IfOk result (λ symbols. symbols.0.entry ≡ 24) }
-        ensures within { IfOk result (λ symbols. RowsWithin self.now.loaded.size symbols.0 × StringsWithin self.now.loaded.size symbols.1) }
+        ensures held { Tells self.now section result symbols_at }
+        ensures table { IfOk result (λ symbols. Ok symbols.0 ≡ table_in self.now section 24) }
+        ensures sized { IfOk result (λ symbols. size_of symbols.0 ≡ size_in self.now section) }
+        ensures within { IfOk result (SymbolsWithin self.now.loaded.size) }
         ensures refusal { IfErr result IsOfCheck }
     {
         let table = self.table(section, SYMBOL_BYTES)?;
@@ -155,16 +162,16 @@ impl File<'_> {
         Ok((table, names))
     }
 
-    /// The symbols that a section of relocations refers to by its sh_link, with their names; None where
-    /// that names no section of symbols (gABI 4, Relocation). No bytes are read.
+    /// The symbols that a section of relocations refers to by its sh_link, with their names; None
+    /// where that names no section of symbols (gABI 4, Relocation). No bytes are read.
     ///
     /// # Errors
     /// Those of [`File::symbols`] at the linked section.
     pub fn linked(&self, section: u16) -> Result<Option<(Table, Names)>, Fault>
         requires below { section < self.now.store.now.loaded }
-        ensures held { (file : List ℕ) → Belongs file self.now.loaded self.now.store.now → result ≡ linked_at file (section_at file section) }
-        ensures entry { IfOk result (λ linked. IfSome linked (λ symbols. symbols.0.entry ≡ 24)) }
-        ensures within { IfOk result (λ linked. IfSome linked (λ symbols. RowsWithin self.now.loaded.size symbols.0 × StringsWithin self.now.loaded.size symbols.1)) }
+        ensures held { Tells self.now section result linked_at }
+        ensures within { IfOk result (λ linked.
+            IfSome linked (SymbolsWithin self.now.loaded.size)) }
         ensures refusal { IfErr result IsOfCheck }
     {
         let link = self.store.section(section).sh_link;
@@ -179,22 +186,20 @@ impl File<'_> {
         Ok(Some(symbols))
     }
 
-    /// The relocation entries of a section, rows of 24 bytes, and the symbols that they refer to, as
-    /// [`File::linked`] answers; no rows and None where the section is empty, with no check. The
+    /// The relocation entries of a section, rows of 24 bytes, and the symbols that they refer to,
+    /// as [`File::linked`] answers; no rows and None where the section is empty, with no check. The
     /// section's type is not looked at. No bytes are read (gABI 4, Relocation).
     ///
     /// # Errors
     /// The first check that fails: those of [`File::table`], then those of [`File::linked`].
-    pub fn relocations(
-        &self,
-        section: u16,
-    ) -> Result<(Table, Option<(Table, Names)>), Fault>
+    pub fn relocations(&self, section: u16) -> Result<(Table, Option<(Table, Names)>), Fault>
         requires below { section < self.now.store.now.loaded }
-        ensures held { (file : List ℕ) → Belongs file self.now.loaded self.now.store.now → result ≡ relocations_at file (section_at file section) }
-        ensures table { IfOk result (λ found. Ok found.0 ≡ table_of (row self.now.store.now section) 0 self.now.loaded.size (section_place self.now.loaded.header section) 24) }
+        ensures held { Tells self.now section result relocations_at }
+        ensures table { IfOk result (λ found. Ok found.0 ≡ table_in self.now section 24) }
         ensures entry { IfOk result (λ found. found.0.entry ≡ 24) }
         ensures within { IfOk result (λ found. RowsWithin self.now.loaded.size found.0) }
-        ensures linked { IfOk result (λ found. IfSome found.1 (SymbolsWithin self.now.loaded.size)) }
+        ensures linked { IfOk result (λ found.
+            IfSome found.1 (SymbolsWithin self.now.loaded.size)) }
         ensures refusal { IfErr result IsOfCheck }
     {
         let table = self.table(section, RELOCATION_BYTES)?;

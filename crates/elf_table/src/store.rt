@@ -1,11 +1,12 @@
 //! The store of section headers: the one thing here that takes memory.
-ghost use Rattle.std.specs.Prelude.{◌≡◌, ℕ, ◌+◌, ◌*◌, ◌^◌, if◌then◌else◌, is_ok, ◌<◌, ◌≤◌, List, [], Some, length, take, IfOk, IfErr, OnOk};
+ghost use Rattle.std.specs.Prelude.{◌≡◌, ℕ, ◌+◌, ◌*◌, ◌^◌, if◌then◌else◌, is_ok, ◌<◌, ◌≤◌};
+ghost use Rattle.std.specs.Prelude.{List, [], Some, length, take, IfOk, IfErr, OnOk};
 ghost use Rattle.elf_model.specs.Bytes.{slice};
 ghost use Rattle.elf_model.specs.Records.{section_at};
 ghost use Rattle.elf_record.specs.Shdr.{IsShdr};
 ghost use Rattle.elf_source.specs.Source.{Reads};
 ghost use Rattle.elf_table.specs.Faults.{Says, IsOfRead};
-ghost use Rattle.elf_table.specs.Store.{row, AreRows, Holds};
+ghost use Rattle.elf_table.specs.Store.{emptied, row, AreRows, Holds};
 
 use crate::fault::Fault;
 use crate::filling::fill;
@@ -33,9 +34,15 @@ impl Model for HeaderStore {
 
     ghost Value = { Stored };
 
-    ghost view = { λ s. record { slots = s.slots; loaded = s.loaded; rows = rows_from s.bytes.items 0 64 s.loaded } };
+    ghost view = { λ s. record {
+      slots = s.slots;
+      loaded = s.loaded;
+      rows = rows_from s.bytes.items 0 64 s.loaded;
+    } };
 
-    ghost invariant = { λ s. (vec_len s.bytes ≡ 64 * s.slots) × (s.loaded ≤ s.slots) × (1 ≤ s.slots) × (s.slots ≤ 65279) };
+    ghost invariant = { λ s.
+        (vec_len s.bytes ≡ 64 * s.slots) × (s.loaded ≤ s.slots)
+        × (1 ≤ s.slots) × (s.slots ≤ 65279) };
 }
 
 impl HeaderStore {
@@ -85,7 +92,8 @@ impl HeaderStore {
     pub fn section(&self, i: u16) -> Shdr
         requires { i < self.now.loaded }
         ensures fields { IsShdr (row self.now i) 0 result }
-        ensures stands { (file : List ℕ) → Holds file self.now → IsShdr file (section_at file i) result }
+        ensures stands { (file : List ℕ) → Holds file self.now →
+            IsShdr file (section_at file i) result }
     {
         Shdr::decode(self.row(i))
     }
@@ -126,7 +134,7 @@ impl HeaderStore {
 
     /// Lets go of the section headers that are loaded.
     pub(crate) fn forget(&mut self)
-        ensures { self.new ≡ record { slots = self.old.slots; loaded = 0; rows = [] } }
+        ensures { self.new ≡ emptied self.old }
     {
         self.loaded = 0;
     }

@@ -1,5 +1,6 @@
 //! A table of rows of one size.
-ghost use Rattle.std.specs.Prelude.{◌≡◌, ◌↔◌, ℕ, ◌+◌, ◌*◌, ◌^◌, ◌<◌, ◌≤◌, List, Some, IsTrue, IfOk, IfErr};
+ghost use Rattle.std.specs.Prelude.{◌≡◌, ◌↔◌, ℕ, ◌+◌, ◌*◌, ◌^◌, ◌<◌, ◌≤◌};
+ghost use Rattle.std.specs.Prelude.{List, Some, IsTrue, IfOk, IfErr};
 ghost use Rattle.elf_record.specs.Sym.{IsSym};
 ghost use Rattle.elf_source.specs.Source.{Reads};
 ghost use Rattle.elf_table.specs.Cursors.{row_at};
@@ -28,18 +29,19 @@ impl Model for Table {
 
     ghost view = { λ t. record { at = t.at; count = t.count; entry = t.entry } };
 
-    ghost invariant = { λ t. (0 < t.entry) × (t.entry ≤ 4096) × (t.at + t.count * t.entry < 2 ^ 64) };
+    ghost invariant = { λ t.
+        (0 < t.entry) × (t.entry ≤ 4096) × (t.at + t.count * t.entry < 2 ^ 64) };
 
     ghost inverse = { λ t. record { at = t.at; count = t.count; entry = t.entry } };
 }
 
 impl Table {
-    /// A table of `count` rows of `entry` bytes each, 1 to 4,096, from the file offset `at` on. Its end
-    /// `at + count * entry` is an offset below 2^64.
+    /// A table of `count` rows of `entry` bytes each, 1 to 4,096, from the file offset `at` on. Its
+    /// end `at + count * entry` is an offset below 2^64.
     ///
     /// No file is looked at, and the table has had no check: it may lie past the end of a file. The
-    /// calls that read through it, [`Table::symbol`] and those of a `Cursor` over it, have the condition
-    /// that a table with rows ends at or below the source's length.
+    /// calls that read through it, [`Table::symbol`] and those of a `Cursor` over it, have the
+    /// condition that a table with rows ends at or below the source's length.
     pub fn new(at: u64, count: u64, entry: u64) -> Table
         requires some { 0 < entry }
         requires small { entry ≤ 4096 }
