@@ -1,9 +1,9 @@
+pub mod NameWindows
 pub mod PagesRead
 pub mod Paging
 pub mod Pieces
 pub mod RowsHeld
 pub mod SaysLaws
-pub mod SaysOfReads
 pub mod SectionLaws
 pub mod Shown
 pub mod Standing

@@ -19,7 +19,7 @@ use std::marker::Model;
 pub struct Cursor {
     table: Table,
     index: u64,
-    window: Window,
+    window: Window<WINDOW_BYTES>,
     shown: u64,
     failed: Option<Fault>,
 }
@@ -32,9 +32,20 @@ impl Model for Cursor {
 
     ghost Value = { Reading };
 
-    ghost view = { λ c. record { table = c.table; index = c.index; left = c.table.count - c.index; unread = c.window.unread; held = drop c.shown c.window.held; row = take c.shown c.window.held; failed = c.failed } };
+    ghost view = { λ c. record {
+      table = c.table;
+      index = c.index;
+      left = c.table.count - c.index;
+      unread = c.window.unread;
+      held = drop c.shown c.window.held;
+      row = take c.shown c.window.held;
+      failed = c.failed;
+    } };
 
-    ghost invariant = { λ c. (c.index ≤ c.table.count) × (c.shown ≤ length c.window.held) × (c.window.page ≡ page_of c.table.entry) × (range_end c.window ≡ c.table.at + size_of c.table) × (c.failed ≡ None → Stands c.table c.index c.shown c.window) };
+    ghost invariant = { λ c. (c.index ≤ c.table.count) × (c.shown ≤ length c.window.held)
+        × (c.window.page ≡ page_of c.table.entry)
+        × (range_end c.window ≡ c.table.at + size_of c.table)
+        × (c.failed ≡ None → Stands c.table c.index c.shown c.window) };
 }
 
 impl Cursor {
@@ -69,8 +80,8 @@ impl Cursor {
         ensures reads { Reads src.old src.new (unread_bytes self.old) }
         ensures says { self.old.failed ≡ None →
             IfErr result (Says src.old src.new (unread_bytes self.old)) }
-        ensures account {
-            src.new.asked + unread_bytes self.new ≤ src.old.asked + unread_bytes self.old }
+        ensures account { src.new.asked + unread_bytes self.new
+            ≤ src.old.asked + unread_bytes self.old }
         ensures steps { Advances src.old.seen.file self.old self.new result }
         ensures again { (fault : Fault) → self.old.failed ≡ Some fault →
             (result ≡ Err fault) × (src.new ≡ src.old) × (self.new ≡ self.old) }
@@ -133,7 +144,7 @@ impl Cursor {
             (result ≡ Err fault) × (src.new ≡ src.old) }
         ensures* after { sem 𝓛 (follows_so the_row the_row self.entry.ghost_name none (λ _ _. ⊤)
             (λ new. (src.new.asked + unread_bytes new ≤ src.old.asked + unread_bytes self.old)
-                × Steps src.old.seen.file self.old new result)) }
+            × Steps src.old.seen.file self.old new result)) }
     {
         if !self.advance(src)? {
             return Ok(None);

@@ -9,8 +9,8 @@ ghost use Rattle.elf_table.specs.Tables.{StringsWithin, strings_in};
 
 use crate::caps::Cap;
 use crate::fault::Fault;
-use crate::filling::fill;
 use crate::name_buf::NameBuf;
+use crate::window::Window;
 use elf_record::{Cause, Refusal};
 use elf_source::{Counted, Source};
 use memchr::memchr;
@@ -170,18 +170,19 @@ fn search<S: Source>(
     ensures searched { (file : List ℕ) → src.old.seen.file ≡ Some file →
         Searched (slice file start want) cap.bytes result name.new }
 {
-    let mut bytes = [0; PIECE];
+    let mut window: Window<PIECE> = Window::new(start, want, PIECE as u64);
     let mut done: u64 = 0;
     while done < want {
-        let count = (want - done).min(PIECE as u64) as usize;
-        let piece = &mut bytes[..count];
-        fill(src, start + done, piece)?;
+        window.bring(src, 1)?;
+        let piece = window.front();
+        let count = piece.len() as u64;
         if let Some(place) = memchr(0, piece) {
             name.add(&piece[..place], cap);
             return Ok(true);
         }
         name.add(piece, cap);
-        done += count as u64;
+        window.skip(count);
+        done += count;
     }
     Ok(false)
 }
@@ -203,16 +204,17 @@ fn matches<S: Source>(
     ensures matched { (file : List ℕ) → src.old.seen.file ≡ Some file →
         Matched (slice file start want) wanted.now result }
 {
-    let mut bytes = [0; PIECE];
+    let mut window: Window<PIECE> = Window::new(start, want, PIECE as u64);
     let mut done: u64 = 0;
     while done < want {
-        let count = (want - done).min(PIECE as u64) as usize;
-        let piece = &mut bytes[..count];
-        fill(src, start + done, piece)?;
+        window.bring(src, 1)?;
+        let piece = window.front();
+        let count = piece.len() as u64;
         if !agrees(piece, wanted, done as usize) {
             return Ok(false);
         }
-        done += count as u64;
+        window.skip(count);
+        done += count;
     }
     Ok(true)
 }
@@ -221,8 +223,10 @@ fn matches<S: Source>(
 fn agrees(piece: &[u8], wanted: &[u8], done: usize) -> bool
     requires { done + length piece.now < 2 ^ 64 }
     ensures { MatchBool result
-        ((k : ℕ) → k < length piece.now → slice_index piece.now k ≡ slice_index wanted.now (done + k))
-        ((k : ℕ) × (k < length piece.now) × (slice_index piece.now k ≢ slice_index wanted.now (done + k))) }
+        ((k : ℕ) → k < length piece.now →
+        slice_index piece.now k ≡ slice_index wanted.now (done + k))
+        ((k : ℕ) × (k < length piece.now)
+        × (slice_index piece.now k ≢ slice_index wanted.now (done + k))) }
 {
     for (i, byte) in piece.iter().enumerate() {
         if *byte != byte_or_nul(wanted, done + i) {

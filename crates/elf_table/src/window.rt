@@ -11,38 +11,45 @@ use elf_source::{Counted, Source};
 use std::marker::Model;
 
 /// How many bytes a window holds at most.
-pub const WINDOW_BYTES: usize = 4096;
+pub(crate) const WINDOW_BYTES: usize = 4096;
 
 /// A window over a range of a file: a place, and the bytes that were read ahead from there on. Each
-/// byte of the range is asked for at most once, in order, and none past the range's end. Whole pages
-/// are read, as many bytes as the window was told, or as are left.
+/// byte of the range is asked for at most once, in order, and none past the range's end. Pages are
+/// read, of as many bytes as the window was told, at most `N` and 4,096, or of all that are left.
 #[derive(Drop)]
-pub struct Window {
+pub struct Window<const N: usize> {
     at: u64,
     unread: u64,
     page: u64,
     from: u64,
     held: u64,
-    bytes: [u8; WINDOW_BYTES],
+    bytes: [u8; N],
 }
 
-impl Model for Window {
+impl<const N: usize> Model for Window<N> {
     ghost use Rattle.std.specs.Prelude.{◌+◌, ◌^◌, ◌<◌, ◌≤◌};
     ghost use Rattle.elf_model.specs.Bytes.{slice};
     ghost use Rattle.elf_table.specs.Windows.{Ahead};
 
     ghost Value = { Ahead };
 
-    ghost view = { λ w. record { at = w.at; held = slice w.bytes w.from w.held; unread = w.unread; page = w.page } };
+    ghost view = { λ w. record {
+      at = w.at;
+      held = slice w.bytes w.from w.held;
+      unread = w.unread;
+      page = w.page;
+    } };
 
-    ghost invariant = { λ w. (w.page ≤ 4096) × (w.from + w.held ≤ w.page) × (w.at + w.held + w.unread < 2 ^ 64) };
+    ghost invariant = { λ w. (w.page ≤ N) × (w.page ≤ 4096) × (w.from + w.held ≤ w.page)
+        × (w.at + w.held + w.unread < 2 ^ 64) };
 }
 
-impl Window {
-    /// A window before the first of the `size` bytes from the offset `at` on, which asks for at most
-    /// `page` bytes at once, 4,096 or fewer.
-    pub fn new(at: u64, size: u64, page: u64) -> Window
+impl<const N: usize> Window<N> {
+    /// A window before the first of the `size` bytes from the offset `at` on, which asks for at
+    /// most `page` bytes at once, no more than `N` and no more than 4,096.
+    pub fn new(at: u64, size: u64, page: u64) -> Window<N>
         requires ends { at + size < 2 ^ 64 }
+        requires fits { page ≤ N }
         requires small { page ≤ 4096 }
         ensures { result ≡ record { at = at; held = []; unread = size; page = page } }
     {
@@ -52,7 +59,7 @@ impl Window {
             page,
             from: 0,
             held: 0,
-            bytes: [0; WINDOW_BYTES],
+            bytes: [0; N],
         }
     }
 
@@ -77,11 +84,12 @@ impl Window {
         ensures { result.now ≡ self.now.held }
     {
         let end = self.from + self.held;
-        &self.bytes[self.from as usize..end as usize]
+        let bytes = &self.bytes[..];
+        &bytes[self.from as usize..end as usize]
     }
 
-    /// Holds at least `count` bytes: those that it holds, where they are enough, and else a page, or
-    /// all bytes that are left.
+    /// Holds at least `count` bytes: those that it holds, where they are enough, and else a page,
+    /// or all bytes that are left.
     ///
     /// # Errors
     /// A fault of a read at the first byte that was not asked for yet. The place is then behind the
@@ -139,7 +147,8 @@ impl Window {
         let end = self.held + size;
         let place = self.at + self.held;
         self.unread -= size;
-        if let Err(fault) = fill(src, place, &mut self.bytes[self.held as usize..end as usize]) {
+        let bytes = &mut self.bytes[..];
+        if let Err(fault) = fill(src, place, &mut bytes[self.held as usize..end as usize]) {
             self.at = place + size;
             self.held = 0;
             return Err(fault);
@@ -150,8 +159,8 @@ impl Window {
 }
 
 // Moves the `held` bytes from the place `from` on to the front.
-fn gather(bytes: &mut [u8; WINDOW_BYTES], from: usize, held: usize)
-    requires { from + held ≤ 4096 }
+fn gather<const N: usize>(bytes: &mut [u8; N], from: usize, held: usize)
+    requires { from + held ≤ N }
     ensures { take held bytes.new ≡ slice bytes.old from held }
 {
     bytes.copy_within(from..from + held, 0);

@@ -1,6 +1,5 @@
 -- The window stands at the row that was shown: it is passed over, and then the next is held.
-use Rattle.std.proofs.Common.{◌≡◌, ◌<◌, None, rules, ap, refl, sym, ◌∙◌, arith}
-use Rattle.elf_table.specs.Cursors.{Stands, Fails}
+use Rattle.std.proofs.Common.{◌≡◌, ◌<◌, None, rules, refl, ◌∙◌, arith}
 use Rattle.elf_table.proofs.Standing.{Stands-skip, Stands-next, fault_at_row, Gives-next}
 use Rattle.elf_table.proofs.cursor.Cursor.advance.Goals as goal
 

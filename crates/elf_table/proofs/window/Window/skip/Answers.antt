@@ -1,11 +1,11 @@
-use Rattle.std.proofs.Common.{◌≡◌, ℕ, length, arith}
+use Rattle.std.proofs.Common.{◌≡◌, length, arith}
 use Rattle.elf_model.specs.Bytes.{slice}
 use Rattle.elf_model.proofs.Slices.{slice-size}
 use Rattle.elf_table.proofs.Paging.{Agrees-passed}
 use Rattle.elf_table.proofs.window.Window.skip.Goals as goal
 
 pub returns-clause-agrees : goal.returns-clause-agrees
-returns-clause-agrees c = λ file a.
+returns-clause-agrees g c = λ file a.
     let i = c.self.inside in
     let inv = c.self.invariant in
     let told = c.self.told in
