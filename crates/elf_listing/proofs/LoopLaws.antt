@@ -1,5 +1,5 @@
 -- The loops of a listing: over a cursor's rows, and over the sections.
-use Rattle.std.proofs.Common.{◌≡◌, ℕ, ◌+◌, ◌*◌, ◌<◌, ◌≤◌, List, [], Option, Some, refl, sym, ap, ◌∙◌, arith, zero-add}
+use Rattle.std.proofs.Common.{◌≡◌, ℕ, ◌+◌, ◌*◌, ◌<◌, ◌≤◌, List, [], Option, None, Some, refl, sym, ap, ◌∙◌, arith, zero-add}
 use Rattle.elf_model.specs.Bytes.{slice}
 use Rattle.elf_model.specs.Cost.{sum_over}
 use Rattle.elf_model.specs.Listing.{Item, each}
@@ -10,7 +10,7 @@ use Rattle.elf_table.specs.Cursors.{Reading, Gives, Agrees, unread_bytes, place,
 use Rattle.elf_table.specs.Tables.{Rows, size_of}
 use Rattle.elf_table.specs.declared.fault.Fault.{Fault}
 use Rattle.elf_table.specs.declared.row.Row.{Row}
-use Rattle.elf_listing.specs.Kinds.{row_size, table_place, IsRowOf}
+use Rattle.elf_listing.specs.Kinds.{row_size, own_cost, rows_cost, table_place, IsRowOf}
 use Rattle.elf_listing.specs.Shows.{Whole, Stopped}
 use Rattle.elf_listing.specs.Stops.{stop_of}
 use Rattle.elf_listing.specs.declared.rows.Kind.{Kind}
@@ -38,11 +38,30 @@ rows_stopped row i count a b c stop below before this =
     let shown = rw (← each-more row i) at (Stopped-then a b c stop (each row 0 i) (row i) before this) in
     rw more.1 (Stopped-more a c stop (each row 0 (i + 1)) more.0 shown)
 
+-- a cursor that holds nothing agrees with every file
+pub agrees_none : (file : List ℕ) (c : Reading) → c.held ≡ [] → Agrees file c
+agrees_none file c none = rw none refl
+
+-- what a new cursor may ask for is its table
+pub account_begins : (c : Reading) (table : Rows) (kind : Kind) (cap : ℕ) → table.entry ≡ row_size kind → c.failed ≡ None → c.unread ≡ size_of table → c.left ≡ table.count
+    → unread_bytes c + c.left * own_cost kind cap ≡ rows_cost kind table cap
+account_begins c table kind cap entry none unread left = rw (none, unread, left, entry) (omega arith)
+
 -- the account of a loop: what was asked for, what is unread, and what the rows that are left ask for stay within a bound
 pub account_step : (old new : Reading) (before after later own bound : ℕ) → new.left + 1 ≡ old.left → after + unread_bytes new ≤ before + unread_bytes old
     → later ≤ after + own → before + (unread_bytes old + old.left * own) ≤ bound → later + (unread_bytes new + new.left * own) ≤ bound
 account_step old new before after later own bound less step more within =
     let product = ap (λ (n : ℕ). n * own) less in omega arith
+
+-- what a row may ask for is left in the bound
+pub account_row : (old new : Reading) (before after own bound : ℕ) → new.left + 1 ≡ old.left → after + unread_bytes new ≤ before + unread_bytes old
+    → before + (unread_bytes old + old.left * own) ≤ bound → after + own ≤ bound
+account_row old new before after own bound less step within =
+    let product = ap (λ (n : ℕ). n * own) less in omega arith
+
+-- the index of the row that a step gave
+pub given_index : {holds : Option (List ℕ)} {old new : Reading} {row : Row} → Gives holds old new → Lends new row → row.index ≡ old.index
+given_index gives lends = omega (arith, lends.its_index, gives.next_index)
 
 -- the row that a step gave
 pub given_row : {holds : Option (List ℕ)} {old new : Reading} {row : Row} (file : List ℕ) (kind : Kind) (table : Rows)

@@ -22,7 +22,6 @@ use Rattle.elf_table.specs.Sections.{answered, rows, table_of, checked}
 use Rattle.elf_table.specs.Store.{Stored, row}
 use Rattle.elf_table.specs.Tables.{Rows, Strings}
 use Rattle.elf_table.specs.declared.fault.Fault.{Fault}
-use Rattle.elf_table.specs.declared.file.File.{File}
 use Rattle.elf_listing.specs.Parts.{tables_listed}
 
 -- as many equal costs
@@ -75,12 +74,10 @@ names_listed true false n count = omega (arith, sum_of_equal 0 count)
 names_listed false named n count = omega arith
 
 -- what is listed of a file that was loaded is within its cost
-pub listed_within : (file : List ℕ) (f : File) (cap parts : ℕ) → Belongs file f.loaded f.store.now
-    → 64 * f.store.now.loaded + tables_listed parts f cap ≤ sections_cost file cap parts + segments_cost file parts + tables_cost file cap parts
+pub listed_within : (file : List ℕ) (loaded : Opened) (store : Stored) (cap parts : ℕ) → Belongs file loaded store
+    → 64 * store.loaded + tables_listed parts loaded store cap ≤ sections_cost file cap parts + segments_cost file parts + tables_cost file cap parts
 unfolding sections_cost segments_cost
-listed_within file f cap parts belongs =
-    let loaded : Opened = f.loaded in
-    let store : Stored = f.store.now in
+listed_within file loaded store cap parts belongs =
     let count : store.loaded ≡ e_shnum file = belongs.count ∙ belongs.header.e_shnum in
     let tables : sum_over (λ i. table_cost (row store i) 0 (length file) cap parts) 0 (e_shnum file) ≡ tables_cost file cap parts =
     rows_cost file (row store) cap parts (λ i below. belongs.rows i (omega arith)) in
@@ -94,11 +91,9 @@ listed_within file f cap parts belongs =
     omega (arith, count, all, entries, names, same, segments)
 
 -- and whatever the store holds, within the ceiling
-pub listed_below : (f : File) (cap parts : ℕ) → f.store.now.loaded ≤ f.store.now.slots → f.loaded.header.e_phnum ≤ f.store.now.slots
-    → 64 + (64 * f.store.now.loaded + tables_listed parts f cap) ≤ ceiling f.loaded.size f.store.now.slots cap
-listed_below f cap parts few some =
-    let loaded : Opened = f.loaded in
-    let store : Stored = f.store.now in
+pub listed_below : (loaded : Opened) (store : Stored) (cap parts : ℕ) → store.loaded ≤ store.slots → loaded.header.e_phnum ≤ store.slots
+    → 64 + (64 * store.loaded + tables_listed parts loaded store cap) ≤ ceiling loaded.size store.slots cap
+listed_below loaded store cap parts few some =
     let listed = names_listed (has parts SECTIONS) (not (loaded.header.e_shstrndx == 0)) (name_bytes cap) store.loaded in
     let names = cost_where-le (has parts SECTIONS && not (loaded.header.e_shstrndx == 0)) (store.loaded * name_bytes cap) in
     let segments = cost_where-le (has parts SEGMENTS) (56 * loaded.header.e_phnum) in
@@ -171,17 +166,17 @@ load_below header size slots cap = by_cases (first_refusal (early_of header size
     by_cases (Some refusal) some = omega (arith, slots_below size slots cap)
 
 -- a file that was loaded is listed within its cost
-pub loaded_within : (file : List ℕ) (f : File) (slots cap parts : ℕ) → Belongs file f.loaded f.store.now → f.store.now.slots ≡ slots
-    → first_refusal (header_checks file) ≡ None → has_tables parts ≡ true → 64 * f.loaded.header.e_shnum + tables_listed parts f cap ≤ behind_header file slots cap parts
-loaded_within file f slots cap parts belongs same passed tables =
-    let early : first_refusal (early_checks file slots) ≡ None = ap (λ n. first_refusal (early_checks file n)) (sym same) ∙ passes_front (early_checks file f.store.now.slots) (section_name_checks file) belongs.passes in
-    rw (tables, loadable file slots passed early) (omega (arith, listed_within file f cap parts belongs, belongs.count))
+pub loaded_within : (file : List ℕ) (loaded : Opened) (store : Stored) (slots cap parts : ℕ) → Belongs file loaded store → store.slots ≡ slots
+    → first_refusal (header_checks file) ≡ None → has_tables parts ≡ true → 64 * loaded.header.e_shnum + tables_listed parts loaded store cap ≤ behind_header file slots cap parts
+loaded_within file loaded store slots cap parts belongs same passed tables =
+    let early : first_refusal (early_checks file slots) ≡ None = ap (λ n. first_refusal (early_checks file n)) (sym same) ∙ passes_front (early_checks file store.slots) (section_name_checks file) belongs.passes in
+    rw (tables, loadable file slots passed early) (omega (arith, listed_within file loaded store cap parts belongs, belongs.count))
 
 -- and within the ceiling, whatever the source is
-pub loaded_below : (f : File) (header : Ehdr) (size slots cap parts : ℕ) → IsOpened f.loaded size header f.store.now → f.store.now.slots ≡ slots
-    → 64 + (64 * header.e_shnum + tables_listed parts f cap) ≤ ceiling size slots cap
-loaded_below f header size slots cap parts opened same =
-    let few : f.loaded.header.e_phnum ≤ f.store.now.slots = rw opened.same_header opened.passes.few_segments in
-    let below = listed_below f cap parts (omega (arith, opened.count, opened.passes.few)) few in
-    let at_size : ceiling f.loaded.size f.store.now.slots cap ≡ ceiling size slots cap = ap (λ n. ceiling n f.store.now.slots cap) opened.same_size ∙ ap (λ n. ceiling size n cap) same in
+pub loaded_below : (loaded : Opened) (store : Stored) (header : Ehdr) (size slots cap parts : ℕ) → IsOpened loaded size header store → store.slots ≡ slots
+    → 64 + (64 * header.e_shnum + tables_listed parts loaded store cap) ≤ ceiling size slots cap
+loaded_below loaded store header size slots cap parts opened same =
+    let few : loaded.header.e_phnum ≤ store.slots = rw opened.same_header opened.passes.few_segments in
+    let below = listed_below loaded store cap parts (omega (arith, opened.count, opened.passes.few)) few in
+    let at_size : ceiling loaded.size store.slots cap ≡ ceiling size slots cap = ap (λ n. ceiling n store.slots cap) opened.same_size ∙ ap (λ n. ceiling size n cap) same in
     omega (arith, below, at_size, opened.count)

@@ -97,3 +97,13 @@ Costs-then a b c out (Err stop) n m k within p q = (Reads-to (Reads-then p q.0) 
 -- a read that failed, in a looser bound
 pub Costs-fault : (a b : Counting) (out : Written) (fault : Fault) (n k : ℕ) → n ≤ k → Reads a b n → Says a b n fault → Costs {X = Unit {0}} a b out (Err (stop_of fault)) k
 Costs-fault a b out fault n k within p q = (Reads-to p (omega (arith, p.at_most)), StopSays-fault a b out fault n k within q)
+
+-- a call in a looser bound
+pub Costs-within : {X : Type 0} (a b : Counting) (out : Written) (result : Result X Stop) (n k : ℕ) → n ≤ k → Costs a b out result n → Costs a b out result k
+Costs-within a b out (Ok x) n k within p = (Reads-to p.0 (omega (arith, p.0.at_most)), tt)
+Costs-within a b out (Err stop) n k within p = (Reads-to p.0 (omega (arith, p.0.at_most)), StopSays-more stop n k within p.1)
+  where
+    StopSays-more : (stop : Stop) (n k : ℕ) → n ≤ k → StopSays a b out n stop → StopSays a b out k stop
+    StopSays-more (Refused refusal) n k within q = λ is. let over = q is in (over.0, OverLimit-more within over.1)
+    StopSays-more (Source fault at) n k within q = q
+    StopSays-more (Out fault) n k within q = q

@@ -6,9 +6,9 @@ use Rattle.elf_model.specs.Names.{Shown, shown, name_bytes}
 use Rattle.elf_model.specs.Records.{e_shnum}
 use Rattle.elf_model.specs.Rows.{no_name, section_row, symbol_rows, relocation_rows}
 use Rattle.elf_model.specs.declared.causes.Cause.{Cause}
-use Rattle.elf_table.specs.Store.{row}
+use Rattle.elf_table.specs.Load.{Opened}
+use Rattle.elf_table.specs.Store.{Stored, row}
 use Rattle.elf_table.specs.Tables.{Strings, strings_in}
-use Rattle.elf_table.specs.declared.file.File.{File}
 use Rattle.elf_listing.specs.declared.parts.Part.{Part}
 use Rattle.elf_listing.specs.declared.parts.Part.TheVariants.{Headers, Symbols, Relocations}
 
@@ -39,26 +39,22 @@ names_cost None cap = 0
 names_cost (Some names) cap = name_bytes cap
 
 -- how many bytes the section of an index asks for at most, by its section header in the store
-abbrev pub section_cost : Part → File → ℕ → ℕ → ℕ
-section_cost Headers f cap section = cost_where (not (f.loaded.header.e_shstrndx == 0)) (name_bytes cap)
-section_cost Symbols f cap section = symbols_cost (row f.store.now section) 0 f.loaded.size cap
-section_cost Relocations f cap section = relocations_cost (row f.store.now section) 0 f.loaded.size cap
+abbrev pub section_cost : Part → Opened → Stored → ℕ → ℕ → ℕ
+section_cost Headers loaded store cap section = cost_where (not (loaded.header.e_shstrndx == 0)) (name_bytes cap)
+section_cost Symbols loaded store cap section = symbols_cost (row store section) 0 loaded.size cap
+section_cost Relocations loaded store cap section = relocations_cost (row store section) 0 loaded.size cap
 
 -- how many bytes all sections ask for at most
-abbrev pub part_cost : Part → File → ℕ → ℕ
-part_cost part f cap = sum_over (section_cost part f cap) 0 f.store.now.loaded
-
--- how many bytes the program headers ask for
-abbrev pub segments_listed : File → ℕ
-segments_listed f = 56 * f.loaded.header.e_phnum
+abbrev pub part_cost : Part → Opened → Stored → ℕ → ℕ
+part_cost part loaded store cap = sum_over (section_cost part loaded store cap) 0 store.loaded
 
 -- how many bytes the tables of a loaded file ask for at most, as far as the parts have them
-abbrev pub tables_listed : ℕ → File → ℕ → ℕ
-tables_listed parts f cap =
-    cost_where (has parts SECTIONS) (part_cost Headers f cap)
-    + cost_where (has parts SEGMENTS) (segments_listed f)
-    + cost_where (has parts SYMBOLS) (part_cost Symbols f cap)
-    + cost_where (has parts RELOCS) (part_cost Relocations f cap)
+abbrev pub tables_listed : ℕ → Opened → Stored → ℕ → ℕ
+tables_listed parts loaded store cap =
+    cost_where (has parts SECTIONS) (part_cost Headers loaded store cap)
+    + cost_where (has parts SEGMENTS) (56 * loaded.header.e_phnum)
+    + cost_where (has parts SYMBOLS) (part_cost Symbols loaded store cap)
+    + cost_where (has parts RELOCS) (part_cost Relocations loaded store cap)
 
 -- no part that is not listed yet: notes, dynamic entries
 abbrev pub AreListed : ℕ → Type 0

@@ -1,11 +1,11 @@
 //! The parts of a listing behind the file header, one after another.
-ghost use Rattle.std.specs.Prelude.{◌≡◌};
+ghost use Rattle.std.specs.Prelude.{◌≡◌, ◌*◌};
 ghost use Rattle.elf_model.specs.Cost.{cost_where};
 ghost use Rattle.elf_model.specs.Listing.{has, where_asked, each, SEGMENTS};
 ghost use Rattle.elf_model.specs.Records.{e_phnum};
 ghost use Rattle.elf_model.specs.Report.{table_items};
 ghost use Rattle.elf_model.specs.Rows.{segment_row};
-ghost use Rattle.elf_listing.specs.Parts.{bit_of, part_cost, part_items, segments_listed, tables_listed, AreListed};
+ghost use Rattle.elf_listing.specs.Parts.{bit_of, part_cost, part_items, tables_listed, AreListed};
 ghost use Rattle.elf_listing.specs.Shows.{Lists, Shows};
 
 use crate::listing::Listing;
@@ -31,8 +31,8 @@ impl<S: Source, W: Sink> Listing<'_, '_, '_, S, W> {
     /// refusal.
     pub(crate) fn tables(&mut self, parts: Parts) -> Result<(), Stop>
         requires { AreListed parts.0 }
-        ensures lists { Lists self.old self.new result
-            (tables_listed parts.0 self.old.file self.old.cap.bytes) }
+        ensures lists { let f = self.old.file in Lists self.old self.new result
+            (tables_listed parts.0 f.loaded f.store.now self.old.cap.bytes) }
         ensures shows { Shows self.old self.new result
             (λ file. table_items file self.old.cap.bytes parts.0) }
     {
@@ -44,8 +44,9 @@ impl<S: Source, W: Sink> Listing<'_, '_, '_, S, W> {
 
     /// Shows a part of each section, where the parts have it.
     fn part(&mut self, parts: Parts, part: Part) -> Result<(), Stop>
-        ensures lists { Lists self.old self.new result
-            (cost_where (has parts.0 (bit_of part)) (part_cost part self.old.file self.old.cap.bytes)) }
+        ensures lists { let f = self.old.file in
+            let cost = part_cost part f.loaded f.store.now self.old.cap.bytes in
+            Lists self.old self.new result (cost_where (has parts.0 (bit_of part)) cost) }
         ensures shows { Shows self.old self.new result
             (λ file. where_asked parts.0 (bit_of part) (part_items part self.old.cap.bytes file)) }
     {
@@ -58,7 +59,7 @@ impl<S: Source, W: Sink> Listing<'_, '_, '_, S, W> {
     /// Shows the program headers, where the parts have them: a `P` line each (gABI 5, Program Header).
     fn segments(&mut self, parts: Parts) -> Result<(), Stop>
         ensures lists { Lists self.old self.new result
-            (cost_where (has parts.0 SEGMENTS) (segments_listed self.old.file)) }
+            (cost_where (has parts.0 SEGMENTS) (56 * self.old.file.loaded.header.e_phnum)) }
         ensures shows { Shows self.old self.new result
             (λ file. where_asked parts.0 SEGMENTS (each (segment_row file) 0 (e_phnum file))) }
     {

@@ -22,7 +22,8 @@ const SHT_RELA: u32 = 4;
 impl<S: Source, W: Sink> Listing<'_, '_, '_, S, W> {
     /// Shows a part of each section in the order of the section headers, up to the first that is refused.
     pub(crate) fn sections(&mut self, part: Part) -> Result<(), Stop>
-        ensures lists { Lists self.old self.new result (part_cost part self.old.file self.old.cap.bytes) }
+        ensures lists { let f = self.old.file in Lists self.old self.new result
+            (part_cost part f.loaded f.store.now self.old.cap.bytes) }
         ensures shows { Shows self.old self.new result (part_items part self.old.cap.bytes) }
     {
         let count = self.file.sections();
@@ -37,8 +38,8 @@ impl<S: Source, W: Sink> Listing<'_, '_, '_, S, W> {
     /// Shows a part of one section.
     fn section(&mut self, part: Part, section: u16) -> Result<(), Stop>
         requires { section < self.old.file.store.now.loaded }
-        ensures lists { Lists self.old self.new result
-            (section_cost part self.old.file self.old.cap.bytes section) }
+        ensures lists { let f = self.old.file in Lists self.old self.new result
+            (section_cost part f.loaded f.store.now self.old.cap.bytes section) }
         ensures shows { Shows self.old self.new result (section_items part self.old.cap.bytes section) }
     {
         match part {
@@ -52,8 +53,8 @@ impl<S: Source, W: Sink> Listing<'_, '_, '_, S, W> {
     /// header (gABI 4, Section Header).
     fn section_row(&mut self, section: u16) -> Result<(), Stop>
         requires { section < self.old.file.store.now.loaded }
-        ensures lists { Lists self.old self.new result
-            (section_cost Headers self.old.file self.old.cap.bytes section) }
+        ensures lists { let f = self.old.file in Lists self.old self.new result
+            (section_cost Headers f.loaded f.store.now self.old.cap.bytes section) }
         ensures shows { Shows self.old self.new result (section_items Headers self.old.cap.bytes section) }
     {
         let header = self.file.section(section);
@@ -68,8 +69,8 @@ impl<S: Source, W: Sink> Listing<'_, '_, '_, S, W> {
     /// table, of its string table or of a name (gABI 4, Symbol Table).
     fn symbols(&mut self, section: u16) -> Result<(), Stop>
         requires { section < self.old.file.store.now.loaded }
-        ensures lists { Lists self.old self.new result
-            (section_cost Symbols self.old.file self.old.cap.bytes section) }
+        ensures lists { let f = self.old.file in Lists self.old self.new result
+            (section_cost Symbols f.loaded f.store.now self.old.cap.bytes section) }
         ensures shows { Shows self.old self.new result (section_items Symbols self.old.cap.bytes section) }
     {
         if !holds_symbols(&self.file.section(section)) {
@@ -84,8 +85,8 @@ impl<S: Source, W: Sink> Listing<'_, '_, '_, S, W> {
     /// refusal of its table, of the symbols that they refer to or of an entry (gABI 4, Relocation).
     fn relocations(&mut self, section: u16) -> Result<(), Stop>
         requires { section < self.old.file.store.now.loaded }
-        ensures lists { Lists self.old self.new result
-            (section_cost Relocations self.old.file self.old.cap.bytes section) }
+        ensures lists { let f = self.old.file in Lists self.old self.new result
+            (section_cost Relocations f.loaded f.store.now self.old.cap.bytes section) }
         ensures shows { Shows self.old self.new result
             (section_items Relocations self.old.cap.bytes section) }
     {

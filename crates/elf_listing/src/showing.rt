@@ -18,7 +18,7 @@ use bitflags::Flags;
 use elf_lines::{header_row, show_refusal};
 use elf_record::{Ehdr, Parts};
 use elf_source::{Counted, Out, Sink, Source};
-use elf_table::{Cap, Caps, File, HeaderStore, NameBuf, header, load};
+use elf_table::{Cap, Caps, File, HeaderStore, Loaded, NameBuf, header, load};
 
 /// All parts but the file header's.
 const TABLES: Parts = Parts(126);
@@ -122,27 +122,28 @@ fn list_loaded<S: Source, W: Sink>(
         return Ok(());
     }
     let loaded = load(src, store, header)?;
-    let file = File {
-        loaded,
-        store,
-    };
-    list_tables(src, out, file, cap, parts)
+    list_tables(src, out, loaded, store, cap, parts)
 }
 
-/// Lists the tables of a loaded file.
-fn list_tables<'s, 'o, 'f, S: Source, W: Sink>(
-    src: &'s mut Counted<S>,
-    out: &'o mut Out<W>,
-    file: File<'f>,
+/// Lists the tables of a file whose section headers are in the store.
+fn list_tables<S: Source, W: Sink>(
+    src: &mut Counted<S>,
+    out: &mut Out<W>,
+    loaded: Loaded,
+    store: &HeaderStore,
     cap: Cap,
     parts: Parts,
 ) -> Result<(), Stop>
-    requires { IsOpen src.old file.loaded file.store.now × AreListed parts.0 }
-    ensures costs { Costs src.old src.new out.new result (tables_listed parts.0 file.entry cap.bytes) }
-    ensures text { (bytes : List ℕ) → src.old.seen.file ≡ Some bytes →
-        Writes out.old out.new result (table_items bytes cap.bytes parts.0) }
+    requires listed { AreListed parts.0 }
+    requires opened { IsOpen src.old loaded store.now }
+    requires whole { store.now.loaded ≡ loaded.header.e_shnum }
+    ensures costs { Costs src.old src.new out.new result
+        (tables_listed parts.0 loaded store.now cap.bytes) }
+    ensures text { (file : List ℕ) → src.old.seen.file ≡ Some file →
+        Writes out.old out.new result (table_items file cap.bytes parts.0) }
 {
     let name = NameBuf::new();
+    let file = File { loaded, store };
     let mut listing = Listing {
         src,
         out,
