@@ -7,7 +7,6 @@ use std::cell::Cell;
 use std::io;
 use std::io::{Error, ErrorKind, Read, Seek, SeekFrom};
 use std::process::Abort;
-use std::test::Fail;
 
 /// A length beyond what a file may have: 2^63 - 1.
 const FAR: u64 = u64::MAX >> 1;
@@ -189,8 +188,9 @@ fn stream<'a>(
     length: u64,
     most: usize,
     script: &'a Script,
-) -> Result<StreamSource<Tape<'a>>, SourceFault> {
-    StreamSource::new(Tape::new(length, most, script))
+    rt: &impl Abort,
+) -> StreamSource<Tape<'a>> {
+    StreamSource::new(Tape::new(length, most, script)).expect(rt, "a stream")
 }
 
 // Fills `out` from `at` on, which the source's length has to allow.
@@ -218,123 +218,102 @@ fn gives_two<S: Source>(source: &mut S, at: u64, rt: &impl Abort) -> bool {
 }
 
 #[test]
-fn a_length_beyond_32_bits_is_told(rt: HostRuntime) -> Result<(), Fail> {
+fn a_length_beyond_32_bits_is_told(rt: HostRuntime) {
     let script = Script::new();
     for length in [FAR, 1 << 32, (1 << 33) + 5] {
-        let source = stream(length, 9, &script)?;
-        assert!(rt; source.length() == length, "{length}");
+        assert!(rt; stream(length, 9, &script, &rt).length() == length);
     }
-    Ok(())
 }
 
 #[test]
-fn bytes_at_far_offsets_are_their_own(rt: HostRuntime) -> Result<(), Fail> {
+fn bytes_at_far_offsets_are_their_own(rt: HostRuntime) {
     let script = Script::new();
-    let mut source = stream(FAR, 9, &script)?;
-    for at in [
-        0,
-        (1 << 31) - 1,
-        (1 << 32) - 1,
-        1 << 32,
-        (1 << 33) + 5,
-        FAR - 2,
-    ] {
+    let mut source = stream(FAR, 9, &script, &rt);
+    for at in [0, 1 << 31, (1 << 32) - 1, (1 << 33) + 5, FAR - 2] {
         assert!(rt; gives_two(&mut source, at, &rt), "at {at}");
     }
-    Ok(())
 }
 
 #[test]
-fn long_reads_are_filled_to_their_end(rt: HostRuntime) -> Result<(), Fail> {
+fn long_reads_are_filled_to_their_end(rt: HostRuntime) {
     let script = Script::new();
     for most in [usize::MAX, 64, 7] {
-        let mut source = stream(FAR, most, &script)?;
-        for count in [65, 3_999, 4_001, 4_096, 70_000] {
-            assert!(rt;
-                gives(&mut source, 11, count, rt.alloc(), &rt),
-                "{count} bytes"
-            );
+        let mut source = stream(FAR, most, &script, &rt);
+        for count in [65, 4_001, 4_096, 70_000] {
+            let given = gives(&mut source, 11, count, rt.alloc(), &rt);
+            assert!(rt; given, "{count} bytes");
         }
     }
-    Ok(())
 }
 
 #[test]
-fn a_read_asks_for_no_byte_behind_its_last(rt: HostRuntime) -> Result<(), Fail> {
+fn a_read_asks_for_no_byte_behind_its_last(rt: HostRuntime) {
     for (length, most) in [(15, 9), (15, 2), (FAR, 9), (FAR, 2)] {
         let script = Script::new();
-        let mut source = stream(length, most, &script)?;
-        assert!(rt;
-            gives(&mut source, 10, 5, rt.alloc(), &rt),
-            "{length}, {most}"
-        );
-        assert!(rt; script.asked_to.get() == 15, "{length}, {most}");
+        let mut source = stream(length, most, &script, &rt);
+        let given = gives(&mut source, 10, 5, rt.alloc(), &rt);
+        assert!(rt; given && script.asked_to.get() == 15, "{length}, {most}");
     }
-    Ok(())
 }
 
 #[test]
-fn a_read_of_no_byte_leaves_the_reader_where_it_stands(rt: HostRuntime) -> Result<(), Fail> {
+fn a_read_of_no_byte_leaves_the_reader_where_it_stands(rt: HostRuntime) {
     let script = Script::new();
-    let mut source = stream(FAR, 9, &script)?;
+    let mut source = stream(FAR, 9, &script, &rt);
     for (at, calls) in [(12, 4), (30, 8)] {
         assert!(rt; gives_two(&mut source, 10, &rt));
         assert!(rt; fill_at(&mut source, 30, &mut [], &rt) == Ok(()));
-        assert!(rt; gives_two(&mut source, at, &rt), "at {at}");
+        assert!(rt; gives_two(&mut source, at, &rt));
         assert!(rt; script.calls.get() == calls, "at {at}");
     }
-    Ok(())
 }
 
-// Reads two bytes at 3, and then five at `at`, of which a call goes wrong: the answer, and whether the two
-// bytes at `next` are the tape's in the read behind it.
-fn read_behind(
-    wrong: (u64, u32, Trouble),
+// Whether two bytes are read well from `next` on behind a read of five at `at` that has this fault, since a
+// call of it goes wrong; the reader stood at 5.
+fn recovers(
+    at: u64,
+    (well, trouble): (u32, Trouble),
+    fault: SourceFault,
     next: u64,
     rt: &impl Abort,
-) -> Result<(Result<(), SourceFault>, bool), SourceFault> {
+) -> bool {
     let script = Script::new();
-    let mut source = stream(FAR, 1, &script)?;
-    assert!(rt; gives_two(&mut source, 3, rt));
-    let (at, well, trouble) = wrong;
+    let mut source = stream(FAR, 1, &script, rt);
+    let before = gives_two(&mut source, 3, rt);
     script.go_wrong(well, trouble);
     let answer = fill_at(&mut source, at, &mut [255; 5], rt);
-    Ok((answer, gives_two(&mut source, next, rt)))
+    before && answer == Err(fault) && gives_two(&mut source, next, rt)
 }
 
 #[test]
-fn a_fault_at_each_call_leaves_no_place_behind(rt: HostRuntime) -> Result<(), Fail> {
+fn a_fault_at_each_call_leaves_no_place_behind(rt: HostRuntime) {
     let fails = Trouble::Fails(ErrorKind::Other);
     for (at, calls) in [(5, 5), (10, 6)] {
         for well in 0..calls {
             for next in 0..20 {
-                let (answer, given) = read_behind((at, well, fails), next, &rt)?;
-                assert!(rt; answer == Err(SourceFault::Device), "{at}, {well}, {next}");
-                assert!(rt; given, "{at}, {well}, {next}");
+                let well_again = recovers(at, (well, fails), SourceFault::Device, next, &rt);
+                assert!(rt; well_again, "{well}, {next}");
             }
         }
     }
-    Ok(())
 }
 
 #[test]
-fn an_end_at_each_read_leaves_no_place_behind(rt: HostRuntime) -> Result<(), Fail> {
+fn an_end_at_each_read_leaves_no_place_behind(rt: HostRuntime) {
     for (at, first, end) in [(5, 0, 5), (10, 1, 6)] {
         for well in first..end {
             for next in 0..20 {
-                let (answer, given) = read_behind((at, well, Trouble::Ends), next, &rt)?;
-                assert!(rt; answer == Err(SourceFault::Ended), "{at}, {well}, {next}");
-                assert!(rt; given, "{at}, {well}, {next}");
+                let ends = (well, Trouble::Ends);
+                let well_again = recovers(at, ends, SourceFault::Ended, next, &rt);
+                assert!(rt; well_again, "{well}, {next}");
             }
         }
     }
-    Ok(())
 }
 
 #[test]
-fn a_fault_of_any_kind_is_told_at_once(rt: HostRuntime) -> Result<(), Fail> {
+fn a_fault_of_any_kind_is_told_at_once(rt: HostRuntime) {
     for kind in [
-        ErrorKind::Other,
         ErrorKind::UnexpectedEof,
         ErrorKind::WouldBlock,
         ErrorKind::TimedOut,
@@ -342,68 +321,59 @@ fn a_fault_of_any_kind_is_told_at_once(rt: HostRuntime) -> Result<(), Fail> {
     ] {
         for (well, calls) in [(0, 2), (1, 3), (2, 4)] {
             let script = Script::new();
-            let mut source = stream(FAR, 1, &script)?;
+            let mut source = stream(FAR, 1, &script, &rt);
             script.go_wrong(well, Trouble::Fails(kind));
             let answer = fill_at(&mut source, 10, &mut [255; 2], &rt);
-            assert!(rt; answer == Err(SourceFault::Device), "{well} calls before");
-            assert!(rt; script.calls.get() == calls, "{well} calls before");
+            let told = answer == Err(SourceFault::Device) && script.calls.get() == calls;
+            assert!(rt; told, "{well} calls before");
         }
     }
-    Ok(())
 }
 
-// Reads so many bytes of a stream that gives one at a read, of which seeks and reads are interrupted: the
-// answer.
+// What reading so many bytes answers, one at each turn, where seeks and reads are interrupted.
 fn read_interrupted(
-    interrupted: (u32, u32, u32),
+    (seeks, reads, then): (u32, u32, u32),
     count: usize,
     alloc: Global,
     rt: &impl Abort,
 ) -> Result<(), SourceFault> {
     let script = Script::new();
-    let mut source = stream(FAR, 1, &script)?;
-    let (seeks, reads, then) = interrupted;
+    let mut source = stream(FAR, 1, &script, rt);
     script.interrupt(seeks, reads, then);
     let mut bytes = vec![in alloc; 255u8; count].expect(rt, "memory");
     fill_at(&mut source, 10, &mut bytes, rt)
 }
 
 #[test]
-fn interruptions_of_the_seek_and_of_reads_are_counted_together(rt: HostRuntime) {
-    for (seeks, reads) in [(63, 0), (0, 63), (40, 23), (1, 62), (62, 1)] {
-        let answer = read_interrupted((seeks, reads, 0), 3, rt.alloc(), &rt);
-        assert!(rt; answer == Ok(()), "{seeks} and {reads}");
-    }
-    for (seeks, reads) in [(64, 0), (0, 64), (40, 24), (1, 63), (63, 1)] {
-        let answer = read_interrupted((seeks, reads, 0), 3, rt.alloc(), &rt);
-        assert!(rt; answer == Err(SourceFault::Device), "{seeks} and {reads}");
-    }
-}
-
-#[test]
-fn interruptions_between_reads_are_counted_together(rt: HostRuntime) {
+fn interruptions_of_one_call_are_counted_together(rt: HostRuntime) {
     let fault = Err(SourceFault::Device);
-    for (seeks, then, count, want) in [
-        (0, 1, 64, Ok(())),
-        (0, 1, 65, fault),
-        (1, 1, 64, fault),
-        (0, 3, 22, Ok(())),
-        (0, 4, 17, fault),
+    for ((seeks, reads, then), count, want) in [
+        ((63, 0, 0), 3, Ok(())),
+        ((64, 0, 0), 3, fault),
+        ((0, 63, 0), 3, Ok(())),
+        ((0, 64, 0), 3, fault),
+        ((40, 23, 0), 3, Ok(())),
+        ((40, 24, 0), 3, fault),
+        ((1, 63, 0), 3, fault),
+        ((63, 1, 0), 3, fault),
+        // One or more behind each read but the last.
+        ((0, 0, 1), 64, Ok(())),
+        ((0, 0, 1), 65, fault),
+        ((1, 0, 1), 64, fault),
+        ((0, 0, 3), 22, Ok(())),
+        ((0, 0, 4), 17, fault),
     ] {
-        let answer = read_interrupted((seeks, 0, then), count, rt.alloc(), &rt);
-        assert!(rt; answer == want, "{seeks} and {count} bytes");
+        let answer = read_interrupted((seeks, reads, then), count, rt.alloc(), &rt);
+        assert!(rt; answer == want, "{seeks}, {reads}, {then}");
     }
 }
 
 #[test]
-fn a_counted_read_asks_the_reader_once(rt: HostRuntime) -> Result<(), Fail> {
+fn a_counted_read_asks_the_reader_once(rt: HostRuntime) {
     let script = Script::new();
-    let mut source = Counted::new(stream(FAR, 9, &script)?);
-    for (at, calls) in [(10, 3), (12, 4), (40, 6)] {
-        assert!(rt; at <= 40 && source.length() == FAR);
-        assert!(rt; source.fill(at, &mut [255; 2]) == Ok(()));
-        assert!(rt; script.calls.get() == calls, "at {at}");
-    }
-    assert!(rt; source.asked() == 6);
-    Ok(())
+    let mut source = Counted::new(stream(FAR, 9, &script, &rt));
+    assert!(rt; source.length() == FAR);
+    assert!(rt; source.fill(10, &mut [255; 2]) == Ok(()));
+    assert!(rt; source.fill(12, &mut [255; 2]) == Ok(()));
+    assert!(rt; script.calls.get() == 4 && source.asked() == 4);
 }
