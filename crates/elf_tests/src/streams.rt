@@ -8,7 +8,7 @@ use std::io;
 use std::io::{Error, ErrorKind, Read, Seek, SeekFrom};
 use std::process::Abort;
 
-/// A length beyond what a file may have: 2^63 - 1.
+/// The length of the longest file that is read, 2^63 - 1 bytes.
 const FAR: u64 = u64::MAX >> 1;
 
 /// What goes wrong at a call of a reader.
