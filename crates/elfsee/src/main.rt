@@ -13,7 +13,7 @@ mod sample;
 mod tests;
 mod words;
 
-ghost use Rattle.std.specs.Prelude.{◌≡◌, IfErr, IfOk};
+ghost use Rattle.std.specs.Prelude.{◌≡◌, ◌⊎◌, codes, IfErr, IfOk};
 ghost use Rattle.elf_listing.specs.Sections.{AreListed};
 ghost use Rattle.elfsee.specs.Answers.{refused_line, refused_status};
 ghost use Rattle.elfsee.specs.Requests.{headers_of, parts_of};
@@ -89,7 +89,9 @@ where
 }
 
 /// The words behind the program's name.
-fn read_words<R: Env + AllocGlobal>(rt: &R) -> Result<Vec<String>, Ending> {
+fn read_words<R: Env + AllocGlobal>(rt: &R) -> Result<Vec<String>, Ending>
+    ensures told { IfErr result (λ ending. (ending.1.now ≡ codes "elfsee: out of memory") ⊎ (ending.1.now ≡ codes "elfsee: words are not UTF-8")) }
+{
     let mut words = match env::args(rt) {
         Ok(words) => words,
         Err(fault) if fault.kind() == ErrorKind::OutOfMemory => return Err(OUT_OF_MEMORY),
