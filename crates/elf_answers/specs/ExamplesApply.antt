@@ -74,13 +74,14 @@ NothingIsChecked =
     Applies (relocated (zeros 2) (relocation 9 0x500000000 0)) empty_layout (zeros 2)
     × Applies (with_bytes 0x54 (little 4 0) (with_entries_header 40 (little 4 9))) placed_layout (0xe8 ∷ 0xfb ∷ 0xef ∷ 0xff ∷ 0xff ∷ [])
 
--- what the request is refused for, in this order; section 0 is refused by itself
+-- what the request is refused for, in this order; section 0 is refused by itself, and the last section is not
 abbrev pub RequestInOrder : Type 0
 RequestInOrder =
     RefusesSection 0 (with_bytes 16 (little 2 3 ++ little 2 183) one_call) empty_layout 0x10 NotRel
     × RefusesSection 0 (with_bytes 18 (little 2 183) one_call) empty_layout 0x12 NotRel
     × RefusesSection 0 one_call empty_layout 0x3c BadLink
     × RefusesSection 5 one_call empty_layout 0x3c BadLink
+    × (applied one_call 5 4 empty_layout ≡ Ok (0 ∷ 102 ∷ 0 ∷ []))
     × RefusesToApply (with_bytes 0xf0 (little 8 0x1000) one_call) empty_layout 0xd8 TableOutside
 
 -- a section without bytes in the file is empty, wherever it is to stand
@@ -126,6 +127,11 @@ WeakCommonIsUndefined =
     RefusesToApply (with_symbol 4 (little 1 0x20 ++ zeros 1 ++ little 2 0xfff2)) placed_layout 0x48 Undefined
     × Applies (with_symbol 4 (little 1 0x20 ++ zeros 1 ++ little 2 0xfff2)) defined_layout (0xe8 ∷ 0xfb ∷ 0x1f ∷ 0 ∷ 0 ∷ [])
 
--- a call to what has no definition, in a section without an address
+-- a symbol without a definition is refused at the entry, whatever the type, also in a section without an address
 abbrev pub UndefinedBeforeUnplaced : Type 0
-UndefinedBeforeUnplaced = RefusesToApply one_call empty_layout 0x48 Undefined
+UndefinedBeforeUnplaced =
+    RefusesToApply one_call empty_layout 0x48 Undefined
+    × RefusesToApply (with_bytes 0x50 (little 4 2) one_call) empty_layout 0x48 Undefined
+    × RefusesToApply (with_bytes 0x50 (little 4 2) one_call) placed_layout 0x48 Undefined
+    × RefusesToApply (with_bytes 0x50 (little 4 10) one_call) placed_layout 0x48 Undefined
+    × RefusesToApply (with_bytes 0x50 (little 4 10) (with_symbol 6 (little 2 2))) placed_layout 0x48 Unplaced

@@ -1,8 +1,9 @@
 -- Worked examples of what applying costs.
 use Rattle.std.specs.Prelude.{◌≡◌, ◌++◌, ◌+◌, ◌*◌, true, false, []}
 use Rattle.elf_model.specs.ApplyCost.{apply_cost, apply_cost_in_order, apply_cost_by_order, offsets_never_fall}
-use Rattle.elf_model.specs.Fixtures.{zeros}
-use Rattle.elf_model.specs.FixturesApply.{relocation, relocated, overlapping_relocations, overlapping_in_other_order, third_overflows, rising_relocations, falling_relocations, one_call, two_relocation_sections, empty_layout, entry_layout, full_layout}
+use Rattle.elf_model.specs.Bytes.{little}
+use Rattle.elf_model.specs.Fixtures.{zeros, with_bytes}
+use Rattle.elf_model.specs.FixturesApply.{relocation, relocated, overlapping_relocations, overlapping_in_other_order, third_overflows, rising_relocations, falling_relocations, one_call, two_relocation_sections, with_entries_header, empty_layout, entry_layout, full_layout}
 
 -- two entries without symbols, and one call with a procedure linkage table entry
 abbrev pub CostsOfWindows : Type 0
@@ -10,13 +11,24 @@ CostsOfWindows =
     (apply_cost overlapping_relocations 3 1 empty_layout ≡ 456) × (apply_cost one_call 5 1 entry_layout ≡ 613)
     × (apply_cost one_call 5 1 full_layout ≡ 741)
 
--- in order one pass applies all entries; else each window of 64 bytes takes one
+-- a window has 64 bytes, the last one fewer
+abbrev pub CostsOfLastWindows : Type 0
+CostsOfLastWindows =
+    (apply_cost (relocated (zeros 1) (relocation 0 14 1)) 3 1 empty_layout ≡ 64 + 192 + (1 + 1) * 48 + 1)
+    × (apply_cost (relocated (zeros 64) (relocation 0 14 1)) 3 1 empty_layout ≡ 64 + 192 + (1 + 1) * 48 + 64)
+    × (apply_cost (relocated (zeros 65) (relocation 0 14 1)) 3 1 empty_layout ≡ 64 + 192 + (1 + 2) * 48 + 65)
+    × (apply_cost (relocated (zeros 128) (relocation 0 14 1)) 3 1 empty_layout ≡ 64 + 192 + (1 + 2) * 48 + 128)
+    × (apply_cost (relocated (zeros 129) (relocation 0 14 1)) 3 1 empty_layout ≡ 64 + 192 + (1 + 3) * 48 + 129)
+
+-- in order one pass applies all entries; else each window of 64 bytes takes one, also where an offset falls by 1
 abbrev pub CostsByOrder : Type 0
 CostsByOrder =
     (apply_cost_by_order rising_relocations 3 1 empty_layout ≡ 768)
     × (apply_cost_by_order falling_relocations 3 1 empty_layout ≡ 960)
     × (apply_cost_by_order overlapping_relocations 3 1 empty_layout ≡ 456)
     × (apply_cost_by_order overlapping_in_other_order 3 1 empty_layout ≡ 456)
+    × (apply_cost_by_order (relocated (zeros 65) (relocation 3 12 0 ++ relocation 4 12 0)) 3 1 empty_layout ≡ 64 + 192 + 2 * 2 * 48 + 65)
+    × (apply_cost_by_order (relocated (zeros 65) (relocation 4 12 0 ++ relocation 3 12 0)) 3 1 empty_layout ≡ 64 + 192 + 3 * 2 * 48 + 65)
 
 -- entries past a fault count, entries of a section that is refused do not
 abbrev pub EntriesThatCount : Type 0
@@ -30,11 +42,20 @@ abbrev pub OrderLeavesOutNone : Type 0
 OrderLeavesOutNone =
     (offsets_never_fall (relocated (zeros 8) (relocation 4 10 0 ++ relocation 0 0 0 ++ relocation 4 12 0)) 1 ≡ true)
     × (offsets_never_fall (relocated (zeros 8) (relocation 4 10 0 ++ relocation 0 10 0)) 1 ≡ false)
+    × (offsets_never_fall (relocated (zeros 8) (relocation 4 12 0 ++ relocation 3 12 0)) 1 ≡ false)
 
--- what is refused before the entries costs no entries, and before the section headers those neither
+-- what is refused before the entries costs no entries: section 0 and one past the last, also where there are entries for
+-- them, a file that is not relocatable or for another machine, a section outside the file; and what is refused before the
+-- section headers costs those neither
 abbrev pub CostsOfRefusals : Type 0
 CostsOfRefusals =
     (apply_cost one_call 5 0 entry_layout ≡ 64 + 320)
+    × (apply_cost (with_bytes 0x10 (little 2 2) one_call) 5 1 entry_layout ≡ 64 + 320)
+    × (apply_cost (with_bytes 0x12 (little 2 183) one_call) 5 1 entry_layout ≡ 64 + 320)
+    × (apply_cost (with_entries_header 44 (little 4 0)) 5 0 entry_layout ≡ 64 + 320)
+    × (apply_cost (with_entries_header 44 (little 4 5)) 5 5 entry_layout ≡ 64 + 320)
+    × (apply_cost (with_bytes 0xf0 (little 8 0x1000) one_call) 5 1 entry_layout ≡ 64 + 320)
+    × (apply_cost (with_bytes 0xf0 (little 8 468) one_call) 5 1 entry_layout ≡ 64 + 320)
     × (apply_cost one_call 4 1 entry_layout ≡ 64)
     × (apply_cost_in_order one_call 4 1 entry_layout ≡ 64)
 

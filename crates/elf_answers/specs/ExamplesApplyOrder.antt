@@ -1,6 +1,6 @@
 -- Worked examples of which fault of a relocation entry comes first, of the terms that each relocation type takes, and of
 -- what longer names cost.
-use Rattle.std.specs.Prelude.{◌≡◌, ◌+◌, ◌*◌, ◌-◌, ◌^◌, ◌++◌, [], ◌∷◌, codes, replicate}
+use Rattle.std.specs.Prelude.{◌≡◌, ℕ, ◌+◌, ◌*◌, ◌-◌, ◌^◌, ◌++◌, List, [], ◌∷◌, codes, replicate}
 use Rattle.elf_model.specs.Bytes.{little}
 use Rattle.elf_model.specs.ApplyCost.{names_cost, apply_cost}
 use Rattle.elf_model.specs.Cost.{cost}
@@ -25,12 +25,31 @@ EntryFaultsInOrder =
     × RefusesToApply (with_bytes 0x50 (little 4 2) (with_symbol 6 (little 2 0xfff1 ++ little 8 (2 ^ 63)))) empty_layout 0x48 Unplaced
     × RefusesToApply (with_bytes 0x50 (little 4 2) (with_symbol 6 (little 2 0xfff1 ++ little 8 (2 ^ 63)))) placed_layout 0x48 Overflow
 
--- R_X86_64_PC32 takes the symbol and the place, R_X86_64_32 the symbol alone; neither takes the procedure linkage table
--- entry
+-- the call with other bytes in its symbol, where an entry of a type relocates the eight bytes of its section
+abbrev pub eight_relocated : ℕ → ℕ → List ℕ → List ℕ
+eight_relocated type place bytes =
+    with_bytes 0x48 (little 8 0 ++ little 4 type) (with_bytes 0xf8 (little 8 8) (with_symbol place bytes))
+
+-- R_X86_64_PC32 and R_X86_64_PC64 take the symbol and the place, R_X86_64_32 and R_X86_64_64 the symbol alone; none takes
+-- the procedure linkage table entry
 abbrev pub TypesTakeTheirTerms : Type 0
 TypesTakeTheirTerms =
     Applies (with_bytes 0x50 (little 4 2) one_call) full_layout (0xe8 ∷ 0xfb ∷ 0x1f ∷ 0 ∷ 0 ∷ [])
     × Applies (with_bytes 0x50 (little 4 10) one_call) full_layout (0xe8 ∷ 0xfc ∷ 0x2f ∷ 0 ∷ 0 ∷ [])
+    × Applies (eight_relocated 24 0 []) full_layout (0xfc ∷ 0x1f ∷ zeros 6)
+    × Applies (eight_relocated 1 0 []) full_layout (0xfc ∷ 0x2f ∷ zeros 6)
+
+-- section 1 and a definition of `f`, both at 2^63
+abbrev pub high_layout : Layout
+high_layout = record { sections = (1, 2 ^ 63) ∷ []; definitions = (codes "f", 2 ^ 63) ∷ []; entries = [] }
+
+-- an address has 64 bits: as the symbol's section, as its definition, as its own value, and as the place
+abbrev pub AddressesAreWhole : Type 0
+AddressesAreWhole =
+    Applies (eight_relocated 1 6 (little 2 1 ++ little 8 0x10)) high_layout ((0x0c ∷ []) ++ zeros 6 ++ (0x80 ∷ []))
+    × Applies (eight_relocated 1 6 (little 2 0)) high_layout ((0xfc ∷ []) ++ replicate 6 0xff ++ (0x7f ∷ []))
+    × Applies (eight_relocated 1 6 (little 2 0xfff1 ++ little 8 (2 ^ 63))) high_layout ((0xfc ∷ []) ++ replicate 6 0xff ++ (0x7f ∷ []))
+    × Applies (relocated (zeros 8) (relocation 0 24 0x5000)) high_layout ((0 ∷ 0x50 ∷ []) ++ zeros 5 ++ (0x80 ∷ []))
 
 -- the other types, without a symbol; R_X86_64_PC64 takes the place
 abbrev pub TypesWithoutASymbol : Type 0

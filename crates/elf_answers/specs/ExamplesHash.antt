@@ -57,6 +57,8 @@ WrongCountsAreRefused =
     Refuses (hash_file (0 ∷ 3 ∷ 1 ∷ 0 ∷ 2 ∷ 1 ∷ [])) (codes "c") 0xe8 HashShape
     × Refuses (hash_file (0xffffffff ∷ 3 ∷ 1 ∷ 0 ∷ 2 ∷ 1 ∷ [])) (codes "c") 0xe8 HashShape
     × Refuses (hash_file (1 ∷ 4 ∷ 1 ∷ 0 ∷ 2 ∷ 1 ∷ [])) (codes "c") 0xe8 HashShape
+    × Refuses (with_hash_header 32 (little 8 23)) (codes "a") 0xe8 HashShape
+    × Refuses (with_bytes 0x108 (little 8 23) (hash_file (2 ∷ 2 ∷ 0 ∷ 1 ∷ 0 ∷ 0 ∷ []))) (codes "a") 0xe8 HashShape
 
 -- a file without a hash table
 abbrev pub NoTableIsRefused : Type 0

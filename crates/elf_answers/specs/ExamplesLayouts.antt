@@ -103,6 +103,15 @@ EntriesWithoutAddends =
     Applies (with_entries_header 4 (little 4 9)) entry_layout (0xe8 ∷ zeros 4)
     × (apply_cost (with_entries_header 4 (little 4 9)) 5 1 entry_layout ≡ 64 + 320 + 5)
 
+-- the entries for a section are as many as a table's size holds, whatever stands behind it, in tables whose sh_info is the
+-- section in all its bits
+abbrev pub EntriesOfTheSection : Type 0
+EntriesOfTheSection =
+    Applies (with_bytes 0x118 (little 8 24) overlapping_relocations) empty_layout (0x44 ∷ 0x33 ∷ 0x22 ∷ 0x11 ∷ zeros 4)
+    × (apply_cost (with_bytes 0x118 (little 8 24) overlapping_relocations) 3 1 empty_layout ≡ 64 + 192 + 2 * 48 + 8)
+    × Applies (with_entries_header 44 (little 4 0x10001)) entry_layout (0xe8 ∷ zeros 4)
+    × (apply_cost (with_entries_header 44 (little 4 0x10001)) 5 1 entry_layout ≡ 64 + 320 + 5)
+
 -- the numbers between the types that are applied, and behind them
 abbrev pub OtherTypesAreUnsupported : Type 0
 OtherTypesAreUnsupported =

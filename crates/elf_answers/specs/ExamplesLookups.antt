@@ -7,7 +7,7 @@ use Rattle.elf_model.specs.Fixtures.{zeros, with_bytes, section_header, one_symb
 use Rattle.elf_model.specs.FixturesHash.{hash_file, hash_with_cycle, with_hash_header, with_symbols_header, with_strings_header}
 use Rattle.elf_model.specs.Hash.{sysv_hash, Found, Absent, refused}
 use Rattle.elf_answers.specs.ExamplesHash.{Refuses}
-use Rattle.elf_model.specs.declared.causes.Cause.TheVariants.{BadClass, TooManyHeaders, TableOutside, BadLink, NotStrings, NoHash, HashIndex, HashCycle}
+use Rattle.elf_model.specs.declared.causes.Cause.TheVariants.{BadClass, TooManyHeaders, TableOutside, BadLink, NotStrings, NoHash, HashShape, HashIndex, HashCycle}
 
 -- names whose hash has each of its top four bits set on the way, and bytes above 127
 abbrev pub LongerHashes : Type 0
@@ -29,6 +29,14 @@ abbrev pub CycleInTheSecondBucket : Type 0
 CycleInTheSecondBucket =
     Refuses (hash_file (2 ∷ 2 ∷ 0 ∷ 1 ∷ 0 ∷ 1 ∷ [])) (codes "c") 0x4c HashCycle
     × (compared (hash_file (2 ∷ 2 ∷ 0 ∷ 1 ∷ 0 ∷ 1 ∷ [])) 4 (codes "c") ≡ 2)
+
+-- the words of a hash table have four bytes: those of a bucket and of a chain, and both counts
+abbrev pub WordsHaveFourBytes : Type 0
+WordsHaveFourBytes =
+    Refuses (hash_file (1 ∷ 3 ∷ 0x01000001 ∷ 0 ∷ 2 ∷ 0 ∷ [])) (codes "a") 0x48 HashIndex
+    × Refuses (hash_file (1 ∷ 3 ∷ 1 ∷ 0 ∷ 0x01000002 ∷ 0 ∷ [])) (codes "b") 0x50 HashIndex
+    × Refuses (hash_file (0x01000001 ∷ 3 ∷ 1 ∷ 0 ∷ 2 ∷ 0 ∷ [])) (codes "a") 0xe8 HashShape
+    × Refuses (hash_file (1 ∷ 0x01000003 ∷ 1 ∷ 0 ∷ 2 ∷ 0 ∷ [])) (codes "a") 0xe8 HashShape
 
 -- a table without chains: no word but 0 is an index
 abbrev pub NoChains : Type 0

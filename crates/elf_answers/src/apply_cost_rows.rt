@@ -1,10 +1,16 @@
 //! Worked costs of applying, each a theorem about the definitions that the prover computes.
-ghost use Rattle.elf_answers.specs.ExamplesApplyCost.{CostsOfWindows, CostsByOrder, EntriesThatCount, OrderLeavesOutNone, CostsOfRefusals, CostsWithoutBytes};
+ghost use Rattle.elf_answers.specs.ExamplesApplyCost.{CostsOfWindows, CostsOfLastWindows, CostsByOrder, EntriesThatCount, OrderLeavesOutNone, CostsOfRefusals, CostsWithoutBytes};
 
 /// What windows of 64 bytes cost.
 #[tactic(auto, unfolding(elf_model::proofs::OnLiterals::on_literals, crate::proofs::OnExamples::on_examples))]
 pub fn costs_of_windows()
     ensures { CostsOfWindows }
+{}
+
+/// What the last window costs.
+#[tactic(auto, unfolding(elf_model::proofs::OnLiterals::on_literals, crate::proofs::OnExamples::on_examples))]
+pub fn costs_of_last_windows()
+    ensures { CostsOfLastWindows }
 {}
 
 /// What each order of the entries costs.

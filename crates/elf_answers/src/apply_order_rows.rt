@@ -1,5 +1,5 @@
 //! The order of a relocation entry's faults, the terms of its type, and the costs of longer names, each computed by the prover.
-ghost use Rattle.elf_answers.specs.ExamplesApplyOrder.{EntryFaultsInOrder, TypesTakeTheirTerms, TypesWithoutASymbol, LaterItemsAreFound, LongNamesCost, HashLinkBeforeCounts, LaterFaultsCost, SectionZeroIsApplied, HashEntriesAreNotChecked};
+ghost use Rattle.elf_answers.specs.ExamplesApplyOrder.{EntryFaultsInOrder, TypesTakeTheirTerms, AddressesAreWhole, TypesWithoutASymbol, LaterItemsAreFound, LongNamesCost, HashLinkBeforeCounts, LaterFaultsCost, SectionZeroIsApplied, HashEntriesAreNotChecked};
 
 /// The order of an entry's faults.
 #[tactic(auto, unfolding(elf_model::proofs::OnLiterals::on_literals, crate::proofs::OnExamples::on_examples))]
@@ -11,6 +11,12 @@ pub fn entry_faults_in_order()
 #[tactic(auto, unfolding(elf_model::proofs::OnLiterals::on_literals, crate::proofs::OnExamples::on_examples))]
 pub fn types_take_their_terms()
     ensures { TypesTakeTheirTerms }
+{}
+
+/// Addresses of 64 bits.
+#[tactic(auto, unfolding(elf_model::proofs::OnLiterals::on_literals, crate::proofs::OnExamples::on_examples))]
+pub fn addresses_are_whole()
+    ensures { AddressesAreWhole }
 {}
 
 /// Relocation types without a symbol.

@@ -1,5 +1,5 @@
 //! Worked symbols in layouts and requests to apply, each a theorem about the definitions that the prover computes.
-ghost use Rattle.elf_answers.specs.ExamplesLayouts.{WeakAloneIsZero, ReservedIndicesAreUnplaced, DefinitionsAreForUndefined, EntriesAreForAll, SectionBytesAreChecked, RequestsCheckTheFile, PlacesAreWhole, BadHeadersCost, OrderOverSections, NoBytesCost, OrderHasEachType, EntriesWithoutAddends, OtherTypesAreUnsupported, WeakIsDefined, EntriesPastTheLastSection};
+ghost use Rattle.elf_answers.specs.ExamplesLayouts.{WeakAloneIsZero, ReservedIndicesAreUnplaced, DefinitionsAreForUndefined, EntriesAreForAll, SectionBytesAreChecked, RequestsCheckTheFile, PlacesAreWhole, BadHeadersCost, OrderOverSections, NoBytesCost, OrderHasEachType, EntriesWithoutAddends, EntriesOfTheSection, OtherTypesAreUnsupported, WeakIsDefined, EntriesPastTheLastSection};
 
 /// Undefined symbols by their binding.
 #[tactic(auto, unfolding(elf_model::proofs::OnLiterals::on_literals, crate::proofs::OnExamples::on_examples))]
@@ -71,6 +71,12 @@ pub fn order_has_each_type()
 #[tactic(auto, unfolding(elf_model::proofs::OnLiterals::on_literals, crate::proofs::OnExamples::on_examples))]
 pub fn entries_without_addends()
     ensures { EntriesWithoutAddends }
+{}
+
+/// How many entries are for a section.
+#[tactic(auto, unfolding(elf_model::proofs::OnLiterals::on_literals, crate::proofs::OnExamples::on_examples))]
+pub fn entries_of_the_section()
+    ensures { EntriesOfTheSection }
 {}
 
 /// The types that are not applied.

@@ -1,5 +1,5 @@
 //! More worked lookups, each a theorem about the definitions that the prover computes.
-ghost use Rattle.elf_answers.specs.ExamplesLookups.{LongerHashes, MoreChainsThanSymbols, CycleInTheSecondBucket, NoChains, EmptyHashIsChecked, LookupsCheckTheFile, RefusalsCompareNothing, WantedNameIsWritten, OtherHashIsNone, UndefinedIsFound, HashPastTheLastSection};
+ghost use Rattle.elf_answers.specs.ExamplesLookups.{LongerHashes, MoreChainsThanSymbols, CycleInTheSecondBucket, WordsHaveFourBytes, NoChains, EmptyHashIsChecked, LookupsCheckTheFile, RefusalsCompareNothing, WantedNameIsWritten, OtherHashIsNone, UndefinedIsFound, HashPastTheLastSection};
 
 /// The hashes of longer names.
 #[tactic(auto, unfolding(elf_model::proofs::OnLiterals::on_literals, crate::proofs::OnExamples::on_examples))]
@@ -17,6 +17,12 @@ pub fn more_chains_than_symbols()
 #[tactic(auto, unfolding(elf_model::proofs::OnLiterals::on_literals, crate::proofs::OnExamples::on_examples))]
 pub fn cycle_in_the_second_bucket()
     ensures { CycleInTheSecondBucket }
+{}
+
+/// Words of four bytes.
+#[tactic(auto, unfolding(elf_model::proofs::OnLiterals::on_literals, crate::proofs::OnExamples::on_examples))]
+pub fn words_have_four_bytes()
+    ensures { WordsHaveFourBytes }
 {}
 
 /// A table without chains.

@@ -1,6 +1,6 @@
 -- Worked examples of fields and names: records whose bytes all differ, and each number that has a name.
 use Rattle.std.specs.Prelude.{◌≡◌, ℕ, List, [], ◌∷◌, codes, map}
-use Rattle.elf_model.specs.Records.{e_phentsize, e_shentsize, sh_name, sh_addralign, sh_entsize, st_name, n_namesz, n_descsz, n_type}
+use Rattle.elf_model.specs.Records.{e_type, e_machine, e_entry, e_phoff, e_shoff, e_flags, e_phentsize, e_phnum, e_shentsize, e_shnum, e_shstrndx, sh_name, sh_type, sh_flags, sh_addr, sh_offset, sh_size, sh_link, sh_info, sh_addralign, sh_entsize, p_type, p_flags, p_offset, p_vaddr, p_paddr, p_filesz, p_memsz, p_align, st_name, st_info, st_other, st_shndx, st_value, st_size, r_offset, r_info, r_addend, d_tag, d_un, n_namesz, n_descsz, n_type}
 use Rattle.elf_model.specs.NameTables.{section_type_text, section_flags_text, segment_type_text, segment_flags_text, symbol_types, bindings, visibilities, places, name_or_number, relocation_type_text, dynamic_tag_text}
 use Rattle.elf_model.specs.Lines.{file_type_text, header_line, segment_line, escaped}
 use Rattle.elf_model.specs.LineFronts.{section_front, symbol_front, relocation_front, dynamic_front}
@@ -55,6 +55,21 @@ OtherFieldsStand =
     × (n_namesz places_as_bytes 0x40 ≡ 0x43424140)
     × (n_descsz places_as_bytes 0x40 ≡ 0x47464544)
     × (n_type places_as_bytes 0x40 ≡ 0x4b4a4948)
+
+-- each field is as wide as it is, and no wider, also where a line shows fewer digits of it or a name
+abbrev pub FieldsHaveWidths : Type 0
+FieldsHaveWidths =
+    (map (λ read. read places_as_bytes) (e_type ∷ e_machine ∷ e_entry ∷ e_phoff ∷ e_shoff ∷ e_flags ∷ e_phnum ∷ e_shnum ∷ e_shstrndx ∷ [])
+    ≡ 0x1110 ∷ 0x1312 ∷ 0x1f1e1d1c1b1a1918 ∷ 0x2726252423222120 ∷ 0x2f2e2d2c2b2a2928 ∷ 0x33323130 ∷ 0x3938 ∷ 0x3d3c ∷ 0x3f3e ∷ [])
+    × (map (λ read. read places_as_bytes 0x40) (sh_type ∷ sh_flags ∷ sh_addr ∷ sh_offset ∷ sh_size ∷ sh_link ∷ sh_info ∷ [])
+    ≡ 0x47464544 ∷ 0x4f4e4d4c4b4a4948 ∷ 0x5756555453525150 ∷ 0x5f5e5d5c5b5a5958 ∷ 0x6766656463626160 ∷ 0x6b6a6968 ∷ 0x6f6e6d6c ∷ [])
+    × (map (λ read. read places_as_bytes 0x40) (p_type ∷ p_flags ∷ p_offset ∷ p_vaddr ∷ p_paddr ∷ p_filesz ∷ p_memsz ∷ p_align ∷ [])
+    ≡ 0x43424140 ∷ 0x47464544 ∷ 0x4f4e4d4c4b4a4948 ∷ 0x5756555453525150 ∷ 0x5f5e5d5c5b5a5958 ∷ 0x6766656463626160
+    ∷ 0x6f6e6d6c6b6a6968 ∷ 0x7776757473727170 ∷ [])
+    × (map (λ read. read places_as_bytes 0x40) (st_info ∷ st_other ∷ st_shndx ∷ st_value ∷ st_size ∷ [])
+    ≡ 0x44 ∷ 0x45 ∷ 0x4746 ∷ 0x4f4e4d4c4b4a4948 ∷ 0x5756555453525150 ∷ [])
+    × (map (λ read. read places_as_bytes 0x40) (r_offset ∷ r_info ∷ r_addend ∷ d_tag ∷ d_un ∷ [])
+    ≡ 0x4746454443424140 ∷ 0x4f4e4d4c4b4a4948 ∷ 0x5756555453525150 ∷ 0x4746454443424140 ∷ 0x4f4e4d4c4b4a4948 ∷ [])
 
 -- each file type, and the number behind the last
 abbrev pub FileTypesHaveNames : Type 0

@@ -1,5 +1,5 @@
 -- What listings ask for at most, and what they never pass.
-use Rattle.std.specs.Prelude.{ℕ, ◌≡◌, ◌+◌, ◌++◌, []}
+use Rattle.std.specs.Prelude.{ℕ, ◌≡◌, ◌+◌, ◌-◌, ◌*◌, ◌++◌, []}
 use Rattle.elf_model.specs.Listing.{HEADER, SECTIONS, SEGMENTS, SYMBOLS, RELOCS, NOTES, DYNAMIC, ALL}
 use Rattle.elf_model.specs.Cost.{cost, ceiling}
 use Rattle.elf_model.specs.Bytes.{little}
@@ -62,6 +62,22 @@ CostsOfTablesThatFail =
     × (cost (with_bytes 0xe0 (little 4 0x9) (with_bytes 0xf0 (little 8 0x5) (with_bytes 0xd8 (little 8 0x0) one_symbol_table))) 3 63 ALL ≡ 256)
     × (cost (with_bytes 0x58 (little 4 0xffffffff) one_symbol_table) 3 63 ALL ≡ 432)
 
+-- a table that ends at the end of the file counts, and one that ends one byte past it does not, nor one that starts past it:
+-- notes of a section and of a segment, symbols, relocation entries and dynamic entries
+abbrev pub CostsAtTheEnd : Type 0
+CostsAtTheEnd =
+    (cost (with_bytes 0xbc (little 8 (292 - 36)) (one_table 7 4 0 build_note [])) 3 63 NOTES ≡ 64 + 192 + 36)
+    × (cost (with_bytes 0xbc (little 8 (292 - 35)) (one_table 7 4 0 build_note [])) 3 63 NOTES ≡ 64 + 192)
+    × (cost (with_bytes 0xbc (little 8 0xffffffffffffffff) (one_table 7 4 0 build_note [])) 3 63 NOTES ≡ 64 + 192)
+    × (cost (with_bytes 0x60 (little 8 21) note_segment) 1 63 NOTES ≡ 64 + 56)
+    × (cost (with_bytes 0x48 (little 8 0x1000) note_segment) 1 63 NOTES ≡ 64 + 56)
+    × (cost (with_bytes 0xd0 (little 8 (312 - 48)) one_symbol_table) 3 63 SYMBOLS ≡ 64 + 192 + 2 * 88)
+    × (cost (with_bytes 0xd0 (little 8 (312 - 47)) one_symbol_table) 3 63 SYMBOLS ≡ 64 + 192)
+    × (cost (with_bytes 0x130 (little 8 (472 - 24)) one_call) 5 63 RELOCS ≡ 64 + 320 + 112)
+    × (cost (with_bytes 0x130 (little 8 (472 - 23)) one_call) 5 63 RELOCS ≡ 64 + 320)
+    × (cost (with_bytes 0xd3 (little 8 (315 - 48)) needed_library) 3 63 DYNAMIC ≡ 64 + 192 + 3 * 80)
+    × (cost (with_bytes 0xd3 (little 8 (315 - 47)) needed_library) 3 63 DYNAMIC ≡ 64 + 192)
+
 -- relocation entries count where their own table's checks pass, whatever they link to; and where a later check of the
 -- section of the section names fails they count, since the section headers are read before it
 abbrev pub CostsOfRelocations : Type 0
@@ -83,7 +99,10 @@ CostsOfLongerNames =
     × (cost one_symbol_table 3 64 ALL ≡ 560)
     × (cost one_symbol_table 3 4096 ALL ≡ 8624)
 
--- the ceilings of files of 472 and 312 bytes
+-- the ceilings of files of 472 and 312 bytes, and of lengths just below and at a multiple of 16
 abbrev pub Ceilings : Type 0
 Ceilings =
     (ceiling 472 5 63 ≡ 17264) × (ceiling 312 3 63 ≡ 7024)
+    × (ceiling 15 1 63 ≡ 64 + (120 + 64 + 15))
+    × (ceiling 16 1 63 ≡ 64 + (120 + 64 + 16 + 96))
+    × (ceiling 479 5 64 ≡ 64 + 5 * (120 + 128 + 479 + 29 * 160))

@@ -1,10 +1,10 @@
 -- Listings that end at the file header or at the load checks.
-use Rattle.std.specs.Prelude.{◌≡◌, ◌-◌, ◌^◌, [], ◌++◌, codes, take, map, Some, None}
+use Rattle.std.specs.Prelude.{◌≡◌, ◌-◌, ◌^◌, [], ◌++◌, codes, take, map, replicate, Some, None}
 use Rattle.elf_model.specs.Listing.{HEADER, ALL}
 use Rattle.elf_model.specs.Report.{report}
 use Rattle.elf_model.specs.Bytes.{little}
 use Rattle.elf_model.specs.Fixtures.{with_bytes, bare_header, one_symbol_table}
-use Rattle.elf_model.specs.FixturesTables.{numbers_from}
+use Rattle.elf_model.specs.FixturesTables.{numbers_from, one_load}
 use Rattle.elf_model.specs.Checks.{first_refusal, length_checks}
 use Rattle.elf_model.specs.Lines.{refusal_line}
 use Rattle.elf_model.specs.declared.causes.Cause.TheVariants.{Short, TooLong}
@@ -50,7 +50,7 @@ LongFilesAreRefused =
     × (first_refusal (length_checks (2 ^ 63 - 1)) ≡ None)
     × (refusal_line (record { at = 2 ^ 63; cause = TooLong }) ≡ codes "! 8000000000000000 too-long\n")
 
--- magic number, class, data encoding and version
+-- magic number, class, data encoding and version; the bytes behind the version, and e_version and e_ehsize, may be any
 abbrev pub IdentChecksInOrder : Type 0
 IdentChecksInOrder =
     (report (with_bytes 0x4 (little 1 0x1) bare_header) 1 63 ALL
@@ -63,6 +63,12 @@ IdentChecksInOrder =
     ≡ codes "! 0000000000000006 version\n")
     × (report (with_bytes 0x4 (little 1 0x1) (with_bytes 0x5 (little 1 0x2) bare_header)) 1 63 ALL
     ≡ codes "! 0000000000000004 class\n")
+    × (report (with_bytes 0x7 (little 1 0x3) bare_header) 1 63 ALL
+    ≡ codes "H REL     62 0000000000000000 0000000000000000 0000000000000000 00000000     0     0     0\n")
+    × (report (with_bytes 0x8 (little 1 0x3) bare_header) 1 63 ALL
+    ≡ codes "H REL     62 0000000000000000 0000000000000000 0000000000000000 00000000     0     0     0\n")
+    × (report (with_bytes 0x9 (replicate 7 0x3) (with_bytes 0x14 (little 4 0x3) (with_bytes 0x34 (little 2 0x3) bare_header))) 1 63 ALL
+    ≡ codes "H REL     62 0000000000000000 0000000000000000 0000000000000000 00000000     0     0     0\n")
 
 -- counts and indices that stand in section 0
 abbrev pub ExtendedNumberingIsRefused : Type 0
@@ -99,7 +105,8 @@ HeaderSizesAreChecked =
     ≡ codes "H REL     62 0000000000000000 0000000000000000 0000000000000078 00000000     1     3     0\n"
     ++ codes "! 0000000000000036 entry-size\n")
 
--- section headers or program headers past the end of the file, in whole numbers
+-- section headers or program headers past the end of the file, in whole numbers; program headers also where there are
+-- no sections
 abbrev pub HeadersOutsideTheFile : Type 0
 HeadersOutsideTheFile =
     (report (take 311 one_symbol_table) 3 63 ALL
@@ -111,8 +118,11 @@ HeadersOutsideTheFile =
     × (report (with_bytes 0x20 (little 8 0xffffffffffffffff) (with_bytes 0x36 (little 2 0x38) (with_bytes 0x38 (little 2 0x1) one_symbol_table))) 3 63 ALL
     ≡ codes "H REL     62 0000000000000000 ffffffffffffffff 0000000000000078 00000000     1     3     0\n"
     ++ codes "! 0000000000000020 table-outside\n")
+    × (report (with_bytes 0x20 (little 8 0x41) one_load) 1 63 ALL
+    ≡ codes "H EXEC    62 0000000000000000 0000000000000041 0000000000000000 00000000     1     0     0\n"
+    ++ codes "! 0000000000000020 table-outside\n")
 
--- the section of the section names: its index, its type and its range
+-- the section of the section names: its index, its type and its range; without sections its index may be any
 abbrev pub SectionOfTheNamesIsChecked : Type 0
 SectionOfTheNamesIsChecked =
     (report (with_bytes 0x3e (little 2 0x3) one_symbol_table) 3 63 ALL
@@ -124,3 +134,5 @@ SectionOfTheNamesIsChecked =
     × (report (with_bytes 0x118 (little 8 0xc9) (with_bytes 0x3e (little 2 0x2) one_symbol_table)) 3 63 ALL
     ≡ codes "H REL     62 0000000000000000 0000000000000000 0000000000000078 00000000     0     3     2\n"
     ++ codes "! 00000000000000f8 table-outside\n")
+    × (report (with_bytes 0x3e (little 2 0x5) bare_header) 1 63 ALL
+    ≡ codes "H REL     62 0000000000000000 0000000000000000 0000000000000000 00000000     0     0     5\n")

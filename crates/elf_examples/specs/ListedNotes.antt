@@ -63,6 +63,16 @@ NotesOutsideTheFile =
     × (report (with_bytes 0xc4 (little 8 0xffffffffffffffff) (one_table 7 4 0 build_note [])) 3 63 NOTES
     ≡ codes "! 00000000000000a4 table-outside\n")
 
+-- what stands behind a table of notes is not looked at, in a section and in a segment
+abbrev pub BytesBehindNotes : Type 0
+BytesBehindNotes =
+    (report (one_table 7 4 0 build_note (1 ∷ [])) 3 63 NOTES
+    ≡ codes "N     1 00000003 00000004 00000014 GNU 000102030405060708090a0b0c0d0e0f10111213\n")
+    × (report (one_table 7 4 0 build_note build_note) 3 63 NOTES
+    ≡ codes "N     1 00000003 00000004 00000014 GNU 000102030405060708090a0b0c0d0e0f10111213\n")
+    × (report (note_segment ++ 1 ∷ []) 1 63 NOTES
+    ≡ codes "N     0 00000001 00000004 00000004 GNU 2a000000\n")
+
 -- notes of size 0 have no rows and are not checked
 abbrev pub EmptyNotesAreNotChecked : Type 0
 EmptyNotesAreNotChecked =

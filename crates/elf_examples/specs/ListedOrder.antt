@@ -136,3 +136,4 @@ abbrev pub SegmentNotesByFileSize : Type 0
 SegmentNotesByFileSize =
     (report (with_bytes 0x68 (zeros 8) note_segment) 1 63 NOTES ≡ codes "N     0 00000001 00000004 00000004 GNU 2a000000\n")
     × (cost (with_bytes 0x68 (zeros 8) note_segment) 1 63 NOTES ≡ 140)
+    × (cost (with_bytes 0x68 (little 8 0x1000) note_segment) 1 63 NOTES ≡ 140)

@@ -1,5 +1,5 @@
 //! Worked records and names, each computed by the prover.
-ghost use Rattle.elf_examples.specs.ExamplesFields.{HeaderFieldsStand, SectionFieldsStand, SegmentFieldsStand, SymbolFieldsStand, RelocationFieldsStand, OtherFieldsStand, FileTypesHaveNames, SectionTypesHaveNames, SectionFlagsHaveLetters, SegmentTypesHaveNames, PermissionsHaveLetters, SymbolNumbersHaveNames, RelocationTypesHaveNames, DynamicTagsHaveNames, CausesHaveWords, BytesAreSpelt};
+ghost use Rattle.elf_examples.specs.ExamplesFields.{HeaderFieldsStand, SectionFieldsStand, SegmentFieldsStand, SymbolFieldsStand, RelocationFieldsStand, OtherFieldsStand, FieldsHaveWidths, FileTypesHaveNames, SectionTypesHaveNames, SectionFlagsHaveLetters, SegmentTypesHaveNames, PermissionsHaveLetters, SymbolNumbersHaveNames, RelocationTypesHaveNames, DynamicTagsHaveNames, CausesHaveWords, BytesAreSpelt};
 
 /// The fields of the file header.
 #[tactic(auto, unfolding(elf_model::proofs::OnLiterals::on_literals, crate::proofs::OnExamples::on_examples))]
@@ -35,6 +35,12 @@ pub fn relocation_fields_stand()
 #[tactic(auto, unfolding(elf_model::proofs::OnLiterals::on_literals, crate::proofs::OnExamples::on_examples))]
 pub fn other_fields_stand()
     ensures { OtherFieldsStand }
+{}
+
+/// How wide each field is.
+#[tactic(auto, unfolding(elf_model::proofs::OnLiterals::on_literals, crate::proofs::OnExamples::on_examples))]
+pub fn fields_have_widths()
+    ensures { FieldsHaveWidths }
 {}
 
 /// The names of the file types.

@@ -1,5 +1,5 @@
 //! What listings ask for at most, and what they never pass, each computed by the prover.
-ghost use Rattle.elf_examples.specs.ListedCosts.{CostsOfWholeListings, CostsOfParts, CostsWithoutSections, CostsOfTheHeaderAlone, CostsOfTablesThatFail, CostsOfRelocations, CostsOfLongerNames, Ceilings};
+ghost use Rattle.elf_examples.specs.ListedCosts.{CostsOfWholeListings, CostsOfParts, CostsWithoutSections, CostsOfTheHeaderAlone, CostsOfTablesThatFail, CostsAtTheEnd, CostsOfRelocations, CostsOfLongerNames, Ceilings};
 
 /// The costs of whole listings.
 #[tactic(auto, unfolding(elf_model::proofs::OnLiterals::on_literals))]
@@ -29,6 +29,12 @@ pub fn costs_of_the_header_alone()
 #[tactic(auto, unfolding(elf_model::proofs::OnLiterals::on_literals))]
 pub fn costs_of_tables_that_fail()
     ensures { CostsOfTablesThatFail }
+{}
+
+/// Tables that end at the end of the file, and past it.
+#[tactic(auto, unfolding(elf_model::proofs::OnLiterals::on_literals))]
+pub fn costs_at_the_end()
+    ensures { CostsAtTheEnd }
 {}
 
 /// The costs of relocation entries, alone, with faults before them, in them and in what they link to.

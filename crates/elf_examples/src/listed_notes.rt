@@ -1,5 +1,5 @@
 //! Listings of notes, each computed by the prover.
-ghost use Rattle.elf_examples.specs.ListedNotes.{OneNoteLists, ZerosBehindANote, NotesPastTheEnd, NotesAtBothAlignments, LongDescriptorsAreCut, SegmentNotesList, NotesOutsideTheFile, EmptyNotesAreNotChecked};
+ghost use Rattle.elf_examples.specs.ListedNotes.{OneNoteLists, ZerosBehindANote, NotesPastTheEnd, NotesAtBothAlignments, LongDescriptorsAreCut, SegmentNotesList, NotesOutsideTheFile, BytesBehindNotes, EmptyNotesAreNotChecked};
 
 /// One note that fills its table, and with its name cut.
 #[tactic(auto, unfolding(elf_model::proofs::OnLiterals::on_literals))]
@@ -41,6 +41,12 @@ pub fn segment_notes_list()
 #[tactic(auto, unfolding(elf_model::proofs::OnLiterals::on_literals))]
 pub fn notes_outside_the_file()
     ensures { NotesOutsideTheFile }
+{}
+
+/// What stands behind a table of notes.
+#[tactic(auto, unfolding(elf_model::proofs::OnLiterals::on_literals))]
+pub fn bytes_behind_notes()
+    ensures { BytesBehindNotes }
 {}
 
 /// Notes of size 0 have no rows and are not checked.

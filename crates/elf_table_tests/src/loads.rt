@@ -2,6 +2,7 @@
 ghost use Rattle.std.specs.Prelude.{◌≡◌};
 
 use crate::fixtures::{FIVE_SECTIONS, ONE_SYMBOL_TABLE, refused};
+use crate::tables::Planned;
 use elf_record::{Cause, Ehdr, Shdr};
 use elf_source::{Counted, MemorySource, Source, SourceFault};
 use elf_table::{Fault, HeaderStore, Loaded, Names, Table, header, load};
@@ -36,7 +37,12 @@ impl Source for Ending {
 
 /// Reads the header and loads the section headers, and says how many bytes were asked for.
 fn run(file: &[u8], store: &mut HeaderStore) -> (Result<Loaded, Fault>, u128) {
-    let mut src = Counted::new(MemorySource::new(file));
+    run_over(MemorySource::new(file), store)
+}
+
+/// The same over any source.
+fn run_over<S: Source + Drop>(source: S, store: &mut HeaderStore) -> (Result<Loaded, Fault>, u128) {
+    let mut src = Counted::new(source);
     let answer = match header(&mut src) {
         Ok(header) => load(&mut src, store, &header),
         Err(fault) => Err(fault),
@@ -151,6 +157,44 @@ fn a_read_that_ends_names_the_offset_asked_for(rt: HostRuntime) -> Result<(), Fa
     let answer = load(&mut src, &mut store, &header);
     assert!(rt; answer == Err(Fault::Source { fault, at: 0x78 }));
     assert!(rt; store.loaded() == 0);
+    Ok(())
+}
+
+/// A file with room for 130 section headers, which says that it has so many.
+fn three_pages(count: u8) -> [u8; 64 + 64 * 130] {
+    let mut file = [0; 64 + 64 * 130];
+    file[..64].copy_from_slice(&FIVE_SECTIONS[..64]);
+    file[0x3c] = count;
+    file
+}
+
+#[test]
+fn a_fault_in_any_page_names_its_offset(rt: HostRuntime) -> Result<(), Fail> {
+    let mut store = HeaderStore::new(rt.alloc(), 130)?;
+    for (count, failing, at) in [
+        (65, 1, 0),
+        (65, 2, 64),
+        (65, 3, 64 + 4096),
+        (130, 3, 64 + 4096),
+        (130, 4, 64 + 8192),
+    ] {
+        let fault = SourceFault::Device;
+        let file = three_pages(count);
+        let (answer, _asked) = run_over(Planned::new(&file, failing), &mut store);
+        assert!(rt;
+            answer == Err(Fault::Source { fault, at }),
+            "{count}, {failing}"
+        );
+    }
+    Ok(())
+}
+
+#[test]
+fn a_store_of_any_size_can_be_made(rt: HostRuntime) -> Result<(), Fail> {
+    for headers in [1, 4, 256, 4_096, 65_279] {
+        let store = HeaderStore::new(rt.alloc(), headers)?;
+        assert!(rt; store.slots() == headers);
+    }
     Ok(())
 }
 

@@ -1,7 +1,8 @@
 //! Worked names, and how many bytes they ask for.
 use crate::fixtures::refused;
+use crate::tables::Planned;
 use elf_record::Cause;
-use elf_source::{Counted, MemorySource};
+use elf_source::{Counted, MemorySource, SourceFault};
 use elf_table::{Fault, NameBuf, NameEnd, Names};
 use std::process::Abort;
 
@@ -97,4 +98,29 @@ fn names_are_compared_with_their_end(rt: HostRuntime) {
     assert!(rt; compares(open, 1, b"abd", Ok(false), &rt));
     assert!(rt; compares(open, 4, b"abc", outside, &rt));
     assert!(rt; compares(b"", 0, b"abc", Ok(false), &rt));
+}
+
+// The answers where a long name of a string table at 20 is read, and where it is compared, if the read with
+// the number `failing` fails.
+fn read_and_compare(failing: u32) -> (Result<NameEnd, Fault>, Result<bool, Fault>) {
+    let bytes = [b'a'; 220];
+    let names = Names::new(20, 200);
+    let mut name = NameBuf::new();
+    let mut src = Counted::new(Planned::new(&bytes, failing));
+    let read = names.read(&mut src, 10, 7, 180, &mut name);
+    let mut src = Counted::new(Planned::new(&bytes, failing));
+    let compared = names.equals(&mut src, 10, 7, &[b'a'; 180]);
+    (read, compared)
+}
+
+#[test]
+fn a_fault_in_any_piece_names_its_offset(rt: HostRuntime) {
+    for (failing, at) in [(1, 30), (2, 94), (3, 158)] {
+        let fault = SourceFault::Device;
+        let answer = Fault::Source { fault, at };
+        assert!(rt;
+            read_and_compare(failing) == (Err(answer), Err(answer)),
+            "{failing}"
+        );
+    }
 }

@@ -8,7 +8,7 @@ use std::process::Abort;
 
 /// A source over a slice that counts its reads and fails one of them.
 #[derive(Drop)]
-struct Planned<'a> {
+pub(crate) struct Planned<'a> {
     bytes: &'a [u8],
     reads: u32,
     failing: u32,
@@ -16,8 +16,8 @@ struct Planned<'a> {
 }
 
 impl<'a> Planned<'a> {
-    // The read with the number `failing` fails, counted from 1 on.
-    fn new(bytes: &'a [u8], failing: u32) -> Self
+    /// The read with the number `failing` fails, counted from 1 on.
+    pub(crate) fn new(bytes: &'a [u8], failing: u32) -> Self
         ensures { result.bytes.now ≡ bytes.now }
     {
         Planned {

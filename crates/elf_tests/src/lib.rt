@@ -9,4 +9,6 @@ mod records;
 #[cfg(test)]
 mod sources;
 #[cfg(test)]
+mod streams;
+#[cfg(test)]
 mod values;

@@ -323,6 +323,15 @@ fn a_write_that_is_interrupted_is_tried_again(rt: HostRuntime) {
 }
 
 #[test]
+fn a_long_text_is_written_whole(rt: HostRuntime) {
+    let plan = Plan::new();
+    let text = [b'x'; 70_000];
+    let mut out = Out::new(tape_sink(999, &plan, rt.alloc()));
+    assert!(rt; out.put(&text) == Ok(()));
+    assert!(rt; out.written() == 70_000);
+}
+
+#[test]
 fn a_slice_takes_what_it_has_room_for(rt: HostRuntime) {
     let mut buffer = [0; 4];
     let mut sink = SliceSink::new(&mut buffer);

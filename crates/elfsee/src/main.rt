@@ -13,9 +13,11 @@ mod sample;
 mod tests;
 mod words;
 
-ghost use Rattle.std.specs.Prelude.{◌≡◌, IfOk};
+ghost use Rattle.std.specs.Prelude.{◌≡◌, ◌⊎◌, codes, IfErr, IfOk};
 ghost use Rattle.elf_listing.specs.Sections.{AreListed};
+ghost use Rattle.elfsee.specs.Answers.{refused_line, refused_status};
 ghost use Rattle.elfsee.specs.Requests.{headers_of, parts_of};
+ghost use Rattle.elfsee.specs.declared.requests.RequestFault.{RequestFault};
 
 use answering::{outcome, refused, run};
 use elf_listing::RunFault;
@@ -87,7 +89,9 @@ where
 }
 
 /// The words behind the program's name.
-fn read_words<R: Env + AllocGlobal>(rt: &R) -> Result<Vec<String>, Ending> {
+fn read_words<R: Env + AllocGlobal>(rt: &R) -> Result<Vec<String>, Ending>
+    ensures told { IfErr result (λ ending. (ending.1.now ≡ codes "elfsee: out of memory") ⊎ (ending.1.now ≡ codes "elfsee: words are not UTF-8")) }
+{
     let mut words = match env::args(rt) {
         Ok(words) => words,
         Err(fault) if fault.kind() == ErrorKind::OutOfMemory => return Err(OUT_OF_MEMORY),
@@ -97,16 +101,18 @@ fn read_words<R: Env + AllocGlobal>(rt: &R) -> Result<Vec<String>, Ending> {
     words.collect(rt.alloc()).map_err(|_| OUT_OF_MEMORY)
 }
 
+/// Reads the request, without memory of its own: a request has no more than four words, and of others
+/// the first five tell that they are none.
 fn read_request(alloc: Global, words: &[String]) -> Result<Request, Ending>
-    ensures { IfOk result (λ request. AreListed (parts_of request)) }
+    ensures listed { IfOk result (λ request. AreListed (parts_of request)) }
+    ensures told { IfErr result (λ ending. (fault : RequestFault) × (ending.0 ≡ refused_status fault) × (ending.1.now ≡ refused_line fault)) }
 {
-    let mut texts: Vec<&str> = Vec::new(alloc);
-    for word in words {
-        if texts.push(word.as_str()).is_err() {
-            return Err(OUT_OF_MEMORY);
-        }
+    let mut texts = [""; 5];
+    let count = words.len().min(texts.len());
+    for i in 0..count {
+        texts[i] = words[i].as_str();
     }
-    request(alloc, texts.as_slice()).map_err(|fault| refused(&fault))
+    request(alloc, &texts[..count]).map_err(|fault| refused(&fault))
 }
 
 /// Opens a file that can be read at an offset. Folders, pipes and sockets are not opened, so that

@@ -1,8 +1,9 @@
 //! The words of a command line.
-ghost use Rattle.std.specs.Prelude.{◌≡◌, IfOk, Some};
+ghost use Rattle.std.specs.Prelude.{◌≡◌, IfOk, IfErr, IsErr, Some, codes, false};
 ghost use Rattle.elf_model.specs.Text.{name_of};
 ghost use Rattle.elf_listing.specs.Sections.{AreListed};
-ghost use Rattle.elfsee.specs.Requests.{part_names, parts_of};
+ghost use Rattle.elfsee.specs.Requests.{Asks, AsksForNone, is_part, part_names, parts_of};
+ghost use Rattle.elfsee.specs.declared.requests.RequestFault.TheVariants.{Words};
 
 use crate::requests::{Request, RequestFault};
 use elf_record::Parts;
@@ -21,7 +22,11 @@ const DEFAULT_NAME: u16 = 256;
 /// # Errors
 /// `Words` for any other words, `Memory` where there is none for the file's path.
 pub fn request(alloc: Global, words: &[&str]) -> Result<Request, RequestFault>
-    ensures { IfOk result (λ request. AreListed (parts_of request)) }
+    ensures listed { IfOk result (λ request. AreListed (parts_of request)) }
+    ensures asked { IfOk result (λ request. Asks words.now request) }
+    // Want of memory is never told as bad words.
+    ensures no_show { IfErr result (λ fault. fault ≡ Words → AsksForNone words.now 4 (codes "show")) }
+    ensures no_sample { IfErr result (λ fault. fault ≡ Words → AsksForNone words.now 3 (codes "sample")) }
 {
     let Some(caps) = Caps::new(DEFAULT_HEADERS, DEFAULT_NAME) else {
         return Err(RequestFault::Words);
@@ -46,6 +51,7 @@ pub fn request(alloc: Global, words: &[&str]) -> Result<Request, RequestFault>
 #[tactic(auto, unfolding(elf_model::specs::Text::name_of))]
 fn part_named(name: &str) -> Result<Parts, RequestFault>
     ensures listed { IfOk result (λ parts. AreListed parts.0) }
+    ensures unnamed { IsErr result → is_part name.now ≡ false }
     ensures named { IfOk result (λ parts. name_of part_names parts.0 ≡ Some name.now) }
 {
     match name {
