@@ -3,8 +3,8 @@ use Rattle.std.proofs.Common.{◌≡◌, ℕ, ◌+◌, ◌*◌, ◌/◌, ◌<◌
 use Rattle.std.proofs.Math.Nat.{mul-le-mul_left}
 use Rattle.std.proofs.lemmas.Bool.{eqb-true, ltb-false}
 use Rattle.std.specs.Prelude.{is_none}
-use Rattle.elf_model.specs.Checks.{Check, first_refusal, header_checks, early_checks, section_name_checks, is_symbol_table, table_checks_of}
-use Rattle.elf_model.specs.Cost.{sum_over, cost_where, is_table, entries_cost, symbols_cost, relocations_cost, table_cost, is_loadable, sections_cost, segments_cost, tables_cost, behind_header, ceiling}
+use Rattle.elf_model.specs.Checks.{Check, first_refusal, length_checks, header_checks, early_checks, section_name_checks, is_symbol_table, table_checks_of}
+use Rattle.elf_model.specs.Cost.{sum_over, cost_where, is_table, entries_cost, symbols_cost, relocations_cost, table_cost, is_loadable, sections_cost, segments_cost, tables_cost, behind_header, cost, ceiling}
 use Rattle.elf_model.specs.Listing.{has, has_tables, SECTIONS, SEGMENTS, SYMBOLS, RELOCS}
 use Rattle.elf_model.specs.Names.{name_bytes}
 use Rattle.elf_model.specs.Numbers.{SHT_RELA, PN_XNUM, SHN_XINDEX}
@@ -17,7 +17,7 @@ use Rattle.elf_model.proofs.RecordLemmas.{last_cost, sums_grow}
 use Rattle.elf_model.proofs.StoreLemmas.{rows_cost, part_by_part, any_rows, tables_count}
 use Rattle.elf_record.specs.Ehdr.{IsEhdr}
 use Rattle.elf_record.specs.declared.ehdr.Ehdr.{Ehdr}
-use Rattle.elf_table.specs.Load.{Opened, Belongs, IsOpened, Passes, early_of, load_cost}
+use Rattle.elf_table.specs.Load.{Opened, Belongs, IsOpened, Passes, early_of, header_cost, load_cost}
 use Rattle.elf_table.specs.Sections.{answered, rows, table_of, checked}
 use Rattle.elf_table.specs.Store.{Stored, row}
 use Rattle.elf_table.specs.Tables.{Rows, Strings}
@@ -180,3 +180,11 @@ loaded_below loaded store header size slots cap parts opened same =
     let below = listed_below loaded store cap parts (omega (arith, opened.count, opened.passes.few)) few in
     let at_size : ceiling loaded.size store.slots cap ≡ ceiling size slots cap = ap (λ n. ceiling n store.slots cap) opened.same_size ∙ ap (λ n. ceiling size n cap) same in
     omega (arith, below, at_size, opened.count)
+
+-- the file header asks for 64 bytes at most
+pub header_most : (size : ℕ) → header_cost size ≤ 64
+header_most size = cost_where-le (is_none (first_refusal (length_checks size))) 64
+
+pub cost_is : (file : List ℕ) (headers cap parts : ℕ) → cost file headers cap parts ≡ 64 + behind_header file headers cap parts
+unfolding cost
+cost_is file headers cap parts = refl

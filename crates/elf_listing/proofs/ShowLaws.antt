@@ -10,7 +10,7 @@ use Rattle.elf_table.specs.declared.fault.Fault.{Fault}
 use Rattle.elf_table.specs.declared.fault.Fault.TheVariants.{Refused as Refuses, Source as Unread}
 use Rattle.elf_model.specs.Listing.{Item, lines_of, fault_of}
 use Rattle.elf_listing.specs.Stops.{stop_of}
-use Rattle.elf_listing.specs.Shows.{Whole, Front, Stopped, Writes, StopSays, Costs}
+use Rattle.elf_listing.specs.Shows.{Whole, Front, Stopped, Writes, StopSays, IsOfOutput, Costs}
 use Rattle.elf_listing.specs.declared.stop.Stop.{Stop}
 use Rattle.elf_listing.specs.declared.stop.Stop.TheVariants.{Refused, Source, Out}
 use Rattle.elf_model.proofs.ListingLemmas.{listings_append}
@@ -107,3 +107,9 @@ Costs-within a b out (Err stop) n k within p = (Reads-to p.0 (omega (arith, p.0.
     StopSays-more (Refused refusal) n k within q = λ is. let over = q is in (over.0, OverLimit-more within over.1)
     StopSays-more (Source fault at) n k within q = q
     StopSays-more (Out fault) n k within q = q
+
+-- the output failed after reads
+pub Costs-out : (a b : Counting) (out : Written) (stop : Stop) (n k : ℕ) → n ≤ k → Reads a b n → IsOfOutput out stop → Costs {X = Unit {0}} a b out (Err stop) k
+Costs-out a b out (Refused refusal) n k within p q = absurd q
+Costs-out a b out (Source fault at) n k within p q = absurd q
+Costs-out a b out (Out fault) n k within p q = (Reads-to p (omega (arith, p.at_most)), q)

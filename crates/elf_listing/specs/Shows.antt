@@ -58,6 +58,12 @@ StopSays old new out n (Refused refusal) = RefusalSays old new n refusal
 StopSays old new out n (Source fault at) = Faults old.seen new.seen fault
 StopSays old new out n (Out fault) = Fails out fault
 
+-- a stop is a fault of the output
+abbrev pub IsOfOutput : Written → Stop → Type 0
+IsOfOutput out (Refused refusal) = ⊥
+IsOfOutput out (Source fault at) = ⊥
+IsOfOutput out (Out fault) = Fails out fault
+
 -- WHAT A CALL COSTS: it asked for at most n bytes, and a stop says what is so
 abbrev pub Costs : {X : Type 0} → Counting → Counting → Written → Result X Stop → ℕ → Type 0
 Costs old new out result n = Reads old new n × IfErr result (StopSays old new out n)

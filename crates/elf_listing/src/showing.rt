@@ -1,15 +1,17 @@
 //! The call that writes a listing.
-ghost use Rattle.std.specs.Prelude.{◌≡◌, ◌+◌, ◌-◌, ◌^◌, ◌≤◌, [], ◌∷◌, false, ℕ, List, Some, None, IfErr};
-ghost use Rattle.elf_model.specs.Checks.{first_refusal, header_checks};
+ghost use Rattle.std.specs.Prelude.{◌≡◌, ◌+◌, ◌-◌, ◌^◌, ◌≤◌, [], ◌∷◌, false, ℕ, List, Some, None, Ok, IfErr};
+ghost use Rattle.elf_model.specs.Checks.{first_refusal, length_checks};
+ghost use Rattle.elf_model.specs.declared.causes.Refusal.{Refusal as Refuses};
 ghost use Rattle.elf_model.specs.Cost.{cost, ceiling, behind_header};
 ghost use Rattle.elf_model.specs.Lines.{header_line};
 ghost use Rattle.elf_model.specs.Listing.{Line as LineItem, has_tables, where_asked, HEADER};
 ghost use Rattle.elf_model.specs.Report.{items, load_items, table_items};
 ghost use Rattle.elf_record.specs.Ehdr.{IsEhdr};
 ghost use Rattle.elf_listing.specs.Parts.{AreListed, tables_listed};
+ghost use Rattle.elf_table.specs.Faults.{HeaderRead};
 ghost use Rattle.elf_table.specs.Load.{IsOpen};
 ghost use Rattle.elf_listing.specs.Reports.{Reports, FaultSays, AsksWithin, Leaves};
-ghost use Rattle.elf_listing.specs.Shows.{Costs, Writes};
+ghost use Rattle.elf_listing.specs.Shows.{Costs, IsOfOutput, Writes};
 
 use crate::end::{End, RunFault};
 use crate::listing::Listing;
@@ -75,6 +77,8 @@ fn list<S: Source, W: Sink>(
     ensures slots { store.new.slots ≡ store.old.slots }
     ensures ceiling { Costs src.old src.new out.new result
         (ceiling src.old.seen.size store.old.slots cap.bytes) }
+    ensures unread { (refusal : Refuses) →
+        first_refusal (length_checks src.old.seen.size) ≡ Some refusal → src.new ≡ src.old }
     ensures alone { has_tables parts.0 ≡ false → src.new.asked ≤ src.old.asked + 64 }
     ensures cost { (file : List ℕ) → src.old.seen.file ≡ Some file →
         Costs src.old src.new out.new result (cost file store.old.slots cap.bytes parts.0) }
@@ -88,7 +92,8 @@ fn list<S: Source, W: Sink>(
 
 /// Lists the file header, where the parts have it: its `H` line (gABI 4, ELF Header).
 fn list_header<W: Sink>(header: &Ehdr, parts: Parts, out: &mut Out<W>) -> Result<(), Stop>
-    ensures { (file : List ℕ) → IsEhdr file 0 header.now → Writes out.old out.new result
+    ensures fails { IfErr result (IsOfOutput out.new) }
+    ensures text { (file : List ℕ) → IsEhdr file 0 header.now → Writes out.old out.new result
         (where_asked parts.0 HEADER (LineItem (header_line file) ∷ [])) }
 {
     if !parts.contains(Parts::HEADER) {
@@ -99,6 +104,7 @@ fn list_header<W: Sink>(header: &Ehdr, parts: Parts, out: &mut Out<W>) -> Result
 }
 
 /// Loads the section headers and lists the tables, where the parts have more than the file header.
+/// `header` is the file's header.
 fn list_loaded<S: Source, W: Sink>(
     src: &mut Counted<S>,
     store: &mut HeaderStore,
@@ -107,15 +113,17 @@ fn list_loaded<S: Source, W: Sink>(
     parts: Parts,
     out: &mut Out<W>,
 ) -> Result<(), Stop>
-    requires { AreListed parts.0 }
+    requires listed { AreListed parts.0 }
+    requires header { (file : List ℕ) → src.old.seen.file ≡ Some file →
+        HeaderRead file (Ok header.now) }
     ensures slots { store.new.slots ≡ store.old.slots }
     ensures below { Costs src.old src.new out.new result
         (ceiling src.old.seen.size store.old.slots cap.bytes - 64) }
     ensures alone { has_tables parts.0 ≡ false → src.new ≡ src.old }
-    ensures cost { (file : List ℕ) → src.old.seen.file ≡ Some file → IsEhdr file 0 header.now →
-        first_refusal (header_checks file) ≡ None → Costs src.old src.new out.new result
+    ensures cost { (file : List ℕ) → src.old.seen.file ≡ Some file →
+        Costs src.old src.new out.new result
         (behind_header file store.old.slots cap.bytes parts.0) }
-    ensures text { (file : List ℕ) → src.old.seen.file ≡ Some file → IsEhdr file 0 header.now →
+    ensures text { (file : List ℕ) → src.old.seen.file ≡ Some file →
         Writes out.old out.new result (load_items file store.old.slots cap.bytes parts.0) }
 {
     if !parts.intersects(TABLES) {
