@@ -1,7 +1,7 @@
 //! Whole listings of small files: sections, program headers, symbols and relocation entries, and where
 //! they are refused.
 ghost use Rattle.std.specs.Prelude.{◌≡◌, ◌+◌, ◌≤◌, length};
-ghost use Rattle.elf_listing.specs.Sections.{AreListed};
+ghost use Rattle.elf_listing.specs.Parts.{AreListed};
 
 use crate::answering::run;
 use crate::fixtures::{HASH_TABLE, ONE_CALL, RELOCATIONS};

@@ -1,6 +1,6 @@
 //! The file header's listing over honest sources, and over sources and sinks that fail; words and endings.
 ghost use Rattle.std.specs.Prelude.{◌≡◌, ◌≤◌, IfOk};
-ghost use Rattle.elf_listing.specs.Sections.{AreListed};
+ghost use Rattle.elf_listing.specs.Parts.{AreListed};
 
 use crate::answering::{outcome, refused, run};
 use crate::offset_reader::OffsetReader;

@@ -1,7 +1,7 @@
 //! The words of a command line.
 ghost use Rattle.std.specs.Prelude.{◌≡◌, IfOk, IfErr, IsErr, Some, codes, false};
 ghost use Rattle.elf_model.specs.Text.{name_of};
-ghost use Rattle.elf_listing.specs.Sections.{AreListed};
+ghost use Rattle.elf_listing.specs.Parts.{AreListed};
 ghost use Rattle.elfsee.specs.Requests.{Asks, AsksForNone, is_part, part_names, parts_of};
 ghost use Rattle.elfsee.specs.declared.requests.RequestFault.TheVariants.{Words};
 
