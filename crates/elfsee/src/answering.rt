@@ -36,10 +36,7 @@ pub fn run<S: Source, W: Sink>(
     // For every source.
     ensures asks { AsksAs (caps_of request.now) (parts_of request.now) src.old src.new result }
 {
-    let end = match request {
-        Request::Show { caps, parts, .. } => show(src, store, *caps, *parts, out)?,
-        Request::Sample { caps, parts } => show(src, store, *caps, *parts, out)?,
-    };
+    let end = show(src, store, request.caps(), request.parts(), out)?;
     match end {
         End::Listed => Ok(0),
         End::Refused(_) => Ok(1),
