@@ -1,10 +1,8 @@
 -- What a listing's report is as the answer of a run.
-use Rattle.std.proofs.Common.{◌≡◌, ℕ, ◌<◌, List, Option, None, Some, Result, Ok, Err, refl, ap, sym, ◌∙◌, inl, inr, ◌⊎◌, length}
+use Rattle.std.proofs.Common.{◌≡◌, ℕ, List, Option, None, Some, Ok, Err, ap, ◌∙◌, inl, inr}
 use Rattle.elf_model.specs.Answer.{Answer, IsShown, status_of, show_answer}
-use Rattle.elf_model.specs.Budget.{IsBudgeted, IsReport, IsCut}
-use Rattle.elf_model.specs.Cost.{cost}
-use Rattle.elf_model.specs.Listing.{Item}
-use Rattle.elf_model.specs.Report.{items, report, report_fault}
+use Rattle.elf_model.specs.Budget.{IsBudgeted, IsReport}
+use Rattle.elf_model.specs.Report.{items, report}
 use Rattle.elf_model.specs.declared.causes.Refusal.{Refusal}
 use Rattle.elf_source.specs.Output.{Written}
 use Rattle.elf_listing.specs.Reports.{Reports}

@@ -3,6 +3,8 @@
 
 mod answering;
 #[cfg(test)]
+mod budget_tests;
+#[cfg(test)]
 mod fixtures;
 #[cfg(test)]
 mod listing_tests;

@@ -125,13 +125,12 @@ struct Unread {
 }
 
 impl Source for Unread {
-    ghost use Rattle.std.specs.Prelude.{◌≡◌, ℕ};
+    ghost use Rattle.std.specs.Prelude.{⊤};
+    ghost use Rattle.elf_source.specs.Source.{unknown};
 
-    ghost holds = { λ _ _. ⊥ };
+    ghost seen = { λ s. unknown s.length 0 };
 
-    ghost failures = { λ _. 0 };
-
-    ghost size = { λ s. s.length };
+    ghost one_read = { λ _ _ _ _. ⊤ };
 
     fn length(&self) -> u64 {
         self.length
@@ -140,8 +139,6 @@ impl Source for Unread {
     fn fill(&mut self, _at: u64, _out: &mut [u8]) -> Result<(), SourceFault> {
         Err(SourceFault::Ended)
     }
-
-    ghost sized = { λ s file h. absurd h };
 }
 
 #[test]
@@ -164,13 +161,12 @@ struct Broken {
 }
 
 impl Source for Broken {
-    ghost use Rattle.std.specs.Prelude.{◌≡◌, ℕ};
+    ghost use Rattle.std.specs.Prelude.{⊤};
+    ghost use Rattle.elf_source.specs.Source.{unknown};
 
-    ghost holds = { λ _ _. ⊥ };
+    ghost seen = { λ s. unknown 64 s.failures };
 
-    ghost failures = { λ s. s.failures };
-
-    ghost size = { λ _. 64 };
+    ghost one_read = { λ _ _ _ _. ⊤ };
 
     fn length(&self) -> u64 {
         64
@@ -183,8 +179,6 @@ impl Source for Broken {
         self.failures += 1;
         Err(SourceFault::Device)
     }
-
-    ghost sized = { λ s file h. absurd h };
 }
 
 #[test]

@@ -1,4 +1,3 @@
-use Rattle.std.proofs.Common.{rules}
 use Rattle.std.proofs.lemmas.Result.{err_from_is_err_and}
 use Rattle.elfsee.proofs.AnswerLaws.{listed_answer, refused_answer, stopped_answer}
 use Rattle.elfsee.proofs.answering.run.Goals as goal
