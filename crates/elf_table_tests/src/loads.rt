@@ -5,7 +5,7 @@ use crate::fixtures::{FIVE_SECTIONS, ONE_SYMBOL_TABLE, refused};
 use crate::tables::Planned;
 use elf_record::{Cause, Ehdr, Shdr};
 use elf_source::{Counted, MemorySource, Source, SourceFault};
-use elf_table::{Fault, HeaderStore, Loaded, Names, Table, header, load};
+use elf_table::{Fault, File, HeaderStore, Loaded, Names, Table, header, load};
 use std::process::Abort;
 use std::test::Fail;
 
@@ -17,12 +17,11 @@ struct Ending {
 
 impl Source for Ending {
     ghost use Rattle.std.specs.Prelude.{◌≡◌};
+    ghost use Rattle.elf_source.specs.Source.{unknown};
 
-    ghost holds = { λ _ _. ⊥ };
+    ghost seen = { λ s. unknown s.length 0 };
 
-    ghost failures = { λ _. 0 };
-
-    ghost size = { λ s. s.length };
+    ghost one_read = { λ before _ _ after. after ≡ before };
 
     fn length(&self) -> u64 {
         self.length
@@ -31,8 +30,6 @@ impl Source for Ending {
     fn fill(&mut self, _at: u64, _out: &mut [u8]) -> Result<(), SourceFault> {
         Err(SourceFault::Ended)
     }
-
-    ghost sized = { λ s file h. absurd h };
 }
 
 /// Reads the header and loads the section headers, and says how many bytes were asked for.
@@ -64,15 +61,14 @@ fn section(store: &HeaderStore, i: u16, rt: &impl Abort) -> Shdr {
 }
 
 /// Loads a file of three section headers, which has to pass the checks.
-fn three_sections(file: &[u8], store: &mut HeaderStore, rt: &impl Abort) -> Loaded
-    ensures stored { store.new.loaded ≡ 3 }
-    ensures counted { result.header.e_shnum ≡ 3 }
+fn three_sections<'a>(file: &[u8], store: &'a mut HeaderStore, rt: &impl Abort) -> File<'a>
+    ensures { result.loaded.header.e_shnum ≡ 3 }
 {
     let mut src = Counted::new(MemorySource::new(file));
     let header = header(&mut src).expect(rt, "a header");
     let loaded = load(&mut src, store, &header).expect(rt, "a file that passes");
     assert!(rt; loaded.header().e_shnum == 3);
-    loaded
+    File { loaded, store }
 }
 
 /// The file with one symbol table, whose section 2 has the section names and a link to section 1.
@@ -222,52 +218,52 @@ fn rows_behind_the_first_page_are_loaded(rt: HostRuntime) -> Result<(), Fail> {
 #[test]
 fn tables_are_checked_by_their_section(rt: HostRuntime) -> Result<(), Fail> {
     let mut store = HeaderStore::new(rt.alloc(), 3)?;
-    let loaded = three_sections(&linked_file(), &mut store, &rt);
+    let file = three_sections(&linked_file(), &mut store, &rt);
     let (symbols, _names) = symbols_and_names();
     let none = Table::new(0, 0, 16);
-    assert!(rt; loaded.table(&store, 1, 24) == Ok(symbols));
-    assert!(rt; loaded.table(&store, 1, 16) == refused(0xb8, Cause::EntrySize));
-    assert!(rt; loaded.table(&store, 0, 16) == Ok(none));
-    assert!(rt; loaded.segments().is_empty());
+    assert!(rt; file.table(1, 24) == Ok(symbols));
+    assert!(rt; file.table(1, 16) == refused(0xb8, Cause::EntrySize));
+    assert!(rt; file.table(0, 16) == Ok(none));
+    assert!(rt; file.segments().is_empty());
     Ok(())
 }
 
 #[test]
 fn strings_are_checked_by_their_section(rt: HostRuntime) -> Result<(), Fail> {
     let mut store = HeaderStore::new(rt.alloc(), 3)?;
-    let loaded = three_sections(&linked_file(), &mut store, &rt);
+    let file = three_sections(&linked_file(), &mut store, &rt);
     let (_symbols, names) = symbols_and_names();
-    assert!(rt; loaded.strings(&store, 1) == Ok(names));
-    assert!(rt; loaded.strings(&store, 0) == refused(0x78, Cause::BadLink));
-    assert!(rt; loaded.strings(&store, 2) == refused(0xb8, Cause::NotStrings));
-    assert!(rt; loaded.names(&store) == Some(names));
+    assert!(rt; file.strings(1) == Ok(names));
+    assert!(rt; file.strings(0) == refused(0x78, Cause::BadLink));
+    assert!(rt; file.strings(2) == refused(0xb8, Cause::NotStrings));
+    assert!(rt; file.names() == Some(names));
     Ok(())
 }
 
 #[test]
 fn symbols_come_with_their_names(rt: HostRuntime) -> Result<(), Fail> {
     let mut store = HeaderStore::new(rt.alloc(), 3)?;
-    let loaded = three_sections(&linked_file(), &mut store, &rt);
+    let file = three_sections(&linked_file(), &mut store, &rt);
     let (symbols, names) = symbols_and_names();
-    assert!(rt; loaded.symbols(&store, 1) == Ok((symbols, names)));
-    assert!(rt; loaded.linked(&store, 2) == Ok(Some((symbols, names))));
-    assert!(rt; loaded.linked(&store, 0) == Ok(None));
+    assert!(rt; file.symbols(1) == Ok((symbols, names)));
+    assert!(rt; file.linked(2) == Ok(Some((symbols, names))));
+    assert!(rt; file.linked(0) == Ok(None));
     Ok(())
 }
 
 #[test]
 fn ranges_are_whole_numbers(rt: HostRuntime) -> Result<(), Fail> {
     let mut store = HeaderStore::new(rt.alloc(), 3)?;
-    let mut file = ONE_SYMBOL_TABLE;
+    let mut bytes = ONE_SYMBOL_TABLE;
     // Section 1 at 2^64 - 8, of 24 bytes.
-    file[0xd0..0xd8].copy_from_slice(&(u64::MAX - 7).to_le_bytes());
-    file[0xd8] = 24;
-    let loaded = three_sections(&file, &mut store, &rt);
+    bytes[0xd0..0xd8].copy_from_slice(&(u64::MAX - 7).to_le_bytes());
+    bytes[0xd8] = 24;
+    let file = three_sections(&bytes, &mut store, &rt);
     let outside = refused(9, Cause::TableOutside);
-    let symbols = loaded.symbols(&store, 1);
+    let symbols = file.symbols(1);
     assert!(rt; symbols == refused(0xb8, Cause::TableOutside));
-    assert!(rt; loaded.bytes(0x70, 6, 9) == Ok(Table::new(0x70, 6, 1)));
-    assert!(rt; loaded.bytes(u64::MAX, 6, 9) == outside);
-    assert!(rt; loaded.bytes(u64::MAX, 0, 9) == Ok(Table::new(u64::MAX, 0, 1)));
+    assert!(rt; file.bytes(0x70, 6, 9) == Ok(Table::new(0x70, 6, 1)));
+    assert!(rt; file.bytes(u64::MAX, 6, 9) == outside);
+    assert!(rt; file.bytes(u64::MAX, 0, 9) == Ok(Table::new(u64::MAX, 0, 1)));
     Ok(())
 }

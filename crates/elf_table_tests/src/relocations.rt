@@ -4,7 +4,9 @@ ghost use Rattle.std.specs.Prelude.{◌≡◌};
 use crate::fixtures::{ONE_CALL, refused};
 use elf_record::{Cause, Rela, Sym};
 use elf_source::{Counted, MemorySource};
-use elf_table::{Cursor, Fault, HeaderStore, Loaded, NameBuf, NameEnd, Names, Table, header, load};
+use elf_table::{
+    Cap, Cursor, Fault, File, HeaderStore, NameBuf, NameEnd, Names, Table, header, load,
+};
 use std::process::Abort;
 use std::test::Fail;
 
@@ -15,15 +17,14 @@ type Symbols = (Table, Names);
 type Relocations = (Table, Option<Symbols>);
 
 /// Loads a file of five section headers, which has to pass the checks.
-fn five_sections(file: &[u8], store: &mut HeaderStore, rt: &impl Abort) -> Loaded
-    ensures stored { store.new.loaded ≡ 5 }
-    ensures counted { result.header.e_shnum ≡ 5 }
+fn five_sections<'a>(file: &[u8], store: &'a mut HeaderStore, rt: &impl Abort) -> File<'a>
+    ensures { result.loaded.header.e_shnum ≡ 5 }
 {
     let mut src = Counted::new(MemorySource::new(file));
     let header = header(&mut src).expect(rt, "a header");
     let loaded = load(&mut src, store, &header).expect(rt, "a file that passes");
     assert!(rt; loaded.header().e_shnum == 5);
-    loaded
+    File { loaded, store }
 }
 
 /// The relocation entries in section 2 of a file of five section headers.
@@ -32,12 +33,12 @@ fn relocations(
     store: &mut HeaderStore,
     rt: &impl Abort,
 ) -> Result<Relocations, Fault> {
-    five_sections(file, store, rt).relocations(store, 2)
+    five_sections(file, store, rt).relocations(2)
 }
 
 /// The symbols that section 2 of a file of five section headers links to.
 fn linked(file: &[u8], store: &mut HeaderStore, rt: &impl Abort) -> Result<Option<Symbols>, Fault> {
-    five_sections(file, store, rt).linked(store, 2)
+    five_sections(file, store, rt).linked(2)
 }
 
 /// The entry of the call.
@@ -289,7 +290,13 @@ fn the_entry_of_the_call_leads_to_a_name(rt: HostRuntime) {
     assert!(rt; Rela::decode(&bytes).symbol() == 1);
     let symbol = symbols.symbol(&mut src, 1).expect(&rt, "a symbol");
     let mut name = NameBuf::new();
-    let end = names.read(&mut src, u64::from(symbol.st_name), 0x78, 63, &mut name);
+    let end = names.read(
+        &mut src,
+        u64::from(symbol.st_name),
+        0x78,
+        Cap { bytes: 63 },
+        &mut name,
+    );
     assert!(rt; end == Ok(NameEnd::Whole) && name.bytes() == b"f".as_slice());
     assert!(rt; src.asked() == 24 + 24 + 2);
 }

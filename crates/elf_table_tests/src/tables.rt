@@ -30,13 +30,13 @@ impl<'a> Planned<'a> {
 }
 
 impl<'a> Source for Planned<'a> {
-    ghost use Rattle.std.specs.Prelude.{◌≡◌, length, if◌then◌else◌};
+    ghost use Rattle.std.specs.Prelude.{length, if◌then◌else◌};
+    ghost use Rattle.elf_source.specs.Source.{unknown};
 
-    ghost holds = { λ s file. s.bytes.now ≡ file };
+    // Its size, and one failure once the read that is planned has failed.
+    ghost seen = { λ s. unknown (length s.bytes.now) (if s.failed then 1 else 0) };
 
-    ghost failures = { λ s. if s.failed then 1 else 0 };
-
-    ghost size = { λ s. length s.bytes.now };
+    ghost one_read = { λ _ _ _ _. Unit {0} };
 
     fn length(&self) -> u64 {
         self.bytes.len() as u64
@@ -52,10 +52,6 @@ impl<'a> Source for Planned<'a> {
         out.copy_from_slice(&self.bytes[start..start + out.len()]);
         Ok(())
     }
-
-    ghost use Rattle.std.proofs.Common.{ap, sym};
-
-    ghost sized = { λ s file h. ap length (sym h) };
 }
 
 // How many rows of 24 bytes a cursor gives, each with its index and offset.
@@ -64,9 +60,9 @@ fn rows_given<S: Source>(
     src: &mut Counted<S>,
     rt: &impl Abort,
 ) -> Result<u64, Fault>
-    requires { RowsWithin (S.size src.old.source) cursor.old.table }
+    requires { RowsWithin src.old.seen.size cursor.old.table }
     ensures table { cursor.new.table ≡ cursor.old.table }
-    ensures size { S.size src.new.source ≡ S.size src.old.source }
+    ensures size { src.new.seen.size ≡ src.old.seen.size }
 {
     let mut count: u64 = 0;
     while let Some(row) = cursor.next(src)? {
