@@ -1,36 +1,13 @@
 //! What no clause says: that the store can be made, and the answers at files with known ones.
 ghost use Rattle.std.specs.Prelude.{◌≡◌};
 
+use crate::fakes::{Ending, Planned};
 use crate::fixtures::{FIVE_SECTIONS, ONE_SYMBOL_TABLE, refused};
-use crate::tables::Planned;
 use elf_record::{Cause, Ehdr, Shdr};
 use elf_source::{Counted, MemorySource, Source, SourceFault};
 use elf_table::{Fault, File, HeaderStore, Loaded, Names, Table, header, load};
 use std::process::Abort;
 use std::test::Fail;
-
-/// A source that is never honest: it has a length, and each read ends.
-#[derive(Drop)]
-struct Ending {
-    length: u64,
-}
-
-impl Source for Ending {
-    ghost use Rattle.std.specs.Prelude.{◌≡◌};
-    ghost use Rattle.elf_source.specs.Source.{unknown};
-
-    ghost seen = { λ s. unknown s.length 0 };
-
-    ghost one_read = { λ before _ _ after. after ≡ before };
-
-    fn length(&self) -> u64 {
-        self.length
-    }
-
-    fn fill(&mut self, _at: u64, _out: &mut [u8]) -> Result<(), SourceFault> {
-        Err(SourceFault::Ended)
-    }
-}
 
 /// Reads the header and loads the section headers, and says how many bytes were asked for.
 fn run(file: &[u8], store: &mut HeaderStore) -> (Result<Loaded, Fault>, u128) {
@@ -40,11 +17,17 @@ fn run(file: &[u8], store: &mut HeaderStore) -> (Result<Loaded, Fault>, u128) {
 /// The same over any source.
 fn run_over<S: Source + Drop>(source: S, store: &mut HeaderStore) -> (Result<Loaded, Fault>, u128) {
     let mut src = Counted::new(source);
-    let answer = match header(&mut src) {
-        Ok(header) => load(&mut src, store, &header),
-        Err(fault) => Err(fault),
-    };
+    let answer = open(&mut src, store);
     (answer, src.asked())
+}
+
+/// Reads the header and loads the section headers.
+pub(crate) fn open<S: Source>(
+    src: &mut Counted<S>,
+    store: &mut HeaderStore,
+) -> Result<Loaded, Fault> {
+    let header = header(src)?;
+    load(src, store, &header)
 }
 
 /// Loads a file that has to pass the checks, and says how many bytes were asked for.
@@ -195,7 +178,7 @@ fn a_store_of_any_size_can_be_made(rt: HostRuntime) -> Result<(), Fail> {
 }
 
 /// A file of 65 section headers, one more than a page has.
-fn two_pages() -> [u8; 64 + 64 * 65] {
+pub(crate) fn two_pages() -> [u8; 64 + 64 * 65] {
     let mut file = [0; 64 + 64 * 65];
     file[..64].copy_from_slice(&FIVE_SECTIONS[..64]);
     file[0x3c] = 65;

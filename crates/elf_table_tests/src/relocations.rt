@@ -1,9 +1,10 @@
-//! Relocation entries of a section, the symbols that it links to, and which of several faults is told.
+//! Relocation entries of a section, the symbols that it links to, and which of several faults is
+//! told.
 ghost use Rattle.std.specs.Prelude.{◌≡◌};
 
 use crate::fixtures::{ONE_CALL, refused};
 use elf_record::{Cause, Rela, Sym};
-use elf_source::{Counted, MemorySource};
+use elf_source::{Counted, MemorySource, Source};
 use elf_table::{
     Cap, Cursor, Fault, File, HeaderStore, NameBuf, NameEnd, Names, Table, header, load,
 };
@@ -179,7 +180,7 @@ fn faults_of_the_linked_tables_are_told_by_linked(rt: HostRuntime) -> Result<(),
 #[test]
 fn faults_are_told_in_their_order(rt: HostRuntime) -> Result<(), Fail> {
     let mut store = HeaderStore::new(rt.alloc(), 5)?;
-    // The entries, then the symbols, then their names: what one byte breaks, and where that is told.
+    // The entries, the symbols, then their names: what one byte breaks, and where that is told.
     let faults = [
         (0x150, 16, 0x118, Cause::EntrySize),
         (0x138, 0x17, 0x118, Cause::SizeNotWhole),
@@ -277,26 +278,32 @@ fn the_symbol_of_the_call_is_read(rt: HostRuntime) {
     assert!(rt; src.asked() == 48);
 }
 
-#[test]
-fn the_entry_of_the_call_leads_to_a_name(rt: HostRuntime) {
+/// Goes from the entry of the call to the name of its symbol.
+pub(crate) fn name_of_the_call<S: Source>(src: &mut Counted<S>, rt: &impl Abort) {
+    assert!(rt; src.length() == 472);
     let (symbols, names) = two_symbols();
-    let mut src = Counted::new(MemorySource::new(&ONE_CALL));
     let mut cursor = Cursor::new(one_entry());
     let mut bytes = [0; 24];
-    if let Ok(Some(row)) = cursor.next(&mut src) {
+    if let Ok(Some(row)) = cursor.next(src) {
         assert!(rt; row.bytes.len() == 24);
         bytes.copy_from_slice(row.bytes);
     }
     assert!(rt; Rela::decode(&bytes).symbol() == 1);
-    let symbol = symbols.symbol(&mut src, 1).expect(&rt, "a symbol");
+    let symbol = symbols.symbol(src, 1).expect(rt, "a symbol");
     let mut name = NameBuf::new();
     let end = names.read(
-        &mut src,
+        src,
         u64::from(symbol.st_name),
         0x78,
         Cap { bytes: 63 },
         &mut name,
     );
     assert!(rt; end == Ok(NameEnd::Whole) && name.bytes() == b"f".as_slice());
+}
+
+#[test]
+fn the_entry_of_the_call_leads_to_a_name(rt: HostRuntime) {
+    let mut src = Counted::new(MemorySource::new(&ONE_CALL));
+    name_of_the_call(&mut src, &rt);
     assert!(rt; src.asked() == 24 + 24 + 2);
 }

@@ -2,60 +2,13 @@
 ghost use Rattle.std.specs.Prelude.{◌≡◌};
 ghost use Rattle.elf_table.specs.Tables.{RowsWithin};
 
+use crate::fakes::Planned;
 use elf_source::{Counted, MemorySource, Source, SourceFault};
 use elf_table::{Cursor, Fault, Table};
 use std::process::Abort;
 
-/// A source over a slice that counts its reads and fails one of them.
-#[derive(Drop)]
-pub(crate) struct Planned<'a> {
-    bytes: &'a [u8],
-    reads: u32,
-    failing: u32,
-    failed: bool,
-}
-
-impl<'a> Planned<'a> {
-    /// The read with the number `failing` fails, counted from 1 on.
-    pub(crate) fn new(bytes: &'a [u8], failing: u32) -> Self
-        ensures { result.bytes.now ≡ bytes.now }
-    {
-        Planned {
-            bytes,
-            reads: 0,
-            failing,
-            failed: false,
-        }
-    }
-}
-
-impl<'a> Source for Planned<'a> {
-    ghost use Rattle.std.specs.Prelude.{length, if◌then◌else◌};
-    ghost use Rattle.elf_source.specs.Source.{unknown};
-
-    // Its size, and one failure once the read that is planned has failed.
-    ghost seen = { λ s. unknown (length s.bytes.now) (if s.failed then 1 else 0) };
-
-    ghost one_read = { λ _ _ _ _. Unit {0} };
-
-    fn length(&self) -> u64 {
-        self.bytes.len() as u64
-    }
-
-    fn fill(&mut self, at: u64, out: &mut [u8]) -> Result<(), SourceFault> {
-        self.reads = self.reads.saturating_add(1);
-        if !self.failed && self.reads == self.failing {
-            self.failed = true;
-            return Err(SourceFault::Device);
-        }
-        let start = at as usize;
-        out.copy_from_slice(&self.bytes[start..start + out.len()]);
-        Ok(())
-    }
-}
-
-// How many rows of 24 bytes a cursor gives, each with its index and offset.
-fn rows_given<S: Source>(
+/// How many rows of 24 bytes a cursor gives, each with its index and offset.
+pub(crate) fn rows_given<S: Source>(
     cursor: &mut Cursor,
     src: &mut Counted<S>,
     rt: &impl Abort,
