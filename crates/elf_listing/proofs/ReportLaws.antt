@@ -124,17 +124,20 @@ ended_listed file caps parts refusal before limited after small limits sized say
         let same = limits.asked in
         let fits = limits.small budget some in
         let size = ap (λ seen. seen.size) limits.seen in
-        inr (budget_below budget before.asked over.most (cost file caps.headers caps.name.bytes parts) small (sym is) fits (omega (arith, over.above, same)), record {
-          front = ends.front.front;
-          rest = ends.front.rest;
-          split = ends.front.split;
-          no_fault = ends.front.no_fault;
-          refusal = refusal;
-          for_budget = for_budget;
-          inside = omega (arith, said.0, size, sized);
-          text_is = refl;
-          fault_is = refl;
-        })
+        inr (
+          budget_below budget before.asked over.most (cost file caps.headers caps.name.bytes parts) small (sym is) fits (omega (arith, over.above, same)),
+          record {
+            front = ends.front.front;
+            rest = ends.front.rest;
+            split = ends.front.split;
+            no_fault = ends.front.no_fault;
+            refusal = refusal;
+            for_budget = for_budget;
+            inside = omega (arith, said.0, size, sized);
+            text_is = refl;
+            fault_is = refl;
+          },
+        )
 
     by_cause : (refusal.cause ≡ Budget) ⊎ (refusal.cause ≡ Budget → ⊥)
         → IsBudgeted caps.budget file caps.headers caps.name.bytes parts (lines_of ends.front.front ++ refusal_line refusal) (Some refusal)

@@ -62,8 +62,8 @@ pub Stopped-name : (a : Written) (front : List ℕ) (at : ℕ) (fault : Fault) (
     → Stopped a a (stop_of fault) (named_row front at answer)
 Stopped-name a front at (Refused refusal) name answer read =
     Ends-first a refusal (named_row front at answer) (λ other.
-        let is = read other in
-        ap (named_row front at) is.1 ∙ ap (λ (place : ℕ). FaultItem (record { at = place; cause = refusal.cause }) ∷ []) (sym is.0))
+    let is = read other in
+    ap (named_row front at) is.1 ∙ ap (λ (place : ℕ). FaultItem (record { at = place; cause = refusal.cause }) ∷ []) (sym is.0))
 Stopped-name a front at (Source fault offset) name answer read = Front-none a (named_row front at answer)
 
 -- a program header's line at its place

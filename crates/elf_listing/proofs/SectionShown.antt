@@ -46,8 +46,6 @@ section_is file front names off at index cap same some place is before = sym (
     ∙ (ap (λ p. named_row (section_front file (section_at file index) index) p (name_in file names off cap)) place
     ∙ ap (named_row (section_front file (section_at file index) index) (section_at file index)) (name_is file names off (section_at file index) cap same some is)))
 
-
-
 -- a section that holds no symbols has no rows of symbols
 pub no_symbols : (file : List ℕ) (cap section : ℕ) → is_symbol_table file (section_at file section) ≡ false → symbol_rows file cap section ≡ []
 unfolding symbol_rows
@@ -126,14 +124,6 @@ symbols_pass file section table names h =
       named = λ some. ap (λ (s : Strings). slice file s.at s.size) ((p.2 some).0);
       placed = λ some. (p.2 some).1;
     }
-
-
-
-
-
-
-
-
 
 -- a section of another type has no rows of relocation entries
 pub no_relocations : (file : List ℕ) (cap section : ℕ) → (sh_type file (section_at file section) ≡ SHT_RELA → ⊥) → relocation_rows file cap section ≡ []

@@ -35,7 +35,8 @@ impl<S: Source, W: Sink> Listing<'_, '_, '_, S, W> {
         requires whole { length row.now.bytes.now ≡ 24 }
         requires within { IfSome linked (SymbolsWithin self.old.src.now.seen.size) }
         ensures lists { Lists self.old self.new result (24 + name_bytes self.old.cap.bytes) }
-        ensures shows { OfRow self.old self.new result row.now (Relocations section machine linked) }
+        ensures shows { OfRow self.old self.new result row.now
+            (Relocations section machine linked) }
     {
         let entry = Rela::decode(whole_row(row));
         let symbol = entry.symbol();

@@ -35,7 +35,8 @@ impl<S: Source, W: Sink> Listing<'_, '_, '_, S, W> {
     /// Shows the rows of a table one after another, up to the first that is refused.
     pub(crate) fn rows(&mut self, table: Table, kind: &Kind) -> Result<(), Stop>
         requires { IsTableOf self.old.src.now.seen.size kind.now table }
-        ensures lists { Lists self.old self.new result (rows_cost kind.now table self.old.cap.bytes) }
+        ensures lists { Lists self.old self.new result
+            (rows_cost kind.now table self.old.cap.bytes) }
         ensures shows { OfRows self.old self.new result table kind.now }
     {
         let mut cursor = Cursor::new(table);

@@ -40,7 +40,8 @@ impl<S: Source, W: Sink> Listing<'_, '_, '_, S, W> {
         requires { section < self.old.file.store.now.loaded }
         ensures lists { let f = self.old.file in Lists self.old self.new result
             (section_cost part f.loaded f.store.now self.old.cap.bytes section) }
-        ensures shows { Shows self.old self.new result (section_items part self.old.cap.bytes section) }
+        ensures shows { Shows self.old self.new result
+            (section_items part self.old.cap.bytes section) }
     {
         match part {
             Part::Headers => self.section_row(section),
@@ -55,7 +56,8 @@ impl<S: Source, W: Sink> Listing<'_, '_, '_, S, W> {
         requires { section < self.old.file.store.now.loaded }
         ensures lists { let f = self.old.file in Lists self.old self.new result
             (section_cost Headers f.loaded f.store.now self.old.cap.bytes section) }
-        ensures shows { Shows self.old self.new result (section_items Headers self.old.cap.bytes section) }
+        ensures shows { Shows self.old self.new result
+            (section_items Headers self.old.cap.bytes section) }
     {
         let header = self.file.section(section);
         let place = self.file.place(section);
@@ -71,7 +73,8 @@ impl<S: Source, W: Sink> Listing<'_, '_, '_, S, W> {
         requires { section < self.old.file.store.now.loaded }
         ensures lists { let f = self.old.file in Lists self.old self.new result
             (section_cost Symbols f.loaded f.store.now self.old.cap.bytes section) }
-        ensures shows { Shows self.old self.new result (section_items Symbols self.old.cap.bytes section) }
+        ensures shows { Shows self.old self.new result
+            (section_items Symbols self.old.cap.bytes section) }
     {
         if !holds_symbols(&self.file.section(section)) {
             return Ok(());

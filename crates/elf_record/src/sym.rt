@@ -46,7 +46,8 @@ impl Sym {
     /// Reads the fields from the record's bytes. No field is checked.
     pub fn decode(bytes: &[u8; 24]) -> Sym
         ensures fields { IsSym bytes.now 0 result }
-        ensures stands { (file : List ℕ) (at : ℕ) → bytes.now ≡ slice file at 24 → IsSym file at result }
+        ensures stands { (file : List ℕ) (at : ℕ) → bytes.now ≡ slice file at 24 →
+            IsSym file at result }
     {
         Sym {
             st_name: u32_at(bytes, 0),
@@ -62,7 +63,8 @@ impl Sym {
     pub fn encode(&self) -> [u8; 24]
         ensures spelled { result ≡ spelling (sym_parts self.now) }
         ensures fields { IsSym result 0 self.now }
-        ensures only { (bytes : List ℕ) → IsBytes bytes → length bytes ≡ 24 → IsSym bytes 0 self.now → bytes ≡ result }
+        ensures only { (bytes : List ℕ) → IsBytes bytes → length bytes ≡ 24 →
+            IsSym bytes 0 self.now → bytes ≡ result }
     {
         self.spelled().into_inner().unwrap()
     }

@@ -25,7 +25,13 @@ impl<S: Source> Model for Counted<S> {
 
     ghost Value = { Counting };
 
-    ghost view = { λ c. record { seen = S.seen c.source; asked = c.asked; most = c.most; within = c.within; fits = c.fits } };
+    ghost view = { λ c. record {
+      seen = S.seen c.source;
+      asked = c.asked;
+      most = c.most;
+      within = c.within;
+      fits = c.fits;
+    } };
 }
 
 impl<S: Source> Counted<S> {
@@ -89,7 +95,8 @@ impl<S: Source> Counted<S> {
         requires { IsReadable self.old at (length out.old) }
         ensures reads { Reads self.old self.new (length out.old) }
         ensures blames { IfErr result (Blames self.old self.new (length out.old)) }
-        ensures slice { (file : List ℕ) → self.old.seen.file ≡ Some file → OnOk result (out.new ≡ take (length out.old) (drop at file)) }
+        ensures slice { (file : List ℕ) → self.old.seen.file ≡ Some file → OnOk result
+            (out.new ≡ take (length out.old) (drop at file)) }
         ensures asks { Asks self.old self.new (length out.old) result }
         ensures once { AsksOnce S.one_read self.old self.new at (length out.old) result }
     {
@@ -117,7 +124,8 @@ impl<S: Source> Counted<S> {
         requires { at + length out.old ≤ self.old.seen.size }
         ensures fills { Fills self.old self.new (length out.old) }
         ensures faults { IfErr result (Faults self.old.seen self.new.seen) }
-        ensures slice { (file : List ℕ) → self.old.seen.file ≡ Some file → OnOk result (out.new ≡ take (length out.old) (drop at file)) }
+        ensures slice { (file : List ℕ) → self.old.seen.file ≡ Some file → OnOk result
+            (out.new ≡ take (length out.old) (drop at file)) }
         ensures once { S.one_read self.old.seen at (length out.old) self.new.seen }
     {
         let left = self.left();

@@ -20,7 +20,12 @@ impl<W: Sink> Model for Out<W> {
 
     ghost Value = { Written };
 
-    ghost view = { λ o. record { taken = W.taken o.sink; written = o.written; failed = W.failed o.sink; fits = o.fits } };
+    ghost view = { λ o. record {
+      taken = W.taken o.sink;
+      written = o.written;
+      failed = W.failed o.sink;
+      fits = o.fits;
+    } };
 }
 
 impl<W: Sink> Out<W> {

@@ -26,7 +26,8 @@ pub trait Reader {
     fn end(&mut self) -> Result<u64, ReaderFault>
         ensures same { file self.new ≡ file self.old }
         ensures turn { IsTurn (interrupted self.old) (interrupted self.new) result }
-        ensures value { (bytes : List ℕ) → file self.old ≡ Some bytes → IfOk result (λ size. size ≡ length bytes) };
+        ensures value { (bytes : List ℕ) → file self.old ≡ Some bytes → IfOk result
+            (λ size. size ≡ length bytes) };
 
     /// Goes to a place, an offset in bytes.
     ///
@@ -48,5 +49,6 @@ pub trait Reader {
         ensures turn { IsTurn (interrupted self.old) (interrupted self.new) result }
         ensures within { IfOk result (λ count. count ≤ length out.old) }
         ensures moves { (at : ℕ) → IsTrue (stands self.old at) → Moves (stands self.new) at result }
-        ensures gives { (bytes : List ℕ) (at : ℕ) → file self.old ≡ Some bytes → IsTrue (stands self.old at) → IfOk result (Gives bytes at out.new) };
+        ensures gives { (bytes : List ℕ) (at : ℕ) → file self.old ≡ Some bytes →
+            IsTrue (stands self.old at) → IfOk result (Gives bytes at out.new) };
 }

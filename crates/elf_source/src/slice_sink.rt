@@ -20,9 +20,14 @@ impl<'a> Model for SliceSink<'a> {
 
     ghost Value = { Filled };
 
-    ghost view = { λ s. record { written = take s.len s.buffer.now; free = length s.buffer.now - s.len; failed = s.failed } };
+    ghost view = { λ s. record {
+      written = take s.len s.buffer.now;
+      free = length s.buffer.now - s.len;
+      failed = s.failed;
+    } };
 
-    ghost invariant = { λ s. (s.len ≤ length s.buffer.now) × (IsTrue s.failed → s.len ≡ length s.buffer.now) };
+    ghost invariant = { λ s. (s.len ≤ length s.buffer.now)
+        × (IsTrue s.failed → s.len ≡ length s.buffer.now) };
 }
 
 impl<'a> SliceSink<'a> {

@@ -28,7 +28,8 @@ pub trait Source {
     /// honest. After either, `out` holds any bytes, and the source may be asked again.
     fn fill(&mut self, at: u64, out: &mut [u8]) -> Result<(), SourceFault>
         requires { at + length out.old ≤ (seen self.old).size }
-        ensures slice { (file : List ℕ) → (seen self.old).file ≡ Some file → OnOk result (out.new ≡ take (length out.old) (drop at file)) }
+        ensures slice { (file : List ℕ) → (seen self.old).file ≡ Some file → OnOk result
+            (out.new ≡ take (length out.old) (drop at file)) }
         ensures faults { IfErr result (Faults (seen self.old) (seen self.new)) }
         ensures keeps { Keeps (seen self.old) (seen self.new) }
         ensures once { one_read (seen self.old) at (length out.old) (seen self.new) };

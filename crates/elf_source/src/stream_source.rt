@@ -32,7 +32,15 @@ impl<R: Reader> Model for StreamSource<R> {
 
     ghost Value = { Stream Seen };
 
-    ghost view = { λ s. record { seen = record { size = s.size; failures = s.failures; file = R.file s.reader; sized = s.sized }; interrupted = R.interrupted s.reader } };
+    ghost view = { λ s. record {
+      seen = record {
+        size = s.size;
+        failures = s.failures;
+        file = R.file s.reader;
+        sized = s.sized;
+      };
+      interrupted = R.interrupted s.reader;
+    } };
 }
 
 impl<R: Read + Seek + Drop> StreamSource<Device<R>> {
@@ -88,13 +96,15 @@ impl<R: Reader> Source for StreamSource<R> {
     /// nothing of the device.
     fn fill(&mut self, at: u64, out: &mut [u8]) -> Result<(), SourceFault>
         requires { at + length out.old ≤ self.old.seen.size }
-        ensures slice { (file : List ℕ) → self.old.seen.file ≡ Some file → OnOk result (out.new ≡ take (length out.old) (drop at file)) }
+        ensures slice { (file : List ℕ) → self.old.seen.file ≡ Some file → OnOk result
+            (out.new ≡ take (length out.old) (drop at file)) }
         ensures faults { IfErr result (Faults self.old.seen self.new.seen) }
         ensures keeps { Keeps self.old.seen self.new.seen }
         ensures once { self.new.seen.failures ≤ self.old.seen.failures + 1 }
         // No more than 64 turns are interrupted, those of the seek and of the reads behind it together.
         ensures few { self.new.interrupted ≤ self.old.interrupted + 64 }
-        ensures worn { self.old.seen.failures ≡ 2 ^ 64 - 1 → (result ≡ Err SourceFault.Ended) × (self.new ≡ self.old) }
+        ensures worn { self.old.seen.failures ≡ 2 ^ 64 - 1 → (result ≡ Err SourceFault.Ended)
+            × (self.new ≡ self.old) }
     {
         if self.failures == u64::MAX {
             return Err(SourceFault::Ended);
@@ -131,7 +141,8 @@ impl Turns {
 
     // Spends a turn on an interruption. A failure is `Device`, and so is one turn too many.
     fn spend(&mut self, fault: ReaderFault) -> Result<(), SourceFault>
-        ensures spent { OnOk result ((fault ≡ ReaderFault.Interrupted) × (self.new.left + 1 ≡ self.old.left)) }
+        ensures spent { OnOk result ((fault ≡ ReaderFault.Interrupted)
+            × (self.new.left + 1 ≡ self.old.left)) }
         ensures same { IfErr result (λ _. self.new.left ≡ self.old.left) }
         ensures device { IfErr result (λ fault. fault ≡ SourceFault.Device) }
     {
@@ -146,8 +157,10 @@ impl Turns {
 // The length of a reader.
 fn find_end<R: Reader>(reader: &mut R, turns: &mut Turns) -> Result<u64, SourceFault>
     ensures same { R.file reader.new ≡ R.file reader.old }
-    ensures few { R.interrupted reader.new + turns.new.left ≤ R.interrupted reader.old + turns.old.left + 1 }
-    ensures value { (bytes : List ℕ) → R.file reader.old ≡ Some bytes → IfOk result (λ size. size ≡ length bytes) }
+    ensures few { R.interrupted reader.new + turns.new.left
+        ≤ R.interrupted reader.old + turns.old.left + 1 }
+    ensures value { (bytes : List ℕ) → R.file reader.old ≡ Some bytes → IfOk result
+        (λ size. size ≡ length bytes) }
     ensures device { IfErr result (λ fault. fault ≡ SourceFault.Device) }
 {
     loop {
@@ -161,8 +174,10 @@ fn find_end<R: Reader>(reader: &mut R, turns: &mut Turns) -> Result<u64, SourceF
 // Goes to a place.
 fn seek_to<R: Reader>(reader: &mut R, at: u64, turns: &mut Turns) -> Result<(), SourceFault>
     ensures same { R.file reader.new ≡ R.file reader.old }
-    ensures few { OnOk result (R.interrupted reader.new + turns.new.left ≤ R.interrupted reader.old + turns.old.left) }
-    ensures few_at_fault { IfErr result (λ _. R.interrupted reader.new ≤ R.interrupted reader.old + turns.old.left + 1) }
+    ensures few { OnOk result
+        (R.interrupted reader.new + turns.new.left ≤ R.interrupted reader.old + turns.old.left) }
+    ensures few_at_fault { IfErr result
+        (λ _. R.interrupted reader.new ≤ R.interrupted reader.old + turns.old.left + 1) }
     ensures stands { OnOk result (IsTrue (R.stands reader.new at)) }
     ensures device { IfErr result (λ fault. fault ≡ SourceFault.Device) }
 {
@@ -178,8 +193,10 @@ fn seek_to<R: Reader>(reader: &mut R, at: u64, turns: &mut Turns) -> Result<(), 
 fn read_all<R: Reader>(reader: &mut R, out: &mut [u8], turns: &mut Turns) -> Result<(), SourceFault>
     ensures same { R.file reader.new ≡ R.file reader.old }
     ensures few { R.interrupted reader.new ≤ R.interrupted reader.old + turns.old.left + 1 }
-    ensures stands { (at : ℕ) → IsTrue (R.stands reader.old at) → OnOk result (IsTrue (R.stands reader.new (at + length out.old))) }
-    ensures fills { (file : List ℕ) (at : ℕ) → R.file reader.old ≡ Some file → IsTrue (R.stands reader.old at) →
+    ensures stands { (at : ℕ) → IsTrue (R.stands reader.old at) → OnOk result
+        (IsTrue (R.stands reader.new (at + length out.old))) }
+    ensures fills { (file : List ℕ) (at : ℕ) → R.file reader.old ≡ Some file →
+        IsTrue (R.stands reader.old at) →
         at + length out.old ≤ length file → Filled file at out.new result }
 {
     let mut got = 0;
@@ -204,7 +221,8 @@ fn read_at<R: Reader>(
     ensures same { R.file reader.new ≡ R.file reader.old }
     ensures few { R.interrupted reader.new ≤ R.interrupted reader.old + 64 }
     ensures stands { OnOk result (IsTrue (R.stands reader.new (at + length out.old))) }
-    ensures fills { (file : List ℕ) → R.file reader.old ≡ Some file → at + length out.old ≤ length file → Filled file at out.new result }
+    ensures fills { (file : List ℕ) → R.file reader.old ≡ Some file →
+        at + length out.old ≤ length file → Filled file at out.new result }
 {
     let mut turns = Turns::new();
     if from != Some(at) {

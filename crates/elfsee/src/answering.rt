@@ -32,7 +32,8 @@ pub fn run<S: Source, W: Sink>(
         Answers file (caps_of request.now) (parts_of request.now) out.old out.new result }
     ensures cost { (file : List ℕ) → src.old.seen.file ≡ Some file →
         let caps = caps_of request.now in
-        src.new.asked ≤ src.old.asked + cost file caps.headers caps.name.bytes (parts_of request.now) }
+        src.new.asked
+        ≤ src.old.asked + cost file caps.headers caps.name.bytes (parts_of request.now) }
     // For every source.
     ensures asks { AsksAs (caps_of request.now) (parts_of request.now) src.old src.new result }
 {

@@ -95,7 +95,8 @@ where
 
 /// The words behind the program's name.
 fn read_words<R: Env + AllocGlobal>(rt: &R) -> Result<Vec<String>, Ending>
-    ensures told { IfErr result (λ ending. (ending.1.now ≡ codes "elfsee: out of memory") ⊎ (ending.1.now ≡ codes "elfsee: words are not UTF-8")) }
+    ensures told { IfErr result (λ ending. (ending.1.now ≡ codes "elfsee: out of memory")
+        ⊎ (ending.1.now ≡ codes "elfsee: words are not UTF-8")) }
 {
     let mut words = match env::args(rt) {
         Ok(words) => words,
@@ -110,7 +111,8 @@ fn read_words<R: Env + AllocGlobal>(rt: &R) -> Result<Vec<String>, Ending>
 /// the first five tell that they are none.
 fn read_request(alloc: Global, words: &[String]) -> Result<Request, Ending>
     ensures listed { IfOk result (λ request. AreListed (parts_of request)) }
-    ensures told { IfErr result (λ ending. (fault : RequestFault) × (ending.0 ≡ refused_status fault) × (ending.1.now ≡ refused_line fault)) }
+    ensures told { IfErr result (λ ending. (fault : RequestFault)
+        × (ending.0 ≡ refused_status fault) × (ending.1.now ≡ refused_line fault)) }
 {
     let mut texts = [""; 5];
     let count = words.len().min(texts.len());

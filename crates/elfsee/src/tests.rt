@@ -6,7 +6,7 @@ use crate::answering::{outcome, refused, run};
 use crate::offset_reader::OffsetReader;
 use crate::requests::{Request, RequestFault};
 use crate::words::request;
-use elf_listing::{End, RunFault, show};
+use elf_listing::{End, FIXED_BYTES, RunFault, show};
 use elf_record::{Cause, Parts, Refusal};
 use elf_source::{
     Counted, MemorySource, Out, OutFault, SliceSink, Source, SourceFault, StreamSource, WriteSink,
@@ -364,4 +364,10 @@ fn a_file_is_read_where_a_seek_left_it(rt: HostRuntime) {
     assert!(rt; reader.seek(SeekFrom::Current(-20)).is_err());
     assert!(rt; reader.seek(SeekFrom::End(0)).ok() == Some(64));
     assert!(rt; reader.read(&mut byte).ok() == Some(0));
+}
+
+#[test]
+fn the_fixed_buffers_are_small(rt: HostRuntime) {
+    assert!(rt; FIXED_BYTES == 8_896);
+    assert!(rt; FIXED_BYTES <= 16_384);
 }

@@ -25,8 +25,10 @@ pub fn request(alloc: Global, words: &[&str]) -> Result<Request, RequestFault>
     ensures listed { IfOk result (λ request. AreListed (parts_of request)) }
     ensures asked { IfOk result (λ request. Asks words.now request) }
     // Want of memory is never told as bad words.
-    ensures no_show { IfErr result (λ fault. fault ≡ Words → AsksForNone words.now 4 (codes "show")) }
-    ensures no_sample { IfErr result (λ fault. fault ≡ Words → AsksForNone words.now 3 (codes "sample")) }
+    ensures no_show { IfErr result (λ fault. fault ≡ Words →
+        AsksForNone words.now 4 (codes "show")) }
+    ensures no_sample { IfErr result (λ fault. fault ≡ Words →
+        AsksForNone words.now 3 (codes "sample")) }
 {
     let Some(caps) = Caps::new(DEFAULT_HEADERS, DEFAULT_NAME) else {
         return Err(RequestFault::Words);

@@ -24,7 +24,7 @@ returns-in_err-found-clause-shows g c = λ file held.
     let belongs = c.args.self.now.loaded.belongs file held in
     let kind = sym (c.section.ensures.stands file belongs).sh_type ∙ c.if-section-ne-SHT_RELA.false in
     rw (p.1, p.2) (Stopped-first _ _ _ (λ refusal is other.
-        relocations_fault file c.args.self.now.cap.bytes c.args.section refusal kind (sym (c.in_err-found.ensures.held file belongs) ∙ ap (λ fault. Err fault) is)))
+    relocations_fault file c.args.self.now.cap.bytes c.args.section refusal kind (sym (c.in_err-found.ensures.held file belongs) ∙ ap (λ fault. Err fault) is)))
 
 pub returns-clause-lists : goal.returns-clause-lists
 returns-clause-lists g c =

@@ -26,7 +26,7 @@ returns-in_err-symbols-clause-shows g c = λ file held.
     let at = section_at file c.args.section in
     let kind : is_symbol_table file at ≡ true = let is = c.holds_symbols.ensures file at (c.section.ensures.stands file belongs) in cc in
     rw (p.1, p.2) (Stopped-first _ _ _ (λ refusal is other.
-        symbols_fault file c.args.self.now.cap.bytes c.args.section refusal kind (sym (c.in_err-symbols.ensures.held file belongs) ∙ ap (λ fault. Err fault) is)))
+    symbols_fault file c.args.self.now.cap.bytes c.args.section refusal kind (sym (c.in_err-symbols.ensures.held file belongs) ∙ ap (λ fault. Err fault) is)))
 
 pub returns-clause-lists : goal.returns-clause-lists
 returns-clause-lists g c =
