@@ -1,6 +1,6 @@
 -- What a run answers.
-use Rattle.std.specs.Prelude.{ℕ, ◌≡◌, List, Result, Ok, Err, [], codes}
-use Rattle.elf_model.specs.Answer.{Answer, IsShown}
+use Rattle.std.specs.Prelude.{ℕ, ◌≡◌, ◌<◌, ◌+◌, ◌⊎◌, ⊤, List, Some, Result, Ok, Err, [], codes}
+use Rattle.elf_model.specs.Answer.{Answer, IsShown, show_answer}
 use Rattle.elf_source.specs.Source.{Counting}
 use Rattle.elf_source.specs.Output.{Written, Takes, TakesFront}
 use Rattle.elf_listing.specs.Reports.{AsksWithin}
@@ -17,11 +17,21 @@ abbrev pub WroteAnswer : Written → Written → Result ℕ RunFault → Answer 
 WroteAnswer old new (Ok status) answer = Takes old new answer.text × (status ≡ answer.status)
 WroteAnswer old new (Err fault) answer = TakesFront old new answer.text
 
+-- fewer than 4,096 bytes of a budget are left
+abbrev pub IsUsedUp : Caps → Counting → Counting → Type 0
+IsUsedUp caps before after = (bytes : ℕ) × (caps.budget ≡ Some bytes) × (before.asked + bytes < after.asked + 4096)
+
+-- an answer that was given is the whole one, or it is cut short and its budget is used up
+abbrev pub WholeOrUsedUp : Caps → Counting → Counting → Result ℕ RunFault → (whole answer : Answer) → Type 0
+WholeOrUsedUp caps before after (Ok status) whole answer = (answer ≡ whole) ⊎ IsUsedUp caps before after
+WholeOrUsedUp caps before after (Err fault) whole answer = ⊤
+
 -- THE ANSWER: what these caps and parts give of a file, within their budget
-pub record Answers (file : List ℕ) (caps : Caps) (parts : ℕ) (old new : Written) (result : Result ℕ RunFault) : Type 0 where
+pub record Answers (file : List ℕ) (caps : Caps) (parts : ℕ) (before after : Counting) (old new : Written) (result : Result ℕ RunFault) : Type 0 where
   pub answer : Answer
   pub shown : IsShown caps.budget file caps.headers caps.name.bytes parts answer
   pub wrote : WroteAnswer old new result answer
+  pub used : WholeOrUsedUp caps before after result (show_answer file caps.headers caps.name.bytes parts) answer
 
 -- the status of a listing's end
 abbrev pub end_status : Result End RunFault → Result ℕ RunFault

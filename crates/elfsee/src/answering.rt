@@ -29,7 +29,8 @@ pub fn run<S: Source, W: Sink>(
     ensures leaves { Leaves src.old src.new }
     ensures says { IfErr result (FaultSays src.old src.new out.new) }
     ensures text { (file : List ℕ) → src.old.seen.file ≡ Some file →
-        Answers file (caps_of request.now) (parts_of request.now) out.old out.new result }
+        Answers file (caps_of request.now) (parts_of request.now)
+            src.old src.new out.old out.new result }
     ensures cost { (file : List ℕ) → src.old.seen.file ≡ Some file →
         let caps = caps_of request.now in
         src.new.asked

@@ -16,4 +16,5 @@ returns-in-Listed-clause-text g c = λ file held.
 pub returns-in-Refused-clause-text : goal.returns-in-Refused-clause-text
 returns-in-Refused-clause-text g c = λ file held.
     let reports = rw (c.caps.ensures, c.parts.ensures) at (c.in_ok-end.ensures.text file held) in
-    refused_answer file _ _ _ (rw c.in-Refused.is at reports)
+    let asks = rw (c.caps.ensures, c.parts.ensures) at c.in_ok-end.ensures.asks in
+    refused_answer file _ _ _ (rw c.in-Refused.is at asks) (rw c.in-Refused.is at reports)
