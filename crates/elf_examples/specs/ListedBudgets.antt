@@ -1,6 +1,6 @@
 -- Where a read budget ends a listing.
 use Rattle.std.specs.Prelude.{ℕ, ◌≡◌, ◌<◌, ◌≤◌, ◌++◌, List, [], length, take, Option, None, Some, codes}
-use Rattle.elf_model.specs.Budget.{IsBudgeted}
+use Rattle.elf_model.specs.Budget.{IsBudget, IsBudgeted}
 use Rattle.elf_model.specs.Cost.{cost}
 use Rattle.elf_model.specs.Lines.{refusal_line}
 use Rattle.elf_model.specs.Listing.{HEADER, ALL, lines_of, fault_of}
@@ -41,7 +41,7 @@ BudgetsThatEnd =
     × EndsBehind one_symbol_table 3 63 ALL 63 0 0 (codes "! 0000000000000000 budget\n")
     × EndsBehind one_symbol_table 3 63 ALL 64 1 0x78 header_and_budget
     × EndsBehind one_symbol_table 3 63 ALL 431 5 0x71
-        (lines_of (take 5 (items one_symbol_table 3 63 ALL)) ++ refusal_line (spent_at 0x71))
+    (lines_of (take 5 (items one_symbol_table 3 63 ALL)) ++ refusal_line (spent_at 0x71))
 
 -- a budget of the cost allows the report alone: of a whole listing, and of the file header's line
 abbrev pub BudgetsThatSuffice : Type 0
@@ -49,6 +49,13 @@ BudgetsThatSuffice =
     (text : List ℕ) (fault : Option Refusal)
     → (IsBudgeted (Some 432) one_symbol_table 3 63 ALL text fault → text ≡ report one_symbol_table 3 63 ALL)
     × (IsBudgeted (Some 64) one_symbol_table 3 63 HEADER text fault → text ≡ report one_symbol_table 3 63 HEADER)
+
+-- a listing without a fault that ends in one was cut short for want of budget, at a read below the file's length
+abbrev pub CutsAreForBudget : Type 0
+CutsAreForBudget =
+    (text : List ℕ) (refusal : Refusal)
+    → IsBudgeted (Some 0) one_symbol_table 3 63 ALL text (Some refusal)
+    → IsBudget refusal × (refusal.at < 312)
 
 -- an empty file is short under every budget
 abbrev pub EmptyFileIsShort : Type 0

@@ -7,7 +7,8 @@ pub enum SourceFault {
     /// The device below failed. The source's count of failures rose.
     #[error("the device failed")]
     Device,
-    /// The source gave fewer bytes than its length promised, so it isn't honest.
+    /// The source gave fewer bytes than its length promised, or its count of failures is at its end, so
+    /// it isn't honest.
     #[error("the source ended before its length")]
     Ended,
 }

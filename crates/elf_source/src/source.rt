@@ -6,10 +6,11 @@ use crate::faults::SourceFault;
 
 /// Bytes that are read at an offset. Its length never changes.
 ///
-/// A source is honest where each read that answers Ok gives the slice of one file that doesn't
-/// change, and none answers `Ended`. Nothing is known of what another source gives.
+/// Where its file is known, each read that answers Ok gives the slice of that file, and none changes
+/// it. A source with a known file is honest as long as fewer than 2^64 - 1 of its reads failed: none
+/// answers `Ended`. Where no file is known, nothing is known of what its reads give.
 pub trait Source {
-    /// What is seen of it: its size, how many of its reads failed, and its file where it is honest.
+    /// What is seen of it: its size, how many of its reads failed, and its file where that is known.
     ghost seen: { Self → Seen };
 
     /// One read at an offset, of so many bytes, leads from what was seen before it to what is seen

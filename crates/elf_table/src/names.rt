@@ -70,7 +70,8 @@ impl Names {
     /// # Errors
     /// Refused at `at`, the offset of the entry that holds the index: `NameOutside` where the index is
     /// not below the table's size, `NameUnended` where no more than `cap` bytes are left and none is a
-    /// NUL. Else a fault of the source.
+    /// NUL; `Budget`, only where a limit is set, at the offset of the piece that it has no room for.
+    /// Else a fault of the source.
     pub fn read<S: Source>(
         &self,
         src: &mut Counted<S>,
@@ -111,7 +112,8 @@ impl Names {
     /// # Errors
     /// Refused at `at`, the offset of the entry that holds the index: `NameOutside` where the index is
     /// not below the table's size, `NameUnended` where the table ends before the name and its NUL, with
-    /// all bytes equal so far. Else a fault of the source.
+    /// all bytes equal so far; `Budget`, only where a limit is set, at the offset of the piece that it
+    /// has no room for. Else a fault of the source.
     pub fn equals<S: Source>(
         &self,
         src: &mut Counted<S>,

@@ -8,7 +8,8 @@ use thiserror::Error;
 pub enum Request {
     /// The listing of a file.
     Show {
-        /// How many headers are permitted, and how many bytes of a name are shown.
+        /// How many headers are permitted, how many bytes of a name are shown, and how many bytes may
+        /// be read.
         caps: Caps,
         /// The parts that are listed.
         parts: Parts,
@@ -17,7 +18,8 @@ pub enum Request {
     },
     /// The listing of the file that the program carries.
     Sample {
-        /// How many headers are permitted, and how many bytes of a name are shown.
+        /// How many headers are permitted, how many bytes of a name are shown, and how many bytes may
+        /// be read.
         caps: Caps,
         /// The parts that are listed.
         parts: Parts,
