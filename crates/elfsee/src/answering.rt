@@ -30,7 +30,7 @@ pub fn run<S: Source, W: Sink>(
     ensures says { IfErr result (FaultSays src.old src.new out.new) }
     ensures text { (file : List ℕ) → src.old.seen.file ≡ Some file →
         Answers file (caps_of request.now) (parts_of request.now)
-            src.old src.new out.old out.new result }
+        src.old src.new out.old out.new result }
     ensures cost { (file : List ℕ) → src.old.seen.file ≡ Some file →
         let caps = caps_of request.now in
         src.new.asked
