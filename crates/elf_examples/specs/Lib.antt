@@ -1,5 +1,6 @@
 pub mod Examples
 pub mod ExamplesFields
+pub mod ListedBudgets
 pub mod ListedCosts
 pub mod ListedDynamic
 pub mod ListedHeaders

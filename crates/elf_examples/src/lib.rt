@@ -5,6 +5,7 @@
 
 mod examples;
 mod field_rows;
+mod listed_budgets;
 mod listed_costs;
 mod listed_dynamic;
 mod listed_headers;

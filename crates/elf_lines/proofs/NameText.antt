@@ -1,7 +1,10 @@
 -- A name as it is written, byte by byte, and the line that ends in it.
-use Rattle.std.proofs.Common.{◌≡◌, ℕ, ◌+◌, ◌<◌, ◌≤◌, Bool, true, false, if◌then◌else◌, List, [], ◌++◌, Option, length, drop, get_or, refl, sym, ap, ◌∙◌, append_assoc, append-nil, add-one, drop-cons}
+use Rattle.std.proofs.Common.{◌≡◌, ℕ, ◌+◌, ◌<◌, ◌≤◌, Bool, true, false, if◌then◌else◌, refl, sym}
+use Rattle.std.proofs.Common.{List, [], ◌++◌, length, drop, get_or, ap, ◌∙◌}
+use Rattle.std.proofs.Common.{append_assoc, append-nil, add-one, drop-cons}
 use Rattle.std.proofs.lemmas.List.{drop_all}
 use Rattle.elf_model.specs.Lines.{name_byte_text, escaped, cut_mark, name_text}
+use Rattle.elf_source.specs.Output.{Written}
 use Rattle.elf_lines.specs.Pieces.{TakesBefore, shown_as}
 use Rattle.elf_lines.proofs.Pieces.{TakesBefore-more, TakesBefore-then}
 
@@ -16,15 +19,18 @@ unfolding escaped
 escaped-none items name i over = rw (drop_all i name over) (append-nil items)
 
 -- a byte is put behind a line that may have been begun anew
-pub TakesBefore-byte : (a b c : Option (List ℕ)) (l m n : ℕ) (text line room put name : List ℕ) (i : ℕ) → i < length name
-    → TakesBefore a b l m text (line ++ escaped (drop i name)) → TakesBefore b c m n line room
-    → put ≡ room ++ name_byte_text (get_or name i 0) → TakesBefore a c l n text (put ++ escaped (drop (i + 1) name))
-TakesBefore-byte a b c l m n text line room put name i inside before made is =
+pub TakesBefore-byte : {a b c : Written} {text line room put : List ℕ} (name : List ℕ) (i : ℕ)
+    → i < length name → TakesBefore a b text (line ++ escaped (drop i name))
+    → TakesBefore b c line room → put ≡ room ++ name_byte_text (get_or name i 0)
+    → TakesBefore a c text (put ++ escaped (drop (i + 1) name))
+TakesBefore-byte {a} {b} {c} {text} {line} {room} {put} name i inside before made is =
+    let byte = name_byte_text (get_or name i 0) in
     let rest = escaped (drop (i + 1) name) in
     let same : room ++ escaped (drop i name) ≡ put ++ rest =
-    ap (λ xs. room ++ xs) (escaped-next name i inside) ∙ sym (append_assoc room (name_byte_text (get_or name i 0)) rest) ∙ ap (λ xs. xs ++ rest) (sym is) in
-    rw (sym same) (TakesBefore-then a b c l m n text (line ++ escaped (drop i name)) (room ++ escaped (drop i name)) before
-    (TakesBefore-more b c m n line room (escaped (drop i name)) made))
+    ap (λ xs. room ++ xs) (escaped-next name i inside)
+    ∙ sym (append_assoc room byte rest)
+    ∙ ap (λ xs. xs ++ rest) (sym is) in
+    rw (sym same) (TakesBefore-then before (TakesBefore-more (escaped (drop i name)) made))
 
 regroup : (a b c d : List ℕ) → a ++ ((b ++ c) ++ d) ≡ (a ++ b) ++ (c ++ d)
 regroup a b c d = simp append_assoc

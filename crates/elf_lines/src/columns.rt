@@ -1,5 +1,6 @@
 //! A line of a listing while it is put together, field by field.
-ghost use Rattle.std.specs.Prelude.{◌≡◌, ◌+◌, ◌<◌, ◌≤◌, ◌++◌, [], if◌then◌else◌, length, max, IfSome, unwrap_or, option_copied};
+ghost use Rattle.std.specs.Prelude.{◌≡◌, ◌+◌, ◌<◌, ◌≤◌, ◌++◌, [], if◌then◌else◌, length, max};
+ghost use Rattle.std.specs.Prelude.{IfSome, unwrap_or, option_copied};
 ghost use Rattle.arrayvec.specs.ArrayVec.{array_vec_len};
 ghost use Rattle.elf_model.specs.Text.{digit, hex, spaces, left, right, right_decimal};
 ghost use Rattle.elf_model.specs.NameTables.{name_or_decimal};
@@ -60,7 +61,8 @@ pub fn put_name_or_hex(
     requires width { width ≤ 16 }
     requires digits { digits ≤ width }
     requires short { IfSome name (λ name. length name.now ≤ width) }
-    ensures items { line.new.items ≡ line.old.items ++ left width (unwrap_or (option_copied name.entry) (hex digits number)) }
+    ensures items { let text = unwrap_or (option_copied name.entry) (hex digits number) in
+        line.new.items ≡ line.old.items ++ left width text }
     ensures len { array_vec_len line.new ≡ array_vec_len line.old + width }
 {
     match name {
@@ -85,12 +87,13 @@ pub fn put_decimal(line: &mut Line, width: usize, number: u64)
     put(line, text);
 }
 
-/// Puts a name at the left of a column of this width, or a decimal number that has none at the right
-/// of it. A longer number is not cut.
+/// Puts a name at the left of a column of this width, or a decimal number that has none at the
+/// right of it. A longer number is not cut.
 pub fn put_name_or_decimal(line: &mut Line, width: usize, name: Option<&'static str>, number: u64)
     requires room { array_vec_len line.old + max width 20 ≤ 256 }
     requires short { IfSome name (λ name. length name.now ≤ width) }
-    ensures items { line.new.items ≡ line.old.items ++ name_or_decimal width (option_copied name.entry) number }
+    ensures items { let text = name_or_decimal width (option_copied name.entry) number in
+        line.new.items ≡ line.old.items ++ text }
     ensures len { array_vec_len line.new ≤ array_vec_len line.old + max width 20 }
 {
     match name {

@@ -12,7 +12,8 @@ use elf_record::Dyn;
 /// before the name is the last byte.
 pub fn dynamic_front(index: u64, entry: &Dyn) -> Line
     // A tag is read as a signed number, and shown as its bits.
-    ensures { (file : List ℕ) (at : ℕ) → IsDyn file at entry.now → result.items ≡ dynamic_front file at index }
+    ensures { (file : List ℕ) (at : ℕ) → IsDyn file at entry.now →
+        result.items ≡ dynamic_front file at index }
 {
     let tag = entry.d_tag.cast_unsigned();
     let mut line = Line::new();
@@ -27,7 +28,7 @@ pub fn dynamic_front(index: u64, entry: &Dyn) -> Line
 }
 
 /// The name of a dynamic array tag (gABI 5, Dynamic Section).
-#[tactic(auto, unfolding(elf_model::specs::NameTables::dynamic_tags, elf_model::specs::Text::name_of))]
+#[tactic(auto, unfolding(crate::specs::Rows::dynamic_tags, crate::specs::Rows::name_of))]
 fn tag_name(tag: u64) -> Option<&'static str>
     ensures name { option_copied result ≡ name_of dynamic_tags tag }
     ensures short { IfSome result (λ name. length name.now ≤ 16) }

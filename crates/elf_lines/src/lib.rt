@@ -1,5 +1,5 @@
-//! The lines of a listing: each from its record or answer, with a name of any length, and the calls that
-//! write one.
+//! The lines of a listing: each from its record or answer, with a name of any length, and the calls
+//! that write one.
 #![tactic(auto)]
 
 mod buffers;

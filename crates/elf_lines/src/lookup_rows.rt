@@ -1,5 +1,5 @@
 //! The line that ends a lookup.
-ghost use Rattle.std.specs.Prelude.{◌≡◌, ◌^◌, ◌<◌, is_err};
+ghost use Rattle.std.specs.Prelude.{◌≡◌};
 ghost use Rattle.elf_model.specs.Lines.{steps_line};
 ghost use Rattle.elf_source.specs.Output.{Puts};
 
@@ -21,14 +21,13 @@ pub fn steps_row(found: bool, steps: u32) -> Line
     line
 }
 
-/// Writes the line that ends a lookup: whether the name was found, and how many symbols were compared.
+/// Writes the line that ends a lookup: whether the name was found, and how many symbols were
+/// compared.
 ///
 /// # Errors
 /// A fault of the output, with a front of the line written.
 pub fn show_steps<W: Sink>(found: bool, steps: u32, out: &mut Out<W>) -> Result<(), OutFault>
-    ensures line { Puts (W.taken out.old.sink) (W.taken out.new.sink) out.old.written out.new.written result (steps_line found steps) }
-    ensures fails { W.failed out.new.sink ≡ is_err result }
-    ensures fits { out.new.written < 2 ^ 128 }
+    ensures puts { Puts out.old out.new result (steps_line found steps) }
 {
     out.put(&steps_row(found, steps))
 }

@@ -1,5 +1,5 @@
 //! Lines with a name, which is of any length: a line is written in pieces.
-ghost use Rattle.std.specs.Prelude.{◌≡◌, ◌+◌, ◌^◌, ◌<◌, ◌≤◌, ◌++◌, length, is_err, IsErr, IsOk, IsTrue};
+ghost use Rattle.std.specs.Prelude.{◌≡◌, ◌+◌, ◌≤◌, ◌++◌, length, IsOk};
 ghost use Rattle.arrayvec.specs.ArrayVec.{array_vec_len};
 ghost use Rattle.elf_model.specs.Lines.{escaped, named_line, name_byte_text};
 ghost use Rattle.elf_source.specs.Output.{Puts};
@@ -8,8 +8,8 @@ ghost use Rattle.elf_lines.specs.Pieces.{PutsBefore, shown_as};
 use crate::columns::{LINE_BYTES, Line, put, put_hex};
 use elf_source::{Out, OutFault, Sink};
 
-/// Writes a line that ends in a name: its front, the name as it is spelt in a listing, the mark `\+`
-/// where it was cut, and a newline.
+/// Writes a line that ends in a name: its front, the name as it is spelt in a listing, the mark
+/// `\+` where it was cut, and a newline.
 ///
 /// # Errors
 /// A fault of the output, with a front of the line written.
@@ -19,17 +19,14 @@ pub fn show_named<W: Sink>(
     is_cut: bool,
     out: &mut Out<W>,
 ) -> Result<(), OutFault>
-    ensures line { Puts (W.taken out.old.sink) (W.taken out.new.sink) out.old.written out.new.written result
-        (named_line front.items (shown_as is_cut name.now)) }
-    ensures fails { W.failed out.new.sink ≡ is_err result }
-    ensures fits { out.new.written < 2 ^ 128 }
+    ensures puts { Puts out.old out.new result (named_line front.items (shown_as is_cut name.now)) }
 {
     let tail = if is_cut { "\\+\n" } else { "\n" };
     show_around(front, name, tail.as_bytes(), out)
 }
 
-/// Writes what stands before a name, the name as it is spelt in a listing, and what stands behind it,
-/// which is at most 256 bytes long.
+/// Writes what stands before a name, the name as it is spelt in a listing, and what stands behind
+/// it, which is at most 256 bytes long.
 ///
 /// # Errors
 /// A fault of the output, with a front of these bytes written.
@@ -40,13 +37,8 @@ pub fn show_around<W: Sink>(
     out: &mut Out<W>,
 ) -> Result<(), OutFault>
     requires { length tail.now ≤ 256 }
-    ensures line { Puts (W.taken out.old.sink) (W.taken out.new.sink) out.old.written out.new.written result
-        ((front.items ++ escaped name.now) ++ tail.now) }
-    ensures fails { W.failed out.new.sink ≡ is_err result }
-    ensures fits { out.new.written < 2 ^ 128 }
+    ensures puts { Puts out.old out.new result ((front.items ++ escaped name.now) ++ tail.now) }
 {
-    // The count is below 2^128.
-    let _count = out.written();
     let mut line = front;
     put_escaped(&mut line, name, out)?;
     make_room(&mut line, tail.len(), out)?;
@@ -60,11 +52,8 @@ pub fn show_around<W: Sink>(
 /// # Errors
 /// A fault of the output, with a front of the line and the name written.
 fn put_escaped<W: Sink>(line: &mut Line, name: &[u8], out: &mut Out<W>) -> Result<(), OutFault>
-    requires { out.old.written < 2 ^ 128 }
-    ensures puts { PutsBefore (W.taken out.old.sink) (W.taken out.new.sink) out.old.written out.new.written result
-        (line.old.items ++ escaped name.now) line.new.items }
-    ensures fails { IsErr result → IsTrue (W.failed out.new.sink) }
-    ensures fits { out.new.written < 2 ^ 128 }
+    ensures puts { let text = line.old.items ++ escaped name.now in
+        PutsBefore out.old out.new result text line.new.items }
 {
     for byte in name {
         make_room(line, 4, out)?;
@@ -73,18 +62,15 @@ fn put_escaped<W: Sink>(line: &mut Line, name: &[u8], out: &mut Out<W>) -> Resul
     Ok(())
 }
 
-/// Makes room for so many bytes in a line: where fewer are free, the line is written and begun anew.
+/// Makes room for so many bytes in a line: where fewer are free, the line is written and begun
+/// anew.
 ///
 /// # Errors
 /// A fault of the output, with a front of the line written.
 fn make_room<W: Sink>(line: &mut Line, count: usize, out: &mut Out<W>) -> Result<(), OutFault>
-    requires count { count ≤ 256 }
-    requires written { out.old.written < 2 ^ 128 }
-    ensures puts { PutsBefore (W.taken out.old.sink) (W.taken out.new.sink) out.old.written out.new.written result
-        line.old.items line.new.items }
+    requires { count ≤ 256 }
+    ensures puts { PutsBefore out.old out.new result line.old.items line.new.items }
     ensures room { IsOk result → array_vec_len line.new + count ≤ 256 }
-    ensures fails { IsErr result → IsTrue (W.failed out.new.sink) }
-    ensures fits { out.new.written < 2 ^ 128 }
 {
     if line.len() + count <= LINE_BYTES {
         return Ok(());

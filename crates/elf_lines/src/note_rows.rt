@@ -1,9 +1,10 @@
 //! The lines of notes.
-ghost use Rattle.std.specs.Prelude.{◌≡◌, ◌+◌, ◌*◌, ◌^◌, ◌<◌, ◌≤◌, ◌++◌, [], if◌then◌else◌, ℕ, List, length, take, is_err};
+ghost use Rattle.std.specs.Prelude.{◌≡◌, ◌+◌, ◌*◌, ◌≤◌, ◌++◌, [], if◌then◌else◌, ℕ, List, length};
 ghost use Rattle.arrayvec.specs.ArrayVec.{array_vec_len};
 ghost use Rattle.elf_model.specs.LineFronts.{note_front};
 ghost use Rattle.elf_model.specs.Lines.{cut_mark, hex_bytes, note_line, note_tail};
 ghost use Rattle.elf_source.specs.Output.{Puts};
+ghost use Rattle.elf_lines.specs.Notes.{IsDescriptor};
 ghost use Rattle.elf_lines.specs.Pieces.{shown_as};
 
 use crate::columns::{Line, put, put_decimal, put_hex, put_where};
@@ -15,8 +16,8 @@ use hex::encode_to_slice;
 /// How many bytes of a note's descriptor are shown.
 const SHOWN_DESCRIPTOR: u32 = 32;
 
-/// The line of a note up to the name: the index of its section or program header, type, and the sizes
-/// of its name and its descriptor. The space before the name is the last byte.
+/// The line of a note up to the name: the index of its section or program header, type, and the
+/// sizes of its name and its descriptor. The space before the name is the last byte.
 #[tactic(auto, unfolding(elf_model::specs::LineFronts::note_front))]
 pub fn note_front(index: u16, head: &NoteHead) -> Line
     ensures { result.items ≡ note_front index head.now.kind head.now.namesz head.now.descsz }
@@ -34,8 +35,8 @@ pub fn note_front(index: u16, head: &NoteHead) -> Line
     line
 }
 
-/// Writes the line of a note, with its name and the first bytes of its descriptor: 32 of them, or all
-/// where it has fewer.
+/// Writes the line of a note, with its name and the first bytes of its descriptor: 32 of them, or
+/// all where it has fewer.
 ///
 /// # Errors
 /// A fault of the output, with a front of the line written.
@@ -48,11 +49,9 @@ pub fn show_note<W: Sink>(
     out: &mut Out<W>,
 ) -> Result<(), OutFault>
     requires { length first_bytes.now ≤ 32 }
-    ensures line { (descriptor : List ℕ) → first_bytes.now ≡ take SHOWN_DESCRIPTOR descriptor → head.now.descsz ≡ length descriptor →
-        Puts (W.taken out.old.sink) (W.taken out.new.sink) out.old.written out.new.written result
-        (note_line (note_front index head.now.kind head.now.namesz head.now.descsz) (shown_as is_cut name.now) descriptor) }
-    ensures fails { W.failed out.new.sink ≡ is_err result }
-    ensures fits { out.new.written < 2 ^ 128 }
+    ensures puts { (descriptor : List ℕ) → IsDescriptor first_bytes.now head.now.descsz descriptor →
+        let front = note_front index head.now.kind head.now.namesz head.now.descsz in
+        Puts out.old out.new result (note_line front (shown_as is_cut name.now) descriptor) }
 {
     let tail = note_tail(is_cut, first_bytes, head.descsz);
     show_around(note_front(index, head), name, &tail, out)
@@ -62,7 +61,7 @@ pub fn show_note<W: Sink>(
 /// where it has more than these, and a newline.
 fn note_tail(is_cut: bool, first_bytes: &[u8], descsz: u32) -> Line
     requires { length first_bytes.now ≤ 32 }
-    ensures { (descriptor : List ℕ) → first_bytes.now ≡ take SHOWN_DESCRIPTOR descriptor → descsz ≡ length descriptor →
+    ensures { (descriptor : List ℕ) → IsDescriptor first_bytes.now descsz descriptor →
         result.items ≡ (if is_cut then cut_mark else []) ++ note_tail descriptor }
 {
     let mut line = Line::new();

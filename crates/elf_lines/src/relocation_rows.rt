@@ -17,7 +17,8 @@ const EM_X86_64: u16 = 62;
 /// machine, symbol and addend. The space before the name is the last byte.
 #[tactic(auto, unfolding(elf_model::specs::LineFronts::relocation_front))]
 pub fn relocation_front(section: u16, machine: u16, entry: &Rela) -> Line
-    ensures { (file : List ℕ) (at : ℕ) → IsRela file at entry.now → result.items ≡ relocation_front file at machine section }
+    ensures { (file : List ℕ) (at : ℕ) → IsRela file at entry.now →
+        result.items ≡ relocation_front file at machine section }
 {
     let mut line = Line::new();
     put(&mut line, b"R ");
@@ -76,7 +77,7 @@ fn put_addend(line: &mut Line, addend: i64)
 }
 
 /// The name of a relocation type of x86-64 (x86-64 psABI, Relocation Types).
-#[tactic(auto, unfolding(elf_model::specs::NameTables::relocation_types, elf_model::specs::Text::name_of))]
+#[tactic(auto, unfolding(crate::specs::Rows::relocation_types, crate::specs::Rows::name_of))]
 fn relocation_type_name(kind: u32) -> Option<&'static str>
     ensures name { option_copied result ≡ name_of relocation_types kind }
     ensures short { IfSome result (λ name. length name.now ≤ 10) }

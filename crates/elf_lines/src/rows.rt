@@ -1,5 +1,5 @@
 //! The lines of a file header and of a refusal.
-ghost use Rattle.std.specs.Prelude.{◌≡◌, ℕ, ◌≤◌, List, length, is_err, IfSome, option_copied};
+ghost use Rattle.std.specs.Prelude.{◌≡◌, ℕ, ◌≤◌, List, length, IfSome, option_copied};
 ghost use Rattle.elf_model.specs.Text.{name_of};
 ghost use Rattle.elf_model.specs.Causes.{cause_word};
 ghost use Rattle.elf_model.specs.Lines.{file_types, header_line, refusal_line};
@@ -11,8 +11,9 @@ use elf_record::{Cause, Ehdr, Refusal};
 use elf_source::{Out, OutFault, Sink};
 
 /// The line of a file header: type, machine, entry point, the places of the program headers and the
-/// section headers, flags, their numbers, and the section of the section names (gABI 4, ELF Header).
-#[tactic(auto, unfolding(elf_model::specs::Lines::header_line, elf_model::specs::Lines::file_type_text))]
+/// section headers, flags, their numbers, and the section of the section names (gABI 4, ELF
+/// Header).
+#[tactic(auto, unfolding(crate::specs::Rows::header_line, crate::specs::Rows::file_type_text))]
 pub fn header_row(header: &Ehdr) -> Line
     ensures { (file : List ℕ) → IsEhdr file 0 header.now → result.items ≡ header_line file }
 {
@@ -60,8 +61,7 @@ pub fn refusal_row(refusal: Refusal) -> Line
 /// # Errors
 /// A fault of the output, with a front of the line written.
 pub fn show_refusal<W: Sink>(refusal: Refusal, out: &mut Out<W>) -> Result<(), OutFault>
-    ensures line { Puts (W.taken out.old.sink) (W.taken out.new.sink) out.old.written out.new.written result (refusal_line refusal) }
-    ensures fails { W.failed out.new.sink ≡ is_err result }
+    ensures puts { Puts out.old out.new result (refusal_line refusal) }
 {
     out.put(&refusal_row(refusal))
 }
@@ -102,11 +102,12 @@ pub fn cause_word(cause: Cause) -> &'static str
         Cause::PlaceOutside => "place-outside",
         Cause::SymbolIndex => "symbol-index",
         Cause::TooLong => "too-long",
+        Cause::Budget => "budget",
     }
 }
 
 /// The name of an object file type (gABI 4, ELF Header).
-#[tactic(auto, unfolding(elf_model::specs::Lines::file_types, elf_model::specs::Text::name_of))]
+#[tactic(auto, unfolding(crate::specs::Rows::file_types, crate::specs::Rows::name_of))]
 fn file_type_name(kind: u16) -> Option<&'static str>
     ensures name { option_copied result ≡ name_of file_types kind }
     ensures short { IfSome result (λ name. length name.now ≤ 4) }

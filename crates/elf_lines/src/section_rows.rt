@@ -12,9 +12,10 @@ use elf_record::{SectionFlags, Shdr};
 
 /// The line of a section header up to the name: its index, type, flags, address, file offset, size,
 /// link and info. The space before the name is the last byte.
-#[tactic(auto, unfolding(elf_model::specs::LineFronts::section_front, elf_model::specs::NameTables::section_type_text))]
+#[tactic(auto, unfolding(crate::specs::Rows::section_front, crate::specs::Rows::section_type_text))]
 pub fn section_front(index: u16, header: &Shdr) -> Line
-    ensures { (file : List ℕ) (at : ℕ) → IsShdr file at header.now → result.items ≡ section_front file at index }
+    ensures { (file : List ℕ) (at : ℕ) → IsShdr file at header.now →
+        result.items ≡ section_front file at index }
 {
     let mut line = Line::new();
     put(&mut line, b"S ");
@@ -39,8 +40,8 @@ pub fn section_front(index: u16, header: &Shdr) -> Line
     line
 }
 
-/// The letters of a section's flags, and a question mark where any other bit is set (gABI 4, Section
-/// Attribute Flags).
+/// The letters of a section's flags, and a question mark where any other bit is set (gABI 4,
+/// Section Attribute Flags).
 fn section_letters(bits: u64) -> Line
     ensures text { result.items ≡ section_flags_text bits }
     ensures short { array_vec_len result ≤ 12 }
@@ -67,7 +68,7 @@ fn section_letters(bits: u64) -> Line
 }
 
 /// The name of a section type (gABI 4, Section Types).
-#[tactic(auto, unfolding(elf_model::specs::NameTables::section_types, elf_model::specs::Text::name_of))]
+#[tactic(auto, unfolding(crate::specs::Rows::section_types, crate::specs::Rows::name_of))]
 fn section_type_name(kind: u32) -> Option<&'static str>
     ensures name { option_copied result ≡ name_of section_types kind }
     ensures short { IfSome result (λ name. length name.now ≤ 13) }

@@ -1,5 +1,6 @@
 //! The lines of program headers.
-ghost use Rattle.std.specs.Prelude.{◌≡◌, ◌+◌, ◌≤◌, ◌++◌, ◌∷◌, [], if◌then◌else◌, ℕ, List, length, codes, IfSome, option_copied};
+ghost use Rattle.std.specs.Prelude.{◌≡◌, ◌+◌, ◌≤◌, ◌++◌, ◌∷◌, [], if◌then◌else◌, ℕ, List, length};
+ghost use Rattle.std.specs.Prelude.{codes, IfSome, option_copied};
 ghost use Rattle.arrayvec.specs.ArrayVec.{array_vec_len};
 ghost use Rattle.elf_model.specs.Text.{name_of};
 ghost use Rattle.elf_model.specs.NameTables.{segment_types, segment_flags_text};
@@ -12,9 +13,10 @@ use elf_record::{Phdr, SegmentFlags};
 
 /// The line of a program header: its index, type, permissions, file offset, virtual and physical
 /// address, size in the file and in memory, and alignment.
-#[tactic(auto, unfolding(elf_model::specs::Lines::segment_line, elf_model::specs::NameTables::segment_type_text))]
+#[tactic(auto, unfolding(crate::specs::Rows::segment_line, crate::specs::Rows::segment_type_text))]
 pub fn segment_row(index: u16, header: &Phdr) -> Line
-    ensures { (file : List ℕ) (at : ℕ) → IsPhdr file at header.now → result.items ≡ segment_line file at index }
+    ensures { (file : List ℕ) (at : ℕ) → IsPhdr file at header.now →
+        result.items ≡ segment_line file at index }
 {
     let mut line = Line::new();
     put(&mut line, b"P ");
@@ -62,7 +64,7 @@ fn put_letter(line: &mut Line, is_set: bool, letter: u8)
 }
 
 /// The name of a segment type (gABI 5, Segment Types).
-#[tactic(auto, unfolding(elf_model::specs::NameTables::segment_types, elf_model::specs::Text::name_of))]
+#[tactic(auto, unfolding(crate::specs::Rows::segment_types, crate::specs::Rows::name_of))]
 fn segment_type_name(kind: u32) -> Option<&'static str>
     ensures name { option_copied result ≡ name_of segment_types kind }
     ensures short { IfSome result (λ name. length name.now ≤ 8) }

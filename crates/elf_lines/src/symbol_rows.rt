@@ -1,5 +1,5 @@
 //! The lines of symbols.
-ghost use Rattle.std.specs.Prelude.{◌≡◌, ◌^◌, ◌<◌, ◌≤◌, ℕ, List, length, is_err, IfSome, option_copied};
+ghost use Rattle.std.specs.Prelude.{◌≡◌, ◌≤◌, ℕ, List, length, IfSome, option_copied};
 ghost use Rattle.elf_model.specs.Text.{name_of};
 ghost use Rattle.elf_model.specs.NameTables.{symbol_types, bindings, visibilities, places};
 ghost use Rattle.elf_model.specs.LineFronts.{symbol_front};
@@ -17,7 +17,8 @@ use elf_source::{Out, OutFault, Sink};
 /// binding, visibility and place. The space before the name is the last byte.
 #[tactic(auto, unfolding(elf_model::specs::LineFronts::symbol_front))]
 pub fn symbol_front(section: u16, index: u64, symbol: &Sym) -> Line
-    ensures { (file : List ℕ) (at : ℕ) → IsSym file at symbol.now → result.items ≡ symbol_front file at section index }
+    ensures { (file : List ℕ) (at : ℕ) → IsSym file at symbol.now →
+        result.items ≡ symbol_front file at section index }
 {
     let mut line = Line::new();
     put(&mut line, b"Y ");
@@ -64,17 +65,15 @@ pub fn show_symbol<W: Sink>(
     name: &[u8],
     out: &mut Out<W>,
 ) -> Result<(), OutFault>
-    ensures line { (file : List ℕ) (at : ℕ) → IsSym file at symbol.now →
-        Puts (W.taken out.old.sink) (W.taken out.new.sink) out.old.written out.new.written result
-        (named_line (symbol_front file at section index) (Whole name.now)) }
-    ensures fails { W.failed out.new.sink ≡ is_err result }
-    ensures fits { out.new.written < 2 ^ 128 }
+    ensures puts { (file : List ℕ) (at : ℕ) → IsSym file at symbol.now →
+        let front = symbol_front file at section index in
+        Puts out.old out.new result (named_line front (Whole name.now)) }
 {
     show_named(symbol_front(section, index, symbol), name, false, out)
 }
 
 /// The name of a symbol type (gABI 4, Symbol Types).
-#[tactic(auto, unfolding(elf_model::specs::NameTables::symbol_types, elf_model::specs::Text::name_of))]
+#[tactic(auto, unfolding(crate::specs::Rows::symbol_types, crate::specs::Rows::name_of))]
 fn symbol_type_name(kind: u8) -> Option<&'static str>
     ensures name { option_copied result ≡ name_of symbol_types kind }
     ensures short { IfSome result (λ name. length name.now ≤ 7) }
@@ -92,7 +91,7 @@ fn symbol_type_name(kind: u8) -> Option<&'static str>
 }
 
 /// The name of a symbol's binding (gABI 4, Symbol Binding).
-#[tactic(auto, unfolding(elf_model::specs::NameTables::bindings, elf_model::specs::Text::name_of))]
+#[tactic(auto, unfolding(crate::specs::Rows::bindings, crate::specs::Rows::name_of))]
 fn binding_name(binding: u8) -> Option<&'static str>
     ensures name { option_copied result ≡ name_of bindings binding }
     ensures short { IfSome result (λ name. length name.now ≤ 6) }
@@ -106,7 +105,7 @@ fn binding_name(binding: u8) -> Option<&'static str>
 }
 
 /// The name of a symbol's visibility (gABI 4, Symbol Visibility).
-#[tactic(auto, unfolding(elf_model::specs::NameTables::visibilities, elf_model::specs::Text::name_of))]
+#[tactic(auto, unfolding(crate::specs::Rows::visibilities, crate::specs::Rows::name_of))]
 fn visibility_name(visibility: u8) -> Option<&'static str>
     ensures name { option_copied result ≡ name_of visibilities visibility }
     ensures short { IfSome result (λ name. length name.now ≤ 9) }
@@ -121,7 +120,7 @@ fn visibility_name(visibility: u8) -> Option<&'static str>
 }
 
 /// The name of a special section index that a symbol may have (gABI 4, Special Section Indexes).
-#[tactic(auto, unfolding(elf_model::specs::NameTables::places, elf_model::specs::Text::name_of))]
+#[tactic(auto, unfolding(crate::specs::Rows::places, crate::specs::Rows::name_of))]
 fn place_name(index: u16) -> Option<&'static str>
     ensures name { option_copied result ≡ name_of places index }
     ensures short { IfSome result (λ name. length name.now ≤ 5) }

@@ -1,65 +1,89 @@
--- A loop that shows so many rows, or tables, one after another: what was shown so far, and what ends it.
-use Rattle.std.proofs.Common.{◌≡◌, ℕ, ◌+◌, ◌-◌, ◌<◌, ◌≤◌, List, [], ◌++◌, Option, None, Some, Result, Ok, Err, refl, sym, ap, ◌∙◌, ◌^◌, subst, arith, zero-add, append-nil}
-use Rattle.elf_model.specs.Listing.{Item, each, lines_of}
-use Rattle.elf_model.specs.declared.causes.Refusal.{Refusal}
-use Rattle.elf_model.proofs.RecordLemmas.{rows_split, last_row}
-use Rattle.elf_listing.specs.Shows.{Shows}
-use Rattle.elf_listing.specs.declared.end.RunFault.{RunFault}
-use Rattle.elf_listing.specs.declared.end.RunFault.TheVariants.{Source}
-use Rattle.elf_source.specs.declared.faults.SourceFault.{SourceFault}
-use Rattle.elf_listing.proofs.ShowLaws.{Shows-then, Shows-refused, Shows-stopped, Takes-nothing}
+-- The loops of a listing: over a cursor's rows, and over the sections.
+use Rattle.std.proofs.Common.{◌≡◌, ℕ, ◌+◌, ◌*◌, ◌<◌, ◌≤◌, List, [], Option, None, Some, refl, sym, ap, ◌∙◌, arith, zero-add}
+use Rattle.elf_model.specs.Bytes.{slice}
+use Rattle.elf_model.specs.Cost.{sum_over}
+use Rattle.elf_model.specs.Listing.{Item, each}
+use Rattle.elf_model.proofs.RecordLemmas.{last_cost, sums_grow}
+use Rattle.elf_source.specs.Output.{Written}
+use Rattle.elf_table.specs.Faults.{IsAt}
+use Rattle.elf_table.specs.Cursors.{Reading, Gives, Agrees, unread_bytes, place, Shows as Lends}
+use Rattle.elf_table.specs.Tables.{Rows, size_of}
+use Rattle.elf_table.specs.declared.fault.Fault.{Fault}
+use Rattle.elf_table.specs.declared.row.Row.{Row}
+use Rattle.elf_listing.specs.Kinds.{row_size, own_cost, rows_cost, table_place, IsRowOf}
+use Rattle.elf_listing.specs.Shows.{Whole, Stopped}
+use Rattle.elf_listing.specs.Stops.{stop_of}
+use Rattle.elf_listing.specs.declared.rows.Kind.{Kind}
+use Rattle.elf_listing.specs.declared.stop.Stop.{Stop}
+use Rattle.elf_listing.proofs.EachLaws.{each-none, each-more, each-front}
+use Rattle.elf_listing.proofs.ShowLaws.{Whole-none, Whole-then, Stopped-then, Stopped-more, Stopped-unread}
 
--- some rows, and the others behind them
-split_at : (row : ℕ → List Item) (i count : ℕ) → i ≤ count → each row 0 count ≡ each row 0 i ++ each row i (count - i)
-split_at row i count within =
-    let whole : i + (count - i) ≡ count = omega arith in
-    ap (each row 0) (sym whole) ∙ (rows_split row 0 i (count - i) ∙ ap (λ first. each row 0 i ++ each row first (count - i)) (zero-add i))
-
--- one row more
-next_row : (row : ℕ → List Item) (i : ℕ) → each row 0 (i + 1) ≡ each row 0 i ++ row i
-next_row row i = last_row row 0 i ∙ ap (λ index. each row 0 i ++ row index) (zero-add i)
-
--- nothing was shown yet
-pub rows_none : (row : ℕ → List Item) (a : Option (List ℕ)) (m : ℕ) → m < 2 ^ 128 → Shows a a m m (Ok None) (each row 0 0)
-unfolding each
-rows_none row a m small = (Takes-nothing a m small, refl)
+-- no row was shown yet
+pub rows_none : (row : ℕ → List Item) (i : ℕ) (a : Written) → i ≡ 0 → Whole a a (each row 0 i)
+rows_none row i a first = rw (first, each-none row) (Whole-none a)
 
 -- a row more was shown
-pub rows_more : (row : ℕ → List Item) (i : ℕ) (a b c : Option (List ℕ)) (l m n : ℕ)
-    → Shows a b l m (Ok None) (each row 0 i) → Shows b c m n (Ok None) (row i) → Shows a c l n (Ok None) (each row 0 (i + 1))
-rows_more row i a b c l m n before this =
-    let P : List Item → Type 0 = λ items. Shows a c l n (Ok None) items in
-    subst P (sym (next_row row i)) (Shows-then a b c l m n (Ok None) (each row 0 i) (row i) before this)
+pub rows_more : (row : ℕ → List Item) (i next : ℕ) {a b c : Written} → next ≡ i + 1 → Whole a b (each row 0 i) → Whole b c (row i) → Whole a c (each row 0 next)
+rows_more row i next step before this = rw (step, each-more row i) (Whole-then before this)
 
--- some of the rows were shown with an answer other than going on, which is the answer of all
-ends_all : (row : ℕ → List Item) (i count : ℕ) (a c : Option (List ℕ)) (l n : ℕ) (result : Result (Option Refusal) RunFault)
-    → ((xs ys : List Item) → Shows a c l n result xs → Shows a c l n result (xs ++ ys))
-    → i < count → Shows a c l n result (each row 0 (i + 1)) → Shows a c l n result (each row 0 count)
-ends_all row i count a c l n result more below shown =
-    let P : List Item → Type 0 = λ items. Shows a c l n result items in
-    subst P (sym (split_at row (i + 1) count (omega arith))) (more (each row 0 (i + 1)) (each row (i + 1) (count - (i + 1))) shown)
+-- a read failed before the next row
+pub rows_unread : (row : ℕ → List Item) (i count : ℕ) (a b : Written) (fault : Fault) (at : ℕ) → i ≤ count → IsAt at fault → Whole a b (each row 0 i) → Stopped a b (stop_of fault) (each row 0 count)
+rows_unread row i count a b fault at within is before =
+    let more = each-front row i count within in rw more.1 (Stopped-unread a b fault at (each row 0 i) more.0 is before)
 
--- a row was refused
-pub rows_refused : (row : ℕ → List Item) (i count : ℕ) (a b c : Option (List ℕ)) (l m n : ℕ) (refusal : Refusal) → i < count
-    → Shows a b l m (Ok None) (each row 0 i) → Shows b c m n (Ok (Some refusal)) (row i) → Shows a c l n (Ok (Some refusal)) (each row 0 count)
-rows_refused row i count a b c l m n refusal below before this =
-    let P : List Item → Type 0 = λ items. Shows a c l n (Ok (Some refusal)) items in
-    ends_all row i count a c l n (Ok (Some refusal)) (Shows-refused a c l n refusal) below
-    (subst P (sym (next_row row i)) (Shows-then a b c l m n (Ok (Some refusal)) (each row 0 i) (row i) before this))
+-- a row stopped
+pub rows_stopped : (row : ℕ → List Item) (i count : ℕ) (a b c : Written) (stop : Stop) → i < count → Whole a b (each row 0 i) → Stopped b c stop (row i) → Stopped a c stop (each row 0 count)
+rows_stopped row i count a b c stop below before this =
+    let more = each-front row (i + 1) count (omega arith) in
+    let shown = rw (← each-more row i) at (Stopped-then a b c stop (each row 0 i) (row i) before this) in
+    rw more.1 (Stopped-more a c stop (each row 0 (i + 1)) more.0 shown)
 
--- a row stopped at a fault
-pub rows_stopped : (row : ℕ → List Item) (i count : ℕ) (a b c : Option (List ℕ)) (l m n : ℕ) (fault : RunFault) → i < count
-    → Shows a b l m (Ok None) (each row 0 i) → Shows b c m n (Err fault) (row i) → Shows a c l n (Err fault) (each row 0 count)
-rows_stopped row i count a b c l m n fault below before this =
-    let P : List Item → Type 0 = λ items. Shows a c l n (Err fault) items in
-    ends_all row i count a c l n (Err fault) (Shows-stopped a c l n fault) below
-    (subst P (sym (next_row row i)) (Shows-then a b c l m n (Err fault) (each row 0 i) (row i) before this))
+-- a cursor that holds nothing agrees with every file
+pub agrees_none : (file : List ℕ) (c : Reading) → c.held ≡ [] → Agrees file c
+agrees_none file c none = rw none refl
 
--- the source failed before the next row
-pub rows_unread : (row : ℕ → List Item) (i count : ℕ) (a b : Option (List ℕ)) (l m : ℕ) (fault : SourceFault) (at : ℕ) → i ≤ count
-    → Shows a b l m (Ok None) (each row 0 i) → Shows a b l m (Err (Source fault at)) (each row 0 count)
-rows_unread row i count a b l m fault at within before =
-    let P : List Item → Type 0 = λ items. Shows a b l m (Err (Source fault at)) items in
-    subst P (sym (split_at row i count within))
-    (Shows-stopped a b l m (Source fault at) (each row 0 i) (each row i (count - i))
-    (record { front = lines_of (each row 0 i); rest = []; split = sym (append-nil (lines_of (each row 0 i))); takes = before.0 }))
+-- what a new cursor may ask for is its table
+pub account_begins : (c : Reading) (table : Rows) (kind : Kind) (cap : ℕ) → table.entry ≡ row_size kind → c.failed ≡ None → c.unread ≡ size_of table → c.left ≡ table.count
+    → unread_bytes c + c.left * own_cost kind cap ≡ rows_cost kind table cap
+account_begins c table kind cap entry none unread left = rw (none, unread, left, entry) (omega arith)
+
+-- the account of a loop: what was asked for, what is unread, and what the rows that are left ask for stay within a bound
+pub account_step : (old new : Reading) (before after later own bound : ℕ) → new.left + 1 ≡ old.left → after + unread_bytes new ≤ before + unread_bytes old
+    → later ≤ after + own → before + (unread_bytes old + old.left * own) ≤ bound → later + (unread_bytes new + new.left * own) ≤ bound
+account_step old new before after later own bound less step more within =
+    let product = ap (λ (n : ℕ). n * own) less in omega arith
+
+-- what a row may ask for is left in the bound
+pub account_row : (old new : Reading) (before after own bound : ℕ) → new.left + 1 ≡ old.left → after + unread_bytes new ≤ before + unread_bytes old
+    → before + (unread_bytes old + old.left * own) ≤ bound → after + own ≤ bound
+account_row old new before after own bound less step within =
+    let product = ap (λ (n : ℕ). n * own) less in omega arith
+
+-- the index of the row that a step gave
+pub given_index : {holds : Option (List ℕ)} {old new : Reading} {row : Row} → Gives holds old new → Lends new row → row.index ≡ old.index
+given_index gives lends = omega (arith, lends.its_index, gives.next_index)
+
+-- the row that a step gave
+pub given_row : {holds : Option (List ℕ)} {old new : Reading} {row : Row} (file : List ℕ) (kind : Kind) (table : Rows)
+    → Gives holds old new → Lends new row → holds ≡ Some file → Agrees file old → old.table ≡ table → table.entry ≡ row_size kind → table.at ≡ table_place kind file
+    → IsRowOf file kind row
+given_row {old = old} {new = new} {row = row} file kind table gives lends held agrees same entry at =
+    let index : row.index ≡ old.index = omega (arith, lends.its_index, gives.next_index) in
+    let moved : row.at ≡ place old =
+    lends.its_offset ∙ ap (λ (t : Rows). t.at + row.index * t.entry) gives.same_table ∙ ap (λ (i : ℕ). old.table.at + i * old.table.entry) index in
+    let whole : old.table.entry ≡ row_size kind = ap (λ (t : Rows). t.entry) same ∙ entry in
+    let from_ : old.table.at ≡ table_place kind file = ap (λ (t : Rows). t.at) same ∙ at in
+    record {
+      bytes = lends.its_bytes ∙ (gives.exact file held agrees ∙ (ap (λ (p : ℕ). slice file p old.table.entry) (sym moved) ∙ ap (λ (n : ℕ). slice file row.at n) whole));
+      here = moved ∙ (ap (λ (n : ℕ). old.table.at + old.index * n) whole ∙ (ap (λ (p : ℕ). p + old.index * row_size kind) from_ ∙ ap (λ (i : ℕ). table_place kind file + i * row_size kind) (sym index)));
+    }
+
+-- one section's cost more
+pub sum_step : (amount : ℕ → ℕ) (i start before after : ℕ) → before ≤ start + sum_over amount 0 i → after ≤ before + amount i → after ≤ start + sum_over amount 0 (i + 1)
+sum_step amount i start before after h k =
+    let last : sum_over amount 0 (i + 1) ≡ sum_over amount 0 i + amount i = last_cost amount 0 i ∙ ap (λ n. sum_over amount 0 i + amount n) (zero-add i) in
+    omega arith
+
+-- some of the costs are within all
+pub sum_within : (amount : ℕ → ℕ) (i count start after : ℕ) → i < count → after ≤ start + sum_over amount 0 (i + 1) → after ≤ start + sum_over amount 0 count
+sum_within amount i count start after below h = let more = sums_grow amount 0 (i + 1) count (omega arith) in omega arith

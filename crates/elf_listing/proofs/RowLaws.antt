@@ -1,51 +1,97 @@
 -- The items of one row, by the line that was put.
-use Rattle.std.proofs.Common.{◌≡◌, ℕ, ◌+◌, ◌*◌, List, [], ◌∷◌, Option, Result, Ok, sym, ap, ◌∙◌, subst, arith}
-use Rattle.elf_model.specs.Records.{e_phoff, segment_at, section_at, sh_offset, st_name}
+use Rattle.std.proofs.Common.{◌≡◌, ℕ, ◌+◌, ◌*◌, Bool, List, [], ◌∷◌, Result, Ok, Err, refl, sym, ap, ◌∙◌, subst, arith, append-nil}
+use Rattle.elf_model.specs.Budget.{IsBudget}
+use Rattle.elf_model.specs.Records.{e_phoff, segment_at, section_at, sh_offset, st_name, e_machine, r_sym}
 use Rattle.elf_model.specs.Names.{Shown, shown}
 use Rattle.elf_model.specs.Tables.{strings_of, entry_at}
-use Rattle.elf_model.specs.LineFronts.{symbol_front}
+use Rattle.elf_model.specs.LineFronts.{symbol_front, relocation_front}
 use Rattle.elf_model.specs.Lines.{segment_line, named_line}
-use Rattle.elf_model.specs.Listing.{Item, Line}
-use Rattle.elf_model.specs.Rows.{segment_row, symbol_row, named_row}
+use Rattle.elf_model.specs.Listing.{Item, Line, Fault as FaultItem, lines_of}
+use Rattle.elf_model.specs.Rows.{segment_row, symbol_row, named_row, symbol_named, relocation_row}
 use Rattle.elf_model.specs.declared.causes.Refusal.{Refusal}
 use Rattle.elf_model.specs.declared.causes.Cause.{Cause}
-use Rattle.elf_listing.specs.Shows.{Shows}
-use Rattle.elf_listing.specs.declared.end.RunFault.{RunFault}
+use Rattle.elf_lines.specs.Pieces.{shown_as}
+use Rattle.elf_source.specs.Output.{Written, Takes, TakesFront}
+use Rattle.elf_source.proofs.PutsLaws.{Takes-nothing}
+use Rattle.elf_table.specs.NamesRead.{NameRead}
+use Rattle.elf_table.specs.declared.fault.Fault.{Fault}
+use Rattle.elf_table.specs.declared.fault.Fault.TheVariants.{Refused, Source}
+use Rattle.elf_table.specs.declared.names.NameEnd.{NameEnd}
+use Rattle.elf_table.specs.declared.names.NameEnd.TheVariants.{Whole as NameWhole, Cut as NameCut}
+use Rattle.elf_listing.specs.Shows.{Whole, Front, Ends, Stopped, Writes, cut_of}
+use Rattle.elf_listing.specs.Stops.{stop_of}
+use Rattle.elf_listing.specs.declared.stop.Stop.{Stop}
+use Rattle.elf_listing.specs.declared.stop.Stop.TheVariants.{Out}
+
+-- the same items
+pub Writes-as : {X : Type 0} (a b : Written) (result : Result X Stop) {xs ys : List Item} → xs ≡ ys → Writes a b result ys → Writes a b result xs
+Writes-as a b result same written = subst (λ (items : List Item). Writes a b result items) (sym same) written
+
+-- a line was put
+pub Whole-line : {a b : Written} (line : List ℕ) → Takes a b line → Whole a b (Line line ∷ [])
+Whole-line line p = record { takes = rw append-nil p; no_fault = refl }
+
+pub Stopped-line : {a b : Written} (line : List ℕ) → TakesFront a b line → TakesFront a b (lines_of (Line line ∷ []))
+Stopped-line line p = rw append-nil p
+
+-- nothing was written of some items
+pub Front-none : (a : Written) (all : List Item) → Front a a all
+Front-none a all = record { front = []; rest = all; split = refl; takes = Takes-nothing a; no_fault = refl }
+
+-- a refusal stands in the place of all items
+pub Ends-first : (a : Written) (refusal : Refusal) (all : List Item) → ((IsBudget refusal → ⊥) → all ≡ FaultItem refusal ∷ []) → Ends a a refusal all
+unfolding Front-none
+Ends-first a refusal all is = record { front = Front-none a all; next = λ other. record { behind = []; is_next = is other } }
+
+-- a fault of a read before anything was written
+pub Stopped-first : (a : Written) (fault : Fault) (all : List Item) → ((refusal : Refusal) → fault ≡ Refused refusal → (IsBudget refusal → ⊥) → all ≡ FaultItem refusal ∷ []) → Stopped a a (stop_of fault) all
+Stopped-first a (Refused refusal) all is = Ends-first a refusal all (is refusal refl)
+Stopped-first a (Source fault at) all is = Front-none a all
+
+-- what is shown of a name that was read
+pub read_shown : (at : ℕ) (end : NameEnd) (name : List ℕ) (answer : Result Shown Cause) → NameRead at (Ok end) name answer → answer ≡ Ok (shown_as (cut_of end) name)
+read_shown at NameWhole name answer read = read
+read_shown at NameCut name answer read = read
+
+pub named_is : (front : List ℕ) (at : ℕ) (end : NameEnd) (name : List ℕ) (answer : Result Shown Cause) → NameRead at (Ok end) name answer
+    → named_row front at answer ≡ Line (named_line front (shown_as (cut_of end) name)) ∷ []
+named_is front at end name answer read = ap (named_row front at) (read_shown at end name answer read)
+
+-- a name that could not be read
+pub Stopped-name : (a : Written) (front : List ℕ) (at : ℕ) (fault : Fault) (name : List ℕ) (answer : Result Shown Cause) → NameRead at (Err fault) name answer
+    → Stopped a a (stop_of fault) (named_row front at answer)
+Stopped-name a front at (Refused refusal) name answer read =
+    Ends-first a refusal (named_row front at answer) (λ other.
+    let is = read other in
+    ap (named_row front at) is.1 ∙ ap (λ (place : ℕ). FaultItem (record { at = place; cause = refusal.cause }) ∷ []) (sym is.0))
+Stopped-name a front at (Source fault offset) name answer read = Front-none a (named_row front at answer)
 
 -- a program header's line at its place
-segment_is : (file : List ℕ) (at index : ℕ) → at ≡ e_phoff file + index * 56 → Line (segment_line file at index) ∷ [] ≡ segment_row file index
+pub segment_is : (file line : List ℕ) (at index : ℕ) → line ≡ segment_line file at index → at ≡ e_phoff file + index * 56 → segment_row file index ≡ Line line ∷ []
 unfolding segment_row
-segment_is file at index here =
-    let place : at ≡ segment_at file index = omega arith in ap (λ p. Line (segment_line file p index) ∷ []) place
-
-pub Shows-segment : (a b : Option (List ℕ)) (m n : ℕ) (result : Result (Option Refusal) RunFault) (file line : List ℕ) (at index : ℕ)
-    → line ≡ segment_line file at index → at ≡ e_phoff file + index * 56 → Shows a b m n result (Line line ∷ []) → Shows a b m n result (segment_row file index)
-Shows-segment a b m n result file line at index same here shown =
-    let P : List Item → Type 0 = λ items. Shows a b m n result items in
-    subst P (ap (λ text. Line text ∷ []) same ∙ segment_is file at index here) shown
+segment_is file line at index same here =
+    let place : at ≡ segment_at file index = omega arith in
+    sym (ap (λ text. Line text ∷ []) same ∙ ap (λ p. Line (segment_line file p index) ∷ []) place)
 
 -- a symbol's row at its place
-symbol_is : (file : List ℕ) (cap section index at : ℕ) (front table : List ℕ) (off : ℕ) → front ≡ symbol_front file at section index
+pub symbol_is : (file : List ℕ) (cap section index at : ℕ) (front table : List ℕ) (off : ℕ) → front ≡ symbol_front file at section index
     → table ≡ strings_of file (section_at file section) → off ≡ st_name file at → at ≡ sh_offset file (section_at file section) + index * 24
-    → named_row front at (shown table off cap) ≡ symbol_row file cap section (section_at file section) index
+    → symbol_row file cap section (section_at file section) index ≡ named_row front at (shown table off cap)
 unfolding symbol_row
 symbol_is file cap section index at front table off same_front same_table same_name here =
     let place : at ≡ entry_at file (section_at file section) 24 index = omega arith in
-    ap (λ text. named_row text at (shown table off cap)) same_front
+    sym (ap (λ text. named_row text at (shown table off cap)) same_front
     ∙ (ap (λ names. named_row (symbol_front file at section index) at (shown names off cap)) same_table
     ∙ (ap (λ name. named_row (symbol_front file at section index) at (shown (strings_of file (section_at file section)) name cap)) same_name
-    ∙ ap (λ p. named_row (symbol_front file p section index) p (shown (strings_of file (section_at file section)) (st_name file p) cap)) place))
+    ∙ ap (λ p. named_row (symbol_front file p section index) p (shown (strings_of file (section_at file section)) (st_name file p) cap)) place)))
 
-pub Shows-symbol : (a b : Option (List ℕ)) (m n : ℕ) (result : Result (Option Refusal) RunFault) (file : List ℕ) (cap section index at : ℕ) (front table : List ℕ) (off : ℕ)
-    → front ≡ symbol_front file at section index → table ≡ strings_of file (section_at file section) → off ≡ st_name file at
-    → at ≡ sh_offset file (section_at file section) + index * 24 → Shows a b m n result (named_row front at (shown table off cap))
-    → Shows a b m n result (symbol_row file cap section (section_at file section) index)
-Shows-symbol a b m n result file cap section index at front table off same_front same_table same_name here row =
-    let P : List Item → Type 0 = λ items. Shows a b m n result items in
-    subst P (symbol_is file cap section index at front table off same_front same_table same_name here) row
-
--- a line that ends in a name that was read
-pub Shows-named : (a b : Option (List ℕ)) (m n : ℕ) (result : Result (Option Refusal) RunFault) (front : List ℕ) (at : ℕ) (answer : Result Shown Cause) (name : Shown)
-    → answer ≡ Ok name → Shows a b m n result (Line (named_line front name) ∷ []) → Shows a b m n result (named_row front at answer)
-Shows-named a b m n result front at answer name is line =
-    let P : Result Shown Cause → Type 0 = λ read. Shows a b m n result (named_row front at read) in subst P (sym is) line
+-- a relocation entry's row at its place
+pub relocation_is : (file front : List ℕ) (cap section at entry symbol index : ℕ) → entry ≡ sh_offset file at + index * 24
+    → front ≡ relocation_front file entry (e_machine file) section → symbol ≡ r_sym file entry
+    → relocation_row file cap section at index ≡ named_row front (symbol_named file cap at entry symbol).0 (symbol_named file cap at entry symbol).1
+unfolding relocation_row
+relocation_is file front cap section at entry symbol index here same names =
+    let place : entry ≡ entry_at file at 24 index = omega arith in
+    let row : List ℕ → ℕ → ℕ → List Item = λ text e k. named_row text (symbol_named file cap at e k).0 (symbol_named file cap at e k).1 in
+    sym (ap (λ text. row text entry symbol) same ∙ (ap (λ k. row (relocation_front file entry (e_machine file) section) entry k) names
+    ∙ ap (λ e. row (relocation_front file e (e_machine file) section) e (r_sym file e)) place))

@@ -1,14 +1,15 @@
 -- What the tables of a loaded file ask for, by the section headers in the store.
-use Rattle.std.proofs.Common.{◌≡◌, ℕ, ◌+◌, ◌*◌, ◌/◌, ◌<◌, ◌≤◌, ◌==◌, ◌&&◌, not, Bool, true, false, List, [], ◌++◌, length, Option, None, Some, Result, Ok, refl, sym, ap, ◌∙◌, arith, zero-add}
+use Rattle.std.proofs.Common.{◌≡◌, ℕ, ◌+◌, ◌*◌, ◌/◌, ◌<◌, ◌≤◌, ◌==◌, ◌&&◌, not, nat_lt, Bool, true, false, List, [], ◌∷◌, ◌++◌, length, drop, Option, None, Some, Result, Ok, refl, sym, ap, ◌∙◌, arith, zero-add}
 use Rattle.std.proofs.Math.Nat.{mul-le-mul_left}
-use Rattle.std.proofs.lemmas.Bool.{eqb-true}
-use Rattle.std.specs.Prelude.{is_none, MatchOption}
-use Rattle.elf_model.specs.Checks.{Check, first_refusal, header_checks, early_checks, section_name_checks, is_symbol_table, table_checks_of}
-use Rattle.elf_model.specs.Cost.{sum_over, cost_where, is_table, entries_cost, symbols_cost, relocations_cost, table_cost, is_loadable, sections_cost, segments_cost, tables_cost, cost, ceiling}
+use Rattle.std.proofs.lemmas.Bool.{eqb-true, ltb-false}
+use Rattle.std.specs.Prelude.{is_none}
+use Rattle.elf_model.specs.Checks.{Check, first_refusal, length_checks, header_checks, early_checks, section_name_checks, is_symbol_table, table_checks_of}
+use Rattle.elf_model.specs.Cost.{sum_over, cost_where, is_table, entries_cost, symbols_cost, relocations_cost, table_cost, is_loadable, sections_cost, segments_cost, tables_cost, behind_header, cost, ceiling}
 use Rattle.elf_model.specs.Listing.{has, has_tables, SECTIONS, SEGMENTS, SYMBOLS, RELOCS}
 use Rattle.elf_model.specs.Names.{name_bytes}
-use Rattle.elf_model.specs.Numbers.{SHT_RELA}
+use Rattle.elf_model.specs.Numbers.{SHT_RELA, PN_XNUM, SHN_XINDEX}
 use Rattle.elf_model.specs.Records.{e_shnum, e_phnum, e_shstrndx, sh_type, sh_offset, sh_size}
+use Rattle.elf_model.specs.declared.causes.Cause.TheVariants.{ExtendedNumbering, TooManyHeaders}
 use Rattle.elf_model.specs.declared.causes.Refusal.{Refusal}
 use Rattle.elf_model.proofs.CheckSteps.{first_refusal-none, first_refusal-some}
 use Rattle.elf_model.proofs.CostLemmas.{cost_where-le, sum_over-le}
@@ -16,23 +17,12 @@ use Rattle.elf_model.proofs.RecordLemmas.{last_cost, sums_grow}
 use Rattle.elf_model.proofs.StoreLemmas.{rows_cost, part_by_part, any_rows, tables_count}
 use Rattle.elf_record.specs.Ehdr.{IsEhdr}
 use Rattle.elf_record.specs.declared.ehdr.Ehdr.{Ehdr}
-use Rattle.elf_source.specs.Source.{Asked}
-use Rattle.elf_table.specs.Load.{Opened, Belongs, IsOpened, Passes, early_of}
+use Rattle.elf_table.specs.Load.{Opened, Belongs, IsOpened, Passes, early_of, header_cost, load_cost}
 use Rattle.elf_table.specs.Sections.{answered, rows, table_of, checked}
 use Rattle.elf_table.specs.Store.{Stored, row}
 use Rattle.elf_table.specs.Tables.{Rows, Strings}
 use Rattle.elf_table.specs.declared.fault.Fault.{Fault}
-use Rattle.elf_listing.specs.Sections.{listed_cost, names_cost}
-
--- one section's cost more
-pub sum_step : (amount : ℕ → ℕ) (i start before after : ℕ) → before ≤ start + sum_over amount 0 i → after ≤ before + amount i → after ≤ start + sum_over amount 0 (i + 1)
-sum_step amount i start before after h k =
-    let last : sum_over amount 0 (i + 1) ≡ sum_over amount 0 i + amount i = last_cost amount 0 i ∙ ap (λ n. sum_over amount 0 i + amount n) (zero-add i) in
-    omega arith
-
--- some of the costs are within all
-pub sum_within : (amount : ℕ → ℕ) (i count start after : ℕ) → i < count → after ≤ start + sum_over amount 0 (i + 1) → after ≤ start + sum_over amount 0 count
-sum_within amount i count start after below h = let more = sums_grow amount 0 (i + 1) count (omega arith) in omega arith
+use Rattle.elf_listing.specs.Parts.{tables_listed}
 
 -- as many equal costs
 pub sum_of_equal : (amount count : ℕ) → sum_over (λ i. amount) 0 count ≤ count * amount
@@ -59,16 +49,16 @@ entries_within bytes at size place entry each_entry table h =
     entries_by_cases (sh_size bytes at == 0) (is_table bytes at size entry) (table_checks_of bytes at size place entry) (sh_offset bytes at) (sh_size bytes at / entry) entry each_entry table
     (λ none. tables_count bytes at size place entry ∙ ap is_none none) (sym h)
 
-pub symbols_within : (bytes : List ℕ) (size place cap : ℕ) (table : Rows) (start after : ℕ) → is_symbol_table bytes 0 ≡ true → Ok table ≡ table_of bytes 0 size place 24
-    → after ≤ start + table.count * (24 + name_bytes cap) → after ≤ start + symbols_cost bytes 0 size cap
+pub symbols_within : (bytes : List ℕ) (size place cap : ℕ) (table : Rows) → is_symbol_table bytes 0 ≡ true → Ok table ≡ table_of bytes 0 size place 24
+    → table.count * (24 + name_bytes cap) ≤ symbols_cost bytes 0 size cap
 unfolding symbols_cost
-symbols_within bytes size place cap table start after kind h asked =
+symbols_within bytes size place cap table kind h =
     let within = entries_within bytes 0 size place 24 (24 + name_bytes cap) table h in rw kind (omega arith)
 
-pub relocations_within : (bytes : List ℕ) (size place cap : ℕ) (table : Rows) (start after : ℕ) → sh_type bytes 0 ≡ SHT_RELA → Ok table ≡ table_of bytes 0 size place 24
-    → after ≤ start + table.count * (24 + (24 + name_bytes cap)) → after ≤ start + relocations_cost bytes 0 size cap
+pub relocations_within : (bytes : List ℕ) (size place cap : ℕ) (table : Rows) → sh_type bytes 0 ≡ SHT_RELA → Ok table ≡ table_of bytes 0 size place 24
+    → table.count * (24 + (24 + name_bytes cap)) ≤ relocations_cost bytes 0 size cap
 unfolding relocations_cost
-relocations_within bytes size place cap table start after kind h asked =
+relocations_within bytes size place cap table kind h =
     let within = entries_within bytes 0 size place 24 (24 + 24 + name_bytes cap) table h in rw kind (omega arith)
 
 -- the symbols and the relocation entries of all sections are among their tables
@@ -77,27 +67,39 @@ pub entries_among : (store : Stored) (size cap parts : ℕ)
     + cost_where (has parts RELOCS) (sum_over (λ i. relocations_cost (row store i) 0 size cap) 0 store.loaded) ≤ sum_over (λ i. table_cost (row store i) 0 size cap parts) 0 store.loaded
 entries_among store size cap parts = let sum = part_by_part (row store) (λ i. 0) size cap parts store.loaded in omega arith
 
+-- the names of all sections
+names_listed : (asked named : Bool) (n count : ℕ) → cost_where asked (sum_over (λ i. cost_where named n) 0 count) ≤ cost_where (asked && named) (count * n)
+names_listed true true n count = sum_of_equal n count
+names_listed true false n count = omega (arith, sum_of_equal 0 count)
+names_listed false named n count = omega arith
+
 -- what is listed of a file that was loaded is within its cost
 pub listed_within : (file : List ℕ) (loaded : Opened) (store : Stored) (cap parts : ℕ) → Belongs file loaded store
-    → 64 * store.loaded + listed_cost loaded store cap parts ≤ sections_cost file cap parts + segments_cost file parts + tables_cost file cap parts
+    → 64 * store.loaded + tables_listed parts loaded store cap ≤ sections_cost file cap parts + segments_cost file parts + tables_cost file cap parts
 unfolding sections_cost segments_cost
 listed_within file loaded store cap parts belongs =
     let count : store.loaded ≡ e_shnum file = belongs.count ∙ belongs.header.e_shnum in
     let tables : sum_over (λ i. table_cost (row store i) 0 (length file) cap parts) 0 (e_shnum file) ≡ tables_cost file cap parts =
     rows_cost file (row store) cap parts (λ i below. belongs.rows i (omega arith)) in
-    let listed : listed_cost loaded store cap parts
-    ≡ cost_where (has parts SECTIONS && not (e_shstrndx file == 0)) (e_shnum file * name_bytes cap) + cost_where (has parts SEGMENTS) (56 * e_phnum file) + tables_cost file cap parts =
-    rw (count, belongs.size, belongs.header.e_shstrndx, belongs.header.e_phnum, tables) refl in
-    omega arith
+    let all : sum_over (λ i. table_cost (row store i) 0 loaded.size cap parts) 0 store.loaded ≡ tables_cost file cap parts =
+    ap (λ n. sum_over (λ i. table_cost (row store i) 0 n cap parts) 0 store.loaded) belongs.size ∙ (ap (sum_over (λ i. table_cost (row store i) 0 (length file) cap parts) 0) count ∙ tables) in
+    let entries = entries_among store loaded.size cap parts in
+    let names = names_listed (has parts SECTIONS) (not (loaded.header.e_shstrndx == 0)) (name_bytes cap) store.loaded in
+    let same : cost_where (has parts SECTIONS && not (loaded.header.e_shstrndx == 0)) (store.loaded * name_bytes cap)
+    ≡ cost_where (has parts SECTIONS && not (e_shstrndx file == 0)) (e_shnum file * name_bytes cap) = rw (count, belongs.header.e_shstrndx) refl in
+    let segments : cost_where (has parts SEGMENTS) (56 * loaded.header.e_phnum) ≡ cost_where (has parts SEGMENTS) (56 * e_phnum file) = rw belongs.header.e_phnum refl in
+    omega (arith, count, all, entries, names, same, segments)
 
 -- and whatever the store holds, within the ceiling
 pub listed_below : (loaded : Opened) (store : Stored) (cap parts : ℕ) → store.loaded ≤ store.slots → loaded.header.e_phnum ≤ store.slots
-    → 64 + (64 * store.loaded + listed_cost loaded store cap parts) ≤ ceiling loaded.size store.slots cap
+    → 64 + (64 * store.loaded + tables_listed parts loaded store cap) ≤ ceiling loaded.size store.slots cap
 listed_below loaded store cap parts few some =
+    let listed = names_listed (has parts SECTIONS) (not (loaded.header.e_shstrndx == 0)) (name_bytes cap) store.loaded in
     let names = cost_where-le (has parts SECTIONS && not (loaded.header.e_shstrndx == 0)) (store.loaded * name_bytes cap) in
     let segments = cost_where-le (has parts SEGMENTS) (56 * loaded.header.e_phnum) in
+    let entries = entries_among store loaded.size cap parts in
     let all = any_rows (row store) loaded.size store.slots cap parts store.loaded loaded.header.e_phnum few some in
-    omega arith
+    omega (arith, listed, names, segments, entries, all)
 
 pub slots_below : (size headers cap : ℕ) → 64 + 64 * headers ≤ ceiling size headers cap
 slots_below size headers cap =
@@ -112,24 +114,6 @@ pub loadable : (file : List ℕ) (headers : ℕ) → first_refusal (header_check
 unfolding is_loadable
 loadable file headers passed early = rw (first_refusal-none (header_checks file) (early_checks file headers) passed ∙ early) refl
 
-names_cost-le : (names : Option Strings) (cap : ℕ) → names_cost names cap ≤ name_bytes cap
-names_cost-le None cap = omega arith
-names_cost-le (Some names) cap = omega arith
-
-no_names : (names : Option Strings) (cap count : ℕ) → names ≡ None → sum_over (λ i. names_cost names cap) 0 count ≤ 0
-no_names names cap count none = rw none (omega (arith, sum_of_equal 0 count))
-
--- the names of all sections, where the parts have the sections
-pub names_within : (names : Option Strings) (index parts cap count start after : ℕ) → has parts SECTIONS ≡ true → (index ≡ 0 → names ≡ None)
-    → after ≤ start + sum_over (λ i. names_cost names cap) 0 count → after ≤ start + cost_where (has parts SECTIONS && not (index == 0)) (count * name_bytes cap)
-names_within names index parts cap count start after asked unnamed within = rw asked (by_cases (index == 0) (eqb-true index 0))
-  where
-    by_cases : (zero : Bool) → (zero ≡ true → index ≡ 0) → after ≤ start + cost_where (true && not zero) (count * name_bytes cap)
-    by_cases true first = omega (arith, within, no_names names cap count (unnamed (first refl)))
-    by_cases false first =
-        let each_name : count * names_cost names cap ≤ count * name_bytes cap = mul-le-mul_left count (names_cost-le names cap) in
-        omega (arith, within, sum_of_equal (names_cost names cap) count, each_name)
-
 -- where two lists of checks pass, the first does
 passes_front : (front rest : List Check) → first_refusal (front ++ rest) ≡ None → first_refusal front ≡ None
 passes_front front rest h = by_cases (first_refusal front) (λ refusal fails. first_refusal-some front rest refusal fails)
@@ -138,46 +122,69 @@ passes_front front rest h = by_cases (first_refusal front) (λ refusal fails. fi
     by_cases None fails = refl
     by_cases (Some refusal) fails = let refused = fails refusal refl in cc
 
--- how many bytes are asked for behind the file header at most
-abbrev pub behind_header : List ℕ → ℕ → ℕ → ℕ → ℕ
-behind_header file headers cap parts =
-    cost_where (has_tables parts && is_loadable file headers) (sections_cost file cap parts + segments_cost file parts + tables_cost file cap parts)
-
-pub header_within : (file : List ℕ) (headers cap parts : ℕ) → cost file headers cap parts ≡ 64 + behind_header file headers cap parts
-unfolding cost
-header_within file headers cap parts = refl
-
 headers_within : (file : List ℕ) (cap parts : ℕ) → 64 * e_shnum file ≤ sections_cost file cap parts
 unfolding sections_cost
 headers_within file cap parts = omega arith
 
 -- a load asks for the section headers where the checks before them pass, and for nothing else
-pub load_within : {S : Type 0} (Y : Refusal → Type 0) (old new : Asked S) (file : List ℕ) (header : Ehdr) (size slots cap parts : ℕ)
-    → IsEhdr file 0 header → size ≡ length file → first_refusal (header_checks file) ≡ None → has_tables parts ≡ true
-    → MatchOption (first_refusal (early_of header size slots)) (new.asked ≤ old.asked + 64 * header.e_shnum) (λ refusal. Y refusal × (new ≡ old))
-    → new.asked ≤ old.asked + behind_header file slots cap parts
-load_within {S = S} Y old new file header size slots cap parts is same passed tables loads = by_cases (first_refusal (early_of header size slots)) refl loads
+pub load_within : (file : List ℕ) (header : Ehdr) (size slots cap parts : ℕ) → IsEhdr file 0 header → size ≡ length file → first_refusal (header_checks file) ≡ None → has_tables parts ≡ true
+    → load_cost header size slots ≤ behind_header file slots cap parts
+load_within file header size slots cap parts is same passed tables = by_cases (first_refusal (early_of header size slots)) refl
   where
-    by_cases : (first : Option Refusal) → first ≡ first_refusal (early_of header size slots) → MatchOption first (new.asked ≤ old.asked + 64 * header.e_shnum) (λ refusal. Y refusal × (new ≡ old))
-        → new.asked ≤ old.asked + behind_header file slots cap parts
-    by_cases None none within =
+    by_cases : (first : Option Refusal) → first ≡ first_refusal (early_of header size slots) → cost_where (is_none first) (64 * header.e_shnum) ≤ behind_header file slots cap parts
+    by_cases None none =
         let early : first_refusal (early_checks file slots) ≡ None = sym (none ∙ early_is file header size slots is same) in
-        rw (tables, loadable file slots passed early) (omega (arith, within, headers_within file cap parts, is.e_shnum))
-    by_cases (Some refusal) some unread = let e : new.asked ≡ old.asked = ap (λ (src : Asked S). src.asked) unread.1 in omega (arith, e)
+        rw (tables, loadable file slots passed early) (omega (arith, headers_within file cap parts, is.e_shnum))
+    by_cases (Some refusal) some = omega arith
+
+-- what a load asks for at most
+pub load_most : (header : Ehdr) (size slots : ℕ) → load_cost header size slots ≤ 64 * header.e_shnum
+load_most header size slots = cost_where-le (is_none (first_refusal (early_of header size slots))) (64 * header.e_shnum)
+
+-- where checks pass the fourth does
+fourth_passes : (p q r s : Bool) (w x y z : Refusal) (rest : List Check)
+    → first_refusal (record { fails = p; refusal = w } ∷ record { fails = q; refusal = x } ∷ record { fails = r; refusal = y } ∷ record { fails = s; refusal = z } ∷ rest) ≡ None → s ≡ false
+fourth_passes true q r s w x y z rest h = cc
+fourth_passes false true r s w x y z rest h = cc
+fourth_passes false false true s w x y z rest h = cc
+fourth_passes false false false true w x y z rest h = cc
+fourth_passes false false false false w x y z rest h = refl
+
+-- the load checks leave no more section headers than slots
+few_sections : (header : Ehdr) (size slots : ℕ) → first_refusal (early_of header size slots) ≡ None → header.e_shnum ≤ slots
+few_sections header size slots passes =
+    ltb-false slots header.e_shnum
+    (fourth_passes (header.e_phnum == PN_XNUM) (header.e_shstrndx == SHN_XINDEX) (header.e_shnum == 0 && not (header.e_shoff == 0)) (nat_lt slots header.e_shnum)
+    (record { at = 0x38; cause = ExtendedNumbering }) (record { at = 0x3e; cause = ExtendedNumbering }) (record { at = 0x3c; cause = ExtendedNumbering }) (record { at = 0x3c; cause = TooManyHeaders })
+    (drop 4 (early_of header size slots)) passes)
+
+pub load_below : (header : Ehdr) (size slots cap : ℕ) → 64 + load_cost header size slots ≤ ceiling size slots cap
+load_below header size slots cap = by_cases (first_refusal (early_of header size slots)) refl
+  where
+    by_cases : (first : Option Refusal) → first ≡ first_refusal (early_of header size slots) → 64 + cost_where (is_none first) (64 * header.e_shnum) ≤ ceiling size slots cap
+    by_cases None none = omega (arith, few_sections header size slots (sym none), slots_below size slots cap)
+    by_cases (Some refusal) some = omega (arith, slots_below size slots cap)
 
 -- a file that was loaded is listed within its cost
-pub loaded_within : (file : List ℕ) (loaded : Opened) (store : Stored) (slots cap parts start middle after : ℕ) → Belongs file loaded store → store.slots ≡ slots
-    → first_refusal (header_checks file) ≡ None → has_tables parts ≡ true → middle ≤ start + 64 * loaded.header.e_shnum → after ≤ middle + listed_cost loaded store cap parts
-    → after ≤ start + behind_header file slots cap parts
-loaded_within file loaded store slots cap parts start middle after belongs same passed tables loads lists =
+pub loaded_within : (file : List ℕ) (loaded : Opened) (store : Stored) (slots cap parts : ℕ) → Belongs file loaded store → store.slots ≡ slots
+    → first_refusal (header_checks file) ≡ None → has_tables parts ≡ true → 64 * loaded.header.e_shnum + tables_listed parts loaded store cap ≤ behind_header file slots cap parts
+loaded_within file loaded store slots cap parts belongs same passed tables =
     let early : first_refusal (early_checks file slots) ≡ None = ap (λ n. first_refusal (early_checks file n)) (sym same) ∙ passes_front (early_checks file store.slots) (section_name_checks file) belongs.passes in
-    rw (tables, loadable file slots passed early) (omega (arith, loads, lists, listed_within file loaded store cap parts belongs, belongs.count))
+    rw (tables, loadable file slots passed early) (omega (arith, listed_within file loaded store cap parts belongs, belongs.count))
 
 -- and within the ceiling, whatever the source is
-pub loaded_below : (loaded : Opened) (store : Stored) (header : Ehdr) (size slots cap parts start middle after : ℕ) → IsOpened loaded size header store → Passes size slots header → store.slots ≡ slots
-    → middle ≤ start + 64 * header.e_shnum → after ≤ middle + listed_cost loaded store cap parts → 64 + after ≤ start + ceiling size slots cap
-loaded_below loaded store header size slots cap parts start middle after opened passes same loads lists =
-    let few : loaded.header.e_phnum ≤ store.slots = rw (opened.same_header, same) passes.few_segments in
-    let below = listed_below loaded store cap parts (omega (arith, opened.count, passes.few, same)) few in
+pub loaded_below : (loaded : Opened) (store : Stored) (header : Ehdr) (size slots cap parts : ℕ) → IsOpened loaded size header store → store.slots ≡ slots
+    → 64 + (64 * header.e_shnum + tables_listed parts loaded store cap) ≤ ceiling size slots cap
+loaded_below loaded store header size slots cap parts opened same =
+    let few : loaded.header.e_phnum ≤ store.slots = rw opened.same_header opened.passes.few_segments in
+    let below = listed_below loaded store cap parts (omega (arith, opened.count, opened.passes.few)) few in
     let at_size : ceiling loaded.size store.slots cap ≡ ceiling size slots cap = ap (λ n. ceiling n store.slots cap) opened.same_size ∙ ap (λ n. ceiling size n cap) same in
-    omega (arith, loads, lists, below, at_size, opened.count)
+    omega (arith, below, at_size, opened.count)
+
+-- the file header asks for 64 bytes at most
+pub header_most : (size : ℕ) → header_cost size ≤ 64
+header_most size = cost_where-le (is_none (first_refusal (length_checks size))) 64
+
+pub cost_is : (file : List ℕ) (headers cap parts : ℕ) → cost file headers cap parts ≡ 64 + behind_header file headers cap parts
+unfolding cost
+cost_is file headers cap parts = refl

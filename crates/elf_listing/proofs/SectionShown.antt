@@ -4,7 +4,7 @@ use Rattle.std.proofs.lemmas.Bool.{eqb-true}
 use Rattle.elf_model.specs.Bytes.{slice}
 use Rattle.elf_model.specs.Checks.{Check, first_refusal, is_symbol_table, table_checks, strings_checks}
 use Rattle.elf_model.specs.LineFronts.{section_front}
-use Rattle.elf_model.specs.Listing.{Item, Fault, each, checked, lines_of}
+use Rattle.elf_model.specs.Listing.{Item, Fault, each, checked}
 use Rattle.elf_model.specs.Names.{shown}
 use Rattle.elf_model.specs.Numbers.{SHT_RELA}
 use Rattle.elf_model.specs.Records.{e_shnum, e_shstrndx, sh_name, sh_type, sh_offset, sh_size, sh_link, section_at}
@@ -16,12 +16,7 @@ use Rattle.elf_table.specs.Tables.{Rows, Strings}
 use Rattle.elf_table.specs.Sections.{answered, names_at, rows, strings, section_names, symbols_at, symbols_linked, linked_checks, relocations_at, checked as checked_as}
 use Rattle.elf_table.specs.declared.fault.Fault.{Fault as TableFault}
 use Rattle.elf_table.specs.declared.fault.Fault.TheVariants.{Refused, Source as Unread}
-use Rattle.elf_listing.specs.Sections.{name_in}
-use Rattle.elf_listing.specs.Shows.{Shows, end_of}
-use Rattle.elf_listing.proofs.ShowLaws.{Takes-nothing}
-use Rattle.elf_listing.specs.declared.end.RunFault.{RunFault}
-use Rattle.elf_listing.specs.declared.end.RunFault.TheVariants.{Source}
-use Rattle.elf_source.specs.declared.faults.SourceFault.{SourceFault}
+use Rattle.elf_listing.specs.Parts.{name_in}
 
 -- the name of a section, in the string table of the section names or without one
 name_by_cases : (file : List ℕ) (a b : Bool) (names : Strings) (off cap : ℕ) → a ≡ false
@@ -42,20 +37,14 @@ name_is file names off at cap same some is =
     ∙ ap (λ index. if e_shstrndx file == 0 then no_name else shown (section_bytes file (section_at file (e_shstrndx file))) index cap) is)
 
 -- the row of a section header, by its front and its name
-section_is : (file front : List ℕ) (names : Option Strings) (off at index cap : ℕ) → names ≡ section_names file → 0 < e_shnum file → at ≡ section_at file index
+pub section_is : (file front : List ℕ) (names : Option Strings) (off at index cap : ℕ) → names ≡ section_names file → 0 < e_shnum file → at ≡ section_at file index
     → off ≡ sh_name file (section_at file index) → front ≡ section_front file (section_at file index) index
-    → named_row front at (name_in file names off cap) ≡ section_row file cap index
+    → section_row file cap index ≡ named_row front at (name_in file names off cap)
 unfolding section_row
-section_is file front names off at index cap same some place is before =
+section_is file front names off at index cap same some place is before = sym (
     ap (λ text. named_row text at (name_in file names off cap)) before
     ∙ (ap (λ p. named_row (section_front file (section_at file index) index) p (name_in file names off cap)) place
-    ∙ ap (named_row (section_front file (section_at file index) index) (section_at file index)) (name_is file names off (section_at file index) cap same some is))
-
-pub Shows-section : (a b : Option (List ℕ)) (m n : ℕ) (result : Result (Option Refusal) RunFault) (file front : List ℕ) (names : Option Strings) (off at index cap : ℕ)
-    → names ≡ section_names file → 0 < e_shnum file → at ≡ section_at file index → off ≡ sh_name file (section_at file index) → front ≡ section_front file (section_at file index) index
-    → Shows a b m n result (named_row front at (name_in file names off cap)) → Shows a b m n result (section_row file cap index)
-Shows-section a b m n result file front names off at index cap same some place is before row =
-    let P : List Item → Type 0 = λ items. Shows a b m n result items in subst P (section_is file front names off at index cap same some place is before) row
+    ∙ ap (named_row (section_front file (section_at file index) index) (section_at file index)) (name_is file names off (section_at file index) cap same some is)))
 
 -- a section that holds no symbols has no rows of symbols
 pub no_symbols : (file : List ℕ) (cap section : ℕ) → is_symbol_table file (section_at file section) ≡ false → symbol_rows file cap section ≡ []
@@ -136,32 +125,6 @@ symbols_pass file section table names h =
       placed = λ some. (p.2 some).1;
     }
 
--- rows behind checks that pass
-pub Shows-checked : (a b : Option (List ℕ)) (m n : ℕ) (result : Result (Option Refusal) RunFault) (checks : List Check) (row : ℕ → List Item) (count entries : ℕ) (items : List Item)
-    → items ≡ checked checks (each row 0 entries) → first_refusal checks ≡ None → count ≡ entries → Shows a b m n result (each row 0 count) → Shows a b m n result items
-Shows-checked a b m n result checks row count entries items are pass same rows_shown =
-    let P : List Item → Type 0 = λ some. Shows a b m n result some in
-    subst P (sym (are ∙ checked-passes checks (each row 0 entries) pass)) (subst P (ap (each row 0) same) rows_shown)
-
--- nothing was shown where there is nothing to show
-pub Shows-nothing : (a : Option (List ℕ)) (m : ℕ) (items : List Item) → m < 2 ^ 128 → items ≡ [] → Shows a a m m (Ok None) items
-Shows-nothing a m items small none =
-    let P : List Item → Type 0 = λ shown. Shows a a m m (Ok None) shown in subst P (sym none) (Takes-nothing a m small, refl)
-
--- the source failed before anything was shown
-pub Shows-unread : (a : Option (List ℕ)) (m : ℕ) (items : List Item) (fault : SourceFault) (at : ℕ) → m < 2 ^ 128 → Shows a a m m (Err (Source fault at)) items
-Shows-unread a m items fault at small = record { front = []; rest = lines_of items; split = refl; takes = Takes-nothing a m small }
-
--- a fault of a read before anything was shown: a refusal stands in the place of all items
-pub Shows-fault : (a : Option (List ℕ)) (m : ℕ) (items : List Item) (fault : TableFault) (result : Result (Option Refusal) RunFault) → m < 2 ^ 128 → result ≡ end_of fault
-    → ((refusal : Refusal) → fault ≡ Refused refusal → items ≡ Fault refusal ∷ []) → Shows a a m m result items
-Shows-fault a m items (Unread fault at) result small is alone =
-    let Q : Result (Option Refusal) RunFault → Type 0 = λ answer. Shows a a m m answer items in subst Q (sym is) (Shows-unread a m items fault at small)
-Shows-fault a m items (Refused first) result small is alone =
-    let P : List Item → Type 0 = λ shown. Shows a a m m (Ok (Some first)) shown in
-    let Q : Result (Option Refusal) RunFault → Type 0 = λ answer. Shows a a m m answer items in
-    subst Q (sym is) (subst P (sym (alone first refl)) (Takes-nothing a m small, refl))
-
 -- a section of another type has no rows of relocation entries
 pub no_relocations : (file : List ℕ) (cap section : ℕ) → (sh_type file (section_at file section) ≡ SHT_RELA → ⊥) → relocation_rows file cap section ≡ []
 unfolding relocation_rows
@@ -206,3 +169,8 @@ relocations_pass file section table linked h =
       refers = λ some. (p.2 some).0;
       placed = λ some. (p.2 some).1;
     }
+
+-- rows behind checks that pass
+pub rows_checked : (checks : List Check) (row : ℕ → List Item) (count entries : ℕ) (items : List Item)
+    → items ≡ checked checks (each row 0 entries) → first_refusal checks ≡ None → count ≡ entries → items ≡ each row 0 count
+rows_checked checks row count entries items are pass same = are ∙ (checked-passes checks (each row 0 entries) pass ∙ ap (each row 0) (sym same))

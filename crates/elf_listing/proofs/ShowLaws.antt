@@ -1,73 +1,115 @@
--- What one part shown after another comes to, and a listing that is ended.
-use Rattle.std.proofs.Common.{◌≡◌, ℕ, ◌^◌, ◌<◌, List, [], ◌∷◌, ◌++◌, Option, None, Some, Result, Ok, Err, refl, sym, ap, ◌∙◌, arith, append_assoc, append-nil}
-use Rattle.elf_model.specs.Listing.{Item, Line, Fault, lines_of, fault_of, end_text}
+-- What one part written after another comes to.
+use Rattle.std.proofs.Common.{ℕ, ◌+◌, ◌≤◌, List, [], ◌++◌, Result, Ok, Err, refl, sym, ap, ◌∙◌, arith, append_assoc}
+use Rattle.elf_source.specs.Source.{Counting, Reads}
+use Rattle.elf_source.specs.Output.{Written}
+use Rattle.elf_source.proofs.PutsLaws.{Takes-nothing, Takes-then, TakesFront-then, TakesFront-more}
+use Rattle.elf_source.proofs.ReadsLaws.{Reads-to, Reads-then, Faults-then, OverLimit-then, OverLimit-more}
+use Rattle.elf_table.specs.Faults.{IsAt, Says}
 use Rattle.elf_model.specs.declared.causes.Refusal.{Refusal}
-use Rattle.elf_source.specs.declared.faults.OutFault.{OutFault}
-use Rattle.elf_source.specs.Output.{Takes, TakesFront}
-use Rattle.elf_source.proofs.Puts.{Takes-then, TakesFront-then, TakesFront-more}
-use Rattle.elf_model.proofs.ListingLemmas.{nothing_behind, listings_append}
-use Rattle.elf_listing.specs.Shows.{Stops, Shows, fault_at, Reports}
-use Rattle.elf_listing.specs.declared.end.End.{End}
-use Rattle.elf_listing.specs.declared.end.RunFault.{RunFault}
-use Rattle.elf_listing.specs.declared.end.RunFault.TheVariants.{Source, Out}
+use Rattle.elf_table.specs.declared.fault.Fault.{Fault}
+use Rattle.elf_table.specs.declared.fault.Fault.TheVariants.{Refused as Refuses, Source as Unread}
+use Rattle.elf_model.specs.Listing.{Item, lines_of, fault_of}
+use Rattle.elf_listing.specs.Stops.{stop_of}
+use Rattle.elf_listing.specs.Shows.{Whole, Front, Stopped, Writes, StopSays, IsOfOutput, Costs}
+use Rattle.elf_listing.specs.declared.stop.Stop.{Stop}
+use Rattle.elf_listing.specs.declared.stop.Stop.TheVariants.{Refused, Source, Out}
+use Rattle.elf_model.proofs.ListingLemmas.{listings_append}
+use Rattle.elf_listing.proofs.EachLaws.{lines_front}
 
 -- nothing was written
-pub Takes-nothing : (a : Option (List ℕ)) (m : ℕ) → m < 2 ^ 128 → Takes a a m m []
-Takes-nothing None m small = (tt, omega arith)
-Takes-nothing (Some xs) m small = (sym (append-nil xs), omega arith)
+pub Whole-none : (a : Written) → Whole a a []
+Whole-none a = record { takes = Takes-nothing a; no_fault = refl }
 
-pub Stops-then : (a b c : Option (List ℕ)) (l m n : ℕ) (fault : RunFault) (xs ys : List ℕ) → Takes a b l m xs → Stops b c m n fault ys → Stops a c l n fault (xs ++ ys)
-Stops-then a b c l m n (Source f at) xs ys p q = TakesFront-then a b c l m n xs ys p q
-Stops-then a b c l m n (Out f) xs ys p q = (TakesFront-then a b c l m n xs ys p q.0, q.1)
+pub Whole-then : {a b c : Written} {xs ys : List Item} → Whole a b xs → Whole b c ys → Whole a c (xs ++ ys)
+Whole-then {xs = xs} {ys = ys} p q = record {
+  takes = rw ((listings_append xs ys p.no_fault).0) (Takes-then (lines_of xs) (lines_of ys) p.takes q.takes);
+  no_fault = (listings_append xs ys p.no_fault).1 ∙ q.no_fault;
+}
 
-pub Stops-more : (a b : Option (List ℕ)) (l m : ℕ) (fault : RunFault) (xs ys : List ℕ) → Stops a b l m fault xs → Stops a b l m fault (xs ++ ys)
-Stops-more a b l m (Source f at) xs ys p = TakesFront-more a b l m xs ys p
-Stops-more a b l m (Out f) xs ys p = (TakesFront-more a b l m xs ys p.0, p.1)
+pub Front-then : {a b c : Written} {xs ys : List Item} → Whole a b xs → Front b c ys → Front a c (xs ++ ys)
+Front-then {xs = xs} {ys = ys} p q = record {
+  front = xs ++ q.front;
+  rest = q.rest;
+  split = ap (λ zs. xs ++ zs) q.split ∙ sym (append_assoc xs q.front q.rest);
+  takes = rw ((listings_append xs q.front p.no_fault).0) (Takes-then (lines_of xs) (lines_of q.front) p.takes q.takes);
+  no_fault = (listings_append xs q.front p.no_fault).1 ∙ q.no_fault;
+}
 
--- a listing that was shown and then ended is reported
-pub Reports-ended : (a b c : Option (List ℕ)) (l m n : ℕ) (end : Option Refusal) (how : End) (items : List Item)
-    → Shows a b l m (Ok end) items → Takes b c m n (end_text end) → fault_at how ≡ end → Reports a c l n (Ok how) items
-Reports-ended a b c l m n end how items shown ended same =
-    (Takes-then a b c l m n (lines_of items) (end_text (fault_of items)) shown.0 (rw shown.1 ended), same ∙ sym shown.1)
+pub Front-more : {a b : Written} {xs : List Item} (ys : List Item) → Front a b xs → Front a b (xs ++ ys)
+Front-more ys p = record {
+  front = p.front;
+  rest = p.rest ++ ys;
+  split = ap (λ zs. zs ++ ys) p.split ∙ append_assoc p.front p.rest ys;
+  takes = p.takes;
+  no_fault = p.no_fault;
+}
 
-pub Reports-ended-fault : (a b c : Option (List ℕ)) (l m n : ℕ) (end : Option Refusal) (fault : OutFault) (items : List Item)
-    → Shows a b l m (Ok end) items → TakesFront b c m n (end_text end) × (fault.written ≡ n) → Reports a c l n (Err (Out fault)) items
-Reports-ended-fault a b c l m n end fault items shown ended =
-    (TakesFront-then a b c l m n (lines_of items) (end_text (fault_of items)) shown.0 (rw shown.1 ended.0), ended.1)
+-- all of some items were written, and none of those behind them
+pub Front-all : {a b : Written} {xs : List Item} (ys : List Item) → Whole a b xs → Front a b (xs ++ ys)
+Front-all {xs = xs} ys p = record { front = xs; rest = ys; split = refl; takes = p.takes; no_fault = p.no_fault }
 
--- a listing that stopped is a front of its report
-pub Reports-stopped : (a b : Option (List ℕ)) (l m : ℕ) (fault : RunFault) (items : List Item) → Shows a b l m (Err fault) items → Reports a b l m (Err fault) items
-Reports-stopped a b l m fault items shown = Stops-more a b l m fault (lines_of items) (end_text (fault_of items)) shown
+-- a part was written whole, and the next stopped
+pub Stopped-then : (a b c : Written) (stop : Stop) (xs ys : List Item) → Whole a b xs → Stopped b c stop ys → Stopped a c stop (xs ++ ys)
+unfolding Front-then
+Stopped-then a b c (Refused refusal) xs ys p q = record { front = Front-then p q.front; next = q.next }
+Stopped-then a b c (Source fault at) xs ys p q = Front-then p q
+Stopped-then a b c (Out fault) xs ys p q = rw ((listings_append xs ys p.no_fault).0) (TakesFront-then (lines_of xs) (lines_of ys) p.takes q)
 
--- A part that was shown without a fault, and then another.
-pub Shows-then : (a b c : Option (List ℕ)) (l m n : ℕ) (result : Result (Option Refusal) RunFault) (xs ys : List Item)
-    → Shows a b l m (Ok None) xs → Shows b c m n result ys → Shows a c l n result (xs ++ ys)
-Shows-then a b c l m n (Ok end) xs ys p q =
-    let appended = listings_append xs ys p.1 in
-    (rw appended.0 (Takes-then a b c l m n (lines_of xs) (lines_of ys) p.0 q.0), appended.1 ∙ q.1)
-Shows-then a b c l m n (Err fault) xs ys p q =
-    rw ((listings_append xs ys p.1).0) (Stops-then a b c l m n fault (lines_of xs) (lines_of ys) p.0 q)
+-- a part was written whole, and then another was written so far
+pub Writes-then : {X : Type 0} (a b c : Written) (result : Result X Stop) (xs ys : List Item) → Whole a b xs → Writes b c result ys → Writes a c result (xs ++ ys)
+Writes-then a b c (Ok x) xs ys p q = Whole-then p q
+Writes-then a b c (Err stop) xs ys p q = Stopped-then a b c stop xs ys p q
 
--- what stands behind a fault isn't shown
-pub Shows-refused : (a b : Option (List ℕ)) (l m : ℕ) (refusal : Refusal) (xs ys : List Item) → Shows a b l m (Ok (Some refusal)) xs → Shows a b l m (Ok (Some refusal)) (xs ++ ys)
-Shows-refused a b l m refusal xs ys p =
-    let behind = nothing_behind xs ys refusal p.1 in (rw behind.0 p.0, behind.1)
+-- a part stopped, and nothing behind it was written
+pub Stopped-more : (a b : Written) (stop : Stop) (xs ys : List Item) → Stopped a b stop xs → Stopped a b stop (xs ++ ys)
+unfolding Front-more
+Stopped-more a b (Refused refusal) xs ys p = record {
+  front = Front-more ys p.front;
+  next = λ other. let n = p.next other in record { behind = n.behind ++ ys; is_next = ap (λ zs. zs ++ ys) n.is_next };
+}
+Stopped-more a b (Source fault at) xs ys p = Front-more ys p
+Stopped-more a b (Out fault) xs ys p =
+    let more = lines_front xs ys in rw more.1 (TakesFront-more (lines_of xs) more.0 p)
 
--- lines of a front of items are a front of all lines
-lines_front : (xs ys : List Item) → (rest : List ℕ) × (lines_of (xs ++ ys) ≡ lines_of xs ++ rest)
-lines_front [] ys = (lines_of ys, refl)
-lines_front (Line text ∷ xs) ys =
-    let more = lines_front xs ys in (more.0, ap (λ lines. text ++ lines) more.1 ∙ sym (append_assoc text (lines_of xs) more.0))
-lines_front (Fault refusal ∷ xs) ys = ([], refl)
+-- a read failed behind a part that was written whole
+pub Stopped-unread : (a b : Written) (fault : Fault) (at : ℕ) (xs ys : List Item) → IsAt at fault → Whole a b xs → Stopped a b (stop_of fault) (xs ++ ys)
+Stopped-unread a b (Refuses refusal) at xs ys is p =
+    record { front = Front-all ys p; next = λ other. absurd (other (ap (λ (r : Refusal). r.cause) is)) }
+Stopped-unread a b (Unread fault offset) at xs ys is p = Front-all ys p
 
-pub Shows-stopped : (a b : Option (List ℕ)) (l m : ℕ) (fault : RunFault) (xs ys : List Item) → Shows a b l m (Err fault) xs → Shows a b l m (Err fault) (xs ++ ys)
-Shows-stopped a b l m fault xs ys p =
-    let more = lines_front xs ys in rw (more.1) (Stops-more a b l m fault (lines_of xs) more.0 p)
+-- a stop after other calls, in a bound on all
+pub StopSays-then : (a b c : Counting) (out : Written) (stop : Stop) (n m k : ℕ) → b.asked + m ≤ a.asked + k → Reads a b n → StopSays b c out m stop → StopSays a c out k stop
+StopSays-then a b c out (Refused refusal) n m k within p q = λ is.
+    let over = q is in (rw (sym p.keeps.same_size) over.0, OverLimit-then n k within p over.1)
+StopSays-then a b c out (Source fault at) n m k within p q = Faults-then a.seen b.seen c.seen fault p.keeps q
+StopSays-then a b c out (Out fault) n m k within p q = q
 
--- a line was put
-pub Shows-line : (a b : Option (List ℕ)) (m n : ℕ) (line : List ℕ) → Takes a b m n line → Shows a b m n (Ok None) (Line line ∷ [])
-Shows-line a b m n line put = (rw (append-nil line) put, refl)
+-- a fault of a read is a stop
+pub StopSays-fault : (a b : Counting) (out : Written) (fault : Fault) (n k : ℕ) → n ≤ k → Says a b n fault → StopSays a b out k (stop_of fault)
+StopSays-fault a b out (Refuses refusal) n k within q = λ is. let over = q is in (over.0, OverLimit-more within over.1)
+StopSays-fault a b out (Unread fault at) n k within q = q
 
-pub Shows-line-fault : (a b : Option (List ℕ)) (m n : ℕ) (line : List ℕ) (fault : OutFault) → TakesFront a b m n line × (fault.written ≡ n)
-    → Shows a b m n (Err (Out fault)) (Line line ∷ [])
-Shows-line-fault a b m n line fault put = rw (append-nil line) put
+-- a call after reads, in a bound on all
+pub Costs-then : {X : Type 0} (a b c : Counting) (out : Written) (result : Result X Stop) (n m k : ℕ) → b.asked + m ≤ a.asked + k → Reads a b n → Costs b c out result m → Costs a c out result k
+Costs-then a b c out (Ok x) n m k within p q = (Reads-to (Reads-then p q.0) (omega (arith, q.0.at_most)), tt)
+Costs-then a b c out (Err stop) n m k within p q = (Reads-to (Reads-then p q.0) (omega (arith, q.0.at_most)), StopSays-then a b c out stop n m k within p q.1)
+
+-- a read that failed, in a looser bound
+pub Costs-fault : (a b : Counting) (out : Written) (fault : Fault) (n k : ℕ) → n ≤ k → Reads a b n → Says a b n fault → Costs {X = Unit {0}} a b out (Err (stop_of fault)) k
+Costs-fault a b out fault n k within p q = (Reads-to p (omega (arith, p.at_most)), StopSays-fault a b out fault n k within q)
+
+-- a call in a looser bound
+pub Costs-within : {X : Type 0} (a b : Counting) (out : Written) (result : Result X Stop) (n k : ℕ) → n ≤ k → Costs a b out result n → Costs a b out result k
+Costs-within a b out (Ok x) n k within p = (Reads-to p.0 (omega (arith, p.0.at_most)), tt)
+Costs-within a b out (Err stop) n k within p = (Reads-to p.0 (omega (arith, p.0.at_most)), StopSays-more stop n k within p.1)
+  where
+    StopSays-more : (stop : Stop) (n k : ℕ) → n ≤ k → StopSays a b out n stop → StopSays a b out k stop
+    StopSays-more (Refused refusal) n k within q = λ is. let over = q is in (over.0, OverLimit-more within over.1)
+    StopSays-more (Source fault at) n k within q = q
+    StopSays-more (Out fault) n k within q = q
+
+-- the output failed after reads
+pub Costs-out : (a b : Counting) (out : Written) (stop : Stop) (n k : ℕ) → n ≤ k → Reads a b n → IsOfOutput out stop → Costs {X = Unit {0}} a b out (Err stop) k
+Costs-out a b out (Refused refusal) n k within p q = absurd q
+Costs-out a b out (Source fault at) n k within p q = absurd q
+Costs-out a b out (Out fault) n k within p q = (Reads-to p (omega (arith, p.at_most)), q)

@@ -2,11 +2,9 @@
 use Rattle.std.proofs.Common.{◌≡◌, ℕ, ◌+◌, ◌*◌, ◌/◌, ◌<◌, ◌≤◌, ◌==◌, nat_lt, not, Bool, true, false, if◌then◌else◌, List, Option, None, Some, Result, Err, refl, sym, ap, ◌∙◌, subst, arith}
 use Rattle.std.proofs.lemmas.Bool.{lt-ltb, le-ltb, eqb-true}
 use Rattle.elf_model.specs.Bytes.{slice}
-use Rattle.elf_model.specs.LineFronts.{relocation_front}
-use Rattle.elf_model.specs.Listing.{Item}
 use Rattle.elf_model.specs.Names.{Shown, shown}
-use Rattle.elf_model.specs.Records.{e_machine, sh_offset, sh_size, sh_link, section_at, st_name, r_sym}
-use Rattle.elf_model.specs.Rows.{named_row, no_name, refused, relocation_row}
+use Rattle.elf_model.specs.Records.{sh_offset, sh_size, sh_link, section_at, st_name}
+use Rattle.elf_model.specs.Rows.{no_name, symbol_named}
 use Rattle.elf_model.specs.Tables.{SYMBOL_SIZE, linked_at, entry_at, entry_count, has_symbols, strings_of}
 use Rattle.elf_model.specs.declared.causes.Cause.{Cause}
 use Rattle.elf_model.specs.declared.causes.Cause.TheVariants.{BadLink, SymbolIndex}
@@ -17,39 +15,6 @@ use Rattle.elf_table.specs.Cursors.{row_at}
 use Rattle.elf_table.specs.NamesRead.{NameRead}
 use Rattle.elf_table.specs.declared.fault.Fault.{Fault}
 use Rattle.elf_table.specs.declared.names.NameEnd.{NameEnd}
-use Rattle.elf_listing.specs.Relocations.{symbol_named}
-use Rattle.elf_listing.specs.Shows.{Shows}
-use Rattle.elf_listing.specs.declared.end.RunFault.{RunFault}
-
-by_cases : (zero has low : Bool) (front : List ℕ) (entry place : ℕ) (name : Result Shown Cause)
-    → (let p : ℕ × Result Shown Cause = if zero then (entry, no_name) else if not has then (entry, Err BadLink) else if not low then (entry, Err SymbolIndex) else (place, name) in named_row front p.0 p.1)
-    ≡ (if zero then named_row front entry no_name else if not has then refused entry BadLink else if not low then refused entry SymbolIndex else named_row front place name)
-by_cases true has low front entry place name = refl
-by_cases false false low front entry place name = refl
-by_cases false true false front entry place name = refl
-by_cases false true true front entry place name = refl
-
--- a relocation entry's row is its line with that name, or the fault at that offset
-relocation_is : (file front : List ℕ) (cap section at entry symbol index : ℕ) → entry ≡ entry_at file at 24 index → front ≡ relocation_front file entry (e_machine file) section → symbol ≡ r_sym file entry
-    → named_row front (symbol_named file cap at entry symbol).0 (symbol_named file cap at entry symbol).1 ≡ relocation_row file cap section at index
-unfolding symbol_named relocation_row
-relocation_is file front cap section at entry symbol index here same names =
-    let place : ℕ → ℕ = λ k. entry_at file (linked_at file at) SYMBOL_SIZE k in
-    let row : List ℕ → ℕ → ℕ → List Item = λ text e k.
-    if k == 0 then named_row text e no_name else if not (has_symbols file at) then refused e BadLink
-    else if not (nat_lt k (entry_count file (linked_at file at) SYMBOL_SIZE)) then refused e SymbolIndex
-    else named_row text (place k) (shown (strings_of file (linked_at file at)) (st_name file (place k)) cap) in
-    by_cases (symbol == 0) (has_symbols file at) (nat_lt symbol (entry_count file (linked_at file at) SYMBOL_SIZE)) front entry (place symbol) (shown (strings_of file (linked_at file at)) (st_name file (place symbol)) cap)
-    ∙ (ap (λ text. row text entry symbol) same ∙ (ap (λ k. row (relocation_front file entry (e_machine file) section) entry k) names
-    ∙ ap (λ e. row (relocation_front file e (e_machine file) section) e (r_sym file e)) here))
-
-pub Shows-relocation : (a b : Option (List ℕ)) (m n : ℕ) (result : Result (Option Refusal) RunFault) (file front : List ℕ) (cap section at entry symbol index : ℕ)
-    → entry ≡ sh_offset file at + index * 24 → front ≡ relocation_front file entry (e_machine file) section → symbol ≡ r_sym file entry
-    → Shows a b m n result (named_row front (symbol_named file cap at entry symbol).0 (symbol_named file cap at entry symbol).1) → Shows a b m n result (relocation_row file cap section at index)
-Shows-relocation a b m n result file front cap section at entry symbol index here same names row =
-    let place : entry ≡ entry_at file at 24 index = omega arith in
-    let P : List Item → Type 0 = λ items. Shows a b m n result items in
-    subst P (relocation_is file front cap section at entry symbol index place same names) row
 
 -- what is read of a name, where another offset and name are the same
 pub read_as : (p q : ℕ × Result Shown Cause) (result : Result NameEnd Fault) (name : List ℕ) → p ≡ q → NameRead q.0 result name q.1 → NameRead p.0 result name p.1
@@ -129,8 +94,8 @@ pub not_zero : (n : ℕ) → (n ≡ 0 → ⊥) → (n == 0) ≡ false
 not_zero n h = nonzero (n == 0) (λ e. h (eqb-true n 0 e))
 
 -- a refusal at an offset
-pub refuses_as : (p : ℕ × Result Shown Cause) (entry : ℕ) (cause : Cause) → p ≡ (entry, Err cause) → (entry ≡ p.0) × (p.1 ≡ Err cause)
-refuses_as p entry cause same = (ap (λ (s : ℕ × Result Shown Cause). s.0) (sym same), ap (λ (s : ℕ × Result Shown Cause). s.1) same)
+pub refuses_as : {X : Type 0} (p : ℕ × Result Shown Cause) (entry : ℕ) (cause : Cause) → p ≡ (entry, Err cause) → X → (entry ≡ p.0) × (p.1 ≡ Err cause)
+refuses_as p entry cause same other = (ap (λ (s : ℕ × Result Shown Cause). s.0) (sym same), ap (λ (s : ℕ × Result Shown Cause). s.1) same)
 
 abbrev the_pair : ℕ → Result Shown Cause → ℕ × Result Shown Cause
 the_pair at name = (at, name)

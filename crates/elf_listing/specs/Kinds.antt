@@ -1,15 +1,21 @@
 -- The kinds of tables whose rows are listed.
-use Rattle.std.specs.Prelude.{ℕ, ◌≡◌, ◌+◌, ◌^◌, ◌<◌, List, IfSome}
+use Rattle.std.specs.Prelude.{ℕ, ◌≡◌, ◌+◌, ◌*◌, ◌^◌, ◌<◌, List, Some, Result, IfSome}
 use Rattle.elf_model.specs.Bytes.{slice}
 use Rattle.elf_model.specs.Records.{e_phoff, e_machine, sh_offset, section_at}
 use Rattle.elf_model.specs.Names.{name_bytes}
 use Rattle.elf_model.specs.Tables.{SYMBOL_SIZE, RELA_SIZE, strings_of}
-use Rattle.elf_model.specs.Listing.{Item}
+use Rattle.elf_model.specs.Listing.{Item, each}
 use Rattle.elf_model.specs.Rows.{segment_row, symbol_row, relocation_row}
+use Rattle.elf_source.specs.declared.source.Source.{Ghosts as Sources}
+use Rattle.elf_source.specs.declared.sink.Sink.{Ghosts as Sinks}
 use Rattle.elf_table.specs.Sections.{symbols_linked}
-use Rattle.elf_table.specs.Tables.{StringsWithin, SymbolsWithin}
-use Rattle.elf_listing.specs.declared.table_rows.Kind.{Kind}
-use Rattle.elf_listing.specs.declared.table_rows.Kind.TheVariants.{Segments, Symbols, Relocations}
+use Rattle.elf_table.specs.Tables.{Rows, RowsWithin, StringsWithin, SymbolsWithin, strings_in}
+use Rattle.elf_table.specs.declared.row.Row.{Row}
+use Rattle.elf_listing.specs.Shows.{Writes}
+use Rattle.elf_listing.specs.declared.listing.Listing.{Listing}
+use Rattle.elf_listing.specs.declared.rows.Kind.{Kind}
+use Rattle.elf_listing.specs.declared.rows.Kind.TheVariants.{Segments, Symbols, Relocations}
+use Rattle.elf_listing.specs.declared.stop.Stop.{Stop}
 
 -- the size of a row in bytes
 abbrev pub row_size : Kind → ℕ
@@ -22,6 +28,10 @@ abbrev pub own_cost : Kind → ℕ → ℕ
 own_cost Segments cap = 0
 own_cost (Symbols section names) cap = name_bytes cap
 own_cost (Relocations section machine linked) cap = SYMBOL_SIZE + name_bytes cap
+
+-- how many bytes the rows of a table ask for at most
+abbrev pub rows_cost : Kind → Rows → ℕ → ℕ
+rows_cost kind table cap = table.count * (row_size kind + own_cost kind cap)
 
 -- where the table of a kind stands in a file
 abbrev pub table_place : Kind → List ℕ → ℕ
@@ -44,7 +54,7 @@ KindWithin size (Relocations section machine linked) = IfSome linked (SymbolsWit
 -- the tables that a kind's names are read from are those that the file's section refers to, and the machine is the file's
 abbrev pub KindOf : List ℕ → Kind → Type 0
 KindOf file Segments = Unit {0}
-KindOf file (Symbols section names) = slice file names.at names.size ≡ strings_of file (section_at file section)
+KindOf file (Symbols section names) = strings_in file names ≡ strings_of file (section_at file section)
 KindOf file (Relocations section machine linked) = (machine ≡ e_machine file) × (linked ≡ symbols_linked file (section_at file section))
 
 -- an index of a kind's rows fits the column's type
@@ -52,3 +62,27 @@ abbrev pub IndexFits : Kind → ℕ → Type 0
 IndexFits Segments index = index < 2 ^ 16
 IndexFits (Symbols section names) index = Unit {0}
 IndexFits (Relocations section machine linked) index = Unit {0}
+
+-- a table of the rows of a kind, which lies within a source of this size with what it refers to
+pub record IsTableOf (size : ℕ) (kind : Kind) (table : Rows) : Type 0 where
+  pub entry : table.entry ≡ row_size kind
+  pub rows : RowsWithin size table
+  pub names : KindWithin size kind
+  pub fits : (index : ℕ) → index < table.count → IndexFits kind index
+
+-- a row is the one of its index in a file
+pub record IsRowOf (file : List ℕ) (kind : Kind) (row : Row) : Type 0 where
+  pub bytes : row.bytes.now ≡ slice file row.at (row_size kind)
+  pub here : row.at ≡ table_place kind file + row.index * row_size kind
+
+-- what a call wrote of a row: where the row is the file's, its items
+abbrev pub OfRow : {S W X : Type 0} {s : Sources S} {w : Sinks W} → Listing S W s w → Listing S W s w → Result X Stop → Row → Kind → Type 0
+OfRow old new result row kind =
+    (file : List ℕ) → old.src.now.seen.file ≡ Some file → KindOf file kind → IsRowOf file kind row
+    → Writes old.out.now new.out.now result (row_items kind file old.cap.bytes row.index)
+
+-- what it wrote of a table's rows: where the table is the file's, the items of all
+abbrev pub OfRows : {S W X : Type 0} {s : Sources S} {w : Sinks W} → Listing S W s w → Listing S W s w → Result X Stop → Rows → Kind → Type 0
+OfRows old new result table kind =
+    (file : List ℕ) → old.src.now.seen.file ≡ Some file → (0 < table.count → KindOf file kind × (table.at ≡ table_place kind file))
+    → Writes old.out.now new.out.now result (each (row_items kind file old.cap.bytes) 0 table.count)

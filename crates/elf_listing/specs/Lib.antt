@@ -1,4 +1,5 @@
 pub mod Kinds
-pub mod Relocations
-pub mod Sections
+pub mod Parts
+pub mod Reports
 pub mod Shows
+pub mod Stops

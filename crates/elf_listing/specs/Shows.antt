@@ -1,59 +1,94 @@
--- What a call that writes a listing, or a part of one, has written, by its answer. The four values first
--- are the bytes that the sink has taken and their count, each before the call and after it.
-use Rattle.std.specs.Prelude.{ℕ, ◌≡◌, Bool, true, false, List, Option, None, Some, Result, Ok, Err}
-use Rattle.elf_model.specs.Listing.{Item, lines_of, fault_of, report_of}
+-- What a call that writes a part of a listing did.
+use Rattle.std.specs.Prelude.{ℕ, ◌≡◌, Bool, true, false, List, ◌∷◌, ◌++◌, None, Some, Result, Ok, Err, IfErr}
+use Rattle.elf_model.specs.Budget.{IsBudget}
+use Rattle.elf_model.specs.Listing.{Item, Fault, lines_of, fault_of}
+use Rattle.elf_model.specs.Names.{Shown}
+use Rattle.elf_model.specs.Rows.{named_row}
+use Rattle.elf_model.specs.declared.causes.Cause.{Cause}
 use Rattle.elf_model.specs.declared.causes.Refusal.{Refusal}
-use Rattle.elf_source.specs.Source.{Blames}
-use Rattle.elf_source.specs.Output.{Takes, TakesFront}
-use Rattle.elf_table.specs.declared.fault.Fault.{Fault}
-use Rattle.elf_table.specs.declared.fault.Fault.TheVariants.{Refused as Refuses, Source as Unread}
-use Rattle.elf_listing.specs.declared.end.End.{End}
-use Rattle.elf_listing.specs.declared.end.End.TheVariants.{Listed, Refused}
-use Rattle.elf_listing.specs.declared.end.RunFault.{RunFault}
-use Rattle.elf_listing.specs.declared.end.RunFault.TheVariants.{Source, Out}
+use Rattle.elf_source.specs.Source.{Counting, Reads, Faults}
+use Rattle.elf_source.specs.Output.{Written, Takes, TakesFront, Fails}
+use Rattle.elf_source.specs.declared.source.Source.{Ghosts as Sources}
+use Rattle.elf_source.specs.declared.sink.Sink.{Ghosts as Sinks}
+use Rattle.elf_table.specs.Faults.{RefusalSays}
+use Rattle.elf_table.specs.NamesRead.{NameRead}
+use Rattle.elf_table.specs.declared.names.NameEnd.{NameEnd}
+use Rattle.elf_table.specs.declared.names.NameEnd.TheVariants.{Whole as NameWhole, Cut as NameCut}
+use Rattle.elf_listing.specs.declared.listing.Listing.{Listing}
+use Rattle.elf_listing.specs.declared.stop.Stop.{Stop}
+use Rattle.elf_listing.specs.declared.stop.Stop.TheVariants.{Refused, Source, Out}
 
--- a front of a text was written; a fault of the output tells the count
-abbrev pub Stops : Option (List ℕ) → Option (List ℕ) → ℕ → ℕ → RunFault → List ℕ → Type 0
-Stops taken taken' written written' (Source fault at) text = TakesFront taken taken' written written' text
-Stops taken taken' written written' (Out fault) text = TakesFront taken taken' written written' text × (fault.written ≡ written')
+-- the lines of all items were written, and none is a fault
+pub record Whole (old new : Written) (items : List Item) : Type 0 where
+  pub takes : Takes old new (lines_of items)
+  pub no_fault : fault_of items ≡ None
 
--- a part was shown: the items' lines up to their first fault, which is the answer, or a front of them
-abbrev pub Shows : Option (List ℕ) → Option (List ℕ) → ℕ → ℕ → Result (Option Refusal) RunFault → List Item → Type 0
-Shows taken taken' written written' (Ok end) items = Takes taken taken' written written' (lines_of items) × (fault_of items ≡ end)
-Shows taken taken' written written' (Err fault) items = Stops taken taken' written written' fault (lines_of items)
+-- the lines of a front of the items were written, each whole, and none of the rest
+pub record Front (old new : Written) (items : List Item) : Type 0 where
+  pub front : List Item
+  pub rest : List Item
+  pub split : items ≡ front ++ rest
+  pub takes : Takes old new (lines_of front)
+  pub no_fault : fault_of front ≡ None
 
--- the fault that the end of a listing names
-abbrev pub fault_at : End → Option Refusal
-fault_at Listed = None
-fault_at (Refused refusal) = Some refusal
+-- a refusal is the fault that the items begin with
+pub record IsNext (refusal : Refusal) (items : List Item) : Type 0 where
+  pub behind : List Item
+  pub is_next : items ≡ Fault refusal ∷ behind
 
--- the report of the items was written, and the answer names their first fault; or a front of it was written
-abbrev pub Reports : Option (List ℕ) → Option (List ℕ) → ℕ → ℕ → Result End RunFault → List Item → Type 0
-Reports taken taken' written written' (Ok how) items = Takes taken taken' written written' (report_of items) × (fault_at how ≡ fault_of items)
-Reports taken taken' written written' (Err fault) items = Stops taken taken' written written' fault (report_of items)
+-- the lines before the first fault were written, and this is the fault; where it is for want of budget, the lines of a front
+pub record Ends (old new : Written) (refusal : Refusal) (items : List Item) : Type 0 where
+  pub front : Front old new items
+  pub next : (IsBudget refusal → ⊥) → IsNext refusal front.rest
 
--- what a fault says of the source: a fault of the output nothing
-abbrev pub RunBlames : {S : Type 0} → (S → List ℕ → Type 0) → (S → ℕ) → S → S → RunFault → Type 0
-RunBlames holds failures old new (Source fault at) = Blames holds failures old new fault
-RunBlames holds failures old new (Out fault) = Unit {0}
+-- what was written where a listing stops
+abbrev pub Stopped : Written → Written → Stop → List Item → Type 0
+Stopped old new (Refused refusal) items = Ends old new refusal items
+Stopped old new (Source fault at) items = Front old new items
+Stopped old new (Out fault) items = TakesFront old new (lines_of items)
 
--- whether an answer is a fault of the output
-abbrev pub is_out_fault : {X : Type 0} → Result X RunFault → Bool
-is_out_fault (Ok x) = false
-is_out_fault (Err (Source fault at)) = false
-is_out_fault (Err (Out fault)) = true
+-- a part of these items was written
+abbrev pub Writes : {X : Type 0} → Written → Written → Result X Stop → List Item → Type 0
+Writes old new (Ok x) items = Whole old new items
+Writes old new (Err stop) items = Stopped old new stop items
 
--- a fault is one of the output
-abbrev pub IsOutFault : RunFault → Type 0
-IsOutFault (Source fault at) = ⊥
-IsOutFault (Out fault) = Unit {0}
+-- what a stop says of the source and the output
+abbrev pub StopSays : Counting → Counting → Written → ℕ → Stop → Type 0
+StopSays old new out n (Refused refusal) = RefusalSays old new n refusal
+StopSays old new out n (Source fault at) = Faults old.seen new.seen fault
+StopSays old new out n (Out fault) = Fails out fault
 
--- a fault of the source is the one that a read answered; a fault of the output may be any
-abbrev pub IsFaultOf : {X : Type 0} → Result X Fault → RunFault → Type 0
-IsFaultOf answer (Source fault at) = answer ≡ Err (Unread fault at)
-IsFaultOf answer (Out fault) = Unit {0}
+-- a stop is a fault of the output
+abbrev pub IsOfOutput : Written → Stop → Type 0
+IsOfOutput out (Refused refusal) = ⊥
+IsOfOutput out (Source fault at) = ⊥
+IsOfOutput out (Out fault) = Fails out fault
 
--- what a fault of a read is to a listing
-abbrev pub end_of : Fault → Result (Option Refusal) RunFault
-end_of (Refuses refusal) = Ok (Some refusal)
-end_of (Unread fault at) = Err (Source fault at)
+-- WHAT A CALL COSTS: it asked for at most n bytes, and a stop says what is so
+abbrev pub Costs : {X : Type 0} → Counting → Counting → Written → Result X Stop → ℕ → Type 0
+Costs old new out result n = Reads old new n × IfErr result (StopSays old new out n)
+
+-- what the calls of a listing keep
+pub record SameFile {S W : Type 0} {s : Sources S} {w : Sinks W} (old new : Listing S W s w) : Type 0 where
+  pub same_src : new.src.ghost_name ≡ old.src.ghost_name
+  pub same_out : new.out.ghost_name ≡ old.out.ghost_name
+  pub same_file : new.file ≡ old.file
+  pub same_cap : new.cap ≡ old.cap
+
+-- WHAT A CALL OF A LISTING DID, for every source
+abbrev pub Lists : {S W X : Type 0} {s : Sources S} {w : Sinks W} → Listing S W s w → Listing S W s w → Result X Stop → ℕ → Type 0
+Lists old new result n = SameFile old new × Reads old.src.now new.src.now n × IfErr result (StopSays old.src.now new.src.now new.out.now n)
+
+-- WHAT IT WROTE: where the source is honest, the items of its file
+abbrev pub Shows : {S W X : Type 0} {s : Sources S} {w : Sinks W} → Listing S W s w → Listing S W s w → Result X Stop → (List ℕ → List Item) → Type 0
+Shows old new result items = (file : List ℕ) → old.src.now.seen.file ≡ Some file → Writes old.out.now new.out.now result (items file)
+
+-- whether a name is cut
+abbrev pub cut_of : NameEnd → Bool
+cut_of NameWhole = false
+cut_of NameCut = true
+
+-- what it wrote of a line that ends in the name that was read: the line with what is shown of the name
+abbrev pub OfName : {S W X : Type 0} {s : Sources S} {w : Sinks W} → Listing S W s w → Listing S W s w → Result X Stop → List ℕ → NameEnd → Type 0
+OfName old new result front end =
+    (at : ℕ) (answer : Result Shown Cause) → NameRead at (Ok end) old.name answer → Writes old.out.now new.out.now result (named_row front at answer)

@@ -4,11 +4,13 @@
 mod buffers;
 mod end;
 mod listing;
+mod parts;
 mod relocation_row;
 mod row;
+mod rows;
 mod sections;
-mod table_rows;
-mod tables;
+mod showing;
+mod stop;
 
 pub use buffers::FIXED_BYTES;
 pub use elf_lines::{
@@ -16,4 +18,4 @@ pub use elf_lines::{
     show_refusal, show_steps, show_symbol, symbol_front,
 };
 pub use end::{End, RunFault};
-pub use listing::show;
+pub use showing::show;

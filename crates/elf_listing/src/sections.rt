@@ -1,147 +1,113 @@
 //! What is listed of each section, one section after another.
-ghost use Rattle.std.specs.Prelude.{◌≡◌, ◌+◌, ◌^◌, ◌<◌, ◌≤◌, ℕ, List, IfErr, IsTrue};
-ghost use Rattle.elf_model.specs.Cost.{sum_over, symbols_cost, relocations_cost};
-ghost use Rattle.elf_model.specs.Listing.{each};
-ghost use Rattle.elf_model.specs.Names.{name_bytes};
-ghost use Rattle.elf_model.specs.Records.{e_shnum, section_at, sh_name};
-ghost use Rattle.elf_model.specs.Rows.{section_name, section_row, symbol_rows, relocation_rows};
-ghost use Rattle.elf_source.specs.Source.{Keeps};
-ghost use Rattle.elf_table.specs.Load.{Belongs};
+ghost use Rattle.std.specs.Prelude.{◌≡◌, ◌<◌, ℕ, List, Some, IfErr, IfSome};
+ghost use Rattle.elf_source.specs.Source.{Reads};
+ghost use Rattle.elf_table.specs.Faults.{Says};
 ghost use Rattle.elf_table.specs.NamesRead.{NameRead};
-ghost use Rattle.elf_table.specs.Reading.{FaultBlames};
-ghost use Rattle.elf_table.specs.Sections.{section_names};
-ghost use Rattle.elf_table.specs.Store.{row};
-ghost use Rattle.elf_listing.specs.Sections.{part_items, part_cost, names_cost, name_in, NamesWithin, PartWithin, PartOf};
-ghost use Rattle.elf_listing.specs.Shows.{Shows, RunBlames, is_out_fault};
+ghost use Rattle.elf_table.specs.Tables.{StringsWithin};
+ghost use Rattle.elf_listing.specs.Parts.{part_cost, part_items, section_cost, section_items, names_cost, name_in};
+ghost use Rattle.elf_listing.specs.Shows.{Lists, Shows};
+ghost use Rattle.elf_listing.specs.declared.parts.Part.TheVariants.{Headers, Symbols, Relocations};
 
-use crate::end::RunFault;
-use crate::row::put_named;
-use crate::table_rows::{Kind, ended, show_rows};
+use crate::listing::Listing;
+use crate::parts::Part;
+use crate::rows::Kind;
+use crate::stop::Stop;
 use elf_lines::section_front;
-use elf_record::Refusal;
-use elf_source::{Counted, Out, Sink, Source};
-use elf_table::{Fault, HeaderStore, Loaded, NameBuf, NameEnd, Names, holds_symbols};
+use elf_source::{Counted, Sink, Source};
+use elf_table::{Cap, Fault, NameBuf, NameEnd, Names, holds_symbols};
 
 /// The section type of relocation entries with addends.
 const SHT_RELA: u32 = 4;
 
-/// What is listed of each section.
-#[derive(Drop)]
-pub(crate) enum Part {
-    /// Its section header, an `S` line.
-    Headers {
-        /// The string table of the section names, if there is one.
-        names: Option<Names>,
-    },
-    /// Its symbols, a `Y` line each.
-    Symbols,
-    /// Its relocation entries, an `R` line each.
-    Relocations,
-}
-
-/// Shows a part of each section in the order of the section headers, up to the first that is refused.
-/// `name` is left with any bytes.
-pub(crate) fn show_each<S: Source, W: Sink>(
-    src: &mut Counted<S>,
-    store: &HeaderStore,
-    loaded: &Loaded,
-    part: &Part,
-    cap: u16,
-    name: &mut NameBuf,
-    out: &mut Out<W>,
-) -> Result<Option<Refusal>, RunFault>
-    requires loaded { store.now.loaded ≡ loaded.now.header.e_shnum }
-    requires size { loaded.now.size ≡ S.size src.old.source }
-    requires names { PartWithin (S.size src.old.source) part.now }
-    requires cap_some { 1 ≤ cap }
-    requires cap_most { cap ≤ 4096 }
-    requires written { out.old.written < 2 ^ 128 }
-    ensures kept { Keeps S.holds S.size S.failures src.old.source src.new.source }
-    ensures blames { IfErr result (RunBlames S.holds S.failures src.old.source src.new.source) }
-    ensures out_fails { IsTrue (is_out_fault result) → IsTrue (W.failed out.new.sink) }
-    ensures fits { out.new.written < 2 ^ 128 }
-    ensures asked { src.new.asked ≤ src.old.asked + sum_over (part_cost part.now store.now loaded.now.size cap) 0 store.now.loaded }
-    ensures text { (file : List ℕ) → S.holds src.old.source file → Belongs file loaded.now store.now → PartOf file part.now →
-        Shows (W.taken out.old.sink) (W.taken out.new.sink) out.old.written out.new.written result (each (part_items part.now file cap) 0 store.now.loaded) }
-{
-    let count = store.loaded();
-    let mut section = 0;
-    'sections: while section < count {
-        match show_part(src, store, loaded, section, part, cap, name, out) {
-            Ok(None) => {}
-            Ok(Some(refusal)) => return Ok(Some(refusal)),
-            Err(fault) => return Err(fault),
+impl<S: Source, W: Sink> Listing<'_, '_, '_, S, W> {
+    /// Shows a part of each section in the order of the section headers, up to the first that is refused.
+    pub(crate) fn sections(&mut self, part: Part) -> Result<(), Stop>
+        ensures lists { let f = self.old.file in Lists self.old self.new result
+            (part_cost part f.loaded f.store.now self.old.cap.bytes) }
+        ensures shows { Shows self.old self.new result (part_items part self.old.cap.bytes) }
+    {
+        let count = self.file.sections();
+        let mut section = 0;
+        'sections: while section < count {
+            self.section(part, section)?;
+            section += 1;
         }
-        section += 1;
+        Ok(())
     }
-    Ok(None)
-}
 
-/// Shows a part of one section.
-fn show_part<S: Source, W: Sink>(
-    src: &mut Counted<S>,
-    store: &HeaderStore,
-    loaded: &Loaded,
-    section: u16,
-    part: &Part,
-    cap: u16,
-    name: &mut NameBuf,
-    out: &mut Out<W>,
-) -> Result<Option<Refusal>, RunFault>
-    requires loaded { store.now.loaded ≡ loaded.now.header.e_shnum }
-    requires below { section < store.now.loaded }
-    requires size { loaded.now.size ≡ S.size src.old.source }
-    requires names { PartWithin (S.size src.old.source) part.now }
-    requires cap_some { 1 ≤ cap }
-    requires cap_most { cap ≤ 4096 }
-    requires written { out.old.written < 2 ^ 128 }
-    ensures kept { Keeps S.holds S.size S.failures src.old.source src.new.source }
-    ensures blames { IfErr result (RunBlames S.holds S.failures src.old.source src.new.source) }
-    ensures out_fails { IsTrue (is_out_fault result) → IsTrue (W.failed out.new.sink) }
-    ensures fits { out.new.written < 2 ^ 128 }
-    ensures asked { src.new.asked ≤ src.old.asked + part_cost part.now store.now loaded.now.size cap section }
-    ensures text { (file : List ℕ) → S.holds src.old.source file → Belongs file loaded.now store.now → PartOf file part.now →
-        Shows (W.taken out.old.sink) (W.taken out.new.sink) out.old.written out.new.written result (part_items part.now file cap section) }
-{
-    match part {
-        Part::Headers { names } => {
-            show_section(src, store, loaded, section, *names, cap, name, out)
+    /// Shows a part of one section.
+    fn section(&mut self, part: Part, section: u16) -> Result<(), Stop>
+        requires { section < self.old.file.store.now.loaded }
+        ensures lists { let f = self.old.file in Lists self.old self.new result
+            (section_cost part f.loaded f.store.now self.old.cap.bytes section) }
+        ensures shows { Shows self.old self.new result
+            (section_items part self.old.cap.bytes section) }
+    {
+        match part {
+            Part::Headers => self.section_row(section),
+            Part::Symbols => self.symbols(section),
+            Part::Relocations => self.relocations(section),
         }
-        Part::Symbols => show_symbols_of(src, store, loaded, section, cap, name, out),
-        Part::Relocations => show_relocations_of(src, store, loaded, section, cap, name, out),
     }
-}
 
-/// Shows the row of a section header: its `S` line with its name, or the name's refusal at the section
-/// header (gABI 4, Section Header).
-fn show_section<S: Source, W: Sink>(
-    src: &mut Counted<S>,
-    store: &HeaderStore,
-    loaded: &Loaded,
-    section: u16,
-    names: Option<Names>,
-    cap: u16,
-    name: &mut NameBuf,
-    out: &mut Out<W>,
-) -> Result<Option<Refusal>, RunFault>
-    requires loaded { store.now.loaded ≡ loaded.now.header.e_shnum }
-    requires below { section < store.now.loaded }
-    requires within { NamesWithin (S.size src.old.source) names }
-    requires cap_some { 1 ≤ cap }
-    requires cap_most { cap ≤ 4096 }
-    requires written { out.old.written < 2 ^ 128 }
-    ensures kept { Keeps S.holds S.size S.failures src.old.source src.new.source }
-    ensures blames { IfErr result (RunBlames S.holds S.failures src.old.source src.new.source) }
-    ensures out_fails { IsTrue (is_out_fault result) → IsTrue (W.failed out.new.sink) }
-    ensures fits { out.new.written < 2 ^ 128 }
-    ensures asked { src.new.asked ≤ src.old.asked + names_cost names cap }
-    ensures text { (file : List ℕ) → S.holds src.old.source file → Belongs file loaded.now store.now → names ≡ section_names file →
-        Shows (W.taken out.old.sink) (W.taken out.new.sink) out.old.written out.new.written result (section_row file cap section) }
-{
-    let header = store.section(section);
-    let place = loaded.place(section);
-    let end = read_section_name(src, names, header.sh_name, place, cap, name);
-    put_named(section_front(section, &header), end, name, out)
+    /// Shows the row of a section header: its `S` line with its name, or the name's refusal at the section
+    /// header (gABI 4, Section Header).
+    fn section_row(&mut self, section: u16) -> Result<(), Stop>
+        requires { section < self.old.file.store.now.loaded }
+        ensures lists { let f = self.old.file in Lists self.old self.new result
+            (section_cost Headers f.loaded f.store.now self.old.cap.bytes section) }
+        ensures shows { Shows self.old self.new result
+            (section_items Headers self.old.cap.bytes section) }
+    {
+        let header = self.file.section(section);
+        let place = self.file.place(section);
+        let names = self.file.names();
+        let off = header.sh_name;
+        let end = read_section_name(self.src, names, off, place, self.cap, &mut self.name)?;
+        self.named_line(section_front(section, &header), end)
+    }
+
+    /// Shows the symbols of a section, where it holds symbols: a `Y` line each, or the first refusal of its
+    /// table, of its string table or of a name (gABI 4, Symbol Table).
+    fn symbols(&mut self, section: u16) -> Result<(), Stop>
+        requires { section < self.old.file.store.now.loaded }
+        ensures lists { let f = self.old.file in Lists self.old self.new result
+            (section_cost Symbols f.loaded f.store.now self.old.cap.bytes section) }
+        ensures shows { Shows self.old self.new result
+            (section_items Symbols self.old.cap.bytes section) }
+    {
+        if !holds_symbols(&self.file.section(section)) {
+            return Ok(());
+        }
+        let symbols = self.file.symbols(section)?;
+        let (table, names) = symbols;
+        self.rows(table, &Kind::Symbols { section, names })
+    }
+
+    /// Shows the relocation entries of a section, where it holds them: an `R` line each, or the first
+    /// refusal of its table, of the symbols that they refer to or of an entry (gABI 4, Relocation).
+    fn relocations(&mut self, section: u16) -> Result<(), Stop>
+        requires { section < self.old.file.store.now.loaded }
+        ensures lists { let f = self.old.file in Lists self.old self.new result
+            (section_cost Relocations f.loaded f.store.now self.old.cap.bytes section) }
+        ensures shows { Shows self.old self.new result
+            (section_items Relocations self.old.cap.bytes section) }
+    {
+        if self.file.section(section).sh_type != SHT_RELA {
+            return Ok(());
+        }
+        let found = self.file.relocations(section)?;
+        let (table, linked) = found;
+        let machine = self.file.loaded.header().e_machine;
+        self.rows(
+            table,
+            &Kind::Relocations {
+                section,
+                machine,
+                linked,
+            },
+        )
+    }
 }
 
 /// Reads the name of a section at the index `off` into `name`; without a string table it is empty. A
@@ -151,16 +117,14 @@ fn read_section_name<S: Source>(
     names: Option<Names>,
     off: u32,
     place: u64,
-    cap: u16,
+    cap: Cap,
     name: &mut NameBuf,
 ) -> Result<NameEnd, Fault>
-    requires within { NamesWithin (S.size src.old.source) names }
-    requires cap_some { 1 ≤ cap }
-    requires cap_most { cap ≤ 4096 }
-    ensures kept { Keeps S.holds S.size S.failures src.old.source src.new.source }
-    ensures blames { IfErr result (FaultBlames S.holds S.failures src.old.source src.new.source) }
-    ensures asked { src.new.asked ≤ src.old.asked + names_cost names cap }
-    ensures read { (file : List ℕ) → S.holds src.old.source file → NameRead place result name.new (name_in file names off cap) }
+    requires { IfSome names (StringsWithin src.old.seen.size) }
+    ensures reads { Reads src.old src.new (names_cost names cap.bytes) }
+    ensures says { IfErr result (Says src.old src.new (names_cost names cap.bytes)) }
+    ensures read { (file : List ℕ) → src.old.seen.file ≡ Some file →
+        NameRead place result name.new (name_in file names off cap.bytes) }
 {
     match names {
         Some(names) => names.read(src, u64::from(off), place, cap, name),
@@ -169,93 +133,4 @@ fn read_section_name<S: Source>(
             Ok(NameEnd::Whole)
         }
     }
-}
-
-/// Shows the symbols of a section, where it holds symbols: a `Y` line each, or the first refusal of its
-/// table, of its string table or of a name (gABI 4, Symbol Table).
-fn show_symbols_of<S: Source, W: Sink>(
-    src: &mut Counted<S>,
-    store: &HeaderStore,
-    loaded: &Loaded,
-    section: u16,
-    cap: u16,
-    name: &mut NameBuf,
-    out: &mut Out<W>,
-) -> Result<Option<Refusal>, RunFault>
-    requires loaded { store.now.loaded ≡ loaded.now.header.e_shnum }
-    requires below { section < store.now.loaded }
-    requires size { loaded.now.size ≡ S.size src.old.source }
-    requires cap_some { 1 ≤ cap }
-    requires cap_most { cap ≤ 4096 }
-    requires written { out.old.written < 2 ^ 128 }
-    ensures kept { Keeps S.holds S.size S.failures src.old.source src.new.source }
-    ensures blames { IfErr result (RunBlames S.holds S.failures src.old.source src.new.source) }
-    ensures out_fails { IsTrue (is_out_fault result) → IsTrue (W.failed out.new.sink) }
-    ensures fits { out.new.written < 2 ^ 128 }
-    ensures asked { src.new.asked ≤ src.old.asked + symbols_cost (row store.now section) 0 loaded.now.size cap }
-    ensures text { (file : List ℕ) → S.holds src.old.source file → Belongs file loaded.now store.now →
-        Shows (W.taken out.old.sink) (W.taken out.new.sink) out.old.written out.new.written result (symbol_rows file cap section) }
-{
-    if !holds_symbols(&store.section(section)) {
-        return Ok(None);
-    }
-    let (table, names) = match loaded.symbols(store, section) {
-        Ok(symbols) => symbols,
-        Err(fault) => return ended(fault),
-    };
-    show_rows(
-        src,
-        table,
-        &Kind::Symbols { section, names },
-        cap,
-        name,
-        out,
-    )
-}
-
-/// Shows the relocation entries of a section, where it holds them: an `R` line each, or the first
-/// refusal of its table, of the symbols that they refer to or of an entry (gABI 4, Relocation).
-fn show_relocations_of<S: Source, W: Sink>(
-    src: &mut Counted<S>,
-    store: &HeaderStore,
-    loaded: &Loaded,
-    section: u16,
-    cap: u16,
-    name: &mut NameBuf,
-    out: &mut Out<W>,
-) -> Result<Option<Refusal>, RunFault>
-    requires loaded { store.now.loaded ≡ loaded.now.header.e_shnum }
-    requires below { section < store.now.loaded }
-    requires size { loaded.now.size ≡ S.size src.old.source }
-    requires cap_some { 1 ≤ cap }
-    requires cap_most { cap ≤ 4096 }
-    requires written { out.old.written < 2 ^ 128 }
-    ensures kept { Keeps S.holds S.size S.failures src.old.source src.new.source }
-    ensures blames { IfErr result (RunBlames S.holds S.failures src.old.source src.new.source) }
-    ensures out_fails { IsTrue (is_out_fault result) → IsTrue (W.failed out.new.sink) }
-    ensures fits { out.new.written < 2 ^ 128 }
-    ensures asked { src.new.asked ≤ src.old.asked + relocations_cost (row store.now section) 0 loaded.now.size cap }
-    ensures text { (file : List ℕ) → S.holds src.old.source file → Belongs file loaded.now store.now →
-        Shows (W.taken out.old.sink) (W.taken out.new.sink) out.old.written out.new.written result (relocation_rows file cap section) }
-{
-    if store.section(section).sh_type != SHT_RELA {
-        return Ok(None);
-    }
-    let (table, linked) = match loaded.relocations(store, section) {
-        Ok(relocations) => relocations,
-        Err(fault) => return ended(fault),
-    };
-    let machine = loaded.header().e_machine;
-    show_rows(
-        src,
-        table,
-        &Kind::Relocations {
-            section,
-            machine,
-            linked,
-        },
-        cap,
-        name,
-        out,
-    )
 }

@@ -1,6 +1,8 @@
 -- What `show` and `sample` give: a text, and a status for the shell.
-use Rattle.std.specs.Prelude.{ℕ, List, Option, None, Some}
-use Rattle.elf_model.specs.Report.{report, report_fault}
+use Rattle.std.specs.Prelude.{ℕ, ◌≡◌, ◌<◌, ◌⊎◌, List, length, Option, None, Some}
+use Rattle.elf_model.specs.Budget.{IsCut}
+use Rattle.elf_model.specs.Cost.{cost}
+use Rattle.elf_model.specs.Report.{items, report, report_fault}
 use Rattle.elf_model.specs.Fixtures.{one_symbol_table}
 use Rattle.elf_model.specs.declared.causes.Refusal.{Refusal}
 
@@ -18,6 +20,14 @@ status_of (Some refusal) = 1
 abbrev pub show_answer : List ℕ → ℕ → ℕ → ℕ → Answer
 show_answer file headers name parts =
     record { text = report file headers name parts; status = status_of (report_fault file headers name parts) }
+
+-- `show` within a budget: the same answer; or, where it costs more than the budget, one that is cut short, with status 1
+abbrev pub IsShown : Option ℕ → List ℕ → ℕ → ℕ → ℕ → Answer → Type 0
+IsShown None file headers name parts answer = answer ≡ show_answer file headers name parts
+IsShown (Some budget) file headers name parts answer =
+    (answer ≡ show_answer file headers name parts)
+    ⊎ ((budget < cost file headers name parts) × (answer.status ≡ 1)
+    × ((fault : Option Refusal) × IsCut (length file) (items file headers name parts) answer.text fault))
 
 -- `sample`: the listing of the file that the program carries
 abbrev pub sample_answer : ℕ → ℕ → ℕ → Answer

@@ -89,12 +89,15 @@ unfoldable pub tables_cost : List ℕ → ℕ → ℕ → ℕ
 tables_cost file name parts =
     sum_over (λ i. table_cost file (section_at file i) (length file) name parts) 0 (e_shnum file)
 
+-- how many bytes are asked for behind the file header at most
+abbrev pub behind_header : List ℕ → ℕ → ℕ → ℕ → ℕ
+behind_header file headers name parts =
+    cost_where (has_tables parts && is_loadable file headers)
+    (sections_cost file name parts + segments_cost file parts + tables_cost file name parts)
+
 -- how many bytes the listing of a file asks for at most: the file header, and what is asked for behind it
 unfoldable pub cost : List ℕ → ℕ → ℕ → ℕ → ℕ
-cost file headers name parts =
-    64
-    + cost_where (has_tables parts && is_loadable file headers)
-    (sections_cost file name parts + segments_cost file parts + tables_cost file name parts)
+cost file headers name parts = 64 + behind_header file headers name parts
 
 -- what no listing of a file of so many bytes passes, whatever its bytes are
 unfoldable pub ceiling : ℕ → ℕ → ℕ → ℕ

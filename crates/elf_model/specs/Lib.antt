@@ -16,6 +16,7 @@ pub mod Rows
 pub mod Report
 pub mod ListingLaws
 pub mod Cost
+pub mod Budget
 pub mod CostLaws
 pub mod RecordLaws
 pub mod Answer

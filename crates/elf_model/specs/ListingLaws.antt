@@ -1,5 +1,6 @@
 -- What holds of listings.
-use Rattle.std.specs.Prelude.{◌≡◌, ℕ, true, false, List, ◌++◌, None, Some}
+use Rattle.std.specs.Prelude.{◌≡◌, ℕ, ◌≤◌, true, false, List, ◌++◌, Option, None, Some}
+use Rattle.elf_model.specs.Budget.{IsReport, IsBudgeted}
 use Rattle.elf_model.specs.Checks.{first_refusal, header_checks, load_checks}
 use Rattle.elf_model.specs.Lines.{header_line, refusal_line}
 use Rattle.elf_model.specs.Listing.{Item, lines_of, fault_of, has, has_tables, header_items, HEADER, ALL}
@@ -46,3 +47,10 @@ OtherBitsMeanNothing =
     (file : List ℕ) → (headers name parts : ℕ)
     → (items file headers name (bit_and parts ALL) ≡ items file headers name parts)
     × (cost file headers name (bit_and parts ALL) ≡ cost file headers name parts)
+
+-- within a budget of at least its cost a listing is its report
+abbrev pub AmpleBudgetIsReport : Type 0
+AmpleBudgetIsReport =
+    (budget : ℕ) → (file : List ℕ) → (headers cap parts : ℕ) → (text : List ℕ) → (fault : Option Refusal)
+    → cost file headers cap parts ≤ budget → IsBudgeted (Some budget) file headers cap parts text fault
+    → IsReport (items file headers cap parts) text fault

@@ -60,17 +60,23 @@ symbol_rows file name section =
       | false ↦ []
     ]
 
--- the row of a relocation entry with the name of a symbol: symbol 0 has none
+-- the offset that a fault names and the name that is shown, for the symbol of an index that an entry at an offset names, in
+-- a section of relocations whose header stands at another: symbol 0 has no name, any other is one of the linked table's
+unfoldable pub symbol_named : List ℕ → ℕ → ℕ → ℕ → ℕ → ℕ × Result Shown Cause
+symbol_named file cap header entry symbol =
+    let table = linked_at file header in
+    let place = entry_at file table SYMBOL_SIZE symbol in
+    if symbol == 0 then (entry, no_name)
+    else if not (has_symbols file header) then (entry, Err BadLink)
+    else if not (nat_lt symbol (entry_count file table SYMBOL_SIZE)) then (entry, Err SymbolIndex)
+    else (place, shown (strings_of file table) (st_name file place) cap)
+
+-- the row of a relocation entry with the name of its symbol
 unfoldable pub relocation_row : List ℕ → ℕ → ℕ → ℕ → ℕ → List Item
 relocation_row file name section at index =
     let entry = entry_at file at RELA_SIZE index in
-    let front = relocation_front file entry (e_machine file) section in
-    let table = linked_at file at in
-    let symbol = entry_at file table SYMBOL_SIZE (r_sym file entry) in
-    if r_sym file entry == 0 then named_row front entry no_name
-    else if not (has_symbols file at) then refused entry BadLink
-    else if not (nat_lt (r_sym file entry) (entry_count file table SYMBOL_SIZE)) then refused entry SymbolIndex
-    else named_row front symbol (shown (strings_of file table) (st_name file symbol) name)
+    let symbol = symbol_named file name at entry (r_sym file entry) in
+    named_row (relocation_front file entry (e_machine file) section) symbol.0 symbol.1
 
 -- the rows of a section, where it has relocation entries
 unfoldable pub relocation_rows : List ℕ → ℕ → ℕ → List Item

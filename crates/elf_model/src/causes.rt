@@ -63,6 +63,8 @@ pub enum Cause {
     SymbolIndex,
     /// The file has 2^63 bytes or more.
     TooLong,
+    /// A limit on what may be read has too few bytes left. It says nothing of the file.
+    Budget,
 }
 
 /// A refusal: its cause, and the file offset that it points to.

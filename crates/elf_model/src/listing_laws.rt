@@ -1,5 +1,5 @@
 //! The laws of listings.
-ghost use Rattle.elf_model.specs.ListingLaws.{HeaderAloneIsListed, HeaderFaultIsListedAlone, LoadFaultIsListedSecond, NothingBehindTheFault, ListingsAppend, OtherBitsMeanNothing};
+ghost use Rattle.elf_model.specs.ListingLaws.{HeaderAloneIsListed, HeaderFaultIsListedAlone, LoadFaultIsListedSecond, NothingBehindTheFault, ListingsAppend, OtherBitsMeanNothing, AmpleBudgetIsReport};
 
 /// With no part but the file header's the listing is the file header's.
 pub fn header_alone_is_listed()
@@ -29,4 +29,9 @@ pub fn listings_append()
 /// Bits outside the seven parts mean nothing, for the listing and for its cost.
 pub fn other_bits_mean_nothing()
     ensures { OtherBitsMeanNothing }
+{}
+
+/// Within a budget of at least its cost a listing is its report.
+pub fn ample_budget_is_report()
+    ensures { AmpleBudgetIsReport }
 {}

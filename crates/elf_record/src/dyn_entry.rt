@@ -24,7 +24,8 @@ impl Dyn {
     /// Reads the fields from the record's bytes. No field is checked.
     pub fn decode(bytes: &[u8; 16]) -> Dyn
         ensures fields { IsDyn bytes.now 0 result }
-        ensures stands { (file : List ℕ) (at : ℕ) → bytes.now ≡ slice file at 16 → IsDyn file at result }
+        ensures stands { (file : List ℕ) (at : ℕ) → bytes.now ≡ slice file at 16 →
+            IsDyn file at result }
     {
         Dyn {
             d_tag: i64_at(bytes, 0),
@@ -36,7 +37,8 @@ impl Dyn {
     pub fn encode(&self) -> [u8; 16]
         ensures spelled { result ≡ spelling (dyn_parts self.now) }
         ensures fields { IsDyn result 0 self.now }
-        ensures only { (bytes : List ℕ) → IsBytes bytes → length bytes ≡ 16 → IsDyn bytes 0 self.now → bytes ≡ result }
+        ensures only { (bytes : List ℕ) → IsBytes bytes → length bytes ≡ 16 →
+            IsDyn bytes 0 self.now → bytes ≡ result }
     {
         self.spelled().into_inner().unwrap()
     }

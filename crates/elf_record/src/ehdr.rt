@@ -72,7 +72,8 @@ impl Ehdr {
     /// Reads the fields from the record's bytes. No field is checked.
     pub fn decode(bytes: &[u8; 64]) -> Ehdr
         ensures fields { IsEhdr bytes.now 0 result }
-        ensures stands { (file : List ℕ) (at : ℕ) → bytes.now ≡ slice file at 64 → IsEhdr file at result }
+        ensures stands { (file : List ℕ) (at : ℕ) → bytes.now ≡ slice file at 64 →
+            IsEhdr file at result }
     {
         Ehdr {
             ident_magic: array_at(bytes, 0),
@@ -102,7 +103,8 @@ impl Ehdr {
     pub fn encode(&self) -> [u8; 64]
         ensures spelled { result ≡ spelling (ehdr_parts self.now) }
         ensures fields { IsEhdr result 0 self.now }
-        ensures only { (bytes : List ℕ) → IsBytes bytes → length bytes ≡ 64 → IsEhdr bytes 0 self.now → bytes ≡ result }
+        ensures only { (bytes : List ℕ) → IsBytes bytes → length bytes ≡ 64 →
+            IsEhdr bytes 0 self.now → bytes ≡ result }
     {
         self.spelled().into_inner().unwrap()
     }

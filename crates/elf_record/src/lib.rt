@@ -7,6 +7,7 @@ mod ehdr;
 mod fields;
 mod flags;
 mod note_head;
+pub mod numbers;
 mod parts;
 mod phdr;
 mod rela;

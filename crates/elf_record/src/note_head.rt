@@ -26,7 +26,8 @@ impl NoteHead {
     /// Reads the fields from the record's bytes. No field is checked.
     pub fn decode(bytes: &[u8; 12]) -> NoteHead
         ensures fields { IsNoteHead bytes.now 0 result }
-        ensures stands { (file : List ℕ) (at : ℕ) → bytes.now ≡ slice file at 12 → IsNoteHead file at result }
+        ensures stands { (file : List ℕ) (at : ℕ) → bytes.now ≡ slice file at 12 →
+            IsNoteHead file at result }
     {
         NoteHead {
             namesz: u32_at(bytes, 0),
@@ -39,7 +40,8 @@ impl NoteHead {
     pub fn encode(&self) -> [u8; 12]
         ensures spelled { result ≡ spelling (note_head_parts self.now) }
         ensures fields { IsNoteHead result 0 self.now }
-        ensures only { (bytes : List ℕ) → IsBytes bytes → length bytes ≡ 12 → IsNoteHead bytes 0 self.now → bytes ≡ result }
+        ensures only { (bytes : List ℕ) → IsBytes bytes → length bytes ≡ 12 →
+            IsNoteHead bytes 0 self.now → bytes ≡ result }
     {
         self.spelled().into_inner().unwrap()
     }

@@ -34,7 +34,8 @@ impl Phdr {
     /// Reads the fields from the record's bytes. No field is checked.
     pub fn decode(bytes: &[u8; 56]) -> Phdr
         ensures fields { IsPhdr bytes.now 0 result }
-        ensures stands { (file : List ℕ) (at : ℕ) → bytes.now ≡ slice file at 56 → IsPhdr file at result }
+        ensures stands { (file : List ℕ) (at : ℕ) → bytes.now ≡ slice file at 56 →
+            IsPhdr file at result }
     {
         Phdr {
             p_type: u32_at(bytes, 0),
@@ -52,7 +53,8 @@ impl Phdr {
     pub fn encode(&self) -> [u8; 56]
         ensures spelled { result ≡ spelling (phdr_parts self.now) }
         ensures fields { IsPhdr result 0 self.now }
-        ensures only { (bytes : List ℕ) → IsBytes bytes → length bytes ≡ 56 → IsPhdr bytes 0 self.now → bytes ≡ result }
+        ensures only { (bytes : List ℕ) → IsBytes bytes → length bytes ≡ 56 →
+            IsPhdr bytes 0 self.now → bytes ≡ result }
     {
         self.spelled().into_inner().unwrap()
     }

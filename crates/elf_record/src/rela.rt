@@ -26,7 +26,8 @@ impl Rela {
     /// Reads the fields from the record's bytes. No field is checked.
     pub fn decode(bytes: &[u8; 24]) -> Rela
         ensures fields { IsRela bytes.now 0 result }
-        ensures stands { (file : List ℕ) (at : ℕ) → bytes.now ≡ slice file at 24 → IsRela file at result }
+        ensures stands { (file : List ℕ) (at : ℕ) → bytes.now ≡ slice file at 24 →
+            IsRela file at result }
     {
         Rela {
             r_offset: u64_at(bytes, 0),
@@ -39,7 +40,8 @@ impl Rela {
     pub fn encode(&self) -> [u8; 24]
         ensures spelled { result ≡ spelling (rela_parts self.now) }
         ensures fields { IsRela result 0 self.now }
-        ensures only { (bytes : List ℕ) → IsBytes bytes → length bytes ≡ 24 → IsRela bytes 0 self.now → bytes ≡ result }
+        ensures only { (bytes : List ℕ) → IsBytes bytes → length bytes ≡ 24 →
+            IsRela bytes 0 self.now → bytes ≡ result }
     {
         self.spelled().into_inner().unwrap()
     }

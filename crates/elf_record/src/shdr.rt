@@ -38,7 +38,8 @@ impl Shdr {
     /// Reads the fields from the record's bytes. No field is checked.
     pub fn decode(bytes: &[u8; 64]) -> Shdr
         ensures fields { IsShdr bytes.now 0 result }
-        ensures stands { (file : List ℕ) (at : ℕ) → bytes.now ≡ slice file at 64 → IsShdr file at result }
+        ensures stands { (file : List ℕ) (at : ℕ) → bytes.now ≡ slice file at 64 →
+            IsShdr file at result }
     {
         Shdr {
             sh_name: u32_at(bytes, 0),
@@ -58,7 +59,8 @@ impl Shdr {
     pub fn encode(&self) -> [u8; 64]
         ensures spelled { result ≡ spelling (shdr_parts self.now) }
         ensures fields { IsShdr result 0 self.now }
-        ensures only { (bytes : List ℕ) → IsBytes bytes → length bytes ≡ 64 → IsShdr bytes 0 self.now → bytes ≡ result }
+        ensures only { (bytes : List ℕ) → IsBytes bytes → length bytes ≡ 64 →
+            IsShdr bytes 0 self.now → bytes ≡ result }
     {
         self.spelled().into_inner().unwrap()
     }

@@ -2,6 +2,7 @@
 ghost use Rattle.std.specs.Prelude.{◌≡◌, ◌/◌, ◌%◌, ℕ, List, length};
 
 use crate::fields::{put_u8, put_u16, put_u32, put_u64, u8_at, u16_at, u32_at, u64_at};
+use crate::numbers::{SHN_ABS, SHN_COMMON, SHN_LORESERVE, SHN_UNDEF};
 use arrayvec::ArrayVec;
 
 /// A symbol of an ELF64 file, 24 bytes (gABI 4, Symbol Table).
@@ -20,15 +21,6 @@ pub struct Sym {
     /// The symbol's size in bytes, at 16; 0 where it has none or it is not known.
     pub st_size: u64,
 }
-
-/// The index that says that a symbol is not defined in the file.
-const SHN_UNDEF: u16 = 0;
-/// The first of the reserved indices.
-const SHN_LORESERVE: u16 = 0xff00;
-/// The index of symbols with an absolute value.
-const SHN_ABS: u16 = 0xfff1;
-/// The index of common symbols, for which no room is made yet.
-const SHN_COMMON: u16 = 0xfff2;
 
 /// Where a symbol is defined (gABI 4, Special Section Indexes).
 #[derive(Clone, Copy, Debug, PartialEq, Eq)]
@@ -54,7 +46,8 @@ impl Sym {
     /// Reads the fields from the record's bytes. No field is checked.
     pub fn decode(bytes: &[u8; 24]) -> Sym
         ensures fields { IsSym bytes.now 0 result }
-        ensures stands { (file : List ℕ) (at : ℕ) → bytes.now ≡ slice file at 24 → IsSym file at result }
+        ensures stands { (file : List ℕ) (at : ℕ) → bytes.now ≡ slice file at 24 →
+            IsSym file at result }
     {
         Sym {
             st_name: u32_at(bytes, 0),
@@ -70,7 +63,8 @@ impl Sym {
     pub fn encode(&self) -> [u8; 24]
         ensures spelled { result ≡ spelling (sym_parts self.now) }
         ensures fields { IsSym result 0 self.now }
-        ensures only { (bytes : List ℕ) → IsBytes bytes → length bytes ≡ 24 → IsSym bytes 0 self.now → bytes ≡ result }
+        ensures only { (bytes : List ℕ) → IsBytes bytes → length bytes ≡ 24 →
+            IsSym bytes 0 self.now → bytes ≡ result }
     {
         self.spelled().into_inner().unwrap()
     }

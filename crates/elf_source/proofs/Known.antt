@@ -1,10 +1,10 @@
 -- Known bytes over several turns of a loop that writes.
-use Rattle.std.proofs.Common.{◌≡◌, ℕ, ◌+◌, ◌^◌, ◌-◌, ◌≤◌, ◌<◌, List, [], Option, refl, sym, ap, ◌∙◌, min, length, take, drop, subst, arith}
+use Rattle.std.proofs.Common.{◌≡◌, ℕ, ◌+◌, ◌^◌, ◌-◌, ◌≤◌, List, [], Option, refl, sym, ap, ◌∙◌, min, length, take, drop, subst, arith}
 use Rattle.std.specs.Io.KnownBytes.{Appends}
 use Rattle.std.proofs.KnownBytes.{Appends-nil, Appends-trans}
 use Rattle.std.proofs.Math.Seq.{take-add}
 use Rattle.std.proofs.lemmas.List.{take-append-drop, length-take-le, take_rest}
-use Rattle.elf_source.specs.Output.{TakesFront}
+use Rattle.elf_source.specs.Output.{Written, TakesFront}
 
 -- the first d bytes, and then n of those that are left
 pub Appends-turn : (a b c : Option (List ℕ)) (bytes : List ℕ) (d n : ℕ) → Appends a b (take d bytes) → Appends b c (take n (take (length bytes - d) (drop d bytes))) → Appends a c (take (d + n) bytes)
@@ -13,15 +13,17 @@ Appends-turn a b c bytes d n p q =
     subst (Appends a c) (sym (take-add d n bytes)) (Appends-trans a b c _ _ p left)
 
 -- a sink that was given nothing
-pub TakesFront-none : (a : Option (List ℕ)) (written : ℕ) (bytes : List ℕ) → written < 2 ^ 128 → TakesFront a a written written bytes
-TakesFront-none a written bytes fits = record { front = []; rest = bytes; split = refl; takes = (Appends-nil a, omega arith) }
+pub TakesFront-none : (old new : Written) (bytes : List ℕ) → new ≡ old → TakesFront old new bytes
+TakesFront-none old new bytes same =
+    let P : Written → Type 0 = λ w. TakesFront old w bytes in
+    subst P (sym same) (record { front = []; rest = bytes; split = refl; takes = record { appends = Appends-nil old.taken; counts = omega (arith, old.fits) } })
 
 -- a sink that took the first n bytes
-pub TakesFront-some : (a b : Option (List ℕ)) (old new : ℕ) (bytes : List ℕ) (n : ℕ) → n ≤ length bytes → Appends a b (take n bytes) → new ≡ min (old + n) (2 ^ 128 - 1)
-    → TakesFront a b old new bytes
-TakesFront-some a b old new bytes n within p count = record {
+pub TakesFront-some : (old new : Written) (bytes : List ℕ) (n : ℕ) → n ≤ length bytes → Appends old.taken new.taken (take n bytes) → new.written ≡ min (old.written + n) (2 ^ 128 - 1)
+    → TakesFront old new bytes
+TakesFront-some old new bytes n within p count = record {
   front = take n bytes;
   rest = drop n bytes;
   split = sym (take-append-drop n bytes);
-  takes = (p, count ∙ ap (λ k. min (old + k) (2 ^ 128 - 1)) (sym (length-take-le n bytes within)));
+  takes = record { appends = p; counts = count ∙ ap (λ k. min (old.written + k) (2 ^ 128 - 1)) (sym (length-take-le n bytes within)) };
 }

@@ -1,2 +1,4 @@
+mod FilledLaws
 mod Known
-pub mod Puts
+pub mod ReadsLaws
+pub mod PutsLaws

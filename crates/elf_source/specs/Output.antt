@@ -1,5 +1,5 @@
 -- What is given to a sink, and what it took.
-use Rattle.std.specs.Prelude.{◌≡◌, ℕ, ◌+◌, ◌-◌, ◌^◌, Bool, List, ◌++◌, Option, Result, MatchResult, min, length}
+use Rattle.std.specs.Prelude.{◌≡◌, ℕ, ◌+◌, ◌-◌, ◌^◌, ◌<◌, Bool, true, false, List, ◌++◌, Option, Result, Ok, Err, min, length}
 use Rattle.std.specs.Io.KnownBytes.{Appends}
 use Rattle.elf_source.specs.declared.faults.OutFault.{OutFault}
 
@@ -14,24 +14,31 @@ pub record Writing (W : Type 0) : Type 0 where
   pub writer : W
   pub failed : Bool
 
--- a sink, and how many bytes it took
-pub record Putting (W : Type 0) : Type 0 where
-  pub sink : W
+-- what is seen of an output: the bytes that its sink tells, how many it took, and whether it has failed
+pub record Written : Type 0 where
+  pub taken : Option (List ℕ)
   pub written : ℕ
+  pub failed : Bool
+  pub fits : written < 2 ^ 128
 
 -- the sink took these bytes, and the count rose by as many, or stays at 2^128 - 1 where it would pass it
-abbrev pub Takes : (taken_old taken_new : Option (List ℕ)) (written_old written_new : ℕ) → List ℕ → Type 0
-Takes taken_old taken_new written_old written_new bytes = Appends taken_old taken_new bytes × (written_new ≡ min (written_old + length bytes) (2 ^ 128 - 1))
+pub record Takes (old new : Written) (bytes : List ℕ) : Type 0 where
+  pub appends : Appends old.taken new.taken bytes
+  pub counts : new.written ≡ min (old.written + length bytes) (2 ^ 128 - 1)
 
--- the sink took the front of these bytes, and no byte of the rest
-pub record TakesFront (taken_old taken_new : Option (List ℕ)) (written_old written_new : ℕ) (bytes : List ℕ) : Type 0 where
+-- the sink took a front of these bytes, and no byte of the rest
+pub record TakesFront (old new : Written) (bytes : List ℕ) : Type 0 where
   pub front : List ℕ
   pub rest : List ℕ
   pub split : bytes ≡ front ++ rest
-  pub takes : Takes taken_old taken_new written_old written_new front
+  pub takes : Takes old new front
 
--- a put of these bytes: all of them are taken at Ok, and a front of them at a fault, which tells the count
-abbrev pub Puts : {X : Type 0} → (taken_old taken_new : Option (List ℕ)) (written_old written_new : ℕ) → Result X OutFault → List ℕ → Type 0
-Puts taken_old taken_new written_old written_new result bytes = MatchResult result
-    (λ _. Takes taken_old taken_new written_old written_new bytes)
-    (λ fault. TakesFront taken_old taken_new written_old written_new bytes × (fault.written ≡ written_new))
+-- what a fault of the output says: the sink has failed, and the fault tells the count
+pub record Fails (new : Written) (fault : OutFault) : Type 0 where
+  pub failed : new.failed ≡ true
+  pub tells : fault.written ≡ new.written
+
+-- a put of these bytes: all of them are taken at Ok, and a front of them at a fault
+abbrev pub Puts : {X : Type 0} → Written → Written → Result X OutFault → List ℕ → Type 0
+Puts old new (Ok x) bytes = Takes old new bytes × (new.failed ≡ false)
+Puts old new (Err fault) bytes = TakesFront old new bytes × Fails new fault

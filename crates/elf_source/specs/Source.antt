@@ -1,25 +1,114 @@
--- What a read keeps of a source, and what its fault says.
-use Rattle.std.specs.Prelude.{◌≡◌, ℕ, ◌≤◌, ◌<◌, List}
+-- What is seen of a source, of one whose reads are counted, and what a read does.
+use Rattle.std.specs.Prelude.{◌≡◌, ℕ, ◌+◌, ◌-◌, ◌^◌, ◌≤◌, ◌<◌, min, List, length, Option, None, Some, Result, Ok, Err, option_map, IfSome, refl}
+use Rattle.std.proofs.Common.{subst}
 use Rattle.elf_source.specs.declared.faults.SourceFault.{SourceFault}
 use Rattle.elf_source.specs.declared.faults.SourceFault.TheVariants.{Device, Ended}
+use Rattle.elf_source.specs.declared.faults.AskFault.{AskFault}
+use Rattle.elf_source.specs.declared.faults.AskFault.TheVariants.{Source, Budget}
 
--- what reads keep, fault or not: the size, the failures so far, and each file that the source held
-pub record Keeps {S : Type 0} (holds : S → List ℕ → Type 0) (size failures : S → ℕ) (old new : S) : Type 0 where
-  pub same_size : size new ≡ size old
-  pub no_fewer : failures old ≤ failures new
-  pub still_holds : (file : List ℕ) → holds old file → holds new file
-
--- what a fault says of the source: at `Device` its failures rose, at `Ended` it held no file
-abbrev pub Blames : {S : Type 0} (holds : S → List ℕ → Type 0) (failures : S → ℕ) (old new : S) → SourceFault → Type 0
-Blames holds failures old new Device = failures old < failures new
-Blames holds failures old new Ended = (file : List ℕ) → holds old file → ⊥
-
--- a source whose reads are counted, and the bytes that were asked of it
-pub record Asked (S : Type 0) : Type 0 where
-  pub source : S
-  pub asked : ℕ
-
--- a source over a device: its size in bytes, and how many of its reads failed
-pub record Stream : Type 0 where
+-- what is seen of a source: its size in bytes, how many of its reads failed, and the file whose slices its reads give,
+-- where there is one
+pub record Seen : Type 0 where
   pub size : ℕ
   pub failures : ℕ
+  pub file : Option (List ℕ)
+  pub sized : (bytes : List ℕ) → file ≡ Some bytes → length bytes ≡ size
+
+-- a source is honest: its reads give the slices of a file, and its count of failures may still rise
+pub record IsHonest (seen : Seen) : Type 0 where
+  pub file : List ℕ
+  pub gives : seen.file ≡ Some file
+  pub not_worn : seen.failures < 2 ^ 64 - 1
+
+-- what a read keeps, fault or not
+pub record Keeps (old new : Seen) : Type 0 where
+  pub same_size : new.size ≡ old.size
+  pub no_fewer : old.failures ≤ new.failures
+  pub same_file : new.file ≡ old.file
+
+-- what a fault of the source says: at `Device` its failures rose, at `Ended` it isn't honest
+abbrev pub Faults : Seen → Seen → SourceFault → Type 0
+Faults old new Device = old.failures < new.failures
+Faults old new Ended = IsHonest new → ⊥
+
+-- no more is asked for than a limit has, and no limit is more than a number of 64 bits above what was asked for
+abbrev pub IsWithin : ℕ → Option ℕ → Type 0
+IsWithin asked most = (n : ℕ) → most ≡ Some n → (asked ≤ n) × (n < asked + 2 ^ 64)
+
+-- a source whose reads are counted: what is seen of it, how many bytes were asked for, and the count that this may not
+-- pass, where a limit is set
+pub record Counting : Type 0 where
+  pub seen : Seen
+  pub asked : ℕ
+  pub most : Option ℕ
+  pub within : IsWithin asked most
+  pub fits : asked < 2 ^ 128
+
+-- how many bytes may still be asked for, where a limit is set
+abbrev pub left : Counting → Option ℕ
+left c = option_map (λ n. n - c.asked) c.most
+
+-- a count that stays at 2^128 - 1
+abbrev pub counted : ℕ → ℕ → ℕ
+counted asked n = min (asked + n) (2 ^ 128 - 1)
+
+-- a limit was set or taken away, and nothing else changed
+pub record Limits (old new : Counting) (bytes : Option ℕ) : Type 0 where
+  pub seen : new.seen ≡ old.seen
+  pub asked : new.asked ≡ old.asked
+  pub most : new.most ≡ option_map (counted old.asked) bytes
+  pub small : (n : ℕ) → bytes ≡ Some n → n < 2 ^ 64
+
+-- so many bytes from an offset on may be asked for in one read
+abbrev pub IsReadable : Counting → ℕ → ℕ → Type 0
+IsReadable c at n = (at + n ≤ c.seen.size) × (n ≤ 4096)
+
+-- WHAT READS DO, fault or not: they ask for at most n bytes, and keep the source and the limit
+pub record Reads (old new : Counting) (n : ℕ) : Type 0 where
+  pub keeps : Keeps old.seen new.seen
+  pub grows : old.asked ≤ new.asked
+  pub at_most : new.asked ≤ old.asked + n
+  pub same_limit : new.most ≡ old.most
+
+-- what a refusal for want of budget says, of reads that ask for at most n bytes: a limit was set, they could have passed
+-- it, and fewer than 4,096 bytes were left of it
+pub record OverLimit (old new : Counting) (n : ℕ) : Type 0 where
+  pub most : ℕ
+  pub is_set : old.most ≡ Some most
+  pub above : most < old.asked + n
+  pub late : most < new.asked + 4096
+
+-- what a fault of a read of n bytes says
+abbrev pub Blames : Counting → Counting → ℕ → AskFault → Type 0
+Blames old new n (Source fault) = Faults old.seen new.seen fault
+Blames old new n Budget = OverLimit old new n
+
+-- what one read asks for, exactly: the bytes are counted where it was made, and it was made unless the limit had fewer left
+abbrev pub Asks : {X : Type 0} → Counting → Counting → ℕ → Result X AskFault → Type 0
+Asks old new n (Ok x) = new.asked ≡ counted old.asked n
+Asks old new n (Err (Source fault)) = new.asked ≡ counted old.asked n
+Asks old new n (Err Budget) = new ≡ old
+
+-- the source was read once, or not at all for want of budget
+abbrev pub AsksOnce : {X : Type 0} → (Seen → ℕ → ℕ → Seen → Type 0) → Counting → Counting → ℕ → ℕ → Result X AskFault → Type 0
+AsksOnce one_read old new at n (Ok x) = one_read old.seen at n new.seen
+AsksOnce one_read old new at n (Err (Source fault)) = one_read old.seen at n new.seen
+AsksOnce one_read old new at n (Err Budget) = new ≡ old
+
+-- a read outside the limit: it is counted, and what is left of the limit stays
+pub record Fills (old new : Counting) (n : ℕ) : Type 0 where
+  pub keeps : Keeps old.seen new.seen
+  pub asks : new.asked ≡ counted old.asked n
+  pub same_left : left new ≡ option_map (λ bytes. counted new.asked bytes - new.asked) (left old)
+
+-- a fact of every file that a source gives, from one of the option
+abbrev pub each_file : (P : List ℕ → Type 0) (file : Option (List ℕ)) → IfSome file P → (bytes : List ℕ) → file ≡ Some bytes → P bytes
+each_file P file holds bytes same = subst (λ (o : Option (List ℕ)). IfSome o P) same holds
+
+-- what is seen of a source that gives these bytes and never fails
+abbrev pub honest : List ℕ → Seen
+honest bytes = record { size = length bytes; failures = 0; file = Some bytes; sized = each_file (λ b. length b ≡ length bytes) (Some bytes) refl }
+
+-- what is seen of a source of which no file is known
+abbrev pub unknown : ℕ → ℕ → Seen
+unknown size failures = record { size = size; failures = failures; file = None; sized = each_file (λ b. length b ≡ size) None tt }

@@ -7,9 +7,32 @@ pub enum SourceFault {
     /// The device below failed. The source's count of failures rose.
     #[error("the device failed")]
     Device,
-    /// The source gave fewer bytes than its length promised, so it isn't honest.
+    /// The source gave fewer bytes than its length promised, or its count of failures is at its end, so
+    /// it isn't honest.
     #[error("the source ended before its length")]
     Ended,
+}
+
+/// Why a turn of a reader gave nothing.
+#[derive(Clone, Copy, PartialEq, Eq, Debug, Error)]
+pub enum ReaderFault {
+    /// The turn was interrupted. It may be taken again.
+    #[error("the turn was interrupted")]
+    Interrupted,
+    /// The device failed.
+    #[error("the device failed")]
+    Failed,
+}
+
+/// Why a read that is counted failed.
+#[derive(Clone, Copy, PartialEq, Eq, Debug, Error)]
+pub enum AskFault {
+    /// The source failed.
+    #[error("the source failed")]
+    Source(SourceFault),
+    /// The limit has too few bytes left for this read. Nothing was asked, and nothing has changed.
+    #[error("the limit has too few bytes left")]
+    Budget,
 }
 
 /// A sink took nothing, and takes nothing from now on.

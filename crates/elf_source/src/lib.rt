@@ -1,22 +1,26 @@
 //! Sources that are read at an offset, sinks that are written in order, and what counts both.
 #![tactic(auto)]
 
-mod counting;
+mod counted;
+mod device;
 mod faults;
-mod memory;
-mod putting;
-mod reading;
+mod memory_source;
+mod output;
+mod reader;
+mod sink;
 mod slice_sink;
-mod stream;
-mod taking;
+mod source;
+mod stream_source;
 mod write_sink;
 
-pub use counting::Counted;
-pub use faults::{OutFault, SinkFault, SourceFault};
-pub use memory::MemorySource;
-pub use putting::Out;
-pub use reading::Source;
+pub use counted::{Counted, READ_BYTES};
+pub use device::Device;
+pub use faults::{AskFault, OutFault, ReaderFault, SinkFault, SourceFault};
+pub use memory_source::MemorySource;
+pub use output::Out;
+pub use reader::Reader;
+pub use sink::Sink;
 pub use slice_sink::SliceSink;
-pub use stream::StreamSource;
-pub use taking::Sink;
+pub use source::Source;
+pub use stream_source::StreamSource;
 pub use write_sink::WriteSink;

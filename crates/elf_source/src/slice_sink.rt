@@ -3,7 +3,7 @@ ghost use Rattle.std.specs.Prelude.{◌≡◌, ◌-◌, ◌<◌, ◌≤◌, ◌�
 ghost use Rattle.std.specs.Io.KnownBytes.{WriteAppends};
 
 use crate::faults::SinkFault;
-use crate::taking::Sink;
+use crate::sink::Sink;
 use std::marker::Model;
 
 /// A sink that writes a slice from its front, and tells its bytes.
@@ -20,9 +20,14 @@ impl<'a> Model for SliceSink<'a> {
 
     ghost Value = { Filled };
 
-    ghost view = { λ s. record { written = take s.len s.buffer.now; free = length s.buffer.now - s.len; failed = s.failed } };
+    ghost view = { λ s. record {
+      written = take s.len s.buffer.now;
+      free = length s.buffer.now - s.len;
+      failed = s.failed;
+    } };
 
-    ghost invariant = { λ s. (s.len ≤ length s.buffer.now) × (IsTrue s.failed → s.len ≡ length s.buffer.now) };
+    ghost invariant = { λ s. (s.len ≤ length s.buffer.now)
+        × (IsTrue s.failed → s.len ≡ length s.buffer.now) };
 }
 
 impl<'a> SliceSink<'a> {

@@ -3,7 +3,7 @@ ghost use Rattle.std.specs.Prelude.{◌≡◌, ◌<◌, ◌≤◌, false, length
 ghost use Rattle.std.specs.Io.KnownBytes.{Keeps, Appends};
 
 use crate::faults::SinkFault;
-use crate::taking::Sink;
+use crate::sink::Sink;
 use std::io::{ErrorKind, Write};
 use std::marker::Model;
 

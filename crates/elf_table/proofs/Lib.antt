@@ -1,7 +1,10 @@
-pub mod Keeping
-pub mod Pages
+pub mod NameWindows
+pub mod PagesRead
+pub mod Paging
 pub mod Pieces
+pub mod RowsHeld
+pub mod SaysLaws
 pub mod SectionLaws
 pub mod Shown
+pub mod Standing
 pub mod Walking
-pub mod Windows

@@ -36,7 +36,8 @@ found-nul piece place h =
 found-none : (piece : List ℕ) → IsFirstByte (is_byte 0) piece None → nul_in piece ≡ None
 found-none piece h = nul_in-nowhere piece (λ i l z. h i zero-le l (rw z refl))
 
-slice-length : (file : List ℕ) (at n : ℕ) → at + n ≤ length file → length (slice file at n) ≡ n
+-- how many bytes a part of a file has
+pub slice-length : (file : List ℕ) (at n : ℕ) → at + n ≤ length file → length (slice file at n) ≡ n
 slice-length file at n h = length-take-le n (drop at file) (omega (arith, length-drop at file))
 
 -- one piece more without a NUL

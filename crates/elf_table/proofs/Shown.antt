@@ -5,16 +5,16 @@ use Rattle.elf_model.specs.Bytes.{slice}
 use Rattle.elf_model.specs.Names.{nul_in, shown, same, begins}
 use Rattle.elf_model.specs.Names.Shown.{Whole, Cut}
 use Rattle.elf_model.specs.declared.causes.Cause.TheVariants.{NameOutside, NameUnended}
-use Rattle.elf_model.proofs.Slices.{slice-slice}
+use Rattle.elf_model.proofs.Slices.{slice-rest, slice-slice}
 use Rattle.elf_model.proofs.Nuls.{some-free}
 use Rattle.elf_model.proofs.NameLemmas.{shown-empty, shown-outside}
 use Rattle.elf_model.proofs.NameLoops.{shown-found, shown-over, shown-open}
 use Rattle.elf_model.proofs.SameLaws.{Compared, is_alike, is_other, is_short, compared, same-empty, same-outside, same-inside}
 use Rattle.elf_table.specs.NamesRead.{Searched, SameBelow, DifferBelow, Refuses}
-use Rattle.elf_table.specs.Reading.{IsSourceFault}
+use Rattle.elf_table.specs.Faults.{IsOfRead}
 use Rattle.elf_table.specs.declared.fault.Fault.{Fault}
 use Rattle.elf_table.specs.declared.fault.Fault.TheVariants.{Refused, Source}
-use Rattle.elf_table.proofs.Windows.{slice-length, slice-rest}
+use Rattle.elf_table.proofs.Pieces.{slice-length}
 
 -- an empty string table
 pub shown-none : (file : List ℕ) (at size off cap : ℕ) → size ≡ 0 → off ≡ 0 → shown (slice file at size) off cap ≡ Ok (Whole [])
@@ -50,7 +50,7 @@ shown-cut file kept at size off want cap inside full within h =
 
 -- what is left of a string table from an index on
 table-rest : (file : List ℕ) (at size off : ℕ) → off ≤ size → drop off (slice file at size) ≡ slice file (at + off) (size - off)
-table-rest file at size off below = ap (λ (n : ℕ). drop off (slice file at n)) (omega arith) ∙ slice-rest file at off (size - off)
+table-rest file at size off below = slice-rest file at size off below
 
 -- no NUL was found up to the string table's end
 pub shown-unended : (file kept : List ℕ) (at size off want cap : ℕ) → at + size ≤ length file → off < size → want ≡ size - off → size ≤ off + cap
@@ -60,10 +60,10 @@ shown-unended file kept at size off want cap inside below all few h =
     shown-open (slice file at size) off cap (omega arith) (omega arith)
     (ap nul_in (table-rest file at size off (omega arith) ∙ ap (slice file (at + off)) (sym all)) ∙ h.0)
 
--- a fault of the source refuses nothing
-pub Refuses-source : {X : Type 0} (at : ℕ) (fault : Fault) (answer : _) → IsSourceFault fault → Refuses {X = X} at fault answer
-Refuses-source at (Refused refusal) answer h = absurd h
-Refuses-source at (Source fault offset) answer h = tt
+-- a fault of a read refuses nothing
+pub Refuses-read : {X : Type 0} (at : ℕ) (fault : Fault) (answer : _) → IsOfRead fault → Refuses {X = X} at fault answer
+Refuses-read at (Refused refusal) answer h = λ other. absurd (other h)
+Refuses-read at (Source fault offset) answer h = tt
 
 -- the same, compared with a wanted name
 pub same-none : (file wanted : List ℕ) (at size off : ℕ) → size ≡ 0 → off ≡ 0 → same (slice file at size) off wanted ≡ Ok false

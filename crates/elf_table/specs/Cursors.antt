@@ -1,13 +1,14 @@
 -- What a cursor over a table gives, row by row.
-use Rattle.std.specs.Prelude.{ℕ, zero, suc, ◌≡◌, ◌+◌, ◌*◌, ◌≤◌, Bool, true, false, List, [], ◌∷◌, length, Option, None, Some, Result, Ok, Err}
+use Rattle.std.specs.Prelude.{ℕ, zero, suc, ◌≡◌, ◌+◌, ◌*◌, ◌/◌, Bool, true, false, List, [], ◌∷◌, length, Option, None, Some, Result, Ok, Err}
 use Rattle.elf_model.specs.Bytes.{slice}
 use Rattle.elf_table.specs.Tables.{Rows}
 use Rattle.elf_table.specs.declared.fault.Fault.{Fault}
-use Rattle.elf_table.specs.declared.fault.Fault.TheVariants.{Refused, Source}
+use Rattle.elf_table.specs.Faults.{IsAt}
 use Rattle.elf_table.specs.declared.row.Row.{Row}
+use Rattle.elf_table.specs.Windows.{Ahead}
 
--- a cursor: its table, the index of the next row, how many rows are left to give and how many of them are not
--- asked for yet, the bytes that it holds of the next rows, the bytes of the row that it shows, and where it failed
+-- a cursor: its table, the index of the next row, how many rows are left to give, how many bytes are not asked for yet,
+-- the bytes that it holds of the next rows, the bytes of the row that it shows, and the fault where it failed
 pub record Reading : Type 0 where
   pub table : Rows
   pub index : ℕ
@@ -25,13 +26,24 @@ row_at table index = table.at + index * table.entry
 abbrev pub place : Reading → ℕ
 place c = row_at c.table c.index
 
+-- how many bytes a cursor reads at once: whole rows
+abbrev pub page_of : ℕ → ℕ
+page_of entry = 4096 / entry * entry
+
+-- a window stands at the row that is shown, which has so many bytes, and holds whole rows behind it
+pub record Stands (table : Rows) (index shown : ℕ) (w : Ahead) : Type 0 where
+  pub its_place : w.at + shown ≡ row_at table index
+  pub rows : ℕ
+  pub whole : length w.held ≡ shown + rows * table.entry
+
+-- a number, unless there is a fault
 abbrev pub unless_failed : Option Fault → ℕ → ℕ
 unless_failed None n = n
 unless_failed (Some fault) n = 0
 
 -- how many bytes a cursor may still ask for
 abbrev pub unread_bytes : Reading → ℕ
-unread_bytes c = unless_failed c.failed (c.unread * c.table.entry)
+unread_bytes c = unless_failed c.failed c.unread
 
 -- what a cursor holds of the next rows is what the file has there
 abbrev pub Agrees : List ℕ → Reading → Type 0
@@ -52,47 +64,37 @@ pub record Shows (c : Reading) (row : Row) : Type 0 where
   pub its_offset : row.at ≡ row_at c.table row.index
   pub its_bytes : row.bytes.now ≡ c.row
 
--- a step that gives the next row: it is the file's, and what is asked for is no longer unread
-pub record Gives (holds : List ℕ → Type 0) (old new : Reading) (before after : ℕ) : Type 0 where
+-- a step that gives the next row: where the source has a file it is the file's
+pub record Gives (file : Option (List ℕ)) (old new : Reading) : Type 0 where
   pub same_table : new.table ≡ old.table
   pub not_failed : old.failed ≡ None
   pub still_not_failed : new.failed ≡ None
   pub next_index : new.index ≡ old.index + 1
   pub one_less : new.left + 1 ≡ old.left
-  pub account : after + unread_bytes new ≤ before + unread_bytes old
   pub whole : length new.row ≡ old.table.entry
-  pub agrees : (file : List ℕ) → holds file → Agrees file old → Agrees file new
-  pub exact : (file : List ℕ) → holds file → Agrees file old → new.row ≡ slice file (place old) old.table.entry
+  pub agrees : (bytes : List ℕ) → file ≡ Some bytes → Agrees bytes old → Agrees bytes new
+  pub exact : (bytes : List ℕ) → file ≡ Some bytes → Agrees bytes old → new.row ≡ slice bytes (place old) old.table.entry
 
--- a step past the last row, which asks for nothing
-pub record Ends (old new : Reading) (before after : ℕ) : Type 0 where
+-- a step past the last row
+pub record Ends (old new : Reading) : Type 0 where
   pub unchanged : new ≡ old
   pub not_failed : old.failed ≡ None
   pub none_left : old.left ≡ 0
-  pub none_asked : after ≡ before
 
--- a fault of the source at an offset, and no refusal
-abbrev pub IsFaultAt : ℕ → Fault → Type 0
-IsFaultAt at (Refused refusal) = ⊥
-IsFaultAt at (Source fault offset) = offset ≡ at
-
--- a step that fails: a fault of the source at the next row, or the fault of an earlier step once more, with
--- nothing changed and nothing asked for
-pub record Fails (old new : Reading) (before after : ℕ) (fault : Fault) : Type 0 where
+-- a step that fails, at the next row if it is the first that does
+pub record Fails (old new : Reading) (fault : Fault) : Type 0 where
   pub same_table : new.table ≡ old.table
   pub failed : new.failed ≡ Some fault
-  pub account : after + unread_bytes new ≤ before + unread_bytes old
-  pub at_first : old.failed ≡ None → IsFaultAt (place old) fault
-  pub again : (known : Fault) → old.failed ≡ Some known → (fault ≡ known) × (new ≡ old) × (after ≡ before)
+  pub at_next : old.failed ≡ None → IsAt (place old) fault
 
 -- a step of a cursor, where it answers whether it gave a row
-abbrev pub Advances : (List ℕ → Type 0) → Reading → Reading → ℕ → ℕ → Result Bool Fault → Type 0
-Advances holds old new before after (Ok true) = Gives holds old new before after
-Advances holds old new before after (Ok false) = Ends old new before after
-Advances holds old new before after (Err fault) = Fails old new before after fault
+abbrev pub Advances : Option (List ℕ) → Reading → Reading → Result Bool Fault → Type 0
+Advances file old new (Ok true) = Gives file old new
+Advances file old new (Ok false) = Ends old new
+Advances file old new (Err fault) = Fails old new fault
 
 -- a step of a cursor, where it answers the row
-abbrev pub Steps : (List ℕ → Type 0) → Reading → Reading → ℕ → ℕ → Result (Option Row) Fault → Type 0
-Steps holds old new before after (Ok (Some row)) = Gives holds old new before after × Shows new row
-Steps holds old new before after (Ok None) = Ends old new before after
-Steps holds old new before after (Err fault) = Fails old new before after fault
+abbrev pub Steps : Option (List ℕ) → Reading → Reading → Result (Option Row) Fault → Type 0
+Steps file old new (Ok (Some row)) = Gives file old new × Shows new row
+Steps file old new (Ok None) = Ends old new
+Steps file old new (Err fault) = Fails old new fault

@@ -1,8 +1,10 @@
-pub mod Caps
 pub mod Cursors
+pub mod Faults
+pub mod Files
 pub mod Load
 pub mod NamesRead
-pub mod Reading
+pub mod Permitted
 pub mod Sections
 pub mod Store
 pub mod Tables
+pub mod Windows

@@ -1,10 +1,13 @@
 -- The load of a file's section headers.
-use Rattle.std.specs.Prelude.{ℕ, ◌≡◌, ◌+◌, ◌*◌, ◌^◌, ◌<◌, ◌≤◌, ◌==◌, ◌&&◌, nat_lt, not, List, [], ◌∷◌, length, None, Some, Result, Ok, Err}
-use Rattle.elf_model.specs.Checks.{Check, refuse, first_refusal, is_outside, load_checks}
+use Rattle.std.specs.Prelude.{ℕ, ◌≡◌, ◌+◌, ◌*◌, ◌^◌, ◌<◌, ◌≤◌, ◌==◌, ◌&&◌, nat_lt, not, List, [], ◌∷◌, length, is_none, None, Some, Result, Ok, Err}
+use Rattle.elf_model.specs.Budget.{IsBudget}
+use Rattle.elf_model.specs.Checks.{Check, refuse, first_refusal, is_outside, length_checks, load_checks}
+use Rattle.elf_model.specs.Cost.{cost_where}
 use Rattle.elf_model.specs.Numbers.{PN_XNUM, SHN_XINDEX}
 use Rattle.elf_model.specs.declared.causes.Cause.TheVariants.{ExtendedNumbering, TooManyHeaders, EntrySize, TableOutside, BadLink}
 use Rattle.elf_record.specs.Ehdr.{IsEhdr}
 use Rattle.elf_record.specs.declared.ehdr.Ehdr.{Ehdr}
+use Rattle.elf_source.specs.Source.{Counting}
 use Rattle.elf_table.specs.Store.{Stored, Holds}
 use Rattle.elf_table.specs.declared.fault.Fault.{Fault}
 use Rattle.elf_table.specs.declared.fault.Fault.TheVariants.{Refused, Source}
@@ -42,11 +45,25 @@ pub record Passes (size headers : ℕ) (header : Ehdr) : Type 0 where
 abbrev pub section_place : Ehdr → ℕ → ℕ
 section_place header i = header.e_shoff + 64 * i
 
--- a file of this size with this file header was loaded into the store
+-- how many bytes the file header of a file of this size asks for
+abbrev pub header_cost : ℕ → ℕ
+header_cost size = cost_where (is_none (first_refusal (length_checks size))) 64
+
+-- how many bytes a load asks for at most, by the file header
+abbrev pub load_cost : Ehdr → ℕ → ℕ → ℕ
+load_cost header size headers = cost_where (is_none (first_refusal (early_of header size headers))) (64 * header.e_shnum)
+
+-- a file of this size with this file header was loaded into the store, and its early checks pass
 pub record IsOpened (loaded : Opened) (size : ℕ) (header : Ehdr) (store : Stored) : Type 0 where
   pub same_size : loaded.size ≡ size
   pub same_header : loaded.header ≡ header
   pub count : store.loaded ≡ header.e_shnum
+  pub passes : Passes size store.slots header
+
+-- what a load leaves, for every source: a file that is opened, or nothing loaded
+abbrev pub Opens : ℕ → Ehdr → Stored → Result Opened Fault → Type 0
+Opens size header store (Ok loaded) = IsOpened loaded size header store
+Opens size header store (Err fault) = store.loaded ≡ 0
 
 -- this file was loaded, and the store holds its section headers
 pub record Belongs (file : List ℕ) (loaded : Opened) (store : Stored) : Type 0 where
@@ -59,5 +76,10 @@ pub record Belongs (file : List ℕ) (loaded : Opened) (store : Stored) : Type 0
 -- the answer of a load: a file that was loaded, or the first check that fails
 abbrev pub LoadedAs : List ℕ → Result Opened Fault → Stored → Type 0
 LoadedAs file (Ok loaded) store = Belongs file loaded store
-LoadedAs file (Err (Refused refusal)) store = first_refusal (load_checks file store.slots) ≡ Some refusal
+LoadedAs file (Err (Refused refusal)) store = (IsBudget refusal → ⊥) → first_refusal (load_checks file store.slots) ≡ Some refusal
 LoadedAs file (Err (Source fault at)) store = Unit {0}
+
+-- a loaded file is that of a source: its size, and where the source has a file, that file
+pub record IsOpen (src : Counting) (loaded : Opened) (store : Stored) : Type 0 where
+  pub size : loaded.size ≡ src.seen.size
+  pub belongs : (file : List ℕ) → src.seen.file ≡ Some file → Belongs file loaded store

@@ -1,5 +1,6 @@
 -- What a read of a name answers.
 use Rattle.std.specs.Prelude.{ℕ, ◌≡◌, ◌<◌, ◌≢◌, Bool, List, length, take, slice_index, true, false, None, Some, Result, Ok, Err}
+use Rattle.elf_model.specs.Budget.{IsBudget}
 use Rattle.elf_model.specs.Names.{Shown, nul_in}
 use Rattle.elf_model.specs.Names.Shown.{Whole as ShownWhole, Cut as ShownCut}
 use Rattle.elf_model.specs.declared.causes.Cause.{Cause}
@@ -8,9 +9,9 @@ use Rattle.elf_table.specs.declared.fault.Fault.TheVariants.{Refused, Source}
 use Rattle.elf_table.specs.declared.names.NameEnd.{NameEnd}
 use Rattle.elf_table.specs.declared.names.NameEnd.TheVariants.{Whole, Cut}
 
--- a refusal names the entry that holds the index, and has the cause of the refused answer
+-- a refusal names the entry that holds the index, and has the cause of the refused answer, unless it is for want of budget
 abbrev pub Refuses : {X : Type 0} → ℕ → Fault → Result X Cause → Type 0
-Refuses at (Refused refusal) answer = (refusal.at ≡ at) × (answer ≡ Err refusal.cause)
+Refuses at (Refused refusal) answer = (IsBudget refusal → ⊥) → (refusal.at ≡ at) × (answer ≡ Err refusal.cause)
 Refuses at (Source fault offset) answer = Unit {0}
 
 -- a read of a name answers what is shown of it, or refuses for its cause

@@ -9,6 +9,10 @@ pub record Stored : Type 0 where
   pub loaded : ℕ
   pub rows : List (List ℕ)
 
+-- a store with as many slots and no section header
+abbrev pub emptied : Stored → Stored
+emptied store = record { slots = store.slots; loaded = 0; rows = [] }
+
 -- the bytes of the section header of an index
 abbrev pub row : Stored → ℕ → List ℕ
 row store i = slice_index_or store.rows i []

@@ -1,5 +1,6 @@
 -- Where tables and string tables lie in a file.
-use Rattle.std.specs.Prelude.{ℕ, ◌≡◌, ◌+◌, ◌*◌, ◌<◌, ◌≤◌}
+use Rattle.std.specs.Prelude.{ℕ, ◌≡◌, ◌+◌, ◌*◌, ◌<◌, ◌≤◌, List}
+use Rattle.elf_model.specs.Bytes.{slice}
 
 -- a table: the offset of its first row, how many rows there are, and the size of a row
 pub record Rows : Type 0 where
@@ -19,6 +20,10 @@ RowsWithin size table = 0 < table.count → table.at + size_of table ≤ size
 pub record Strings : Type 0 where
   pub at : ℕ
   pub size : ℕ
+
+-- the bytes of a string table in a file
+abbrev pub strings_in : List ℕ → Strings → List ℕ
+strings_in file names = slice file names.at names.size
 
 -- a string table that is not empty ends within a source of this size
 abbrev pub StringsWithin : ℕ → Strings → Type 0

@@ -1,16 +1,13 @@
 //! The fixed buffers that reading a file takes.
-use crate::cursor::WINDOW_BYTES;
 use crate::file_header::HEADER_BYTES;
 use crate::name_buf::NAME_BYTES;
 use crate::names::PIECE;
 use crate::ranges::SYMBOL_BYTES;
-use crate::rows::{PAGE_BYTES, ROW};
+use crate::window::WINDOW_BYTES;
 
 /// The size in bytes of all fixed buffers of this crate's calls, each held once: the file header, a
-/// page of section headers and one of them, a cursor's window, a name, a piece of a name, a symbol.
+/// cursor's window, a name, a piece of a name, a symbol.
 pub const BUFFER_BYTES: usize = HEADER_BYTES
-    + PAGE_BYTES
-    + ROW
     + WINDOW_BYTES
     + NAME_BYTES
     + PIECE

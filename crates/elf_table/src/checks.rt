@@ -7,11 +7,13 @@ ghost use Rattle.elf_table.specs.Tables.{RowsWithin, StringsWithin, size_of};
 
 use crate::fault::Fault;
 use crate::names::Names;
-use crate::ranges::{SHT_DYNSYM, SHT_STRTAB, SHT_SYMTAB, ends_outside};
+use crate::ranges::ends_outside;
 use crate::table::Table;
+use elf_record::numbers::{SHT_DYNSYM, SHT_STRTAB, SHT_SYMTAB};
 use elf_record::{Cause, Refusal, Shdr};
 
-/// The section as a table of rows of `entry` bytes, in a file of `size` bytes. Refusals name `place`.
+/// The section as a table of rows of `entry` bytes, in a file of `size` bytes. Refusals name
+/// `place`.
 pub(crate) fn checked_table(
     header: &Shdr,
     size: u64,
@@ -20,7 +22,8 @@ pub(crate) fn checked_table(
 ) -> Result<Table, Fault>
     requires some { 0 < entry }
     requires small { entry ≤ 4096 }
-    ensures value { (bytes : List ℕ) (at : ℕ) → IsShdr bytes at header.now → result ≡ table_of bytes at size place entry }
+    ensures value { (bytes : List ℕ) (at : ℕ) → IsShdr bytes at header.now →
+        result ≡ table_of bytes at size place entry }
     ensures within { IfOk result (RowsWithin size) }
     ensures entry { IfOk result (λ table. table.entry ≡ entry) }
     ensures sized { IfOk result (λ table. size_of table ≡ header.now.sh_size) }
@@ -42,7 +45,8 @@ pub(crate) fn checked_table(
 
 /// The section as a string table, in a file of `size` bytes. Refusals name `place`.
 pub(crate) fn checked_strings(header: &Shdr, size: u64, place: u64) -> Result<Names, Fault>
-    ensures value { (bytes : List ℕ) (at : ℕ) → IsShdr bytes at header.now → result ≡ strings_of bytes at size place }
+    ensures value { (bytes : List ℕ) (at : ℕ) → IsShdr bytes at header.now →
+        result ≡ strings_of bytes at size place }
     ensures within { IfOk result (StringsWithin size) }
 {
     if header.sh_type != SHT_STRTAB {
@@ -56,7 +60,8 @@ pub(crate) fn checked_strings(header: &Shdr, size: u64, place: u64) -> Result<Na
 
 /// Whether the section holds symbols (gABI 4, Symbol Table).
 pub fn holds_symbols(header: &Shdr) -> bool
-    ensures { (file : List ℕ) (at : ℕ) → IsShdr file at header.now → result ≡ is_symbol_table file at }
+    ensures { (file : List ℕ) (at : ℕ) → IsShdr file at header.now →
+        result ≡ is_symbol_table file at }
 {
     header.sh_type == SHT_SYMTAB || header.sh_type == SHT_DYNSYM
 }

@@ -6,7 +6,7 @@ use thiserror::Error;
 /// Why a file's structure could not be read.
 #[derive(Clone, Copy, Debug, PartialEq, Eq, Error)]
 pub enum Fault {
-    /// The file is refused.
+    /// The file is refused, or a limit has too few bytes left for a read.
     #[error("refused")]
     Refused(Refusal),
     /// The source failed at a read.

@@ -1,10 +1,13 @@
 //! The file header, read and checked.
-ghost use Rattle.std.specs.Prelude.{◌≡◌, ◌+◌, ◌-◌, ◌^◌, ◌≤◌, ℕ, List, Err, min, IfErr, MatchOption};
+ghost use Rattle.std.specs.Prelude.{◌≡◌, ℕ, List, Some, Err, IfErr};
 ghost use Rattle.elf_model.specs.Checks.{first_refusal, length_checks};
-ghost use Rattle.elf_source.specs.Source.{Keeps};
-ghost use Rattle.elf_table.specs.Reading.{FaultBlames, HeaderRead};
+ghost use Rattle.elf_model.specs.declared.causes.Refusal.{Refusal as Refuses};
+ghost use Rattle.elf_source.specs.Source.{Reads};
+ghost use Rattle.elf_table.specs.Faults.{Says, HeaderRead};
+ghost use Rattle.elf_table.specs.Load.{header_cost};
 
 use crate::fault::Fault;
+use crate::filling::fill;
 use elf_record::{Cause, Ehdr, Refusal};
 use elf_source::{Counted, Source};
 
@@ -17,24 +20,21 @@ pub(crate) const HEADER_BYTES: usize = 64;
 /// # Errors
 /// The first check that fails: `TooLong` at the length where it is 2^63 or more, `Short` at the
 /// length where it is below 64, both with nothing read; then those of [`Ehdr::check`]. A fault of
-/// the source names offset 0.
+/// the read names offset 0.
 pub fn header<S: Source>(src: &mut Counted<S>) -> Result<Ehdr, Fault>
-    ensures kept { Keeps S.holds S.size S.failures src.old.source src.new.source }
-    ensures blames { IfErr result (FaultBlames S.holds S.failures src.old.source src.new.source) }
     // One read of 64 bytes, or none where the length refuses the file.
-    ensures asked { MatchOption (first_refusal (length_checks (S.size src.old.source)))
-        (src.new.asked ≡ min (src.old.asked + 64) (2 ^ 128 - 1))
-        (λ refusal. (result ≡ Err (Fault.Refused refusal)) × (src.new ≡ src.old)) }
-    ensures at_most { src.new.asked ≤ src.old.asked + 64 }
-    ensures read { (file : List ℕ) → S.holds src.old.source file → HeaderRead file result }
+    ensures reads { Reads src.old src.new (header_cost src.old.seen.size) }
+    ensures says { IfErr result (Says src.old src.new (header_cost src.old.seen.size)) }
+    ensures unread { (refusal : Refuses) →
+        first_refusal (length_checks src.old.seen.size) ≡ Some refusal →
+        (result ≡ Err (Fault.Refused refusal)) × (src.new ≡ src.old) }
+    ensures read { (file : List ℕ) → src.old.seen.file ≡ Some file → HeaderRead file result }
 {
     if let Some(refusal) = refused_length(src.length()) {
         return Err(Fault::Refused(refusal));
     }
     let mut bytes = [0; HEADER_BYTES];
-    if let Err(fault) = src.fill(0, &mut bytes) {
-        return Err(Fault::Source { fault, at: 0 });
-    }
+    fill(src, 0, &mut bytes)?;
     match Ehdr::check(&bytes) {
         Ok(header) => Ok(header),
         Err(refusal) => Err(Fault::Refused(refusal)),

@@ -1,52 +1,49 @@
 //! The load of a file's section headers.
-ghost use Rattle.std.specs.Prelude.{◌≡◌, ℕ, ◌+◌, ◌*◌, ◌≤◌, List, [], length, None, Some, Err, IfErr, IfOk, OnErr, MatchOption};
+ghost use Rattle.std.specs.Prelude.{◌≡◌, ℕ, ◌+◌, ◌*◌, ◌≤◌, List, length};
+ghost use Rattle.std.specs.Prelude.{None, Some, Err, IfErr, IfSome, MatchOption};
+ghost use Rattle.elf_model.specs.Budget.{IsBudget};
 ghost use Rattle.elf_model.specs.Checks.{first_refusal, section_name_checks};
+ghost use Rattle.elf_model.specs.declared.causes.Refusal.{Refusal as Refuses};
 ghost use Rattle.elf_record.specs.Ehdr.{IsEhdr};
-ghost use Rattle.elf_source.specs.Source.{Keeps};
-ghost use Rattle.elf_table.specs.Load.{early_of, Passes, IsOpened, LoadedAs};
-ghost use Rattle.elf_table.specs.Reading.{FaultBlames};
-ghost use Rattle.elf_table.specs.Store.{Holds};
+ghost use Rattle.elf_source.specs.Source.{Reads};
+ghost use Rattle.elf_table.specs.Faults.{Says};
+ghost use Rattle.elf_table.specs.Load.{early_of, load_cost, Passes, Opens, LoadedAs};
+ghost use Rattle.elf_table.specs.Store.{emptied, Holds};
 
 use crate::fault::Fault;
 use crate::loaded::Loaded;
-use crate::ranges::{PROGRAM_HEADER_BYTES, SECTION_HEADER_BYTES, SHT_STRTAB, ends_outside};
+use crate::ranges::{PROGRAM_HEADER_BYTES, SECTION_HEADER_BYTES, ends_outside};
 use crate::store::HeaderStore;
+use elf_record::numbers::{PN_XNUM, SHN_XINDEX, SHT_STRTAB};
 use elf_record::{Cause, Ehdr, Refusal};
 use elf_source::{Counted, Source};
 
-/// The number of program headers that says that it stands in section 0.
-const PN_XNUM: u16 = 0xffff;
-/// The section index that says that the index of the section names stands in section 0.
-const SHN_XINDEX: u16 = 0xffff;
-
 /// Loads the section headers of a file into the store, each read once, and checks the file header's
-/// counts and places and the section of the section names (gABI 4, ELF Header). `header` is the file's
-/// header. At an error no section header is loaded, and the store may be loaded again.
+/// counts and places and the section of the section names (gABI 4, ELF Header). `header` is the
+/// file's header. At an error no section header is loaded, and the store may be loaded again.
 ///
 /// # Errors
 /// The first check that fails, of the file header's with nothing read: `ExtendedNumbering` at 0x38,
-/// 0x3e or 0x3c; `TooManyHeaders` at 0x3c or 0x38, more headers than the store has slots; `EntrySize`
-/// at 0x3a or 0x36; `TableOutside` at 0x28 or 0x20; `BadLink` at 0x3e. Then of the section of the
-/// section names, where there is one: `NotStrings` and `TableOutside` at its section header. A fault
-/// of the source names the offset that was asked for.
+/// 0x3e or 0x3c; `TooManyHeaders` at 0x3c or 0x38, more headers than the store has slots;
+/// `EntrySize` at 0x3a or 0x36; `TableOutside` at 0x28 or 0x20; `BadLink` at 0x3e. Then of the
+/// section of the section names, where there is one: `NotStrings` and `TableOutside` at its section
+/// header. A fault of a read names the offset that was asked for.
 pub fn load<S: Source>(
     src: &mut Counted<S>,
     store: &mut HeaderStore,
     header: &Ehdr,
 ) -> Result<Loaded, Fault>
     ensures slots { store.new.slots ≡ store.old.slots }
-    ensures loaded { IfOk result (λ loaded. IsOpened loaded (S.size src.old.source) header.now store.new) }
-    ensures passes { IfOk result (λ _. Passes (S.size src.old.source) store.old.slots header.now) }
-    ensures forgotten { OnErr result (store.new.loaded ≡ 0) }
-    ensures kept { Keeps S.holds S.size S.failures src.old.source src.new.source }
-    ensures blames { IfErr result (FaultBlames S.holds S.failures src.old.source src.new.source) }
-    // The section headers, or nothing where the file header refuses the file.
-    ensures asked { MatchOption (first_refusal (early_of header.now (S.size src.old.source) store.old.slots))
-        (src.new.asked ≤ src.old.asked + 64 * header.now.e_shnum)
-        (λ refusal. (result ≡ Err (Fault.Refused refusal)) × (src.new ≡ src.old)) }
-    ensures at_most { src.new.asked ≤ src.old.asked + 64 * header.now.e_shnum }
-    ensures in_slots { src.new.asked ≤ src.old.asked + 64 * store.old.slots }
-    ensures held { (file : List ℕ) → S.holds src.old.source file → IsEhdr file 0 header.now → LoadedAs file result store.new }
+    // The section headers are asked for, or nothing where the file header refuses the file.
+    ensures reads { Reads src.old src.new (load_cost header.now src.old.seen.size store.old.slots) }
+    ensures says { IfErr result
+        (Says src.old src.new (load_cost header.now src.old.seen.size store.old.slots)) }
+    ensures early { (refusal : Refuses) →
+        first_refusal (early_of header.now src.old.seen.size store.old.slots) ≡ Some refusal →
+        (result ≡ Err (Fault.Refused refusal)) × (src.new ≡ src.old) }
+    ensures opens { Opens src.old.seen.size header.now store.new result }
+    ensures held { (file : List ℕ) → src.old.seen.file ≡ Some file → IsEhdr file 0 header.now →
+        LoadedAs file result store.new }
 {
     store.forget();
     let size = src.length();
@@ -60,8 +57,8 @@ pub fn load<S: Source>(
     Ok(Loaded::new(size, header))
 }
 
-/// The first check that fails before the section headers are read, with as many headers permitted as
-/// the store has slots.
+/// The first check that fails before the section headers are read, with as many headers permitted
+/// as the store has slots.
 fn refused_unread(store: &HeaderStore, header: &Ehdr, size: u64) -> Option<Refusal>
     ensures refusal { result ≡ first_refusal (early_of header.now size store.now.slots) }
     ensures passes { MatchOption result (Passes size store.now.slots header.now) (λ _. Unit {0}) }
@@ -71,14 +68,15 @@ fn refused_unread(store: &HeaderStore, header: &Ehdr, size: u64) -> Option<Refus
     refused_early(header, size, headers)
 }
 
-/// The first check that fails once the section headers are loaded, as [`refused_names`] answers it; with
-/// a refusal no section header stays loaded.
+/// The first check that fails once the section headers are loaded, as [`refused_names`] answers it;
+/// with a refusal no section header stays loaded.
 fn refused_late(store: &mut HeaderStore, header: &Ehdr, size: u64) -> Option<Refusal>
     requires passes { Passes size store.old.slots header.now }
     requires count { store.old.loaded ≡ header.now.e_shnum }
-    ensures kept { MatchOption result (store.new ≡ store.old) (λ _. store.new ≡ record { slots = store.old.slots; loaded = 0; rows = [] }) }
-    ensures held { (file : List ℕ) → length file ≡ size → IsEhdr file 0 header.now → Holds file store.old
-        → result ≡ first_refusal (section_name_checks file) }
+    ensures kept { MatchOption result (store.new ≡ store.old) (λ _. store.new ≡ emptied store.old) }
+    ensures checked { IfSome result (λ refusal. IsBudget refusal → ⊥) }
+    ensures held { (file : List ℕ) → length file ≡ size → IsEhdr file 0 header.now →
+        Holds file store.old → result ≡ first_refusal (section_name_checks file) }
 {
     let refusal = refused_names(store, header, size);
     if refusal.is_some() {
@@ -87,13 +85,14 @@ fn refused_late(store: &mut HeaderStore, header: &Ehdr, size: u64) -> Option<Ref
     refusal
 }
 
-/// The first check of the section of the section names that fails; none where there is no such section
-/// (gABI 4, String Table).
+/// The first check of the section of the section names that fails; none where there is no such
+/// section (gABI 4, String Table).
 fn refused_names(store: &HeaderStore, header: &Ehdr, size: u64) -> Option<Refusal>
     requires passes { Passes size store.now.slots header.now }
     requires count { store.now.loaded ≡ header.now.e_shnum }
-    ensures { (file : List ℕ) → length file ≡ size → IsEhdr file 0 header.now → Holds file store.now
-        → result ≡ first_refusal (section_name_checks file) }
+    ensures checked { IfSome result (λ refusal. IsBudget refusal → ⊥) }
+    ensures held { (file : List ℕ) → length file ≡ size → IsEhdr file 0 header.now →
+        Holds file store.now → result ≡ first_refusal (section_name_checks file) }
 {
     if header.e_shnum == 0 || header.e_shstrndx == 0 {
         return None;
@@ -109,8 +108,8 @@ fn refused_names(store: &HeaderStore, header: &Ehdr, size: u64) -> Option<Refusa
     None
 }
 
-/// The first check before the section headers are read that fails, in a file of `size` bytes and with
-/// so many headers permitted (gABI 4, ELF Header).
+/// The first check before the section headers are read that fails, in a file of `size` bytes and
+/// with so many headers permitted (gABI 4, ELF Header).
 fn refused_early(header: &Ehdr, size: u64, headers: u16) -> Option<Refusal>
     ensures refusal { result ≡ first_refusal (early_of header.now size headers) }
     ensures passes { MatchOption result (Passes size headers header.now) (λ _. Unit {0}) }

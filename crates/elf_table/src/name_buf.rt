@@ -1,6 +1,7 @@
 //! A buffer for the bytes of a name.
 ghost use Rattle.std.specs.Prelude.{◌≡◌, ◌≤◌, [], ◌++◌, length, take};
 
+use crate::caps::Cap;
 use std::marker::Model;
 
 /// The size of the buffer in bytes.
@@ -50,12 +51,11 @@ impl NameBuf {
     }
 
     /// Adds `bytes` at the end, as far as the name then has no more than `cap` bytes.
-    pub fn add(&mut self, bytes: &[u8], cap: u16)
-        requires most { cap ≤ 4096 }
-        requires within { length self.old ≤ cap }
-        ensures { self.new ≡ take cap (self.old ++ bytes.now) }
+    pub fn add(&mut self, bytes: &[u8], cap: Cap)
+        requires { length self.old ≤ cap.bytes }
+        ensures { self.new ≡ take cap.bytes (self.old ++ bytes.now) }
     {
-        let room = cap as usize - self.len;
+        let room = cap.bytes as usize - self.len;
         let count = bytes.len().min(room);
         let end = self.len + count;
         self.bytes[self.len..end].copy_from_slice(&bytes[..count]);

@@ -1,15 +1,16 @@
 //! Names in a string table.
-ghost use Rattle.std.specs.Prelude.{◌≡◌, ◌≢◌, ℕ, ◌+◌, ◌-◌, ◌^◌, ◌<◌, ◌≤◌, List, [], length, slice_index, IfErr, MatchBool};
+ghost use Rattle.std.specs.Prelude.{◌≡◌, ◌≢◌, ℕ, ◌+◌, ◌-◌, ◌^◌, ◌<◌, ◌≤◌, List, [], length, slice_index, Some, IfErr, MatchBool};
 ghost use Rattle.elf_model.specs.Bytes.{slice};
 ghost use Rattle.elf_model.specs.Names.{shown, same, pad64, name_bytes};
-ghost use Rattle.elf_source.specs.Source.{Keeps};
-ghost use Rattle.elf_table.specs.Reading.{FaultBlames, IsSourceFault};
-ghost use Rattle.elf_table.specs.Tables.{StringsWithin};
-ghost use Rattle.elf_table.specs.NamesRead.{NameRead, Compared, Searched, Matched, SameBelow, DifferBelow};
+ghost use Rattle.elf_source.specs.Source.{Reads};
+ghost use Rattle.elf_table.specs.Faults.{IsOfRead, Says};
+ghost use Rattle.elf_table.specs.NamesRead.{NameRead, Compared, Searched, Matched};
+ghost use Rattle.elf_table.specs.Tables.{StringsWithin, strings_in};
 
+use crate::caps::Cap;
 use crate::fault::Fault;
-use crate::filling::fill;
 use crate::name_buf::NameBuf;
+use crate::window::Window;
 use elf_record::{Cause, Refusal};
 use elf_source::{Counted, Source};
 use memchr::memchr;
@@ -69,23 +70,22 @@ impl Names {
     /// # Errors
     /// Refused at `at`, the offset of the entry that holds the index: `NameOutside` where the index is
     /// not below the table's size, `NameUnended` where no more than `cap` bytes are left and none is a
-    /// NUL. Else a fault of the source.
+    /// NUL; `Budget`, only where a limit is set, at the offset of the piece that it has no room for.
+    /// Else a fault of the source.
     pub fn read<S: Source>(
         &self,
         src: &mut Counted<S>,
         off: u64,
         at: u64,
-        cap: u16,
+        cap: Cap,
         name: &mut NameBuf,
     ) -> Result<NameEnd, Fault>
-        requires some { 1 ≤ cap }
-        requires most { cap ≤ 4096 }
-        requires within { StringsWithin (S.size src.old.source) self.now }
-        ensures kept { Keeps S.holds S.size S.failures src.old.source src.new.source }
-        ensures blames { IfErr result (FaultBlames S.holds S.failures src.old.source src.new.source) }
-        ensures at_most { src.new.asked ≤ src.old.asked + name_bytes cap }
+        requires { StringsWithin src.old.seen.size self.now }
+        ensures reads { Reads src.old src.new (name_bytes cap.bytes) }
+        ensures says { IfErr result (Says src.old src.new (name_bytes cap.bytes)) }
         ensures not_past { src.new.asked ≤ src.old.asked + (self.now.size - off) }
-        ensures read { (file : List ℕ) → S.holds src.old.source file → NameRead at result name.new (shown (slice file self.now.at self.now.size) off cap) }
+        ensures read { (file : List ℕ) → src.old.seen.file ≡ Some file →
+            NameRead at result name.new (shown (strings_in file self.now) off cap.bytes) }
     {
         name.clear();
         if self.size == 0 && off == 0 {
@@ -95,11 +95,11 @@ impl Names {
             return Err(refused(at, Cause::NameOutside));
         }
         let left = self.size - off;
-        let want = left.min(u64::from(cap) + 1);
+        let want = left.min(u64::from(cap.bytes) + 1);
         if search(src, self.at + off, want, cap, name)? {
             return Ok(NameEnd::Whole);
         }
-        if left > u64::from(cap) {
+        if left > u64::from(cap.bytes) {
             return Ok(NameEnd::Cut);
         }
         Err(refused(at, Cause::NameUnended))
@@ -112,7 +112,8 @@ impl Names {
     /// # Errors
     /// Refused at `at`, the offset of the entry that holds the index: `NameOutside` where the index is
     /// not below the table's size, `NameUnended` where the table ends before the name and its NUL, with
-    /// all bytes equal so far. Else a fault of the source.
+    /// all bytes equal so far; `Budget`, only where a limit is set, at the offset of the piece that it
+    /// has no room for. Else a fault of the source.
     pub fn equals<S: Source>(
         &self,
         src: &mut Counted<S>,
@@ -121,12 +122,12 @@ impl Names {
         wanted: &[u8],
     ) -> Result<bool, Fault>
         requires most { length wanted.now ≤ 4096 }
-        requires within { StringsWithin (S.size src.old.source) self.now }
-        ensures kept { Keeps S.holds S.size S.failures src.old.source src.new.source }
-        ensures blames { IfErr result (FaultBlames S.holds S.failures src.old.source src.new.source) }
-        ensures at_most { src.new.asked ≤ src.old.asked + pad64 (length wanted.now + 1) }
+        requires within { StringsWithin src.old.seen.size self.now }
+        ensures reads { Reads src.old src.new (pad64 (length wanted.now + 1)) }
+        ensures says { IfErr result (Says src.old src.new (pad64 (length wanted.now + 1))) }
         ensures not_past { src.new.asked ≤ src.old.asked + (self.now.size - off) }
-        ensures compared { (file : List ℕ) → S.holds src.old.source file → Compared at result (same (slice file self.now.at self.now.size) off wanted.now) }
+        ensures compared { (file : List ℕ) → src.old.seen.file ≡ Some file →
+            Compared at result (same (strings_in file self.now) off wanted.now) }
     {
         if self.size == 0 && off == 0 {
             return Ok(false);
@@ -159,31 +160,31 @@ fn search<S: Source>(
     src: &mut Counted<S>,
     start: u64,
     want: u64,
-    cap: u16,
+    cap: Cap,
     name: &mut NameBuf,
 ) -> Result<bool, Fault>
-    requires most { cap ≤ 4096 }
     requires empty { name.old ≡ [] }
     requires ends { start + want < 2 ^ 64 }
-    requires within { start + want ≤ S.size src.old.source }
-    ensures kept { Keeps S.holds S.size S.failures src.old.source src.new.source }
-    ensures blames { IfErr result (FaultBlames S.holds S.failures src.old.source src.new.source) }
-    ensures fault { IfErr result IsSourceFault }
-    ensures asked { src.new.asked ≤ src.old.asked + want }
-    ensures searched { (file : List ℕ) → S.holds src.old.source file → Searched (slice file start want) cap result name.new }
+    requires within { start + want ≤ src.old.seen.size }
+    ensures reads { Reads src.old src.new want }
+    ensures says { IfErr result (Says src.old src.new want) }
+    ensures fault { IfErr result IsOfRead }
+    ensures searched { (file : List ℕ) → src.old.seen.file ≡ Some file →
+        Searched (slice file start want) cap.bytes result name.new }
 {
-    let mut bytes = [0; PIECE];
+    let mut window: Window<PIECE> = Window::new(start, want, PIECE as u64);
     let mut done: u64 = 0;
     while done < want {
-        let count = (want - done).min(PIECE as u64) as usize;
-        let piece = &mut bytes[..count];
-        fill(src, start + done, piece)?;
+        window.bring(src, 1)?;
+        let piece = window.front();
+        let count = piece.len() as u64;
         if let Some(place) = memchr(0, piece) {
             name.add(&piece[..place], cap);
             return Ok(true);
         }
         name.add(piece, cap);
-        done += count as u64;
+        window.skip(count);
+        done += count;
     }
     Ok(false)
 }
@@ -198,23 +199,24 @@ fn matches<S: Source>(
 ) -> Result<bool, Fault>
     requires most { want ≤ length wanted.now + 1 }
     requires ends { start + want < 2 ^ 64 }
-    requires within { start + want ≤ S.size src.old.source }
-    ensures kept { Keeps S.holds S.size S.failures src.old.source src.new.source }
-    ensures blames { IfErr result (FaultBlames S.holds S.failures src.old.source src.new.source) }
-    ensures fault { IfErr result IsSourceFault }
-    ensures asked { src.new.asked ≤ src.old.asked + want }
-    ensures matched { (file : List ℕ) → S.holds src.old.source file → Matched (slice file start want) wanted.now result }
+    requires within { start + want ≤ src.old.seen.size }
+    ensures reads { Reads src.old src.new want }
+    ensures says { IfErr result (Says src.old src.new want) }
+    ensures fault { IfErr result IsOfRead }
+    ensures matched { (file : List ℕ) → src.old.seen.file ≡ Some file →
+        Matched (slice file start want) wanted.now result }
 {
-    let mut bytes = [0; PIECE];
+    let mut window: Window<PIECE> = Window::new(start, want, PIECE as u64);
     let mut done: u64 = 0;
     while done < want {
-        let count = (want - done).min(PIECE as u64) as usize;
-        let piece = &mut bytes[..count];
-        fill(src, start + done, piece)?;
+        window.bring(src, 1)?;
+        let piece = window.front();
+        let count = piece.len() as u64;
         if !agrees(piece, wanted, done as usize) {
             return Ok(false);
         }
-        done += count as u64;
+        window.skip(count);
+        done += count;
     }
     Ok(true)
 }
@@ -223,8 +225,10 @@ fn matches<S: Source>(
 fn agrees(piece: &[u8], wanted: &[u8], done: usize) -> bool
     requires { done + length piece.now < 2 ^ 64 }
     ensures { MatchBool result
-        ((k : ℕ) → k < length piece.now → slice_index piece.now k ≡ slice_index wanted.now (done + k))
-        ((k : ℕ) × (k < length piece.now) × (slice_index piece.now k ≢ slice_index wanted.now (done + k))) }
+        ((k : ℕ) → k < length piece.now →
+        slice_index piece.now k ≡ slice_index wanted.now (done + k))
+        ((k : ℕ) × (k < length piece.now)
+        × (slice_index piece.now k ≢ slice_index wanted.now (done + k))) }
 {
     for (i, byte) in piece.iter().enumerate() {
         if *byte != byte_or_nul(wanted, done + i) {

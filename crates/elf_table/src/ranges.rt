@@ -10,12 +10,6 @@ pub(crate) const PROGRAM_HEADER_BYTES: u64 = 56;
 pub(crate) const SYMBOL_BYTES: u64 = 24;
 /// The size of a relocation entry with an addend in bytes.
 pub(crate) const RELOCATION_BYTES: u64 = 24;
-/// The section type of a symbol table.
-pub(crate) const SHT_SYMTAB: u32 = 2;
-/// The section type of a string table.
-pub(crate) const SHT_STRTAB: u32 = 3;
-/// The section type of a symbol table for dynamic linking.
-pub(crate) const SHT_DYNSYM: u32 = 11;
 
 /// Whether `bytes` bytes from `offset` on end past a file of `size` bytes.
 pub(crate) fn ends_outside(size: u64, offset: u64, bytes: u64) -> bool

@@ -1,35 +1,48 @@
 //! The store of section headers: the one thing here that takes memory.
-ghost use Rattle.std.specs.Prelude.{◌≡◌, ℕ, ◌+◌, ◌*◌, ◌^◌, if◌then◌else◌, is_ok, ◌<◌, ◌≤◌, List, [], IfOk, IfErr, OnOk};
+ghost use Rattle.std.specs.Prelude.{◌≡◌, ℕ, ◌+◌, ◌*◌, ◌^◌, if◌then◌else◌, is_ok, ◌<◌, ◌≤◌};
+ghost use Rattle.std.specs.Prelude.{List, [], Some, length, take, IfOk, IfErr, OnOk};
+ghost use Rattle.elf_model.specs.Bytes.{slice};
 ghost use Rattle.elf_model.specs.Records.{section_at};
 ghost use Rattle.elf_record.specs.Shdr.{IsShdr};
-ghost use Rattle.elf_source.specs.Source.{Keeps};
-ghost use Rattle.elf_table.specs.Reading.{FaultBlames, IsSourceFault};
-ghost use Rattle.elf_table.specs.Store.{row, AreRows, Holds};
+ghost use Rattle.elf_source.specs.Source.{Reads};
+ghost use Rattle.elf_table.specs.Faults.{Says, IsOfRead};
+ghost use Rattle.elf_table.specs.Store.{emptied, row, AreRows, Holds};
 
 use crate::fault::Fault;
-use crate::rows::read_rows;
+use crate::filling::fill;
 use elf_record::Shdr;
-use elf_source::{Counted, Source};
+use elf_source::{Counted, READ_BYTES, Source};
 use std::alloc::{AllocError, Global};
 use std::marker::Model;
+
+/// The size of a section header in bytes.
+const HEADER_BYTES: usize = 64;
 
 /// Room for the section headers of one file, 64 bytes each. The room is taken once, when the store
 /// is made.
 #[derive(Drop)]
 pub struct HeaderStore {
-    slots: Vec<[u8; 64]>,
+    bytes: Vec<u8>,
+    slots: u16,
     loaded: u16,
 }
 
 impl Model for HeaderStore {
-    ghost use Rattle.std.specs.Prelude.{◌≤◌, take, vec_len};
+    ghost use Rattle.std.specs.Prelude.{◌≡◌, ◌*◌, ◌≤◌, vec_len};
+    ghost use Rattle.elf_table.specs.Cursors.{rows_from};
     ghost use Rattle.elf_table.specs.Store.{Stored};
 
     ghost Value = { Stored };
 
-    ghost view = { λ s. record { slots = vec_len s.slots; loaded = s.loaded; rows = take s.loaded s.slots.items } };
+    ghost view = { λ s. record {
+      slots = s.slots;
+      loaded = s.loaded;
+      rows = rows_from s.bytes.items 0 64 s.loaded;
+    } };
 
-    ghost invariant = { λ s. (s.loaded ≤ vec_len s.slots) × (1 ≤ vec_len s.slots) × (vec_len s.slots ≤ 65279) };
+    ghost invariant = { λ s.
+        (vec_len s.bytes ≡ 64 * s.slots) × (s.loaded ≤ s.slots)
+        × (1 ≤ s.slots) × (s.slots ≤ 65279) };
 }
 
 impl HeaderStore {
@@ -42,8 +55,12 @@ impl HeaderStore {
         requires permitted { headers ≤ 65279 }
         ensures { IfOk result (λ store. store ≡ record { slots = headers; loaded = 0; rows = [] }) }
     {
-        let slots = vec![in alloc; [0u8; 64]; headers as usize]?;
-        Ok(HeaderStore { slots, loaded: 0 })
+        let bytes = vec![in alloc; 0u8; HEADER_BYTES * headers as usize]?;
+        Ok(HeaderStore {
+            bytes,
+            slots: headers,
+            loaded: 0,
+        })
     }
 
     /// The number of slots, 1 to 65,279. No call changes it.
@@ -52,14 +69,14 @@ impl HeaderStore {
         ensures some { 1 ≤ self.now.slots }
         ensures permitted { self.now.slots ≤ 65279 }
     {
-        self.slots.len() as u16
+        self.slots
     }
 
     /// The size of the slots in bytes, 64 each.
     pub fn bytes(&self) -> u64
         ensures { result ≡ 64 * self.now.slots }
     {
-        64 * self.slots.len() as u64
+        64 * u64::from(self.slots)
     }
 
     /// The number of section headers that are loaded, at most [`HeaderStore::slots`].
@@ -75,7 +92,8 @@ impl HeaderStore {
     pub fn section(&self, i: u16) -> Shdr
         requires { i < self.now.loaded }
         ensures fields { IsShdr (row self.now i) 0 result }
-        ensures stands { (file : List ℕ) → Holds file self.now → IsShdr file (section_at file i) result }
+        ensures stands { (file : List ℕ) → Holds file self.now →
+            IsShdr file (section_at file i) result }
     {
         Shdr::decode(self.row(i))
     }
@@ -85,7 +103,8 @@ impl HeaderStore {
         requires { i < self.now.loaded }
         ensures { result.now ≡ row self.now i }
     {
-        &self.slots[i as usize]
+        let first = HEADER_BYTES * i as usize;
+        whole(&self.bytes[first..first + HEADER_BYTES])
     }
 
     /// Loads the section headers of a file, `count` of them from the offset `from` on; at a fault
@@ -97,26 +116,59 @@ impl HeaderStore {
         from: u64,
     ) -> Result<(), Fault>
         requires room { count ≤ self.old.slots }
-        requires within { from + 64 * count ≤ S.size src.old.source }
+        requires within { from + 64 * count ≤ src.old.seen.size }
         requires fits { from + 64 * count < 2 ^ 64 }
         ensures slots { self.new.slots ≡ self.old.slots }
         ensures loaded { self.new.loaded ≡ (if is_ok result then count else 0) }
-        ensures kept { Keeps S.holds S.size S.failures src.old.source src.new.source }
-        ensures blames { IfErr result (FaultBlames S.holds S.failures src.old.source src.new.source) }
-        ensures asked { src.new.asked ≤ src.old.asked + 64 * count }
-        ensures fault { IfErr result IsSourceFault }
-        ensures rows { (file : List ℕ) → S.holds src.old.source file → OnOk result (AreRows file from count self.new.rows) }
+        ensures reads { Reads src.old src.new (64 * count) }
+        ensures says { IfErr result (Says src.old src.new (64 * count)) }
+        ensures fault { IfErr result IsOfRead }
+        ensures rows { (file : List ℕ) → src.old.seen.file ≡ Some file →
+            OnOk result (AreRows file from count self.new.rows) }
     {
         self.forget();
-        read_rows(src, &mut self.slots, count as usize, from)?;
+        read_front(src, &mut self.bytes, HEADER_BYTES * count as usize, from)?;
         self.loaded = count;
         Ok(())
     }
 
     /// Lets go of the section headers that are loaded.
     pub(crate) fn forget(&mut self)
-        ensures { self.new ≡ record { slots = self.old.slots; loaded = 0; rows = [] } }
+        ensures { self.new ≡ emptied self.old }
     {
         self.loaded = 0;
     }
+}
+
+/// Reads the bytes from the offset `from` on into the first of `bytes`, so many.
+fn read_front<S: Source>(
+    src: &mut Counted<S>,
+    bytes: &mut [u8],
+    size: usize,
+    from: u64,
+) -> Result<(), Fault>
+    requires room { size ≤ length bytes.old }
+    requires within { from + size ≤ src.old.seen.size }
+    requires fits { from + size < 2 ^ 64 }
+    ensures reads { Reads src.old src.new size }
+    ensures says { IfErr result (Says src.old src.new size) }
+    ensures fault { IfErr result IsOfRead }
+    ensures read { (file : List ℕ) → src.old.seen.file ≡ Some file →
+        OnOk result (take size bytes.new ≡ slice file from size) }
+{
+    let mut done = 0;
+    while done < size {
+        let count = READ_BYTES.min(size - done);
+        fill(src, from + done as u64, &mut bytes[done..done + count])?;
+        done += count;
+    }
+    Ok(())
+}
+
+/// The bytes as an array.
+fn whole<const N: usize>(bytes: &[u8]) -> &[u8; N]
+    requires { length bytes.now ≡ N }
+    ensures { result.now ≡ bytes.now }
+{
+    bytes.first_chunk().unwrap()
 }

@@ -1,9 +1,10 @@
 //! A table of rows of one size.
-ghost use Rattle.std.specs.Prelude.{◌≡◌, ◌↔◌, ℕ, ◌+◌, ◌*◌, ◌^◌, ◌<◌, ◌≤◌, List, IsTrue, IfOk, IfErr};
+ghost use Rattle.std.specs.Prelude.{◌≡◌, ◌↔◌, ℕ, ◌+◌, ◌*◌, ◌^◌, ◌<◌, ◌≤◌};
+ghost use Rattle.std.specs.Prelude.{List, Some, IsTrue, IfOk, IfErr};
 ghost use Rattle.elf_record.specs.Sym.{IsSym};
-ghost use Rattle.elf_source.specs.Source.{Keeps};
-ghost use Rattle.elf_table.specs.Cursors.{IsFaultAt, row_at};
-ghost use Rattle.elf_table.specs.Reading.{FaultBlames};
+ghost use Rattle.elf_source.specs.Source.{Reads};
+ghost use Rattle.elf_table.specs.Cursors.{row_at};
+ghost use Rattle.elf_table.specs.Faults.{Says, IsAt};
 ghost use Rattle.elf_table.specs.Tables.{RowsWithin};
 
 use crate::fault::Fault;
@@ -28,18 +29,19 @@ impl Model for Table {
 
     ghost view = { λ t. record { at = t.at; count = t.count; entry = t.entry } };
 
-    ghost invariant = { λ t. (0 < t.entry) × (t.entry ≤ 4096) × (t.at + t.count * t.entry < 2 ^ 64) };
+    ghost invariant = { λ t.
+        (0 < t.entry) × (t.entry ≤ 4096) × (t.at + t.count * t.entry < 2 ^ 64) };
 
     ghost inverse = { λ t. record { at = t.at; count = t.count; entry = t.entry } };
 }
 
 impl Table {
-    /// A table of `count` rows of `entry` bytes each, 1 to 4,096, from the file offset `at` on. Its end
-    /// `at + count * entry` is an offset below 2^64.
+    /// A table of `count` rows of `entry` bytes each, 1 to 4,096, from the file offset `at` on. Its
+    /// end `at + count * entry` is an offset below 2^64.
     ///
     /// No file is looked at, and the table has had no check: it may lie past the end of a file. The
-    /// calls that read through it, [`Table::symbol`] and those of a `Cursor` over it, have the condition
-    /// that a table with rows ends at or below the source's length.
+    /// calls that read through it, [`Table::symbol`] and those of a `Cursor` over it, have the
+    /// condition that a table with rows ends at or below the source's length.
     pub fn new(at: u64, count: u64, entry: u64) -> Table
         requires some { 0 < entry }
         requires small { entry ≤ 4096 }
@@ -92,16 +94,16 @@ impl Table {
     /// (gABI 4, Symbol Table): one read of 24 bytes.
     ///
     /// # Errors
-    /// A fault of the source, at the symbol's offset.
+    /// A fault of the read, at the symbol's offset.
     pub fn symbol<S: Source>(&self, src: &mut Counted<S>, index: u64) -> Result<Sym, Fault>
         requires rows { self.now.entry ≡ 24 }
         requires below { index < self.now.count }
-        requires within { RowsWithin (S.size src.old.source) self.now }
-        ensures kept { Keeps S.holds S.size S.failures src.old.source src.new.source }
-        ensures blames { IfErr result (FaultBlames S.holds S.failures src.old.source src.new.source) }
-        ensures at { IfErr result (IsFaultAt (row_at self.now index)) }
-        ensures asked { src.new.asked ≤ src.old.asked + 24 }
-        ensures read { (file : List ℕ) → S.holds src.old.source file → IfOk result (IsSym file (row_at self.now index)) }
+        requires within { RowsWithin src.old.seen.size self.now }
+        ensures reads { Reads src.old src.new 24 }
+        ensures says { IfErr result (Says src.old src.new 24) }
+        ensures at { IfErr result (IsAt (row_at self.now index)) }
+        ensures read { (file : List ℕ) → src.old.seen.file ≡ Some file →
+            IfOk result (IsSym file (row_at self.now index)) }
     {
         let mut bytes = [0; 24];
         fill(src, self.place(index), &mut bytes)?;

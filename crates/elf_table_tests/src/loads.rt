@@ -1,39 +1,13 @@
 //! What no clause says: that the store can be made, and the answers at files with known ones.
 ghost use Rattle.std.specs.Prelude.{◌≡◌};
 
+use crate::fakes::{Ending, Planned};
 use crate::fixtures::{FIVE_SECTIONS, ONE_SYMBOL_TABLE, refused};
-use crate::tables::Planned;
 use elf_record::{Cause, Ehdr, Shdr};
 use elf_source::{Counted, MemorySource, Source, SourceFault};
-use elf_table::{Fault, HeaderStore, Loaded, Names, Table, header, load};
+use elf_table::{Fault, File, HeaderStore, Loaded, Names, Table, header, load};
 use std::process::Abort;
 use std::test::Fail;
-
-/// A source that is never honest: it has a length, and each read ends.
-#[derive(Drop)]
-struct Ending {
-    length: u64,
-}
-
-impl Source for Ending {
-    ghost use Rattle.std.specs.Prelude.{◌≡◌};
-
-    ghost holds = { λ _ _. ⊥ };
-
-    ghost failures = { λ _. 0 };
-
-    ghost size = { λ s. s.length };
-
-    fn length(&self) -> u64 {
-        self.length
-    }
-
-    fn fill(&mut self, _at: u64, _out: &mut [u8]) -> Result<(), SourceFault> {
-        Err(SourceFault::Ended)
-    }
-
-    ghost sized = { λ s file h. absurd h };
-}
 
 /// Reads the header and loads the section headers, and says how many bytes were asked for.
 fn run(file: &[u8], store: &mut HeaderStore) -> (Result<Loaded, Fault>, u128) {
@@ -43,11 +17,17 @@ fn run(file: &[u8], store: &mut HeaderStore) -> (Result<Loaded, Fault>, u128) {
 /// The same over any source.
 fn run_over<S: Source + Drop>(source: S, store: &mut HeaderStore) -> (Result<Loaded, Fault>, u128) {
     let mut src = Counted::new(source);
-    let answer = match header(&mut src) {
-        Ok(header) => load(&mut src, store, &header),
-        Err(fault) => Err(fault),
-    };
+    let answer = open(&mut src, store);
     (answer, src.asked())
+}
+
+/// Reads the header and loads the section headers.
+pub(crate) fn open<S: Source>(
+    src: &mut Counted<S>,
+    store: &mut HeaderStore,
+) -> Result<Loaded, Fault> {
+    let header = header(src)?;
+    load(src, store, &header)
 }
 
 /// Loads a file that has to pass the checks, and says how many bytes were asked for.
@@ -64,15 +44,14 @@ fn section(store: &HeaderStore, i: u16, rt: &impl Abort) -> Shdr {
 }
 
 /// Loads a file of three section headers, which has to pass the checks.
-fn three_sections(file: &[u8], store: &mut HeaderStore, rt: &impl Abort) -> Loaded
-    ensures stored { store.new.loaded ≡ 3 }
-    ensures counted { result.header.e_shnum ≡ 3 }
+fn three_sections<'a>(file: &[u8], store: &'a mut HeaderStore, rt: &impl Abort) -> File<'a>
+    ensures { result.loaded.header.e_shnum ≡ 3 }
 {
     let mut src = Counted::new(MemorySource::new(file));
     let header = header(&mut src).expect(rt, "a header");
     let loaded = load(&mut src, store, &header).expect(rt, "a file that passes");
     assert!(rt; loaded.header().e_shnum == 3);
-    loaded
+    File { loaded, store }
 }
 
 /// The file with one symbol table, whose section 2 has the section names and a link to section 1.
@@ -199,7 +178,7 @@ fn a_store_of_any_size_can_be_made(rt: HostRuntime) -> Result<(), Fail> {
 }
 
 /// A file of 65 section headers, one more than a page has.
-fn two_pages() -> [u8; 64 + 64 * 65] {
+pub(crate) fn two_pages() -> [u8; 64 + 64 * 65] {
     let mut file = [0; 64 + 64 * 65];
     file[..64].copy_from_slice(&FIVE_SECTIONS[..64]);
     file[0x3c] = 65;
@@ -222,52 +201,52 @@ fn rows_behind_the_first_page_are_loaded(rt: HostRuntime) -> Result<(), Fail> {
 #[test]
 fn tables_are_checked_by_their_section(rt: HostRuntime) -> Result<(), Fail> {
     let mut store = HeaderStore::new(rt.alloc(), 3)?;
-    let loaded = three_sections(&linked_file(), &mut store, &rt);
+    let file = three_sections(&linked_file(), &mut store, &rt);
     let (symbols, _names) = symbols_and_names();
     let none = Table::new(0, 0, 16);
-    assert!(rt; loaded.table(&store, 1, 24) == Ok(symbols));
-    assert!(rt; loaded.table(&store, 1, 16) == refused(0xb8, Cause::EntrySize));
-    assert!(rt; loaded.table(&store, 0, 16) == Ok(none));
-    assert!(rt; loaded.segments().is_empty());
+    assert!(rt; file.table(1, 24) == Ok(symbols));
+    assert!(rt; file.table(1, 16) == refused(0xb8, Cause::EntrySize));
+    assert!(rt; file.table(0, 16) == Ok(none));
+    assert!(rt; file.segments().is_empty());
     Ok(())
 }
 
 #[test]
 fn strings_are_checked_by_their_section(rt: HostRuntime) -> Result<(), Fail> {
     let mut store = HeaderStore::new(rt.alloc(), 3)?;
-    let loaded = three_sections(&linked_file(), &mut store, &rt);
+    let file = three_sections(&linked_file(), &mut store, &rt);
     let (_symbols, names) = symbols_and_names();
-    assert!(rt; loaded.strings(&store, 1) == Ok(names));
-    assert!(rt; loaded.strings(&store, 0) == refused(0x78, Cause::BadLink));
-    assert!(rt; loaded.strings(&store, 2) == refused(0xb8, Cause::NotStrings));
-    assert!(rt; loaded.names(&store) == Some(names));
+    assert!(rt; file.strings(1) == Ok(names));
+    assert!(rt; file.strings(0) == refused(0x78, Cause::BadLink));
+    assert!(rt; file.strings(2) == refused(0xb8, Cause::NotStrings));
+    assert!(rt; file.names() == Some(names));
     Ok(())
 }
 
 #[test]
 fn symbols_come_with_their_names(rt: HostRuntime) -> Result<(), Fail> {
     let mut store = HeaderStore::new(rt.alloc(), 3)?;
-    let loaded = three_sections(&linked_file(), &mut store, &rt);
+    let file = three_sections(&linked_file(), &mut store, &rt);
     let (symbols, names) = symbols_and_names();
-    assert!(rt; loaded.symbols(&store, 1) == Ok((symbols, names)));
-    assert!(rt; loaded.linked(&store, 2) == Ok(Some((symbols, names))));
-    assert!(rt; loaded.linked(&store, 0) == Ok(None));
+    assert!(rt; file.symbols(1) == Ok((symbols, names)));
+    assert!(rt; file.linked(2) == Ok(Some((symbols, names))));
+    assert!(rt; file.linked(0) == Ok(None));
     Ok(())
 }
 
 #[test]
 fn ranges_are_whole_numbers(rt: HostRuntime) -> Result<(), Fail> {
     let mut store = HeaderStore::new(rt.alloc(), 3)?;
-    let mut file = ONE_SYMBOL_TABLE;
+    let mut bytes = ONE_SYMBOL_TABLE;
     // Section 1 at 2^64 - 8, of 24 bytes.
-    file[0xd0..0xd8].copy_from_slice(&(u64::MAX - 7).to_le_bytes());
-    file[0xd8] = 24;
-    let loaded = three_sections(&file, &mut store, &rt);
+    bytes[0xd0..0xd8].copy_from_slice(&(u64::MAX - 7).to_le_bytes());
+    bytes[0xd8] = 24;
+    let file = three_sections(&bytes, &mut store, &rt);
     let outside = refused(9, Cause::TableOutside);
-    let symbols = loaded.symbols(&store, 1);
+    let symbols = file.symbols(1);
     assert!(rt; symbols == refused(0xb8, Cause::TableOutside));
-    assert!(rt; loaded.bytes(0x70, 6, 9) == Ok(Table::new(0x70, 6, 1)));
-    assert!(rt; loaded.bytes(u64::MAX, 6, 9) == outside);
-    assert!(rt; loaded.bytes(u64::MAX, 0, 9) == Ok(Table::new(u64::MAX, 0, 1)));
+    assert!(rt; file.bytes(0x70, 6, 9) == Ok(Table::new(0x70, 6, 1)));
+    assert!(rt; file.bytes(u64::MAX, 6, 9) == outside);
+    assert!(rt; file.bytes(u64::MAX, 0, 9) == Ok(Table::new(u64::MAX, 0, 1)));
     Ok(())
 }

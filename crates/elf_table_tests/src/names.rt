@@ -1,9 +1,9 @@
 //! Worked names, and how many bytes they ask for.
+use crate::fakes::Planned;
 use crate::fixtures::refused;
-use crate::tables::Planned;
 use elf_record::Cause;
 use elf_source::{Counted, MemorySource, SourceFault};
-use elf_table::{Fault, NameBuf, NameEnd, Names};
+use elf_table::{Cap, Fault, NameBuf, NameEnd, Names};
 use std::process::Abort;
 
 // Reads a name of a string table whose entry is at 7, and counts the bytes asked for.
@@ -16,7 +16,13 @@ fn read_name(
 ) -> (Result<NameEnd, Fault>, u128) {
     assert!(rt; cap >= 1 && cap <= 4096);
     let mut src = Counted::new(MemorySource::new(strings));
-    let answer = Names::new(0, strings.len() as u64).read(&mut src, off, 7, cap, name);
+    let answer = Names::new(0, strings.len() as u64).read(
+        &mut src,
+        off,
+        7,
+        Cap { bytes: cap },
+        name,
+    );
     (answer, src.asked())
 }
 
@@ -100,14 +106,14 @@ fn names_are_compared_with_their_end(rt: HostRuntime) {
     assert!(rt; compares(b"", 0, b"abc", Ok(false), &rt));
 }
 
-// The answers where a long name of a string table at 20 is read, and where it is compared, if the read with
-// the number `failing` fails.
+// The answers where a long name of a string table at 20 is read, and where it is compared, if the
+// read with the number `failing` fails.
 fn read_and_compare(failing: u32) -> (Result<NameEnd, Fault>, Result<bool, Fault>) {
     let bytes = [b'a'; 220];
     let names = Names::new(20, 200);
     let mut name = NameBuf::new();
     let mut src = Counted::new(Planned::new(&bytes, failing));
-    let read = names.read(&mut src, 10, 7, 180, &mut name);
+    let read = names.read(&mut src, 10, 7, Cap { bytes: 180 }, &mut name);
     let mut src = Counted::new(Planned::new(&bytes, failing));
     let compared = names.equals(&mut src, 10, 7, &[b'a'; 180]);
     (read, compared)

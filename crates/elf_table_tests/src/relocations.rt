@@ -1,10 +1,13 @@
-//! Relocation entries of a section, the symbols that it links to, and which of several faults is told.
+//! Relocation entries of a section, the symbols that it links to, and which of several faults is
+//! told.
 ghost use Rattle.std.specs.Prelude.{◌≡◌};
 
 use crate::fixtures::{ONE_CALL, refused};
 use elf_record::{Cause, Rela, Sym};
-use elf_source::{Counted, MemorySource};
-use elf_table::{Cursor, Fault, HeaderStore, Loaded, NameBuf, NameEnd, Names, Table, header, load};
+use elf_source::{Counted, MemorySource, Source};
+use elf_table::{
+    Cap, Cursor, Fault, File, HeaderStore, NameBuf, NameEnd, Names, Table, header, load,
+};
 use std::process::Abort;
 use std::test::Fail;
 
@@ -15,15 +18,14 @@ type Symbols = (Table, Names);
 type Relocations = (Table, Option<Symbols>);
 
 /// Loads a file of five section headers, which has to pass the checks.
-fn five_sections(file: &[u8], store: &mut HeaderStore, rt: &impl Abort) -> Loaded
-    ensures stored { store.new.loaded ≡ 5 }
-    ensures counted { result.header.e_shnum ≡ 5 }
+fn five_sections<'a>(file: &[u8], store: &'a mut HeaderStore, rt: &impl Abort) -> File<'a>
+    ensures { result.loaded.header.e_shnum ≡ 5 }
 {
     let mut src = Counted::new(MemorySource::new(file));
     let header = header(&mut src).expect(rt, "a header");
     let loaded = load(&mut src, store, &header).expect(rt, "a file that passes");
     assert!(rt; loaded.header().e_shnum == 5);
-    loaded
+    File { loaded, store }
 }
 
 /// The relocation entries in section 2 of a file of five section headers.
@@ -32,12 +34,12 @@ fn relocations(
     store: &mut HeaderStore,
     rt: &impl Abort,
 ) -> Result<Relocations, Fault> {
-    five_sections(file, store, rt).relocations(store, 2)
+    five_sections(file, store, rt).relocations(2)
 }
 
 /// The symbols that section 2 of a file of five section headers links to.
 fn linked(file: &[u8], store: &mut HeaderStore, rt: &impl Abort) -> Result<Option<Symbols>, Fault> {
-    five_sections(file, store, rt).linked(store, 2)
+    five_sections(file, store, rt).linked(2)
 }
 
 /// The entry of the call.
@@ -178,7 +180,7 @@ fn faults_of_the_linked_tables_are_told_by_linked(rt: HostRuntime) -> Result<(),
 #[test]
 fn faults_are_told_in_their_order(rt: HostRuntime) -> Result<(), Fail> {
     let mut store = HeaderStore::new(rt.alloc(), 5)?;
-    // The entries, then the symbols, then their names: what one byte breaks, and where that is told.
+    // The entries, the symbols, then their names: what one byte breaks, and where that is told.
     let faults = [
         (0x150, 16, 0x118, Cause::EntrySize),
         (0x138, 0x17, 0x118, Cause::SizeNotWhole),
@@ -276,20 +278,32 @@ fn the_symbol_of_the_call_is_read(rt: HostRuntime) {
     assert!(rt; src.asked() == 48);
 }
 
-#[test]
-fn the_entry_of_the_call_leads_to_a_name(rt: HostRuntime) {
+/// Goes from the entry of the call to the name of its symbol.
+pub(crate) fn name_of_the_call<S: Source>(src: &mut Counted<S>, rt: &impl Abort) {
+    assert!(rt; src.length() == 472);
     let (symbols, names) = two_symbols();
-    let mut src = Counted::new(MemorySource::new(&ONE_CALL));
     let mut cursor = Cursor::new(one_entry());
     let mut bytes = [0; 24];
-    if let Ok(Some(row)) = cursor.next(&mut src) {
+    if let Ok(Some(row)) = cursor.next(src) {
         assert!(rt; row.bytes.len() == 24);
         bytes.copy_from_slice(row.bytes);
     }
     assert!(rt; Rela::decode(&bytes).symbol() == 1);
-    let symbol = symbols.symbol(&mut src, 1).expect(&rt, "a symbol");
+    let symbol = symbols.symbol(src, 1).expect(rt, "a symbol");
     let mut name = NameBuf::new();
-    let end = names.read(&mut src, u64::from(symbol.st_name), 0x78, 63, &mut name);
+    let end = names.read(
+        src,
+        u64::from(symbol.st_name),
+        0x78,
+        Cap { bytes: 63 },
+        &mut name,
+    );
     assert!(rt; end == Ok(NameEnd::Whole) && name.bytes() == b"f".as_slice());
+}
+
+#[test]
+fn the_entry_of_the_call_leads_to_a_name(rt: HostRuntime) {
+    let mut src = Counted::new(MemorySource::new(&ONE_CALL));
+    name_of_the_call(&mut src, &rt);
     assert!(rt; src.asked() == 24 + 24 + 2);
 }

@@ -2,71 +2,20 @@
 ghost use Rattle.std.specs.Prelude.{◌≡◌};
 ghost use Rattle.elf_table.specs.Tables.{RowsWithin};
 
+use crate::fakes::Planned;
 use elf_source::{Counted, MemorySource, Source, SourceFault};
 use elf_table::{Cursor, Fault, Table};
 use std::process::Abort;
 
-/// A source over a slice that counts its reads and fails one of them.
-#[derive(Drop)]
-pub(crate) struct Planned<'a> {
-    bytes: &'a [u8],
-    reads: u32,
-    failing: u32,
-    failed: bool,
-}
-
-impl<'a> Planned<'a> {
-    /// The read with the number `failing` fails, counted from 1 on.
-    pub(crate) fn new(bytes: &'a [u8], failing: u32) -> Self
-        ensures { result.bytes.now ≡ bytes.now }
-    {
-        Planned {
-            bytes,
-            reads: 0,
-            failing,
-            failed: false,
-        }
-    }
-}
-
-impl<'a> Source for Planned<'a> {
-    ghost use Rattle.std.specs.Prelude.{◌≡◌, length, if◌then◌else◌};
-
-    ghost holds = { λ s file. s.bytes.now ≡ file };
-
-    ghost failures = { λ s. if s.failed then 1 else 0 };
-
-    ghost size = { λ s. length s.bytes.now };
-
-    fn length(&self) -> u64 {
-        self.bytes.len() as u64
-    }
-
-    fn fill(&mut self, at: u64, out: &mut [u8]) -> Result<(), SourceFault> {
-        self.reads = self.reads.saturating_add(1);
-        if !self.failed && self.reads == self.failing {
-            self.failed = true;
-            return Err(SourceFault::Device);
-        }
-        let start = at as usize;
-        out.copy_from_slice(&self.bytes[start..start + out.len()]);
-        Ok(())
-    }
-
-    ghost use Rattle.std.proofs.Common.{ap, sym};
-
-    ghost sized = { λ s file h. ap length (sym h) };
-}
-
-// How many rows of 24 bytes a cursor gives, each with its index and offset.
-fn rows_given<S: Source>(
+/// How many rows of 24 bytes a cursor gives, each with its index and offset.
+pub(crate) fn rows_given<S: Source>(
     cursor: &mut Cursor,
     src: &mut Counted<S>,
     rt: &impl Abort,
 ) -> Result<u64, Fault>
-    requires { RowsWithin (S.size src.old.source) cursor.old.table }
+    requires { RowsWithin src.old.seen.size cursor.old.table }
     ensures table { cursor.new.table ≡ cursor.old.table }
-    ensures size { S.size src.new.source ≡ S.size src.old.source }
+    ensures size { src.new.seen.size ≡ src.old.seen.size }
 {
     let mut count: u64 = 0;
     while let Some(row) = cursor.next(src)? {

@@ -1,7 +1,7 @@
 //! Lines as a reader of a listing sees them.
-use elf_listing::{
-    FIXED_BYTES, dynamic_front, note_front, relocation_front, section_front, segment_row,
-    show_note, show_steps, show_symbol, symbol_front,
+use elf_lines::{
+    dynamic_front, note_front, relocation_front, section_front, segment_row, show_note, show_steps,
+    show_symbol, symbol_front,
 };
 use elf_record::{Dyn, NoteHead, Phdr, Rela, Shdr, Sym};
 use elf_source::{Out, OutFault, SliceSink};
@@ -42,12 +42,16 @@ const CODE: Phdr = Phdr {
 #[test]
 fn headers_have_their_columns(rt: HostRuntime) {
     let section = section_front(2, &RELOCATIONS);
-    let text =
-        "S     2 RELA          I            0000000000000000 0000000000000048 0000000000000030 00000000 00000001 ";
+    let text = concat!(
+        "S     2 RELA          I            0000000000000000 0000000000000048 ",
+        "0000000000000030 00000000 00000001 ",
+    );
     assert!(rt; section.as_slice() == text.as_bytes());
     let segment = segment_row(0, &CODE);
-    let text =
-        "P     0 LOAD     R-X 0000000000001000 0000000000401000 0000000000401000 000000000000001d 0000000000000020 0000000000001000\n";
+    let text = concat!(
+        "P     0 LOAD     R-X 0000000000001000 0000000000401000 0000000000401000 ",
+        "000000000000001d 0000000000000020 0000000000001000\n",
+    );
     assert!(rt; segment.as_slice() == text.as_bytes());
 }
 
@@ -57,8 +61,10 @@ fn numbers_stand_for_what_has_no_name(rt: HostRuntime) {
     header.sh_type = 0x6fff_fff6;
     header.sh_flags = 0x8000_0000_0000_0007;
     let section = section_front(65279, &header);
-    let text =
-        "S 65279 6ffffff6      WAX?         0000000000000000 0000000000000048 0000000000000030 00000000 00000001 ";
+    let text = concat!(
+        "S 65279 6ffffff6      WAX?         0000000000000000 0000000000000048 ",
+        "0000000000000030 00000000 00000001 ",
+    );
     assert!(rt; section.as_slice() == text.as_bytes());
     let mut symbol = MAIN;
     symbol.st_info = 0xa7;
@@ -114,8 +120,10 @@ fn lines_are_written_with_their_names(rt: HostRuntime) {
     assert!(rt; show_steps(true, 3, &mut out) == Ok(()));
     assert!(rt; show_steps(false, u32::MAX, &mut out) == Ok(()));
     let text = concat!(
-        "Y     1          1 0000000000001000 0000000000000010 FUNC    GLOBAL DEFAULT   ABS   main\n",
-        "N     7 00000003 00000004 00000021 G\\\\U abababababababababababababababababababababababababababababababab\\+\n",
+        "Y     1          1 0000000000001000 0000000000000010 FUNC    GLOBAL DEFAULT   ",
+        "ABS   main\n",
+        "N     7 00000003 00000004 00000021 G\\\\U ",
+        "abababababababababababababababababababababababababababababababab\\+\n",
         "F found           3\n",
         "F absent 4294967295\n",
     );
@@ -153,6 +161,7 @@ fn a_full_sink_is_a_fault(rt: HostRuntime) {
 
 #[test]
 fn the_fixed_buffers_are_small(rt: HostRuntime) {
-    assert!(rt; FIXED_BYTES == 64 + 4096 + 64 + 4096 + 4096 + 64 + 24 + 2 * 256 + 40);
-    assert!(rt; FIXED_BYTES <= 16_384);
+    assert!(rt; elf_table::BUFFER_BYTES == 64 + 4096 + 4096 + 64 + 24);
+    assert!(rt; elf_lines::BUFFER_BYTES == 2 * 256 + 40);
+    assert!(rt; elf_table::BUFFER_BYTES + elf_lines::BUFFER_BYTES <= 16_384);
 }

@@ -1,6 +1,6 @@
 //! What no clause says: that sources and sinks over a device fail only where it does, and then how.
 use elf_source::{
-    Counted, MemorySource, Out, OutFault, Sink, SinkFault, SliceSink, Source, SourceFault,
+    Counted, Device, MemorySource, Out, OutFault, Sink, SinkFault, SliceSink, Source, SourceFault,
     StreamSource, WriteSink,
 };
 use std::alloc::Global;
@@ -10,17 +10,17 @@ use std::io::{Cursor, Error, ErrorKind, Read, Seek, SeekFrom, Write};
 use std::process::Abort;
 use std::test::Fail;
 
-/// What a device does at its next calls, and how often it was called.
+/// What a disk does at its next calls, and how often it was called.
 #[derive(Drop)]
-struct Plan {
+pub(crate) struct Plan {
     interrupted: Cell<u32>,
-    failing: Cell<u32>,
-    calls: Cell<u32>,
+    pub(crate) failing: Cell<u32>,
+    pub(crate) calls: Cell<u32>,
     seeks: Cell<u32>,
 }
 
 impl Plan {
-    fn new() -> Self {
+    pub(crate) fn new() -> Self {
         Plan {
             interrupted: Cell::new(0),
             failing: Cell::new(0),
@@ -49,18 +49,19 @@ fn falls(count: &Cell<u32>) -> bool {
     left > 0
 }
 
-/// A reader that gives at most `most` bytes at a read, and promises `missing` bytes more than it has.
+/// A disk that gives at most `most` bytes at a read, and promises `missing` bytes more than it
+/// has.
 #[derive(Drop)]
-struct Device<'a> {
+pub(crate) struct Disk<'a> {
     inner: Cursor<&'a [u8]>,
     most: usize,
     missing: u64,
     plan: &'a Plan,
 }
 
-impl<'a> Device<'a> {
+impl<'a> Disk<'a> {
     fn new(bytes: &'a [u8], most: usize, plan: &'a Plan) -> Self {
-        Device {
+        Disk {
             inner: Cursor::new(bytes),
             most,
             missing: 0,
@@ -69,7 +70,7 @@ impl<'a> Device<'a> {
     }
 }
 
-impl<'a> Read for Device<'a> {
+impl<'a> Read for Disk<'a> {
     fn read(&mut self, buf: &mut [u8]) -> io::Result<usize> {
         self.plan.turn()?;
         let most = buf.len().min(self.most);
@@ -77,7 +78,7 @@ impl<'a> Read for Device<'a> {
     }
 }
 
-impl<'a> Seek for Device<'a> {
+impl<'a> Seek for Disk<'a> {
     fn seek(&mut self, to: SeekFrom) -> io::Result<u64> {
         self.plan.turn()?;
         self.plan.seeks.set(self.plan.seeks.get().saturating_add(1));
@@ -130,8 +131,11 @@ fn gives<S: Source>(source: &mut S, at: u64, want: &[u8], rt: &impl Abort) -> bo
 }
 
 // A stream over six bytes that gives at most `most` of them at a read.
-fn stream<'a>(most: usize, plan: &'a Plan) -> Result<StreamSource<Device<'a>>, SourceFault> {
-    StreamSource::new(Device::new(b"abcdef", most, plan))
+pub(crate) fn stream<'a>(
+    most: usize,
+    plan: &'a Plan,
+) -> Result<StreamSource<Device<Disk<'a>>>, SourceFault> {
+    StreamSource::new(Disk::new(b"abcdef", most, plan))
 }
 
 // A sink over a tape that takes at most `most` bytes at a write.
@@ -214,9 +218,9 @@ fn the_sixty_fourth_interruption_is_a_failure(rt: HostRuntime) -> Result<(), Fai
 #[test]
 fn a_reader_that_ends_early_is_not_honest(rt: HostRuntime) -> Result<(), Fail> {
     let plan = Plan::new();
-    let mut device = Device::new(b"abcdef", 4, &plan);
-    device.missing = 1;
-    let mut source = StreamSource::new(device)?;
+    let mut disk = Disk::new(b"abcdef", 4, &plan);
+    disk.missing = 1;
+    let mut source = StreamSource::new(disk)?;
     assert!(rt; source.length() == 7);
     let ended = read_from(&mut source, 5, &mut [0; 2], &rt);
     assert!(rt; ended == Err(SourceFault::Ended));
@@ -241,13 +245,13 @@ fn a_failed_read_is_asked_again(rt: HostRuntime) -> Result<(), Fail> {
 fn a_length_that_is_not_found_is_a_failure(rt: HostRuntime) {
     let plan = Plan::new();
     plan.failing.set(1);
-    let made = StreamSource::new(Device::new(b"abc", 1, &plan));
+    let made = StreamSource::new(Disk::new(b"abc", 1, &plan));
     assert!(rt; matches!(&made, Err(SourceFault::Device)));
     plan.interrupted.set(64);
-    let made = StreamSource::new(Device::new(b"abc", 1, &plan));
+    let made = StreamSource::new(Disk::new(b"abc", 1, &plan));
     assert!(rt; matches!(&made, Err(SourceFault::Device)));
     plan.interrupted.set(63);
-    let made = StreamSource::new(Device::new(b"abc", 1, &plan));
+    let made = StreamSource::new(Disk::new(b"abc", 1, &plan));
     assert!(rt; matches!(&made, Ok(_)));
 }
 

@@ -1,7 +1,7 @@
-//! What no clause says of a stream: that each byte is the reader's own at its offset, however far it lies
-//! and however much is asked for; that a fault of the reader is told, and leaves no place behind from which
-//! the next read would go on; and how often the reader is asked.
-use elf_source::{Counted, Source, SourceFault, StreamSource};
+//! What no clause says of a stream: that each byte is the reader's own at its offset, however far
+//! it lies and however much is asked for; that a fault of the reader is told, and leaves no place
+//! behind from which the next read would go on; and how often the reader is asked.
+use elf_source::{Counted, Device, Source, SourceFault, StreamSource};
 use std::alloc::Global;
 use std::cell::Cell;
 use std::io;
@@ -21,8 +21,8 @@ enum Trouble {
 /// What a reader meets at its next calls, and what was asked of it.
 #[derive(Drop)]
 struct Script {
-    // How many of the next seeks are interrupted, how many of the next reads, and how many behind each
-    // read that gives bytes.
+    // How many of the next seeks are interrupted, how many of the next reads, and how many behind
+    // each read that gives bytes.
     seeks_interrupted: Cell<u32>,
     reads_interrupted: Cell<u32>,
     then_interrupted: Cell<u32>,
@@ -55,7 +55,8 @@ impl Script {
         self.trouble.set(Some(trouble));
     }
 
-    // So many of the next seeks and reads are interrupted, and so many reads behind each that gives bytes.
+    // So many of the next seeks and reads are interrupted, and so many reads behind each that gives
+    // bytes.
     fn interrupt(&self, seeks: u32, reads: u32, then: u32) {
         self.seeks_interrupted.set(seeks);
         self.reads_interrupted.set(reads);
@@ -81,8 +82,8 @@ fn falls(count: &Cell<u32>) -> bool {
     left > 0
 }
 
-/// A reader of bytes that are never stored, at most `most` at a read. Where a call goes wrong it stands
-/// elsewhere afterwards.
+/// A reader of bytes that are never stored, at most `most` at a read. Where a call goes wrong it
+/// stands elsewhere afterwards.
 #[derive(Drop)]
 struct Tape<'a> {
     length: u64,
@@ -189,7 +190,7 @@ fn stream<'a>(
     most: usize,
     script: &'a Script,
     rt: &impl Abort,
-) -> StreamSource<Tape<'a>> {
+) -> StreamSource<Device<Tape<'a>>> {
     StreamSource::new(Tape::new(length, most, script)).expect(rt, "a stream")
 }
 
@@ -268,8 +269,8 @@ fn a_read_of_no_byte_leaves_the_reader_where_it_stands(rt: HostRuntime) {
     }
 }
 
-// Whether two bytes are read well from `next` on behind a read of five at `at` that has this fault, since a
-// call of it goes wrong; the reader stood at 5.
+// Whether two bytes are read well from `next` on behind a read of five at `at` that has this fault,
+// since a call of it goes wrong; the reader stood at 5.
 fn recovers(
     at: u64,
     (well, trouble): (u32, Trouble),

@@ -1,23 +1,49 @@
 -- What a run answers.
-use Rattle.std.specs.Prelude.{ℕ, ◌≡◌, List, Option, None, Some, Result, Ok, Err, [], codes}
-use Rattle.elf_model.specs.Listing.{Item, fault_of, report_of}
-use Rattle.elf_model.specs.declared.causes.Refusal.{Refusal}
-use Rattle.elf_source.specs.Output.{Takes}
-use Rattle.elf_listing.specs.Shows.{Stops}
+use Rattle.std.specs.Prelude.{ℕ, ◌≡◌, ◌<◌, ◌+◌, ◌⊎◌, ⊤, List, Some, Result, Ok, Err, [], codes}
+use Rattle.elf_model.specs.Answer.{Answer, IsShown, show_answer}
+use Rattle.elf_source.specs.Source.{Counting}
+use Rattle.elf_source.specs.Output.{Written, Takes, TakesFront}
+use Rattle.elf_listing.specs.Reports.{AsksWithin}
+use Rattle.elf_listing.specs.declared.end.End.{End}
+use Rattle.elf_listing.specs.declared.end.End.TheVariants.{Listed, Refused}
 use Rattle.elf_listing.specs.declared.end.RunFault.{RunFault}
 use Rattle.elf_listing.specs.declared.end.RunFault.TheVariants.{Source, Out}
+use Rattle.elf_table.specs.declared.caps.Caps.{Caps}
 use Rattle.elfsee.specs.declared.requests.RequestFault.{RequestFault}
 use Rattle.elfsee.specs.declared.requests.RequestFault.TheVariants.{Words, Memory}
 
--- the status of a listing: 0 without a fault, 1 with one
-abbrev pub status_of : Option Refusal → ℕ
-status_of None = 0
-status_of (Some refusal) = 1
+-- an answer was written and its status given, or a front of its text was written
+abbrev pub WroteAnswer : Written → Written → Result ℕ RunFault → Answer → Type 0
+WroteAnswer old new (Ok status) answer = Takes old new answer.text × (status ≡ answer.status)
+WroteAnswer old new (Err fault) answer = TakesFront old new answer.text
 
--- the text of the listing was written and its status given, or a front of the text was written
-abbrev pub Answers : Option (List ℕ) → Option (List ℕ) → ℕ → ℕ → Result ℕ RunFault → List Item → Type 0
-Answers taken taken' written written' (Ok status) items = Takes taken taken' written written' (report_of items) × (status ≡ status_of (fault_of items))
-Answers taken taken' written written' (Err fault) items = Stops taken taken' written written' fault (report_of items)
+-- fewer than 4,096 bytes of a budget are left
+abbrev pub IsUsedUp : Caps → Counting → Counting → Type 0
+IsUsedUp caps before after = (bytes : ℕ) × (caps.budget ≡ Some bytes) × (before.asked + bytes < after.asked + 4096)
+
+-- an answer that was given is the whole one, or it is cut short and its budget is used up
+abbrev pub WholeOrUsedUp : Caps → Counting → Counting → Result ℕ RunFault → (whole answer : Answer) → Type 0
+WholeOrUsedUp caps before after (Ok status) whole answer = (answer ≡ whole) ⊎ IsUsedUp caps before after
+WholeOrUsedUp caps before after (Err fault) whole answer = ⊤
+
+-- THE ANSWER: what these caps and parts give of a file, within their budget
+pub record Answers (file : List ℕ) (caps : Caps) (parts : ℕ) (before after : Counting) (old new : Written) (result : Result ℕ RunFault) : Type 0 where
+  pub answer : Answer
+  pub shown : IsShown caps.budget file caps.headers caps.name.bytes parts answer
+  pub wrote : WroteAnswer old new result answer
+  pub used : WholeOrUsedUp caps before after result (show_answer file caps.headers caps.name.bytes parts) answer
+
+-- the status of a listing's end
+abbrev pub end_status : Result End RunFault → Result ℕ RunFault
+end_status (Ok Listed) = Ok 0
+end_status (Ok (Refused refusal)) = Ok 1
+end_status (Err fault) = Err fault
+
+-- WHAT IS ASKED FOR, as a listing with this status does
+pub record AsksAs (caps : Caps) (parts : ℕ) (old new : Counting) (result : Result ℕ RunFault) : Type 0 where
+  pub end : Result End RunFault
+  pub asks : AsksWithin caps parts old new end
+  pub status : result ≡ end_status end
 
 -- the exit status of a run, and the line on standard error
 abbrev pub exit_status : Result ℕ RunFault → ℕ

@@ -1,8 +1,9 @@
 -- What a request asks for.
-use Rattle.std.specs.Prelude.{ℕ, ◌≡◌, List, [], ◌∷◌, codes, length, slice_index_or, string_bytes, Some, Bool, bytes_eq, ◌||◌, false}
+use Rattle.std.specs.Prelude.{ℕ, ◌≡◌, List, [], ◌∷◌, codes, length, slice_index_or, string_bytes, None, Some, Bool, bytes_eq, ◌||◌, false}
 use Rattle.std.specs.Borrow.{Bor}
 use Rattle.elf_model.specs.Text.{name_of as name_in_table}
 use Rattle.elf_model.specs.Listing.{HEADER, SECTIONS, SEGMENTS, SYMBOLS, RELOCS}
+use Rattle.elf_table.specs.declared.caps.Caps.{Caps}
 use Rattle.elfsee.specs.declared.requests.Request.{Request}
 use Rattle.elfsee.specs.declared.requests.Request.TheVariants.{Show, Sample}
 
@@ -11,15 +12,14 @@ abbrev pub parts_of : Request → ℕ
 parts_of (Show caps parts file) = parts.0
 parts_of (Sample caps parts) = parts.0
 
+-- the caps of a request
+abbrev pub caps_of : Request → Caps
+caps_of (Show caps parts file) = caps
+caps_of (Sample caps parts) = caps
+
 -- how many headers are permitted
 abbrev pub headers_of : Request → ℕ
-headers_of (Show caps parts file) = caps.headers
-headers_of (Sample caps parts) = caps.headers
-
--- how many bytes of a name are shown
-abbrev pub name_of : Request → ℕ
-name_of (Show caps parts file) = caps.name
-name_of (Sample caps parts) = caps.name
+headers_of request = (caps_of request).headers
 
 -- the names of the parts that can be asked for
 abbrev pub part_names : List (ℕ × List ℕ)
@@ -45,11 +45,13 @@ is_part name = bytes_eq name (codes "header") || (bytes_eq name (codes "sections
 abbrev pub AsksForNone : Words → ℕ → List ℕ → Type 0
 AsksForNone words count first = (length words ≡ count) → (word words 0 ≡ first) → (word words 1 ≡ codes "--only") → is_part (word words 2) ≡ false
 
--- as many headers and bytes of a name as are permitted where the words don't say
-abbrev pub AreDefaults : ℕ → ℕ → Type 0
-AreDefaults headers name = (headers ≡ 4096) × (name ≡ 256)
+-- as many headers and bytes of a name as are permitted where the words don't say, and no budget
+pub record AreDefaults (caps : Caps) : Type 0 where
+  pub headers : caps.headers ≡ 4096
+  pub name : caps.name.bytes ≡ 256
+  pub budget : caps.budget ≡ None
 
 -- the words ask for just this: `show --only PART FILE` or `sample --only PART`
 abbrev pub Asks : Words → Request → Type 0
-Asks words (Show caps parts file) = AsksFor words 4 (codes "show") parts.0 × (string_bytes file ≡ word words 3) × AreDefaults caps.headers caps.name
-Asks words (Sample caps parts) = AsksFor words 3 (codes "sample") parts.0 × AreDefaults caps.headers caps.name
+Asks words (Show caps parts file) = AsksFor words 4 (codes "show") parts.0 × (string_bytes file ≡ word words 3) × AreDefaults caps
+Asks words (Sample caps parts) = AsksFor words 3 (codes "sample") parts.0 × AreDefaults caps

@@ -1,12 +1,10 @@
 //! A request carried out.
-ghost use Rattle.std.specs.Prelude.{◌≡◌, ◌+◌, ◌^◌, ◌≤◌, ℕ, List, IfErr, IsTrue};
-ghost use Rattle.elf_model.specs.Cost.{cost, ceiling};
-ghost use Rattle.elf_model.specs.Report.{items};
-ghost use Rattle.elf_source.specs.Source.{Keeps};
-ghost use Rattle.elf_listing.specs.Sections.{AreListed};
-ghost use Rattle.elf_listing.specs.Shows.{RunBlames, is_out_fault};
-ghost use Rattle.elfsee.specs.Answers.{Answers, exit_status, error_line, refused_status, refused_line};
-ghost use Rattle.elfsee.specs.Requests.{headers_of, name_of, parts_of};
+ghost use Rattle.std.specs.Prelude.{◌≡◌, ◌+◌, ◌^◌, ◌≤◌, ℕ, List, Some, IfErr};
+ghost use Rattle.elf_model.specs.Cost.{cost};
+ghost use Rattle.elf_listing.specs.Parts.{AreListed};
+ghost use Rattle.elf_listing.specs.Reports.{Leaves, FaultSays};
+ghost use Rattle.elfsee.specs.Answers.{Answers, AsksAs, exit_status, error_line, refused_status, refused_line};
+ghost use Rattle.elfsee.specs.Requests.{caps_of, headers_of, parts_of};
 
 use crate::requests::{Request, RequestFault};
 use elf_listing::{End, RunFault, show};
@@ -14,7 +12,8 @@ use elf_source::{Counted, Out, Sink, Source};
 use elf_table::HeaderStore;
 
 /// Carries out a request on a source: writes its text and answers its status, 0 where the file was
-/// listed and 1 where it is refused. The store has a slot for each header that the request permits.
+/// listed and 1 where it is refused, or the request's read budget is used up. The store has a slot for
+/// each header that the request permits. Afterwards no limit is set on the source.
 ///
 /// # Errors
 /// A fault of the source or of the output. What went out is a front of the text.
@@ -24,26 +23,22 @@ pub fn run<S: Source, W: Sink>(
     store: &mut HeaderStore,
     out: &mut Out<W>,
 ) -> Result<u8, RunFault>
-    requires slots { store.old.slots ≡ headers_of request.now }
-    requires listed { AreListed (parts_of request.now) }
-    requires asked { src.old.asked ≤ 2 ^ 127 }
-    requires written { out.old.written ≤ 2 ^ 127 }
+    requires { (store.old.slots ≡ headers_of request.now)
+        × AreListed (parts_of request.now) × (src.old.asked ≤ 2 ^ 127) }
     ensures slots { store.new.slots ≡ store.old.slots }
-    ensures kept { Keeps S.holds S.size S.failures src.old.source src.new.source }
-    ensures blames { IfErr result (RunBlames S.holds S.failures src.old.source src.new.source) }
-    // A fault of the output comes only where the sink has failed.
-    ensures out_fails { IsTrue (is_out_fault result) → IsTrue (W.failed out.new.sink) }
-    ensures text { (file : List ℕ) → S.holds src.old.source file →
-        Answers (W.taken out.old.sink) (W.taken out.new.sink) out.old.written out.new.written result
-        (items file (headers_of request.now) (name_of request.now) (parts_of request.now)) }
-    ensures cost { (file : List ℕ) → S.holds src.old.source file → src.new.asked ≤ src.old.asked + cost file (headers_of request.now) (name_of request.now) (parts_of request.now) }
+    ensures leaves { Leaves src.old src.new }
+    ensures says { IfErr result (FaultSays src.old src.new out.new) }
+    ensures text { (file : List ℕ) → src.old.seen.file ≡ Some file →
+        Answers file (caps_of request.now) (parts_of request.now)
+        src.old src.new out.old out.new result }
+    ensures cost { (file : List ℕ) → src.old.seen.file ≡ Some file →
+        let caps = caps_of request.now in
+        src.new.asked
+        ≤ src.old.asked + cost file caps.headers caps.name.bytes (parts_of request.now) }
     // For every source.
-    ensures ceiling { src.new.asked ≤ src.old.asked + ceiling (S.size src.old.source) (headers_of request.now) (name_of request.now) }
+    ensures asks { AsksAs (caps_of request.now) (parts_of request.now) src.old src.new result }
 {
-    let end = match request {
-        Request::Show { caps, parts, .. } => show(src, store, *caps, *parts, out)?,
-        Request::Sample { caps, parts } => show(src, store, *caps, *parts, out)?,
-    };
+    let end = show(src, store, request.caps(), request.parts(), out)?;
     match end {
         End::Listed => Ok(0),
         End::Refused(_) => Ok(1),

@@ -1,7 +1,7 @@
 //! Whole listings of small files: sections, program headers, symbols and relocation entries, and where
 //! they are refused.
 ghost use Rattle.std.specs.Prelude.{◌≡◌, ◌+◌, ◌≤◌, length};
-ghost use Rattle.elf_listing.specs.Sections.{AreListed};
+ghost use Rattle.elf_listing.specs.Parts.{AreListed};
 
 use crate::answering::run;
 use crate::fixtures::{HASH_TABLE, ONE_CALL, RELOCATIONS};
@@ -15,10 +15,10 @@ use std::process::Abort;
 use std::test::Fail;
 
 /// The parts that are listed: the file header, sections, program headers, symbols, relocation entries.
-const LISTED: Parts = Parts(31);
+pub(crate) const LISTED: Parts = Parts(31);
 
 /// The sample's file header.
-const HEADER: &str =
+pub(crate) const HEADER: &str =
     "H REL     62 0000000000000000 0000000000000000 0000000000000078 00000000     0     3     0\n";
 
 /// The sample's section headers.
@@ -197,7 +197,7 @@ fn places_and_types_without_a_name_are_numbers(rt: HostRuntime) -> Result<(), Fa
 }
 
 /// Three symbol tables of twelve symbols over the section headers, which hold their names too.
-fn overlapping() -> [u8; 384] {
+pub(crate) fn overlapping() -> [u8; 384] {
     let mut file = [0; 384];
     file[..64].copy_from_slice(&SAMPLE[..64]);
     file[0x28] = 0x40;
@@ -311,13 +311,12 @@ struct Failing {
 }
 
 impl Source for Failing {
-    ghost use Rattle.std.specs.Prelude.{◌≡◌, ℕ};
+    ghost use Rattle.std.specs.Prelude.{⊤};
+    ghost use Rattle.elf_source.specs.Source.{unknown};
 
-    ghost holds = { λ _ _. ⊥ };
+    ghost seen = { λ s. unknown 312 s.failures };
 
-    ghost failures = { λ s. s.failures };
-
-    ghost size = { λ _. 312 };
+    ghost one_read = { λ _ _ _ _. ⊤ };
 
     fn length(&self) -> u64 {
         312
@@ -336,8 +335,6 @@ impl Source for Failing {
         out.copy_from_slice(&SAMPLE[at..at + out.len()]);
         Ok(())
     }
-
-    ghost sized = { λ s file h. absurd h };
 }
 
 #[test]

@@ -3,6 +3,8 @@
 
 mod answering;
 #[cfg(test)]
+mod budget_tests;
+#[cfg(test)]
 mod fixtures;
 #[cfg(test)]
 mod listing_tests;
@@ -14,14 +16,14 @@ mod tests;
 mod words;
 
 ghost use Rattle.std.specs.Prelude.{◌≡◌, ◌⊎◌, codes, IfErr, IfOk};
-ghost use Rattle.elf_listing.specs.Sections.{AreListed};
+ghost use Rattle.elf_listing.specs.Parts.{AreListed};
 ghost use Rattle.elfsee.specs.Answers.{refused_line, refused_status};
 ghost use Rattle.elfsee.specs.Requests.{headers_of, parts_of};
 ghost use Rattle.elfsee.specs.declared.requests.RequestFault.{RequestFault};
 
 use answering::{outcome, refused, run};
 use elf_listing::RunFault;
-use elf_source::{Counted, MemorySource, Out, Source, StreamSource, WriteSink};
+use elf_source::{Counted, Device, MemorySource, Out, Source, StreamSource, WriteSink};
 use elf_table::HeaderStore;
 use offset_reader::OffsetReader;
 use requests::Request;
@@ -37,6 +39,9 @@ use words::request;
 
 /// How many bytes of output are kept before they are written.
 const OUTPUT_BYTES: usize = 65_536;
+
+/// A file that is read at offsets.
+type FileReader<F> = Device<OffsetReader<F>>;
 
 /// An exit status, and a line for standard error, which is empty where there is nothing to say.
 type Ending = (u8, &'static str);
@@ -90,7 +95,8 @@ where
 
 /// The words behind the program's name.
 fn read_words<R: Env + AllocGlobal>(rt: &R) -> Result<Vec<String>, Ending>
-    ensures told { IfErr result (λ ending. (ending.1.now ≡ codes "elfsee: out of memory") ⊎ (ending.1.now ≡ codes "elfsee: words are not UTF-8")) }
+    ensures told { IfErr result (λ ending. (ending.1.now ≡ codes "elfsee: out of memory")
+        ⊎ (ending.1.now ≡ codes "elfsee: words are not UTF-8")) }
 {
     let mut words = match env::args(rt) {
         Ok(words) => words,
@@ -105,7 +111,8 @@ fn read_words<R: Env + AllocGlobal>(rt: &R) -> Result<Vec<String>, Ending>
 /// the first five tell that they are none.
 fn read_request(alloc: Global, words: &[String]) -> Result<Request, Ending>
     ensures listed { IfOk result (λ request. AreListed (parts_of request)) }
-    ensures told { IfErr result (λ ending. (fault : RequestFault) × (ending.0 ≡ refused_status fault) × (ending.1.now ≡ refused_line fault)) }
+    ensures told { IfErr result (λ ending. (fault : RequestFault)
+        × (ending.0 ≡ refused_status fault) × (ending.1.now ≡ refused_line fault)) }
 {
     let mut texts = [""; 5];
     let count = words.len().min(texts.len());
@@ -117,7 +124,7 @@ fn read_request(alloc: Global, words: &[String]) -> Result<Request, Ending>
 
 /// Opens a file that can be read at an offset. Folders, pipes and sockets are not opened, so that
 /// opening never waits.
-fn open<R: Files>(rt: &R, path: &str) -> Result<StreamSource<OffsetReader<R::File>>, Ending>
+fn open<R: Files>(rt: &R, path: &str) -> Result<StreamSource<FileReader<R::File>>, Ending>
 where
     R::File: FileExt,
 {

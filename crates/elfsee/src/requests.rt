@@ -8,7 +8,8 @@ use thiserror::Error;
 pub enum Request {
     /// The listing of a file.
     Show {
-        /// How many headers are permitted, and how many bytes of a name are shown.
+        /// How many headers are permitted, how many bytes of a name are shown, and how many bytes may
+        /// be read.
         caps: Caps,
         /// The parts that are listed.
         parts: Parts,
@@ -17,7 +18,8 @@ pub enum Request {
     },
     /// The listing of the file that the program carries.
     Sample {
-        /// How many headers are permitted, and how many bytes of a name are shown.
+        /// How many headers are permitted, how many bytes of a name are shown, and how many bytes may
+        /// be read.
         caps: Caps,
         /// The parts that are listed.
         parts: Parts,
@@ -26,7 +28,28 @@ pub enum Request {
 
 impl Request {
     ghost use Rattle.std.specs.Prelude.{◌≡◌, ◌≤◌};
-    ghost use Rattle.elfsee.specs.Requests.{headers_of};
+    ghost use Rattle.elfsee.specs.Requests.{caps_of, headers_of, parts_of};
+
+    /// How many headers are permitted, how many bytes of a name are shown, and how many bytes may be
+    /// read.
+    pub fn caps(&self) -> Caps
+        ensures { result ≡ caps_of self.now }
+    {
+        match self {
+            Request::Show { caps, .. } => *caps,
+            Request::Sample { caps, .. } => *caps,
+        }
+    }
+
+    /// The parts that are listed.
+    pub fn parts(&self) -> Parts
+        ensures { result.0 ≡ parts_of self.now }
+    {
+        match self {
+            Request::Show { parts, .. } => *parts,
+            Request::Sample { parts, .. } => *parts,
+        }
+    }
 
     /// How many slots the header store needs, 1 to 65,279.
     pub fn headers(&self) -> u16
@@ -34,10 +57,7 @@ impl Request {
         ensures some { 1 ≤ result }
         ensures few { result ≤ 65279 }
     {
-        match self {
-            Request::Show { caps, .. } => caps.headers(),
-            Request::Sample { caps, .. } => caps.headers(),
-        }
+        self.caps().headers
     }
 }
 

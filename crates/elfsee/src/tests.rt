@@ -1,12 +1,12 @@
 //! The file header's listing over honest sources, and over sources and sinks that fail; words and endings.
 ghost use Rattle.std.specs.Prelude.{◌≡◌, ◌≤◌, IfOk};
-ghost use Rattle.elf_listing.specs.Sections.{AreListed};
+ghost use Rattle.elf_listing.specs.Parts.{AreListed};
 
 use crate::answering::{outcome, refused, run};
 use crate::offset_reader::OffsetReader;
 use crate::requests::{Request, RequestFault};
 use crate::words::request;
-use elf_listing::{End, RunFault, show};
+use elf_listing::{End, FIXED_BYTES, RunFault, show};
 use elf_record::{Cause, Parts, Refusal};
 use elf_source::{
     Counted, MemorySource, Out, OutFault, SliceSink, Source, SourceFault, StreamSource, WriteSink,
@@ -125,13 +125,12 @@ struct Unread {
 }
 
 impl Source for Unread {
-    ghost use Rattle.std.specs.Prelude.{◌≡◌, ℕ};
+    ghost use Rattle.std.specs.Prelude.{⊤};
+    ghost use Rattle.elf_source.specs.Source.{unknown};
 
-    ghost holds = { λ _ _. ⊥ };
+    ghost seen = { λ s. unknown s.length 0 };
 
-    ghost failures = { λ _. 0 };
-
-    ghost size = { λ s. s.length };
+    ghost one_read = { λ _ _ _ _. ⊤ };
 
     fn length(&self) -> u64 {
         self.length
@@ -140,8 +139,6 @@ impl Source for Unread {
     fn fill(&mut self, _at: u64, _out: &mut [u8]) -> Result<(), SourceFault> {
         Err(SourceFault::Ended)
     }
-
-    ghost sized = { λ s file h. absurd h };
 }
 
 #[test]
@@ -164,13 +161,12 @@ struct Broken {
 }
 
 impl Source for Broken {
-    ghost use Rattle.std.specs.Prelude.{◌≡◌, ℕ};
+    ghost use Rattle.std.specs.Prelude.{⊤};
+    ghost use Rattle.elf_source.specs.Source.{unknown};
 
-    ghost holds = { λ _ _. ⊥ };
+    ghost seen = { λ s. unknown 64 s.failures };
 
-    ghost failures = { λ s. s.failures };
-
-    ghost size = { λ _. 64 };
+    ghost one_read = { λ _ _ _ _. ⊤ };
 
     fn length(&self) -> u64 {
         64
@@ -183,8 +179,6 @@ impl Source for Broken {
         self.failures += 1;
         Err(SourceFault::Device)
     }
-
-    ghost sized = { λ s file h. absurd h };
 }
 
 #[test]
@@ -370,4 +364,10 @@ fn a_file_is_read_where_a_seek_left_it(rt: HostRuntime) {
     assert!(rt; reader.seek(SeekFrom::Current(-20)).is_err());
     assert!(rt; reader.seek(SeekFrom::End(0)).ok() == Some(64));
     assert!(rt; reader.read(&mut byte).ok() == Some(0));
+}
+
+#[test]
+fn the_fixed_buffers_are_small(rt: HostRuntime) {
+    assert!(rt; FIXED_BYTES == 8_896);
+    assert!(rt; FIXED_BYTES <= 16_384);
 }

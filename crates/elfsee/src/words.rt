@@ -1,7 +1,7 @@
 //! The words of a command line.
 ghost use Rattle.std.specs.Prelude.{◌≡◌, IfOk, IfErr, IsErr, Some, codes, false};
 ghost use Rattle.elf_model.specs.Text.{name_of};
-ghost use Rattle.elf_listing.specs.Sections.{AreListed};
+ghost use Rattle.elf_listing.specs.Parts.{AreListed};
 ghost use Rattle.elfsee.specs.Requests.{Asks, AsksForNone, is_part, part_names, parts_of};
 ghost use Rattle.elfsee.specs.declared.requests.RequestFault.TheVariants.{Words};
 
@@ -25,8 +25,10 @@ pub fn request(alloc: Global, words: &[&str]) -> Result<Request, RequestFault>
     ensures listed { IfOk result (λ request. AreListed (parts_of request)) }
     ensures asked { IfOk result (λ request. Asks words.now request) }
     // Want of memory is never told as bad words.
-    ensures no_show { IfErr result (λ fault. fault ≡ Words → AsksForNone words.now 4 (codes "show")) }
-    ensures no_sample { IfErr result (λ fault. fault ≡ Words → AsksForNone words.now 3 (codes "sample")) }
+    ensures no_show { IfErr result (λ fault. fault ≡ Words →
+        AsksForNone words.now 4 (codes "show")) }
+    ensures no_sample { IfErr result (λ fault. fault ≡ Words →
+        AsksForNone words.now 3 (codes "sample")) }
 {
     let Some(caps) = Caps::new(DEFAULT_HEADERS, DEFAULT_NAME) else {
         return Err(RequestFault::Words);

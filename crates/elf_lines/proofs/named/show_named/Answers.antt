@@ -6,8 +6,12 @@ use Rattle.elf_lines.proofs.NameText.{name_text-pieces}
 use Rattle.elf_lines.proofs.named.show_named.Goals as goal
 use Rattle.elf_lines.proofs.named.show_named.Goals.{then-is_cut, else-is_cut}
 
-pub returns-clause-line : goal.returns-clause-line
-returns-clause-line g c =
+pub returns : goal.returns
+returns g c =
     let tail : c.as_bytes.result.now ≡ (if c.args.is_cut then cut_mark else []) ++ newline =
-    elim c.if-is_cut.branch [ then-is_cut w ↦ rw w.if-is_cut.true (search rules) | else-is_cut w ↦ rw w.if-is_cut.false (search rules) ] in
-    rw (name_text-pieces c.args.front.items c.args.name.now newline c.args.is_cut) (rw tail at c.show_around.ensures.line)
+    elim c.if-is_cut.branch [
+      | then-is_cut w ↦ rw w.if-is_cut.true (search rules)
+      | else-is_cut w ↦ rw w.if-is_cut.false (search rules)
+    ] in
+    let same = name_text-pieces c.args.front.items c.args.name.now newline c.args.is_cut in
+    record { puts = rw same (rw tail at c.show_around.ensures.puts) }

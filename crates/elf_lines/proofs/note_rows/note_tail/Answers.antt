@@ -9,7 +9,7 @@ regroup a b c d e = simp append_assoc
 
 pub returns : goal.returns
 unfolding note_tail descriptor_text
-returns c = λ descriptor first size.
+returns c = λ descriptor known.
     rw (
       c.put-2.ensures.items,
       c.put_where-2.ensures.items,
@@ -17,8 +17,8 @@ returns c = λ descriptor first size.
       c.put.ensures.items,
       c.put_where.ensures.items,
       c.new-line.ensures,
-      first,
-      size,
+      known.first_is,
+      known.size_is,
     )
     (regroup (if c.args.is_cut then cut_mark else []) space (hex_bytes (take 32 descriptor))
     (if nat_lt 32 (length descriptor) then cut_mark else []) newline)

@@ -1,6 +1,6 @@
-use Rattle.std.proofs.Common.{◌≡◌, ℕ, ◌+◌, List, length, take, ap, ◌∙◌, arith, length-take-le}
+use Rattle.std.proofs.Common.{◌≡◌, ℕ, ◌+◌, List, Some, length, refl, ◌∙◌, arith}
 use Rattle.elf_model.specs.Bytes.{slice}
-use Rattle.elf_table.proofs.Keeping.{Keeps-then}
+use Rattle.elf_table.proofs.NameWindows.{piece-of_file, piece-some, Between-next, Reads-next}
 use Rattle.elf_table.proofs.Pieces.{alike-more, differ-here}
 use Rattle.elf_table.proofs.names.matches.Goals as goal
 
@@ -8,30 +8,30 @@ pub returns-then-not-agrees-clause-matched : goal.returns-then-not-agrees-clause
 returns-then-not-agrees-clause-matched g c = λ file h.
     let l = c.loop-done in
     let i = l.invariant in
-    let n = c.min-count.result in
-    let count = c.min-count.ensures in
-    let size : length (take n l.bytes) ≡ n = length-take-le n l.bytes (omega (arith, c.min-count.array_long)) in
-    let piece : c.fill.new.out ≡ slice file (c.args.start + l.done) n =
-    c.in_ok-fill.ensures.read file (i.kept.still_holds file h) ∙ ap (slice file (c.args.start + l.done)) size in
+    let b = c.in_ok-bring.ensures in
+    let p = c.front-piece.result.now in
+    let piece = piece-of_file file c.args.start c.args.want l.done l.window c.bring.new.self p i.stands b.brings
+    (λ bytes e. b.agrees bytes (i.reads.keeps.same_file ∙ h ∙ e)) c.front-piece.ensures in
+    let some = piece-some c.args.start c.args.want l.done l.window c.bring.new.self p _ _ i.stands b.brings b.moves c.front-piece.ensures in
     let other = c.if-not-agrees.ensures in
-    let sized = g.met.S.Source.sized c.args.src.now.source file h in
+    let sized = c.args.src.now.seen.sized file h in
     let ends = c.requires.within in
-    differ-here file c.fill.new.out c.args.wanted.now c.args.start l.done n c.args.want other.0 piece (c.fill.auto.out ∙ size) other.1 other.2 (omega arith) (omega arith)
+    differ-here file p c.args.wanted.now c.args.start l.done (length p) c.args.want other.0 piece refl other.1 other.2 some.1 (omega arith)
 
 pub loop-done-preserved : goal.loop-done-preserved
 loop-done-preserved g c =
     let l = c.loop-done in
     let i = l.invariant in
-    let n = c.min-count.result in
-    let count = c.min-count.ensures in
-    let test = c.loop-done-test.true in
-    let size : length (take n l.bytes) ≡ n = length-take-le n l.bytes (omega (arith, c.min-count.array_long)) in
-    let asked = c.in_ok-fill.ensures.asked in
-    let piece : (file : List ℕ) → g.S.Source.holds c.args.src.now.source file → c.fill.new.out ≡ slice file (c.args.start + l.done) n =
-    λ file h. c.in_ok-fill.ensures.read file (i.kept.still_holds file h) ∙ ap (slice file (c.args.start + l.done)) size in
+    let b = c.in_ok-bring.ensures in
+    let p = c.front-piece.result.now in
+    let some = piece-some c.args.start c.args.want l.done l.window c.bring.new.self p _ _ i.stands b.brings b.moves c.front-piece.ensures in
+    let piece : (file : List ℕ) → c.args.src.now.seen.file ≡ Some file → p ≡ slice file (c.args.start + l.done) (length p) =
+    λ file h. piece-of_file file c.args.start c.args.want l.done l.window c.bring.new.self p i.stands b.brings
+    (λ bytes e. b.agrees bytes (i.reads.keeps.same_file ∙ h ∙ e)) c.front-piece.ensures in
+    let s = c.skip.ensures in
     record {
-      in_range = omega arith;
-      asked = omega arith;
-      kept = Keeps-then g.S.Source.holds g.S.Source.size g.S.Source.failures c.args.src.now.source l.src.source c.fill.new.src.source i.kept c.in_ok-fill.ensures.kept;
-      alike = λ file h. alike-more file c.fill.new.out c.args.wanted.now c.args.start l.done n (piece file h) (c.fill.auto.out ∙ size) (i.alike file h) c.if-not-agrees.ensures;
+      in_range = some.1;
+      stands = Between-next c.args.start c.args.want l.done l.window c.bring.new.self c.skip.new.self p _ _ i.stands b.brings b.moves c.front-piece.ensures s.at s.end s.page s.held;
+      reads = Reads-next c.args.src.now l.src c.bring.new.src c.args.start c.args.want l.done l.window c.bring.new.self p i.stands b.brings b.moves c.front-piece.ensures i.reads b.reads;
+      alike = λ file h. alike-more file p c.args.wanted.now c.args.start l.done (length p) (piece file h) refl (i.alike file h) c.if-not-agrees.ensures;
     }

@@ -1,17 +1,18 @@
-use Rattle.std.proofs.Common.{◌≡◌, ℕ, ◌+◌, ◌-◌, ◌≤◌, List, length, take, None}
+use Rattle.std.proofs.Common.{◌≡◌, ℕ, ◌-◌, ◌≤◌, List, length, take, None, Some}
 use Rattle.elf_model.specs.Bytes.{slice}
 use Rattle.elf_model.specs.Names.{nul_in}
-use Rattle.elf_source.specs.Source.{Keeps}
+use Rattle.elf_source.specs.Source.{Reads}
+use Rattle.elf_table.proofs.NameWindows.{Between}
 use Rattle.elf_table.proofs.names.search.Given as goal
 
 abbrev pub invariant-loop-done : goal.invariant-loop-done
 invariant-loop-done g l = record {
   in_range : l.done ≤ l.want;
-  few : length l.name ≤ l.cap;
-  asked : l.src.asked ≤ l.fn.src.asked + l.done;
-  kept : Keeps g.S.Source.holds g.S.Source.size g.S.Source.failures l.fn.src.source l.src.source;
-  no_nul : (file : List ℕ) → g.S.Source.holds l.fn.src.source file → nul_in (slice file l.start l.done) ≡ None;
-  name : (file : List ℕ) → g.S.Source.holds l.fn.src.source file → l.name ≡ take l.cap (slice file l.start l.done);
+  few : length l.name ≤ l.cap.bytes;
+  stands : Between l.start l.want l.done l.window;
+  reads : Reads l.fn.src l.src l.done;
+  no_nul : (file : List ℕ) → l.fn.src.seen.file ≡ Some file → nul_in (slice file l.start l.done) ≡ None;
+  name : (file : List ℕ) → l.fn.src.seen.file ≡ Some file → l.name ≡ take l.cap.bytes (slice file l.start l.done);
 }
 
 abbrev pub decreases-loop-done : goal.decreases-loop-done

@@ -4,7 +4,7 @@ use Rattle.elf_table_tests.proofs.tables.rows_given.Given as goal
 abbrev pub invariant-loop-row : goal.invariant-loop-row
 invariant-loop-row g l = record {
   same_table : l.cursor.table ≡ l.fn.cursor.table;
-  same_size : g.S.Source.size l.src.source ≡ g.S.Source.size l.fn.src.source;
+  same_size : l.src.seen.size ≡ l.fn.src.seen.size;
 }
 
 abbrev pub decreases-loop-row : goal.decreases-loop-row

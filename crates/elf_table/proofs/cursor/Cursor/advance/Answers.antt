@@ -1,10 +1,48 @@
-use Rattle.std.proofs.Common.{ap, sym, ◌∙◌}
-use Rattle.elf_table.specs.Cursors.{Reading}
-use Rattle.elf_table.proofs.Windows.{Gives-held}
+-- The window stands at the row that was shown: it is passed over, and then the next is held.
+use Rattle.std.proofs.Common.{◌≡◌, ◌<◌, None, rules, refl, ◌∙◌, arith}
+use Rattle.elf_table.proofs.Standing.{Stands-skip, Stands-next, fault_at_row, Gives-next}
 use Rattle.elf_table.proofs.cursor.Cursor.advance.Goals as goal
 
-pub returns-then-self-gt0-clause-steps : goal.returns-then-self-gt0-clause-steps
-returns-then-self-gt0-clause-steps g c =
-    let s = c.skip.ensures in
-    Gives-held (g.S.Source.holds c.args.src.now.source) c.args.self.now c.skip.new.self c.args.src.now.asked s.table s.index s.left s.unread s.whole s.row s.held s.failed
-    (sym (ap (λ (r : Reading). r.failed) c.self.view_is) ∙ c.in_default.is)
+pub returns-in-Err-clause-steps : goal.returns-in-Err-clause-steps
+returns-in-Err-clause-steps g c =
+    let i = c.self.inside in
+    let inv = c.self.invariant in
+    let brings = c.in-Err.ensures.brings in
+    rw (← c.self.view_is) (record {
+      same_table = refl;
+      failed = refl;
+      at_next = λ nf.
+          let stands = Stands-skip i.table i.index i.shown i.window c.skip.new.self c.skip.ensures.at c.skip.ensures.held (inv.4 nf) in
+          let entry = c.entry-entry.ensures.value in
+          fault_at_row i.table i.index c.skip.new.self c.in-Err.fault stands (omega (arith, brings.0)) brings.1;
+    })
+
+pub invariant_of-self-2 : goal.invariant_of-self-2
+invariant_of-self-2 g c =
+    let i = c.self.inside in
+    let inv = c.self.invariant in
+    let below : i.index < i.table.count = let few = inv.0 in let other = c.if-self-len.false in let len = c.len.ensures in omega arith in
+    let brings = c.in_default-bring.ensures.brings in
+    let moves = c.bring.ensures.moves in
+    let entry = c.entry-entry.ensures in
+    let page = c.skip.ensures.page ∙ inv.2 in
+    let ends = c.skip.ensures.end ∙ inv.3 in (
+      omega arith,
+      brings.long,
+      moves.same_page ∙ page,
+      moves.same_end ∙ ends,
+      λ nf.
+          let stands = Stands-skip i.table i.index i.shown i.window c.skip.new.self c.skip.ensures.at c.skip.ensures.held (inv.4 nf) in
+          Stands-next i.table i.index c.entry-entry.result c.skip.new.self c.bring.new.self entry.value (omega arith) (omega arith) below page ends stands brings,
+    )
+
+pub returns-clause-steps : goal.returns-clause-steps
+returns-clause-steps g c =
+    let i = c.self.inside in
+    let inv = c.self.invariant in
+    let nf : i.failed ≡ None = search rules in
+    let below : i.index < i.table.count = let few = inv.0 in let other = c.if-self-len.false in let len = c.len.ensures in omega arith in
+    let stands = Stands-skip i.table i.index i.shown i.window c.skip.new.self c.skip.ensures.at c.skip.ensures.held (inv.4 nf) in
+    rw (← c.self.view_is)
+    (Gives-next c.args.src.now.seen.file i.table i.index i.shown c.entry-entry.result i.failed i.window c.skip.new.self c.bring.new.self c.entry-entry.ensures.value nf below
+    c.skip.ensures.at c.skip.ensures.held stands c.in_default-bring.ensures.brings c.in_default-bring.ensures.agrees)

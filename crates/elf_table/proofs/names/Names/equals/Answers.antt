@@ -14,11 +14,11 @@ returns-then-off-self-clause-compared g c = λ file h.
     let n = c.args.self.now in
     let s = ap (λ (s : Strings). s.size) c.self.view_is in
     let past = c.if-off-self.true in
-    rw c.refused.ensures (
+    rw c.refused.ensures (λ _. (
       refl,
       same-past file c.args.wanted.now n.at n.size c.args.off (omega arith)
           (λ z o. elim c.else-self-eq0.branch [ else-self-eq0-via-then-self-eq0+else-off-eq0 w ↦ absurd (omega arith) | else-self-eq0-via-else-self-eq0 w ↦ absurd (omega arith) ]),
-    )
+    ))
 
 pub returns-then-not-branch-clause-compared : goal.returns-then-not-branch-clause-compared
 returns-then-not-branch-clause-compared g c = λ file h.
@@ -28,7 +28,7 @@ returns-then-not-branch-clause-compared g c = λ file h.
     let below = c.if-off-self.false in
     let want = c.min-want.ensures in
     let ends = c.requires.within (omega arith) in
-    let sized = g.met.S.Source.sized c.args.src.now.source file h in
+    let sized = c.args.src.now.seen.sized file h in
     let found = rw (c.if-not-branch.true, a) at (c.in_ok-matches.ensures.matched file h) in
     same-false file c.args.wanted.now n.at n.size c.args.off c.min-want.result (omega arith) (omega arith) (omega arith) (omega arith) found
 
@@ -41,7 +41,7 @@ returns-then-want-full-clause-compared g c = λ file h.
     let want = c.min-want.ensures in
     let full = c.if-want-full.true in
     let ends = c.requires.within (omega arith) in
-    let sized = g.met.S.Source.sized c.args.src.now.source file h in
+    let sized = c.args.src.now.seen.sized file h in
     let found = rw (c.if-not-branch.false, a) at (c.in_ok-matches.ensures.matched file h) in
     same-true file c.args.wanted.now n.at n.size c.args.off c.min-want.result (omega arith) (omega arith) (omega arith) (omega arith) found
 
@@ -54,7 +54,7 @@ returns-clause-compared g c = λ file h.
     let want = c.min-want.ensures in
     let full = c.if-want-full.false in
     let ends = c.requires.within (omega arith) in
-    let sized = g.met.S.Source.sized c.args.src.now.source file h in
+    let sized = c.args.src.now.seen.sized file h in
     let found = rw (c.if-not-branch.false, a) at (c.in_ok-matches.ensures.matched file h) in
-    rw c.refused-2.ensures
-    (refl, same-unended file c.args.wanted.now n.at n.size c.args.off c.min-want.result (omega arith) (omega arith) (omega arith) (omega arith) found)
+    rw c.refused-2.ensures (λ _.
+    (refl, same-unended file c.args.wanted.now n.at n.size c.args.off c.min-want.result (omega arith) (omega arith) (omega arith) (omega arith) found))

@@ -1,0 +1,99 @@
+-- Each row that the cursor gives is the file's, and is shown behind those before it.
+use Rattle.std.proofs.Common.{◌≡◌, ◌+◌, ◌*◌, ◌<◌, refl, ap, sym, ◌∙◌, arith}
+use Rattle.std.proofs.lemmas.Result.{err_from_is_err_and}
+use Rattle.elf_source.proofs.ReadsLaws.{Reads-none, Reads-then, Reads-to}
+use Rattle.elf_table.proofs.SaysLaws.{still_open}
+use Rattle.elf_table.specs.Tables.{Rows}
+use Rattle.elf_listing.specs.Kinds.{row_size, own_cost, row_items, rows_cost}
+use Rattle.elf_listing.proofs.LoopLaws.{rows_none, rows_more, rows_unread, rows_stopped, account_begins, account_step, account_row, agrees_none, given_index, given_row}
+use Rattle.elf_listing.proofs.ShowLaws.{StopSays-then}
+use Rattle.elf_listing.proofs.listing.Listing.rows.Goals as goal
+
+pub rows-init : goal.rows-init
+rows-init g c =
+    let n = c.new-cursor.ensures in
+    record {
+      same_table = n.table;
+      not_failed = n.failed;
+      counted = omega (arith, n.index, n.left);
+      keeps = record { same_src = refl; same_out = refl; same_file = refl; same_cap = refl };
+      reads = Reads-none _ _;
+      asked = omega (arith, account_begins c.new-cursor.result c.args.table c.args.kind.now c.args.self.now.cap.bytes c.requires.entry n.failed n.unread n.left);
+      agrees = λ file held. agrees_none file c.new-cursor.result n.held;
+      text = λ file held of_kind. rows_none _ _ _ n.index;
+    }
+
+pub returns-in_err-advance-clause-shows : goal.returns-in_err-advance-clause-shows
+returns-in_err-advance-clause-shows g c = λ file held of_kind.
+    let p = err_from_is_err_and c.from_residual.result c.from_residual.ensures.1 in
+    let known = c.rows.invariant in
+    rw (p.1, p.2) (rows_unread (row_items c.args.kind.now file c.args.self.now.cap.bytes) c.rows.cursor.index _ _ _ _ _ (omega (arith, known.counted)) (c.in_err-advance.ensures.steps.at_next known.not_failed) (known.text file held of_kind))
+
+pub returns-in_err-row-clause-lists : goal.returns-in_err-row-clause-lists
+returns-in_err-row-clause-lists g c =
+    let p = err_from_is_err_and c.from_residual-in_err-row.result c.from_residual-in_err-row.ensures.1 in
+    let known = c.rows.invariant in
+    let gives = rw c.if-branch.true at c.in_ok-advance.ensures.steps in
+    let account = c.in_ok-advance.ensures.account in
+    let reads = c.in_ok-advance.ensures.reads in
+    let lists = c.in_err-row.ensures.lists in
+    let within = account_row c.rows.cursor c.advance.new.self _ _ _ _ gives.one_less account known.asked in
+    let says = rw known.keeps.same_cap at lists.2 in
+    let asks = rw known.keeps.same_cap at lists.1 in
+    rw (p.1, p.2) (
+      record {
+        same_src = lists.0.same_src ∙ known.keeps.same_src;
+        same_out = lists.0.same_out ∙ known.keeps.same_out;
+        same_file = lists.0.same_file ∙ known.keeps.same_file;
+        same_cap = lists.0.same_cap ∙ known.keeps.same_cap;
+      },
+      Reads-to (Reads-then known.reads (Reads-then reads asks)) (omega (arith, within, asks.at_most)),
+      StopSays-then _ _ _ _ _ _ _ _ within (Reads-then known.reads reads) says,
+    )
+
+pub returns-in_err-row-clause-shows : goal.returns-in_err-row-clause-shows
+returns-in_err-row-clause-shows g c = λ file held of_kind.
+    let p = err_from_is_err_and c.from_residual-in_err-row.result c.from_residual-in_err-row.ensures.1 in
+    let known = c.rows.invariant in
+    let gives = rw c.if-branch.true at c.in_ok-advance.ensures.steps in
+    let now = known.reads.keeps.same_file ∙ held in
+    let below : c.rows.cursor.index < c.args.table.count = omega (arith, known.counted, gives.one_less) in
+    let kind = of_kind (omega (arith, below)) in
+    let row = given_row file c.args.kind.now c.args.table gives c.row.ensures now (known.agrees file held) known.same_table c.requires.entry kind.1 in
+    let shown = rw (given_index gives c.row.ensures, known.keeps.same_cap) at (c.in_err-row.ensures.shows file (c.in_ok-advance.ensures.reads.keeps.same_file ∙ now) kind.0 row) in
+    rw (p.1, p.2) (rows_stopped (row_items c.args.kind.now file c.args.self.now.cap.bytes) c.rows.cursor.index _ _ _ _ _ below (known.text file held of_kind) shown)
+
+pub rows-preserved : goal.rows-preserved
+rows-preserved g c =
+    let known = c.rows.invariant in
+    let gives = rw c.if-branch.true at c.in_ok-advance.ensures.steps in
+    let account = c.in_ok-advance.ensures.account in
+    let lists = c.in_ok-row.ensures.lists.0 in
+    let asks = c.in_ok-row.ensures.lists.1 in
+    let reads = c.in_ok-advance.ensures.reads in
+    let most = rw known.keeps.same_cap at asks.at_most in
+    let asked = account_step c.rows.cursor c.advance.new.self _ _ _ _ _ gives.one_less account most known.asked in
+    record {
+      same_table = gives.same_table ∙ known.same_table;
+      not_failed = gives.still_not_failed;
+      counted = omega (arith, known.counted, gives.one_less, gives.next_index);
+      keeps = record {
+        same_src = lists.same_src ∙ known.keeps.same_src;
+        same_out = lists.same_out ∙ known.keeps.same_out;
+        same_file = lists.same_file ∙ known.keeps.same_file;
+        same_cap = lists.same_cap ∙ known.keeps.same_cap;
+      };
+      reads = Reads-to (Reads-then known.reads (Reads-then reads asks)) (omega (arith, asked));
+      asked = asked;
+      agrees = λ file held. gives.agrees file (known.reads.keeps.same_file ∙ held) (known.agrees file held);
+      text = λ file held of_kind.
+          let now = known.reads.keeps.same_file ∙ held in
+          let below : c.rows.cursor.index < c.args.table.count = omega (arith, known.counted, gives.one_less) in
+          let kind = of_kind (omega (arith, below)) in
+          let row = given_row file c.args.kind.now c.args.table gives c.row.ensures now (known.agrees file held) known.same_table c.requires.entry kind.1 in
+          let shown = rw (given_index gives c.row.ensures, known.keeps.same_cap) at (c.in_ok-row.ensures.shows file (reads.keeps.same_file ∙ now) kind.0 row) in
+          rows_more (row_items c.args.kind.now file c.args.self.now.cap.bytes) c.rows.cursor.index _ gives.next_index (known.text file held of_kind) shown;
+    }
+
+pub invariant_of-self : goal.invariant_of-self
+invariant_of-self g c = record { loaded = still_open _ _ c.advance.ensures.reads c.rows.self.loaded }

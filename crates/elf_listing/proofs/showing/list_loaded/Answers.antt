@@ -1,0 +1,72 @@
+-- The load's checks stand before the tables, and what is asked for is added up.
+use Rattle.std.proofs.Common.{rules, ◌≡◌, true, false, sym, ap, arith, ◌∙◌}
+use Rattle.std.proofs.lemmas.Result.{err_from_is_err_and}
+use Rattle.elf_model.specs.Listing.{has_tables}
+use Rattle.elf_model.proofs.ListingLemmas.{load_none}
+use Rattle.elf_record.specs.declared.ehdr.Ehdr.{Ehdr}
+use Rattle.elf_listing.proofs.FileShown.{load_alone, load_passed}
+use Rattle.elf_listing.proofs.RowLaws.{Stopped-first, Writes-as}
+use Rattle.elf_listing.proofs.SectionCosts.{load_below, load_within, load_most, loaded_within, loaded_below}
+use Rattle.elf_listing.proofs.ShowLaws.{Whole-none, Costs-then, Costs-fault}
+use Rattle.elf_listing.proofs.showing.list_loaded.Goals as goal
+
+pub returns-then-not-intersects-clause-text : goal.returns-then-not-intersects-clause-text
+returns-then-not-intersects-clause-text g c = λ file held.
+    let none : has_tables c.args.parts.0 ≡ false = search rules in
+    rw (load_none file c.args.store.now.slots c.args.cap.bytes c.args.parts.0 none) (Whole-none _)
+
+pub returns-in_err-loaded-clause-below : goal.returns-in_err-loaded-clause-below
+returns-in_err-loaded-clause-below g c =
+    let p = err_from_is_err_and c.from_residual.result c.from_residual.ensures.1 in
+    let below = load_below c.args.header.now c.args.src.now.seen.size c.args.store.now.slots c.args.cap.bytes in
+    rw (p.1, p.2) (Costs-fault _ _ _ _ _ _ (omega (arith, below)) c.load.ensures.reads c.in_err-loaded.ensures.says)
+
+pub returns-in_err-loaded-clause-cost : goal.returns-in_err-loaded-clause-cost
+returns-in_err-loaded-clause-cost g c = λ file held.
+    let p = err_from_is_err_and c.from_residual.result c.from_residual.ensures.1 in
+    let tables : has_tables c.args.parts.0 ≡ true = search rules in
+    let read = c.requires.header file held in
+    let sized = sym (c.args.src.now.seen.sized file held) in
+    rw (p.1, p.2) (Costs-fault _ _ _ _ _ _ (load_within file c.args.header.now c.args.src.now.seen.size c.args.store.now.slots c.args.cap.bytes c.args.parts.0 read.1 sized read.0 tables) c.load.ensures.reads c.in_err-loaded.ensures.says)
+
+pub returns-in_err-loaded-clause-text : goal.returns-in_err-loaded-clause-text
+returns-in_err-loaded-clause-text g c = λ file held.
+    let p = err_from_is_err_and c.from_residual.result c.from_residual.ensures.1 in
+    let tables : has_tables c.args.parts.0 ≡ true = search rules in
+    rw (p.1, p.2) (Stopped-first _ _ _ (load_alone file c.args.store.now.slots c.args.cap.bytes c.args.parts.0 _ _ (c.in_err-loaded.ensures.held file held (c.requires.header file held).1) c.load.ensures.slots tables))
+
+pub list_tables-requires-clause-opened : goal.list_tables-requires-clause-opened
+list_tables-requires-clause-opened g c =
+    let reads = c.load.ensures.reads in
+    record {
+      size = c.in_ok-loaded.ensures.opens.same_size ∙ sym reads.keeps.same_size;
+      belongs = λ file held.
+          let before = sym reads.keeps.same_file ∙ held in
+          c.in_ok-loaded.ensures.held file before (c.requires.header file before).1;
+    }
+
+pub returns-clause-below : goal.returns-clause-below
+returns-clause-below g c =
+    let opens = c.in_ok-loaded.ensures.opens in
+    let size = c.args.src.now.seen.size in
+    let below = loaded_below c.in_ok-loaded.loaded c.load.new.store c.args.header.now size c.args.store.now.slots c.args.cap.bytes c.args.parts.0 opens c.load.ensures.slots in
+    let most = load_most c.args.header.now size c.args.store.now.slots in
+    Costs-then _ _ _ _ _ _ _ _ (omega (arith, below, most, c.load.ensures.reads.at_most)) c.load.ensures.reads c.list_tables.ensures.costs
+
+pub returns-clause-cost : goal.returns-clause-cost
+returns-clause-cost g c = λ file held.
+    let tables : has_tables c.args.parts.0 ≡ true = search rules in
+    let read = c.requires.header file held in
+    let belongs = c.in_ok-loaded.ensures.held file held read.1 in
+    let opens = c.in_ok-loaded.ensures.opens in
+    let within = loaded_within file c.in_ok-loaded.loaded c.load.new.store c.args.store.now.slots c.args.cap.bytes c.args.parts.0 belongs c.load.ensures.slots read.0 tables in
+    let most = load_most c.args.header.now c.args.src.now.seen.size c.args.store.now.slots in
+    let same = ap (λ (header : Ehdr). header.e_shnum) opens.same_header in
+    Costs-then _ _ _ _ _ _ _ _ (omega (arith, within, most, same, c.load.ensures.reads.at_most)) c.load.ensures.reads c.list_tables.ensures.costs
+
+pub returns-clause-text : goal.returns-clause-text
+returns-clause-text g c = λ file held.
+    let tables : has_tables c.args.parts.0 ≡ true = search rules in
+    let belongs = c.in_ok-loaded.ensures.held file held (c.requires.header file held).1 in
+    Writes-as _ _ _ (load_passed file c.args.store.now.slots _ c.args.cap.bytes c.args.parts.0 belongs.passes c.load.ensures.slots tables)
+    (c.list_tables.ensures.text file (c.load.ensures.reads.keeps.same_file ∙ held))

@@ -1,0 +1,10 @@
+-- Why a listing stops.
+use Rattle.elf_table.specs.declared.fault.Fault.{Fault}
+use Rattle.elf_table.specs.declared.fault.Fault.TheVariants.{Refused as Refuses, Source as Unread}
+use Rattle.elf_listing.specs.declared.stop.Stop.{Stop}
+use Rattle.elf_listing.specs.declared.stop.Stop.TheVariants.{Refused, Source}
+
+-- what a fault of a read is to a listing
+abbrev pub stop_of : Fault → Stop
+stop_of (Refuses refusal) = Refused refusal
+stop_of (Unread fault at) = Source fault at

@@ -1,0 +1,67 @@
+//! The rows of a table, shown one after another.
+ghost use Rattle.std.specs.Prelude.{◌≡◌, length};
+ghost use Rattle.elf_listing.specs.Kinds.{row_size, own_cost, rows_cost, KindWithin, IndexFits, IsTableOf, OfRow, OfRows};
+ghost use Rattle.elf_listing.specs.Shows.{Lists};
+
+use crate::listing::Listing;
+use crate::stop::Stop;
+use elf_source::{Sink, Source};
+use elf_table::{Cursor, Names, Row, Table};
+
+/// What the rows of a table are listed as.
+#[derive(Clone, Copy)]
+pub enum Kind {
+    /// Program headers, a `P` line each.
+    Segments,
+    /// The symbols of a section, a `Y` line each.
+    Symbols {
+        /// The index of the section.
+        section: u16,
+        /// The string table of their names.
+        names: Names,
+    },
+    /// The relocation entries of a section, an `R` line each.
+    Relocations {
+        /// The index of the section.
+        section: u16,
+        /// The machine of the file.
+        machine: u16,
+        /// The symbols that they refer to, with their names.
+        linked: Option<(Table, Names)>,
+    },
+}
+
+impl<S: Source, W: Sink> Listing<'_, '_, '_, S, W> {
+    /// Shows the rows of a table one after another, up to the first that is refused.
+    pub(crate) fn rows(&mut self, table: Table, kind: &Kind) -> Result<(), Stop>
+        requires { IsTableOf self.old.src.now.seen.size kind.now table }
+        ensures lists { Lists self.old self.new result
+            (rows_cost kind.now table self.old.cap.bytes) }
+        ensures shows { OfRows self.old self.new result table kind.now }
+    {
+        let mut cursor = Cursor::new(table);
+        'rows: while cursor.advance(self.src)? {
+            self.row(&cursor.row(), kind)?;
+        }
+        Ok(())
+    }
+
+    /// Shows one row.
+    fn row(&mut self, row: &Row<'_>, kind: &Kind) -> Result<(), Stop>
+        requires whole { length row.now.bytes.now ≡ row_size kind.now }
+        requires within { KindWithin self.old.src.now.seen.size kind.now }
+        requires fits { IndexFits kind.now row.now.index }
+        ensures lists { Lists self.old self.new result (own_cost kind.now self.old.cap.bytes) }
+        ensures shows { OfRow self.old self.new result row.now kind.now }
+    {
+        match kind {
+            Kind::Segments => self.segment_row(row),
+            Kind::Symbols { section, names } => self.symbol_row(row, *section, names),
+            Kind::Relocations {
+                section,
+                machine,
+                linked,
+            } => self.relocation_row(row, *section, *machine, *linked),
+        }
+    }
+}

@@ -1,0 +1,163 @@
+//! The call that writes a listing.
+ghost use Rattle.std.specs.Prelude.{◌≡◌, ◌+◌, ◌-◌, ◌^◌, ◌≤◌, [], ◌∷◌, false, ℕ, List, Some, None, Ok, IfErr};
+ghost use Rattle.elf_model.specs.Checks.{first_refusal, length_checks};
+ghost use Rattle.elf_model.specs.declared.causes.Refusal.{Refusal as Refuses};
+ghost use Rattle.elf_model.specs.Cost.{cost, ceiling, behind_header};
+ghost use Rattle.elf_model.specs.Lines.{header_line};
+ghost use Rattle.elf_model.specs.Listing.{Line as LineItem, has_tables, where_asked, HEADER};
+ghost use Rattle.elf_model.specs.Report.{items, load_items, table_items};
+ghost use Rattle.elf_record.specs.Ehdr.{IsEhdr};
+ghost use Rattle.elf_listing.specs.Parts.{AreListed, tables_listed};
+ghost use Rattle.elf_table.specs.Faults.{HeaderRead};
+ghost use Rattle.elf_table.specs.Load.{IsOpen};
+ghost use Rattle.elf_listing.specs.Reports.{Reports, FaultSays, AsksWithin, Leaves};
+ghost use Rattle.elf_listing.specs.Shows.{Costs, IsOfOutput, Writes};
+
+use crate::end::{End, RunFault};
+use crate::listing::Listing;
+use crate::stop::Stop;
+use bitflags::Flags;
+use elf_lines::{header_row, show_refusal};
+use elf_record::{Ehdr, Parts};
+use elf_source::{Counted, Out, Sink, Source};
+use elf_table::{Cap, Caps, File, HeaderStore, Loaded, NameBuf, header, load};
+
+/// All parts but the file header's.
+const TABLES: Parts = Parts(126);
+
+/// Writes the listing of a file, as far as `parts` has it: the file header, the section headers, the
+/// program headers, the symbols, the relocation entries; at the first fault its line ends the listing.
+/// The store has a slot for each header that the caps permit, and is loaded with the file's section
+/// headers. Where the caps have a budget no more is read, and the line of a refusal for want of budget
+/// may end the listing sooner; afterwards no limit is set.
+///
+/// # Errors
+/// A fault of the source or of the output. What went out is a front of the listing.
+pub fn show<S: Source, W: Sink>(
+    src: &mut Counted<S>,
+    store: &mut HeaderStore,
+    caps: Caps,
+    parts: Parts,
+    out: &mut Out<W>,
+) -> Result<End, RunFault>
+    requires { (store.old.slots ≡ caps.headers) × AreListed parts.0 × (src.old.asked ≤ 2 ^ 127) }
+    ensures slots { store.new.slots ≡ store.old.slots }
+    ensures leaves { Leaves src.old src.new }
+    ensures says { IfErr result (FaultSays src.old src.new out.new) }
+    ensures text { (file : List ℕ) → src.old.seen.file ≡ Some file →
+        Reports file caps parts.0 out.old out.new result }
+    ensures cost { (file : List ℕ) → src.old.seen.file ≡ Some file →
+        src.new.asked ≤ src.old.asked + cost file caps.headers caps.name.bytes parts.0 }
+    // For every source.
+    ensures asks { AsksWithin caps parts.0 src.old src.new result }
+{
+    src.limit(caps.budget);
+    let end = list(src, store, caps.name, parts, out);
+    src.limit(None);
+    match end {
+        Ok(()) => Ok(End::Listed),
+        Err(Stop::Refused(refusal)) => match show_refusal(refusal, out) {
+            Ok(()) => Ok(End::Refused(refusal)),
+            Err(fault) => Err(RunFault::Out(fault)),
+        },
+        Err(Stop::Source { fault, at }) => Err(RunFault::Source { fault, at }),
+        Err(Stop::Out(fault)) => Err(RunFault::Out(fault)),
+    }
+}
+
+/// Lists the file header and what stands behind it, up to the first fault.
+fn list<S: Source, W: Sink>(
+    src: &mut Counted<S>,
+    store: &mut HeaderStore,
+    cap: Cap,
+    parts: Parts,
+    out: &mut Out<W>,
+) -> Result<(), Stop>
+    requires { AreListed parts.0 }
+    ensures slots { store.new.slots ≡ store.old.slots }
+    ensures ceiling { Costs src.old src.new out.new result
+        (ceiling src.old.seen.size store.old.slots cap.bytes) }
+    ensures unread { (refusal : Refuses) →
+        first_refusal (length_checks src.old.seen.size) ≡ Some refusal → src.new ≡ src.old }
+    ensures alone { has_tables parts.0 ≡ false → src.new.asked ≤ src.old.asked + 64 }
+    ensures cost { (file : List ℕ) → src.old.seen.file ≡ Some file →
+        Costs src.old src.new out.new result (cost file store.old.slots cap.bytes parts.0) }
+    ensures text { (file : List ℕ) → src.old.seen.file ≡ Some file →
+        Writes out.old out.new result (items file store.old.slots cap.bytes parts.0) }
+{
+    let header = header(src)?;
+    list_header(&header, parts, out)?;
+    list_loaded(src, store, &header, cap, parts, out)
+}
+
+/// Lists the file header, where the parts have it: its `H` line (gABI 4, ELF Header).
+fn list_header<W: Sink>(header: &Ehdr, parts: Parts, out: &mut Out<W>) -> Result<(), Stop>
+    ensures fails { IfErr result (IsOfOutput out.new) }
+    ensures text { (file : List ℕ) → IsEhdr file 0 header.now → Writes out.old out.new result
+        (where_asked parts.0 HEADER (LineItem (header_line file) ∷ [])) }
+{
+    if !parts.contains(Parts::HEADER) {
+        return Ok(());
+    }
+    out.put(&header_row(header))?;
+    Ok(())
+}
+
+/// Loads the section headers and lists the tables, where the parts have more than the file header.
+/// `header` is the file's header.
+fn list_loaded<S: Source, W: Sink>(
+    src: &mut Counted<S>,
+    store: &mut HeaderStore,
+    header: &Ehdr,
+    cap: Cap,
+    parts: Parts,
+    out: &mut Out<W>,
+) -> Result<(), Stop>
+    requires listed { AreListed parts.0 }
+    requires header { (file : List ℕ) → src.old.seen.file ≡ Some file →
+        HeaderRead file (Ok header.now) }
+    ensures slots { store.new.slots ≡ store.old.slots }
+    ensures below { Costs src.old src.new out.new result
+        (ceiling src.old.seen.size store.old.slots cap.bytes - 64) }
+    ensures alone { has_tables parts.0 ≡ false → src.new ≡ src.old }
+    ensures cost { (file : List ℕ) → src.old.seen.file ≡ Some file →
+        Costs src.old src.new out.new result
+        (behind_header file store.old.slots cap.bytes parts.0) }
+    ensures text { (file : List ℕ) → src.old.seen.file ≡ Some file →
+        Writes out.old out.new result (load_items file store.old.slots cap.bytes parts.0) }
+{
+    if !parts.intersects(TABLES) {
+        return Ok(());
+    }
+    let loaded = load(src, store, header)?;
+    list_tables(src, out, loaded, store, cap, parts)
+}
+
+/// Lists the tables of a file whose section headers are in the store.
+fn list_tables<S: Source, W: Sink>(
+    src: &mut Counted<S>,
+    out: &mut Out<W>,
+    loaded: Loaded,
+    store: &HeaderStore,
+    cap: Cap,
+    parts: Parts,
+) -> Result<(), Stop>
+    requires listed { AreListed parts.0 }
+    requires opened { IsOpen src.old loaded store.now }
+    requires whole { store.now.loaded ≡ loaded.header.e_shnum }
+    ensures costs { Costs src.old src.new out.new result
+        (tables_listed parts.0 loaded store.now cap.bytes) }
+    ensures text { (file : List ℕ) → src.old.seen.file ≡ Some file →
+        Writes out.old out.new result (table_items file cap.bytes parts.0) }
+{
+    let name = NameBuf::new();
+    let file = File { loaded, store };
+    let mut listing = Listing {
+        src,
+        out,
+        file,
+        cap,
+        name,
+    };
+    listing.tables(parts)
+}

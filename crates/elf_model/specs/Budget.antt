@@ -1,0 +1,38 @@
+-- A listing within a budget: so many bytes may be asked for and no more.
+use Rattle.std.specs.Prelude.{ℕ, ◌≡◌, ◌<◌, List, ◌++◌, length, Option, None, Some, ◌⊎◌}
+use Rattle.elf_model.specs.Cost.{cost}
+use Rattle.elf_model.specs.Lines.{refusal_line}
+use Rattle.elf_model.specs.Listing.{Item, lines_of, fault_of, report_of}
+use Rattle.elf_model.specs.Report.{items}
+use Rattle.elf_model.specs.declared.causes.Refusal.{Refusal}
+use Rattle.elf_model.specs.declared.causes.Cause.TheVariants.{Budget}
+
+-- a refusal is for want of budget
+abbrev pub IsBudget : Refusal → Type 0
+IsBudget refusal = refusal.cause ≡ Budget
+
+-- a text is the whole report of the items, and a fault is their first
+pub record IsReport (items : List Item) (text : List ℕ) (fault : Option Refusal) : Type 0 where
+  pub text_is : text ≡ report_of items
+  pub fault_is : fault ≡ fault_of items
+
+-- a text is a front of the items, each a line and whole, and then the line of a refusal for want of budget, whose offset is
+-- below the file's length
+pub record IsCut (size : ℕ) (items : List Item) (text : List ℕ) (fault : Option Refusal) : Type 0 where
+  pub front : List Item
+  pub rest : List Item
+  pub split : items ≡ front ++ rest
+  pub no_fault : fault_of front ≡ None
+  pub refusal : Refusal
+  pub for_budget : IsBudget refusal
+  pub inside : refusal.at < size
+  pub text_is : text ≡ lines_of front ++ refusal_line refusal
+  pub fault_is : fault ≡ Some refusal
+
+-- what a listing within a budget writes, and the fault that it answers: its report, or a front of it where it costs more
+-- than the budget. Without a budget it is the report
+abbrev pub IsBudgeted : Option ℕ → List ℕ → (headers cap parts : ℕ) → List ℕ → Option Refusal → Type 0
+IsBudgeted None file headers cap parts text fault = IsReport (items file headers cap parts) text fault
+IsBudgeted (Some budget) file headers cap parts text fault =
+    IsReport (items file headers cap parts) text fault
+    ⊎ ((budget < cost file headers cap parts) × IsCut (length file) (items file headers cap parts) text fault)

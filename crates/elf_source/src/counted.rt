@@ -1,0 +1,146 @@
+//! A source whose reads are counted.
+ghost use Rattle.std.specs.Prelude.{◌≡◌, ℕ, ◌+◌, ◌-◌, ◌^◌, ◌<◌, ◌≤◌, List, length, take, drop, None, Some, IfErr, OnOk};
+ghost use Rattle.elf_source.specs.Source.{Reads, Faults, Blames, Asks, AsksOnce, Fills, IsReadable, IsWithin, Limits, left};
+
+use crate::faults::{AskFault, SourceFault};
+use crate::source::Source;
+use std::marker::Model;
+
+/// The most bytes that one read within a limit may ask for.
+pub const READ_BYTES: usize = 4096;
+
+/// A source, how many bytes were asked of it, and the count that this may not pass, where a limit is
+/// set.
+#[derive(Drop)]
+pub struct Counted<S: Source> {
+    source: S,
+    asked: u128,
+    most: Option<u128>,
+    ghost within: { IsWithin asked most },
+    ghost fits: { asked < 2 ^ 128 },
+}
+
+impl<S: Source> Model for Counted<S> {
+    ghost use Rattle.elf_source.specs.Source.{Counting};
+
+    ghost Value = { Counting };
+
+    ghost view = { λ c. record {
+      seen = S.seen c.source;
+      asked = c.asked;
+      most = c.most;
+      within = c.within;
+      fits = c.fits;
+    } };
+}
+
+impl<S: Source> Counted<S> {
+    /// Counts what is asked of `source` from now on, with no limit.
+    pub fn new(source: S) -> Self
+        ensures seen { result.seen ≡ S.seen source }
+        ensures asked { result.asked ≡ 0 }
+        ensures unlimited { result.most ≡ None }
+    {
+        Counted {
+            source,
+            asked: 0,
+            most: None,
+        }
+    }
+
+    /// How many bytes were asked for, in reads that failed too. It stays at 2^128 - 1.
+    pub fn asked(&self) -> u128
+        ensures { result ≡ self.now.asked }
+    {
+        self.asked
+    }
+
+    /// The length of the source in bytes.
+    pub fn length(&self) -> u64
+        ensures value { result ≡ self.now.seen.size }
+        ensures fits { self.now.seen.size < 2 ^ 64 }
+    {
+        self.source.length()
+    }
+
+    /// How many bytes [`Counted::ask`] may still ask for, where a limit is set.
+    pub fn left(&self) -> Option<u64>
+        ensures { result ≡ left self.now }
+    {
+        match self.most {
+            None => None,
+            Some(most) => Some((most - self.asked) as u64),
+        }
+    }
+
+    /// Sets how many bytes more may be asked for; with None the limit is taken away.
+    pub fn limit(&mut self, bytes: Option<u64>)
+        ensures { Limits self.old self.new bytes }
+    {
+        self.most = match bytes {
+            None => None,
+            Some(bytes) => Some(self.asked.saturating_add(u128::from(bytes))),
+        };
+    }
+
+    /// Fills `out`, which has at most 4,096 bytes, with the bytes from the offset `at` on, none of them
+    /// past the length. `asked` rises by the length of `out`, and what is left of a limit falls by as
+    /// much, at a fault of the source too.
+    ///
+    /// # Errors
+    /// `Budget` where a limit has fewer bytes left than `out` has: nothing is asked and nothing changes.
+    /// Else the source's own fault: `Device` only where its count of failures rose, `Ended` only where it
+    /// isn't honest. After a fault `out` holds any bytes, and the source may be asked again.
+    pub fn ask(&mut self, at: u64, out: &mut [u8]) -> Result<(), AskFault>
+        requires { IsReadable self.old at (length out.old) }
+        ensures reads { Reads self.old self.new (length out.old) }
+        ensures blames { IfErr result (Blames self.old self.new (length out.old)) }
+        ensures slice { (file : List ℕ) → self.old.seen.file ≡ Some file → OnOk result
+            (out.new ≡ take (length out.old) (drop at file)) }
+        ensures asks { Asks self.old self.new (length out.old) result }
+        ensures once { AsksOnce S.one_read self.old self.new at (length out.old) result }
+    {
+        let count = out.len();
+        if let Some(left) = self.left() {
+            if count as u64 > left {
+                return Err(AskFault::Budget);
+            }
+        }
+        self.asked = self.asked.saturating_add(count as u128);
+        match self.source.fill(at, out) {
+            Ok(()) => Ok(()),
+            Err(fault) => Err(AskFault::Source(fault)),
+        }
+    }
+
+    /// Fills `out` with the bytes from the offset `at` on, none of them past the length, whatever the
+    /// limit. `asked` rises by the length of `out`, at a fault too; what is left of a limit stays as it
+    /// is.
+    ///
+    /// # Errors
+    /// The source's own: `Device` only where its count of failures rose, `Ended` only where it
+    /// isn't honest. After either, `out` holds any bytes, and the source may be asked again.
+    pub fn fill(&mut self, at: u64, out: &mut [u8]) -> Result<(), SourceFault>
+        requires { at + length out.old ≤ self.old.seen.size }
+        ensures fills { Fills self.old self.new (length out.old) }
+        ensures faults { IfErr result (Faults self.old.seen self.new.seen) }
+        ensures slice { (file : List ℕ) → self.old.seen.file ≡ Some file → OnOk result
+            (out.new ≡ take (length out.old) (drop at file)) }
+        ensures once { S.one_read self.old.seen at (length out.old) self.new.seen }
+    {
+        let left = self.left();
+        self.most = None;
+        self.asked = self.asked.saturating_add(out.len() as u128);
+        let answer = self.source.fill(at, out);
+        self.limit(left);
+        answer
+    }
+
+    /// Gives the source back.
+    pub fn into_inner(self) -> S
+        ensures { S.seen result ≡ self.seen }
+    {
+        let Counted { source, .. } = self;
+        source
+    }
+}

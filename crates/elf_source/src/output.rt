@@ -1,0 +1,105 @@
+//! Output that counts what its sink took.
+ghost use Rattle.std.specs.Prelude.{◌≡◌, ◌^◌, ◌<◌, ◌≤◌, false, length, take, IsTrue};
+ghost use Rattle.std.specs.Io.KnownBytes.{Appends};
+ghost use Rattle.elf_source.specs.Output.{Puts};
+
+use crate::faults::{OutFault, SinkFault};
+use crate::sink::Sink;
+use std::marker::Model;
+
+/// A sink, and how many bytes it took.
+#[derive(Drop)]
+pub struct Out<W: Sink> {
+    sink: W,
+    written: u128,
+    ghost fits: { written < 2 ^ 128 },
+}
+
+impl<W: Sink> Model for Out<W> {
+    ghost use Rattle.elf_source.specs.Output.{Written};
+
+    ghost Value = { Written };
+
+    ghost view = { λ o. record {
+      taken = W.taken o.sink;
+      written = o.written;
+      failed = W.failed o.sink;
+      fits = o.fits;
+    } };
+}
+
+impl<W: Sink> Out<W> {
+    /// Counts what `sink` takes from now on.
+    pub fn new(sink: W) -> Self
+        ensures taken { result.taken ≡ W.taken sink }
+        ensures failed { result.failed ≡ W.failed sink }
+        ensures written { result.written ≡ 0 }
+    {
+        Out { sink, written: 0 }
+    }
+
+    /// How many bytes the sink took. It stays at 2^128 - 1.
+    pub fn written(&self) -> u128
+        ensures { result ≡ self.now.written }
+    {
+        self.written
+    }
+
+    /// Whether the sink has failed.
+    pub fn failed(&self) -> bool
+        ensures { result ≡ self.now.failed }
+    {
+        self.sink.failed()
+    }
+
+    /// Gives `bytes` to the sink, in as many turns as it needs. `written` rises by the number of
+    /// bytes that it took.
+    ///
+    /// # Errors
+    /// `OutFault` exactly where the sink has failed when the call ends. It took a front of `bytes`,
+    /// and the fault has `written` as it is then. Each later call, an empty one too, answers the
+    /// same and changes nothing.
+    pub fn put(&mut self, bytes: &[u8]) -> Result<(), OutFault>
+        ensures puts { Puts self.old self.new result bytes.now }
+        ensures for_good { IsTrue self.old.failed → self.new ≡ self.old }
+    {
+        if self.failed() {
+            return Err(OutFault {
+                written: self.written,
+            });
+        }
+        let count = give(&mut self.sink, bytes);
+        self.written = self.written.saturating_add(count as u128);
+        if self.sink.failed() {
+            return Err(OutFault {
+                written: self.written,
+            });
+        }
+        Ok(())
+    }
+
+    /// Gives the sink back.
+    pub fn into_inner(self) -> W
+        ensures taken { W.taken result ≡ self.taken }
+        ensures failed { W.failed result ≡ self.failed }
+    {
+        let Out { sink, .. } = self;
+        sink
+    }
+}
+
+// Gives `bytes` to the sink until it has taken all or fails, and counts those that it took.
+fn give<W: Sink>(sink: &mut W, bytes: &[u8]) -> usize
+    ensures within { result ≤ length bytes.now }
+    ensures bytes { Appends (W.taken sink.old) (W.taken sink.new) (take result bytes.now) }
+    ensures whole { W.failed sink.new ≡ false → result ≡ length bytes.now }
+{
+    let mut done = 0;
+    while done < bytes.len() {
+        match sink.take(&bytes[done..]) {
+            Ok(count) => done += count,
+            Err(SinkFault) => return done,
+        }
+    }
+    done
+}

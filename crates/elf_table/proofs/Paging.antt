@@ -1,0 +1,72 @@
+-- What a window holds after a read, and after bytes were passed over.
+use Rattle.std.proofs.Common.{◌≡◌, ℕ, ◌+◌, ◌-◌, ◌≤◌, ◌<◌, List, ◌++◌, length, take, drop, min, ap, sym, ◌∙◌, refl, arith, inl, inr, ◌⊎◌, length-drop, length-append, length-take, take-take}
+use Rattle.std.proofs.lemmas.Bool.{cases_lt}
+use Rattle.std.proofs.lemmas.List.{drop_all}
+use Rattle.elf_model.specs.Bytes.{slice}
+use Rattle.elf_model.proofs.Slices.{slice-rest}
+use Rattle.elf_table.proofs.Pieces.{slice-two}
+use Rattle.elf_table.specs.Windows.{Ahead, Agrees, Moves, range_end}
+
+-- what was read stands behind what was held
+pub joined : (file window held out : List ℕ) (at n size : ℕ) → window ≡ held ++ out → length held ≡ n → held ≡ slice file at n
+    → out ≡ slice file (at + n) size → length out ≡ size → window ≡ slice file at (length window)
+joined file window held out at n size e l h o s =
+    let two : held ++ out ≡ slice file at (n + size) = rw (h, o) (sym (slice-two file at n size)) in
+    let long : length window ≡ n + size = ap length e ∙ omega (arith, length-append held out) in
+    e ∙ two ∙ ap (slice file at) (sym long)
+
+-- a slice without its first bytes
+pub drop-slice : (file : List ℕ) (at size count : ℕ) → drop count (slice file at size) ≡ slice file (at + count) (size - count)
+drop-slice file at size count = go (cases_lt size count)
+  where
+    go : (size < count) ⊎ (count ≤ size) → drop count (slice file at size) ≡ slice file (at + count) (size - count)
+    go (inl few) =
+        let none : size - count ≡ 0 = omega arith in
+        drop_all count (slice file at size) (omega (arith, length-take size (drop at file))) ∙ ap (slice file (at + count)) (sym none)
+    go (inr enough) = slice-rest file at size count enough
+
+-- what is left of what was held
+pub Agrees-skip : (file : List ℕ) (old new : Ahead) (count : ℕ) → new.at ≡ old.at + count → new.held ≡ drop count old.held → Agrees file old → Agrees file new
+Agrees-skip file old new count a h e =
+    let gone : length new.held ≡ length old.held - count = ap length h ∙ length-drop count old.held in
+    let part : drop count (slice file old.at (length old.held)) ≡ slice file (old.at + count) (length old.held - count) = drop-slice file old.at (length old.held) count in
+    h ∙ ap (drop count) e ∙ part ∙ ap (λ (x : ℕ). slice file x (length old.held - count)) (sym a) ∙ ap (slice file new.at) (sym gone)
+
+-- the same in a window's fields
+pub Agrees-passed : (file bytes : List ℕ) (at from held count passed : ℕ) → length (slice bytes from held) ≡ held → passed ≡ min count held
+    → slice bytes from held ≡ slice file at (length (slice bytes from held))
+    → slice bytes (from + passed) (held - passed) ≡ slice file (at + count) (length (slice bytes (from + passed) (held - passed)))
+Agrees-passed file bytes at from held count passed whole m e = go (cases_lt held count)
+  where
+    go : (held < count) ⊎ (count ≤ held) → slice bytes (from + passed) (held - passed) ≡ slice file (at + count) (length (slice bytes (from + passed) (held - passed)))
+    go (inl past) =
+        let none : held - passed ≡ 0 = omega arith in
+        rw (none) refl
+    go (inr inside) =
+        let p : passed ≡ count = omega arith in
+        rw p
+        (Agrees-skip file (record { at = at; held = slice bytes from held; unread = 0; page = 0 }) (record { at = at + count; held = slice bytes (from + count) (held - count); unread = 0; page = 0 }) count refl
+        (sym (slice-rest bytes from held count inside)) e)
+
+-- a front of what is held
+pub held-front : (file : List ℕ) (w : Ahead) (n : ℕ) → n ≤ length w.held → Agrees file w → take n w.held ≡ slice file w.at n
+held-front file w n few e = ap (take n) e ∙ take-take n (length w.held) (drop w.at file) few
+
+-- one call after the other
+pub Moves-then : (a b c : Ahead) (first second third : ℕ) → Moves a b first second → Moves b c second third → Moves a c first third
+Moves-then a b c first second third p q = record {
+  same_page = q.same_page ∙ p.same_page;
+  same_end = q.same_end ∙ p.same_end;
+  onward = let x = p.onward in let y = q.onward in omega arith;
+  account = let x = p.account in let y = q.account in omega arith;
+}
+
+-- bytes are passed over without a read
+pub Moves-skip : (a b c : Ahead) (first second n : ℕ) → c.page ≡ b.page → range_end c ≡ range_end b → c.at ≡ b.at + n → c.unread ≤ b.unread
+    → Moves a b first second → Moves a c first second
+Moves-skip a b c first second n page end at unread p = record {
+  same_page = page ∙ p.same_page;
+  same_end = end ∙ p.same_end;
+  onward = let x = p.onward in omega arith;
+  account = let x = p.account in omega arith;
+}

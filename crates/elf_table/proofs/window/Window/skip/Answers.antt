@@ -1,0 +1,13 @@
+use Rattle.std.proofs.Common.{◌≡◌, length, arith}
+use Rattle.elf_model.specs.Bytes.{slice}
+use Rattle.elf_model.proofs.Slices.{slice-size}
+use Rattle.elf_table.proofs.Paging.{Agrees-passed}
+use Rattle.elf_table.proofs.window.Window.skip.Goals as goal
+
+pub returns-clause-agrees : goal.returns-clause-agrees
+returns-clause-agrees g c = λ file a.
+    let i = c.self.inside in
+    let inv = c.self.invariant in
+    let told = c.self.told in
+    let whole : length (slice i.bytes i.from i.held) ≡ i.held = slice-size i.bytes i.from i.held (omega (arith, told)) in
+    Agrees-passed file i.bytes i.at i.from i.held c.args.count c.min-held.result whole c.min-held.ensures (rw (← c.self.view_is) at a)

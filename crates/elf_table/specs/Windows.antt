@@ -1,0 +1,57 @@
+-- What a window over a range of a file shows.
+use Rattle.std.specs.Prelude.{ℕ, ◌≡◌, ◌+◌, ◌≤◌, ◌<◌, min, List, length, Option, Some, Result, Ok, Err}
+use Rattle.elf_model.specs.Bytes.{slice}
+use Rattle.elf_table.specs.declared.fault.Fault.{Fault}
+use Rattle.elf_table.specs.Faults.{IsAt}
+
+-- a window: the offset of the next byte, the bytes that it holds from there on, how many bytes of its range behind
+-- those are not asked for yet, and how many it holds at most
+pub record Ahead : Type 0 where
+  pub at : ℕ
+  pub held : List ℕ
+  pub unread : ℕ
+  pub page : ℕ
+
+-- how many bytes of the range are left
+abbrev pub left : Ahead → ℕ
+left w = length w.held + w.unread
+
+-- the offset of the first byte that was never asked for: no byte below it is asked for again
+abbrev pub frontier : Ahead → ℕ
+frontier w = w.at + length w.held
+
+-- where the range ends
+abbrev pub range_end : Ahead → ℕ
+range_end w = frontier w + w.unread
+
+-- what a window holds is what the file has there
+abbrev pub Agrees : List ℕ → Ahead → Type 0
+Agrees file w = w.held ≡ slice file w.at (length w.held)
+
+-- what agreed with the source's file before a call agrees with it afterwards
+abbrev pub AgreesWith : Option (List ℕ) → Ahead → Ahead → Type 0
+AgreesWith file old new = (bytes : List ℕ) → file ≡ Some bytes → Agrees bytes old → Agrees bytes new
+
+-- a window that has bytes left ends within a source of this size
+abbrev pub IsWithin : ℕ → Ahead → Type 0
+IsWithin size w = 0 < left w → range_end w ≤ size
+
+-- what every call keeps, fault or not: the range ends where it ended, the place goes on, and what was asked for
+-- is no longer unread
+pub record Moves (old new : Ahead) (before after : ℕ) : Type 0 where
+  pub same_page : new.page ≡ old.page
+  pub same_end : range_end new ≡ range_end old
+  pub onward : old.at ≤ new.at
+  pub account : after + new.unread ≤ before + old.unread
+
+-- a window that holds so many bytes: it is as it was where it held them, and else it holds a page, or all that are left
+pub record Holds (old new : Ahead) (count : ℕ) : Type 0 where
+  pub stays : new.at ≡ old.at
+  pub long : count ≤ length new.held
+  pub unchanged : count ≤ length old.held → new ≡ old
+  pub whole : length old.held < count → length new.held ≡ min old.page (left old)
+
+-- a window was to hold so many bytes. A fault is of a read of bytes that it did not hold, at the first of them
+abbrev pub Brings : {X : Type 0} → Ahead → Ahead → ℕ → Result X Fault → Type 0
+Brings old new count (Ok x) = Holds old new count
+Brings old new count (Err fault) = (length old.held < count) × IsAt (frontier old) fault

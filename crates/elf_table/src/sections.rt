@@ -1,0 +1,221 @@
+//! The checks of a loaded file's sections.
+ghost use Rattle.std.specs.Prelude.{◌≡◌, ℕ, ◌<◌, ◌≤◌, List, None, Ok, IfOk, IfErr, IfSome};
+ghost use Rattle.elf_model.specs.Records.{section_at};
+ghost use Rattle.elf_record.specs.Shdr.{IsShdr};
+ghost use Rattle.elf_table.specs.Load.{Belongs, Passes, section_place};
+ghost use Rattle.elf_table.specs.Faults.{IsOfCheck};
+ghost use Rattle.elf_table.specs.Files.{Tells, program_headers, table_in, size_in};
+ghost use Rattle.elf_table.specs.Sections.{bytes_of, table_at, strings_at, section_names};
+ghost use Rattle.elf_table.specs.Sections.{symbols_at, linked_at, relocations_at};
+ghost use Rattle.elf_table.specs.Store.{row};
+ghost use Rattle.elf_table.specs.Tables.{RowsWithin, StringsWithin, SymbolsWithin, size_of};
+
+use crate::checks::{checked_strings, checked_table, holds_symbols, refused};
+use crate::fault::Fault;
+use crate::file::File;
+use crate::names::Names;
+use crate::ranges::{
+    PROGRAM_HEADER_BYTES, RELOCATION_BYTES, SECTION_HEADER_BYTES, SYMBOL_BYTES, ends_outside,
+};
+use crate::table::Table;
+use elf_record::{Cause, Shdr};
+
+impl File<'_> {
+    /// How many section headers there are.
+    pub fn sections(&self) -> u16
+        ensures { result ≡ self.now.store.now.loaded }
+    {
+        self.store.loaded()
+    }
+
+    /// The section header of an index below [`File::sections`] (gABI 4, Section Header).
+    pub fn section(&self, section: u16) -> Shdr
+        requires { section < self.now.store.now.loaded }
+        ensures fields { IsShdr (row self.now.store.now section) 0 result }
+        ensures stands { (file : List ℕ) → Belongs file self.now.loaded self.now.store.now →
+            IsShdr file (section_at file section) result }
+    {
+        self.store.section(section)
+    }
+
+    /// The program headers, rows of 56 bytes, at most 65,279; none where e_phnum is 0 (gABI 5,
+    /// Program Header).
+    pub fn segments(&self) -> Table
+        ensures value { result ≡ program_headers self.now.loaded.header }
+        ensures few { result.count ≤ 65279 }
+        ensures within { RowsWithin self.now.loaded.size result }
+    {
+        Table::new(
+            self.loaded.header().e_phoff,
+            u64::from(self.loaded.header().e_phnum),
+            PROGRAM_HEADER_BYTES,
+        )
+    }
+
+    /// `size` bytes of the file from `offset` on, as rows of one byte; none are not checked. A
+    /// refusal names `at`.
+    ///
+    /// # Errors
+    /// `TableOutside` at `at` where they end past the end of the file.
+    pub fn bytes(&self, offset: u64, size: u64, at: u64) -> Result<Table, Fault>
+        ensures value { result ≡ bytes_of self.now.loaded.size offset size at }
+        ensures within { IfOk result (RowsWithin self.now.loaded.size) }
+    {
+        if size != 0 && ends_outside(self.loaded.size(), offset, size) {
+            return refused(at, Cause::TableOutside);
+        }
+        Ok(Table::new(offset, size, 1))
+    }
+
+    /// The section as a table of rows of `entry` bytes. One of size 0 is not checked. No bytes are
+    /// read.
+    ///
+    /// # Errors
+    /// The first check that fails, at the section's header: `EntrySize` where sh_entsize is another
+    /// size, `SizeNotWhole` where sh_size is no multiple of it, `TableOutside` where the section
+    /// ends past the end of the file.
+    pub fn table(&self, section: u16, entry: u64) -> Result<Table, Fault>
+        requires below { section < self.now.store.now.loaded }
+        requires some { 0 < entry }
+        requires small { entry ≤ 4096 }
+        ensures value { result ≡ table_in self.now section entry }
+        ensures held { Tells self.now section result (λ file at. table_at file at entry) }
+        ensures within { IfOk result (RowsWithin self.now.loaded.size) }
+        ensures entry { IfOk result (λ table. table.entry ≡ entry) }
+        ensures sized { IfOk result (λ table. size_of table ≡ size_in self.now section) }
+    {
+        checked_table(
+            &self.store.section(section),
+            self.loaded.size(),
+            self.place(section),
+            entry,
+        )
+    }
+
+    /// The string table that a section refers to by its sh_link. It is checked at every size. No
+    /// bytes are read (gABI 4, String Table).
+    ///
+    /// # Errors
+    /// The first check that fails: `BadLink` at the header of `section` where its link is 0 or
+    /// names no section; `NotStrings` where the linked section is no string table, and
+    /// `TableOutside` where it ends past the end of the file, both at the linked section's header.
+    pub fn strings(&self, section: u16) -> Result<Names, Fault>
+        requires below { section < self.now.store.now.loaded }
+        ensures held { Tells self.now section result strings_at }
+        ensures within { IfOk result (StringsWithin self.now.loaded.size) }
+        ensures refusal { IfErr result IsOfCheck }
+    {
+        let link = self.store.section(section).sh_link;
+        if link == 0 || link >= u32::from(self.loaded.header().e_shnum) {
+            return refused(self.place(section), Cause::BadLink);
+        }
+        let link = link as u16;
+        checked_strings(
+            &self.store.section(link),
+            self.loaded.size(),
+            self.place(link),
+        )
+    }
+
+    /// The string table of the section names; None where e_shnum or e_shstrndx is 0 (gABI 4, ELF
+    /// Header). No bytes are read.
+    ///
+    /// It lies within the file, as `load` checked. With the headers of another file in the store it
+    /// may not, and then the answer is None too.
+    pub fn names(&self) -> Option<Names>
+        ensures held { (file : List ℕ) → Belongs file self.now.loaded self.now.store.now →
+            result ≡ section_names file }
+        ensures within { IfSome result (StringsWithin self.now.loaded.size) }
+        ensures none { self.now.loaded.header.e_shnum ≡ 0 → result ≡ None }
+        ensures unnamed { self.now.loaded.header.e_shstrndx ≡ 0 → result ≡ None }
+    {
+        if self.loaded.header().e_shnum == 0 || self.loaded.header().e_shstrndx == 0 {
+            return None;
+        }
+        let section = self.store.section(self.loaded.header().e_shstrndx);
+        if ends_outside(self.loaded.size(), section.sh_offset, section.sh_size) {
+            return None;
+        }
+        Some(Names::new(section.sh_offset, section.sh_size))
+    }
+
+    /// The symbols of a section, rows of 24 bytes, and the string table with their names; two empty
+    /// ones where the section is empty, with no check. The section's type is not looked at. No
+    /// bytes are read (gABI 4, Symbol Table).
+    ///
+    /// # Errors
+    /// The first check that fails: those of [`File::table`], then those of [`File::strings`].
+    pub fn symbols(&self, section: u16) -> Result<(Table, Names), Fault>
+        requires below { section < self.now.store.now.loaded }
+        ensures held { Tells self.now section result symbols_at }
+        ensures table { IfOk result (λ symbols. Ok symbols.0 ≡ table_in self.now section 24) }
+        ensures sized { IfOk result (λ symbols. size_of symbols.0 ≡ size_in self.now section) }
+        ensures within { IfOk result (SymbolsWithin self.now.loaded.size) }
+        ensures refusal { IfErr result IsOfCheck }
+    {
+        let table = self.table(section, SYMBOL_BYTES)?;
+        if table.is_empty() {
+            let none = Names::new(table.at(), 0);
+            return Ok((table, none));
+        }
+        let names = self.strings(section)?;
+        Ok((table, names))
+    }
+
+    /// The symbols that a section of relocations refers to by its sh_link, with their names; None
+    /// where that names no section of symbols (gABI 4, Relocation). No bytes are read.
+    ///
+    /// # Errors
+    /// Those of [`File::symbols`] at the linked section.
+    pub fn linked(&self, section: u16) -> Result<Option<(Table, Names)>, Fault>
+        requires below { section < self.now.store.now.loaded }
+        ensures held { Tells self.now section result linked_at }
+        ensures within { IfOk result (λ linked.
+            IfSome linked (SymbolsWithin self.now.loaded.size)) }
+        ensures refusal { IfErr result IsOfCheck }
+    {
+        let link = self.store.section(section).sh_link;
+        if link >= u32::from(self.loaded.header().e_shnum) {
+            return Ok(None);
+        }
+        let link = link as u16;
+        if !holds_symbols(&self.store.section(link)) {
+            return Ok(None);
+        }
+        let symbols = self.symbols(link)?;
+        Ok(Some(symbols))
+    }
+
+    /// The relocation entries of a section, rows of 24 bytes, and the symbols that they refer to,
+    /// as [`File::linked`] answers; no rows and None where the section is empty, with no check. The
+    /// section's type is not looked at. No bytes are read (gABI 4, Relocation).
+    ///
+    /// # Errors
+    /// The first check that fails: those of [`File::table`], then those of [`File::linked`].
+    pub fn relocations(&self, section: u16) -> Result<(Table, Option<(Table, Names)>), Fault>
+        requires below { section < self.now.store.now.loaded }
+        ensures held { Tells self.now section result relocations_at }
+        ensures table { IfOk result (λ found. Ok found.0 ≡ table_in self.now section 24) }
+        ensures entry { IfOk result (λ found. found.0.entry ≡ 24) }
+        ensures within { IfOk result (λ found. RowsWithin self.now.loaded.size found.0) }
+        ensures linked { IfOk result (λ found.
+            IfSome found.1 (SymbolsWithin self.now.loaded.size)) }
+        ensures refusal { IfErr result IsOfCheck }
+    {
+        let table = self.table(section, RELOCATION_BYTES)?;
+        if table.is_empty() {
+            return Ok((table, None));
+        }
+        let linked = self.linked(section)?;
+        Ok((table, linked))
+    }
+
+    /// The file offset of the section header of an index below e_shnum, in bytes (gABI 4, Section
+    /// Header).
+    pub fn place(&self, section: u16) -> u64
+        requires { section < self.now.loaded.header.e_shnum }
+        ensures value { result ≡ section_place self.now.loaded.header section }
+    {
+        self.loaded.header().e_shoff + SECTION_HEADER_BYTES * u64::from(section)
+    }
+}

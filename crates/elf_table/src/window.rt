@@ -1,0 +1,167 @@
+//! A window over a range of a file.
+ghost use Rattle.std.specs.Prelude.{◌≡◌, ℕ, ◌+◌, ◌^◌, ◌<◌, ◌≤◌, List, [], length, min, take, drop, IfErr, OnOk};
+ghost use Rattle.elf_model.specs.Bytes.{slice};
+ghost use Rattle.elf_source.specs.Source.{Reads};
+ghost use Rattle.elf_table.specs.Faults.{Says, IsAt};
+ghost use Rattle.elf_table.specs.Windows.{Agrees, AgreesWith, Brings, IsWithin, Moves, left, frontier, range_end};
+
+use crate::fault::Fault;
+use crate::filling::fill;
+use elf_source::{Counted, Source};
+use std::marker::Model;
+
+/// How many bytes a window holds at most.
+pub(crate) const WINDOW_BYTES: usize = 4096;
+
+/// A window over a range of a file: a place, and the bytes that were read ahead from there on. Each
+/// byte of the range is asked for at most once, in order, and none past the range's end. Pages are
+/// read, of as many bytes as the window was told, at most `N` and 4,096, or of all that are left.
+#[derive(Drop)]
+pub struct Window<const N: usize> {
+    at: u64,
+    unread: u64,
+    page: u64,
+    from: u64,
+    held: u64,
+    bytes: [u8; N],
+}
+
+impl<const N: usize> Model for Window<N> {
+    ghost use Rattle.std.specs.Prelude.{◌+◌, ◌^◌, ◌<◌, ◌≤◌};
+    ghost use Rattle.elf_model.specs.Bytes.{slice};
+    ghost use Rattle.elf_table.specs.Windows.{Ahead};
+
+    ghost Value = { Ahead };
+
+    ghost view = { λ w. record {
+      at = w.at;
+      held = slice w.bytes w.from w.held;
+      unread = w.unread;
+      page = w.page;
+    } };
+
+    ghost invariant = { λ w. (w.page ≤ N) × (w.page ≤ 4096) × (w.from + w.held ≤ w.page)
+        × (w.at + w.held + w.unread < 2 ^ 64) };
+}
+
+impl<const N: usize> Window<N> {
+    /// A window before the first of the `size` bytes from the offset `at` on, which asks for at
+    /// most `page` bytes at once, no more than `N` and no more than 4,096.
+    pub fn new(at: u64, size: u64, page: u64) -> Window<N>
+        requires ends { at + size < 2 ^ 64 }
+        requires fits { page ≤ N }
+        requires small { page ≤ 4096 }
+        ensures { result ≡ record { at = at; held = []; unread = size; page = page } }
+    {
+        Window {
+            at,
+            unread: size,
+            page,
+            from: 0,
+            held: 0,
+            bytes: [0; N],
+        }
+    }
+
+    /// The offset of the next byte.
+    pub fn at(&self) -> u64
+        ensures value { result ≡ self.now.at }
+        ensures ends { self.now.at + left self.now < 2 ^ 64 }
+    {
+        self.at
+    }
+
+    /// How many bytes are left.
+    pub fn left(&self) -> u64
+        ensures value { result ≡ left self.now }
+        ensures ends { self.now.at + left self.now < 2 ^ 64 }
+    {
+        self.held + self.unread
+    }
+
+    /// The bytes that are held.
+    pub fn front(&self) -> &[u8]
+        ensures { result.now ≡ self.now.held }
+    {
+        let end = self.from + self.held;
+        let bytes = &self.bytes[..];
+        &bytes[self.from as usize..end as usize]
+    }
+
+    /// Holds at least `count` bytes: those that it holds, where they are enough, and else a page,
+    /// or all bytes that are left.
+    ///
+    /// # Errors
+    /// A fault of a read at the first byte that was not asked for yet. The place is then behind the
+    /// bytes that were to be read.
+    pub fn bring<S: Source>(&mut self, src: &mut Counted<S>, count: u64) -> Result<(), Fault>
+        requires enough { count ≤ left self.old }
+        requires small { count ≤ self.old.page }
+        requires within { IsWithin src.old.seen.size self.old }
+        ensures reads { Reads src.old src.new self.old.unread }
+        ensures says { IfErr result (Says src.old src.new self.old.unread) }
+        ensures moves { Moves self.old self.new src.old.asked src.new.asked }
+        ensures brings { Brings self.old self.new count result }
+        ensures agrees { AgreesWith src.old.seen.file self.old self.new }
+    {
+        if self.held >= count {
+            return Ok(());
+        }
+        self.read_page(src)
+    }
+
+    /// Passes over `count` bytes; what isn't held of them is never read.
+    pub fn skip(&mut self, count: u64)
+        requires { count ≤ left self.old }
+        ensures page { self.new.page ≡ self.old.page }
+        ensures at { self.new.at ≡ self.old.at + count }
+        ensures left { left self.new + count ≡ left self.old }
+        ensures unread { self.new.unread ≤ self.old.unread }
+        ensures held { self.new.held ≡ drop count self.old.held }
+        ensures end { range_end self.new ≡ range_end self.old }
+        ensures agrees { (file : List ℕ) → Agrees file self.old → Agrees file self.new }
+    {
+        let held = count.min(self.held);
+        self.at += count;
+        self.unread -= count - held;
+        self.from += held;
+        self.held -= held;
+    }
+
+    // Reads as many bytes as fit behind those that are held.
+    fn read_page<S: Source>(&mut self, src: &mut Counted<S>) -> Result<(), Fault>
+        requires room { length self.old.held < self.old.page }
+        requires some { 0 < self.old.unread }
+        requires within { IsWithin src.old.seen.size self.old }
+        ensures reads { Reads src.old src.new self.old.unread }
+        ensures says { IfErr result (Says src.old src.new self.old.unread) }
+        ensures fault { IfErr result (IsAt (frontier self.old)) }
+        ensures moves { Moves self.old self.new src.old.asked src.new.asked }
+        ensures stays { OnOk result (self.new.at ≡ self.old.at) }
+        ensures whole { OnOk result (length self.new.held ≡ min self.old.page (left self.old)) }
+        ensures agrees { AgreesWith src.old.seen.file self.old self.new }
+    {
+        gather(&mut self.bytes, self.from as usize, self.held as usize);
+        self.from = 0;
+        let size = self.unread.min(self.page - self.held);
+        let end = self.held + size;
+        let place = self.at + self.held;
+        self.unread -= size;
+        let bytes = &mut self.bytes[..];
+        if let Err(fault) = fill(src, place, &mut bytes[self.held as usize..end as usize]) {
+            self.at = place + size;
+            self.held = 0;
+            return Err(fault);
+        }
+        self.held = end;
+        Ok(())
+    }
+}
+
+// Moves the `held` bytes from the place `from` on to the front.
+fn gather<const N: usize>(bytes: &mut [u8; N], from: usize, held: usize)
+    requires { from + held ≤ N }
+    ensures { take held bytes.new ≡ slice bytes.old from held }
+{
+    bytes.copy_within(from..from + held, 0);
+}

@@ -1,0 +1,89 @@
+//! Reads that run out of a limit name the offset that was asked for.
+use crate::fakes::Planned;
+use crate::fixtures::refused;
+use crate::loads::{open, two_pages};
+use crate::tables::rows_given;
+use elf_record::Cause;
+use elf_source::{Counted, MemorySource};
+use elf_table::{Cap, Cursor, Fault, HeaderStore, NameBuf, NameEnd, Names, Table};
+use std::test::Fail;
+
+#[test]
+fn a_load_past_its_limit_names_its_page_and_is_tried_again(rt: HostRuntime) -> Result<(), Fail> {
+    let file = two_pages();
+    let mut store = HeaderStore::new(rt.alloc(), 65)?;
+    for (limit, at, left) in [
+        (63, 0, 63),
+        (64, 64, 0),
+        (64 + 4095, 64, 4095),
+        (64 + 4096 + 63, 64 + 4096, 63),
+    ] {
+        let mut src = Counted::new(MemorySource::new(&file));
+        src.limit(Some(limit));
+        let answer = open(&mut src, &mut store);
+        assert!(rt; answer == refused(at, Cause::Budget), "{limit}");
+        assert!(rt; src.left() == Some(left) && store.loaded() == 0);
+        src.limit(Some(64 + 4096 + 64));
+        assert!(rt; open(&mut src, &mut store).is_ok(), "{limit}");
+        assert!(rt; src.left() == Some(0) && store.loaded() == 65);
+    }
+    Ok(())
+}
+
+#[test]
+fn a_cursor_past_its_limit_fails_the_same_for_good(rt: HostRuntime) {
+    let bytes = [7; 4104];
+    let mut src = Counted::new(Planned::new(&bytes, 0));
+    src.limit(Some(4103));
+    let mut cursor = Cursor::new(Table::new(0, 171, 24));
+    let answer = rows_given(&mut cursor, &mut src, &rt);
+    assert!(rt; answer == refused(4080, Cause::Budget));
+    assert!(rt; src.left() == Some(23) && src.asked() == 4080);
+    src.limit(None);
+    let answer = rows_given(&mut cursor, &mut src, &rt);
+    assert!(rt; answer == refused(4080, Cause::Budget));
+    assert!(rt; src.asked() == 4080);
+    assert!(rt; src.into_inner().reads == 1);
+}
+
+#[test]
+fn a_symbol_past_its_limit_is_refused_at_its_place(rt: HostRuntime) {
+    let bytes = [0; 72];
+    let table = Table::new(0, 3, 24);
+    let mut src = Counted::new(MemorySource::new(&bytes));
+    src.limit(Some(47));
+    assert!(rt; table.symbol(&mut src, 1).is_ok());
+    let answer = table.symbol(&mut src, 2);
+    assert!(rt; answer == refused(48, Cause::Budget));
+    assert!(rt; src.left() == Some(23));
+}
+
+// The answers where a long name of a string table at 20 is read, and where it is compared, each
+// within a limit.
+fn read_and_compare(limit: u64) -> (Result<NameEnd, Fault>, Result<bool, Fault>) {
+    let bytes = [b'a'; 220];
+    let names = Names::new(20, 200);
+    let mut name = NameBuf::new();
+    let mut src = Counted::new(MemorySource::new(&bytes));
+    src.limit(Some(limit));
+    let read = names.read(&mut src, 10, 7, Cap { bytes: 180 }, &mut name);
+    src.limit(Some(limit));
+    let compared = names.equals(&mut src, 10, 7, &[b'a'; 180]);
+    (read, compared)
+}
+
+#[test]
+fn a_name_past_its_limit_is_refused_at_its_piece(rt: HostRuntime) {
+    for (limit, at) in [
+        (0, 30),
+        (63, 30),
+        (64, 94),
+        (127, 94),
+        (128, 158),
+        (180, 158),
+    ] {
+        let wanted = (refused(at, Cause::Budget), refused(at, Cause::Budget));
+        assert!(rt; read_and_compare(limit) == wanted, "{limit}");
+    }
+    assert!(rt; read_and_compare(181) == (Ok(NameEnd::Cut), Ok(false)));
+}
