@@ -1,5 +1,5 @@
 -- Where a read budget ends a listing.
-use Rattle.std.specs.Prelude.{ℕ, ◌≡◌, ◌<◌, ◌≤◌, ◌++◌, List, [], length, take, Option, None, Some, codes}
+use Rattle.std.specs.Prelude.{ℕ, ◌≡◌, ◌<◌, ◌++◌, List, [], length, take, Option, None, Some, codes}
 use Rattle.elf_model.specs.Budget.{IsBudget, IsBudgeted}
 use Rattle.elf_model.specs.Cost.{cost}
 use Rattle.elf_model.specs.Lines.{refusal_line}

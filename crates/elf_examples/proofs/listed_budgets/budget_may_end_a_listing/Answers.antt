@@ -1,4 +1,4 @@
-use Rattle.std.proofs.Common.{ℕ, List, take, drop, refl, sym, inr}
+use Rattle.std.proofs.Common.{take, drop, refl, sym, inr}
 use Rattle.std.proofs.lemmas.List.{take-append-drop}
 use Rattle.elf_model.specs.Report.{items}
 use Rattle.elf_examples.specs.ListedBudgets.{spent_at}
