@@ -79,7 +79,7 @@ pub record SameFile {S W : Type 0} {s : Sources S} {w : Sinks W} (old new : List
 abbrev pub Lists : {S W X : Type 0} {s : Sources S} {w : Sinks W} → Listing S W s w → Listing S W s w → Result X Stop → ℕ → Type 0
 Lists old new result n = SameFile old new × Reads old.src.now new.src.now n × IfErr result (StopSays old.src.now new.src.now new.out.now n)
 
--- WHAT IT WROTE: where the source is honest, the items of its file
+-- WHAT IT WROTE: where the file of the source is known, its items
 abbrev pub Shows : {S W X : Type 0} {s : Sources S} {w : Sinks W} → Listing S W s w → Listing S W s w → Result X Stop → (List ℕ → List Item) → Type 0
 Shows old new result items = (file : List ℕ) → old.src.now.seen.file ≡ Some file → Writes old.out.now new.out.now result (items file)
 

@@ -13,11 +13,9 @@ use crate::parts::Part;
 use crate::rows::Kind;
 use crate::stop::Stop;
 use elf_lines::section_front;
+use elf_record::numbers::SHT_RELA;
 use elf_source::{Counted, Sink, Source};
 use elf_table::{Cap, Fault, NameBuf, NameEnd, Names, holds_symbols};
-
-/// The section type of relocation entries with addends.
-const SHT_RELA: u32 = 4;
 
 impl<S: Source, W: Sink> Listing<'_, '_, '_, S, W> {
     /// Shows a part of each section in the order of the section headers, up to the first that is refused.
