@@ -73,8 +73,8 @@ impl Cursor {
     /// all calls together ask for no more than the table's bytes, each byte at most once.
     ///
     /// # Errors
-    /// A fault of a read at the next row's offset. From then on each call answers the same fault and
-    /// reads nothing.
+    /// A fault of a read, or a refusal for want of budget, at the next row's offset. From then on each
+    /// call answers the same and reads nothing.
     pub fn advance<S: Source>(&mut self, src: &mut Counted<S>) -> Result<bool, Fault>
         requires { RowsWithin src.old.seen.size self.old.table }
         ensures reads { Reads src.old src.new (unread_bytes self.old) }

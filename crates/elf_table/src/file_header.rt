@@ -20,9 +20,9 @@ pub(crate) const HEADER_BYTES: usize = 64;
 /// # Errors
 /// The first check that fails: `TooLong` at the length where it is 2^63 or more, `Short` at the
 /// length where it is below 64, both with nothing read; then those of [`Ehdr::check`]. A fault of
-/// the read names offset 0.
+/// the read, or a refusal for want of budget, names offset 0.
 pub fn header<S: Source>(src: &mut Counted<S>) -> Result<Ehdr, Fault>
-    // One read of 64 bytes, or none where the length refuses the file.
+    // At most one read of 64 bytes, and none where the length refuses the file.
     ensures reads { Reads src.old src.new (header_cost src.old.seen.size) }
     ensures says { IfErr result (Says src.old src.new (header_cost src.old.seen.size)) }
     ensures unread { (refusal : Refuses) →

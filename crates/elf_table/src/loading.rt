@@ -27,14 +27,14 @@ use elf_source::{Counted, Source};
 /// 0x3e or 0x3c; `TooManyHeaders` at 0x3c or 0x38, more headers than the store has slots;
 /// `EntrySize` at 0x3a or 0x36; `TableOutside` at 0x28 or 0x20; `BadLink` at 0x3e. Then of the
 /// section of the section names, where there is one: `NotStrings` and `TableOutside` at its section
-/// header. A fault of a read names the offset that was asked for.
+/// header. A fault of a read, or a refusal for want of budget, names the offset that was asked for.
 pub fn load<S: Source>(
     src: &mut Counted<S>,
     store: &mut HeaderStore,
     header: &Ehdr,
 ) -> Result<Loaded, Fault>
     ensures slots { store.new.slots ≡ store.old.slots }
-    // The section headers are asked for, or nothing where the file header refuses the file.
+    // At most the section headers are asked for, and nothing where the file header refuses the file.
     ensures reads { Reads src.old src.new (load_cost header.now src.old.seen.size store.old.slots) }
     ensures says { IfErr result
         (Says src.old src.new (load_cost header.now src.old.seen.size store.old.slots)) }

@@ -94,7 +94,7 @@ impl Table {
     /// (gABI 4, Symbol Table): one read of 24 bytes.
     ///
     /// # Errors
-    /// A fault of the read, at the symbol's offset.
+    /// A fault of the read, or a refusal for want of budget, at the symbol's offset.
     pub fn symbol<S: Source>(&self, src: &mut Counted<S>, index: u64) -> Result<Sym, Fault>
         requires rows { self.now.entry ≡ 24 }
         requires below { index < self.now.count }
