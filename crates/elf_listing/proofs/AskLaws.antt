@@ -46,4 +46,5 @@ asks_within caps parts s0 s1 s2 s3 n result small set reads unset unread alone l
       late = λ refusal is budget.
           let over = late_budget caps.budget s0 s1 s2 n small set (late refusal is budget).1 in
           (over.0, over.1, omega (arith, over.2, unset.asked));
+      place = λ refusal is budget. (late refusal is budget).2 ∙ sym unset.stopped;
     }

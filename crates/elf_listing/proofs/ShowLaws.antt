@@ -80,13 +80,13 @@ Stopped-unread a b (Unread fault offset) at xs ys is p = Front-all ys p
 -- a stop after other calls, in a bound on all
 pub StopSays-then : (a b c : Counting) (out : Written) (stop : Stop) (n m k : ℕ) → b.asked + m ≤ a.asked + k → Reads a b n → StopSays b c out m stop → StopSays a c out k stop
 StopSays-then a b c out (Refused refusal) n m k within p q = λ is.
-    let over = q is in (rw (sym p.keeps.same_size) over.0, OverLimit-then n k within p over.1)
-StopSays-then a b c out (Source fault at) n m k within p q = Faults-then a.seen b.seen c.seen fault p.keeps q
+    let over = q is in (rw (sym p.keeps.same_size) over.0, OverLimit-then n k within p over.1, over.2)
+StopSays-then a b c out (Source fault at) n m k within p q = (Faults-then a.seen b.seen c.seen fault p.keeps q.0, q.1)
 StopSays-then a b c out (Out fault) n m k within p q = q
 
 -- a fault of a read is a stop
 pub StopSays-fault : (a b : Counting) (out : Written) (fault : Fault) (n k : ℕ) → n ≤ k → Says a b n fault → StopSays a b out k (stop_of fault)
-StopSays-fault a b out (Refuses refusal) n k within q = λ is. let over = q is in (over.0, OverLimit-more within over.1)
+StopSays-fault a b out (Refuses refusal) n k within q = λ is. let over = q is in (over.0, OverLimit-more within over.1, over.2)
 StopSays-fault a b out (Unread fault at) n k within q = q
 
 -- a call after reads, in a bound on all
@@ -104,7 +104,7 @@ Costs-within a b out (Ok x) n k within p = (Reads-to p.0 (omega (arith, p.0.at_m
 Costs-within a b out (Err stop) n k within p = (Reads-to p.0 (omega (arith, p.0.at_most)), StopSays-more stop n k within p.1)
   where
     StopSays-more : (stop : Stop) (n k : ℕ) → n ≤ k → StopSays a b out n stop → StopSays a b out k stop
-    StopSays-more (Refused refusal) n k within q = λ is. let over = q is in (over.0, OverLimit-more within over.1)
+    StopSays-more (Refused refusal) n k within q = λ is. let over = q is in (over.0, OverLimit-more within over.1, over.2)
     StopSays-more (Source fault at) n k within q = q
     StopSays-more (Out fault) n k within q = q
 

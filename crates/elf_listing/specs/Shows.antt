@@ -55,7 +55,7 @@ Writes old new (Err stop) items = Stopped old new stop items
 -- what a stop says of the source and the output
 abbrev pub StopSays : Counting → Counting → Written → ℕ → Stop → Type 0
 StopSays old new out n (Refused refusal) = RefusalSays old new n refusal
-StopSays old new out n (Source fault at) = Faults old.seen new.seen fault
+StopSays old new out n (Source fault at) = Faults old.seen new.seen fault × (at ≡ new.stopped)
 StopSays old new out n (Out fault) = Fails out fault
 
 -- a stop is a fault of the output

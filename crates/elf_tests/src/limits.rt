@@ -66,10 +66,12 @@ fn a_read_that_fails_is_spent_too(rt: HostRuntime) -> Result<(), Fail> {
     let failed = ask_at(&mut source, 1, &mut [0; 3], &rt);
     assert!(rt; failed == Err(AskFault::Source(SourceFault::Device)));
     assert!(rt; account(&source) == (3, Some(2)));
-    let refused = ask_at(&mut source, 1, &mut [0; 3], &rt);
+    assert!(rt; source.stopped() == 1);
+    let refused = ask_at(&mut source, 2, &mut [0; 3], &rt);
     assert!(rt; refused == Err(AskFault::Budget));
     assert!(rt; gives(&mut source, 4, b"ef", &rt));
     assert!(rt; account(&source) == (5, Some(0)));
+    assert!(rt; source.stopped() == 2);
     Ok(())
 }
 
