@@ -1,0 +1,2 @@
+pub mod ShownNames
+pub mod Stepping
