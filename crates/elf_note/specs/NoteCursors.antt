@@ -8,7 +8,7 @@ use Rattle.elf_model.specs.Notes.{Note, Walk, walk_from, with_note, descriptor_s
 use Rattle.elf_model.specs.declared.causes.Cause.TheVariants.{NoteCut}
 use Rattle.elf_table.specs.Faults.{IsOfRead}
 use Rattle.elf_table.specs.Tables.{Rows}
-use Rattle.elf_table.specs.Windows.{Ahead, Agrees, AgreesWith, left}
+use Rattle.elf_table.specs.Windows.{Ahead, Agrees, AgreesWith, Moves, left}
 use Rattle.elf_table.specs.declared.fault.Fault.{Fault}
 use Rattle.elf_table.specs.declared.fault.Fault.TheVariants.{Refused}
 use Rattle.elf_table.specs.declared.names.NameEnd.{NameEnd}
@@ -104,10 +104,14 @@ StepTells file cap old new name (Ok true) =
 StepTells file cap old new name (Ok false) = notes_left old.align file old.ahead ≡ no_notes
 StepTells file cap old new name (Err fault) = fault ≡ note_cut old.ahead.at → notes_left old.align file old.ahead ≡ cut_at old.ahead.at
 
--- a step of a cursor that has not failed
-pub record Advances (file : Option (List ℕ)) (cap : ℕ) (old new : Reading) (name : List ℕ) (result : Result Bool Fault) : Type 0 where
+-- what every step keeps, fault or not
+pub record Keeps (old new : Reading) (before after : ℕ) : Type 0 where
   pub same_table : new.table ≡ old.table
   pub same_align : new.align ≡ old.align
+  pub moves : Moves old.ahead new.ahead before after
+
+-- a step of a cursor that has not failed
+pub record Advances (file : Option (List ℕ)) (cap : ℕ) (old new : Reading) (name : List ℕ) (result : Result Bool Fault) : Type 0 where
   pub leaves : Leaves old new result
   pub agrees : AgreesWith file old.ahead new.ahead
   pub tells : (bytes : List ℕ) → file ≡ Some bytes → Agrees bytes old.ahead → StepTells bytes cap old new name result

@@ -4,9 +4,8 @@ ghost use Rattle.elf_model.specs.Notes.{note_align};
 ghost use Rattle.elf_source.specs.Source.{Reads};
 ghost use Rattle.elf_table.specs.Faults.{Says};
 ghost use Rattle.elf_table.specs.Tables.{RowsWithin};
-ghost use Rattle.elf_table.specs.Windows.{Moves};
 ghost use Rattle.elf_table.specs.declared.fault.Fault.{Fault};
-ghost use Rattle.elf_note.specs.NoteCursors.{Advances, Shows};
+ghost use Rattle.elf_note.specs.NoteCursors.{Advances, Keeps, Shows};
 
 use crate::note::{Found, SHOWN_DESCRIPTOR, next_note};
 use crate::row::NoteRow;
@@ -89,7 +88,7 @@ impl NoteCursor {
         ensures reads { Reads src.old src.new self.old.ahead.unread }
         ensures says { self.old.failed ≡ None →
             IfErr result (Says src.old src.new self.old.ahead.unread) }
-        ensures moves { Moves self.old.ahead self.new.ahead src.old.asked src.new.asked }
+        ensures keeps { Keeps self.old self.new src.old.asked src.new.asked }
         ensures steps { self.old.failed ≡ None →
             Advances src.old.seen.file cap.bytes self.old self.new name.new result }
         ensures again { (fault : Fault) → self.old.failed ≡ Some fault →
@@ -143,9 +142,8 @@ impl NoteCursor {
     ghost use Rattle.elf_source.specs.Source.{Reads};
     ghost use Rattle.elf_table.specs.Faults.{Says};
     ghost use Rattle.elf_table.specs.Tables.{RowsWithin};
-    ghost use Rattle.elf_table.specs.Windows.{Moves};
     ghost use Rattle.elf_table.specs.declared.fault.Fault.{Fault};
-    ghost use Rattle.elf_note.specs.NoteCursors.{Steps};
+    ghost use Rattle.elf_note.specs.NoteCursors.{Keeps, Steps};
     ghost use Rattle.elf_note.specs.contracts.cursor.NoteCursor.{the_row};
 
     /// The next note, lent from the cursor until the next call, or None at the table's end. Its name
@@ -166,7 +164,7 @@ impl NoteCursor {
         ensures again { (fault : Fault) → self.old.failed ≡ Some fault →
             (result ≡ Err fault) × (src.new ≡ src.old) }
         ensures* after { sem 𝓛 (follows_so the_row the_row self.entry.ghost_name none (λ _ _. ⊤)
-            (λ new. Moves self.old.ahead new.ahead src.old.asked src.new.asked
+            (λ new. Keeps self.old new src.old.asked src.new.asked
             × Steps src.old.seen.file cap.bytes self.old new name.new result)) }
     {
         if !self.advance(src, cap, name)? {
