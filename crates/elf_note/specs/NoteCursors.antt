@@ -92,9 +92,9 @@ Passes before after None = after ≡ 0
 
 -- where a step leaves a cursor: behind a note, at the end, or failed
 abbrev pub Leaves : Reading → Reading → Result Bool Fault → Type 0
-Leaves old new (Ok true) = (new.failed ≡ None) × (left new.ahead + 12 ≤ left old.ahead)
-Leaves old new (Ok false) = (new.failed ≡ None) × (left new.ahead ≡ 0)
-Leaves old new (Err fault) = (new.failed ≡ Some fault) × Stops old.ahead.at fault
+Leaves old new (Ok true) = (old.failed ≡ None) × (new.failed ≡ None) × (left new.ahead + 12 ≤ left old.ahead)
+Leaves old new (Ok false) = (old.failed ≡ None) × (new.failed ≡ None) × (left new.ahead ≡ 0)
+Leaves old new (Err fault) = (new.failed ≡ Some fault) × (old.failed ≡ None → Stops old.ahead.at fault)
 
 -- what a step of a cursor says of a file's notes: those that were left are the one that it shows now and those that are
 -- left; or none; or they are cut here
@@ -102,7 +102,7 @@ abbrev pub StepTells : List ℕ → ℕ → Reading → Reading → List ℕ →
 StepTells file cap old new name (Ok true) =
     GivesNote old.align cap old.ahead.at name new.descriptor (notes_left old.align file old.ahead) (notes_left old.align file new.ahead) new.found
 StepTells file cap old new name (Ok false) = notes_left old.align file old.ahead ≡ no_notes
-StepTells file cap old new name (Err fault) = fault ≡ note_cut old.ahead.at → notes_left old.align file old.ahead ≡ cut_at old.ahead.at
+StepTells file cap old new name (Err fault) = old.failed ≡ None → fault ≡ note_cut old.ahead.at → notes_left old.align file old.ahead ≡ cut_at old.ahead.at
 
 -- what every step keeps, fault or not
 pub record Keeps (old new : Reading) (before after : ℕ) : Type 0 where
@@ -110,7 +110,7 @@ pub record Keeps (old new : Reading) (before after : ℕ) : Type 0 where
   pub same_align : new.align ≡ old.align
   pub moves : Moves old.ahead new.ahead before after
 
--- a step of a cursor that has not failed
+-- a step of a cursor, where it answers whether it gave a note
 pub record Advances (file : Option (List ℕ)) (cap : ℕ) (old new : Reading) (name : List ℕ) (result : Result Bool Fault) : Type 0 where
   pub leaves : Leaves old new result
   pub agrees : AgreesWith file old.ahead new.ahead
@@ -125,8 +125,8 @@ pub record Shows (c : Reading) (row : NoteRow) : Type 0 where
   pub its_descriptor : row.desc_at ≡ c.found.desc_at
   pub its_bytes : row.desc.now ≡ c.descriptor
 
--- a step that answers the note
+-- the same, where it answers the note
 abbrev pub Steps : Option (List ℕ) → ℕ → Reading → Reading → List ℕ → Result (Option NoteRow) Fault → Type 0
 Steps file cap old new name (Ok (Some row)) = Advances file cap old new name (Ok true) × Shows new row
 Steps file cap old new name (Ok None) = Advances file cap old new name (Ok false)
-Steps file cap old new name (Err fault) = old.failed ≡ None → Advances file cap old new name (Err fault)
+Steps file cap old new name (Err fault) = Advances file cap old new name (Err fault)

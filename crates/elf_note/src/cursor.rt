@@ -89,8 +89,7 @@ impl NoteCursor {
         ensures says { self.old.failed ≡ None →
             IfErr result (Says src.old src.new self.old.ahead.unread) }
         ensures keeps { Keeps self.old self.new src.old.asked src.new.asked }
-        ensures steps { self.old.failed ≡ None →
-            Advances src.old.seen.file cap.bytes self.old self.new name.new result }
+        ensures steps { Advances src.old.seen.file cap.bytes self.old self.new name.new result }
         ensures again { (fault : Fault) → self.old.failed ≡ Some fault →
             (result ≡ Err fault) × (src.new ≡ src.old) × (self.new ≡ self.old) }
     {
