@@ -1,7 +1,7 @@
 -- Dynamic entries (gABI 5, Dynamic Section), each of 16 bytes.
 use Rattle.std.specs.Prelude.{◌≡◌, ◌≢◌, ℕ, zero, suc, ◌+◌, ◌*◌, ◌==◌, ◌<◌, ◌≤◌, true, false}
-use Rattle.std.specs.Prelude.{List}
-use Rattle.elf_model.specs.Records.{d_tag}
+use Rattle.std.specs.Prelude.{List, Option, None, Some}
+use Rattle.elf_model.specs.Records.{d_tag, d_un}
 
 -- the tag of the entry that ends the array (gABI 5, Dynamic Section)
 abbrev pub DT_NULL : ℕ
@@ -11,6 +11,23 @@ DT_NULL = 0
 unfoldable pub dynamic_count : List ℕ → ℕ → ℕ → ℕ
 dynamic_count file at zero = 0
 dynamic_count file at (suc n) = elim (d_tag file at == DT_NULL) [ true ↦ 1 | false ↦ suc (dynamic_count file (at + 16) n) ]
+
+-- the value of the first of the n entries at an offset that has a tag
+unfoldable pub dynamic_value : List ℕ → ℕ → ℕ → ℕ → Option ℕ
+dynamic_value file at zero tag = None
+dynamic_value file at (suc n) tag = elim (d_tag file at == tag) [ true ↦ Some (d_un file at) | false ↦ dynamic_value file (at + 16) n tag ]
+
+-- the value of the first listed entry with a tag, of the n entries at an offset
+abbrev pub listed_value : List ℕ → ℕ → ℕ → ℕ → Option ℕ
+listed_value file at n tag = dynamic_value file at (dynamic_count file at n) tag
+
+-- the tags of the entries that tell where a string table is in memory, and how many bytes it has (gABI 5, Dynamic
+-- Section)
+abbrev pub DT_STRTAB : ℕ
+DT_STRTAB = 5
+
+abbrev pub DT_STRSZ : ℕ
+DT_STRSZ = 10
 
 -- where an entry stands
 abbrev pub entry_at : ℕ → ℕ → ℕ

@@ -1,19 +1,19 @@
 //! Names in a string table.
-ghost use Rattle.std.specs.Prelude.{◌≡◌, ◌≢◌, ℕ, ◌+◌, ◌-◌, ◌^◌, ◌<◌, ◌≤◌, List, [], length, slice_index, Some, IfErr, MatchBool};
+ghost use Rattle.std.specs.Prelude.{◌≡◌, ◌≢◌, ℕ, ◌+◌, ◌-◌, ◌^◌, ◌<◌, ◌≤◌, List, length, slice_index, Some, IfErr, MatchBool};
 ghost use Rattle.elf_model.specs.Bytes.{slice};
 ghost use Rattle.elf_model.specs.Names.{shown, same, pad64, name_bytes};
 ghost use Rattle.elf_source.specs.Source.{Reads};
 ghost use Rattle.elf_table.specs.Faults.{IsOfRead, Says};
-ghost use Rattle.elf_table.specs.NamesRead.{NameRead, Compared, Searched, Matched};
+ghost use Rattle.elf_table.specs.NamesRead.{NameRead, Compared, Matched};
 ghost use Rattle.elf_table.specs.Tables.{StringsWithin, strings_in};
 
 use crate::caps::Cap;
 use crate::fault::Fault;
 use crate::name_buf::NameBuf;
+use crate::name_search::search_name;
 use crate::window::Window;
 use elf_record::{Cause, Refusal};
 use elf_source::{Counted, Source};
-use memchr::memchr;
 use std::marker::Model;
 
 /// How many bytes of a name are asked for at once.
@@ -96,7 +96,8 @@ impl Names {
         }
         let left = self.size - off;
         let want = left.min(u64::from(cap.bytes) + 1);
-        if search(src, self.at + off, want, cap, name)? {
+        let mut window: Window<PIECE> = Window::new(self.at + off, want, PIECE as u64);
+        if search_name(&mut window, src, want, cap, name)? {
             return Ok(NameEnd::Whole);
         }
         if left > u64::from(cap.bytes) {
@@ -152,41 +153,6 @@ fn refused(at: u64, cause: Cause) -> Fault
     ensures { result ≡ Fault.Refused (record { at = at; cause = cause }) }
 {
     Fault::Refused(Refusal { at, cause })
-}
-
-// Reads `want` bytes from `start` on, or fewer up to the first NUL, and adds those before it to
-// `name`, as far as `cap`. Answers whether there is a NUL.
-fn search<S: Source>(
-    src: &mut Counted<S>,
-    start: u64,
-    want: u64,
-    cap: Cap,
-    name: &mut NameBuf,
-) -> Result<bool, Fault>
-    requires empty { name.old ≡ [] }
-    requires ends { start + want < 2 ^ 64 }
-    requires within { start + want ≤ src.old.seen.size }
-    ensures reads { Reads src.old src.new want }
-    ensures says { IfErr result (Says src.old src.new want) }
-    ensures fault { IfErr result IsOfRead }
-    ensures searched { (file : List ℕ) → src.old.seen.file ≡ Some file →
-        Searched (slice file start want) cap.bytes result name.new }
-{
-    let mut window: Window<PIECE> = Window::new(start, want, PIECE as u64);
-    let mut done: u64 = 0;
-    while done < want {
-        window.bring(src, 1)?;
-        let piece = window.front();
-        let count = piece.len() as u64;
-        if let Some(place) = memchr(0, piece) {
-            name.add(&piece[..place], cap);
-            return Ok(true);
-        }
-        name.add(piece, cap);
-        window.skip(count);
-        done += count;
-    }
-    Ok(false)
 }
 
 // Reads `want` bytes from `start` on, or fewer up to the first that differs, and answers whether they
