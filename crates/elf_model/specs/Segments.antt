@@ -52,6 +52,10 @@ mapped_checks file v z entry = elim (mapped_at file v z) [
   | Some at ↦ refuse (is_outside (length file) (mapped_offset file at v) z) at TableOutside ∷ []
 ]
 
--- those bytes
+-- where those bytes stand in the file; it means nothing where none holds them
+abbrev pub mapped_place : List ℕ → ℕ → ℕ → ℕ
+mapped_place file v z = elim (mapped_at file v z) [ None ↦ 0 | Some at ↦ mapped_offset file at v ]
+
+-- those bytes, which mean nothing either where a check fails
 abbrev pub mapped_bytes : List ℕ → ℕ → ℕ → List ℕ
-mapped_bytes file v z = elim (mapped_at file v z) [ None ↦ [] | Some at ↦ slice file (mapped_offset file at v) z ]
+mapped_bytes file v z = slice file (mapped_place file v z) z
