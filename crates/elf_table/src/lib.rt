@@ -1,6 +1,5 @@
-//! The tables of an ELF64 file: the file header, the store of section headers, the checks of a
-//! load, cursors over tables, and names in string tables. No call takes memory but
-//! `HeaderStore::new`.
+//! The tables of an ELF64 file: the file header, the store of headers, the checks of a load,
+//! cursors over tables, and names in string tables. No call takes memory but `HeaderStore::new`.
 #![tactic(auto)]
 
 mod buffers;
@@ -18,6 +17,10 @@ mod names;
 mod ranges;
 mod row;
 mod sections;
+mod segment_checks;
+mod segment_loading;
+mod segment_view;
+mod segments;
 mod store;
 mod table;
 mod window;
@@ -34,5 +37,6 @@ pub use loading::load;
 pub use name_buf::NameBuf;
 pub use names::{NameEnd, Names};
 pub use row::Row;
+pub use segment_view::SegmentView;
 pub use store::HeaderStore;
 pub use table::Table;
