@@ -11,6 +11,7 @@ pub mod LineFronts
 pub mod Lines
 pub mod Checks
 pub mod Tables
+pub mod Segments
 pub mod Listing
 pub mod Rows
 pub mod Report

@@ -29,7 +29,13 @@ SHT_NOBITS = 8
 abbrev pub SHT_DYNSYM : ℕ
 SHT_DYNSYM = 11
 
--- a segment of notes (gABI 5, Segment Types)
+-- segment types (gABI 5, Segment Types)
+abbrev pub PT_LOAD : ℕ
+PT_LOAD = 1
+
+abbrev pub PT_DYNAMIC : ℕ
+PT_DYNAMIC = 2
+
 abbrev pub PT_NOTE : ℕ
 PT_NOTE = 4
 

@@ -17,7 +17,9 @@ pub const SHT_NOBITS: u32 = 8;
 /// The section type of a symbol table for dynamic linking.
 pub const SHT_DYNSYM: u32 = 11;
 
-/// The segment type of dynamic entries (gABI 5, Segment Types).
+/// The segment type of bytes that are loaded into memory (gABI 5, Segment Types).
+pub const PT_LOAD: u32 = 1;
+/// The segment type of dynamic entries.
 pub const PT_DYNAMIC: u32 = 2;
 /// The segment type of notes.
 pub const PT_NOTE: u32 = 4;
