@@ -4,7 +4,8 @@ use Rattle.elf_model.specs.Bytes.{number, field, little}
 use Rattle.elf_model.specs.Names.{shown, begins, same}
 use Rattle.elf_model.specs.Notes.{next_note, walk_from, walked, note_rows, note_shown}
 use Rattle.elf_model.specs.Dynamic.{dynamic_count, dynamic_value}
-use Rattle.elf_model.specs.Segments.{mapped_from}use Rattle.elf_model.specs.Text.{digit, hex, left, right, right_decimal, name_of}
+use Rattle.elf_model.specs.Segments.{mapped_from}
+use Rattle.elf_model.specs.Text.{digit, hex, left, right, right_decimal, name_of}
 use Rattle.elf_model.specs.Causes.{cause_word}
 use Rattle.elf_model.specs.NameTables.{section_types, section_type_text, section_flags, letters_of, section_flags_text, segment_types, segment_type_text, letter_or_dash, segment_flags_text, symbol_types, bindings, visibilities, places, relocation_types, number_sign, relocation_type_text, dynamic_tags, dynamic_tag_text}
 use Rattle.elf_model.specs.LineFronts.{section_front, symbol_front, addend_text, relocation_front, note_front, dynamic_front}
