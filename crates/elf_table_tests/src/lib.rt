@@ -1,5 +1,5 @@
-//! Tests of loads, tables, names and relocation entries, in a crate of their own: a crate with
-//! tests is proved twice.
+//! Tests of loads, tables, names, relocation entries and the segment view, in a crate of their own:
+//! a crate with tests is proved twice.
 #![tactic(auto)]
 
 #[cfg(test)]
@@ -16,5 +16,7 @@ mod names;
 mod readers;
 #[cfg(test)]
 mod relocations;
+#[cfg(test)]
+mod segments;
 #[cfg(test)]
 mod tables;
