@@ -1,7 +1,9 @@
-//! Tests of loads, tables, names, relocation entries and the segment view, in a crate of their own:
-//! a crate with tests is proved twice.
+//! Tests of loads, tables, names, relocation entries, the segment view, notes and dynamic entries, in
+//! a crate of their own: a crate with tests is proved twice.
 #![tactic(auto)]
 
+#[cfg(test)]
+mod dynamic;
 #[cfg(test)]
 mod fakes;
 #[cfg(test)]
@@ -12,6 +14,8 @@ mod limits;
 mod loads;
 #[cfg(test)]
 mod names;
+#[cfg(test)]
+mod notes;
 #[cfg(test)]
 mod readers;
 #[cfg(test)]
