@@ -24,7 +24,7 @@ WeakAloneIsZero =
 
 -- section 1, the last index of a section, and the first that is reserved, all at 0x1000
 abbrev pub last_layout : Layout
-last_layout = record { sections = (1, 0x1000) ∷ (0xfeff, 0x1000) ∷ (0xff00, 0x1000) ∷ []; definitions = []; entries = [] }
+last_layout = record { sections = (1, 0x1000) ∷ (0xfeff, 0x1000) ∷ (0xff00, 0x1000) ∷ []; definitions = []; linkage = [] }
 
 abbrev pub ReservedIndicesAreUnplaced : Type 0
 ReservedIndicesAreUnplaced =

@@ -1,15 +1,14 @@
 -- What relocation entries store lies in the section.
-use Rattle.std.proofs.Common.{◌≡◌, ℕ, zero, suc, ◌+◌, ◌/◌, ◌≤◌, inl, inr, true, nat_lt, List, [], ◌∷◌, length, All, Option, None, Some, Result, Ok, Err, refl, sym, ap, ◌∙◌, arith}
+use Rattle.std.proofs.Common.{◌≡◌, ℕ, zero, suc, ◌+◌, ◌/◌, ◌≤◌, ◌==◌, inl, inr, true, nat_lt, List, [], ◌∷◌, ◌++◌, length, flat_map, All, Option, None, Some, Result, Ok, Err, refl, sym, ap, ◌∙◌, arith}
 use Rattle.std.proofs.lemmas.Bool.{cases_Bool, ltb-false}
 use Rattle.std.proofs.lemmas.List.Elements.{All-nil, All-cons, All-append, All-head, All-tail}
 use Rattle.elf_model.specs.Bytes.{little}
-use Rattle.elf_model.specs.Apply.{Patch, Change, Put, Fails, Target, applies_to, has_value, change_with, change_by, change_of, kind_changes, entry_changes, rows_changes, section_changes, changes_from, changes_of, and_patches, patches_of}
+use Rattle.elf_model.specs.Apply.{Patch, Change, Put, Fails, Target, terms_of, entry_checks, change_of, entry_changes, applies_to, relocation_entries, section_headers, section_changes, changes_of, and_patches, patches_of}
 use Rattle.elf_model.specs.ApplyLaws.{IsInside, AllInside, ChangesInside}
 use Rattle.elf_model.specs.Checks.{first_refusal}
-use Rattle.elf_model.specs.Records.{e_shnum, r_offset, section_at}
-use Rattle.elf_model.specs.Tables.{RELA_SIZE, entry_count, entry_at, relocation_table_checks}
-use Rattle.elf_model.specs.Values.{Terms, Kind, fits, value_of, patch_of}
-use Rattle.elf_model.specs.declared.causes.Cause.{Cause}
+use Rattle.elf_model.specs.Records.{r_offset, r_type}
+use Rattle.elf_model.specs.Tables.{relocation_table_checks}
+use Rattle.elf_model.specs.Values.{Terms, Kind, R_X86_64_NONE, overflows, value_of, low_bytes, patch_of}
 use Rattle.elf_model.specs.declared.causes.Cause.TheVariants.{Overflow}
 use Rattle.elf_model.specs.declared.causes.Refusal.{Refusal}
 
@@ -22,14 +21,12 @@ length-little (suc width) n = ap suc (length-little width (n / 256))
 pub length-patch_of : (type : Kind) (terms : Terms) (bytes : List ℕ) → patch_of type terms ≡ Ok bytes → length bytes ≡ type.width
 unfolding patch_of
 length-patch_of type terms bytes e =
-    elim (cases_Bool (fits type.range type.width (value_of type terms))) [
-      | inl fitting ↦
-          let here : patch_of type terms ≡ Ok (little type.width (value_of type terms)) = rw (fitting, patch_of) refl in
-          let same : little type.width (value_of type terms) ≡ bytes = cc in
+    elim (cases_Bool (overflows type terms)) [
+      | inl over ↦ let here : patch_of type terms ≡ Err Overflow = rw (over, patch_of) refl in absurd (cc)
+      | inr fits ↦
+          let here : patch_of type terms ≡ Ok (low_bytes type terms) = rw (fits, patch_of) refl in
+          let same : low_bytes type terms ≡ bytes = cc in
           ap length (sym same) ∙ length-little type.width (value_of type terms)
-      | inr no_fit ↦
-          let here : patch_of type terms ≡ Err Overflow = rw (no_fit, patch_of) refl in
-          absurd (cc)
     ]
 
 -- a change that stores bytes stores them within the section
@@ -41,72 +38,63 @@ fails_inside : (size : ℕ) (refusal : Refusal) → IsInsideChange size (Fails r
 unfolding IsInsideChange
 fails_inside size refusal = tt
 
-with_inside :
-    (file : List ℕ) (entry width size : ℕ) → r_offset file entry + width ≤ size
-    → (bytes : Result (List ℕ) Cause) → ((b : List ℕ) → bytes ≡ Ok b → length b ≡ width)
-    → IsInsideChange size (change_with file entry bytes)
-unfolding IsInsideChange change_with
-with_inside file entry width size room (Err cause) long = tt
-with_inside file entry width size room (Ok bytes) long = let l = long bytes refl in omega arith
-
-by_inside :
-    (file : List ℕ) (entry : ℕ) (type : Kind) (size : ℕ) → r_offset file entry + type.width ≤ size
-    → (named place : Result ℕ Refusal) → IsInsideChange size (change_by file entry type named place)
-unfolding IsInsideChange change_by
-by_inside file entry type size room (Err refusal) place = tt
-by_inside file entry type size room (Ok named) (Err refusal) = tt
-by_inside file entry type size room (Ok named) (Ok place) =
-    with_inside file entry type.width size room _ (λ b e. length-patch_of type _ b e)
+-- what holds of all that each of some items gives holds of all
+all_given : {A : Type 0} (P : A → Type 0) (f : ℕ → List A) (xs : List ℕ) → ((x : ℕ) → All P (f x)) → All P (flat_map f xs)
+all_given P f [] each = All-nil P
+all_given P f (x ∷ xs) each = All-append P (f x) (flat_map f xs) (each x) (all_given P f xs each)
 
 module _ (target : Target) where
-  change_inside : (at entry : ℕ) (type : Kind) → IsInsideChange target.size (change_of target at entry type)
-  unfolding IsInsideChange change_of
-  change_inside at entry type =
-      elim (cases_Bool (nat_lt target.size (r_offset target.file entry + type.width))) [
-        | inl out ↦ rw (out, change_of) tt
-        | inr room ↦
-            let low = ltb-false target.size (r_offset target.file entry + type.width) room in
-            rw (room, change_of) (by_inside target.file entry type target.size low _ _)
+  -- the first check of an entry
+  room :
+      (at rela : ℕ) (type : Kind) → first_refusal (entry_checks target at rela type) ≡ None
+      → r_offset target.file rela + type.width ≤ target.size
+  unfolding entry_checks
+  room at rela type e =
+      elim (cases_Bool (nat_lt target.size (r_offset target.file rela + type.width))) [
+        | inl out ↦ let f = rw out at e in absurd (cc)
+        | inr fits ↦ ltb-false target.size (r_offset target.file rela + type.width) fits
       ]
-
-  kind_inside : (at entry : ℕ) (type : Option Kind) → All (IsInsideChange target.size) (kind_changes target at entry type)
-  unfolding kind_changes
-  kind_inside at entry None = All-cons (IsInsideChange target.size) _ [] (fails_inside _ _) (All-nil _)
-  kind_inside at entry (Some type) =
-      elim (cases_Bool (has_value type.formula)) [
-        | inl some ↦ rw (some, kind_changes) (All-cons (IsInsideChange target.size) _ [] (change_inside at entry type) (All-nil _))
-        | inr none ↦ rw (none, kind_changes) (All-nil _)
-      ]
-
-  rows_inside : (at i n : ℕ) → All (IsInsideChange target.size) (rows_changes target at i n)
-  unfolding rows_changes entry_changes
-  rows_inside at i zero = All-nil _
-  rows_inside at i (suc n) =
-      All-append (IsInsideChange target.size) _ _ (kind_inside at (entry_at target.file at RELA_SIZE i) _)
-      (rows_inside at (suc i) n)
 
   checked_inside :
+      (at rela : ℕ) (type : Kind) (refusal : Option Refusal) → first_refusal (entry_checks target at rela type) ≡ refusal
+      → IsInsideChange target.size (change_of target at rela (Some type))
+  unfolding IsInsideChange change_of
+  checked_inside at rela type (Some refusal) e = rw (e, change_of) tt
+  checked_inside at rela type None e =
+      let fits = room at rela type e in
+      let long = length-little type.width (value_of type (terms_of target at rela)) in
+      rw (e, change_of) (omega arith)
+
+  change_inside : (at rela : ℕ) (type : Option Kind) → IsInsideChange target.size (change_of target at rela type)
+  unfolding IsInsideChange change_of
+  change_inside at rela None = tt
+  change_inside at rela (Some type) = checked_inside at rela type _ refl
+
+  entry_inside : (at rela : ℕ) → All (IsInsideChange target.size) (entry_changes target at rela)
+  unfolding entry_changes
+  entry_inside at rela =
+      elim (cases_Bool (r_type target.file rela == R_X86_64_NONE)) [
+        | inl none ↦ rw (none, entry_changes) (All-nil _)
+        | inr some ↦ rw (some, entry_changes) (All-cons (IsInsideChange target.size) _ [] (change_inside at rela _) (All-nil _))
+      ]
+
+  table_inside :
       (at : ℕ) (refusal : Option Refusal) → first_refusal (relocation_table_checks target.file at) ≡ refusal
       → applies_to target.file target.section at ≡ true → All (IsInsideChange target.size) (section_changes target at)
   unfolding section_changes
-  checked_inside at None e on =
-      rw (on, section_changes) (rw (e, section_changes) (rows_inside at 0 (entry_count target.file at RELA_SIZE)))
-  checked_inside at (Some refusal) e on =
+  table_inside at None e on =
+      rw (on, section_changes) (rw (e, section_changes)
+      (all_given (IsInsideChange target.size) (entry_changes target at) (relocation_entries target.file at) (entry_inside at)))
+  table_inside at (Some refusal) e on =
       rw (on, section_changes) (rw (e, section_changes) (All-cons (IsInsideChange target.size) _ [] (fails_inside _ _) (All-nil _)))
 
   section_inside : (at : ℕ) → All (IsInsideChange target.size) (section_changes target at)
   unfolding section_changes
   section_inside at =
       elim (cases_Bool (applies_to target.file target.section at)) [
-        | inl on ↦ checked_inside at _ refl on
+        | inl on ↦ table_inside at _ refl on
         | inr off ↦ rw (off, section_changes) (All-nil _)
       ]
-
-  sections_inside : (i n : ℕ) → All (IsInsideChange target.size) (changes_from target i n)
-  unfolding changes_from
-  sections_inside i zero = All-nil _
-  sections_inside i (suc n) =
-      All-append (IsInsideChange target.size) _ _ (section_inside (section_at target.file i)) (sections_inside (suc i) n)
 
 -- where no change is a fault, the patches are what the changes store
 stored_inside :
@@ -132,4 +120,5 @@ patches_inside size (Put patch ∷ changes) patches inside e =
 pub changes_inside : ChangesInside
 unfolding changes_of
 changes_inside target patches e =
-    patches_inside target.size (changes_of target) patches (sections_inside target 0 (e_shnum target.file)) e
+    patches_inside target.size (changes_of target) patches
+    (all_given (IsInsideChange target.size) (section_changes target) (section_headers target.file) (section_inside target)) e
