@@ -1,16 +1,18 @@
--- What relocation entries store lies in the section.
-use Rattle.std.proofs.Common.{◌≡◌, ℕ, zero, suc, ◌+◌, ◌/◌, ◌≤◌, ◌==◌, inl, inr, true, nat_lt, List, [], ◌∷◌, ◌++◌, length, flat_map, All, Option, None, Some, Result, Ok, Err, refl, sym, ap, ◌∙◌, arith}
+-- What relocation entries store is their value, and lies in the section.
+use Rattle.std.proofs.Common.{◌≡◌, ℕ, zero, suc, ◌+◌, ◌/◌, ◌≤◌, ◌==◌, inl, inr, true, false, not, nat_lt, List, [], ◌∷◌, ◌++◌, length, flat_map, All, Option, None, Some, Result, Ok, Err, refl, sym, ap, ◌∙◌, arith}
 use Rattle.std.proofs.lemmas.Bool.{cases_Bool, ltb-false}
 use Rattle.std.proofs.lemmas.List.Elements.{All-nil, All-cons, All-append, All-head, All-tail}
 use Rattle.elf_model.specs.Bytes.{little}
-use Rattle.elf_model.specs.Apply.{Patch, Change, Put, Fails, Target, terms_of, entry_checks, change_of, entry_changes, applies_to, relocation_entries, section_headers, section_changes, changes_of, and_patches, patches_of}
-use Rattle.elf_model.specs.ApplyLaws.{IsInside, AllInside, ChangesInside}
-use Rattle.elf_model.specs.Checks.{first_refusal}
+use Rattle.elf_model.specs.Apply.{Patch, Change, Put, Fails, Target, named_value, symbol_checks, value_checks, terms_of, entry_checks, change_of, entry_changes, applies_to, relocation_entries, section_headers, section_changes, changes_of, and_patches, patches_of}
+use Rattle.elf_model.specs.ApplyLaws.{IsInside, AllInside, EntryStoresValue, ChangesInside}
+use Rattle.elf_model.specs.Checks.{refuse, first_refusal}
+use Rattle.elf_model.specs.Placing.{symbol_value, linkage_value, place_value}
 use Rattle.elf_model.specs.Records.{r_offset, r_type}
 use Rattle.elf_model.specs.Tables.{relocation_table_checks}
-use Rattle.elf_model.specs.Values.{Terms, Kind, R_X86_64_NONE, overflows, value_of, low_bytes, patch_of}
-use Rattle.elf_model.specs.declared.causes.Cause.TheVariants.{Overflow}
+use Rattle.elf_model.specs.Values.{Terms, takes_linkage, takes_place, Kind, kind_of, R_X86_64_NONE, overflows, value_of, low_bytes, patch_of, value}
+use Rattle.elf_model.specs.declared.causes.Cause.TheVariants.{Overflow, PlaceOutside}
 use Rattle.elf_model.specs.declared.causes.Refusal.{Refusal}
+use Rattle.elf_model.proofs.CheckSteps.{first_refusal-back}
 
 pub length-little : (width n : ℕ) → length (little width n) ≡ width
 unfolding little
@@ -95,6 +97,60 @@ module _ (target : Target) where
         | inl on ↦ table_inside at _ refl on
         | inr off ↦ rw (off, section_changes) (All-nil _)
       ]
+
+-- What an entry stores.
+module _ (target : Target) (at rela : ℕ) where
+  -- the last check of an entry
+  in_range : (type : Kind) → first_refusal (entry_checks target at rela type) ≡ None → overflows type (terms_of target at rela) ≡ false
+  unfolding entry_checks
+  in_range type e =
+      let before = refuse (nat_lt target.size (r_offset target.file rela + type.width)) rela PlaceOutside
+      ∷ symbol_checks target.file at rela
+      ++ value_checks (takes_linkage type.formula) (named_value linkage_value target at rela)
+      ++ value_checks (not (takes_linkage type.formula)) (named_value symbol_value target at rela)
+      ++ value_checks (takes_place type.formula) (place_value target.file target.layout target.section rela) in
+      let last = first_refusal-back before (refuse (overflows type (terms_of target at rela)) rela Overflow ∷ []) e in
+      elim (cases_Bool (overflows type (terms_of target at rela))) [
+        | inl over ↦ let f = rw over at last in absurd (cc)
+        | inr fits ↦ fits
+      ]
+
+  stored :
+      (type : Kind) (patch : Patch) (refusal : Option Refusal) → first_refusal (entry_checks target at rela type) ≡ refusal
+      → change_of target at rela (Some type) ≡ Put patch
+      → (patch.at ≡ r_offset target.file rela) × (patch_of type (terms_of target at rela) ≡ Ok patch.bytes)
+  unfolding change_of patch_of
+  stored type patch (Some refusal) e is =
+      let here : change_of target at rela (Some type) ≡ Fails refusal = rw (e, change_of) refl in absurd (cc)
+  stored type patch None e is =
+      let put : Patch = record { at = r_offset target.file rela; bytes = low_bytes type (terms_of target at rela) } in
+      let here : change_of target at rela (Some type) ≡ Put put = rw (e, change_of) refl in
+      let same : put ≡ patch = cc in
+      let fits = in_range type e in
+      let value_is : patch_of type (terms_of target at rela) ≡ Ok (low_bytes type (terms_of target at rela)) = rw (fits, patch_of) refl in
+      (ap (λ (p : Patch). p.at) (sym same), value_is ∙ ap (λ (p : Patch). Ok p.bytes) same)
+
+  value_stored :
+      (type : Option Kind) (patch : Patch) → kind_of (r_type target.file rela) ≡ type
+      → (r_type target.file rela == R_X86_64_NONE) ≡ false → change_of target at rela type ≡ Put patch
+      → (patch.at ≡ r_offset target.file rela)
+      × (value (r_type target.file rela) (terms_of target at rela).symbol (terms_of target at rela).linkage
+      (terms_of target at rela).addend (terms_of target at rela).place ≡ Ok patch.bytes)
+  unfolding change_of value
+  value_stored None patch k other is = absurd (cc)
+  value_stored (Some type) patch k other is =
+      let s = stored type patch _ refl is in
+      (s.0, rw (other, value) (rw (k, value) s.1))
+
+pub entry_stores_value : EntryStoresValue
+unfolding entry_changes
+entry_stores_value target at rela patch e =
+    elim (cases_Bool (r_type target.file rela == R_X86_64_NONE)) [
+      | inl none ↦ let f = rw (none, entry_changes) at e in absurd (cc)
+      | inr some ↦
+          let f : change_of target at rela (kind_of (r_type target.file rela)) ∷ [] ≡ Put patch ∷ [] = rw (some, entry_changes) at e in
+          value_stored target at rela _ patch refl some (cc)
+    ]
 
 -- where no change is a fault, the patches are what the changes store
 stored_inside :
