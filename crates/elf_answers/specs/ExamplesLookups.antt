@@ -100,3 +100,10 @@ UndefinedIsFound =
 -- behind the last section there is none
 abbrev pub HashPastTheLastSection : Type 0
 HashPastTheLastSection = RefusesLookup (one_symbol_table ++ section_header 5 0 0x40 0x18 1 0 0 4) (codes "main") 0x28 NoHash
+
+-- three buckets: the hash is taken modulo their number, which is no power of 2
+abbrev pub ThreeBuckets : Type 0
+ThreeBuckets =
+    RefusesLookup (hash_file (3 ∷ 1 ∷ 9 ∷ 9 ∷ 9 ∷ 0 ∷ [])) (codes "a") 0x4c HashIndex
+    × RefusesLookup (hash_file (3 ∷ 1 ∷ 9 ∷ 9 ∷ 9 ∷ 0 ∷ [])) (codes "b") 0x50 HashIndex
+    × RefusesLookup (hash_file (3 ∷ 1 ∷ 9 ∷ 9 ∷ 9 ∷ 0 ∷ [])) (codes "c") 0x48 HashIndex
