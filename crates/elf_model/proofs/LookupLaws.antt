@@ -1,7 +1,7 @@
 -- Lookups: what is calculated is the one lookup.
 use Rattle.std.proofs.Common.{◌≡◌, ℕ, zero, suc, ◌<◌, ◌≤◌, ◌⊎◌, inl, inr, Bool, true, false, List, [], ◌∷◌, ◌++◌, length, drop, nat_lt, ◌==◌, Option, None, Some, Result, Ok, Err, refl, sym, ap, ◌∙◌, arith}
 use Rattle.std.proofs.lemmas.Bool.{cases_eq, cases_lt, cases_Bool, and_parts, ltb-true}
-use Rattle.elf_model.specs.Hash.{nchain, walk_word, lookup_word, end_of, end_of_name, is_index, same_symbol, End, ChainEnd, NoIndex, Nameless, Wanted, Outcome, Found, Absent, Refused, Lookup, lookup_at, lookup_by, cycle, IsFirst, IsEndless, IsLookup, lookup_end, looked_up}
+use Rattle.elf_model.specs.Hash.{nchain, walk_word, lookup_word, end_at_word, end_of_name, is_index, same_symbol, LookupEnd, ChainEnd, NoIndex, Nameless, Wanted, Outcome, Found, Absent, Refused, Lookup, lookup_at, lookup_by, cycle, IsFirst, IsEndless, IsLookup, lookup_end, looked_up}
 use Rattle.elf_model.specs.HashLaws.{GoesOn, LookupIsBounded, LookupAnswers, LookupIsOne, CycleExactly, CycleIsEndless, ComparedWithinChains}
 use Rattle.elf_model.specs.Tables.{linked_at}
 use Rattle.elf_model.specs.Names.{same, begins, is_empty_at_zero}
@@ -11,17 +11,17 @@ use Rattle.elf_model.proofs.WalkLaws.{long_walk_never_ends, none_found, one_foun
 
 module _ (file : List ℕ) (at : ℕ) (wanted : List ℕ) where
   -- a word other than 0 that is no index
-  not_an_index : (index : ℕ) → is_index file at (suc index) ≡ false → end_of file at wanted (suc index) ≡ Some NoIndex
-  unfolding end_of
-  not_an_index index t = rw (t, end_of) refl
+  not_an_index : (index : ℕ) → is_index file at (suc index) ≡ false → end_at_word file at wanted (suc index) ≡ Some NoIndex
+  unfolding end_at_word
+  not_an_index index t = rw (t, end_at_word) refl
 
-  goes_on_above : (word : ℕ) → end_of file at wanted word ≡ None → 0 < word
-  unfolding end_of
+  goes_on_above : (word : ℕ) → end_at_word file at wanted word ≡ None → 0 < word
+  unfolding end_at_word
   goes_on_above zero e = absurd (cc)
   goes_on_above (suc index) e = omega arith
 
-  goes_on_below : (word : ℕ) → end_of file at wanted word ≡ None → word < nchain file at
-  unfolding end_of
+  goes_on_below : (word : ℕ) → end_at_word file at wanted word ≡ None → word < nchain file at
+  unfolding end_at_word
   goes_on_below zero e = absurd (cc)
   goes_on_below (suc index) e =
       elim (cases_Bool (is_index file at (suc index))) [
@@ -40,28 +40,28 @@ cycle_is_endless file at wanted some goes =
 module _ (file : List ℕ) (at : ℕ) (wanted : List ℕ) where
   -- a lookup that goes on for one word more than there are chains never ends
   never_ends :
-      GoesOn (end_of file at wanted) (lookup_word file at wanted) (suc (nchain file at))
-      → IsEndless (end_of file at wanted) (lookup_word file at wanted)
+      GoesOn (end_at_word file at wanted) (lookup_word file at wanted) (suc (nchain file at))
+      → IsEndless (end_at_word file at wanted) (lookup_word file at wanted)
   never_ends goes =
       let low = goes_on_below file at wanted (lookup_word file at wanted 0) (goes 0 (omega arith)) in
       cycle_is_endless file at wanted (omega arith) (λ i h. goes i (omega arith))
 
   -- it ends at none of the words looked at: it never ends
   pub endless_where :
-      lookup_end file at wanted (suc (nchain file at)) ≡ None → IsEndless (end_of file at wanted) (lookup_word file at wanted)
+      lookup_end file at wanted (suc (nchain file at)) ≡ None → IsEndless (end_at_word file at wanted) (lookup_word file at wanted)
   unfolding lookup_end walk_word
   endless_where e = never_ends (λ i h. none_found _ _ _ (suc (nchain file at)) 0 e i (omega arith) (omega arith))
 
   -- it ends at one of them: it is the first
   pub first_where :
-      (i : ℕ) (end : End) → lookup_end file at wanted (suc (nchain file at)) ≡ Some (i, end)
-      → IsFirst (end_of file at wanted) (lookup_word file at wanted) i end
+      (i : ℕ) (end : LookupEnd) → lookup_end file at wanted (suc (nchain file at)) ≡ Some (i, end)
+      → IsFirst (end_at_word file at wanted) (lookup_word file at wanted) i end
   unfolding lookup_end walk_word
   first_where i end e = one_found _ _ _ (suc (nchain file at)) 0 i end e (λ j low. absurd (omega arith))
 
   -- what the search for the end says
   answered :
-      (end : Option (ℕ × End)) → lookup_end file at wanted (suc (nchain file at)) ≡ end
+      (end : Option (ℕ × LookupEnd)) → lookup_end file at wanted (suc (nchain file at)) ≡ end
       → IsLookup file at wanted (lookup_by file at wanted end)
   answered None e = inr (record { endless = endless_where e; gives = refl })
   answered (Some found) e = inl (record { number = found.0; end = found.1; first = first_where found.0 found.1 e; gives = refl })
@@ -72,11 +72,11 @@ lookup_answers file at wanted = answered file at wanted _ refl
 
 module _ (file : List ℕ) (at : ℕ) (wanted : List ℕ) where
   same_end :
-      (i j : ℕ) (a b : End) → i ≡ j → IsFirst (end_of file at wanted) (lookup_word file at wanted) i a
-      → IsFirst (end_of file at wanted) (lookup_word file at wanted) j b
+      (i j : ℕ) (a b : LookupEnd) → i ≡ j → IsFirst (end_at_word file at wanted) (lookup_word file at wanted) i a
+      → IsFirst (end_at_word file at wanted) (lookup_word file at wanted) j b
       → lookup_at file at wanted i a ≡ lookup_at file at wanted j b
   same_end i j a b e f g =
-      let first : IsFirst (end_of file at wanted) (lookup_word file at wanted) j a = rw (← e) f in
+      let first : IsFirst (end_at_word file at wanted) (lookup_word file at wanted) j a = rw (← e) f in
       rw e (ap (lookup_at file at wanted j) (end_is_one _ _ _ j a b first g))
 
 pub lookup_is_one : LookupIsOne
@@ -91,7 +91,7 @@ lookup_is_one file at wanted first second (inr a) (inr b) = a.gives ∙ sym b.gi
 
 module _ (file : List ℕ) (at : ℕ) (wanted : List ℕ) where
   -- one symbol more than words are passed over is compared at most
-  compared_le : (i : ℕ) (end : End) → (lookup_at file at wanted i end).compared ≤ suc i
+  compared_le : (i : ℕ) (end : LookupEnd) → (lookup_at file at wanted i end).compared ≤ suc i
   unfolding lookup_at
   compared_le i ChainEnd = omega arith
   compared_le i NoIndex = omega arith
@@ -99,14 +99,14 @@ module _ (file : List ℕ) (at : ℕ) (wanted : List ℕ) where
   compared_le i Wanted = omega arith
 
   -- no symbol is compared at a word that is no index
-  compared_nothing : (end : End) → (end ≡ ChainEnd) ⊎ (end ≡ NoIndex) → (lookup_at file at wanted 0 end).compared ≡ 0
+  compared_nothing : (end : LookupEnd) → (end ≡ ChainEnd) ⊎ (end ≡ NoIndex) → (lookup_at file at wanted 0 end).compared ≡ 0
   unfolding lookup_at
   compared_nothing end (inl e) = rw (e, lookup_at) refl
   compared_nothing end (inr e) = rw (e, lookup_at) refl
 
   -- without chains no word is an index
-  no_chain : (word : ℕ) (end : End) → nchain file at ≡ 0 → end_of file at wanted word ≡ Some end → (end ≡ ChainEnd) ⊎ (end ≡ NoIndex)
-  unfolding end_of
+  no_chain : (word : ℕ) (end : LookupEnd) → nchain file at ≡ 0 → end_at_word file at wanted word ≡ Some end → (end ≡ ChainEnd) ⊎ (end ≡ NoIndex)
+  unfolding end_at_word
   no_chain zero end none e = inl (cc)
   no_chain (suc index) end none e =
       elim (cases_Bool (is_index file at (suc index))) [
@@ -115,14 +115,14 @@ module _ (file : List ℕ) (at : ℕ) (wanted : List ℕ) where
       ]
 
   compared_at_start :
-      (i : ℕ) (end : End) → i ≡ 0 → nchain file at ≡ 0 → end_of file at wanted (lookup_word file at wanted i) ≡ Some end
+      (i : ℕ) (end : LookupEnd) → i ≡ 0 → nchain file at ≡ 0 → end_at_word file at wanted (lookup_word file at wanted i) ≡ Some end
       → (lookup_at file at wanted i end).compared ≤ nchain file at
   compared_at_start i end start none here =
       let nothing = compared_nothing end (no_chain (lookup_word file at wanted i) end none here) in
       rw (start, nothing) (omega arith)
 
   compared_where :
-      (end : Option (ℕ × End)) → lookup_end file at wanted (suc (nchain file at)) ≡ end
+      (end : Option (ℕ × LookupEnd)) → lookup_end file at wanted (suc (nchain file at)) ≡ end
       → (lookup_by file at wanted end).compared ≤ nchain file at
   compared_where None e = omega arith
   compared_where (Some found) e =
@@ -185,20 +185,20 @@ end_of_name-fault (Ok true) cause e = absurd (cc)
 end_of_name-fault (Ok false) cause e = absurd (cc)
 
 module _ (file : List ℕ) (at : ℕ) (wanted : List ℕ) where
-  end_no_cycle : (word : ℕ) → end_of file at wanted word ≡ Some (Nameless HashCycle) → ⊥
-  unfolding end_of same_symbol
+  end_no_cycle : (word : ℕ) → end_at_word file at wanted word ≡ Some (Nameless HashCycle) → ⊥
+  unfolding end_at_word same_symbol
   end_no_cycle zero e = cc
   end_no_cycle (suc index) e =
       elim (cases_Bool (is_index file at (suc index))) [
         | inl is ↦
-            let here : end_of file at wanted (suc index)
-            ≡ end_of_name (same_symbol file (linked_at file at) wanted (suc index)) = rw (is, end_of) refl in
+            let here : end_at_word file at wanted (suc index)
+            ≡ end_of_name (same_symbol file (linked_at file at) wanted (suc index)) = rw (is, end_at_word) refl in
             same_no_cycle _ _ _ (end_of_name-fault (same_symbol file (linked_at file at) wanted (suc index)) HashCycle (sym here ∙ e))
         | inr isnt ↦ let n = not_an_index file at wanted index isnt in cc
       ]
 
   at_no_cycle :
-      (i : ℕ) (end : End) → (end ≡ Nameless HashCycle → ⊥)
+      (i : ℕ) (end : LookupEnd) → (end ≡ Nameless HashCycle → ⊥)
       → (lookup_at file at wanted i end).answer ≡ (cycle file at wanted).answer → ⊥
   unfolding lookup_at cause_of
   at_no_cycle i ChainEnd other e = cc
@@ -209,7 +209,7 @@ module _ (file : List ℕ) (at : ℕ) (wanted : List ℕ) where
   cycle_never_ends :
       (looked_up file at wanted).answer ≡ (cycle file at wanted).answer
       → IsLookup file at wanted (looked_up file at wanted)
-      → IsEndless (end_of file at wanted) (lookup_word file at wanted)
+      → IsEndless (end_at_word file at wanted) (lookup_word file at wanted)
   cycle_never_ends e (inl a) =
       absurd (at_no_cycle a.number a.end
       (λ is. end_no_cycle (lookup_word file at wanted a.number) (a.first.here ∙ ap Some is))
@@ -226,12 +226,12 @@ cycle_exactly file at wanted = (
 -- What a lookup gives by the first word at which it ends.
 module _ (file : List ℕ) (at : ℕ) (wanted : List ℕ) where
   pub ends_with :
-      (number : ℕ) (end : End) → IsFirst (end_of file at wanted) (lookup_word file at wanted) number end
+      (number : ℕ) (end : LookupEnd) → IsFirst (end_at_word file at wanted) (lookup_word file at wanted) number end
       → looked_up file at wanted ≡ lookup_at file at wanted number end
   ends_with number end first =
       lookup_is_one file at wanted (looked_up file at wanted) (lookup_at file at wanted number end)
       (lookup_answers file at wanted) (inl (record { number = number; end = end; first = first; gives = refl }))
 
   pub endless_is_cycle :
-      IsEndless (end_of file at wanted) (lookup_word file at wanted) → looked_up file at wanted ≡ cycle file at wanted
+      IsEndless (end_at_word file at wanted) (lookup_word file at wanted) → looked_up file at wanted ≡ cycle file at wanted
   endless_is_cycle endless = (cycle_exactly file at wanted).1 endless

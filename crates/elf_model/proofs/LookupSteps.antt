@@ -4,7 +4,7 @@ use Rattle.std.proofs.lemmas.Bool.{cases_eq}
 use Rattle.elf_model.specs.Bytes.{field}
 use Rattle.elf_model.specs.Checks.{first_refusal, header_checks, early_checks, load_checks}
 use Rattle.elf_model.specs.Find.{first_that, first_hash, hash_checks, shape_checks, looked_in, looked, find_cost}
-use Rattle.elf_model.specs.Hash.{chain_at, next_in_chain, walk_word, lookup_word, word_at, End, refused_after, looked_up}
+use Rattle.elf_model.specs.Hash.{chain_at, next_in_chain, walk_word, lookup_word, word_at, LookupEnd, refused_after, looked_up}
 use Rattle.elf_model.specs.HashLaws.{GoesOn}
 use Rattle.elf_model.specs.Names.{pad64}
 use Rattle.elf_model.specs.Records.{e_shnum, section_at}
@@ -27,7 +27,7 @@ unfolding word_at
 next_word_at file at wanted i = refl
 
 -- one word more goes on
-pub goes_on_more : (ends : ℕ → Option End) (words : ℕ → ℕ) (n : ℕ) → GoesOn ends words n → ends (words n) ≡ None → GoesOn ends words (suc n)
+pub goes_on_more : (ends : ℕ → Option LookupEnd) (words : ℕ → ℕ) (n : ℕ) → GoesOn ends words n → ends (words n) ≡ None → GoesOn ends words (suc n)
 goes_on_more ends words n goes here i low =
     elim (cases_eq i n) [ inl same ↦ rw same here | inr other ↦ goes i (omega arith) ]
 

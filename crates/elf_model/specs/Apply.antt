@@ -8,7 +8,7 @@ use Rattle.elf_model.specs.Numbers.{SHT_NULL, SHT_NOBITS, SHT_RELA}
 use Rattle.elf_model.specs.Placing.{Layout, symbol_value, linkage_value, place_value}
 use Rattle.elf_model.specs.Records.{e_type, e_machine, e_shnum, sh_type, sh_info, r_offset, r_sym, r_type, r_addend, twos_complement, section_at}
 use Rattle.elf_model.specs.Tables.{RELA_SIZE, section_bytes, linked_at, strings_of, entry_count, entry_at, has_symbols, relocation_table_checks}
-use Rattle.elf_model.specs.Values.{Formula, Terms, takes_linkage, takes_place, Kind, kind_of, R_X86_64_NONE, overflows, low_bytes}
+use Rattle.elf_model.specs.Values.{Terms, takes_linkage, takes_place, Kind, kind_of, R_X86_64_NONE, overflows, low_bytes}
 use Rattle.elf_model.specs.declared.causes.Cause.TheVariants.{NotRel, BadLink, Unsupported, Overflow, PlaceOutside, SymbolIndex}
 use Rattle.elf_model.specs.declared.causes.Refusal.{Refusal}
 
@@ -45,17 +45,17 @@ symbol_checks file at rela =
     ∷ refuse (named && not (nat_lt (r_sym file rela) (symbol_count file (linked_at file at)))) rela SymbolIndex
     ∷ []
 
--- a value, as a check of a formula that takes it: it is there
+-- where a value is taken it is there
 abbrev pub value_checks : Bool → Result ℕ Refusal → List Check
 value_checks taken (Ok value) = []
 value_checks taken (Err refusal) = record { fails = taken; refusal = refusal } ∷ []
 
--- a value that is there
+-- a value, or 0 where it is not there
 abbrev pub value_or_zero : Result ℕ Refusal → ℕ
 value_or_zero (Ok value) = value
 value_or_zero (Err refusal) = 0
 
--- S, L, A and P of a relocation entry, as far as they are there
+-- S, L, A and P of a relocation entry
 abbrev pub terms_of : Target → ℕ → ℕ → Terms
 terms_of target at rela =
     record {
@@ -65,9 +65,9 @@ terms_of target at rela =
       place = value_or_zero (place_value target.file target.layout target.section rela);
     }
 
--- The checks of a relocation entry whose type stores a value, in their order; the first that fails refuses the entry.
--- The bytes lie in the section; the symbol is one; L, S and P are there, each where the formula takes it; the value is
--- in the type's range. They refuse at the entry, but for a name that cannot be compared: that is at its symbol.
+-- The checks of a relocation entry by its type, in their order; the first that fails refuses the entry. Its bytes lie in
+-- the section; its symbol is one; L, S and P are there, each where the formula takes it; its value is in the type's range.
+-- They refuse at the entry, but for a name that cannot be compared: that is at its symbol.
 unfoldable pub entry_checks : Target → ℕ → ℕ → Kind → List Check
 entry_checks target at rela type =
     refuse (nat_lt target.size (r_offset target.file rela + type.width)) rela PlaceOutside
@@ -88,7 +88,7 @@ pub data Change : Type 0 where
   Put : Patch → Change
   Fails : Refusal → Change
 
--- what an entry does, before all other checks by its type: one that stores no value is refused
+-- what an entry does: before all other checks it is refused if its type is none that stores a value
 unfoldable pub change_of : Target → ℕ → ℕ → Option Kind → Change
 change_of target at rela None = Fails (record { at = rela; cause = Unsupported })
 change_of target at rela (Some type) =

@@ -65,14 +65,14 @@ word_at file at wanted (suc i) = chain_at file at (lookup_word file at wanted i)
 
 -- why a lookup ends at a word: the chain ends (0); the word is no index of a chain and a symbol; the symbol's name
 -- cannot be compared; it is the wanted one
-pub data End : Type 0 where
-  ChainEnd : End
-  NoIndex : End
-  Nameless : Cause → End
-  Wanted : End
+pub data LookupEnd : Type 0 where
+  ChainEnd : LookupEnd
+  NoIndex : LookupEnd
+  Nameless : Cause → LookupEnd
+  Wanted : LookupEnd
 
 -- why a lookup ends at a symbol whose name has been compared: not at another name
-abbrev pub end_of_name : Result Bool Cause → Option End
+abbrev pub end_of_name : Result Bool Cause → Option LookupEnd
 end_of_name (Err cause) = Some (Nameless cause)
 end_of_name (Ok true) = Some Wanted
 end_of_name (Ok false) = None
@@ -86,9 +86,9 @@ abbrev pub is_index : List ℕ → ℕ → ℕ → Bool
 is_index file at word = nat_lt word (nchain file at) && nat_lt word (symbol_count file (linked_at file at))
 
 -- why a lookup ends at a word, if it does
-unfoldable pub end_of : List ℕ → ℕ → List ℕ → ℕ → Option End
-end_of file at wanted zero = Some ChainEnd
-end_of file at wanted (suc index) =
+unfoldable pub end_at_word : List ℕ → ℕ → List ℕ → ℕ → Option LookupEnd
+end_at_word file at wanted zero = Some ChainEnd
+end_at_word file at wanted (suc index) =
     elim (is_index file at (suc index)) [
       | true ↦ end_of_name (same_symbol file (linked_at file at) wanted (suc index))
       | false ↦ Some NoIndex
@@ -111,7 +111,7 @@ abbrev pub refused_after : ℕ → Refusal → Lookup
 refused_after compared refusal = record { answer = Refused refusal; compared = compared }
 
 -- what a lookup gives that ends at word number i
-unfoldable pub lookup_at : List ℕ → ℕ → List ℕ → ℕ → End → Lookup
+unfoldable pub lookup_at : List ℕ → ℕ → List ℕ → ℕ → LookupEnd → Lookup
 lookup_at file at wanted i ChainEnd = record { answer = Absent; compared = i }
 lookup_at file at wanted i NoIndex = refused_after i (record { at = word_at file at wanted i; cause = HashIndex })
 lookup_at file at wanted i (Nameless cause) =
@@ -126,24 +126,24 @@ abbrev pub cycle : List ℕ → ℕ → List ℕ → Lookup
 cycle file at wanted = refused_after (nchain file at) (record { at = bucket_of file at wanted; cause = HashCycle })
 
 -- i is the least number at whose word a walk ends
-pub record IsFirst (ends : ℕ → Option End) (words : ℕ → ℕ) (i : ℕ) (end : End) : Type 0 where
+pub record IsFirst (ends : ℕ → Option LookupEnd) (words : ℕ → ℕ) (i : ℕ) (end : LookupEnd) : Type 0 where
   pub here : ends (words i) ≡ Some end
   pub none_before : (j : ℕ) → j < i → ends (words j) ≡ None
 
 -- a walk ends at no word
-abbrev pub IsEndless : (ℕ → Option End) → (ℕ → ℕ) → Type 0
+abbrev pub IsEndless : (ℕ → Option LookupEnd) → (ℕ → ℕ) → Type 0
 IsEndless ends words = (i : ℕ) → ends (words i) ≡ None
 
 -- a lookup ends at word number `number`, which says what it gives
 pub record EndsWith (file : List ℕ) (at : ℕ) (wanted : List ℕ) (lookup : Lookup) : Type 0 where
   pub number : ℕ
-  pub end : End
-  pub first : IsFirst (end_of file at wanted) (lookup_word file at wanted) number end
+  pub end : LookupEnd
+  pub first : IsFirst (end_at_word file at wanted) (lookup_word file at wanted) number end
   pub gives : lookup ≡ lookup_at file at wanted number end
 
 -- a lookup never ends
 pub record NeverEnds (file : List ℕ) (at : ℕ) (wanted : List ℕ) (lookup : Lookup) : Type 0 where
-  pub endless : IsEndless (end_of file at wanted) (lookup_word file at wanted)
+  pub endless : IsEndless (end_at_word file at wanted) (lookup_word file at wanted)
   pub gives : lookup ≡ cycle file at wanted
 
 -- what a lookup gives: by the first word at which it ends, or the cycle where there is none
@@ -153,18 +153,18 @@ IsLookup file at wanted lookup = EndsWith file at wanted lookup ⊎ NeverEnds fi
 -- The calculation. By the laws `LookupAnswers` and `LookupIsOne` it gives the one lookup that `IsLookup` tells.
 
 -- the least number, from i on and among so many, at whose word a walk ends, and why
-unfoldable pub first_end : (ℕ → Option End) → (ℕ → ℕ) → ℕ → ℕ → ℕ → Option (ℕ × End)
-first_end ends next word i zero = None
-first_end ends next word i (suc n) =
-    elim (ends word) [ Some end ↦ Some (i, end) | None ↦ first_end ends next (next word) (suc i) n ]
+unfoldable pub end_among : (ℕ → Option LookupEnd) → (ℕ → ℕ) → ℕ → ℕ → ℕ → Option (ℕ × LookupEnd)
+end_among ends next word i zero = None
+end_among ends next word i (suc n) =
+    elim (ends word) [ Some end ↦ Some (i, end) | None ↦ end_among ends next (next word) (suc i) n ]
 
 -- where a lookup ends, among so many words
-unfoldable pub lookup_end : List ℕ → ℕ → List ℕ → ℕ → Option (ℕ × End)
+unfoldable pub lookup_end : List ℕ → ℕ → List ℕ → ℕ → Option (ℕ × LookupEnd)
 lookup_end file at wanted n =
-    first_end (end_of file at wanted) (next_in_chain file at) (field file (bucket_of file at wanted) 4) 0 n
+    end_among (end_at_word file at wanted) (next_in_chain file at) (field file (bucket_of file at wanted) 4) 0 n
 
 -- what a lookup gives by its end
-abbrev pub lookup_by : List ℕ → ℕ → List ℕ → Option (ℕ × End) → Lookup
+abbrev pub lookup_by : List ℕ → ℕ → List ℕ → Option (ℕ × LookupEnd) → Lookup
 lookup_by file at wanted None = cycle file at wanted
 lookup_by file at wanted (Some found) = lookup_at file at wanted found.0 found.1
 

@@ -1,6 +1,6 @@
 -- Laws of lookups: what the calculation gives is the one lookup, and a walk either ends or comes to a word again.
 use Rattle.std.specs.Prelude.{ℕ, ◌<◌, ◌≤◌, ◌≡◌, Option, None, List}
-use Rattle.elf_model.specs.Hash.{nchain, walk_word, lookup_word, End, end_of, Lookup, IsEndless, IsLookup, looked_up, cycle}
+use Rattle.elf_model.specs.Hash.{nchain, walk_word, lookup_word, LookupEnd, end_at_word, Lookup, IsEndless, IsLookup, looked_up, cycle}
 
 -- two words are the same, the later of them number n or before it
 pub record Repeats (words : ℕ → ℕ) (n : ℕ) : Type 0 where
@@ -11,35 +11,35 @@ pub record Repeats (words : ℕ → ℕ) (n : ℕ) : Type 0 where
   pub again : words earlier ≡ words later
 
 -- a word at which a walk does not end is above 0 and below a bound
-pub record IsBounded (ends : ℕ → Option End) (bound : ℕ) : Type 0 where
+pub record IsBounded (ends : ℕ → Option LookupEnd) (bound : ℕ) : Type 0 where
   pub above : (word : ℕ) → ends word ≡ None → 0 < word
   pub below : (word : ℕ) → ends word ≡ None → word < bound
 
 -- a walk does not end at its first words, so many
-abbrev pub GoesOn : (ℕ → Option End) → (ℕ → ℕ) → ℕ → Type 0
+abbrev pub GoesOn : (ℕ → Option LookupEnd) → (ℕ → ℕ) → ℕ → Type 0
 GoesOn ends words n = (i : ℕ) → i < n → ends (words i) ≡ None
 
 -- a walk that comes to a word again before it ends never ends
 abbrev pub RepeatNeverEnds : Type 0
 RepeatNeverEnds =
-    (ends : ℕ → Option End) (next : ℕ → ℕ) (start n : ℕ)
+    (ends : ℕ → Option LookupEnd) (next : ℕ → ℕ) (start n : ℕ)
     → Repeats (walk_word next start) n → GoesOn ends (walk_word next start) n → IsEndless ends (walk_word next start)
 
 -- a walk over words below a bound that goes on for as many words comes to one of them again
 abbrev pub LongWalkRepeats : Type 0
 LongWalkRepeats =
-    (ends : ℕ → Option End) (words : ℕ → ℕ) (n : ℕ)
+    (ends : ℕ → Option LookupEnd) (words : ℕ → ℕ) (n : ℕ)
     → IsBounded ends n → 0 < n → GoesOn ends words n → Repeats words n
 
 -- a walk over words below a bound that goes on for as many words goes on for ever
 abbrev pub LongWalkNeverEnds : Type 0
 LongWalkNeverEnds =
-    (ends : ℕ → Option End) (next : ℕ → ℕ) (start n : ℕ)
+    (ends : ℕ → Option LookupEnd) (next : ℕ → ℕ) (start n : ℕ)
     → IsBounded ends n → 0 < n → GoesOn ends (walk_word next start) n → IsEndless ends (walk_word next start)
 
 -- the words at which a lookup does not end are above 0 and below the number of chains
 abbrev pub LookupIsBounded : Type 0
-LookupIsBounded = (file : List ℕ) (at : ℕ) (wanted : List ℕ) → IsBounded (end_of file at wanted) (nchain file at)
+LookupIsBounded = (file : List ℕ) (at : ℕ) (wanted : List ℕ) → IsBounded (end_at_word file at wanted) (nchain file at)
 
 -- what is calculated is what a lookup gives
 abbrev pub LookupAnswers : Type 0
@@ -56,16 +56,16 @@ abbrev pub CycleIsEndless : Type 0
 CycleIsEndless =
     (file : List ℕ) (at : ℕ) (wanted : List ℕ)
     → 0 < nchain file at
-    → GoesOn (end_of file at wanted) (lookup_word file at wanted) (nchain file at)
-    → IsEndless (end_of file at wanted) (lookup_word file at wanted)
+    → GoesOn (end_at_word file at wanted) (lookup_word file at wanted) (nchain file at)
+    → IsEndless (end_at_word file at wanted) (lookup_word file at wanted)
 
 -- a lookup is the cycle exactly where it never ends: its answer alone tells that it does
 abbrev pub CycleExactly : Type 0
 CycleExactly =
     (file : List ℕ) (at : ℕ) (wanted : List ℕ)
     → ((looked_up file at wanted).answer ≡ (cycle file at wanted).answer
-    → IsEndless (end_of file at wanted) (lookup_word file at wanted))
-    × (IsEndless (end_of file at wanted) (lookup_word file at wanted) → looked_up file at wanted ≡ cycle file at wanted)
+    → IsEndless (end_at_word file at wanted) (lookup_word file at wanted))
+    × (IsEndless (end_at_word file at wanted) (lookup_word file at wanted) → looked_up file at wanted ≡ cycle file at wanted)
 
 -- a lookup compares no more symbols' names than there are chains
 abbrev pub ComparedWithinChains : Type 0

@@ -132,7 +132,7 @@ note_shown cap note = capped cap (before_nul note.name)
 pub data Next : Type 0 where
   Ends : Next
   Broken : Next
-  Stands : Note → ℕ → Next
+  OneNote : Note → ℕ → Next
 
 -- the note whose head stands at the start of some bytes
 abbrev pub first_note : ℕ → List ℕ → Note
@@ -153,7 +153,7 @@ unfoldable pub next_note : ℕ → List ℕ → Next
 next_note a rest =
     if nat_lt (length rest) 12 then (if are_zeros rest then Ends else Broken)
     else if nat_lt (length rest) (first_end a rest) then Broken
-    else Stands (first_note a rest) (min (first_end a rest + to_next a (first_end a rest)) (length rest))
+    else OneNote (first_note a rest) (min (first_end a rest + to_next a (first_end a rest)) (length rest))
 
 -- the notes that a table has, up to the offset where it is cut, if it is
 pub record Walk : Type 0 where
@@ -171,7 +171,7 @@ walk_from a (suc most) offset rest =
     elim (next_note a rest) [
       | Ends ↦ record { notes = []; cut = None }
       | Broken ↦ record { notes = []; cut = Some offset }
-      | Stands note size ↦ with_note note (walk_from a most (offset + size) (drop size rest))
+      | OneNote note size ↦ with_note note (walk_from a most (offset + size) (drop size rest))
     ]
 
 -- the notes of a table
