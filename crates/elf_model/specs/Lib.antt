@@ -13,6 +13,7 @@ pub mod Checks
 pub mod Tables
 pub mod Listing
 pub mod Rows
+pub mod TableKinds
 pub mod Report
 pub mod ListingLaws
 pub mod Cost
