@@ -1,7 +1,7 @@
 //! The lines of relocation entries.
 ghost use Rattle.std.specs.Prelude.{◌≡◌, ◌+◌, ◌≤◌, ◌++◌, ℕ, List, length, IfSome, option_copied};
 ghost use Rattle.arrayvec.specs.ArrayVec.{array_vec_len};
-ghost use Rattle.elf_model.specs.Text.{left, name_of};
+ghost use Rattle.elf_model.specs.Text.{left_in, name_of};
 ghost use Rattle.elf_model.specs.NameTables.{number_sign, relocation_types, relocation_type_text};
 ghost use Rattle.elf_model.specs.LineFronts.{addend_text, relocation_front};
 ghost use Rattle.elf_record.specs.Rela.{IsRela};
@@ -40,7 +40,7 @@ pub fn relocation_front(section: u16, machine: u16, entry: &Rela) -> Line
 #[tactic(auto, unfolding(elf_model::specs::NameTables::relocation_type_text))]
 fn put_relocation_type(line: &mut Line, machine: u16, kind: u32)
     requires { array_vec_len line.old + 32 ≤ 256 }
-    ensures items { line.new.items ≡ line.old.items ++ left 10 (relocation_type_text machine kind) }
+    ensures items { line.new.items ≡ line.old.items ++ left_in 10 (relocation_type_text machine kind) }
     ensures len { array_vec_len line.new ≤ array_vec_len line.old + 32 }
 {
     if machine != EM_X86_64 {

@@ -1,26 +1,26 @@
 -- What the tables of a loaded file ask for, by the section headers in the store.
-use Rattle.std.proofs.Common.{◌≡◌, ℕ, ◌+◌, ◌*◌, ◌/◌, ◌<◌, ◌≤◌, ◌==◌, ◌&&◌, not, nat_lt, Bool, true, false, List, [], ◌∷◌, ◌++◌, length, drop, Option, None, Some, Result, Ok, refl, sym, ap, ◌∙◌, arith, zero-add}
-use Rattle.std.proofs.Math.Nat.{mul-le-mul_left}
-use Rattle.std.proofs.lemmas.Bool.{eqb-true, ltb-false}
+use Rattle.std.proofs.Common.{◌≡◌, ℕ, ◌+◌, ◌*◌, ◌/◌, ◌≤◌, ◌==◌, ◌&&◌, not, nat_lt, Bool, true, false, List, [], ◌∷◌, ◌++◌, length, drop, Option, None, Some, Result, Ok, refl, sym, ap, ◌∙◌, arith}
+use Rattle.std.proofs.lemmas.Bool.{ltb-false}
 use Rattle.std.specs.Prelude.{is_none}
-use Rattle.elf_model.specs.Checks.{Check, first_refusal, length_checks, header_checks, early_checks, section_name_checks, is_symbol_table, table_checks_of}
-use Rattle.elf_model.specs.Cost.{sum_over, cost_where, is_table, entries_cost, symbols_cost, relocations_cost, table_cost, is_loadable, sections_cost, segments_cost, tables_cost, behind_header, cost, ceiling}
+use Rattle.elf_model.specs.Checks.{Check, first_refusal, pass, length_checks, header_checks, early_checks, section_name_checks, is_symbol_table, table_checks_of}
+use Rattle.elf_model.specs.Cost.{sum_over, cost_where, table_cost, kinds_cost, is_loadable, sections_cost, segments_cost, tables_cost, behind_header, cost, ceiling}
 use Rattle.elf_model.specs.Listing.{has, has_tables, SECTIONS, SEGMENTS, SYMBOLS, RELOCS}
+use Rattle.elf_model.specs.CostLaws.{kind_by_kind}
 use Rattle.elf_model.specs.Names.{name_bytes}
+use Rattle.elf_model.specs.TableKinds.{symbols, relocations, section_notes, dynamic_entries, section_kinds}
 use Rattle.elf_model.specs.Numbers.{SHT_RELA, PN_XNUM, SHN_XINDEX}
-use Rattle.elf_model.specs.Records.{e_shnum, e_phnum, e_shstrndx, sh_type, sh_offset, sh_size}
+use Rattle.elf_model.specs.Records.{e_shnum, e_phnum, e_shstrndx, sh_type, sh_offset, sh_size, section_at}
 use Rattle.elf_model.specs.declared.causes.Cause.TheVariants.{ExtendedNumbering, TooManyHeaders}
 use Rattle.elf_model.specs.declared.causes.Refusal.{Refusal}
 use Rattle.elf_model.proofs.CheckSteps.{first_refusal-none, first_refusal-some}
 use Rattle.elf_model.proofs.CostLemmas.{cost_where-le, sum_over-le}
-use Rattle.elf_model.proofs.RecordLemmas.{last_cost, sums_grow}
-use Rattle.elf_model.proofs.StoreLemmas.{rows_cost, part_by_part, any_rows, tables_count}
+use Rattle.elf_model.proofs.StoreLemmas.{rows_cost, by_kind, any_rows, sections_counted, places_decide_nothing}
 use Rattle.elf_record.specs.Ehdr.{IsEhdr}
 use Rattle.elf_record.specs.declared.ehdr.Ehdr.{Ehdr}
-use Rattle.elf_table.specs.Load.{Opened, Belongs, IsOpened, Passes, early_of, header_cost, load_cost}
+use Rattle.elf_table.specs.Load.{Opened, Belongs, IsOpened, early_of, header_cost, load_cost}
 use Rattle.elf_table.specs.Sections.{answered, rows, table_of, checked}
 use Rattle.elf_table.specs.Store.{Stored, row}
-use Rattle.elf_table.specs.Tables.{Rows, Strings}
+use Rattle.elf_table.specs.Tables.{Rows}
 use Rattle.elf_table.specs.declared.fault.Fault.{Fault}
 use Rattle.elf_listing.specs.Parts.{tables_listed}
 
@@ -42,30 +42,32 @@ entries_by_cases true counts checks at n entry each_entry table h k =
     let t : rows at 0 entry ≡ table = cc in let none : table.count ≡ 0 = ap (λ (r : Rows). r.count) (sym t) in rw none (omega arith)
 entries_by_cases false counts checks at n entry each_entry table h k = rows_within counts (first_refusal checks) at n entry each_entry table h k
 
-pub entries_within : (bytes : List ℕ) (at size place entry each_entry : ℕ) (table : Rows) → Ok table ≡ table_of bytes at size place entry
-    → table.count * each_entry ≤ entries_cost bytes at size entry each_entry
-unfolding entries_cost
-entries_within bytes at size place entry each_entry table h =
-    entries_by_cases (sh_size bytes at == 0) (is_table bytes at size entry) (table_checks_of bytes at size place entry) (sh_offset bytes at) (sh_size bytes at / entry) entry each_entry table
-    (λ none. tables_count bytes at size place entry ∙ ap is_none none) (sym h)
+-- and so is what its entries ask for within what the table counts for
+table_within : (bytes : List ℕ) (at size place entry each_entry : ℕ) (table : Rows) → Ok table ≡ table_of bytes at size place entry
+    → table.count * each_entry ≤ cost_where (pass (table_checks_of bytes at size at entry)) (sh_size bytes at / entry * each_entry)
+table_within bytes at size place entry each_entry table h =
+    entries_by_cases (sh_size bytes at == 0) (pass (table_checks_of bytes at size at entry)) (table_checks_of bytes at size place entry) (sh_offset bytes at) (sh_size bytes at / entry) entry each_entry table
+    (λ none. places_decide_nothing bytes at size at place entry ∙ ap is_none none) (sym h)
 
 pub symbols_within : (bytes : List ℕ) (size place cap : ℕ) (table : Rows) → is_symbol_table bytes 0 ≡ true → Ok table ≡ table_of bytes 0 size place 24
-    → table.count * (24 + name_bytes cap) ≤ symbols_cost bytes 0 size cap
-unfolding symbols_cost
+    → table.count * (24 + name_bytes cap) ≤ table_cost symbols bytes 0 size cap
+unfolding table_cost symbols
 symbols_within bytes size place cap table kind h =
-    let within = entries_within bytes 0 size place 24 (24 + name_bytes cap) table h in rw kind (omega arith)
+    let within = table_within bytes 0 size place 24 (24 + name_bytes cap) table h in rw kind within
 
 pub relocations_within : (bytes : List ℕ) (size place cap : ℕ) (table : Rows) → sh_type bytes 0 ≡ SHT_RELA → Ok table ≡ table_of bytes 0 size place 24
-    → table.count * (24 + (24 + name_bytes cap)) ≤ relocations_cost bytes 0 size cap
-unfolding relocations_cost
+    → table.count * (24 + (24 + name_bytes cap)) ≤ table_cost relocations bytes 0 size cap
+unfolding table_cost relocations
 relocations_within bytes size place cap table kind h =
-    let within = entries_within bytes 0 size place 24 (24 + 24 + name_bytes cap) table h in rw kind (omega arith)
+    let within = table_within bytes 0 size place 24 (24 + (24 + name_bytes cap)) table h in rw kind within
 
 -- the symbols and the relocation entries of all sections are among their tables
 pub entries_among : (store : Stored) (size cap parts : ℕ)
-    → cost_where (has parts SYMBOLS) (sum_over (λ i. symbols_cost (row store i) 0 size cap) 0 store.loaded)
-    + cost_where (has parts RELOCS) (sum_over (λ i. relocations_cost (row store i) 0 size cap) 0 store.loaded) ≤ sum_over (λ i. table_cost (row store i) 0 size cap parts) 0 store.loaded
-entries_among store size cap parts = let sum = part_by_part (row store) (λ i. 0) size cap parts store.loaded in omega arith
+    → cost_where (has parts SYMBOLS) (sum_over (λ i. table_cost symbols (row store i) 0 size cap) 0 store.loaded)
+    + cost_where (has parts RELOCS) (sum_over (λ i. table_cost relocations (row store i) 0 size cap) 0 store.loaded)
+    ≤ sum_over (λ i. kinds_cost section_kinds (row store i) 0 size cap parts) 0 store.loaded
+unfolding kind_by_kind symbols relocations section_notes dynamic_entries
+entries_among store size cap parts = let sum = by_kind section_kinds (row store) (λ i. 0) size cap parts store.loaded in omega arith
 
 -- the names of all sections
 names_listed : (asked named : Bool) (n count : ℕ) → cost_where asked (sum_over (λ i. cost_where named n) 0 count) ≤ cost_where (asked && named) (count * n)
@@ -79,16 +81,18 @@ pub listed_within : (file : List ℕ) (loaded : Opened) (store : Stored) (cap pa
 unfolding sections_cost segments_cost
 listed_within file loaded store cap parts belongs =
     let count : store.loaded ≡ e_shnum file = belongs.count ∙ belongs.header.e_shnum in
-    let tables : sum_over (λ i. table_cost (row store i) 0 (length file) cap parts) 0 (e_shnum file) ≡ tables_cost file cap parts =
-    rows_cost file (row store) cap parts (λ i below. belongs.rows i (omega arith)) in
-    let all : sum_over (λ i. table_cost (row store i) 0 loaded.size cap parts) 0 store.loaded ≡ tables_cost file cap parts =
-    ap (λ n. sum_over (λ i. table_cost (row store i) 0 n cap parts) 0 store.loaded) belongs.size ∙ (ap (sum_over (λ i. table_cost (row store i) 0 (length file) cap parts) 0) count ∙ tables) in
+    let tables = rows_cost file (row store) cap parts (λ i below. belongs.rows i (omega arith)) in
+    let all : sum_over (λ i. kinds_cost section_kinds (row store i) 0 loaded.size cap parts) 0 store.loaded
+    ≡ sum_over (λ i. kinds_cost section_kinds file (section_at file i) (length file) cap parts) 0 (e_shnum file) =
+    ap (λ n. sum_over (λ i. kinds_cost section_kinds (row store i) 0 n cap parts) 0 store.loaded) belongs.size
+    ∙ (ap (sum_over (λ i. kinds_cost section_kinds (row store i) 0 (length file) cap parts) 0) count ∙ tables) in
+    let counted = sections_counted file cap parts in
     let entries = entries_among store loaded.size cap parts in
     let names = names_listed (has parts SECTIONS) (not (loaded.header.e_shstrndx == 0)) (name_bytes cap) store.loaded in
     let same : cost_where (has parts SECTIONS && not (loaded.header.e_shstrndx == 0)) (store.loaded * name_bytes cap)
     ≡ cost_where (has parts SECTIONS && not (e_shstrndx file == 0)) (e_shnum file * name_bytes cap) = rw (count, belongs.header.e_shstrndx) refl in
     let segments : cost_where (has parts SEGMENTS) (56 * loaded.header.e_phnum) ≡ cost_where (has parts SEGMENTS) (56 * e_phnum file) = rw belongs.header.e_phnum refl in
-    omega (arith, count, all, entries, names, same, segments)
+    omega (arith, count, all, counted, entries, names, same, segments)
 
 -- and whatever the store holds, within the ceiling
 pub listed_below : (loaded : Opened) (store : Stored) (cap parts : ℕ) → store.loaded ≤ store.slots → loaded.header.e_phnum ≤ store.slots

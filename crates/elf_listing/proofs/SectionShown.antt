@@ -1,26 +1,35 @@
 -- The items of one section, by what the store and the checks of a loaded file answer.
-use Rattle.std.proofs.Common.{◌≡◌, ℕ, ◌/◌, ◌<◌, ◌==◌, ◌&&◌, not, Bool, true, false, if◌then◌else◌, List, [], ◌∷◌, ◌++◌, Option, None, Some, Result, Ok, Err, refl, sym, ap, ◌∙◌, ◌^◌, subst, arith}
+use Rattle.std.proofs.Common.{◌≡◌, ℕ, ◌/◌, ◌<◌, ◌==◌, ◌&&◌, not, Bool, true, false, if◌then◌else◌, List, [], ◌∷◌, ◌++◌, Option, None, Some, Result, Ok, Err, refl, sym, ap, ◌∙◌, arith}
 use Rattle.std.proofs.lemmas.Bool.{eqb-true}
 use Rattle.elf_model.specs.Bytes.{slice}
 use Rattle.elf_model.specs.Checks.{Check, first_refusal, is_symbol_table, table_checks, strings_checks}
 use Rattle.elf_model.specs.LineFronts.{section_front}
-use Rattle.elf_model.specs.Listing.{Item, Fault, each, checked}
+use Rattle.elf_model.specs.Listing.{Item, Fault, each, guarded}
 use Rattle.elf_model.specs.Names.{shown}
 use Rattle.elf_model.specs.Numbers.{SHT_RELA}
 use Rattle.elf_model.specs.Records.{e_shnum, e_shstrndx, sh_name, sh_type, sh_offset, sh_size, sh_link, section_at}
-use Rattle.elf_model.specs.Rows.{section_row, section_name, symbol_row, symbol_rows, relocation_row, relocation_rows, named_row, no_name}
-use Rattle.elf_model.proofs.ListingLemmas.{checked-passes, checked-fault}
+use Rattle.elf_model.specs.Report.{table_rows}
+use Rattle.elf_model.specs.TableKinds.{symbols, relocations}
+use Rattle.elf_model.specs.Rows.{section_row, section_name, symbol_row, relocation_row, named_row, no_name}
+use Rattle.elf_model.proofs.ListingLemmas.{guarded-passes, guarded-fault}
 use Rattle.elf_model.specs.Tables.{section_bytes, strings_of, entry_count, symbol_table_checks, relocation_table_checks}
 use Rattle.elf_model.specs.declared.causes.Refusal.{Refusal}
 use Rattle.elf_table.specs.Tables.{Rows, Strings}
 use Rattle.elf_table.specs.Sections.{answered, names_at, rows, strings, section_names, symbols_at, symbols_linked, linked_checks, relocations_at, checked as checked_as}
 use Rattle.elf_table.specs.declared.fault.Fault.{Fault as TableFault}
-use Rattle.elf_table.specs.declared.fault.Fault.TheVariants.{Refused, Source as Unread}
-use Rattle.elf_listing.specs.Parts.{name_in}
+use Rattle.elf_table.specs.declared.fault.Fault.TheVariants.{Refused}
+use Rattle.elf_listing.specs.Parts.{shown_in}
+
+-- the rows of a section's symbols, and of its relocation entries
+abbrev pub symbols_of : List ℕ → ℕ → ℕ → List Item
+symbols_of file cap section = table_rows symbols file cap section (section_at file section)
+
+abbrev pub relocations_of : List ℕ → ℕ → ℕ → List Item
+relocations_of file cap section = table_rows relocations file cap section (section_at file section)
 
 -- the name of a section, in the string table of the section names or without one
 name_by_cases : (file : List ℕ) (a b : Bool) (names : Strings) (off cap : ℕ) → a ≡ false
-    → name_in file (elim (not a && not b) [ true ↦ Some names | false ↦ None ]) off cap ≡ (if b then no_name else shown (slice file names.at names.size) off cap)
+    → shown_in file (elim (not a && not b) [ true ↦ Some names | false ↦ None ]) off cap ≡ (if b then no_name else shown (slice file names.at names.size) off cap)
 name_by_cases file false true names off cap h = refl
 name_by_cases file false false names off cap h = refl
 name_by_cases file true b names off cap h = cc
@@ -29,33 +38,33 @@ some_sections : (n : ℕ) → 0 < n → (n == 0) ≡ false
 some_sections n h = grind (arith)
 
 name_is : (file : List ℕ) (names : Option Strings) (off at cap : ℕ) → names ≡ section_names file → 0 < e_shnum file → off ≡ sh_name file at
-    → name_in file names off cap ≡ section_name file at cap
+    → shown_in file names off cap ≡ section_name file at cap
 unfolding section_name
 name_is file names off at cap same some is =
-    ap (λ table. name_in file table off cap) same
+    ap (λ table. shown_in file table off cap) same
     ∙ (name_by_cases file (e_shnum file == 0) (e_shstrndx file == 0) (names_at file (section_at file (e_shstrndx file))) off cap (some_sections (e_shnum file) some)
     ∙ ap (λ index. if e_shstrndx file == 0 then no_name else shown (section_bytes file (section_at file (e_shstrndx file))) index cap) is)
 
 -- the row of a section header, by its front and its name
 pub section_is : (file front : List ℕ) (names : Option Strings) (off at index cap : ℕ) → names ≡ section_names file → 0 < e_shnum file → at ≡ section_at file index
     → off ≡ sh_name file (section_at file index) → front ≡ section_front file (section_at file index) index
-    → section_row file cap index ≡ named_row front at (name_in file names off cap)
+    → section_row file cap index ≡ named_row front at (shown_in file names off cap)
 unfolding section_row
 section_is file front names off at index cap same some place is before = sym (
-    ap (λ text. named_row text at (name_in file names off cap)) before
-    ∙ (ap (λ p. named_row (section_front file (section_at file index) index) p (name_in file names off cap)) place
+    ap (λ text. named_row text at (shown_in file names off cap)) before
+    ∙ (ap (λ p. named_row (section_front file (section_at file index) index) p (shown_in file names off cap)) place
     ∙ ap (named_row (section_front file (section_at file index) index) (section_at file index)) (name_is file names off (section_at file index) cap same some is)))
 
 -- a section that holds no symbols has no rows of symbols
-pub no_symbols : (file : List ℕ) (cap section : ℕ) → is_symbol_table file (section_at file section) ≡ false → symbol_rows file cap section ≡ []
-unfolding symbol_rows
-no_symbols file cap section h = rw (h, symbol_rows) refl
+pub no_symbols : (file : List ℕ) (cap section : ℕ) → is_symbol_table file (section_at file section) ≡ false → symbols_of file cap section ≡ []
+unfolding table_rows symbols
+no_symbols file cap section h = rw (h, table_rows) refl
 
 -- one that holds symbols has them behind its checks
 pub symbols_are : (file : List ℕ) (cap section : ℕ) → is_symbol_table file (section_at file section) ≡ true
-    → symbol_rows file cap section ≡ checked (symbol_table_checks file (section_at file section)) (each (symbol_row file cap section (section_at file section)) 0 (entry_count file (section_at file section) 24))
-unfolding symbol_rows
-symbols_are file cap section h = rw (h, symbol_rows) refl
+    → symbols_of file cap section ≡ guarded (symbol_table_checks file (section_at file section)) (each (symbol_row file cap section (section_at file section)) 0 (entry_count file (section_at file section) 24))
+unfolding table_rows symbols
+symbols_are file cap section h = rw (h, table_rows) refl
 
 refused_first : {A : Type 0} (first : Option Refusal) (value : A) (refusal : Refusal) → answered first value ≡ Err (Refused refusal) → first ≡ Some refusal
 refused_first None value refusal h = cc
@@ -73,14 +82,14 @@ fails_by_cases true none some checks refusal h = cc
 fails_by_cases false none some checks refusal h = refused_first (first_refusal checks) some refusal h
 
 pub symbols_fault : (file : List ℕ) (cap section : ℕ) (refusal : Refusal) → is_symbol_table file (section_at file section) ≡ true
-    → symbols_at file (section_at file section) ≡ Err (Refused refusal) → symbol_rows file cap section ≡ Fault refusal ∷ []
+    → symbols_at file (section_at file section) ≡ Err (Refused refusal) → symbols_of file cap section ≡ Fault refusal ∷ []
 symbols_fault file cap section refusal kind h =
     let at : ℕ = section_at file section in
     let first : first_refusal (symbol_table_checks file at) ≡ Some refusal =
     fails_by_cases (sh_size file at == 0) (rows (sh_offset file at) 0 24, strings (sh_offset file at) 0)
     (rows (sh_offset file at) (sh_size file at / 24) 24, names_at file (section_at file (sh_link file at)))
     (table_checks file at 24 ++ strings_checks file at) refusal h in
-    symbols_are file cap section kind ∙ checked-fault (symbol_table_checks file at) _ refusal first
+    symbols_are file cap section kind ∙ guarded-fault (symbol_table_checks file at) _ refusal first
 
 -- what the checks of a table of symbols leave, where they pass
 pub record SymbolsOf (file : List ℕ) (section : ℕ) (table : Rows) (names : Strings) : Type 0 where
@@ -126,11 +135,11 @@ symbols_pass file section table names h =
     }
 
 -- a section of another type has no rows of relocation entries
-pub no_relocations : (file : List ℕ) (cap section : ℕ) → (sh_type file (section_at file section) ≡ SHT_RELA → ⊥) → relocation_rows file cap section ≡ []
-unfolding relocation_rows
+pub no_relocations : (file : List ℕ) (cap section : ℕ) → (sh_type file (section_at file section) ≡ SHT_RELA → ⊥) → relocations_of file cap section ≡ []
+unfolding table_rows relocations
 no_relocations file cap section h =
     let other : (sh_type file (section_at file section) == SHT_RELA) ≡ false = by_cases (sh_type file (section_at file section) == SHT_RELA) (λ e. h (eqb-true (sh_type file (section_at file section)) SHT_RELA e)) in
-    rw (other, relocation_rows) refl
+    rw (other, table_rows) refl
   where
     by_cases : (b : Bool) → (b ≡ true → ⊥) → b ≡ false
     by_cases true k = absurd (k refl)
@@ -138,18 +147,18 @@ no_relocations file cap section h =
 
 -- one of that type has them behind its checks
 pub relocations_are : (file : List ℕ) (cap section : ℕ) → sh_type file (section_at file section) ≡ SHT_RELA
-    → relocation_rows file cap section ≡ checked (relocation_table_checks file (section_at file section)) (each (relocation_row file cap section (section_at file section)) 0 (entry_count file (section_at file section) 24))
-unfolding relocation_rows
-relocations_are file cap section h = rw (h, relocation_rows) refl
+    → relocations_of file cap section ≡ guarded (relocation_table_checks file (section_at file section)) (each (relocation_row file cap section (section_at file section)) 0 (entry_count file (section_at file section) 24))
+unfolding table_rows relocations
+relocations_are file cap section h = rw (h, table_rows) refl
 
 pub relocations_fault : (file : List ℕ) (cap section : ℕ) (refusal : Refusal) → sh_type file (section_at file section) ≡ SHT_RELA
-    → relocations_at file (section_at file section) ≡ Err (Refused refusal) → relocation_rows file cap section ≡ Fault refusal ∷ []
+    → relocations_at file (section_at file section) ≡ Err (Refused refusal) → relocations_of file cap section ≡ Fault refusal ∷ []
 relocations_fault file cap section refusal kind h =
     let at : ℕ = section_at file section in
     let first : first_refusal (relocation_table_checks file at) ≡ Some refusal =
     fails_by_cases (sh_size file at == 0) (rows (sh_offset file at) 0 24, None)
     (rows (sh_offset file at) (sh_size file at / 24) 24, symbols_linked file at) (table_checks file at 24 ++ linked_checks file at) refusal h in
-    relocations_are file cap section kind ∙ checked-fault (relocation_table_checks file at) _ refusal first
+    relocations_are file cap section kind ∙ guarded-fault (relocation_table_checks file at) _ refusal first
 
 -- what the checks of a table of relocation entries leave, where they pass
 pub record RelocationsOf (file : List ℕ) (section : ℕ) (table : Rows) (linked : Option (Rows × Strings)) : Type 0 where
@@ -172,5 +181,5 @@ relocations_pass file section table linked h =
 
 -- rows behind checks that pass
 pub rows_checked : (checks : List Check) (row : ℕ → List Item) (count entries : ℕ) (items : List Item)
-    → items ≡ checked checks (each row 0 entries) → first_refusal checks ≡ None → count ≡ entries → items ≡ each row 0 count
-rows_checked checks row count entries items are pass same = are ∙ (checked-passes checks (each row 0 entries) pass ∙ ap (each row 0) (sym same))
+    → items ≡ guarded checks (each row 0 entries) → first_refusal checks ≡ None → count ≡ entries → items ≡ each row 0 count
+rows_checked checks row count entries items are pass same = are ∙ (guarded-passes checks (each row 0 entries) pass ∙ ap (each row 0) (sym same))

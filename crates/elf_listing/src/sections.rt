@@ -4,7 +4,7 @@ ghost use Rattle.elf_source.specs.Source.{Reads};
 ghost use Rattle.elf_table.specs.Faults.{Says};
 ghost use Rattle.elf_table.specs.NamesRead.{NameRead};
 ghost use Rattle.elf_table.specs.Tables.{StringsWithin};
-ghost use Rattle.elf_listing.specs.Parts.{part_cost, part_items, section_cost, section_items, names_cost, name_in};
+ghost use Rattle.elf_listing.specs.Parts.{part_cost, part_items, section_cost, section_items, name_cost, shown_in};
 ghost use Rattle.elf_listing.specs.Shows.{Lists, Shows};
 ghost use Rattle.elf_listing.specs.declared.parts.Part.TheVariants.{Headers, Symbols, Relocations};
 
@@ -119,10 +119,10 @@ fn read_section_name<S: Source>(
     name: &mut NameBuf,
 ) -> Result<NameEnd, Fault>
     requires { IfSome names (StringsWithin src.old.seen.size) }
-    ensures reads { Reads src.old src.new (names_cost names cap.bytes) }
-    ensures says { IfErr result (Says src.old src.new (names_cost names cap.bytes)) }
+    ensures reads { Reads src.old src.new (name_cost names cap.bytes) }
+    ensures says { IfErr result (Says src.old src.new (name_cost names cap.bytes)) }
     ensures read { (file : List ℕ) → src.old.seen.file ≡ Some file →
-        NameRead place result name.new (name_in file names off cap.bytes) }
+        NameRead place result name.new (shown_in file names off cap.bytes) }
 {
     match names {
         Some(names) => names.read(src, u64::from(off), place, cap, name),

@@ -3,7 +3,7 @@ use Rattle.std.proofs.Common.{◌≡◌, ◌≢◌, ℕ, suc, zero, ◌+◌, ◌
 use Rattle.std.proofs.lemmas.Bool.Decides.{nat_tests}
 use Rattle.std.proofs.lemmas.Bool.{cases_lt}
 use Rattle.elf_model.specs.Records.{d_tag}
-use Rattle.elf_model.specs.Dynamic.{DT_NULL, dynamic_count, entry_at, IsListed, CountedIsListed, ListedIsCounted}
+use Rattle.elf_model.specs.Dynamic.{DT_NULL, dynamic_count, dynamic_at, IsListed, CountedIsListed, ListedIsCounted}
 
 null-or-not : (tag : ℕ) → (tag ≡ DT_NULL) ⊎ (tag ≢ DT_NULL)
 null-or-not tag = grind (arith, nat_tests)
@@ -20,10 +20,10 @@ count-zero : (file : List ℕ) (at : ℕ) → dynamic_count file at zero ≡ 0
 unfolding dynamic_count
 count-zero file at = refl
 
-entry-suc : (at i : ℕ) → entry_at (at + 16) i ≡ entry_at at (suc i)
+entry-suc : (at i : ℕ) → dynamic_at (at + 16) i ≡ dynamic_at at (suc i)
 entry-suc at i = omega arith
 
-entry-zero : (at : ℕ) → entry_at at 0 ≡ at
+entry-zero : (at : ℕ) → dynamic_at at 0 ≡ at
 entry-zero at = omega arith
 
 listed-null : (file : List ℕ) (at n : ℕ) → d_tag file at ≡ DT_NULL → IsListed file at (suc n) 1
@@ -33,11 +33,11 @@ listed-null file at n h =
 listed-more : (file : List ℕ) (at n count : ℕ) → d_tag file at ≢ DT_NULL → IsListed file (at + 16) n count → IsListed file at (suc n) (suc count)
 listed-more file at n count h k = record { within = omega arith; none_before = none; ended = end }
   where
-    none : (i : ℕ) → suc i < suc count → d_tag file (entry_at at i) ≢ DT_NULL
+    none : (i : ℕ) → suc i < suc count → d_tag file (dynamic_at at i) ≢ DT_NULL
     none zero l = λ e. h (ap (d_tag file) (sym (entry-zero at)) ∙ e)
     none (suc i) l = λ e. k.none_before i (omega arith) (ap (d_tag file) (entry-suc at i) ∙ e)
 
-    end : suc count < suc n → (last : ℕ) × (suc count ≡ suc last) × (d_tag file (entry_at at last) ≡ DT_NULL)
+    end : suc count < suc n → (last : ℕ) × (suc count ≡ suc last) × (d_tag file (dynamic_at at last) ≡ DT_NULL)
     end l = let e = k.ended (omega arith) in (suc e.0, ap suc e.1, ap (d_tag file) (sym (entry-suc at e.0)) ∙ e.2)
 
 pub counted_is_listed : CountedIsListed
@@ -68,12 +68,12 @@ pub listed_is_counted : ListedIsCounted
 listed_is_counted file at n count h = one-count file at n (dynamic_count file at n) count (counted_is_listed file at n) h
 
 -- no entry is the last: all are listed
-pub count-all : (file : List ℕ) (at n : ℕ) → ((i : ℕ) → i < n → d_tag file (entry_at at i) ≢ DT_NULL) → dynamic_count file at n ≡ n
+pub count-all : (file : List ℕ) (at n : ℕ) → ((i : ℕ) → i < n → d_tag file (dynamic_at at i) ≢ DT_NULL) → dynamic_count file at n ≡ n
 count-all file at n none =
     listed_is_counted file at n n (record { within = omega arith; none_before = λ i l. none i (omega arith); ended = λ l. absurd (omega arith) })
 
 -- the first DT_NULL is the last that is listed
-pub count-first : (file : List ℕ) (at n i : ℕ) → i < n → ((j : ℕ) → j < i → d_tag file (entry_at at j) ≢ DT_NULL) → d_tag file (entry_at at i) ≡ DT_NULL
+pub count-first : (file : List ℕ) (at n i : ℕ) → i < n → ((j : ℕ) → j < i → d_tag file (dynamic_at at j) ≢ DT_NULL) → d_tag file (dynamic_at at i) ≡ DT_NULL
     → dynamic_count file at n ≡ suc i
 count-first file at n i l none h =
     listed_is_counted file at n (suc i) (record { within = l; none_before = λ j m. none j (omega arith); ended = λ m. (i, refl, h) })

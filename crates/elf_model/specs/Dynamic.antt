@@ -30,15 +30,15 @@ abbrev pub DT_STRSZ : ℕ
 DT_STRSZ = 10
 
 -- where an entry stands
-abbrev pub entry_at : ℕ → ℕ → ℕ
-entry_at at i = at + 16 * i
+abbrev pub dynamic_at : ℕ → ℕ → ℕ
+dynamic_at at i = at + 16 * i
 
 -- of n entries, those before `count` are listed: none but the last of them has the tag DT_NULL, and where
 -- there are more behind it the last has it
 pub record IsListed (file : List ℕ) (at n count : ℕ) : Type 0 where
   pub within : count ≤ n
-  pub none_before : (i : ℕ) → suc i < count → d_tag file (entry_at at i) ≢ DT_NULL
-  pub ended : count < n → (last : ℕ) × (count ≡ suc last) × (d_tag file (entry_at at last) ≡ DT_NULL)
+  pub none_before : (i : ℕ) → suc i < count → d_tag file (dynamic_at at i) ≢ DT_NULL
+  pub ended : count < n → (last : ℕ) × (count ≡ suc last) × (d_tag file (dynamic_at at last) ≡ DT_NULL)
 
 -- the entries that are counted are those that are listed
 abbrev pub CountedIsListed : Type 0

@@ -14,6 +14,7 @@ pub mod Tables
 pub mod Segments
 pub mod Listing
 pub mod Rows
+pub mod TableKinds
 pub mod Report
 pub mod ListingLaws
 pub mod Cost
