@@ -11,6 +11,10 @@ use Rattle.elf_names.specs.Ahead.{Spends}
 pub Spends-none : (c : Counting) (before after n : ℕ) → after ≤ before + n → Spends c c before after n
 Spends-none c before after n within = record { reads = Reads-none c (before + n); account = omega arith }
 
+-- reads that take nothing of the credit
+pub Spends-reads : {a b : Counting} {n : ℕ} (x : ℕ) → Reads a b n → Spends a b x x n
+Spends-reads x p = record { reads = Reads-to p (omega (arith, p.at_most)); account = omega (arith, p.at_most) }
+
 -- reads, and then others
 pub Spends-then : {a b c : Counting} {x y z n m : ℕ} → Spends a b x y n → Spends b c y z m → Spends a c x z (n + m)
 Spends-then p q = record {
@@ -21,7 +25,3 @@ Spends-then p q = record {
 -- the same, with a bound on all
 pub Spends-to : {a b : Counting} {x y n k : ℕ} → Spends a b x y n → b.asked + y ≤ a.asked + (x + k) → Spends a b x y k
 Spends-to p within = record { reads = Reads-to p.reads (omega arith); account = within }
-
--- a fault after other reads on credit
-pub Says-spent : {a b : Counting} {x y n : ℕ} (c : Counting) (m : ℕ) (fault : Fault) → Spends a b x y n → Says b c (y + m) fault → Says a c (x + (n + m)) fault
-Says-spent {x = x} {y = y} {n = n} c m fault p q = Says-within c (y + m) (x + (n + m)) fault (let s = p.account in omega arith) p.reads q
