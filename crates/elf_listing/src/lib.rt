@@ -4,6 +4,7 @@
 mod buffers;
 mod end;
 mod listing;
+mod names;
 mod parts;
 mod relocation_row;
 mod row;

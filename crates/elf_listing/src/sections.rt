@@ -1,10 +1,6 @@
 //! What is listed of each section, one section after another.
-ghost use Rattle.std.specs.Prelude.{◌≡◌, ◌<◌, ℕ, List, Some, IfErr, IfSome};
-ghost use Rattle.elf_source.specs.Source.{Reads};
-ghost use Rattle.elf_table.specs.Faults.{Says};
-ghost use Rattle.elf_table.specs.NamesRead.{NameRead};
-ghost use Rattle.elf_table.specs.Tables.{StringsWithin};
-ghost use Rattle.elf_listing.specs.Parts.{part_cost, part_items, section_cost, section_items, name_cost, shown_in};
+ghost use Rattle.std.specs.Prelude.{◌<◌};
+ghost use Rattle.elf_listing.specs.Parts.{part_cost, part_items, section_cost, section_items};
 ghost use Rattle.elf_listing.specs.Shows.{Lists, Shows};
 ghost use Rattle.elf_listing.specs.declared.parts.Part.TheVariants.{Headers, Symbols, Relocations};
 
@@ -14,8 +10,8 @@ use crate::rows::Kind;
 use crate::stop::Stop;
 use elf_lines::section_front;
 use elf_record::numbers::SHT_RELA;
-use elf_source::{Counted, Sink, Source};
-use elf_table::{Cap, Fault, NameBuf, NameEnd, Names, holds_symbols};
+use elf_source::{Sink, Source};
+use elf_table::holds_symbols;
 
 impl<S: Source, W: Sink> Listing<'_, '_, '_, S, W> {
     /// Shows a part of each section in the order of the section headers, up to the first that is refused.
@@ -61,7 +57,7 @@ impl<S: Source, W: Sink> Listing<'_, '_, '_, S, W> {
         let place = self.file.place(section);
         let names = self.file.names();
         let off = header.sh_name;
-        let end = read_section_name(self.src, names, off, place, self.cap, &mut self.name)?;
+        let end = self.read_section_name(names, off, place)?;
         self.named_line(section_front(section, &header), end)
     }
 
@@ -105,30 +101,5 @@ impl<S: Source, W: Sink> Listing<'_, '_, '_, S, W> {
                 linked,
             },
         )
-    }
-}
-
-/// Reads the name of a section at the index `off` into `name`; without a string table it is empty. A
-/// refusal names `place`.
-fn read_section_name<S: Source>(
-    src: &mut Counted<S>,
-    names: Option<Names>,
-    off: u32,
-    place: u64,
-    cap: Cap,
-    name: &mut NameBuf,
-) -> Result<NameEnd, Fault>
-    requires { IfSome names (StringsWithin src.old.seen.size) }
-    ensures reads { Reads src.old src.new (name_cost names cap.bytes) }
-    ensures says { IfErr result (Says src.old src.new (name_cost names cap.bytes)) }
-    ensures read { (file : List ℕ) → src.old.seen.file ≡ Some file →
-        NameRead place result name.new (shown_in file names off cap.bytes) }
-{
-    match names {
-        Some(names) => names.read(src, u64::from(off), place, cap, name),
-        None => {
-            name.clear();
-            Ok(NameEnd::Whole)
-        }
     }
 }

@@ -18,6 +18,7 @@ use crate::listing::Listing;
 use crate::stop::Stop;
 use bitflags::Flags;
 use elf_lines::{header_row, show_refusal};
+use elf_names::ReadAhead;
 use elf_record::{Ehdr, Parts};
 use elf_source::{Counted, Out, Sink, Source};
 use elf_table::{Cap, Caps, File, HeaderStore, Loaded, NameBuf, header, load};
@@ -151,6 +152,7 @@ fn list_tables<S: Source, W: Sink>(
         Writes out.old out.new result (table_items file cap.bytes parts.0) }
 {
     let name = NameBuf::new();
+    let ahead = ReadAhead::new();
     let file = File { loaded, store };
     let mut listing = Listing {
         src,
@@ -158,6 +160,7 @@ fn list_tables<S: Source, W: Sink>(
         file,
         cap,
         name,
+        ahead,
     };
     listing.tables(parts)
 }

@@ -33,6 +33,7 @@ pub use cursor::Cursor;
 pub use fault::Fault;
 pub use file::File;
 pub use file_header::header;
+pub use filling::fill;
 pub use loaded::Loaded;
 pub use loading::load;
 pub use name_buf::NameBuf;

@@ -4,6 +4,7 @@ ghost use Rattle.std.specs.Prelude.{◌≡◌};
 
 use crate::fixtures::{ONE_CALL, refused};
 use elf_record::{Cause, Rela, Sym};
+use elf_names::{NameIndex, ReadAhead};
 use elf_source::{Counted, MemorySource, Source};
 use elf_table::{
     Cap, Cursor, Fault, File, HeaderStore, NameBuf, NameEnd, Names, Table, header, load,
@@ -289,15 +290,15 @@ pub(crate) fn name_of_the_call<S: Source>(src: &mut Counted<S>, rt: &impl Abort)
         bytes.copy_from_slice(row.bytes);
     }
     assert!(rt; Rela::decode(&bytes).symbol() == 1);
-    let symbol = symbols.symbol(src, 1).expect(rt, "a symbol");
+    let mut ahead = ReadAhead::new();
+    let symbol = ahead.symbol(src, &symbols, 1).expect(rt, "a symbol");
     let mut name = NameBuf::new();
-    let end = names.read(
-        src,
-        u64::from(symbol.st_name),
-        0x78,
-        Cap { bytes: 63 },
-        &mut name,
-    );
+    let index = NameIndex {
+        names,
+        off: u64::from(symbol.st_name),
+        at: 0x78,
+    };
+    let end = ahead.name(src, index, Cap { bytes: 63 }, &mut name);
     assert!(rt; end == Ok(NameEnd::Whole) && name.bytes() == b"f".as_slice());
 }
 

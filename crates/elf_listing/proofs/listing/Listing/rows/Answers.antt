@@ -1,7 +1,9 @@
 -- Each row that the cursor gives is the file's, and is shown behind those before it.
 use Rattle.std.proofs.Common.{◌≡◌, ◌+◌, ◌*◌, ◌<◌, refl, ap, sym, ◌∙◌, arith}
 use Rattle.std.proofs.lemmas.Result.{err_from_is_err_and}
-use Rattle.elf_source.proofs.ReadsLaws.{Reads-none, Reads-then, Reads-to}
+use Rattle.elf_source.proofs.ReadsLaws.{Reads-then}
+use Rattle.elf_names.proofs.HeldLaws.{still_held}
+use Rattle.elf_names.proofs.SpendsLaws.{Spends-none, Spends-reads, Spends-then, Spends-to}
 use Rattle.elf_table.proofs.SaysLaws.{still_open}
 use Rattle.elf_table.specs.Tables.{Rows}
 use Rattle.elf_listing.specs.Kinds.{row_size, own_cost, row_items, rows_cost}
@@ -17,7 +19,7 @@ rows-init g c =
       not_failed = n.failed;
       counted = omega (arith, n.index, n.left);
       keeps = record { same_src = refl; same_out = refl; same_file = refl; same_cap = refl };
-      reads = Reads-none _ _;
+      spends = Spends-none _ _ _ _ (omega arith);
       asked = omega (arith, account_begins c.new-cursor.result c.args.table c.args.kind.now c.args.self.now.cap.bytes c.requires.entry n.failed n.unread n.left);
       agrees = λ file held. agrees_none file c.new-cursor.result n.held;
       text = λ file held of_kind. rows_none _ _ _ n.index;
@@ -37,9 +39,11 @@ returns-in_err-row-clause-lists g c =
     let account = c.in_ok-advance.ensures.account in
     let reads = c.in_ok-advance.ensures.reads in
     let lists = c.in_err-row.ensures.lists in
-    let within = account_row c.rows.cursor c.advance.new.self _ _ _ _ gives.one_less account known.asked in
-    let says = rw known.keeps.same_cap at lists.2 in
-    let asks = rw known.keeps.same_cap at lists.1 in
+    let own = own_cost c.args.kind.now c.args.self.now.cap.bytes in
+    let credit = c.rows.self.ahead.credit in
+    let within = account_row c.rows.cursor c.advance.new.self _ (c.advance.new.src.asked + credit) own _ gives.one_less (omega (arith, account)) known.asked in
+    let says = rw known.keeps.same_cap at lists.1.1 in
+    let asks = rw known.keeps.same_cap at lists.1.0 in
     rw (p.1, p.2) (
       record {
         same_src = lists.0.same_src ∙ known.keeps.same_src;
@@ -47,8 +51,10 @@ returns-in_err-row-clause-lists g c =
         same_file = lists.0.same_file ∙ known.keeps.same_file;
         same_cap = lists.0.same_cap ∙ known.keeps.same_cap;
       },
-      Reads-to (Reads-then known.reads (Reads-then reads asks)) (omega (arith, within, asks.at_most)),
-      StopSays-then _ _ _ _ _ _ _ _ within (Reads-then known.reads reads) says,
+      (
+        Spends-to (Spends-then known.spends (Spends-then (Spends-reads credit reads) asks)) (omega (arith, within, asks.account)),
+        StopSays-then _ _ _ _ _ _ _ _ (omega (arith, within)) (Reads-then known.spends.reads reads) says,
+      ),
     )
 
 pub returns-in_err-row-clause-shows : goal.returns-in_err-row-clause-shows
@@ -56,7 +62,7 @@ returns-in_err-row-clause-shows g c = λ file held of_kind.
     let p = err_from_is_err_and c.from_residual-in_err-row.result c.from_residual-in_err-row.ensures.1 in
     let known = c.rows.invariant in
     let gives = rw c.if-branch.true at c.in_ok-advance.ensures.steps in
-    let now = known.reads.keeps.same_file ∙ held in
+    let now = known.spends.reads.keeps.same_file ∙ held in
     let below : c.rows.cursor.index < c.args.table.count = omega (arith, known.counted, gives.one_less) in
     let kind = of_kind (omega (arith, below)) in
     let row = given_row file c.args.kind.now c.args.table gives c.row.ensures now (known.agrees file held) known.same_table c.requires.entry kind.1 in
@@ -69,10 +75,12 @@ rows-preserved g c =
     let gives = rw c.if-branch.true at c.in_ok-advance.ensures.steps in
     let account = c.in_ok-advance.ensures.account in
     let lists = c.in_ok-row.ensures.lists.0 in
-    let asks = c.in_ok-row.ensures.lists.1 in
+    let asks = c.in_ok-row.ensures.lists.1.0 in
     let reads = c.in_ok-advance.ensures.reads in
-    let most = rw known.keeps.same_cap at asks.at_most in
-    let asked = account_step c.rows.cursor c.advance.new.self _ _ _ _ _ gives.one_less account most known.asked in
+    let own = own_cost c.args.kind.now c.args.self.now.cap.bytes in
+    let credit = c.rows.self.ahead.credit in
+    let most = rw known.keeps.same_cap at asks.account in
+    let asked = account_step c.rows.cursor c.advance.new.self _ (c.advance.new.src.asked + credit) _ own _ gives.one_less (omega (arith, account)) (omega (arith, most)) known.asked in
     record {
       same_table = gives.same_table ∙ known.same_table;
       not_failed = gives.still_not_failed;
@@ -83,11 +91,11 @@ rows-preserved g c =
         same_file = lists.same_file ∙ known.keeps.same_file;
         same_cap = lists.same_cap ∙ known.keeps.same_cap;
       };
-      reads = Reads-to (Reads-then known.reads (Reads-then reads asks)) (omega (arith, asked));
+      spends = Spends-to (Spends-then known.spends (Spends-then (Spends-reads credit reads) asks)) (omega (arith, asked));
       asked = asked;
-      agrees = λ file held. gives.agrees file (known.reads.keeps.same_file ∙ held) (known.agrees file held);
+      agrees = λ file held. gives.agrees file (known.spends.reads.keeps.same_file ∙ held) (known.agrees file held);
       text = λ file held of_kind.
-          let now = known.reads.keeps.same_file ∙ held in
+          let now = known.spends.reads.keeps.same_file ∙ held in
           let below : c.rows.cursor.index < c.args.table.count = omega (arith, known.counted, gives.one_less) in
           let kind = of_kind (omega (arith, below)) in
           let row = given_row file c.args.kind.now c.args.table gives c.row.ensures now (known.agrees file held) known.same_table c.requires.entry kind.1 in
@@ -96,4 +104,7 @@ rows-preserved g c =
     }
 
 pub invariant_of-self : goal.invariant_of-self
-invariant_of-self g c = record { loaded = still_open _ _ c.advance.ensures.reads c.rows.self.loaded }
+invariant_of-self g c = record {
+  loaded = still_open _ _ c.advance.ensures.reads c.rows.self.loaded;
+  held = still_held _ c.advance.ensures.reads c.rows.self.held;
+}

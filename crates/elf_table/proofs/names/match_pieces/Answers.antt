@@ -2,7 +2,7 @@ use Rattle.std.proofs.Common.{◌≡◌, ℕ, ◌+◌, List, Some, length, refl,
 use Rattle.elf_model.specs.Bytes.{slice}
 use Rattle.elf_table.proofs.NameWindows.{piece-of_file, piece-some, Between-next, Reads-next}
 use Rattle.elf_table.proofs.Pieces.{alike-more, differ-here}
-use Rattle.elf_table.proofs.names.matches.Goals as goal
+use Rattle.elf_table.proofs.names.match_pieces.Goals as goal
 
 pub returns-then-not-agrees-clause-matched : goal.returns-then-not-agrees-clause-matched
 returns-then-not-agrees-clause-matched g c = λ file h.

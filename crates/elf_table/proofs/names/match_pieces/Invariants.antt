@@ -1,7 +1,7 @@
 use Rattle.std.proofs.Common.{◌≡◌, ℕ, ◌+◌, ◌-◌, ◌<◌, ◌≤◌, List, get_or, Some}
 use Rattle.elf_source.specs.Source.{Reads}
 use Rattle.elf_table.proofs.NameWindows.{Between}
-use Rattle.elf_table.proofs.names.matches.Given as goal
+use Rattle.elf_table.proofs.names.match_pieces.Given as goal
 
 abbrev pub invariant-loop-done : goal.invariant-loop-done
 invariant-loop-done g l = record {
