@@ -59,6 +59,7 @@ fn read_symbol<S: Source>(
     requires { IfSome linked (SymbolsWithin src.old.seen.size) }
     ensures reads { Reads src.old src.new (24 + name_bytes cap.bytes) }
     ensures says { IfErr result (Says src.old src.new (24 + name_bytes cap.bytes)) }
+    ensures unnamed { symbol ≡ 0 → src.new ≡ src.old }
     ensures read { (file : List ℕ) (header : ℕ) → src.old.seen.file ≡ Some file →
         linked ≡ symbols_linked file header →
         NameRead (symbol_named file cap.bytes header at symbol).0 result name.new
