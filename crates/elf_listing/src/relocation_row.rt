@@ -42,6 +42,7 @@ impl<S: Source, W: Sink> Listing<'_, '_, '_, S, W> {
         let end = self.read_symbol(linked, symbol, row.at)?;
         self.named_line(relocation_front(section, machine, &entry), end)
     }
+
     /// Reads the name of the symbol of an index, which is empty for symbol 0 (gABI 4, Symbol Table).
     /// Where there is no such symbol the refusal names `at`, and where the name is refused the symbol.
     fn read_symbol(&mut self, linked: Linked, symbol: u32, at: u64) -> Result<NameEnd, Fault>
