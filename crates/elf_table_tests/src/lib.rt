@@ -1,5 +1,5 @@
-//! Tests of loads, tables, names, relocation entries, notes and dynamic entries, in a crate of their
-//! own: a crate with tests is proved twice.
+//! Tests of loads, tables, names, relocation entries, notes and dynamic entries, in a crate of
+//! their own: a crate with tests is proved twice.
 #![tactic(auto)]
 
 #[cfg(test)]
