@@ -1,6 +1,6 @@
 -- Worked examples of dynamic entries.
-use Rattle.std.specs.Prelude.{◌≡◌, ℕ, List, [], ◌++◌}
-use Rattle.elf_model.specs.Dynamic.{dynamic_count}
+use Rattle.std.specs.Prelude.{◌≡◌, ℕ, List, [], ◌++◌, None, Some}
+use Rattle.elf_model.specs.Dynamic.{dynamic_count, dynamic_value, listed_value}
 use Rattle.elf_model.specs.Fixtures.{zeros}
 use Rattle.elf_model.specs.Bytes.{little}
 
@@ -21,3 +21,17 @@ DynamicWithoutNull =
     (dynamic_count (dynamic_entry 1 1 ++ dynamic_entry 5 0) 0 2 ≡ 2)
     × (dynamic_count (dynamic_entry 0xffffffff00000000 0) 0 1 ≡ 1)
     × (dynamic_count [] 0 0 ≡ 0)
+
+-- where an array says that its strings are: by the first of two values, and by none behind a DT_NULL
+abbrev pub dynamic_strings : List ℕ
+dynamic_strings = dynamic_entry 1 1 ++ dynamic_entry 5 2 ++ dynamic_entry 5 3 ++ dynamic_entry 0 4 ++ dynamic_entry 10 5
+
+-- the value of a tag is that of the first entry with it, up to and with the first DT_NULL
+abbrev pub DynamicValues : Type 0
+DynamicValues =
+    (listed_value dynamic_strings 0 5 5 ≡ Some 2)
+    × (listed_value dynamic_strings 0 5 10 ≡ None)
+    × (dynamic_value dynamic_strings 0 5 10 ≡ Some 5)
+    × (listed_value dynamic_strings 0 5 0 ≡ Some 4)
+    × (listed_value dynamic_strings 64 1 10 ≡ Some 5)
+    × (listed_value [] 0 0 5 ≡ None)

@@ -47,3 +47,19 @@ CountedIsListed = (file : List ℕ) (at n : ℕ) → IsListed file at n (dynamic
 -- the entries that are listed are those that are counted
 abbrev pub ListedIsCounted : Type 0
 ListedIsCounted = (file : List ℕ) (at n count : ℕ) → IsListed file at n count → dynamic_count file at n ≡ count
+
+-- the value of the first of n entries with a tag: an entry has them, and none before it has the tag
+pub record IsFirstValue (file : List ℕ) (at n tag value : ℕ) : Type 0 where
+  pub index : ℕ
+  pub below : index < n
+  pub tagged : d_tag file (dynamic_at at index) ≡ tag
+  pub its_value : d_un file (dynamic_at at index) ≡ value
+  pub none_before : (i : ℕ) → i < index → d_tag file (dynamic_at at i) ≢ tag
+
+-- a value is that of the first entry with the tag
+abbrev pub ValueIsFirst : Type 0
+ValueIsFirst = (file : List ℕ) (at n tag value : ℕ) → dynamic_value file at n tag ≡ Some value → IsFirstValue file at n tag value
+
+-- where there is no value no entry has the tag
+abbrev pub NoValueHasNoTag : Type 0
+NoValueHasNoTag = (file : List ℕ) (at n tag : ℕ) → dynamic_value file at n tag ≡ None → (i : ℕ) → i < n → d_tag file (dynamic_at at i) ≢ tag

@@ -1,24 +1,20 @@
 -- What is left of the dynamic entries of a table after a step.
-use Rattle.std.proofs.Common.{◌≡◌, ◌==◌, ℕ, zero, suc, ◌+◌, ◌*◌, Bool, true, false, List, Option, None, Some, Ok, inr, refl, ap, sym, ◌∙◌, arith}
+use Rattle.std.proofs.lemmas.Bool.Decides.{nat_tests}
+use Rattle.std.proofs.Common.{◌≡◌, ◌≢◌, ◌==◌, ℕ, zero, suc, ◌+◌, ◌*◌, Bool, true, false, List, Option, None, Some, Ok, inr, refl, ap, sym, ◌∙◌, arith}
 use Rattle.elf_model.specs.Bytes.{slice, field}
 use Rattle.elf_model.specs.Dynamic.{DT_NULL, dynamic_count, dynamic_value}
 use Rattle.elf_model.specs.Records.{d_tag, d_un}
+use Rattle.elf_model.proofs.DynamicLaws.{count-zero, count-null, count-more, value-none, value-here, value-more}
 use Rattle.elf_model.proofs.Slices.{field-slice}
 use Rattle.elf_table.specs.Cursors.{Reading, Gives, Advances, place}
 use Rattle.elf_table.specs.Tables.{Rows}
 use Rattle.elf_note.specs.DynCursors.{Entries, AdvancesEntries, GivesEntry, EndsEntries, entries_left, first_value, value_here}
 
-count-zero : (file : List ℕ) (at : ℕ) → dynamic_count file at zero ≡ 0
-unfolding dynamic_count
-count-zero file at = refl
+is-same : (x y : ℕ) → (x == y) ≡ true → x ≡ y
+is-same x y t = grind (arith, nat_tests)
 
-count-null : (file : List ℕ) (at n : ℕ) → (d_tag file at == DT_NULL) ≡ true → dynamic_count file at (suc n) ≡ 1
-unfolding dynamic_count
-count-null file at n t = rw (t, dynamic_count) refl
-
-count-more : (file : List ℕ) (at n : ℕ) → (d_tag file at == DT_NULL) ≡ false → dynamic_count file at (suc n) ≡ suc (dynamic_count file (at + 16) n)
-unfolding dynamic_count
-count-more file at n t = rw (t, dynamic_count) refl
+is-other : (x y : ℕ) → (x == y) ≡ false → x ≢ y
+is-other x y t = grind (arith, nat_tests)
 
 -- behind the last entry none is left
 pub left-ended : (file : List ℕ) (d : Entries) → d.ended ≡ true → entries_left file d ≡ 0
@@ -48,9 +44,9 @@ one-less file old new e n l p =
   where
     go : (b : Bool) → (d_tag file (place old.cursor) == DT_NULL) ≡ b
         → dynamic_count file (place old.cursor) (suc new.cursor.left) ≡ suc (entries_left file new)
-    go true t = count-null file (place old.cursor) new.cursor.left t ∙ ap suc (sym (left-ended file new (n ∙ t)))
+    go true t = count-null file (place old.cursor) new.cursor.left (is-same (d_tag file (place old.cursor)) DT_NULL t) ∙ ap suc (sym (left-ended file new (n ∙ t)))
     go false t =
-        count-more file (place old.cursor) new.cursor.left t
+        count-more file (place old.cursor) new.cursor.left (is-other (d_tag file (place old.cursor)) DT_NULL t)
         ∙ ap suc (ap (λ (x : ℕ). dynamic_count file x new.cursor.left) (sym p) ∙ sym (left-more file new (n ∙ t)))
 
 -- a step over a row gives its entry
@@ -86,21 +82,13 @@ here-some file at tag t = rw (t, value_here) refl
 here-none : (file : List ℕ) (at tag : ℕ) → (d_tag file at == tag) ≡ false → value_here file at tag ≡ None
 here-none file at tag t = rw (t, value_here) refl
 
-value-some : (file : List ℕ) (at n tag : ℕ) → (d_tag file at == tag) ≡ true → dynamic_value file at (suc n) tag ≡ Some (d_un file at)
-unfolding dynamic_value
-value-some file at n tag t = rw (t, dynamic_value) refl
-
-value-more : (file : List ℕ) (at n tag : ℕ) → (d_tag file at == tag) ≡ false → dynamic_value file at (suc n) tag ≡ dynamic_value file (at + 16) n tag
-unfolding dynamic_value
-value-more file at n tag t = rw (t, dynamic_value) refl
-
 -- the value of the first entry is its own, or that of those behind it
 value-suc : (file : List ℕ) (at n tag : ℕ) → first_value (value_here file at tag) (dynamic_value file (at + 16) n tag) ≡ dynamic_value file at (suc n) tag
 value-suc file at n tag = go (d_tag file at == tag) refl
   where
     go : (b : Bool) → (d_tag file at == tag) ≡ b → first_value (value_here file at tag) (dynamic_value file (at + 16) n tag) ≡ dynamic_value file at (suc n) tag
-    go true t = ap (λ (x : Option ℕ). first_value x (dynamic_value file (at + 16) n tag)) (here-some file at tag t) ∙ sym (value-some file at n tag t)
-    go false t = ap (λ (x : Option ℕ). first_value x (dynamic_value file (at + 16) n tag)) (here-none file at tag t) ∙ sym (value-more file at n tag t)
+    go true t = ap (λ (x : Option ℕ). first_value x (dynamic_value file (at + 16) n tag)) (here-some file at tag t) ∙ sym (value-here file at n tag (is-same (d_tag file at) tag t))
+    go false t = ap (λ (x : Option ℕ). first_value x (dynamic_value file (at + 16) n tag)) (here-none file at tag t) ∙ sym (value-more file at n tag (is-other (d_tag file at) tag t))
 
 -- a value that is looked for in the entry that a step gives, and then in those that are left
 pub value-step : (file : List ℕ) (old new : Entries) (tag : ℕ) (found : Option ℕ) → entries_left file old ≡ suc (entries_left file new)
@@ -112,10 +100,6 @@ value-step file old new tag None less next =
     ap (λ (x : ℕ). first_value (value_here file (place old.cursor) tag) (dynamic_value file x (entries_left file new) tag)) next
     ∙ value-suc file (place old.cursor) (entries_left file new) tag
     ∙ ap (λ (n : ℕ). dynamic_value file (place old.cursor) n tag) (sym less)
-
-value-none : (file : List ℕ) (at tag : ℕ) → dynamic_value file at zero tag ≡ None
-unfolding dynamic_value
-value-none file at tag = refl
 
 -- where no entry is left, a value is what was found
 pub value-end : (file : List ℕ) (d : Entries) (tag : ℕ) (found : Option ℕ) → entries_left file d ≡ 0

@@ -145,8 +145,8 @@ impl NoteCursor {
     ghost use Rattle.elf_note.specs.NoteCursors.{Keeps, Steps};
     ghost use Rattle.elf_note.specs.contracts.cursor.NoteCursor.{the_row};
 
-    /// The next note, lent from the cursor until the next call, or None at the table's end. Its name
-    /// is then in `name`.
+    /// The next note, lent from the cursor until the next call, or None at the table's end. Its
+    /// name is then in `name`.
     ///
     /// # Errors
     /// As for [`NoteCursor::advance`].

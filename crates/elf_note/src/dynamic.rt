@@ -1,5 +1,6 @@
 //! A cursor over the dynamic entries of a table.
-ghost use Rattle.std.specs.Prelude.{◌≡◌, ◌==◌, ℕ, ◌+◌, ◌<◌, ◌≤◌, List, [], false, None, Some, Err, IfErr, length};
+ghost use Rattle.std.specs.Prelude.{◌≡◌, ◌==◌, ℕ, ◌+◌, ◌<◌, ◌≤◌, List, [], length, false};
+ghost use Rattle.std.specs.Prelude.{None, Some, Err, IfErr};
 ghost use Rattle.elf_model.specs.Bytes.{slice};
 ghost use Rattle.elf_model.specs.Dynamic.{DT_NULL, dynamic_count};
 ghost use Rattle.elf_model.specs.Records.{d_tag};
@@ -60,9 +61,9 @@ pub fn dynamic_rows(table: Table) -> DynCursor
 }
 
 impl DynCursor {
-    /// Goes to the next entry, and answers whether there is one. Behind an entry with the tag DT_NULL
-    /// there is none. What it asks for is no longer unread: all calls together ask for no more than
-    /// the table's bytes, each byte at most once.
+    /// Goes to the next entry, and answers whether there is one. Behind an entry with the tag
+    /// DT_NULL there is none. What it asks for is no longer unread: all calls together ask for no
+    /// more than the table's bytes, each byte at most once.
     ///
     /// # Errors
     /// A fault of a read, or a refusal for want of budget, at the next entry's offset. From then on
@@ -88,8 +89,8 @@ impl DynCursor {
         Ok(true)
     }
 
-    /// The row of the entry that the last step gave: its index, its file offset and its 16 bytes. After
-    /// a fault it has no bytes.
+    /// The row of the entry that the last step gave: its index, its file offset and its 16 bytes.
+    /// After a fault it has no bytes.
     pub fn row(&self) -> Row<'_>
         requires { 0 < self.now.cursor.index }
         ensures { Shows self.now.cursor result }

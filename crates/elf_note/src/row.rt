@@ -3,8 +3,8 @@ use elf_record::NoteHead;
 use elf_table::NameEnd;
 
 /// A note, the first bytes of its descriptor lent from the cursor that gave it (gABI 5, Note
-/// Section). Its name, as it is shown, is in the buffer that the cursor was given. The sizes are those of
-/// the head, whatever is shown.
+/// Section). Its name, as it is shown, is in the buffer that the cursor was given. The sizes are
+/// those of the head, whatever is shown.
 #[derive(Clone, Copy)]
 pub struct NoteRow<'a> {
     /// The file offset of the note's head.

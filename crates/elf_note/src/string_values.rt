@@ -28,8 +28,8 @@ pub struct DynStrings {
 }
 
 /// Goes over the dynamic entries of a table, whose rows have 16 bytes, up to and with the first
-/// DT_NULL, and answers where they say that their string table is. It asks for each byte of the table
-/// at most once.
+/// DT_NULL, and answers where they say that their string table is. It asks for each byte of the
+/// table at most once.
 ///
 /// # Errors
 /// A fault of a read, or a refusal for want of budget, at an entry's offset.

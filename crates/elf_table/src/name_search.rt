@@ -18,7 +18,7 @@ use memchr::memchr;
 /// stands somewhere in those bytes, or behind them.
 ///
 /// # Errors
-/// A fault of a read, or a refusal for want of budget, at the first byte that was not asked for yet.
+/// A fault of a read, or a refusal for want of budget, at the first byte that was not asked for.
 pub fn search_name<S: Source, const N: usize>(
     window: &mut Window<N>,
     src: &mut Counted<S>,

@@ -38,8 +38,8 @@ fn entries_given<S: Source>(
     Ok(count)
 }
 
-// Goes over a table of so many of these entries twice, where the read with the number `failing` fails: both
-// answers, and how often the source was read.
+// Goes over a table that is all of a file twice, where the read with the number `failing` fails:
+// both answers, and how often the source was read.
 fn walk_twice(
     bytes: &[u8],
     failing: u32,

@@ -16,7 +16,8 @@ const BUILD: [u8; 36] = [
     0, 1, 2, 3, 4, 5, 6, 7, 8, 9, 10, 11, 12, 13, 14, 15, 16, 17, 18, 19,
 ];
 
-/// A note of the type 1 with the name `ABCD` and four bytes, aligned to 8, without its last padding.
+/// A note of the type 1 with the name `ABCD` and four bytes, aligned to 8, without its last
+/// padding.
 const ALIGNED: [u8; 28] = [
     5, 0, 0, 0, 4, 0, 0, 0, 1, 0, 0, 0, b'A', b'B', b'C', b'D', //
     0, 0, 0, 0, 0, 0, 0, 0, 1, 2, 3, 4,
@@ -57,8 +58,8 @@ fn walk_twice(
     (first, second, src.asked())
 }
 
-// Whether the first note of a table that is all of a file has this name, shown with at most `cap` bytes,
-// and these first bytes of a descriptor at this place.
+// Whether the first note of a table that is all of a file has this name, shown with at most `cap`
+// bytes, and these first bytes of a descriptor at this place.
 fn first_is(
     bytes: &[u8],
     (align, cap): (u64, u16),
