@@ -2,12 +2,15 @@
 #![tactic(auto)]
 
 mod buffers;
+mod dynamic_row;
 mod end;
 mod listing;
 mod names;
+mod notes;
 mod parts;
 mod relocation_row;
 mod row;
+mod row_cursor;
 mod rows;
 mod sections;
 mod showing;

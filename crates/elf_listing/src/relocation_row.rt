@@ -77,7 +77,7 @@ impl<S: Source, W: Sink> Listing<'_, '_, '_, S, W> {
 }
 
 /// The refusal for a cause at a file offset.
-fn refused(at: u64, cause: Cause) -> Result<NameEnd, Fault>
+pub(crate) fn refused<T>(at: u64, cause: Cause) -> Result<T, Fault>
     ensures { result ≡ Err (Fault.Refused (record { at = at; cause = cause })) }
 {
     Err(Fault::Refused(Refusal { at, cause }))

@@ -61,7 +61,7 @@ impl<S: Source, W: Sink> Listing<'_, '_, '_, S, W> {
 }
 
 /// Whether a name is cut.
-fn is_cut(end: NameEnd) -> bool
+pub(crate) fn is_cut(end: NameEnd) -> bool
     ensures { result ≡ cut_of end }
 {
     match end {

@@ -3,10 +3,12 @@ ghost use Rattle.std.specs.Prelude.{◌≡◌, length};
 ghost use Rattle.elf_listing.specs.Kinds.{row_size, own_cost, rows_cost, KindWithin, IndexFits, IsTableOf, OfRow, OfRows};
 ghost use Rattle.elf_listing.specs.Shows.{Lists};
 
+use crate::dynamic_row::EntryStrings;
 use crate::listing::Listing;
+use crate::row_cursor::RowCursor;
 use crate::stop::Stop;
 use elf_source::{Sink, Source};
-use elf_table::{Cursor, Names, Row, Table};
+use elf_table::{Names, Row, Table};
 
 /// What the rows of a table are listed as.
 #[derive(Clone, Copy)]
@@ -29,17 +31,22 @@ pub enum Kind {
         /// The symbols that they refer to, with their names.
         linked: Option<(Table, Names)>,
     },
+    /// Dynamic entries, a `D` line each.
+    Dynamic {
+        /// Where their strings are looked for.
+        strings: EntryStrings,
+    },
 }
 
 impl<S: Source, W: Sink> Listing<'_, '_, '_, S, W> {
-    /// Shows the rows of a table one after another, up to the first that is refused.
+    /// Shows the rows of a table that are listed one after another, up to the first that is refused.
     pub(crate) fn rows(&mut self, table: Table, kind: &Kind) -> Result<(), Stop>
         requires { IsTableOf self.old.src.now.seen.size kind.now table }
         ensures lists { Lists self.old self.new result
             (rows_cost kind.now table self.old.cap.bytes) }
         ensures shows { OfRows self.old self.new result table kind.now }
     {
-        let mut cursor = Cursor::new(table);
+        let mut cursor = RowCursor::new(table, kind);
         'rows: while cursor.advance(self.src)? {
             self.row(&cursor.row(), kind)?;
         }
@@ -62,6 +69,7 @@ impl<S: Source, W: Sink> Listing<'_, '_, '_, S, W> {
                 machine,
                 linked,
             } => self.relocation_row(row, *section, *machine, *linked),
+            Kind::Dynamic { strings } => self.dynamic_row(row, strings),
         }
     }
 }

@@ -43,4 +43,4 @@ returns-clause-shows g c = λ file held.
     let found = relocations_pass file c.args.section _ _ (sym (c.in_ok-found.ensures.held file belongs)) in
     let machine = ap (λ (header : Ehdr). header.e_machine) c.header-machine.ensures.value ∙ belongs.header.e_machine in
     Writes-as _ _ _ (rows_checked (relocation_table_checks file at) (relocation_row file cap c.args.section at) _ _ _ (relocations_are file cap c.args.section kind) found.pass found.counted)
-    (c.rows.ensures.shows file held (λ some. ((machine, found.refers some), found.placed some)))
+    (c.rows.ensures.shows file held (λ some. (machine, found.refers some, found.placed some)))

@@ -7,6 +7,7 @@ use Rattle.elf_names.proofs.SpendsLaws.{Spends-none, Spends-reads, Spends-then, 
 use Rattle.elf_table.proofs.SaysLaws.{still_open}
 use Rattle.elf_table.specs.Tables.{Rows}
 use Rattle.elf_listing.specs.Kinds.{row_size, own_cost, row_items, rows_cost}
+use Rattle.elf_listing.specs.RowCursors.{reading, rows_left, rows_listed}
 use Rattle.elf_listing.proofs.LoopLaws.{rows_none, rows_more, rows_unread, rows_stopped, account_begins, account_step, account_row, agrees_none, given_index, given_row}
 use Rattle.elf_listing.proofs.ShowLaws.{StopSays-then}
 use Rattle.elf_listing.proofs.listing.Listing.rows.Goals as goal
@@ -20,8 +21,9 @@ rows-init g c =
       counted = omega (arith, n.index, n.left);
       keeps = record { same_src = refl; same_out = refl; same_file = refl; same_cap = refl };
       spends = Spends-none _ _ _ _ (omega arith);
-      asked = omega (arith, account_begins c.new-cursor.result c.args.table c.args.kind.now c.args.self.now.cap.bytes c.requires.entry n.failed n.unread n.left);
-      agrees = λ file held. agrees_none file c.new-cursor.result n.held;
+      asked = omega (arith, account_begins (reading c.new-cursor.result) c.args.table c.args.kind.now c.args.self.now.cap.bytes c.requires.entry n.failed n.unread n.left);
+      agrees = λ file held. agrees_none file (reading c.new-cursor.result) n.held;
+      listed = λ file held. omega (arith, n.index, n.rows file);
       text = λ file held of_kind. rows_none _ _ _ n.index;
     }
 
@@ -29,19 +31,20 @@ pub returns-in_err-advance-clause-shows : goal.returns-in_err-advance-clause-sho
 returns-in_err-advance-clause-shows g c = λ file held of_kind.
     let p = err_from_is_err_and c.from_residual.result c.from_residual.ensures.1 in
     let known = c.rows.invariant in
-    rw (p.1, p.2) (rows_unread (row_items c.args.kind.now file c.args.self.now.cap.bytes) c.rows.cursor.index _ _ _ _ _ (omega (arith, known.counted)) (c.in_err-advance.ensures.steps.at_next known.not_failed) (known.text file held of_kind))
+    rw (p.1, p.2) (rows_unread (row_items c.args.kind.now file c.args.self.now.cap.bytes c.args.table.at) (reading c.rows.cursor).index _ _ _ _ _ (omega (arith, known.listed file held)) (c.in_err-advance.ensures.steps.at_next known.not_failed) (known.text file held of_kind))
 
 pub returns-in_err-row-clause-lists : goal.returns-in_err-row-clause-lists
 returns-in_err-row-clause-lists g c =
     let p = err_from_is_err_and c.from_residual-in_err-row.result c.from_residual-in_err-row.ensures.1 in
     let known = c.rows.invariant in
-    let gives = rw c.if-branch.true at c.in_ok-advance.ensures.steps in
+    let step = rw c.if-branch.true at c.in_ok-advance.ensures.steps in
+    let gives = step.gives in
     let account = c.in_ok-advance.ensures.account in
     let reads = c.in_ok-advance.ensures.reads in
     let lists = c.in_err-row.ensures.lists in
     let own = own_cost c.args.kind.now c.args.self.now.cap.bytes in
     let credit = c.rows.self.ahead.credit in
-    let within = account_row c.rows.cursor c.advance.new.self _ (c.advance.new.src.asked + credit) own _ gives.one_less (omega (arith, account)) known.asked in
+    let within = account_row (reading c.rows.cursor) (reading c.advance.new.self) _ (c.advance.new.src.asked + credit) own _ gives.one_less (omega (arith, account)) known.asked in
     let says = rw known.keeps.same_cap at lists.1.1 in
     let asks = rw known.keeps.same_cap at lists.1.0 in
     rw (p.1, p.2) (
@@ -61,18 +64,21 @@ pub returns-in_err-row-clause-shows : goal.returns-in_err-row-clause-shows
 returns-in_err-row-clause-shows g c = λ file held of_kind.
     let p = err_from_is_err_and c.from_residual-in_err-row.result c.from_residual-in_err-row.ensures.1 in
     let known = c.rows.invariant in
-    let gives = rw c.if-branch.true at c.in_ok-advance.ensures.steps in
+    let step = rw c.if-branch.true at c.in_ok-advance.ensures.steps in
+    let gives = step.gives in
     let now = known.spends.reads.keeps.same_file ∙ held in
-    let below : c.rows.cursor.index < c.args.table.count = omega (arith, known.counted, gives.one_less) in
-    let kind = of_kind (omega (arith, below)) in
-    let row = given_row file c.args.kind.now c.args.table gives c.row.ensures now (known.agrees file held) known.same_table c.requires.entry kind.1 in
-    let shown = rw (given_index gives c.row.ensures, known.keeps.same_cap) at (c.in_err-row.ensures.shows file (c.in_ok-advance.ensures.reads.keeps.same_file ∙ now) kind.0 row) in
-    rw (p.1, p.2) (rows_stopped (row_items c.args.kind.now file c.args.self.now.cap.bytes) c.rows.cursor.index _ _ _ _ _ below (known.text file held of_kind) shown)
+    let less = step.one_less file now (known.agrees file held) in
+    let below : (reading c.rows.cursor).index < rows_listed c.args.kind.now file c.args.table = omega (arith, known.listed file held, less) in
+    let some : 0 < c.args.table.count = omega (arith, known.counted, gives.one_less) in
+    let row = given_row file c.args.kind.now c.args.table gives c.row.ensures now (known.agrees file held) known.same_table c.requires.entry in
+    let shown = rw (given_index gives c.row.ensures, known.keeps.same_cap) at (c.in_err-row.ensures.shows file (c.in_ok-advance.ensures.reads.keeps.same_file ∙ now) c.args.table.at (of_kind some) row) in
+    rw (p.1, p.2) (rows_stopped (row_items c.args.kind.now file c.args.self.now.cap.bytes c.args.table.at) (reading c.rows.cursor).index _ _ _ _ _ below (known.text file held of_kind) shown)
 
 pub rows-preserved : goal.rows-preserved
 rows-preserved g c =
     let known = c.rows.invariant in
-    let gives = rw c.if-branch.true at c.in_ok-advance.ensures.steps in
+    let step = rw c.if-branch.true at c.in_ok-advance.ensures.steps in
+    let gives = step.gives in
     let account = c.in_ok-advance.ensures.account in
     let lists = c.in_ok-row.ensures.lists.0 in
     let asks = c.in_ok-row.ensures.lists.1.0 in
@@ -80,7 +86,7 @@ rows-preserved g c =
     let own = own_cost c.args.kind.now c.args.self.now.cap.bytes in
     let credit = c.rows.self.ahead.credit in
     let most = rw known.keeps.same_cap at asks.account in
-    let asked = account_step c.rows.cursor c.advance.new.self _ (c.advance.new.src.asked + credit) _ own _ gives.one_less (omega (arith, account)) (omega (arith, most)) known.asked in
+    let asked = account_step (reading c.rows.cursor) (reading c.advance.new.self) _ (c.advance.new.src.asked + credit) _ own _ gives.one_less (omega (arith, account)) (omega (arith, most)) known.asked in
     record {
       same_table = gives.same_table ∙ known.same_table;
       not_failed = gives.still_not_failed;
@@ -94,14 +100,23 @@ rows-preserved g c =
       spends = Spends-to (Spends-then known.spends (Spends-then (Spends-reads credit reads) asks)) (omega (arith, asked));
       asked = asked;
       agrees = λ file held. gives.agrees file (known.spends.reads.keeps.same_file ∙ held) (known.agrees file held);
+      listed = λ file held.
+          let less = step.one_less file (known.spends.reads.keeps.same_file ∙ held) (known.agrees file held) in
+          omega (arith, known.listed file held, less, gives.next_index);
       text = λ file held of_kind.
           let now = known.spends.reads.keeps.same_file ∙ held in
-          let below : c.rows.cursor.index < c.args.table.count = omega (arith, known.counted, gives.one_less) in
-          let kind = of_kind (omega (arith, below)) in
-          let row = given_row file c.args.kind.now c.args.table gives c.row.ensures now (known.agrees file held) known.same_table c.requires.entry kind.1 in
-          let shown = rw (given_index gives c.row.ensures, known.keeps.same_cap) at (c.in_ok-row.ensures.shows file (reads.keeps.same_file ∙ now) kind.0 row) in
-          rows_more (row_items c.args.kind.now file c.args.self.now.cap.bytes) c.rows.cursor.index _ gives.next_index (known.text file held of_kind) shown;
+          let some : 0 < c.args.table.count = omega (arith, known.counted, gives.one_less) in
+          let row = given_row file c.args.kind.now c.args.table gives c.row.ensures now (known.agrees file held) known.same_table c.requires.entry in
+          let shown = rw (given_index gives c.row.ensures, known.keeps.same_cap) at (c.in_ok-row.ensures.shows file (reads.keeps.same_file ∙ now) c.args.table.at (of_kind some) row) in
+          rows_more (row_items c.args.kind.now file c.args.self.now.cap.bytes c.args.table.at) (reading c.rows.cursor).index _ gives.next_index (known.text file held of_kind) shown;
     }
+
+pub returns-clause-shows : goal.returns-clause-shows
+returns-clause-shows g c = λ file held of_kind.
+    let known = c.rows.invariant in
+    let ends = rw c.if-branch.false at c.in_ok-advance.ensures.steps in
+    let all : (reading c.rows.cursor).index ≡ rows_listed c.args.kind.now file c.args.table = omega (arith, known.listed file held, ends.none_left file) in
+    rw (← all) (known.text file held of_kind)
 
 pub invariant_of-self : goal.invariant_of-self
 invariant_of-self g c = record {
