@@ -103,6 +103,7 @@ pub fn cause_word(cause: Cause) -> &'static str
         Cause::SymbolIndex => "symbol-index",
         Cause::TooLong => "too-long",
         Cause::Budget => "budget",
+        Cause::Unmapped => "unmapped",
     }
 }
 

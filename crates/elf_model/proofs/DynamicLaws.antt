@@ -1,9 +1,10 @@
 -- The laws of dynamic entries.
-use Rattle.std.proofs.Common.{◌≡◌, ◌≢◌, ℕ, suc, zero, ◌+◌, ◌<◌, ◌≤◌, ◌==◌, true, false, List, ◌⊎◌, inl, inr, refl, ap, sym, ◌∙◌, arith, zero-le}
+use Rattle.std.proofs.Common.{◌≡◌, ◌≢◌, ℕ, suc, zero, ◌+◌, ◌<◌, ◌≤◌, ◌==◌, true, false, List, Some, None, ◌⊎◌, inl, inr, refl, ap, sym, ◌∙◌, arith, zero-le}
 use Rattle.std.proofs.lemmas.Bool.Decides.{nat_tests}
 use Rattle.std.proofs.lemmas.Bool.{cases_lt}
-use Rattle.elf_model.specs.Records.{d_tag}
-use Rattle.elf_model.specs.Dynamic.{DT_NULL, dynamic_count, dynamic_at, IsListed, CountedIsListed, ListedIsCounted}
+use Rattle.elf_model.specs.Records.{d_tag, d_un}
+use Rattle.elf_model.specs.Dynamic.{dynamic_count, first_value, dynamic_at, IsListed, IsFirst, CountedIsListed, ListedIsCounted, FirstValueIsFirst, NoValueNoEntry}
+use Rattle.elf_model.specs.Numbers.{DT_NULL}
 
 null-or-not : (tag : ℕ) → (tag ≡ DT_NULL) ⊎ (tag ≢ DT_NULL)
 null-or-not tag = grind (arith, nat_tests)
@@ -77,3 +78,59 @@ pub count-first : (file : List ℕ) (at n i : ℕ) → i < n → ((j : ℕ) → 
     → dynamic_count file at n ≡ suc i
 count-first file at n i l none h =
     listed_is_counted file at n (suc i) (record { within = l; none_before = λ j m. none j (omega arith); ended = λ m. (i, refl, h) })
+
+tag-or-not : (a b : ℕ) → (a ≡ b) ⊎ (a ≢ b)
+tag-or-not a b = grind (arith, nat_tests)
+
+value-here : (file : List ℕ) (tag at n : ℕ) → d_tag file at ≡ tag → first_value file tag at (suc n) ≡ Some (d_un file at)
+unfolding first_value
+value-here file tag at n h = let t : (d_tag file at == tag) ≡ true = grind (arith, nat_tests) in rw (t, first_value) refl
+
+value-later : (file : List ℕ) (tag at n : ℕ) → d_tag file at ≢ tag → first_value file tag at (suc n) ≡ first_value file tag (at + 16) n
+unfolding first_value
+value-later file tag at n h = let t : (d_tag file at == tag) ≡ false = grind (arith, nat_tests) in rw (t, first_value) refl
+
+value-zero : (file : List ℕ) (tag at : ℕ) → first_value file tag at zero ≡ None
+unfolding first_value
+value-zero file tag at = refl
+
+pub first_value_is_first : FirstValueIsFirst
+first_value_is_first file tag at zero value h = let z = value-zero file tag at in cc
+first_value_is_first file tag at (suc n) value h = step (tag-or-not (d_tag file at) tag) (first_value_is_first file tag (at + 16) n value)
+  where
+    here : d_tag file at ≡ tag → IsFirst file tag at (suc n) value
+    here is =
+        let v : Some (d_un file at) ≡ Some value = sym (value-here file tag at n is) ∙ h in
+        let same : value ≡ d_un file at = cc in
+        record {
+          index = 0;
+          within = omega arith;
+          here = ap (d_tag file) (entry-zero at) ∙ is;
+          none_before = λ i l. absurd (omega arith);
+          gives = same ∙ ap (d_un file) (sym (entry-zero at));
+        }
+
+    later : d_tag file at ≢ tag → IsFirst file tag (at + 16) n value → IsFirst file tag at (suc n) value
+    later other k = record { index = suc k.index; within = let w = k.within in omega arith; here = ap (d_tag file) (sym (entry-suc at k.index)) ∙ k.here; none_before = none; gives = k.gives ∙ ap (d_un file) (entry-suc at k.index) }
+      where
+        none : (i : ℕ) → i < suc k.index → d_tag file (dynamic_at at i) ≢ tag
+        none zero l = λ e. other (ap (d_tag file) (sym (entry-zero at)) ∙ e)
+        none (suc i) l = λ e. k.none_before i (omega arith) (ap (d_tag file) (entry-suc at i) ∙ e)
+
+    step : (d_tag file at ≡ tag) ⊎ (d_tag file at ≢ tag) → (first_value file tag (at + 16) n ≡ Some value → IsFirst file tag (at + 16) n value)
+        → IsFirst file tag at (suc n) value
+    step (inl is) more = here is
+    step (inr other) more = later other (more (sym (value-later file tag at n other) ∙ h))
+
+pub no_value_no_entry : NoValueNoEntry
+no_value_no_entry file tag at zero h i l = absurd (omega arith)
+no_value_no_entry file tag at (suc n) h i l = step (tag-or-not (d_tag file at) tag) (no_value_no_entry file tag (at + 16) n)
+  where
+    step : (d_tag file at ≡ tag) ⊎ (d_tag file at ≢ tag)
+        → (first_value file tag (at + 16) n ≡ None → (j : ℕ) → j < n → d_tag file (dynamic_at (at + 16) j) ≢ tag) → d_tag file (dynamic_at at i) ≢ tag
+    step (inl is) more = let v = value-here file tag at n is in let wrong : Some (d_un file at) ≡ None = sym v ∙ h in cc
+    step (inr other) more = go i l
+      where
+        go : (j : ℕ) → j < suc n → d_tag file (dynamic_at at j) ≢ tag
+        go zero l = λ e. other (ap (d_tag file) (sym (entry-zero at)) ∙ e)
+        go (suc j) l = λ e. more (sym (value-later file tag at n other) ∙ h) j (omega arith) (ap (d_tag file) (entry-suc at j) ∙ e)

@@ -1,16 +1,17 @@
 -- Dynamic entries (gABI 5, Dynamic Section), each of 16 bytes.
-use Rattle.std.specs.Prelude.{◌≡◌, ◌≢◌, ℕ, zero, suc, ◌+◌, ◌*◌, ◌==◌, ◌<◌, ◌≤◌, true, false}
-use Rattle.std.specs.Prelude.{List}
-use Rattle.elf_model.specs.Records.{d_tag}
-
--- the tag of the entry that ends the array (gABI 5, Dynamic Section)
-abbrev pub DT_NULL : ℕ
-DT_NULL = 0
+use Rattle.std.specs.Prelude.{◌≡◌, ◌≢◌, ℕ, zero, suc, ◌+◌, ◌*◌, ◌==◌, ◌<◌, ◌≤◌, true, false, List, Option, None, Some}
+use Rattle.elf_model.specs.Numbers.{DT_NULL}
+use Rattle.elf_model.specs.Records.{d_tag, d_un}
 
 -- how many of the n entries at an offset are listed: up to and with the first whose tag is DT_NULL, or all
 unfoldable pub dynamic_count : List ℕ → ℕ → ℕ → ℕ
 dynamic_count file at zero = 0
 dynamic_count file at (suc n) = elim (d_tag file at == DT_NULL) [ true ↦ 1 | false ↦ suc (dynamic_count file (at + 16) n) ]
+
+-- the value of the first of the n entries at an offset that has a tag
+unfoldable pub first_value : List ℕ → ℕ → ℕ → ℕ → Option ℕ
+first_value file tag at zero = None
+first_value file tag at (suc n) = elim (d_tag file at == tag) [ true ↦ Some (d_un file at) | false ↦ first_value file tag (at + 16) n ]
 
 -- where an entry stands
 abbrev pub dynamic_at : ℕ → ℕ → ℕ
@@ -30,3 +31,20 @@ CountedIsListed = (file : List ℕ) (at n : ℕ) → IsListed file at n (dynamic
 -- the entries that are listed are those that are counted
 abbrev pub ListedIsCounted : Type 0
 ListedIsCounted = (file : List ℕ) (at n count : ℕ) → IsListed file at n count → dynamic_count file at n ≡ count
+
+-- an entry has a tag and this value, and none before it has the tag
+pub record IsFirst (file : List ℕ) (tag at n value : ℕ) : Type 0 where
+  pub index : ℕ
+  pub within : index < n
+  pub here : d_tag file (dynamic_at at index) ≡ tag
+  pub none_before : (i : ℕ) → i < index → d_tag file (dynamic_at at i) ≢ tag
+  pub gives : value ≡ d_un file (dynamic_at at index)
+
+-- the value that is given is that of the first entry with the tag
+abbrev pub FirstValueIsFirst : Type 0
+FirstValueIsFirst = (file : List ℕ) (tag at n value : ℕ) → first_value file tag at n ≡ Some value → IsFirst file tag at n value
+
+-- where no value is given no entry has the tag
+abbrev pub NoValueNoEntry : Type 0
+NoValueNoEntry =
+    (file : List ℕ) (tag at n : ℕ) → first_value file tag at n ≡ None → (i : ℕ) → i < n → d_tag file (dynamic_at at i) ≢ tag

@@ -12,6 +12,7 @@ pub mod Lines
 pub mod Checks
 pub mod Tables
 pub mod Listing
+pub mod Mapped
 pub mod Rows
 pub mod TableKinds
 pub mod Report

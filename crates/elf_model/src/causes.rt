@@ -65,6 +65,8 @@ pub enum Cause {
     TooLong,
     /// A limit on what may be read has too few bytes left. It says nothing of the file.
     Budget,
+    /// No segment loads the string table of a segment's dynamic entries, or they tell of none.
+    Unmapped,
 }
 
 /// A refusal: its cause, and the file offset that it points to.
