@@ -7,7 +7,7 @@ use Rattle.elf_model.specs.Lines.{header_line}
 use Rattle.elf_model.specs.Listing.{Item, Line, Fault, has, has_tables, where_asked, each, HEADER, SECTIONS, SEGMENTS, SYMBOLS, RELOCS, NOTES, DYNAMIC}
 use Rattle.elf_model.specs.Records.{e_shnum, e_phnum, section_at}
 use Rattle.elf_model.specs.Report.{items, load_items, table_items, table_rows, kinds_rows}
-use Rattle.elf_model.specs.TableKinds.{Headers, symbols, relocations, section_notes, dynamic_entries, segment_notes, section_kinds, segment_kinds, by_sections, by_segments, table_headers}
+use Rattle.elf_model.specs.TableKinds.{Headers, symbols, relocations, section_notes, section_dynamic, segment_notes, segment_dynamic, section_kinds, segment_kinds, by_sections, by_segments, table_headers}
 use Rattle.elf_model.proofs.CostLemmas.{headers_none, headers_some}
 use Rattle.elf_model.specs.Rows.{section_row, segment_row}
 use Rattle.elf_model.specs.declared.causes.Refusal.{Refusal}
@@ -76,15 +76,15 @@ nothing_asked parts part = by_cases (has parts part)
 
 -- the kinds that are not listed have no rows
 kinds_of_segments : (file : List ℕ) (cap parts : ℕ) → AreListed parts → kinds_rows segment_kinds (by_segments file) file cap parts ≡ []
-unfolding kinds_rows segment_notes
-kinds_of_segments file cap parts listed = rw (listed.0, where_asked) refl
+unfolding kinds_rows segment_notes segment_dynamic
+kinds_of_segments file cap parts listed = rw (listed.0, listed.1, where_asked) refl
 
 kinds_of_sections : (file : List ℕ) (cap parts : ℕ) → AreListed parts
     → kinds_rows section_kinds (by_sections file) file cap parts ≡ symbol_part file cap parts ++ relocation_part file cap parts
-unfolding kinds_rows symbols relocations section_notes dynamic_entries
+unfolding kinds_rows symbols relocations section_notes section_dynamic
 kinds_of_sections file cap parts listed =
     let notes = unasked parts NOTES (each (λ i. table_rows section_notes file cap i (section_at file i)) 0 (e_shnum file)) listed.0 in
-    let dynamic = unasked parts DYNAMIC (each (λ i. table_rows dynamic_entries file cap i (section_at file i)) 0 (e_shnum file)) listed.1 in
+    let dynamic = unasked parts DYNAMIC (each (λ i. table_rows section_dynamic file cap i (section_at file i)) 0 (e_shnum file)) listed.1 in
     ap (λ rest. symbol_part file cap parts ++ (relocation_part file cap parts ++ rest)) (none_behind notes dynamic)
     ∙ ap (λ rest. symbol_part file cap parts ++ rest) (append-nil (relocation_part file cap parts))
   where

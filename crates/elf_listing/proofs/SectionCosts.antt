@@ -1,13 +1,13 @@
 -- What the tables of a loaded file ask for, by the section headers in the store.
-use Rattle.std.proofs.Common.{◌≡◌, ℕ, ◌+◌, ◌*◌, ◌/◌, ◌≤◌, ◌==◌, ◌&&◌, not, nat_lt, Bool, true, false, List, [], ◌∷◌, ◌++◌, length, drop, Option, None, Some, Result, Ok, refl, sym, ap, ◌∙◌, arith}
+use Rattle.std.proofs.Common.{◌≡◌, ℕ, ◌+◌, ◌*◌, ◌/◌, ◌≤◌, ◌==◌, ◌&&◌, ◌||◌, not, nat_lt, Bool, true, false, List, [], ◌∷◌, ◌++◌, length, drop, Option, None, Some, Result, Ok, refl, sym, ap, ◌∙◌, arith}
 use Rattle.std.proofs.lemmas.Bool.{ltb-false}
 use Rattle.std.specs.Prelude.{is_none}
 use Rattle.elf_model.specs.Checks.{Check, first_refusal, pass, length_checks, header_checks, early_checks, section_name_checks, is_symbol_table, table_checks_of}
 use Rattle.elf_model.specs.Cost.{sum_over, cost_where, table_cost, kinds_cost, is_loadable, sections_cost, segments_cost, tables_cost, behind_header, cost, ceiling}
-use Rattle.elf_model.specs.Listing.{has, has_tables, SECTIONS, SEGMENTS, SYMBOLS, RELOCS}
+use Rattle.elf_model.specs.Listing.{has, has_tables, SECTIONS, SEGMENTS, SYMBOLS, RELOCS, NOTES, DYNAMIC}
 use Rattle.elf_model.specs.CostLaws.{kind_by_kind}
 use Rattle.elf_model.specs.Names.{name_bytes}
-use Rattle.elf_model.specs.TableKinds.{symbols, relocations, section_notes, dynamic_entries, section_kinds}
+use Rattle.elf_model.specs.TableKinds.{symbols, relocations, section_notes, section_dynamic, section_kinds}
 use Rattle.elf_model.specs.Numbers.{SHT_RELA, PN_XNUM, SHN_XINDEX}
 use Rattle.elf_model.specs.Records.{e_shnum, e_phnum, e_shstrndx, sh_type, sh_offset, sh_size, section_at}
 use Rattle.elf_model.specs.declared.causes.Cause.TheVariants.{ExtendedNumbering, TooManyHeaders}
@@ -66,7 +66,7 @@ pub entries_among : (store : Stored) (size cap parts : ℕ)
     → cost_where (has parts SYMBOLS) (sum_over (λ i. table_cost symbols (row store i) 0 size cap) 0 store.loaded)
     + cost_where (has parts RELOCS) (sum_over (λ i. table_cost relocations (row store i) 0 size cap) 0 store.loaded)
     ≤ sum_over (λ i. kinds_cost section_kinds (row store i) 0 size cap parts) 0 store.loaded
-unfolding kind_by_kind symbols relocations section_notes dynamic_entries
+unfolding kind_by_kind symbols relocations section_notes section_dynamic
 entries_among store size cap parts = let sum = by_kind section_kinds (row store) (λ i. 0) size cap parts store.loaded in omega arith
 
 -- the names of all sections
@@ -74,6 +74,11 @@ names_listed : (asked named : Bool) (n count : ℕ) → cost_where asked (sum_ov
 names_listed true true n count = sum_of_equal n count
 names_listed true false n count = omega (arith, sum_of_equal 0 count)
 names_listed false named n count = omega arith
+
+-- what is asked for where one thing is asked for, or another
+either_asked : (one other : Bool) (amount : ℕ) → cost_where one amount ≤ cost_where (one || other) amount
+either_asked true other amount = omega arith
+either_asked false other amount = omega arith
 
 -- what is listed of a file that was loaded is within its cost
 pub listed_within : (file : List ℕ) (loaded : Opened) (store : Stored) (cap parts : ℕ) → Belongs file loaded store
@@ -92,7 +97,8 @@ listed_within file loaded store cap parts belongs =
     let same : cost_where (has parts SECTIONS && not (loaded.header.e_shstrndx == 0)) (store.loaded * name_bytes cap)
     ≡ cost_where (has parts SECTIONS && not (e_shstrndx file == 0)) (e_shnum file * name_bytes cap) = rw (count, belongs.header.e_shstrndx) refl in
     let segments : cost_where (has parts SEGMENTS) (56 * loaded.header.e_phnum) ≡ cost_where (has parts SEGMENTS) (56 * e_phnum file) = rw belongs.header.e_phnum refl in
-    omega (arith, count, all, counted, entries, names, same, segments)
+    let read = either_asked (has parts SEGMENTS) (e_shnum file == 0 && (has parts NOTES || has parts DYNAMIC)) (56 * e_phnum file) in
+    omega (arith, count, all, counted, entries, names, same, segments, read)
 
 -- and whatever the store holds, within the ceiling
 pub listed_below : (loaded : Opened) (store : Stored) (cap parts : ℕ) → store.loaded ≤ store.slots → loaded.header.e_phnum ≤ store.slots

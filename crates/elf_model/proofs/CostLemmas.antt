@@ -11,8 +11,8 @@ use Rattle.elf_model.specs.Checks.{Check, first_refusal, pass, header_checks, ea
 use Rattle.elf_model.specs.declared.causes.Refusal.{Refusal}
 use Rattle.elf_model.specs.Listing.{has, has_tables}
 use Rattle.elf_model.specs.declared.causes.Cause.TheVariants.{EntrySize, SizeNotWhole, TableOutside}
-use Rattle.elf_model.specs.TableKinds.{Headers, symbols, relocations, dynamic_entries, section_notes, segment_notes, section_kinds, segment_kinds, by_sections, by_segments, table_headers}
-use Rattle.elf_model.specs.Cost.{sum_over, cost_where, table_cost, kinds_cost, is_loadable, sections_cost, segments_cost, tables_cost, cost, ceiling}
+use Rattle.elf_model.specs.TableKinds.{Headers, symbols, relocations, section_dynamic, section_notes, segment_notes, segment_dynamic, section_kinds, segment_kinds, by_sections, by_segments, table_headers}
+use Rattle.elf_model.specs.Cost.{sum_over, cost_where, table_cost, kinds_cost, is_loadable, needs_segments, sections_cost, segments_cost, tables_cost, cost, ceiling}
 use Rattle.elf_model.specs.CostLaws.{CostIsWithinCeiling}
 
 -- what one table costs at most, in a file of so many bytes
@@ -89,10 +89,10 @@ relocations-le bytes at size cap =
     cost_where-and (sh_type bytes at == 4) (pass (table_checks_of bytes at size at 24)) _ (table_bound size cap)
     (λ h. entries_within 24 (24 + name_bytes cap) (name_bytes cap) size (sh_size bytes at) (omega arith) (omega arith) (table_within bytes at size at 24 h))
 
-dynamic_entries-le : (bytes : List ℕ) (at size cap : ℕ)
-    → table_cost dynamic_entries bytes at size cap ≤ cost_where (sh_type bytes at == 6) (table_bound size cap)
-unfolding table_cost dynamic_entries
-dynamic_entries-le bytes at size cap =
+section_dynamic-le : (bytes : List ℕ) (at size cap : ℕ)
+    → table_cost section_dynamic bytes at size cap ≤ cost_where (sh_type bytes at == 6) (table_bound size cap)
+unfolding table_cost section_dynamic
+section_dynamic-le bytes at size cap =
     cost_where-and (sh_type bytes at == 6) (pass (table_checks_of bytes at size at 16)) _ (table_bound size cap)
     (λ h. entries_within 16 (name_bytes cap) (name_bytes cap) size (sh_size bytes at) (omega arith) (omega arith) (table_within bytes at size at 16 h))
 
@@ -118,20 +118,42 @@ section_kinds-le bytes at size cap parts =
     let a = symbols-le bytes at size cap in
     let b = relocations-le bytes at size cap in
     let c = section_notes-le bytes at size cap in
-    let d = dynamic_entries-le bytes at size cap in
+    let d = section_dynamic-le bytes at size cap in
     let e = cost_where-le (has parts symbols.part) (table_cost symbols bytes at size cap) in
     let f = cost_where-le (has parts relocations.part) (table_cost relocations bytes at size cap) in
     let g = cost_where-le (has parts section_notes.part) (table_cost section_notes bytes at size cap) in
-    let h = cost_where-le (has parts dynamic_entries.part) (table_cost dynamic_entries bytes at size cap) in
+    let h = cost_where-le (has parts section_dynamic.part) (table_cost section_dynamic bytes at size cap) in
     omega arith
 
+-- a segment is of one kind
+one_segment_kind : (type size bound : ℕ) → size ≤ bound → cost_where (type == 4) size + cost_where (type == 2) bound ≤ bound
+one_segment_kind type size bound h = grind (arith, nat_tests)
+
+-- so many entries of 16 bytes, each gone through twice and with a name
+twice_within : (size table name : ℕ) → table ≤ size → table / 16 * (2 * 16 + name) ≤ size + size / 16 * (32 + name)
+twice_within size table name t =
+    let d : table / 16 * 16 ≤ table = div-mul-le_self table 16 in
+    let n : table / 16 ≤ size / 16 = le-div (table / 16) size 16 (omega arith) (omega arith) in
+    let m : table / 16 * (32 + name) ≤ size / 16 * (32 + name) = mul-le-mul_right (32 + name) n in
+    let e : table / 16 * (2 * 16 + name) ≡ table / 16 * (32 + name) = ap (λ (k : ℕ). table / 16 * (k + name)) refl in
+    omega arith
+
+segment_dynamic-le : (bytes : List ℕ) (at size cap : ℕ)
+    → table_cost segment_dynamic bytes at size cap ≤ cost_where (p_type bytes at == 2) (table_bound size cap)
+unfolding table_cost segment_dynamic
+segment_dynamic-le bytes at size cap =
+    cost_where-and (p_type bytes at == 2) (pass (whole_checks_of size (p_offset bytes at) (p_filesz bytes at) at 16)) _ (table_bound size cap)
+    (λ h. twice_within size (p_filesz bytes at) (name_bytes cap) (whole_within size (p_offset bytes at) (p_filesz bytes at) at 16 h))
+
 -- and those of one program header
-pub segment_kinds-le : (bytes : List ℕ) (at size cap parts : ℕ) → kinds_cost segment_kinds bytes at size cap parts ≤ size
+pub segment_kinds-le : (bytes : List ℕ) (at size cap parts : ℕ) → kinds_cost segment_kinds bytes at size cap parts ≤ table_bound size cap
 unfolding kinds_cost
 segment_kinds-le bytes at size cap parts =
+    let one = one_segment_kind (p_type bytes at) size (table_bound size cap) (omega arith) in
     let a = segment_notes-le bytes at size cap in
-    let b = cost_where-le (p_type bytes at == 4) size in
+    let b = segment_dynamic-le bytes at size cap in
     let c = cost_where-le (has parts segment_notes.part) (table_cost segment_notes bytes at size cap) in
+    let d = cost_where-le (has parts segment_dynamic.part) (table_cost segment_dynamic bytes at size cap) in
     omega arith
 
 -- a sum of costs within a bound
@@ -183,25 +205,32 @@ pub headers_some : (file : List ℕ) → (e_shnum file == 0) ≡ false → table
 unfolding table_headers
 headers_some file h = rw (h, table_headers) refl
 
--- where there are no sections the program headers are read twice, and all notes are theirs
+-- headers of some size each, with their tables
+pub headers_within : (each_header n bound count headers tables : ℕ) → count ≤ headers → each_header ≤ 120 + n → tables ≤ count * bound
+    → each_header * count + tables ≤ headers * (120 + n + bound)
+headers_within each_header n bound count headers tables few small within =
+    let m : count * (each_header + bound) ≤ headers * (120 + n + bound) = mul-le-mul few (omega arith) in
+    let e : count * (each_header + bound) ≡ count * each_header + count * bound = mul-add count each_header bound in
+    omega arith
+
+-- where there are no sections all tables are those of the program headers
 without_sections : (file : List ℕ) (cap parts headers : ℕ) → (e_shnum file == 0) ≡ true → e_phnum file ≤ headers
     → sections_cost file cap parts + segments_cost file parts + tables_cost file cap parts
-    ≤ headers * (112 + length file)
+    ≤ headers * (120 + name_bytes cap + table_bound (length file) cap)
 unfolding sections_cost segments_cost tables_cost
 without_sections file cap parts headers z p =
     let n : e_shnum file ≡ 0 = eqb-true (e_shnum file) 0 z in
-    let tables = sum_over-le (λ i. kinds_cost segment_kinds file (segment_at file i) (length file) cap parts) (length file) 0 (e_phnum file)
+    let bound : ℕ = table_bound (length file) cap in
+    let tables = sum_over-le (λ i. kinds_cost segment_kinds file (segment_at file i) (length file) cap parts) bound 0 (e_phnum file)
     (λ i. segment_kinds-le file (segment_at file i) (length file) cap parts) in
     let same = ap (tables_by file cap parts) (headers_none file z) in
-    let a = cost_where-le (has parts 4) (56 * e_phnum file) in
-    let b = cost_where-le (has parts 32 && e_shnum file == 0) (56 * e_phnum file) in
+    let a = cost_where-le (needs_segments file parts) (56 * e_phnum file) in
     let c = cost_where-le (has parts 2 && not (e_shstrndx file == 0)) (e_shnum file * name_bytes cap) in
     let d : e_shnum file * name_bytes cap ≡ 0 * name_bytes cap = ap (λ (k : ℕ). k * name_bytes cap) n in
-    let m = mul-le-mul_right (112 + length file) p in
-    let s : e_phnum file * (112 + length file) ≡ e_phnum file * 112 + e_phnum file * length file = mul-add (e_phnum file) 112 (length file) in
+    let all = headers_within 56 (name_bytes cap) bound (e_phnum file) headers _ p (omega arith) tables in
     omega arith
 
--- where there are sections no segment is searched for notes
+-- where there are sections they are those of the section headers
 with_sections : (file : List ℕ) (cap parts headers : ℕ) → (e_shnum file == 0) ≡ false → e_shnum file ≤ headers → e_phnum file ≤ headers
     → sections_cost file cap parts + segments_cost file parts + tables_cost file cap parts
     ≤ headers * (120 + name_bytes cap + table_bound (length file) cap)
@@ -212,8 +241,7 @@ with_sections file cap parts headers z s p =
     let tables = sum_over-le (λ i. kinds_cost section_kinds file (section_at file i) (length file) cap parts) bound 0 (e_shnum file)
     (λ i. section_kinds-le file (section_at file i) (length file) cap parts) in
     let same = ap (tables_by file cap parts) (headers_some file z) in
-    let a = cost_where-le (has parts 4) (56 * e_phnum file) in
-    let b : cost_where (has parts 32 && e_shnum file == 0) (56 * e_phnum file) ≤ 0 = never (has parts 32) (e_shnum file == 0) _ z in
+    let a = cost_where-le (needs_segments file parts) (56 * e_phnum file) in
     let c = cost_where-le (has parts 2 && not (e_shstrndx file == 0)) (e_shnum file * n) in
     let m : e_shnum file * (64 + n + bound) ≤ headers * (64 + n + bound) = mul-le-mul_right (64 + n + bound) s in
     let e : e_shnum file * (64 + n + bound) ≡ e_shnum file * 64 + e_shnum file * n + e_shnum file * bound =
@@ -221,20 +249,12 @@ with_sections file cap parts headers z s p =
     let h : headers * (120 + n + bound) ≡ headers * 56 + headers * (64 + n + bound) =
     ap (λ k. headers * k) (omega arith) ∙ mul-add headers 56 (64 + n + bound) in
     omega arith
-  where
-    never : (condition none : Bool) (amount : ℕ) → none ≡ false → cost_where (condition && none) amount ≤ 0
-    never true false amount z = omega arith
-    never false none amount z = omega arith
-    never true true amount z = cc
 
 -- what is asked for behind the file header is within the ceiling
 behind_header : (file : List ℕ) (cap parts headers : ℕ) (none : Bool) → (e_shnum file == 0) ≡ none → is_loadable file headers ≡ true
     → sections_cost file cap parts + segments_cost file parts + tables_cost file cap parts
     ≤ headers * (120 + name_bytes cap + table_bound (length file) cap)
-behind_header file cap parts headers true z h =
-    let w = without_sections file cap parts headers z (loadable-within file headers h).1 in
-    let m : headers * (112 + length file) ≤ headers * (120 + name_bytes cap + table_bound (length file) cap) = mul-le-mul_left headers (omega arith) in
-    omega arith
+behind_header file cap parts headers true z h = without_sections file cap parts headers z (loadable-within file headers h).1
 behind_header file cap parts headers false z h =
     let l = loadable-within file headers h in
     with_sections file cap parts headers z l.0 l.1

@@ -3,7 +3,8 @@ use Rattle.std.proofs.Common.{◌≡◌, ◌≢◌, ℕ, suc, zero, ◌+◌, ◌
 use Rattle.std.proofs.lemmas.Bool.Decides.{nat_tests}
 use Rattle.std.proofs.lemmas.Bool.{cases_lt}
 use Rattle.elf_model.specs.Records.{d_tag, d_un}
-use Rattle.elf_model.specs.Dynamic.{DT_NULL, dynamic_count, dynamic_value, dynamic_at, IsListed, CountedIsListed, ListedIsCounted, IsFirstValue, ValueIsFirst, NoValueHasNoTag}
+use Rattle.elf_model.specs.Numbers.{DT_NULL}
+use Rattle.elf_model.specs.Dynamic.{dynamic_count, dynamic_value, dynamic_at, IsListed, CountedIsListed, ListedIsCounted, IsFirstValue, ValueIsFirst, NoValueHasNoTag}
 
 null-or-not : (tag : ℕ) → (tag ≡ DT_NULL) ⊎ (tag ≢ DT_NULL)
 null-or-not tag = grind (arith, nat_tests)

@@ -3,14 +3,14 @@ use Rattle.std.proofs.lemmas.Nat.{and_assoc}
 use Rattle.std.specs.Int.RustNames.{bit_and}
 use Rattle.elf_model.specs.Records.{e_shnum, e_phnum, e_shstrndx}
 use Rattle.elf_model.specs.Names.{name_bytes}
-use Rattle.elf_model.specs.Cost.{cost_where, table_cost, kinds_cost, is_loadable, sections_cost, segments_cost, tables_cost, cost}
+use Rattle.elf_model.specs.Cost.{cost_where, table_cost, kinds_cost, is_loadable, needs_segments, sections_cost, segments_cost, tables_cost, cost}
 use Rattle.elf_model.proofs.StoreLemmas.{sum_over-equal}
 use Rattle.elf_model.specs.Rows.{section_row, segment_row}
-use Rattle.elf_model.specs.TableKinds.{TableKind, Headers, symbols, relocations, section_notes, dynamic_entries, segment_notes, section_kinds, segment_kinds, by_sections, by_segments, table_headers}
+use Rattle.elf_model.specs.TableKinds.{TableKind, Headers, symbols, relocations, section_notes, section_dynamic, segment_notes, segment_dynamic, section_kinds, segment_kinds, by_sections, by_segments, table_headers}
 use Rattle.std.proofs.Common.{◌≡◌, ℕ, ◌+◌, ◌*◌, ◌==◌, ◌&&◌, not, Bool, true, false, List, [], ◌∷◌, ◌++◌, length, Some, None, arith, refl, ap, sym, ◌∙◌, append-nil, append_assoc}
 use Rattle.elf_model.specs.Checks.{Check, first_refusal, header_checks, load_checks}
 use Rattle.elf_model.specs.Lines.{header_line, refusal_line}
-use Rattle.elf_model.specs.Listing.{Item, Line, Fault, lines_of, fault_of, report_of, guarded, where_asked, each, has, has_tables, header_items, HEADER, SECTIONS, SEGMENTS, NOTES, TABLES, ALL}
+use Rattle.elf_model.specs.Listing.{Item, Line, Fault, lines_of, fault_of, report_of, guarded, where_asked, each, has, has_tables, header_items, HEADER, SECTIONS, SEGMENTS, NOTES, DYNAMIC, TABLES, ALL}
 use Rattle.elf_model.specs.Report.{items, load_items, table_items, table_rows, kinds_rows}
 use Rattle.elf_model.specs.declared.causes.Refusal.{Refusal}
 use Rattle.elf_model.specs.ListingLaws.{HeaderAloneIsListed, HeaderFaultIsListedAlone, LoadFaultIsListedSecond, NothingBehindTheFault, ListingsAppend, OtherBitsMeanNothing}
@@ -102,12 +102,12 @@ AreParts [] = Unit {0}
 AreParts (kind ∷ kinds) = (bit_and ALL kind.part ≡ kind.part) × AreParts kinds
 
 section_parts : AreParts section_kinds
-unfolding symbols relocations section_notes dynamic_entries
+unfolding symbols relocations section_notes section_dynamic
 section_parts = (refl, (refl, (refl, (refl, tt))))
 
 segment_parts : AreParts segment_kinds
-unfolding segment_notes
-segment_parts = (refl, tt)
+unfolding segment_notes segment_dynamic
+segment_parts = (refl, (refl, tt))
 
 header_parts : (file : List ℕ) → AreParts (table_headers file).kinds
 unfolding table_headers
@@ -180,8 +180,9 @@ headers_cost_masked : (file : List ℕ) (cap parts : ℕ)
 unfolding sections_cost segments_cost
 headers_cost_masked file cap parts =
     let a = ap (λ b. cost_where (b && not (e_shstrndx file == 0)) (e_shnum file * name_bytes cap)) (has_masked parts SECTIONS refl) in
-    let b = ap (λ b. cost_where b (56 * e_phnum file)) (has_masked parts SEGMENTS refl) in
-    let c = ap (λ b. cost_where (b && e_shnum file == 0) (56 * e_phnum file)) (has_masked parts NOTES refl) in
+    let b : needs_segments file (bit_and parts ALL) ≡ needs_segments file parts =
+    rw (has_masked parts SEGMENTS refl, has_masked parts NOTES refl, has_masked parts DYNAMIC refl) refl in
+    let c = ap (λ b. cost_where b (56 * e_phnum file)) b in
     omega arith
 
 pub cost_masked : (file : List ℕ) (headers cap parts : ℕ) → cost file headers cap (bit_and parts ALL) ≡ cost file headers cap parts

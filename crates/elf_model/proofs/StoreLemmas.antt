@@ -1,18 +1,18 @@
 -- Section headers that are read at their own bytes cost what they cost in the file.
-use Rattle.std.proofs.Common.{◌≡◌, ℕ, suc, zero, ◌+◌, ◌*◌, ◌/◌, ◌%◌, ◌<◌, ◌≤◌, ◌==◌, not, Bool, true, false, List, [], ◌∷◌, length, refl, ap, ◌∙◌, arith}
+use Rattle.std.proofs.Common.{◌≡◌, ℕ, suc, zero, ◌+◌, ◌*◌, ◌/◌, ◌%◌, ◌<◌, ◌≤◌, ◌==◌, not, Bool, true, false, List, [], ◌∷◌, length, refl, ap, ◌∙◌, arith, add-zero}
 use Rattle.std.proofs.Math.Nat.{mul-le-mul_right, mul-add}
 use Rattle.std.proofs.lemmas.Bool.{eqb-true}
 use Rattle.elf_model.specs.Bytes.{slice}
 use Rattle.elf_model.proofs.Slices.{field-slice}
-use Rattle.elf_model.specs.Records.{e_shnum, sh_offset, sh_size, sh_entsize, section_at}
+use Rattle.elf_model.specs.Records.{e_shnum, e_phnum, sh_offset, sh_size, sh_entsize, p_offset, p_filesz, section_at, segment_at}
 use Rattle.elf_model.specs.Names.{name_bytes}
-use Rattle.elf_model.specs.Checks.{pass, refuse, is_outside, table_checks_of, range_checks_of}
+use Rattle.elf_model.specs.Checks.{pass, refuse, is_outside, table_checks_of, whole_checks_of, range_checks_of}
 use Rattle.elf_model.specs.declared.causes.Cause.TheVariants.{EntrySize, SizeNotWhole, TableOutside}
 use Rattle.elf_model.specs.Listing.{has}
-use Rattle.elf_model.specs.TableKinds.{symbols, relocations, dynamic_entries, section_notes, section_kinds}
+use Rattle.elf_model.specs.TableKinds.{symbols, relocations, section_dynamic, section_notes, section_kinds, segment_notes, segment_dynamic, segment_kinds}
 use Rattle.elf_model.specs.Cost.{sum_over, cost_where, table_cost, kinds_cost, tables_cost, ceiling}
-use Rattle.elf_model.specs.CostLaws.{PlacesDecideNothing, RowsCostWhatTheFileCosts, kind_by_kind, TablesCostKindByKind, AnyRowsAreWithinCeiling, AnySegmentsAreWithinCeiling}
-use Rattle.elf_model.proofs.CostLemmas.{table_bound, section_kinds-le, sum_over-le, tables_by, headers_some}
+use Rattle.elf_model.specs.CostLaws.{PlacesDecideNothing, RowsCostWhatTheFileCosts, SegmentsCostWhatTheFileCosts, kind_by_kind, TablesCostKindByKind, AnyRowsAreWithinCeiling, AnySegmentsAreWithinCeiling}
+use Rattle.elf_model.proofs.CostLemmas.{table_bound, section_kinds-le, segment_kinds-le, headers_within, sum_over-le, tables_by, headers_some}
 
 -- checks that pass for one place pass for another
 table-pass : (a b c : Bool) (p q : ℕ)
@@ -43,7 +43,7 @@ same_range bytes at size =
 
 kinds_cost_of_slice : (file : List ℕ) (at size cap parts : ℕ)
     → kinds_cost section_kinds (slice file at 64) 0 size cap parts ≡ kinds_cost section_kinds file at size cap parts
-unfolding kinds_cost table_cost symbols relocations section_notes dynamic_entries
+unfolding kinds_cost table_cost symbols relocations section_notes section_dynamic
 kinds_cost_of_slice file at size cap parts =
     rw (same_checks file at size 24, same_checks file at size 16, same_range file at size, field-slice file at 64 4 4 (omega arith), field-slice file at 64 32 8 (omega arith)) refl
 
@@ -63,6 +63,37 @@ rows_cost file row cap parts h =
     0 (e_shnum file)
     (λ i a b. ap (λ bytes. kinds_cost section_kinds bytes 0 (length file) cap parts) (h i (omega arith))
     ∙ kinds_cost_of_slice file (section_at file i) (length file) cap parts)
+
+-- a program header's cost at its own bytes
+whole-pass : (b c : Bool) (p q : ℕ) → pass (refuse b p SizeNotWhole ∷ refuse c p TableOutside ∷ []) ≡ pass (refuse b q SizeNotWhole ∷ refuse c q TableOutside ∷ [])
+whole-pass true c p q = refl
+whole-pass false true p q = refl
+whole-pass false false p q = refl
+
+same_whole : (bytes : List ℕ) (at size : ℕ)
+    → pass (whole_checks_of size (p_offset (slice bytes at 56) 0) (p_filesz (slice bytes at 56) 0) 0 16) ≡ pass (whole_checks_of size (p_offset bytes at) (p_filesz bytes at) at 16)
+same_whole bytes at size =
+    rw (field-slice bytes at 56 8 8 (omega arith), field-slice bytes at 56 32 8 (omega arith))
+    (whole-pass (not (p_filesz bytes at % 16 == 0)) (is_outside size (p_offset bytes at) (p_filesz bytes at)) 0 at)
+
+same_segment_range : (bytes : List ℕ) (at size : ℕ)
+    → pass (range_checks_of size (p_offset (slice bytes at 56) 0) (p_filesz (slice bytes at 56) 0) 0) ≡ pass (range_checks_of size (p_offset bytes at) (p_filesz bytes at) at)
+same_segment_range bytes at size =
+    rw (field-slice bytes at 56 8 8 (omega arith), field-slice bytes at 56 32 8 (omega arith))
+    (range-pass (is_outside size (p_offset bytes at) (p_filesz bytes at)) 0 at)
+
+segment_cost_of_slice : (file : List ℕ) (at size cap parts : ℕ)
+    → kinds_cost segment_kinds (slice file at 56) 0 size cap parts ≡ kinds_cost segment_kinds file at size cap parts
+unfolding kinds_cost table_cost segment_notes segment_dynamic
+segment_cost_of_slice file at size cap parts =
+    rw (same_whole file at size, same_segment_range file at size, field-slice file at 56 0 4 (omega arith), field-slice file at 56 32 8 (omega arith), add-zero at) refl
+
+pub segments_cost_rows : SegmentsCostWhatTheFileCosts
+segments_cost_rows file row cap parts h =
+    sum_over-equal (λ i. kinds_cost segment_kinds (row i) 0 (length file) cap parts) (λ i. kinds_cost segment_kinds file (segment_at file i) (length file) cap parts)
+    0 (e_phnum file)
+    (λ i a b. ap (λ bytes. kinds_cost segment_kinds bytes 0 (length file) cap parts) (h i (omega arith))
+    ∙ segment_cost_of_slice file (segment_at file i) (length file) cap parts)
 
 -- what the sections' tables cost is among the costs of all
 pub sections_counted : (file : List ℕ) (cap parts : ℕ)
@@ -117,10 +148,9 @@ any_rows row size headers cap parts sections segments s p =
 
 pub any_segments : AnySegmentsAreWithinCeiling
 unfolding ceiling
-any_segments size headers cap segments p =
-    let rest : ℕ = 8 + name_bytes cap + size / 16 * (32 + name_bytes cap) in
-    let m : segments * (112 + size) ≤ headers * (112 + size) = mul-le-mul_right (112 + size) p in
-    let e : segments * (112 + size) ≡ segments * 112 + segments * size = mul-add segments 112 size in
-    let h : headers * (120 + name_bytes cap + size + size / 16 * (32 + name_bytes cap)) ≡ headers * (112 + size) + headers * rest =
-    ap (λ k. headers * k) (omega arith) ∙ mul-add headers (112 + size) rest in
+any_segments row size headers cap parts segments p =
+    let bound : ℕ = table_bound size cap in
+    let tables = sum_over-le (λ i. kinds_cost segment_kinds (row i) 0 size cap parts) bound 0 segments (λ i. segment_kinds-le (row i) 0 size cap parts) in
+    let all = headers_within 56 (name_bytes cap) bound segments headers _ p (omega arith) tables in
+    let h : headers * (120 + name_bytes cap + size + size / 16 * (32 + name_bytes cap)) ≡ headers * (120 + name_bytes cap + bound) = ap (λ k. headers * k) (omega arith) in
     omega arith

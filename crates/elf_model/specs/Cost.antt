@@ -1,10 +1,10 @@
 -- How many bytes a listing asks for at most, and what it never passes. A record stands at an offset of some bytes: of
 -- the file, or of its own bytes alone, at 0.
-use Rattle.std.specs.Prelude.{ℕ, suc, zero, ◌+◌, ◌*◌, ◌/◌, ◌==◌, ◌&&◌, not, if◌then◌else◌, Bool, List, [], ◌∷◌, ◌++◌, length}
+use Rattle.std.specs.Prelude.{ℕ, suc, zero, ◌+◌, ◌*◌, ◌/◌, ◌==◌, ◌&&◌, ◌||◌, not, if◌then◌else◌, Bool, List, [], ◌∷◌, ◌++◌, length}
 use Rattle.elf_model.specs.Records.{e_shnum, e_phnum, e_shstrndx}
 use Rattle.elf_model.specs.Names.{name_bytes}
 use Rattle.elf_model.specs.Checks.{pass, header_checks, early_checks}
-use Rattle.elf_model.specs.Listing.{has, has_tables, SECTIONS, SEGMENTS, NOTES}
+use Rattle.elf_model.specs.Listing.{has, has_tables, SECTIONS, SEGMENTS, NOTES, DYNAMIC}
 use Rattle.elf_model.specs.TableKinds.{TableKind, table_headers}
 
 -- the costs of so many rows, or tables, from a first one on
@@ -37,11 +37,13 @@ sections_cost file cap parts =
     64 * e_shnum file
     + cost_where (has parts SECTIONS && not (e_shstrndx file == 0)) (e_shnum file * name_bytes cap)
 
--- the program headers, and once more for their notes where the file has no sections
+-- the program headers are read: where they are listed, or where they describe tables that are
+abbrev pub needs_segments : List ℕ → ℕ → Bool
+needs_segments file parts = has parts SEGMENTS || (e_shnum file == 0 && (has parts NOTES || has parts DYNAMIC))
+
+-- the program headers
 unfoldable pub segments_cost : List ℕ → ℕ → ℕ
-segments_cost file parts =
-    cost_where (has parts SEGMENTS) (56 * e_phnum file)
-    + cost_where (has parts NOTES && e_shnum file == 0) (56 * e_phnum file)
+segments_cost file parts = cost_where (needs_segments file parts) (56 * e_phnum file)
 
 -- the tables of all headers that describe tables
 unfoldable pub tables_cost : List ℕ → ℕ → ℕ → ℕ

@@ -1,11 +1,11 @@
 -- What holds of costs.
 use Rattle.std.specs.Prelude.{◌≡◌, ℕ, ◌+◌, ◌*◌, ◌<◌, ◌≤◌, List, [], ◌∷◌, length}
 use Rattle.elf_model.specs.Bytes.{slice}
-use Rattle.elf_model.specs.Records.{e_shnum, section_at}
+use Rattle.elf_model.specs.Records.{e_shnum, e_phnum, section_at, segment_at}
 use Rattle.elf_model.specs.Names.{name_bytes}
 use Rattle.elf_model.specs.Checks.{pass, table_checks_of}
 use Rattle.elf_model.specs.Listing.{has}
-use Rattle.elf_model.specs.TableKinds.{TableKind, section_kinds}
+use Rattle.elf_model.specs.TableKinds.{TableKind, section_kinds, segment_kinds}
 use Rattle.elf_model.specs.Cost.{sum_over, cost_where, table_cost, kinds_cost, cost, ceiling}
 
 -- no listing costs more than the ceiling of its file's length, whatever the file's bytes are
@@ -26,6 +26,14 @@ RowsCostWhatTheFileCosts =
     → ((i : ℕ) → i < e_shnum file → row i ≡ slice file (section_at file i) 64)
     → sum_over (λ i. kinds_cost section_kinds (row i) 0 (length file) cap parts) 0 (e_shnum file)
     ≡ sum_over (λ i. kinds_cost section_kinds file (section_at file i) (length file) cap parts) 0 (e_shnum file)
+
+-- and where they are its program headers
+abbrev pub SegmentsCostWhatTheFileCosts : Type 0
+SegmentsCostWhatTheFileCosts =
+    (file : List ℕ) → (row : ℕ → List ℕ) → (cap parts : ℕ)
+    → ((i : ℕ) → i < e_phnum file → row i ≡ slice file (segment_at file i) 56)
+    → sum_over (λ i. kinds_cost segment_kinds (row i) 0 (length file) cap parts) 0 (e_phnum file)
+    ≡ sum_over (λ i. kinds_cost segment_kinds file (segment_at file i) (length file) cap parts) 0 (e_phnum file)
 
 -- what the tables of some kinds cost that so many rows describe, kind by kind
 unfoldable pub kind_by_kind : List TableKind → (ℕ → List ℕ) → (ℕ → ℕ) → (size cap parts count : ℕ) → ℕ
@@ -48,8 +56,9 @@ AnyRowsAreWithinCeiling =
     + sum_over (λ i. kinds_cost section_kinds (row i) 0 size cap parts) 0 sections)
     ≤ ceiling size headers cap
 
--- and so it is without sections, where the program headers are read twice and each may describe notes
+-- and so it is without sections, whatever rows stand in the place of the program headers
 abbrev pub AnySegmentsAreWithinCeiling : Type 0
 AnySegmentsAreWithinCeiling =
-    (size headers cap segments : ℕ) → segments ≤ headers
-    → 64 + (56 * segments + (56 * segments + segments * size)) ≤ ceiling size headers cap
+    (row : ℕ → List ℕ) → (size headers cap parts segments : ℕ) → segments ≤ headers
+    → 64 + (56 * segments + sum_over (λ i. kinds_cost segment_kinds (row i) 0 size cap parts) 0 segments)
+    ≤ ceiling size headers cap

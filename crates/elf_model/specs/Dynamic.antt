@@ -1,11 +1,8 @@
 -- Dynamic entries (gABI 5, Dynamic Section), each of 16 bytes.
 use Rattle.std.specs.Prelude.{◌≡◌, ◌≢◌, ℕ, zero, suc, ◌+◌, ◌*◌, ◌==◌, ◌<◌, ◌≤◌, true, false}
 use Rattle.std.specs.Prelude.{List, Option, None, Some}
+use Rattle.elf_model.specs.Numbers.{DT_NULL}
 use Rattle.elf_model.specs.Records.{d_tag, d_un}
-
--- the tag of the entry that ends the array (gABI 5, Dynamic Section)
-abbrev pub DT_NULL : ℕ
-DT_NULL = 0
 
 -- how many of the n entries at an offset are listed: up to and with the first whose tag is DT_NULL, or all
 unfoldable pub dynamic_count : List ℕ → ℕ → ℕ → ℕ
@@ -20,14 +17,6 @@ dynamic_value file at (suc n) tag = elim (d_tag file at == tag) [ true ↦ Some 
 -- the value of the first listed entry with a tag, of the n entries at an offset
 abbrev pub listed_value : List ℕ → ℕ → ℕ → ℕ → Option ℕ
 listed_value file at n tag = dynamic_value file at (dynamic_count file at n) tag
-
--- the tags of the entries that tell where a string table is in memory, and how many bytes it has (gABI 5, Dynamic
--- Section)
-abbrev pub DT_STRTAB : ℕ
-DT_STRTAB = 5
-
-abbrev pub DT_STRSZ : ℕ
-DT_STRSZ = 10
 
 -- where an entry stands
 abbrev pub dynamic_at : ℕ → ℕ → ℕ

@@ -13,6 +13,7 @@ pub mod Checks
 pub mod Tables
 pub mod Segments
 pub mod Listing
+pub mod Mapped
 pub mod Rows
 pub mod TableKinds
 pub mod Report

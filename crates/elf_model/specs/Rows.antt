@@ -1,6 +1,7 @@
 -- The rows of a listing. Each is a line, or the fault of its entry.
-use Rattle.std.specs.Prelude.{ℕ, ◌+◌, ◌==◌, ◌||◌, nat_lt, not, Bool, if◌then◌else◌, List, [], ◌∷◌, ◌++◌, length, Option, None, Some, Result, Ok, Err}
+use Rattle.std.specs.Prelude.{ℕ, ◌+◌, ◌==◌, ◌||◌, nat_lt, not, Bool, true, false, if◌then◌else◌, List, [], ◌∷◌, ◌++◌, length, Option, None, Some, Result, Ok, Err}
 use Rattle.elf_model.specs.Records.{e_machine, e_shstrndx, sh_name, section_at, segment_at, st_name, r_sym, d_tag, d_un}
+use Rattle.elf_model.specs.Numbers.{DT_NEEDED, DT_SONAME, DT_RPATH, DT_RUNPATH}
 use Rattle.elf_model.specs.Names.{Shown, shown}
 use Rattle.elf_model.specs.Names.Shown.{Whole}
 use Rattle.elf_model.specs.Notes.{Note, Walk, note_shown}
@@ -10,6 +11,7 @@ use Rattle.elf_model.specs.Lines.{named_line, note_line, segment_line}
 use Rattle.elf_model.specs.Listing.{Item, Line, Fault}
 use Rattle.elf_model.specs.declared.causes.Cause.{Cause}
 use Rattle.elf_model.specs.declared.causes.Cause.TheVariants.{BadLink, SymbolIndex, NoteCut}
+use Rattle.elf_model.specs.declared.causes.Refusal.{Refusal}
 
 -- a row that is refused, at an offset
 abbrev pub refused_row : ℕ → Cause → List Item
@@ -84,12 +86,19 @@ cut_rows table_at (Some place) = refused_row (table_at + place) NoteCut
 unfoldable pub walk_rows : ℕ → ℕ → ℕ → Walk → List Item
 walk_rows cap index table_at walk = notes_rows cap index walk.notes ++ cut_rows table_at walk.cut
 
--- the value of an entry with this tag is a string table index: DT_NEEDED, DT_SONAME, DT_RPATH, DT_RUNPATH (gABI 5)
+-- the value of an entry with this tag is a string table index (gABI 5, Dynamic Section)
 abbrev pub is_string_tag : ℕ → Bool
-is_string_tag tag = tag == 1 || tag == 14 || tag == 15 || tag == 29
+is_string_tag tag = tag == DT_NEEDED || tag == DT_SONAME || tag == DT_RPATH || tag == DT_RUNPATH
 
--- the row of the dynamic entry of an index at an offset, with its string where its value is an index into these strings
-unfoldable pub dynamic_row : List ℕ → ℕ → List ℕ → ℕ → ℕ → List Item
+-- the row of the dynamic entry of an index at an offset, with its string where its value is a string table index: only
+-- there the string table is looked for, which may be refused
+unfoldable pub dynamic_row : List ℕ → ℕ → (ℕ → Result (List ℕ) Refusal) → ℕ → ℕ → List Item
 dynamic_row file cap strings dynamic_at index =
-    named_row (dynamic_front file dynamic_at index) dynamic_at
-    (if is_string_tag (d_tag file dynamic_at) then shown strings (d_un file dynamic_at) cap else no_name)
+    let front = dynamic_front file dynamic_at index in
+    elim (is_string_tag (d_tag file dynamic_at)) [
+      | false ↦ named_row front dynamic_at no_name
+      | true ↦ elim (strings dynamic_at) [
+        | Err refusal ↦ Fault refusal ∷ []
+        | Ok table ↦ named_row front dynamic_at (shown table (d_un file dynamic_at) cap)
+      ]
+    ]

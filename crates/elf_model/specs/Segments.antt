@@ -5,7 +5,7 @@ use Rattle.std.specs.Prelude.{ℕ, zero, suc, ◌+◌, ◌-◌, ◌%◌, ◌==�
 use Rattle.elf_model.specs.Bytes.{slice}
 use Rattle.elf_model.specs.Records.{e_phnum, p_type, p_offset, p_vaddr, p_filesz, segment_at}
 use Rattle.elf_model.specs.Numbers.{PT_LOAD}
-use Rattle.elf_model.specs.Checks.{Check, refuse, is_outside}
+use Rattle.elf_model.specs.Checks.{Check, refuse, is_outside, unless_empty, whole_checks_of}
 use Rattle.elf_model.specs.Tables.{DYNAMIC_SIZE}
 use Rattle.elf_model.specs.declared.causes.Cause.TheVariants.{SizeNotWhole, TableOutside, Unmapped}
 
@@ -13,10 +13,7 @@ use Rattle.elf_model.specs.declared.causes.Cause.TheVariants.{SizeNotWhole, Tabl
 -- bytes; the refusals name a place. One of size 0 has no checks
 abbrev pub segment_dynamic_checks_of : List ℕ → ℕ → ℕ → ℕ → List Check
 segment_dynamic_checks_of bytes at file_size place =
-    if p_filesz bytes at == 0 then [] else
-    refuse (not (p_filesz bytes at % DYNAMIC_SIZE == 0)) place SizeNotWhole
-    ∷ refuse (is_outside file_size (p_offset bytes at) (p_filesz bytes at)) place TableOutside
-    ∷ []
+    unless_empty (p_filesz bytes at) (whole_checks_of file_size (p_offset bytes at) (p_filesz bytes at) place DYNAMIC_SIZE)
 
 -- the same of a program header of the file
 abbrev pub segment_dynamic_checks : List ℕ → ℕ → List Check

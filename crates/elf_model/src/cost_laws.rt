@@ -1,5 +1,5 @@
 //! The laws of costs.
-ghost use Rattle.elf_model.specs.CostLaws.{CostIsWithinCeiling, PlacesDecideNothing, RowsCostWhatTheFileCosts, TablesCostKindByKind, AnyRowsAreWithinCeiling, AnySegmentsAreWithinCeiling};
+ghost use Rattle.elf_model.specs.CostLaws.{CostIsWithinCeiling, PlacesDecideNothing, RowsCostWhatTheFileCosts, SegmentsCostWhatTheFileCosts, TablesCostKindByKind, AnyRowsAreWithinCeiling, AnySegmentsAreWithinCeiling};
 
 /// No listing costs more than the ceiling, whatever the file's bytes, the caps and the parts are.
 #[tactic(auto, using(crate::proofs::CostLemmas::cost_within))]
@@ -19,6 +19,12 @@ pub fn rows_cost_what_the_file_costs()
     ensures { RowsCostWhatTheFileCosts }
 {}
 
+/// And program headers do.
+#[tactic(auto, using(crate::proofs::StoreLemmas::segments_cost_rows))]
+pub fn segments_cost_what_the_file_costs()
+    ensures { SegmentsCostWhatTheFileCosts }
+{}
+
 /// The sum over all headers is the sum kind by kind.
 #[tactic(auto, using(crate::proofs::StoreLemmas::by_kind))]
 pub fn tables_cost_kind_by_kind()
@@ -30,7 +36,7 @@ pub fn any_rows_are_within_ceiling()
     ensures { AnyRowsAreWithinCeiling }
 {}
 
-/// And so it is without sections, whatever the program headers are at each of two reads.
+/// And so it is without sections, whatever bytes stand in the place of the program headers.
 #[tactic(auto, using(crate::proofs::StoreLemmas::any_segments))]
 pub fn any_segments_are_within_ceiling()
     ensures { AnySegmentsAreWithinCeiling }

@@ -102,7 +102,7 @@ impl<const N: usize> Stretch<N> {
         ensures { result ≤ N }
     {
         let reach = self.at + self.held;
-        let follows = at >= reach && at - reach <= NEAR;
+        let follows = self.held > 0 && at >= reach && at - reach <= NEAR;
         if self.served || follows {
             return (2 * self.span).min(N as u64);
         }

@@ -2,7 +2,8 @@
 use Rattle.std.proofs.lemmas.Bool.Decides.{nat_tests}
 use Rattle.std.proofs.Common.{◌≡◌, ◌≢◌, ◌==◌, ℕ, zero, suc, ◌+◌, ◌*◌, Bool, true, false, List, Option, None, Some, Ok, inr, refl, ap, sym, ◌∙◌, arith}
 use Rattle.elf_model.specs.Bytes.{slice, field}
-use Rattle.elf_model.specs.Dynamic.{DT_NULL, dynamic_count, dynamic_value}
+use Rattle.elf_model.specs.Dynamic.{dynamic_count, dynamic_value}
+use Rattle.elf_model.specs.Numbers.{DT_NULL}
 use Rattle.elf_model.specs.Records.{d_tag, d_un}
 use Rattle.elf_model.proofs.DynamicLaws.{count-zero, count-null, count-more, value-none, value-here, value-more}
 use Rattle.elf_model.proofs.Slices.{field-slice}

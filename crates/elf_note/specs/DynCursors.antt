@@ -1,6 +1,7 @@
 -- What a cursor over dynamic entries gives, entry by entry.
 use Rattle.std.specs.Prelude.{ℕ, suc, ◌≡◌, ◌==◌, Bool, true, false, if◌then◌else◌, List, ◌⊎◌, Option, None, Some, Result, Ok, Err}
-use Rattle.elf_model.specs.Dynamic.{DT_NULL, DT_STRSZ, DT_STRTAB, dynamic_count, listed_value}
+use Rattle.elf_model.specs.Dynamic.{dynamic_count, listed_value}
+use Rattle.elf_model.specs.Numbers.{DT_NULL, DT_STRSZ, DT_STRTAB}
 use Rattle.elf_model.specs.Records.{d_tag, d_un}
 use Rattle.elf_table.specs.Cursors.{Reading, Agrees, Fails, Gives, Shows, place}
 use Rattle.elf_table.specs.Tables.{Rows}

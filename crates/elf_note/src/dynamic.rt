@@ -2,7 +2,8 @@
 ghost use Rattle.std.specs.Prelude.{◌≡◌, ◌==◌, ℕ, ◌+◌, ◌<◌, ◌≤◌, List, [], length, false};
 ghost use Rattle.std.specs.Prelude.{None, Some, Err, IfErr};
 ghost use Rattle.elf_model.specs.Bytes.{slice};
-ghost use Rattle.elf_model.specs.Dynamic.{DT_NULL, dynamic_count};
+ghost use Rattle.elf_model.specs.Dynamic.{dynamic_count};
+ghost use Rattle.elf_model.specs.Numbers.{DT_NULL};
 ghost use Rattle.elf_model.specs.Records.{d_tag};
 ghost use Rattle.elf_record.specs.Dyn.{IsDyn};
 ghost use Rattle.elf_source.specs.Source.{Reads};

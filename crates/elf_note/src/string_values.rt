@@ -1,6 +1,6 @@
 //! Where dynamic entries say that their string table is.
 ghost use Rattle.std.specs.Prelude.{◌≡◌, ℕ, List, Some, Option, IfErr, IfOk};
-ghost use Rattle.elf_model.specs.Dynamic.{DT_STRSZ, DT_STRTAB};
+ghost use Rattle.elf_model.specs.Numbers.{DT_STRSZ, DT_STRTAB};
 ghost use Rattle.elf_model.specs.Records.{d_tag, d_un};
 ghost use Rattle.elf_record.specs.Dyn.{IsDyn};
 ghost use Rattle.elf_source.specs.Source.{Reads};

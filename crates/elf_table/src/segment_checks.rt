@@ -36,8 +36,8 @@ pub(crate) fn checked_dynamic(header: &Phdr, size: u64, place: u64) -> Result<Ta
     Ok(Table::new(header.p_offset, count, DYNAMIC_BYTES))
 }
 
-/// Whether the segment is loaded and its bytes in the file are `size` bytes from `address` on, or
-/// hold them (gABI 5, Program Loading). The sums are whole numbers.
+/// Whether the segment is a LOAD segment whose bytes in the file hold the `size` bytes from the
+/// address `address` on (gABI 5, Program Loading). The sums are whole numbers.
 pub(crate) fn maps(header: &Phdr, address: u64, size: u64) -> bool
     ensures value { (bytes : List ℕ) (at : ℕ) → IsPhdr bytes at header.now →
         result ≡ is_mapped_by bytes at address size }

@@ -72,7 +72,11 @@ fn a_fault_in_bytes_read_ahead_leaves_nothing_held(rt: HostRuntime) {
             let off = 8 * i;
             let end = read_name(&mut ahead, &mut src, off, &rt);
             let fault = Fault::Source { fault: device, at };
-            let wanted = if off == at { Err(fault) } else { Ok(NameEnd::Whole) };
+            let wanted = if off == at {
+                Err(fault)
+            } else {
+                Ok(NameEnd::Whole)
+            };
             assert!(rt; end == wanted, "{failing} {i}");
         }
     }
@@ -90,7 +94,11 @@ fn read_symbol(
 ) -> bool {
     assert!(rt; src.length() == 24 * SYMBOLS && index < SYMBOLS);
     let names = Names::new(0, 0);
-    let unnamed = NameIndex { names, off: 0, at: 7 };
+    let unnamed = NameIndex {
+        names,
+        off: 0,
+        at: 7,
+    };
     let mut name = NameBuf::new();
     let end = ahead.name(src, unnamed, Cap { bytes: 256 }, &mut name);
     let symbol = ahead.symbol(src, &Table::new(0, SYMBOLS, 24), index);

@@ -1,8 +1,8 @@
 //! Worked names, and how many bytes they ask for.
 use crate::fakes::Planned;
 use crate::fixtures::refused;
-use elf_record::Cause;
 use elf_names::{NameIndex, ReadAhead};
+use elf_record::Cause;
 use elf_source::{Counted, MemorySource, SourceFault};
 use elf_table::{Cap, Fault, NameBuf, NameEnd, Names};
 use std::process::Abort;
@@ -139,6 +139,7 @@ fn reads_of_a_comparison(count: usize, rt: &impl Abort) -> u32 {
     strings[count] = 0;
     let names = Names::new(0, 4097);
     let mut src = Counted::new(Planned::new(&strings, 0));
+    assert!(rt; src.length() == 4097);
     let answer = names.equals(&mut src, 0, 7, &[b'a'; 4096][..count]);
     assert!(rt; answer == Ok(true) && src.asked() == count as u128 + 1);
     src.into_inner().reads

@@ -3,8 +3,8 @@
 ghost use Rattle.std.specs.Prelude.{◌≡◌};
 
 use crate::fixtures::{ONE_CALL, refused};
-use elf_record::{Cause, Rela, Sym};
 use elf_names::{NameIndex, ReadAhead};
+use elf_record::{Cause, Rela, Sym};
 use elf_source::{Counted, MemorySource, Source};
 use elf_table::{
     Cap, Cursor, Fault, File, HeaderStore, NameBuf, NameEnd, Names, Table, header, load,

@@ -368,6 +368,6 @@ fn a_file_is_read_where_a_seek_left_it(rt: HostRuntime) {
 
 #[test]
 fn the_fixed_buffers_are_small(rt: HostRuntime) {
-    assert!(rt; FIXED_BYTES == 8_896);
+    assert!(rt; FIXED_BYTES == 16_168);
     assert!(rt; FIXED_BYTES <= 16_384);
 }

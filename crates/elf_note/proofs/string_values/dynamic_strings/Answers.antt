@@ -1,6 +1,7 @@
 use Rattle.std.proofs.Common.{◌≡◌, ℕ, ◌+◌, List, Some, Option, ap, sym, ◌∙◌, arith}
 use Rattle.elf_model.specs.Bytes.{slice}
-use Rattle.elf_model.specs.Dynamic.{DT_STRSZ, DT_STRTAB, dynamic_value}
+use Rattle.elf_model.specs.Dynamic.{dynamic_value}
+use Rattle.elf_model.specs.Numbers.{DT_STRSZ, DT_STRTAB}
 use Rattle.elf_record.specs.Dyn.{IsDyn}
 use Rattle.elf_source.proofs.ReadsLaws.{Reads-then, Reads-to}
 use Rattle.elf_table.specs.Cursors.{place}

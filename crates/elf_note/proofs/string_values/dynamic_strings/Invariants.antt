@@ -1,5 +1,6 @@
 use Rattle.std.proofs.Common.{◌≡◌, ◌+◌, ◌≤◌, ℕ, List, None, Some}
-use Rattle.elf_model.specs.Dynamic.{DT_STRSZ, DT_STRTAB, dynamic_value, listed_value}
+use Rattle.elf_model.specs.Dynamic.{dynamic_value, listed_value}
+use Rattle.elf_model.specs.Numbers.{DT_STRSZ, DT_STRTAB}
 use Rattle.elf_source.specs.Source.{Reads}
 use Rattle.elf_table.specs.Cursors.{Agrees, place, unread_bytes}
 use Rattle.elf_table.specs.Tables.{size_of}
