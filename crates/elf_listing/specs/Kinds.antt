@@ -3,11 +3,10 @@ use Rattle.std.specs.Prelude.{ℕ, ◌≡◌, ◌+◌, ◌*◌, ◌^◌, ◌<◌
 use Rattle.elf_model.specs.Bytes.{slice}
 use Rattle.elf_model.specs.Dynamic.{dynamic_at}
 use Rattle.elf_model.specs.Records.{e_phoff, e_machine, sh_offset, section_at}
-use Rattle.elf_model.specs.LineFronts.{dynamic_front}
 use Rattle.elf_model.specs.Names.{name_bytes}
 use Rattle.elf_model.specs.Tables.{SYMBOL_SIZE, RELA_SIZE, DYNAMIC_SIZE, strings_of}
 use Rattle.elf_model.specs.Listing.{Item, each}
-use Rattle.elf_model.specs.Rows.{segment_row, symbol_row, relocation_row}
+use Rattle.elf_model.specs.Rows.{segment_row, symbol_row, relocation_row, dynamic_row}
 use Rattle.elf_source.specs.declared.source.Source.{Ghosts as Sources}
 use Rattle.elf_source.specs.declared.sink.Sink.{Ghosts as Sinks}
 use Rattle.elf_table.specs.Sections.{symbols_linked}
@@ -15,7 +14,7 @@ use Rattle.elf_table.specs.Tables.{Rows, RowsWithin, StringsWithin, SymbolsWithi
 use Rattle.elf_table.specs.declared.row.Row.{Row}
 use Rattle.elf_listing.specs.RowCursors.{rows_listed}
 use Rattle.elf_listing.specs.Shows.{Writes}
-use Rattle.elf_listing.specs.Strings.{strings_told, told_name, told_row, AreWithin, AreOf}
+use Rattle.elf_listing.specs.Strings.{strings_told, AreWithin, AreOf}
 use Rattle.elf_listing.specs.declared.listing.Listing.{Listing}
 use Rattle.elf_listing.specs.declared.rows.Kind.{Kind}
 use Rattle.elf_listing.specs.declared.rows.Kind.TheVariants.{Segments, Symbols, Relocations, Dynamic}
@@ -44,8 +43,7 @@ abbrev pub row_items : Kind → List ℕ → ℕ → ℕ → ℕ → List Item
 row_items Segments file cap table_at index = segment_row file index
 row_items (Symbols section names) file cap table_at index = symbol_row file cap section (section_at file section) index
 row_items (Relocations section machine linked) file cap table_at index = relocation_row file cap section (section_at file section) index
-row_items (Dynamic strings) file cap table_at index =
-    told_row (dynamic_front file (dynamic_at table_at index) index) (dynamic_at table_at index) (told_name (strings_told strings file) file cap (dynamic_at table_at index))
+row_items (Dynamic strings) file cap table_at index = dynamic_row file cap (strings_told strings file) (dynamic_at table_at index) index
 
 -- the tables that a kind's names are read from lie within a source of this size
 abbrev pub KindWithin : ℕ → Kind → Type 0

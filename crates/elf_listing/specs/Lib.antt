@@ -6,3 +6,4 @@ pub mod RowCursors
 pub mod Shows
 pub mod Stops
 pub mod Strings
+pub mod Viewed

@@ -1,30 +1,34 @@
 -- The strings that dynamic entries tell of.
-use Rattle.std.specs.Prelude.{ℕ, ◌≡◌, true, false, List, [], ◌∷◌, Result, Ok, Err}
-use Rattle.elf_model.specs.Listing.{Item, Fault}
+use Rattle.std.specs.Prelude.{ℕ, ◌≡◌, true, false, List, Result, Ok, Err}
+use Rattle.elf_model.specs.Mapped.{strings_at}
 use Rattle.elf_model.specs.Names.{Shown, shown}
 use Rattle.elf_model.specs.Records.{d_tag, d_un}
-use Rattle.elf_model.specs.Rows.{is_string_tag, named_row, no_name}
+use Rattle.elf_model.specs.Rows.{is_string_tag, no_name}
 use Rattle.elf_model.specs.declared.causes.Cause.{Cause}
 use Rattle.elf_model.specs.declared.causes.Refusal.{Refusal}
 use Rattle.elf_table.specs.NamesRead.{NameRead}
 use Rattle.elf_table.specs.Tables.{Strings, StringsWithin, strings_in}
+use Rattle.elf_table.specs.Views.{Views}
 use Rattle.elf_table.specs.declared.fault.Fault.{Fault as Failure}
 use Rattle.elf_table.specs.declared.fault.Fault.TheVariants.{Refused}
 use Rattle.elf_table.specs.declared.names.NameEnd.{NameEnd}
 use Rattle.elf_listing.specs.declared.dynamic_row.EntryStrings.{EntryStrings}
-use Rattle.elf_listing.specs.declared.dynamic_row.EntryStrings.TheVariants.{Linked}
+use Rattle.elf_listing.specs.declared.dynamic_row.EntryStrings.TheVariants.{Linked, Mapped}
 
 -- the string table of the entry at an offset of a file, or the refusal where there is none
 abbrev pub strings_told : EntryStrings → List ℕ → ℕ → Result (List ℕ) Refusal
 strings_told (Linked names) file entry_at = Ok (strings_in file names)
+strings_told (Mapped view told) file entry_at = strings_at file entry_at told.address told.size
 
 -- what the strings are looked for in lies within a source of this size
 abbrev pub AreWithin : ℕ → EntryStrings → Type 0
 AreWithin size (Linked names) = StringsWithin size names
+AreWithin size (Mapped view told) = view.loaded.size ≡ size
 
 -- what the strings are looked for in is of this file
 abbrev pub AreOf : List ℕ → EntryStrings → Type 0
 AreOf file (Linked names) = Unit {0}
+AreOf file (Mapped view told) = Views file view.loaded view.store.now
 
 -- a string table was found as it is told, or refused
 abbrev pub FoundAs : List ℕ → Result Strings Failure → Result (List ℕ) Refusal → Type 0
@@ -48,8 +52,3 @@ told_name strings file cap entry_at =
 abbrev pub ToldRead : ℕ → Result NameEnd Failure → List ℕ → Result (Result Shown Cause) Refusal → Type 0
 ToldRead at result name (Ok answer) = NameRead at result name answer
 ToldRead at result name (Err refusal) = result ≡ Err (Refused refusal)
-
--- the row of an entry by its bytes before the name, and its string
-abbrev pub told_row : List ℕ → ℕ → Result (Result Shown Cause) Refusal → List Item
-told_row front at (Ok answer) = named_row front at answer
-told_row front at (Err refusal) = Fault refusal ∷ []

@@ -12,13 +12,15 @@ ghost use Rattle.elf_listing.specs.Strings.{AreOf, AreWithin, FoundAs, ToldRead,
 ghost use Rattle.elf_listing.specs.declared.rows.Kind.TheVariants.{Dynamic};
 
 use crate::listing::Listing;
+use crate::relocation_row::refused;
 use crate::row::whole_row;
 use crate::stop::Stop;
 use elf_lines::dynamic_front;
 use elf_names::NameIndex;
-use elf_record::Dyn;
+use elf_note::DynStrings;
+use elf_record::{Cause, Dyn};
 use elf_source::{Sink, Source};
-use elf_table::{Fault, NameEnd, Names, Row};
+use elf_table::{Fault, NameEnd, Names, Row, SegmentView};
 
 /// The tag of a needed library's name (gABI 5, Dynamic Section).
 const DT_NEEDED: u64 = 1;
@@ -31,9 +33,16 @@ const DT_RUNPATH: u64 = 29;
 
 /// Where the strings of dynamic entries are looked for.
 #[derive(Clone, Copy)]
-pub enum EntryStrings {
+pub enum EntryStrings<'f> {
     /// In the string table that their section links to.
     Linked(Names),
+    /// Where a segment loads them, at the address that the entries tell.
+    Mapped {
+        /// The file with its program headers.
+        view: SegmentView<'f>,
+        /// The address and the size that the entries tell.
+        told: DynStrings,
+    },
 }
 
 impl<S: Source, W: Sink> Listing<'_, '_, '_, S, W> {
@@ -42,7 +51,7 @@ impl<S: Source, W: Sink> Listing<'_, '_, '_, S, W> {
     pub(crate) fn dynamic_row(
         &mut self,
         row: &Row<'_>,
-        strings: &EntryStrings,
+        strings: &EntryStrings<'_>,
     ) -> Result<(), Stop>
         requires whole { length row.now.bytes.now ≡ 16 }
         requires within { AreWithin self.old.src.now.seen.size strings.now }
@@ -59,7 +68,7 @@ impl<S: Source, W: Sink> Listing<'_, '_, '_, S, W> {
     fn read_string(
         &mut self,
         entry: &Dyn,
-        strings: &EntryStrings,
+        strings: &EntryStrings<'_>,
         at: u64,
     ) -> Result<NameEnd, Fault>
         requires { AreWithin self.old.src.now.seen.size strings.now }
@@ -80,7 +89,7 @@ impl<S: Source, W: Sink> Listing<'_, '_, '_, S, W> {
 }
 
 /// The string table of the entry at the file offset `at`.
-fn strings_for(strings: &EntryStrings, at: u64) -> Result<Names, Fault>
+fn strings_for(strings: &EntryStrings<'_>, at: u64) -> Result<Names, Fault>
     ensures told { (file : List ℕ) → AreOf file strings.now →
         FoundAs file result (strings_told strings.now file at) }
     ensures within { (size : ℕ) → AreWithin size strings.now → IfOk result (StringsWithin size) }
@@ -88,6 +97,10 @@ fn strings_for(strings: &EntryStrings, at: u64) -> Result<Names, Fault>
 {
     match strings {
         EntryStrings::Linked(names) => Ok(*names),
+        EntryStrings::Mapped { view, told } => match (told.address, told.size) {
+            (Some(address), Some(size)) => view.mapped(address, size, at),
+            _ => refused(at, Cause::Unmapped),
+        },
     }
 }
 

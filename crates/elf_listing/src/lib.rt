@@ -4,6 +4,7 @@
 mod buffers;
 mod dynamic_row;
 mod end;
+mod headers;
 mod listing;
 mod names;
 mod notes;
@@ -13,6 +14,7 @@ mod row;
 mod row_cursor;
 mod rows;
 mod sections;
+mod segments;
 mod showing;
 mod stop;
 

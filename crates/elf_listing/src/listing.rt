@@ -1,5 +1,6 @@
 //! What a listing is written with.
 ghost use Rattle.elf_names.specs.Ahead.{AgreesWith};
+ghost use Rattle.elf_listing.specs.Viewed.{IsViewed};
 ghost use Rattle.elf_table.specs.Load.{IsOpen};
 
 use elf_names::ReadAhead;
@@ -18,5 +19,6 @@ pub struct Listing<'s, 'o, 'f, S: Source, W: Sink> {
     pub name: NameBuf,
     pub ahead: ReadAhead,
     pub ghost loaded: { IsOpen src.now file.loaded file.store.now },
+    pub ghost viewed: { IsViewed src.now.seen.file file.loaded file.store.now },
     pub ghost held: { AgreesWith src.now.seen.file ahead },
 }

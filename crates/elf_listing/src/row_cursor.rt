@@ -23,7 +23,7 @@ pub enum RowCursor {
 
 impl RowCursor {
     /// A cursor before the first row of a table of a kind.
-    pub(crate) fn new(table: Table, kind: &Kind) -> RowCursor
+    pub(crate) fn new(table: Table, kind: &Kind<'_>) -> RowCursor
         requires { table.entry ≡ row_size kind.now }
         ensures { Begins kind.now table result }
     {

@@ -12,7 +12,7 @@ use elf_table::{Names, Row, Table};
 
 /// What the rows of a table are listed as.
 #[derive(Clone, Copy)]
-pub enum Kind {
+pub enum Kind<'f> {
     /// Program headers, a `P` line each.
     Segments,
     /// The symbols of a section, a `Y` line each.
@@ -34,13 +34,13 @@ pub enum Kind {
     /// Dynamic entries, a `D` line each.
     Dynamic {
         /// Where their strings are looked for.
-        strings: EntryStrings,
+        strings: EntryStrings<'f>,
     },
 }
 
 impl<S: Source, W: Sink> Listing<'_, '_, '_, S, W> {
     /// Shows the rows of a table that are listed one after another, up to the first that is refused.
-    pub(crate) fn rows(&mut self, table: Table, kind: &Kind) -> Result<(), Stop>
+    pub(crate) fn rows(&mut self, table: Table, kind: &Kind<'_>) -> Result<(), Stop>
         requires { IsTableOf self.old.src.now.seen.size kind.now table }
         ensures lists { Lists self.old self.new result
             (rows_cost kind.now table self.old.cap.bytes) }
@@ -54,7 +54,7 @@ impl<S: Source, W: Sink> Listing<'_, '_, '_, S, W> {
     }
 
     /// Shows one row.
-    fn row(&mut self, row: &Row<'_>, kind: &Kind) -> Result<(), Stop>
+    fn row(&mut self, row: &Row<'_>, kind: &Kind<'_>) -> Result<(), Stop>
         requires whole { length row.now.bytes.now ≡ row_size kind.now }
         requires within { KindWithin self.old.src.now.seen.size kind.now }
         requires fits { IndexFits kind.now row.now.index }
