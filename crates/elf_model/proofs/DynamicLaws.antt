@@ -3,7 +3,7 @@ use Rattle.std.proofs.Common.{◌≡◌, ◌≢◌, ℕ, suc, zero, ◌+◌, ◌
 use Rattle.std.proofs.lemmas.Bool.Decides.{nat_tests}
 use Rattle.std.proofs.lemmas.Bool.{cases_lt}
 use Rattle.elf_model.specs.Records.{d_tag, d_un}
-use Rattle.elf_model.specs.Dynamic.{dynamic_count, first_value, dynamic_at, IsListed, IsFirst, CountedIsListed, ListedIsCounted, FirstValueIsFirst, NoValueNoEntry}
+use Rattle.elf_model.specs.Dynamic.{dynamic_count, first_value, dynamic_at, IsListed, IsFirstWith, CountedIsListed, ListedIsCounted, FirstValueIsFirst, NoValueNoEntry}
 use Rattle.elf_model.specs.Numbers.{DT_NULL}
 
 null-or-not : (tag : ℕ) → (tag ≡ DT_NULL) ⊎ (tag ≢ DT_NULL)
@@ -98,7 +98,7 @@ pub first_value_is_first : FirstValueIsFirst
 first_value_is_first file tag at zero value h = let z = value-zero file tag at in cc
 first_value_is_first file tag at (suc n) value h = step (tag-or-not (d_tag file at) tag) (first_value_is_first file tag (at + 16) n value)
   where
-    here : d_tag file at ≡ tag → IsFirst file tag at (suc n) value
+    here : d_tag file at ≡ tag → IsFirstWith file tag at (suc n) value
     here is =
         let v : Some (d_un file at) ≡ Some value = sym (value-here file tag at n is) ∙ h in
         let same : value ≡ d_un file at = cc in
@@ -110,15 +110,15 @@ first_value_is_first file tag at (suc n) value h = step (tag-or-not (d_tag file 
           gives = same ∙ ap (d_un file) (sym (entry-zero at));
         }
 
-    later : d_tag file at ≢ tag → IsFirst file tag (at + 16) n value → IsFirst file tag at (suc n) value
+    later : d_tag file at ≢ tag → IsFirstWith file tag (at + 16) n value → IsFirstWith file tag at (suc n) value
     later other k = record { index = suc k.index; within = let w = k.within in omega arith; here = ap (d_tag file) (sym (entry-suc at k.index)) ∙ k.here; none_before = none; gives = k.gives ∙ ap (d_un file) (entry-suc at k.index) }
       where
         none : (i : ℕ) → i < suc k.index → d_tag file (dynamic_at at i) ≢ tag
         none zero l = λ e. other (ap (d_tag file) (sym (entry-zero at)) ∙ e)
         none (suc i) l = λ e. k.none_before i (omega arith) (ap (d_tag file) (entry-suc at i) ∙ e)
 
-    step : (d_tag file at ≡ tag) ⊎ (d_tag file at ≢ tag) → (first_value file tag (at + 16) n ≡ Some value → IsFirst file tag (at + 16) n value)
-        → IsFirst file tag at (suc n) value
+    step : (d_tag file at ≡ tag) ⊎ (d_tag file at ≢ tag) → (first_value file tag (at + 16) n ≡ Some value → IsFirstWith file tag (at + 16) n value)
+        → IsFirstWith file tag at (suc n) value
     step (inl is) more = here is
     step (inr other) more = later other (more (sym (value-later file tag at n other) ∙ h))
 

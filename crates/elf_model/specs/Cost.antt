@@ -49,7 +49,7 @@ segments_cost file parts = cost_where (needs_segments file parts) (56 * e_phnum 
 unfoldable pub tables_cost : List ℕ → ℕ → ℕ → ℕ
 tables_cost file cap parts =
     let headers = table_headers file in
-    sum_over (λ i. kinds_cost headers.kinds file (headers.place i) (length file) cap parts) 0 headers.count
+    sum_over (λ i. kinds_cost headers.kinds file (headers.at i) (length file) cap parts) 0 headers.count
 
 -- how many bytes are asked for behind the file header at most
 abbrev pub behind_header : List ℕ → ℕ → ℕ → ℕ → ℕ

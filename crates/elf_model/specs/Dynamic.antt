@@ -33,7 +33,7 @@ abbrev pub ListedIsCounted : Type 0
 ListedIsCounted = (file : List ℕ) (at n count : ℕ) → IsListed file at n count → dynamic_count file at n ≡ count
 
 -- an entry has a tag and this value, and none before it has the tag
-pub record IsFirst (file : List ℕ) (tag at n value : ℕ) : Type 0 where
+pub record IsFirstWith (file : List ℕ) (tag at n value : ℕ) : Type 0 where
   pub index : ℕ
   pub within : index < n
   pub here : d_tag file (dynamic_at at index) ≡ tag
@@ -42,7 +42,7 @@ pub record IsFirst (file : List ℕ) (tag at n value : ℕ) : Type 0 where
 
 -- the value that is given is that of the first entry with the tag
 abbrev pub FirstValueIsFirst : Type 0
-FirstValueIsFirst = (file : List ℕ) (tag at n value : ℕ) → first_value file tag at n ≡ Some value → IsFirst file tag at n value
+FirstValueIsFirst = (file : List ℕ) (tag at n value : ℕ) → first_value file tag at n ≡ Some value → IsFirstWith file tag at n value
 
 -- where no value is given no entry has the tag
 abbrev pub NoValueNoEntry : Type 0
