@@ -343,7 +343,7 @@ fn a_fault_leaves_the_lines_before_it(rt: HostRuntime) -> Result<(), Fail> {
     let mut store = HeaderStore::new(rt.alloc(), 3)?;
     let mut buffer = [0; 1024];
     let mut src = Counted::new(Failing {
-        reads: 4,
+        reads: 3,
         failures: 0,
     });
     let mut out = Out::new(SliceSink::new(&mut buffer));
@@ -351,12 +351,8 @@ fn a_fault_leaves_the_lines_before_it(rt: HostRuntime) -> Result<(), Fail> {
     let request = Request::Sample { caps, parts };
     let answer = run(&request, &mut src, &mut store, &mut out);
     let fault = SourceFault::Device;
-    assert!(rt; answer == Err(RunFault::Source { fault, at: 0x71 }));
-    check_text(
-        &rt,
-        out.into_inner().written(),
-        &[HEADER, SECTIONS, NO_SYMBOL],
-    );
+    assert!(rt; answer == Err(RunFault::Source { fault, at: 0x70 }));
+    check_text(&rt, out.into_inner().written(), &[HEADER, SECTIONS]);
     let Failing { reads, failures } = src.into_inner();
     assert!(rt; reads == 0);
     assert!(rt; failures == 1);
