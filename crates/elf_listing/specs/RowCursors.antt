@@ -29,7 +29,7 @@ rows_listed (Dynamic strings) file table = dynamic_count file table.at table.cou
 
 -- a cursor before the first row of a table
 pub record Begins (kind : Kind) (table : Rows) (cursor : RowCursor) : Type 0 where
-  pub table : (reading cursor).table ≡ table
+  pub its_table : (reading cursor).table ≡ table
   pub index : (reading cursor).index ≡ 0
   pub left : (reading cursor).left ≡ table.count
   pub unread : (reading cursor).unread ≡ size_of table

@@ -1,5 +1,5 @@
 -- The strings that dynamic entries tell of.
-use Rattle.std.specs.Prelude.{ℕ, ◌≡◌, true, false, List, Result, Ok, Err}
+use Rattle.std.specs.Prelude.{ℕ, ◌≡◌, Bool, true, false, List, Result, Ok, Err}
 use Rattle.elf_model.specs.Mapped.{strings_at}
 use Rattle.elf_model.specs.Names.{Shown, shown}
 use Rattle.elf_model.specs.Records.{d_tag, d_un}
@@ -38,15 +38,14 @@ FoundAs file (Err fault) (Ok table) = ⊥
 FoundAs file (Err fault) (Err refusal) = fault ≡ Refused refusal
 
 -- the string of the entry at an offset, as it is shown; the refusal where its string table is refused
+abbrev pub told_by : Bool → Result (List ℕ) Refusal → (List ℕ → Result Shown Cause) → Result (Result Shown Cause) Refusal
+told_by false table name = Ok no_name
+told_by true (Err refusal) name = Err refusal
+told_by true (Ok strings) name = Ok (name strings)
+
 abbrev pub told_name : (ℕ → Result (List ℕ) Refusal) → List ℕ → ℕ → ℕ → Result (Result Shown Cause) Refusal
 told_name strings file cap entry_at =
-    elim (is_string_tag (d_tag file entry_at)) [
-      | false ↦ Ok no_name
-      | true ↦ elim (strings entry_at) [
-        | Err refusal ↦ Err refusal
-        | Ok table ↦ Ok (shown table (d_un file entry_at) cap)
-      ]
-    ]
+    told_by (is_string_tag (d_tag file entry_at)) (strings entry_at) (λ table. shown table (d_un file entry_at) cap)
 
 -- that string was read, or its string table is refused
 abbrev pub ToldRead : ℕ → Result NameEnd Failure → List ℕ → Result (Result Shown Cause) Refusal → Type 0

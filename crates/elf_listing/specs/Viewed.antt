@@ -1,5 +1,5 @@
 -- The program headers that are loaded beside a file: where they describe its tables.
-use Rattle.std.specs.Prelude.{ℕ, ◌≡◌, ◌<◌, ◌==◌, ◌&&◌, ◌||◌, Bool, List, Option, Some, if◌then◌else◌}
+use Rattle.std.specs.Prelude.{ℕ, ◌≡◌, ◌*◌, ◌<◌, ◌==◌, ◌&&◌, ◌||◌, Bool, List, Option, Some, if◌then◌else◌}
 use Rattle.elf_model.specs.Cost.{cost_where}
 use Rattle.elf_model.specs.Listing.{has, SEGMENTS, NOTES, DYNAMIC}
 use Rattle.elf_table.specs.Load.{Opened}

@@ -5,7 +5,9 @@ ghost use Rattle.elf_model.specs.Records.{d_tag};
 ghost use Rattle.elf_model.specs.Rows.{is_string_tag};
 ghost use Rattle.elf_record.specs.Dyn.{IsDyn};
 ghost use Rattle.elf_table.specs.Faults.{IsOfCheck};
+ghost use Rattle.elf_model.specs.Mapped.{strings_at};
 ghost use Rattle.elf_table.specs.Tables.{StringsWithin};
+ghost use Rattle.elf_table.specs.Views.{Views};
 ghost use Rattle.elf_listing.specs.Kinds.{OfRow};
 ghost use Rattle.elf_listing.specs.Shows.{Fetches, Lists};
 ghost use Rattle.elf_listing.specs.Strings.{AreOf, AreWithin, FoundAs, ToldRead, strings_told, told_name};
@@ -97,11 +99,24 @@ fn strings_for(strings: &EntryStrings<'_>, at: u64) -> Result<Names, Fault>
 {
     match strings {
         EntryStrings::Linked(names) => Ok(*names),
-        EntryStrings::Mapped { view, told } => match (told.address, told.size) {
-            (Some(address), Some(size)) => view.mapped(address, size, at),
-            _ => refused(at, Cause::Unmapped),
-        },
+        EntryStrings::Mapped { view, told } => strings_mapped(view, told, at),
     }
+}
+
+/// The string table at the address that entries tell, for the entry at the file offset `at`.
+fn strings_mapped(view: &SegmentView<'_>, told: &DynStrings, at: u64) -> Result<Names, Fault>
+    ensures told { (file : List ℕ) → Views file view.now.loaded view.now.store.now →
+        FoundAs file result (strings_at file at told.now.address told.now.size) }
+    ensures within { IfOk result (StringsWithin view.now.loaded.size) }
+    ensures refusal { IfErr result IsOfCheck }
+{
+    let Some(address) = told.address else {
+        return refused(at, Cause::Unmapped);
+    };
+    let Some(size) = told.size else {
+        return refused(at, Cause::Unmapped);
+    };
+    view.mapped(address, size, at)
 }
 
 /// Whether the value of an entry is the index of a string (gABI 5, Dynamic Section).

@@ -91,8 +91,8 @@ impl<S: Source, W: Sink> Listing<'_, '_, '_, S, W> {
         if header.sh_type != SHT_NOTE {
             return Ok(());
         }
-        let place = self.file.place(section);
-        let table = self.file.bytes(header.sh_offset, header.sh_size, place)?;
+        let at = self.file.place(section);
+        let table = self.file.bytes(header.sh_offset, header.sh_size, at)?;
         self.notes(table, header.sh_addralign, section)
     }
 
@@ -106,13 +106,14 @@ impl<S: Source, W: Sink> Listing<'_, '_, '_, S, W> {
         ensures shows { Shows self.old self.new result
             (header_items SectionDynamic self.old.cap.bytes section) }
     {
-        if self.file.section(section).sh_type != SHT_DYNAMIC {
+        let header = self.file.section(section);
+        if header.sh_type != SHT_DYNAMIC {
+            return Ok(());
+        }
+        if header.sh_size == 0 {
             return Ok(());
         }
         let table = self.file.table(section, DYNAMIC_BYTES)?;
-        if table.is_empty() {
-            return Ok(());
-        }
         let names = self.file.strings(section)?;
         let strings = EntryStrings::Linked(names);
         self.rows(table, &Kind::Dynamic { strings })

@@ -8,7 +8,7 @@ use Rattle.elf_listing.proofs.LoopLaws.{rows_none, rows_more, rows_stopped, sum_
 use Rattle.elf_listing.proofs.ShowLaws.{StopSays-then}
 use Rattle.elf_listing.proofs.listing.Listing.headers.Goals as goal
 
-pub headers-init : goal.indexs-init
+pub headers-init : goal.headers-init
 headers-init g c = record {
   counted = c.header_count-count.ensures;
   below = omega arith;
@@ -49,7 +49,7 @@ returns-in_err-header-clause-shows g c = λ file held.
     let shown = rw known.keeps.same_cap at (c.in_err-header.ensures.shows file (known.spends.reads.keeps.same_file ∙ held)) in
     rw (p.1, p.2) (rows_stopped row c.headers.index _ _ _ _ _ (omega (arith, known.counted, c.headers-test.true)) (known.text file held) shown)
 
-pub headers-preserved : goal.indexs-preserved
+pub headers-preserved : goal.headers-preserved
 headers-preserved g c =
     let known = c.headers.invariant in
     let f = c.args.self.now.file in

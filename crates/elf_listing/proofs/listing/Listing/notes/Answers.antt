@@ -7,6 +7,7 @@ use Rattle.elf_source.proofs.ReadsLaws.{Reads-then}
 use Rattle.elf_names.proofs.HeldLaws.{still_held}
 use Rattle.elf_names.proofs.SpendsLaws.{Spends-none, Spends-reads, Spends-then, Spends-to}
 use Rattle.elf_table.proofs.SaysLaws.{still_open}
+use Rattle.elf_listing.proofs.ViewedLaws.{still_viewed}
 use Rattle.elf_listing.specs.Notes.{rows_of}
 use Rattle.elf_listing.proofs.NotesShown.{all_left, before_all, before_more, before_stopped, before_fault, before_none, note_left, note_of, table_rows}
 use Rattle.elf_listing.proofs.ShowLaws.{StopSays-then}
@@ -94,5 +95,6 @@ returns-clause-shows g c = λ file held.
 pub invariant_of-self : goal.invariant_of-self
 invariant_of-self g c = record {
   loaded = still_open _ _ c.advance.ensures.reads c.notes.self.loaded;
+  viewed = still_viewed _ _ c.advance.ensures.reads c.notes.self.viewed;
   held = still_held _ c.advance.ensures.reads c.notes.self.held;
 }

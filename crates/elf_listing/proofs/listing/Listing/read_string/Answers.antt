@@ -17,9 +17,9 @@ pub returns-in_err-names-clause-read : goal.returns-in_err-names-clause-read
 returns-in_err-names-clause-read g c = λ file held of decoded.
     let p = err_from_is_err_and c.from_residual.result c.from_residual.ensures.1 in
     let tells : is_string_tag (d_tag file c.args.at) ≡ true = let is = c.tells_of_string.ensures file c.args.at decoded in cc in
-    rw (p.1, p.2) (told_refused (strings_told c.args.strings.now file) file _ _ c.args.at _ _ refl tells (c.in_err-names.ensures.told file of))
+    rw (p.1, p.2) (told_refused (strings_told c.args.strings.now file) file c.args.self.now.name c.args.self.now.cap.bytes c.args.at _ _ refl tells (c.in_err-names.ensures.told file of))
 
 pub returns-clause-read : goal.returns-clause-read
 returns-clause-read g c = λ file held of decoded.
     let tells : is_string_tag (d_tag file c.args.at) ≡ true = let is = c.tells_of_string.ensures file c.args.at decoded in cc in
-    told_read (strings_told c.args.strings.now file) file _ _ c.args.at _ _ _ _ refl tells (c.in_ok-names.ensures.told file of) decoded.d_un (c.read_name.ensures.read file held)
+    told_read (strings_told c.args.strings.now file) file _ c.args.self.now.cap.bytes c.args.at _ _ _ _ refl tells (c.in_ok-names.ensures.told file of) decoded.d_un (c.read_name.ensures.read file held)

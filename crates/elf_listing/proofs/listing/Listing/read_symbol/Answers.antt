@@ -3,6 +3,7 @@ use Rattle.std.proofs.Common.{◌≡◌, ◌<◌, sym, ap, ◌∙◌, arith, Ok}
 use Rattle.elf_model.specs.Names.Shown.{Whole}
 use Rattle.elf_names.proofs.HeldLaws.{still_ahead}
 use Rattle.elf_table.proofs.SaysLaws.{still_open}
+use Rattle.elf_listing.proofs.ViewedLaws.{still_viewed}
 use Rattle.elf_listing.proofs.SymbolNamed.{read_as, named_zero, named_unlinked, named_beyond, named_there, found_there, refers, refers_nowhere, not_zero, refuses_as}
 use Rattle.elf_listing.proofs.listing.Listing.read_symbol.Goals as goal
 
@@ -34,5 +35,6 @@ returns-clause-read g c = λ file header held linked.
 pub invariant_of-self-2 : goal.invariant_of-self-2
 invariant_of-self-2 g c = record {
   loaded = still_open _ _ c.symbol.ensures.spends.reads c.args.self.now.loaded;
+  viewed = still_viewed _ _ c.symbol.ensures.spends.reads c.args.self.now.viewed;
   held = still_ahead _ _ c.symbol.ensures.spends c.symbol.ensures.agrees c.args.self.now.held;
 }

@@ -5,6 +5,7 @@ use Rattle.elf_source.proofs.ReadsLaws.{Reads-then}
 use Rattle.elf_names.proofs.HeldLaws.{still_held}
 use Rattle.elf_names.proofs.SpendsLaws.{Spends-none, Spends-reads, Spends-then, Spends-to}
 use Rattle.elf_table.proofs.SaysLaws.{still_open}
+use Rattle.elf_listing.proofs.ViewedLaws.{still_viewed}
 use Rattle.elf_table.specs.Tables.{Rows}
 use Rattle.elf_listing.specs.Kinds.{row_size, own_cost, row_items, rows_cost}
 use Rattle.elf_listing.specs.RowCursors.{reading, rows_left, rows_listed}
@@ -16,7 +17,7 @@ pub rows-init : goal.rows-init
 rows-init g c =
     let n = c.new-cursor.ensures in
     record {
-      same_table = n.table;
+      same_table = n.its_table;
       not_failed = n.failed;
       counted = omega (arith, n.index, n.left);
       keeps = record { same_src = refl; same_out = refl; same_file = refl; same_cap = refl };
@@ -121,5 +122,6 @@ returns-clause-shows g c = λ file held of_kind.
 pub invariant_of-self : goal.invariant_of-self
 invariant_of-self g c = record {
   loaded = still_open _ _ c.advance.ensures.reads c.rows.self.loaded;
+  viewed = still_viewed _ _ c.advance.ensures.reads c.rows.self.viewed;
   held = still_held _ c.advance.ensures.reads c.rows.self.held;
 }
