@@ -294,8 +294,13 @@ checked_both first second value result other another h k =
 some_checks : (file : List ℕ) (at : ℕ) → (sh_size file at == 0) ≡ false → dynamic_table_checks file at ≡ table_checks file at 16 ++ strings_checks file at
 some_checks file at some = rw some refl
 
+table_by_cases : (empty : Bool) (checks : List Check) (offset count : ℕ) → empty ≡ false
+    → (elim empty as (λ _. Result Rows TableFault) [ true ↦ Ok (rows offset 0 16) | false ↦ checked_as checks (rows offset count 16) ]) ≡ checked_as checks (rows offset count 16)
+table_by_cases true checks offset count some = cc
+table_by_cases false checks offset count some = refl
+
 some_table : (file : List ℕ) (at : ℕ) → (sh_size file at == 0) ≡ false → table_at file at 16 ≡ checked_as (table_checks file at 16) (rows (sh_offset file at) (sh_size file at / 16) 16)
-some_table file at some = rw some refl
+some_table file at some = table_by_cases (sh_size file at == 0) (table_checks file at 16) (sh_offset file at) (sh_size file at / 16) some
 
 pub section_dynamic_fault : (file : List ℕ) (most section : ℕ) (refusal : Refusal) → sh_type file (section_at file section) ≡ SHT_DYNAMIC → (sh_size file (section_at file section) == 0) ≡ false
     → table_at file (section_at file section) 16 ≡ Err (Refused refusal) → table_rows section_dynamic file most section (section_at file section) ≡ Fault refusal ∷ []

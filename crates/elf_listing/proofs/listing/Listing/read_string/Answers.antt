@@ -23,3 +23,6 @@ pub returns-clause-read : goal.returns-clause-read
 returns-clause-read g c = λ file held of decoded.
     let tells : is_string_tag (d_tag file c.args.at) ≡ true = let is = c.tells_of_string.ensures file c.args.at decoded in cc in
     told_read (strings_told c.args.strings.now file) file _ c.args.self.now.cap.bytes c.args.at _ _ _ _ refl tells (c.in_ok-names.ensures.told file of) decoded.d_un (c.read_name.ensures.read file held)
+
+pub read_name-requires : goal.read_name-requires
+read_name-requires g c = c.in_ok-names.ensures.within c.args.self.now.src.now.seen.size c.requires
