@@ -1,16 +1,16 @@
 -- What the tables of a loaded file ask for, by the section headers in the store.
-use Rattle.std.proofs.Common.{◌≡◌, ℕ, ◌+◌, ◌*◌, ◌/◌, ◌<◌, ◌≤◌, ◌==◌, ◌&&◌, ◌||◌, not, nat_lt, if◌then◌else◌, Bool, true, false, List, [], ◌∷◌, ◌++◌, length, drop, Option, None, Some, Result, Ok, refl, sym, ap, ◌∙◌, arith}
+use Rattle.std.proofs.Common.{◌≡◌, ℕ, ◌+◌, ◌*◌, ◌/◌, ◌%◌, ◌<◌, ◌≤◌, ◌==◌, ◌&&◌, ◌||◌, not, nat_lt, if◌then◌else◌, Bool, true, false, List, [], ◌∷◌, ◌++◌, length, drop, Option, None, Some, Result, Ok, refl, sym, ap, ◌∙◌, arith}
 use Rattle.std.proofs.lemmas.Bool.{eqb-true, ltb-false}
 use Rattle.std.specs.Prelude.{is_none}
-use Rattle.elf_model.specs.Checks.{Check, first_refusal, pass, refuse, is_outside, length_checks, header_checks, early_checks, section_name_checks, is_symbol_table, table_checks_of}
+use Rattle.elf_model.specs.Checks.{Check, first_refusal, pass, refuse, is_outside, length_checks, header_checks, early_checks, section_name_checks, is_symbol_table, table_checks_of, whole_checks_of}
 use Rattle.elf_model.specs.Cost.{sum_over, cost_where, table_cost, kinds_cost, is_loadable, sections_cost, segments_cost, tables_cost, behind_header, cost, ceiling}
 use Rattle.elf_model.specs.Listing.{has, has_tables, SECTIONS, SEGMENTS, NOTES, DYNAMIC}
 use Rattle.elf_model.specs.CostLaws.{kind_by_kind}
 use Rattle.elf_model.specs.Names.{name_bytes}
 use Rattle.elf_model.specs.TableKinds.{symbols, relocations, section_notes, section_dynamic, segment_notes, segment_dynamic, section_kinds, segment_kinds}
-use Rattle.elf_model.specs.Numbers.{SHT_RELA, SHT_DYNAMIC, SHT_NOTE, PT_NOTE, PN_XNUM, SHN_XINDEX}
+use Rattle.elf_model.specs.Numbers.{SHT_RELA, SHT_DYNAMIC, SHT_NOTE, PT_NOTE, PT_DYNAMIC, PN_XNUM, SHN_XINDEX}
 use Rattle.elf_model.specs.Records.{e_shnum, e_phnum, e_shstrndx, sh_type, sh_offset, sh_size, p_type, p_offset, p_filesz, section_at, segment_at}
-use Rattle.elf_model.specs.declared.causes.Cause.TheVariants.{ExtendedNumbering, TableOutside, TooManyHeaders}
+use Rattle.elf_model.specs.declared.causes.Cause.TheVariants.{ExtendedNumbering, SizeNotWhole, TableOutside, TooManyHeaders}
 use Rattle.elf_model.specs.declared.causes.Refusal.{Refusal}
 use Rattle.elf_model.proofs.CheckSteps.{first_refusal-none, first_refusal-some}
 use Rattle.elf_model.proofs.CostLemmas.{cost_where-le, sum_over-le, tables_by, headers_none}
@@ -22,6 +22,7 @@ use Rattle.elf_table.specs.Load.{Opened, Belongs, IsOpened, early_of, header_cos
 use Rattle.elf_table.specs.Sections.{answered, bytes_of, rows, table_of, checked}
 use Rattle.elf_table.specs.Store.{Stored, HoldsSegments, row, segment_row}
 use Rattle.elf_table.specs.Tables.{Rows}
+use Rattle.elf_table.specs.Views.{dynamic_of}
 use Rattle.elf_table.specs.declared.fault.Fault.{Fault}
 use Rattle.elf_listing.specs.Parts.{asked_cost, segments_listed, tables_listed}
 use Rattle.elf_listing.specs.Viewed.{needs_view, viewed, view_cost}
@@ -90,6 +91,32 @@ pub segment_notes_within : (bytes : List ℕ) (size place most : ℕ) (table : R
 unfolding table_cost segment_notes
 segment_notes_within bytes size place most table kind h =
     let within = range_by_cases (p_filesz bytes 0 == 0) (is_outside size (p_offset bytes 0) (p_filesz bytes 0)) (p_filesz bytes 0) place (p_offset bytes 0) table (sym h) in rw kind within
+
+-- the dynamic entries of a segment that were answered count, and the place that a refusal would name decides nothing
+whole_by_cases : (broken outside : Bool) (place : ℕ) → first_refusal (refuse broken place SizeNotWhole ∷ refuse outside place TableOutside ∷ []) ≡ None
+    → pass (refuse broken 0 SizeNotWhole ∷ refuse outside 0 TableOutside ∷ []) ≡ true
+whole_by_cases true outside place h = cc
+whole_by_cases false true place h = cc
+whole_by_cases false false place h = refl
+
+segment_by_cases : (empty counts : Bool) (checks : List Check) (at size each_entry : ℕ) (table : Rows) → empty ≡ (size == 0) → (first_refusal checks ≡ None → counts ≡ true)
+    → checked (if empty then [] else checks) (rows at (size / 16) 16) ≡ Ok table → table.count * each_entry ≤ cost_where counts (size / 16 * each_entry)
+segment_by_cases true counts checks at size each_entry table e h k =
+    let zero : size ≡ 0 = eqb-true size 0 (sym e) in
+    let t : rows at (size / 16) 16 ≡ table = cc in
+    let none : table.count ≡ 0 = ap (λ (r : Rows). r.count) (sym t) ∙ ap (λ n. n / 16) zero in
+    rw none (omega arith)
+segment_by_cases false counts checks at size each_entry table e h k = rows_within counts (first_refusal checks) at (size / 16) 16 each_entry table h k
+
+pub segment_dynamic_within : (bytes : List ℕ) (size place most : ℕ) (table : Rows) → p_type bytes 0 ≡ PT_DYNAMIC → Ok table ≡ dynamic_of bytes 0 size place
+    → table.count * (32 + name_bytes most) ≤ table_cost segment_dynamic bytes 0 size most
+unfolding table_cost segment_dynamic
+segment_dynamic_within bytes size place most table kind h =
+    let broken = not (p_filesz bytes 0 % 16 == 0) in
+    let outside = is_outside size (p_offset bytes 0) (p_filesz bytes 0) in
+    let within = segment_by_cases (p_filesz bytes 0 == 0) (pass (whole_checks_of size (p_offset bytes 0) (p_filesz bytes 0) 0 16)) (whole_checks_of size (p_offset bytes 0) (p_filesz bytes 0) place 16)
+    (p_offset bytes 0) (p_filesz bytes 0) (32 + name_bytes most) table refl (whole_by_cases broken outside place) (sym h) in
+    rw kind within
 
 -- the tables of all sections are among those of all kinds
 sections_among : (loaded : Opened) (store : Stored) (most parts : ℕ)

@@ -6,19 +6,24 @@ use Rattle.elf_model.specs.Checks.{Check, first_refusal, is_symbol_table, table_
 use Rattle.elf_model.specs.LineFronts.{section_front}
 use Rattle.elf_model.specs.Listing.{Item, Fault, each, guarded}
 use Rattle.elf_model.specs.Names.{shown}
-use Rattle.elf_model.specs.Numbers.{SHT_RELA, SHT_NOTE, SHT_DYNAMIC, PT_NOTE}
+use Rattle.elf_model.specs.Numbers.{SHT_RELA, SHT_NOTE, SHT_DYNAMIC, PT_NOTE, PT_DYNAMIC, DT_STRTAB, DT_STRSZ}
 use Rattle.elf_model.specs.Notes.{note_align, walked}
 use Rattle.elf_model.specs.Records.{e_shnum, e_shstrndx, sh_name, sh_type, sh_offset, sh_size, sh_link, sh_addralign, p_type, p_offset, p_filesz, p_align, section_at, segment_at}
 use Rattle.elf_model.specs.Report.{table_rows}
-use Rattle.elf_model.specs.TableKinds.{symbols, relocations, section_notes, segment_notes, section_dynamic}
+use Rattle.elf_model.specs.TableKinds.{symbols, relocations, section_notes, segment_notes, section_dynamic, segment_dynamic}
 use Rattle.elf_model.specs.Rows.{section_row, section_name, symbol_row, relocation_row, walk_rows, dynamic_row, named_row, no_name}
-use Rattle.elf_model.specs.Dynamic.{dynamic_at, dynamic_count}
+use Rattle.elf_model.specs.Dynamic.{dynamic_at, dynamic_count, listed_value}
 use Rattle.elf_model.proofs.CheckSteps.{first_refusal-none, first_refusal-some}
 use Rattle.elf_model.proofs.ListingLemmas.{guarded-passes, guarded-fault}
+use Rattle.elf_model.specs.Mapped.{mapped_strings, strings_at as strings_mapped}
+use Rattle.elf_model.specs.Segments.{segment_dynamic_checks}
 use Rattle.elf_model.specs.Tables.{section_bytes, strings_of, entry_count, symbol_table_checks, relocation_table_checks, dynamic_table_checks}
 use Rattle.elf_model.specs.declared.causes.Refusal.{Refusal}
+use Rattle.elf_note.specs.DynCursors.{AreStrings}
+use Rattle.elf_note.specs.declared.string_values.DynStrings.{DynStrings}
 use Rattle.elf_table.specs.Tables.{Rows, Strings}
 use Rattle.elf_table.specs.Sections.{answered, bytes_of, table_at, strings_at as strings_linked, names_at, rows, strings, section_names, symbols_at, symbols_linked, linked_checks, relocations_at, checked as checked_as}
+use Rattle.elf_table.specs.Views.{dynamic_at as table_of_segment}
 use Rattle.elf_table.specs.declared.fault.Fault.{Fault as TableFault}
 use Rattle.elf_table.specs.declared.fault.Fault.TheVariants.{Refused}
 use Rattle.elf_listing.specs.Parts.{shown_in}
@@ -328,3 +333,42 @@ section_dynamic_pass file most section table names kind some h k =
     section_dynamic_are file most section kind ∙ (guarded-passes (dynamic_table_checks file at) _ pass
     ∙ (ap (λ (t : Rows). entries_at file most t.at t.count (λ entry. Ok (strings_of file at))) is
     ∙ ap (λ (n : Strings). entries_at file most table.at table.count (λ entry. Ok (slice file n.at n.size))) linked))
+
+-- a segment of another type has no dynamic entries
+pub no_segment_dynamic : (file : List ℕ) (most segment : ℕ) → (p_type file (segment_at file segment) ≡ PT_DYNAMIC → ⊥) → table_rows segment_dynamic file most segment (segment_at file segment) ≡ []
+unfolding table_rows segment_dynamic
+no_segment_dynamic file most segment h = rw (other_number (p_type file (segment_at file segment)) PT_DYNAMIC h, table_rows) refl
+
+-- one of that type has them behind its checks
+segment_dynamic_are : (file : List ℕ) (most segment : ℕ) → p_type file (segment_at file segment) ≡ PT_DYNAMIC
+    → table_rows segment_dynamic file most segment (segment_at file segment)
+    ≡ guarded (segment_dynamic_checks file (segment_at file segment))
+    (entries_at file most (p_offset file (segment_at file segment)) (p_filesz file (segment_at file segment) / 16)
+    (mapped_strings file (p_offset file (segment_at file segment)) (dynamic_count file (p_offset file (segment_at file segment)) (p_filesz file (segment_at file segment) / 16))))
+unfolding table_rows segment_dynamic
+segment_dynamic_are file most segment h = rw (h, table_rows) refl
+
+pub segment_dynamic_fault : (file : List ℕ) (most segment : ℕ) (refusal : Refusal) → p_type file (segment_at file segment) ≡ PT_DYNAMIC
+    → table_of_segment file (segment_at file segment) ≡ Err (Refused refusal) → table_rows segment_dynamic file most segment (segment_at file segment) ≡ Fault refusal ∷ []
+segment_dynamic_fault file most segment refusal kind h =
+    let at : ℕ = segment_at file segment in
+    segment_dynamic_are file most segment kind ∙ guarded-fault (segment_dynamic_checks file at) _ refusal
+    (refused_first (first_refusal (segment_dynamic_checks file at)) (rows (p_offset file at) (p_filesz file at / 16) 16) refusal h)
+
+-- their strings are where the entries tell
+strings_found : (file : List ℕ) (table : Rows) (found : DynStrings) → AreStrings file table found
+    → mapped_strings file table.at (dynamic_count file table.at table.count) ≡ (λ entry. strings_mapped file entry found.address found.size)
+unfolding mapped_strings
+strings_found file table found are =
+    ap (λ (address : Option ℕ). λ (entry : ℕ). strings_mapped file entry address (listed_value file table.at table.count DT_STRSZ)) (sym are.its_address)
+    ∙ ap (λ (size : Option ℕ). λ (entry : ℕ). strings_mapped file entry found.address size) (sym are.its_size)
+
+pub segment_dynamic_pass : (file : List ℕ) (most segment : ℕ) (table : Rows) (found : DynStrings) → p_type file (segment_at file segment) ≡ PT_DYNAMIC
+    → table_of_segment file (segment_at file segment) ≡ Ok table → AreStrings file table found
+    → table_rows segment_dynamic file most segment (segment_at file segment) ≡ entries_at file most table.at table.count (λ entry. strings_mapped file entry found.address found.size)
+segment_dynamic_pass file most segment table found kind h are =
+    let at : ℕ = segment_at file segment in
+    let p = passed_first (first_refusal (segment_dynamic_checks file at)) (rows (p_offset file at) (p_filesz file at / 16) 16) table h in
+    segment_dynamic_are file most segment kind ∙ (guarded-passes (segment_dynamic_checks file at) _ p.0
+    ∙ (ap (λ (t : Rows). entries_at file most t.at t.count (mapped_strings file t.at (dynamic_count file t.at t.count))) p.1
+    ∙ ap (entries_at file most table.at table.count) (strings_found file table found are)))

@@ -4,7 +4,7 @@ use Rattle.elf_source.specs.Source.{Counting, Reads}
 use Rattle.elf_source.specs.Output.{Written}
 use Rattle.elf_source.proofs.PutsLaws.{Takes-nothing, Takes-then, TakesFront-then, TakesFront-more}
 use Rattle.elf_source.proofs.ReadsLaws.{Reads-to, Reads-then, Faults-then, OverLimit-then, OverLimit-more}
-use Rattle.elf_names.proofs.SpendsLaws.{Spends-to}
+use Rattle.elf_names.proofs.SpendsLaws.{Spends-reads, Spends-then, Spends-to}
 use Rattle.elf_table.specs.Faults.{IsAt, Says}
 use Rattle.elf_model.specs.declared.causes.Refusal.{Refusal}
 use Rattle.elf_table.specs.declared.fault.Fault.{Fault}
@@ -109,6 +109,16 @@ StopSays-more a b out (Out fault) n k within q = q
 pub Spent-within : {X : Type 0} (a b : Counting) (out : Written) (x y : ℕ) (result : Result X Stop) (n k : ℕ) → n ≤ k → Spent a b out x y result n → Spent a b out x y result k
 Spent-within a b out x y (Ok v) n k within p = (Spends-to p.0 (omega (arith, p.0.account)), tt)
 Spent-within a b out x y (Err stop) n k within p = (Spends-to p.0 (omega (arith, p.0.account)), StopSays-more a b out stop (x + n) (x + k) (omega arith) p.1)
+
+-- a call behind reads, in a bound on all
+pub Spent-behind : {X : Type 0} (a b c : Counting) (out : Written) (x y : ℕ) (result : Result X Stop) (n m k : ℕ) → n + m ≤ k → Reads a b n → Spent b c out x y result m → Spent a c out x y result k
+Spent-behind a b c out x y (Ok v) n m k within p q = (Spends-to (Spends-then (Spends-reads x p) q.0) (omega (arith, p.at_most, q.0.account)), tt)
+Spent-behind a b c out x y (Err stop) n m k within p q =
+    (Spends-to (Spends-then (Spends-reads x p) q.0) (omega (arith, p.at_most, q.0.account)), StopSays-then a b c out stop n (x + m) (x + k) (omega (arith, p.at_most)) p q.1)
+
+-- a read that failed and took nothing of the credit, in a looser bound
+pub Spent-fault : (a b : Counting) (out : Written) (x : ℕ) (fault : Fault) (n k : ℕ) → n ≤ k → Reads a b n → Says a b n fault → Spent {X = Unit {0}} a b out x x (Err (stop_of fault)) k
+Spent-fault a b out x fault n k within p q = (Spends-reads x (Reads-to p (omega (arith, p.at_most))), StopSays-fault a b out fault n (x + k) (omega arith) q)
 
 -- the output failed after reads
 pub Costs-out : (a b : Counting) (out : Written) (stop : Stop) (n k : ℕ) → n ≤ k → Reads a b n → IsOfOutput out stop → Costs {X = Unit {0}} a b out (Err stop) k
