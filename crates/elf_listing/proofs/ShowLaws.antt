@@ -99,6 +99,11 @@ Costs-then a b c out (Err stop) n m k within p q = (Reads-to (Reads-then p q.0) 
 pub Costs-fault : (a b : Counting) (out : Written) (fault : Fault) (n k : ℕ) → n ≤ k → Reads a b n → Says a b n fault → Costs {X = Unit {0}} a b out (Err (stop_of fault)) k
 Costs-fault a b out fault n k within p q = (Reads-to p (omega (arith, p.at_most)), StopSays-fault a b out fault n k within q)
 
+-- a read that failed behind others
+pub Costs-later : (a b c : Counting) (out : Written) (fault : Fault) (n m k : ℕ) → b.asked + m ≤ a.asked + k → Reads a b n → Reads b c m → Says b c m fault
+    → Costs {X = Unit {0}} a c out (Err (stop_of fault)) k
+Costs-later a b c out fault n m k within p q r = Costs-then {X = Unit {0}} a b c out (Err (stop_of fault)) n m k within p (Costs-fault b c out fault m m (omega arith) q r)
+
 -- a stop, in a looser bound
 pub StopSays-more : (a b : Counting) (out : Written) (stop : Stop) (n k : ℕ) → n ≤ k → StopSays a b out n stop → StopSays a b out k stop
 StopSays-more a b out (Refused refusal) n k within q = λ is. let over = q is in (over.0, OverLimit-more within over.1, over.2)

@@ -5,10 +5,11 @@ use Rattle.elf_model.specs.Listing.{has_tables}
 use Rattle.elf_model.proofs.ListingLemmas.{load_none}
 use Rattle.elf_record.specs.declared.ehdr.Ehdr.{Ehdr}
 use Rattle.elf_source.proofs.ReadsLaws.{Reads-then}
+use Rattle.elf_listing.specs.Viewed.{view_cost}
 use Rattle.elf_listing.proofs.FileShown.{load_alone, load_passed}
 use Rattle.elf_listing.proofs.RowLaws.{Stopped-first, Stopped-unread-first, Writes-as}
 use Rattle.elf_listing.proofs.SectionCosts.{load_below, load_within, load_most, loaded_within, loaded_below, view_within, view_below, few_headers, viewed_all}
-use Rattle.elf_listing.proofs.ShowLaws.{Whole-none, Costs-then, Costs-fault}
+use Rattle.elf_listing.proofs.ShowLaws.{Whole-none, Costs-then, Costs-fault, Costs-later}
 use Rattle.elf_listing.proofs.showing.list_loaded.Goals as goal
 
 pub returns-then-not-intersects-clause-text : goal.returns-then-not-intersects-clause-text
@@ -39,7 +40,8 @@ returns-in_err-loaded-clause-text g c = λ file held.
 pub load_view-requires-clause-within : goal.load_view-requires-clause-within
 load_view-requires-clause-within g c =
     let opens = c.in_ok-loaded.ensures.opens in
-    rw (opens.same_header, c.load.ensures.reads.keeps.same_size) opens.passes.segments
+    let within = opens.passes.segments in
+    rw (opens.same_header, c.load.ensures.reads.keeps.same_size) (λ some. let inside = within some in omega (arith, inside))
 
 pub load_view-requires-clause-room : goal.load_view-requires-clause-room
 load_view-requires-clause-room g c = let opens = c.in_ok-loaded.ensures.opens in rw opens.same_header opens.passes.few_segments
@@ -53,8 +55,8 @@ returns-in_err-load_view-clause-below g c =
     let below = view_below c.in_ok-loaded.loaded size c.args.store.now.slots c.args.cap.bytes c.args.parts.0 few.0 few.1 in
     let most = load_most c.args.header.now size c.args.store.now.slots in
     let same = ap (λ (header : Ehdr). header.e_shnum) opens.same_header in
-    rw (p.1, p.2) (Costs-then _ _ _ _ _ _ _ _ (omega (arith, below, most, same, c.load.ensures.reads.at_most)) c.load.ensures.reads
-    (Costs-fault _ _ _ _ _ _ (omega arith) c.load_view.ensures.reads c.in_err-load_view.ensures.says))
+    let asked = view_cost c.args.parts.0 c.in_ok-loaded.loaded in
+    rw (p.1, p.2) (Costs-later _ _ _ c.args.out.now _ _ asked _ (omega (arith, below, most, same, c.load.ensures.reads.at_most)) c.load.ensures.reads c.load_view.ensures.reads c.in_err-load_view.ensures.says)
 
 pub returns-in_err-load_view-clause-cost : goal.returns-in_err-load_view-clause-cost
 returns-in_err-load_view-clause-cost g c = λ file held.
@@ -65,8 +67,8 @@ returns-in_err-load_view-clause-cost g c = λ file held.
     let within = view_within file c.in_ok-loaded.loaded c.load.new.store c.args.store.now.slots c.args.cap.bytes c.args.parts.0 belongs c.load.ensures.slots read.0 tables in
     let most = load_most c.args.header.now c.args.src.now.seen.size c.args.store.now.slots in
     let same = ap (λ (header : Ehdr). header.e_shnum) c.in_ok-loaded.ensures.opens.same_header in
-    rw (p.1, p.2) (Costs-then _ _ _ _ _ _ _ _ (omega (arith, within, most, same, c.load.ensures.reads.at_most)) c.load.ensures.reads
-    (Costs-fault _ _ _ _ _ _ (omega arith) c.load_view.ensures.reads c.in_err-load_view.ensures.says))
+    let asked = view_cost c.args.parts.0 c.in_ok-loaded.loaded in
+    rw (p.1, p.2) (Costs-later _ _ _ c.args.out.now _ _ asked _ (omega (arith, within, most, same, c.load.ensures.reads.at_most)) c.load.ensures.reads c.load_view.ensures.reads c.in_err-load_view.ensures.says)
 
 pub returns-in_err-load_view-clause-text : goal.returns-in_err-load_view-clause-text
 returns-in_err-load_view-clause-text g c = λ file held.
