@@ -1,12 +1,11 @@
 -- What a listing asks for within its budget.
-use Rattle.std.proofs.Common.{◌≡◌, ℕ, ◌+◌, ◌^◌, ◌<◌, ◌≤◌, false, Option, None, Some, Result, Ok, option_map, refl, sym, ap, ◌∙◌, arith, min}
+use Rattle.std.proofs.Common.{◌≡◌, ℕ, ◌+◌, ◌^◌, ◌<◌, ◌≤◌, false, Option, None, Some, Result, Ok, refl, sym, ap, ◌∙◌, arith}
 use Rattle.std.specs.Prelude.{IfSome}
-use Rattle.elf_model.specs.Budget.{IsBudget}
 use Rattle.elf_model.specs.Checks.{first_refusal, length_checks}
 use Rattle.elf_model.specs.Cost.{ceiling}
 use Rattle.elf_model.specs.Listing.{has_tables}
 use Rattle.elf_model.specs.declared.causes.Refusal.{Refusal}
-use Rattle.elf_source.specs.Source.{Seen, Counting, Reads, Limits, IsWithin, OverLimit, counted}
+use Rattle.elf_source.specs.Source.{Seen, Counting, Reads, Limits, OverLimit, counted}
 use Rattle.elf_table.specs.Faults.{RefusalSays}
 use Rattle.elf_table.specs.declared.caps.Caps.{Caps}
 use Rattle.elf_listing.specs.Reports.{AsksWithin}

@@ -1,5 +1,5 @@
 -- The notes of a table, by what is left of them.
-use Rattle.std.proofs.Common.{◌≡◌, ℕ, ◌+◌, zero, suc, List, [], ◌∷◌, ◌++◌, ◌⊎◌, inl, inr, length, drop, Result, Ok, Err, refl, sym, ap, ◌∙◌, arith, append_assoc, append-nil, zero-add}
+use Rattle.std.proofs.Common.{◌≡◌, ℕ, ◌+◌, zero, suc, List, [], ◌∷◌, ◌++◌, inl, inr, length, drop, refl, sym, ap, ◌∙◌, arith, append_assoc, append-nil, zero-add}
 use Rattle.elf_model.specs.Bytes.{slice}
 use Rattle.elf_model.specs.LineFronts.{note_front}
 use Rattle.elf_model.specs.Lines.{note_line}
@@ -8,11 +8,10 @@ use Rattle.elf_model.specs.Names.{Shown}
 use Rattle.elf_model.specs.Notes.{Note, Walk, Next, Ends as EndsHere, Broken, OneNote, next_note, walk_from, walked, with_note, note_shown}
 use Rattle.elf_model.specs.Rows.{note_row, notes_rows, walk_rows}
 use Rattle.elf_model.specs.declared.causes.Cause.TheVariants.{NoteCut}
-use Rattle.elf_model.specs.declared.causes.Refusal.{Refusal}
 use Rattle.elf_model.proofs.NoteLaws.{walked-is}
 use Rattle.elf_record.specs.declared.note_head.NoteHead.{NoteHead}
 use Rattle.elf_lines.specs.Pieces.{shown_as}
-use Rattle.elf_note.specs.NoteCursors.{Reading, IsFound, NameIs, Shows as Lends, Stops, GivesNote, notes_from, notes_left, no_notes, cut_at, note_cut}
+use Rattle.elf_note.specs.NoteCursors.{Reading, IsFound, NameIs, Shows as Lends, Stops, notes_from, notes_left, no_notes, cut_at, note_cut}
 use Rattle.elf_note.specs.declared.row.NoteRow.{NoteRow}
 use Rattle.elf_source.specs.Output.{Written}
 use Rattle.elf_table.specs.Faults.{IsOfRead}
@@ -25,8 +24,7 @@ use Rattle.elf_listing.specs.Notes.{IsNote, WrittenBefore, rows_of}
 use Rattle.elf_listing.specs.Shows.{Whole, Front, Stopped, cut_of}
 use Rattle.elf_listing.specs.Stops.{stop_of}
 use Rattle.elf_listing.specs.declared.stop.Stop.{Stop}
-use Rattle.elf_listing.proofs.RowLaws.{Writes-as}
-use Rattle.elf_listing.proofs.ShowLaws.{Whole-none, Whole-then, Stopped-then, Stopped-more, Front-all}
+use Rattle.elf_listing.proofs.ShowLaws.{Whole-none, Whole-then, Stopped-then, Stopped-more}
 
 -- what is left where no note is, and where no note stands
 none_left : (cap index : ℕ) → rows_of cap index no_notes ≡ []

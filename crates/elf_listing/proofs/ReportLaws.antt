@@ -1,6 +1,6 @@
 -- The report of a listing, and of one that a budget cuts short.
-use Rattle.std.proofs.Common.{◌≡◌, ℕ, ◌+◌, ◌^◌, ◌<◌, ◌≤◌, List, [], ◌∷◌, ◌++◌, length, None, Some, Result, Ok, Err, Option, option_map, refl, sym, ap, ◌∙◌, inl, inr, ◌⊎◌, append-nil, arith, min}
-use Rattle.elf_model.specs.Budget.{IsBudget, IsBudgeted, IsReport, IsCut}
+use Rattle.std.proofs.Common.{◌≡◌, ℕ, ◌+◌, ◌^◌, ◌<◌, ◌≤◌, List, ◌∷◌, ◌++◌, length, None, Some, Ok, Err, Option, option_map, refl, sym, ap, ◌∙◌, inl, inr, ◌⊎◌, append-nil, arith}
+use Rattle.elf_model.specs.Budget.{IsBudget, IsBudgeted, IsReport}
 use Rattle.elf_model.specs.Cost.{cost}
 use Rattle.elf_model.specs.Lines.{refusal_line}
 use Rattle.elf_model.specs.Listing.{Item, Fault as FaultItem, lines_of, fault_of, report_of, end_text}
@@ -18,7 +18,6 @@ use Rattle.elf_listing.specs.Reports.{Reports}
 use Rattle.elf_listing.specs.Shows.{Whole, Front, IsNext, Ends}
 use Rattle.elf_listing.specs.declared.end.End.TheVariants.{Listed, Refused}
 use Rattle.elf_listing.specs.declared.end.RunFault.{RunFault}
-use Rattle.elf_listing.specs.declared.end.RunFault.TheVariants.{Source, Out}
 use Rattle.elf_listing.proofs.EachLaws.{lines_front}
 
 -- whether a refusal is for want of budget

@@ -1,5 +1,5 @@
 -- The items of one row, by the line that was put.
-use Rattle.std.proofs.Common.{◌≡◌, ℕ, ◌+◌, ◌*◌, Bool, List, [], ◌∷◌, Result, Ok, Err, refl, sym, ap, ◌∙◌, subst, arith, append-nil}
+use Rattle.std.proofs.Common.{◌≡◌, ℕ, ◌+◌, ◌*◌, List, [], ◌∷◌, Result, Ok, Err, refl, sym, ap, ◌∙◌, subst, arith, append-nil}
 use Rattle.elf_model.specs.Budget.{IsBudget}
 use Rattle.elf_model.specs.Records.{e_phoff, segment_at, section_at, sh_offset, st_name, e_machine, r_sym}
 use Rattle.elf_model.specs.Names.{Shown, shown}
@@ -22,7 +22,6 @@ use Rattle.elf_table.specs.declared.names.NameEnd.TheVariants.{Whole as NameWhol
 use Rattle.elf_listing.specs.Shows.{Whole, Front, Ends, Stopped, Writes, cut_of}
 use Rattle.elf_listing.specs.Stops.{stop_of}
 use Rattle.elf_listing.specs.declared.stop.Stop.{Stop}
-use Rattle.elf_listing.specs.declared.stop.Stop.TheVariants.{Out}
 
 -- the same items
 pub Writes-as : {X : Type 0} (a b : Written) (result : Result X Stop) {xs ys : List Item} → xs ≡ ys → Writes a b result ys → Writes a b result xs

@@ -6,7 +6,7 @@ use Rattle.elf_model.specs.Checks.{Check, first_refusal, is_symbol_table, table_
 use Rattle.elf_model.specs.LineFronts.{section_front}
 use Rattle.elf_model.specs.Listing.{Item, Fault, each, guarded}
 use Rattle.elf_model.specs.Names.{shown}
-use Rattle.elf_model.specs.Numbers.{SHT_RELA, SHT_NOTE, SHT_DYNAMIC, PT_NOTE, PT_DYNAMIC, DT_STRTAB, DT_STRSZ}
+use Rattle.elf_model.specs.Numbers.{SHT_RELA, SHT_NOTE, SHT_DYNAMIC, PT_NOTE, PT_DYNAMIC, DT_STRSZ}
 use Rattle.elf_model.specs.Notes.{note_align, walked}
 use Rattle.elf_model.specs.Records.{e_shnum, e_shstrndx, sh_name, sh_type, sh_offset, sh_size, sh_link, sh_addralign, p_type, p_offset, p_filesz, p_align, section_at, segment_at}
 use Rattle.elf_model.specs.Report.{table_rows}

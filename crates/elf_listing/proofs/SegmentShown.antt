@@ -1,8 +1,7 @@
 -- The items of one program header, by what the store and the checks of a viewed file answer.
-use Rattle.std.proofs.Common.{◌≡◌, ℕ, ◌+◌, ◌*◌, ◌/◌, ◌<◌, ◌≤◌, ◌==◌, Bool, true, false, if◌then◌else◌, List, [], ◌∷◌, ◌++◌, length, Option, None, Some, Result, Ok, Err, refl, sym, ap, ◌∙◌, arith}
-use Rattle.std.proofs.lemmas.Bool.{eqb-true}
+use Rattle.std.proofs.Common.{◌≡◌, ℕ, ◌<◌, List, [], ◌∷◌, Option, Some, sym, ap}
 use Rattle.elf_model.specs.Lines.{segment_line}
-use Rattle.elf_model.specs.Listing.{Item, Line}
+use Rattle.elf_model.specs.Listing.{Line}
 use Rattle.elf_model.specs.Records.{segment_at}
 use Rattle.elf_model.specs.Rows.{segment_row}
 use Rattle.elf_table.specs.Load.{Opened, Belongs}

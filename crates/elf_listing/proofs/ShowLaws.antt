@@ -1,5 +1,5 @@
 -- What one part written after another comes to.
-use Rattle.std.proofs.Common.{◌≡◌, ℕ, ◌+◌, ◌≤◌, List, [], ◌++◌, Result, Ok, Err, refl, sym, ap, ◌∙◌, arith, append_assoc}
+use Rattle.std.proofs.Common.{ℕ, ◌+◌, ◌≤◌, List, [], ◌++◌, Result, Ok, Err, refl, sym, ap, ◌∙◌, arith, append_assoc}
 use Rattle.elf_source.specs.Source.{Counting, Reads}
 use Rattle.elf_source.specs.Output.{Written}
 use Rattle.elf_source.proofs.PutsLaws.{Takes-nothing, Takes-then, TakesFront-then, TakesFront-more}
@@ -9,7 +9,7 @@ use Rattle.elf_table.specs.Faults.{IsAt, Says}
 use Rattle.elf_model.specs.declared.causes.Refusal.{Refusal}
 use Rattle.elf_table.specs.declared.fault.Fault.{Fault}
 use Rattle.elf_table.specs.declared.fault.Fault.TheVariants.{Refused as Refuses, Source as Unread}
-use Rattle.elf_model.specs.Listing.{Item, lines_of, fault_of}
+use Rattle.elf_model.specs.Listing.{Item, lines_of}
 use Rattle.elf_listing.specs.Stops.{stop_of}
 use Rattle.elf_listing.specs.Shows.{Whole, Front, Stopped, Writes, StopSays, IsOfOutput, Costs, Spent}
 use Rattle.elf_listing.specs.declared.stop.Stop.{Stop}

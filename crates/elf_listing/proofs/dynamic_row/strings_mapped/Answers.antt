@@ -1,5 +1,4 @@
 -- The string table by the cases of the definition.
-use Rattle.std.proofs.Common.{sym, refl}
 use Rattle.elf_listing.proofs.StringsTold.{found_mapped, no_address, no_size}
 use Rattle.elf_listing.proofs.dynamic_row.strings_mapped.Goals as goal
 

@@ -1,5 +1,5 @@
 -- What was shown so far are the headers before the index.
-use Rattle.std.proofs.Common.{◌≡◌, ℕ, ◌+◌, ◌-◌, ◌≤◌, List, Some}
+use Rattle.std.proofs.Common.{◌≡◌, ℕ, ◌-◌, ◌≤◌, List, Some}
 use Rattle.elf_model.specs.Cost.{sum_over}
 use Rattle.elf_model.specs.Listing.{each}
 use Rattle.elf_names.specs.Ahead.{Spends}

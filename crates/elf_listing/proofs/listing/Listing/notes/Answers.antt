@@ -1,16 +1,14 @@
 -- Each note that the cursor gives is the file's, and is shown behind those before it.
-use Rattle.std.proofs.Common.{◌≡◌, ℕ, ◌+◌, ◌≤◌, List, refl, ap, sym, ◌∙◌, arith}
+use Rattle.std.proofs.Common.{refl, ap, sym, ◌∙◌, arith}
 use Rattle.std.proofs.lemmas.Result.{err_from_is_err_and}
 use Rattle.elf_model.specs.Bytes.{slice}
 use Rattle.elf_model.specs.Notes.{note_align}
-use Rattle.elf_source.proofs.ReadsLaws.{Reads-then}
 use Rattle.elf_names.proofs.HeldLaws.{still_held}
 use Rattle.elf_names.proofs.SpendsLaws.{Spends-none, Spends-reads, Spends-then, Spends-to}
 use Rattle.elf_table.proofs.SaysLaws.{still_open}
 use Rattle.elf_listing.proofs.ViewedLaws.{still_viewed}
 use Rattle.elf_listing.specs.Notes.{rows_of}
 use Rattle.elf_listing.proofs.NotesShown.{all_left, before_all, before_more, before_stopped, before_fault, before_none, note_left, note_of, table_rows}
-use Rattle.elf_listing.proofs.ShowLaws.{StopSays-then}
 use Rattle.elf_listing.proofs.listing.Listing.notes.Goals as goal
 
 pub notes-init : goal.notes-init

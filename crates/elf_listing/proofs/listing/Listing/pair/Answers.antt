@@ -1,5 +1,5 @@
 -- Two parts one behind the other.
-use Rattle.std.proofs.Common.{rules, ◌∙◌}
+use Rattle.std.proofs.Common.{rules}
 use Rattle.std.proofs.lemmas.Result.{err_from_is_err_and}
 use Rattle.elf_listing.proofs.ShowLaws.{Writes-then, Stopped-more}
 use Rattle.elf_listing.proofs.listing.Listing.pair.Goals as goal

@@ -1,14 +1,13 @@
 -- Each row that the cursor gives is the file's, and is shown behind those before it.
-use Rattle.std.proofs.Common.{◌≡◌, ◌+◌, ◌*◌, ◌<◌, refl, ap, sym, ◌∙◌, arith}
+use Rattle.std.proofs.Common.{◌≡◌, ◌+◌, ◌<◌, refl, ◌∙◌, arith}
 use Rattle.std.proofs.lemmas.Result.{err_from_is_err_and}
 use Rattle.elf_source.proofs.ReadsLaws.{Reads-then}
 use Rattle.elf_names.proofs.HeldLaws.{still_held}
 use Rattle.elf_names.proofs.SpendsLaws.{Spends-none, Spends-reads, Spends-then, Spends-to}
 use Rattle.elf_table.proofs.SaysLaws.{still_open}
 use Rattle.elf_listing.proofs.ViewedLaws.{still_viewed}
-use Rattle.elf_table.specs.Tables.{Rows}
-use Rattle.elf_listing.specs.Kinds.{row_size, own_cost, row_items, rows_cost}
-use Rattle.elf_listing.specs.RowCursors.{reading, rows_left, rows_listed}
+use Rattle.elf_listing.specs.Kinds.{own_cost, row_items}
+use Rattle.elf_listing.specs.RowCursors.{reading, rows_listed}
 use Rattle.elf_listing.proofs.LoopLaws.{rows_none, rows_more, rows_unread, rows_stopped, account_begins, account_step, account_row, agrees_none, given_index, given_row}
 use Rattle.elf_listing.proofs.ShowLaws.{StopSays-then}
 use Rattle.elf_listing.proofs.listing.Listing.rows.Goals as goal

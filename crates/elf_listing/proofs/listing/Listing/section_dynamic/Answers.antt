@@ -1,5 +1,5 @@
 -- The table's checks and its string table's stand before its entries.
-use Rattle.std.proofs.Common.{◌≡◌, ℕ, ◌==◌, false, Err, Ok, sym, ap, ◌∙◌}
+use Rattle.std.proofs.Common.{◌≡◌, ◌==◌, false, Err, sym, ap, ◌∙◌}
 use Rattle.std.proofs.lemmas.Result.{err_from_is_err_and}
 use Rattle.elf_model.specs.Records.{section_at, sh_size}
 use Rattle.elf_table.specs.Store.{row}

@@ -1,8 +1,7 @@
 -- The check of the section's range stands before its notes.
-use Rattle.std.proofs.Common.{◌≡◌, ℕ, Err, Ok, sym, ap, ◌∙◌, arith}
+use Rattle.std.proofs.Common.{◌≡◌, Err, sym, ap, ◌∙◌, arith}
 use Rattle.std.proofs.lemmas.Result.{err_from_is_err_and}
-use Rattle.elf_model.specs.Records.{section_at, sh_type, sh_offset, sh_size, sh_addralign}
-use Rattle.elf_table.specs.Sections.{bytes_of}
+use Rattle.elf_model.specs.Records.{section_at}
 use Rattle.elf_table.specs.Store.{row}
 use Rattle.elf_listing.proofs.RowLaws.{Writes-as, Stopped-first}
 use Rattle.elf_listing.proofs.SectionCosts.{section_notes_within}

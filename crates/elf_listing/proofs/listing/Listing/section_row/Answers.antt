@@ -1,4 +1,4 @@
-use Rattle.std.proofs.Common.{◌≡◌, ◌<◌, arith, refl, ◌∙◌, []}
+use Rattle.std.proofs.Common.{◌≡◌, ◌<◌, arith, refl, []}
 use Rattle.std.proofs.lemmas.Result.{err_from_is_err_and}
 use Rattle.elf_model.specs.Records.{section_at, e_shnum}
 use Rattle.elf_listing.proofs.RowLaws.{Writes-as, Stopped-name}

@@ -1,5 +1,5 @@
 -- The program header in the store is the file's.
-use Rattle.std.proofs.Common.{◌≡◌, ◌+◌, ◌<◌, ◌∙◌, refl, arith}
+use Rattle.std.proofs.Common.{◌∙◌, arith}
 use Rattle.std.proofs.lemmas.Result.{err_from_is_err_and}
 use Rattle.elf_model.specs.Records.{segment_at}
 use Rattle.elf_listing.proofs.RowLaws.{Whole-line, Stopped-line}

@@ -1,5 +1,5 @@
 -- The check of the segment's range stands before its notes.
-use Rattle.std.proofs.Common.{◌≡◌, ℕ, ◌<◌, Err, Ok, sym, ap, ◌∙◌, arith}
+use Rattle.std.proofs.Common.{◌≡◌, Err, sym, ap, ◌∙◌, arith}
 use Rattle.std.proofs.lemmas.Result.{err_from_is_err_and}
 use Rattle.elf_model.specs.Records.{segment_at}
 use Rattle.elf_table.specs.Store.{segment_row}

@@ -1,7 +1,6 @@
 -- The program headers of a file without sections are in the store, and those ask for nothing.
-use Rattle.std.proofs.Common.{rules, ◌≡◌, ◌==◌, ℕ, ◌*◌, ◌≤◌, true, false, List, [], sym, ap, ◌∙◌, arith}
-use Rattle.elf_model.specs.Cost.{sum_over}
-use Rattle.elf_model.specs.Listing.{Item, each, has, where_asked, SEGMENTS}
+use Rattle.std.proofs.Common.{rules, ◌≡◌, ◌==◌, true, false, [], sym, ap, ◌∙◌, arith}
+use Rattle.elf_model.specs.Listing.{each, has, SEGMENTS}
 use Rattle.elf_model.specs.Records.{e_phnum}
 use Rattle.elf_model.specs.Rows.{segment_row}
 use Rattle.elf_listing.specs.Parts.{segments_listed}
