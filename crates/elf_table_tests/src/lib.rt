@@ -3,9 +3,7 @@
 #![tactic(auto)]
 
 #[cfg(test)]
-mod fakes;
-#[cfg(test)]
-mod fixtures;
+mod answers;
 #[cfg(test)]
 mod limits;
 #[cfg(test)]
