@@ -1,4 +1,4 @@
-use Rattle.std.proofs.Common.{◌≡◌, ◌∙◌, ap, refl}
+use Rattle.std.proofs.Common.{◌∙◌, ap, refl}
 use Rattle.elf_model.specs.Fixtures.{with_bytes}
 use Rattle.elf_model.proofs.OnLiterals.{on_literals}
 use Rattle.elf_fixtures.proofs.relocations.overlapping_in_other_order.Goals as goal
