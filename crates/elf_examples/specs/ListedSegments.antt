@@ -15,10 +15,11 @@ needed_lines =
     ++ codes "D     2 STRSZ            000000000000000b \n"
     ++ codes "D     3 NULL             0000000000000000 \n"
 
--- dynamic entries of a segment, with their strings where a segment loads them
+-- dynamic entries of a segment, with their strings where a segment loads them, also one that loads just these
 abbrev pub SegmentEntriesList : Type 0
 SegmentEntriesList =
     (report library_without_sections 2 63 DYNAMIC ≡ needed_lines)
+    × (report (with_bytes 0x60 (little 8 11) (with_bytes 0x48 (little 8 0xf0 ++ little 8 0x4000f0) library_without_sections)) 2 63 DYNAMIC ≡ needed_lines)
     × (report library_without_sections 2 63 ALL
     ≡ codes "H DYN     62 0000000000000000 0000000000000040 0000000000000000 00000000     2     0     0\n"
     ++ codes "P     0 LOAD     R-X 0000000000000000 0000000000400000 0000000000400000 00000000000000fb 00000000000000fb 0000000000001000\n"
@@ -145,6 +146,30 @@ FirstLoadDecides =
     ++ codes "D     1 STRTAB           0000000000400160 \n"
     ++ codes "D     2 STRSZ            000000000000000b \n"
     ++ codes "D     3 NULL             0000000000000000 \n")
+
+-- a segment that is loaded, and one of dynamic entries, count by their sizes in the file and by virtual addresses, and not by
+-- their sizes in memory or physical addresses
+abbrev pub SegmentsByFileSize : Type 0
+SegmentsByFileSize =
+    (report (with_bytes 0x68 (little 8 0x1000) (loaded 0xfb 0x40 (needed_with (tagged 5 0x4000f0) (tagged 10 12)))) 2 63 DYNAMIC
+    ≡ codes "! 00000000000000b0 unmapped\n")
+    × (report (with_bytes 0x68 (zeros 8) library_without_sections) 2 63 DYNAMIC ≡ needed_lines)
+    × (report (with_bytes 0xa0 (zeros 8) library_without_sections) 2 63 DYNAMIC ≡ needed_lines)
+    × (cost (with_bytes 0xa0 (little 8 0x1000) library_without_sections) 2 63 DYNAMIC ≡ 560)
+    × (report (with_bytes 0x58 (zeros 8) library_without_sections) 2 63 DYNAMIC ≡ needed_lines)
+
+-- dynamic entries before the segment that loads their strings
+abbrev loaded_later : (phnum : ℕ) → List ℕ
+loaded_later phnum =
+    object phnum
+    (program_header 2 6 0xb0 0x4000b0 0x40 8 ++ program_header 1 5 0 0x400000 0xfb 0x1000
+    ++ needed_with (tagged 5 0x4000f0) (tagged 10 11) ++ library_strings)
+
+-- a later segment may load the strings, and behind the last program header there is none
+abbrev pub NoSegmentPastTheLast : Type 0
+NoSegmentPastTheLast =
+    (report (loaded_later 2) 2 63 DYNAMIC ≡ needed_lines)
+    × (report (loaded_later 1) 2 63 DYNAMIC ≡ codes "! 00000000000000b0 unmapped\n")
 
 -- all notes are listed before all dynamic entries, and the tables of each in the order of the program headers
 abbrev pub SegmentTablesInOrder : Type 0

@@ -1,5 +1,5 @@
 //! Listings of the notes and dynamic entries that program headers describe, each computed by the prover.
-ghost use Rattle.elf_examples.specs.ListedSegments.{SegmentEntriesList, SegmentEntriesCost, UnmappedStringsAreRefused, SegmentStringsAreNames, StringsAreSoughtLate, FirstTagsCount, AddressesDoNotWrap, SegmentEntriesAreChecked, FirstLoadDecides, SegmentTablesInOrder, TwoNotesOfASegment, NoHeadersNoTables, SectionsDecide};
+ghost use Rattle.elf_examples.specs.ListedSegments.{SegmentEntriesList, SegmentEntriesCost, UnmappedStringsAreRefused, SegmentStringsAreNames, StringsAreSoughtLate, FirstTagsCount, AddressesDoNotWrap, SegmentEntriesAreChecked, FirstLoadDecides, SegmentsByFileSize, NoSegmentPastTheLast, SegmentTablesInOrder, TwoNotesOfASegment, NoHeadersNoTables, SectionsDecide};
 
 /// Dynamic entries of a segment, with their strings where a segment loads them.
 #[tactic(auto, unfolding(elf_model::proofs::OnLiterals::on_literals))]
@@ -53,6 +53,18 @@ pub fn segment_entries_are_checked()
 #[tactic(auto, unfolding(elf_model::proofs::OnLiterals::on_literals))]
 pub fn first_load_decides()
     ensures { FirstLoadDecides }
+{}
+
+/// Sizes in the file and virtual addresses count, and not sizes in memory or physical addresses.
+#[tactic(auto, unfolding(elf_model::proofs::OnLiterals::on_literals))]
+pub fn segments_by_file_size()
+    ensures { SegmentsByFileSize }
+{}
+
+/// A later segment may load the strings, and none behind the last program header.
+#[tactic(auto, unfolding(elf_model::proofs::OnLiterals::on_literals))]
+pub fn no_segment_past_the_last()
+    ensures { NoSegmentPastTheLast }
 {}
 
 /// All notes are listed before all dynamic entries.

@@ -7,7 +7,7 @@ use Rattle.elf_model.specs.Lines.{header_line}
 use Rattle.elf_model.specs.Listing.{Item, Line, Fault, has, has_tables, where_asked, each, HEADER, SECTIONS, SEGMENTS, SYMBOLS, RELOCS, NOTES, DYNAMIC}
 use Rattle.elf_model.specs.Records.{e_shnum, e_phnum, section_at}
 use Rattle.elf_model.specs.Report.{items, load_items, table_items, table_rows, kinds_rows}
-use Rattle.elf_model.specs.TableKinds.{Headers, symbols, relocations, section_notes, section_dynamic, segment_notes, segment_dynamic, section_kinds, segment_kinds, by_sections, by_segments, table_headers}
+use Rattle.elf_model.specs.TableKinds.{TableHeaders, symbols, relocations, section_notes, section_dynamic, segment_notes, segment_dynamic, section_kinds, segment_kinds, by_sections, by_segments, table_headers}
 use Rattle.elf_model.proofs.CostLemmas.{headers_none, headers_some}
 use Rattle.elf_model.specs.Rows.{section_row, segment_row}
 use Rattle.elf_model.specs.declared.causes.Refusal.{Refusal}
@@ -100,13 +100,13 @@ kinds_are file cap parts listed = by_cases (e_shnum file == 0) refl
     by_cases : (none : Bool) → (e_shnum file == 0) ≡ none → kinds_rows (table_headers file).kinds (table_headers file) file cap parts ≡ symbol_part file cap parts ++ relocation_part file cap parts
     by_cases true h =
         let zero : e_shnum file ≡ 0 = eqb-true (e_shnum file) 0 h in
-        ap (λ (headers : Headers). kinds_rows headers.kinds headers file cap parts) (headers_none file h)
+        ap (λ (headers : TableHeaders). kinds_rows headers.kinds headers file cap parts) (headers_none file h)
         ∙ (kinds_of_segments file cap parts listed
         ∙ sym (ap (λ n. where_asked parts SYMBOLS (each (symbols_of file cap) 0 n) ++ where_asked parts RELOCS (each (relocations_of file cap) 0 n)) zero ∙ empty (symbols_of file cap) (relocations_of file cap)))
       where
         empty : (a b : ℕ → List Item) → where_asked parts SYMBOLS (each a 0 0) ++ where_asked parts RELOCS (each b 0 0) ≡ []
         empty a b = rw (nothing_asked parts SYMBOLS, nothing_asked parts RELOCS) refl
-    by_cases false h = ap (λ (headers : Headers). kinds_rows headers.kinds headers file cap parts) (headers_some file h) ∙ kinds_of_sections file cap parts listed
+    by_cases false h = ap (λ (headers : TableHeaders). kinds_rows headers.kinds headers file cap parts) (headers_some file h) ∙ kinds_of_sections file cap parts listed
 
 -- the tables are those of the parts that are listed, where no other is asked for
 pub tables_are : (file : List ℕ) (cap parts : ℕ) → AreListed parts

@@ -3,7 +3,7 @@ ghost use Rattle.std.specs.Prelude.{◌≡◌, ℕ, List, Some, IfSome};
 ghost use Rattle.elf_model.specs.Names.{shown, name_bytes};
 ghost use Rattle.elf_table.specs.NamesRead.{NameRead};
 ghost use Rattle.elf_table.specs.Tables.{StringsWithin, strings_in};
-ghost use Rattle.elf_listing.specs.Parts.{names_cost, name_in};
+ghost use Rattle.elf_listing.specs.Parts.{name_cost, shown_in};
 ghost use Rattle.elf_listing.specs.Shows.{Fetches};
 
 use crate::listing::Listing;
@@ -36,9 +36,9 @@ impl<S: Source, W: Sink> Listing<'_, '_, '_, S, W> {
     ) -> Result<NameEnd, Fault>
         requires { IfSome names (StringsWithin self.old.src.now.seen.size) }
         ensures fetches { Fetches self.old self.new result
-            (names_cost names self.old.cap.bytes) }
+            (name_cost names self.old.cap.bytes) }
         ensures read { (file : List ℕ) → self.old.src.now.seen.file ≡ Some file →
-            NameRead at result self.new.name (name_in file names off self.old.cap.bytes) }
+            NameRead at result self.new.name (shown_in file names off self.old.cap.bytes) }
     {
         let Some(names) = names else {
             self.name.clear();

@@ -11,7 +11,7 @@ use Rattle.elf_model.specs.Checks.{Check, first_refusal, pass, header_checks, ea
 use Rattle.elf_model.specs.declared.causes.Refusal.{Refusal}
 use Rattle.elf_model.specs.Listing.{has, has_tables}
 use Rattle.elf_model.specs.declared.causes.Cause.TheVariants.{EntrySize, SizeNotWhole, TableOutside}
-use Rattle.elf_model.specs.TableKinds.{Headers, symbols, relocations, section_dynamic, section_notes, segment_notes, segment_dynamic, section_kinds, segment_kinds, by_sections, by_segments, table_headers}
+use Rattle.elf_model.specs.TableKinds.{TableHeaders, symbols, relocations, section_dynamic, section_notes, segment_notes, segment_dynamic, section_kinds, segment_kinds, by_sections, by_segments, table_headers}
 use Rattle.elf_model.specs.Cost.{sum_over, cost_where, table_cost, kinds_cost, is_loadable, needs_segments, sections_cost, segments_cost, tables_cost, cost, ceiling}
 use Rattle.elf_model.specs.CostLaws.{CostIsWithinCeiling}
 
@@ -194,8 +194,8 @@ loadable-within file headers h =
     (ltb-false headers (e_shnum file) early.1.1.1.0, ltb-false headers (e_phnum file) early.1.1.1.1.0)
 
 -- what the tables cost that some headers describe
-abbrev pub tables_by : (file : List ℕ) (cap parts : ℕ) → Headers → ℕ
-tables_by file cap parts headers = sum_over (λ i. kinds_cost headers.kinds file (headers.place i) (length file) cap parts) 0 headers.count
+abbrev pub tables_by : (file : List ℕ) (cap parts : ℕ) → TableHeaders → ℕ
+tables_by file cap parts headers = sum_over (λ i. kinds_cost headers.kinds file (headers.at i) (length file) cap parts) 0 headers.count
 
 pub headers_none : (file : List ℕ) → (e_shnum file == 0) ≡ true → table_headers file ≡ by_segments file
 unfolding table_headers

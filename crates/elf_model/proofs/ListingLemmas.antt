@@ -6,7 +6,7 @@ use Rattle.elf_model.specs.Names.{name_bytes}
 use Rattle.elf_model.specs.Cost.{cost_where, table_cost, kinds_cost, is_loadable, needs_segments, sections_cost, segments_cost, tables_cost, cost}
 use Rattle.elf_model.proofs.StoreLemmas.{sum_over-equal}
 use Rattle.elf_model.specs.Rows.{section_row, segment_row}
-use Rattle.elf_model.specs.TableKinds.{TableKind, Headers, symbols, relocations, section_notes, section_dynamic, segment_notes, segment_dynamic, section_kinds, segment_kinds, by_sections, by_segments, table_headers}
+use Rattle.elf_model.specs.TableKinds.{TableKind, TableHeaders, symbols, relocations, section_notes, section_dynamic, segment_notes, segment_dynamic, section_kinds, segment_kinds, by_sections, by_segments, table_headers}
 use Rattle.std.proofs.Common.{◌≡◌, ℕ, ◌+◌, ◌*◌, ◌==◌, ◌&&◌, not, Bool, true, false, List, [], ◌∷◌, ◌++◌, length, Some, None, arith, refl, ap, sym, ◌∙◌, append-nil, append_assoc}
 use Rattle.elf_model.specs.Checks.{Check, first_refusal, header_checks, load_checks}
 use Rattle.elf_model.specs.Lines.{header_line, refusal_line}
@@ -113,16 +113,16 @@ header_parts : (file : List ℕ) → AreParts (table_headers file).kinds
 unfolding table_headers
 header_parts file = by_cases (e_shnum file == 0)
   where
-    by_cases : (none : Bool) → AreParts (elim none as (λ _. Headers) [ true ↦ by_segments file | false ↦ by_sections file ]).kinds
+    by_cases : (none : Bool) → AreParts (elim none as (λ _. TableHeaders) [ true ↦ by_segments file | false ↦ by_sections file ]).kinds
     by_cases true = segment_parts
     by_cases false = section_parts
 
-kinds_rows_masked : (kinds : List TableKind) (headers : Headers) (file : List ℕ) (cap parts : ℕ) → AreParts kinds
+kinds_rows_masked : (kinds : List TableKind) (headers : TableHeaders) (file : List ℕ) (cap parts : ℕ) → AreParts kinds
     → kinds_rows kinds headers file cap (bit_and parts ALL) ≡ kinds_rows kinds headers file cap parts
 unfolding kinds_rows
 kinds_rows_masked [] headers file cap parts are = refl
 kinds_rows_masked (kind ∷ kinds) headers file cap parts are =
-    let a = asked_masked parts kind.part (each (λ i. table_rows kind file cap i (headers.place i)) 0 headers.count) are.0 in
+    let a = asked_masked parts kind.part (each (λ i. table_rows kind file cap i (headers.at i)) 0 headers.count) are.0 in
     let b = kinds_rows_masked kinds headers file cap parts are.1 in
     cc
 
@@ -171,9 +171,9 @@ tables_cost_masked : (file : List ℕ) (cap parts : ℕ) → tables_cost file ca
 unfolding tables_cost
 tables_cost_masked file cap parts =
     let headers = table_headers file in
-    sum_over-equal (λ i. kinds_cost headers.kinds file (headers.place i) (length file) cap (bit_and parts ALL))
-    (λ i. kinds_cost headers.kinds file (headers.place i) (length file) cap parts) 0 headers.count
-    (λ i _ _. kinds_cost_masked headers.kinds file (headers.place i) (length file) cap parts (header_parts file))
+    sum_over-equal (λ i. kinds_cost headers.kinds file (headers.at i) (length file) cap (bit_and parts ALL))
+    (λ i. kinds_cost headers.kinds file (headers.at i) (length file) cap parts) 0 headers.count
+    (λ i _ _. kinds_cost_masked headers.kinds file (headers.at i) (length file) cap parts (header_parts file))
 
 headers_cost_masked : (file : List ℕ) (cap parts : ℕ)
     → sections_cost file cap (bit_and parts ALL) + segments_cost file (bit_and parts ALL) ≡ sections_cost file cap parts + segments_cost file parts

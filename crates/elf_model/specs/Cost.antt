@@ -16,7 +16,8 @@ sum_over cost first (suc count) = cost first + sum_over cost (suc first) count
 abbrev pub cost_where : Bool → ℕ → ℕ
 cost_where condition cost = if condition then cost else 0
 
--- what the table of a kind costs, by its header at an offset of some bytes, in a file of so many bytes: all entries, where its own checks pass
+-- what the table of a kind costs, by its header at an offset of some bytes, in a file of so many bytes: all its entries,
+-- where its own checks pass
 unfoldable pub table_cost : TableKind → List ℕ → ℕ → ℕ → ℕ → ℕ
 table_cost kind bytes at file_size cap =
     cost_where (kind.has_table bytes at && pass (kind.own_checks bytes at file_size)) (kind.entries bytes at * kind.entry_cost cap)
@@ -49,7 +50,7 @@ segments_cost file parts = cost_where (needs_segments file parts) (56 * e_phnum 
 unfoldable pub tables_cost : List ℕ → ℕ → ℕ → ℕ
 tables_cost file cap parts =
     let headers = table_headers file in
-    sum_over (λ i. kinds_cost headers.kinds file (headers.place i) (length file) cap parts) 0 headers.count
+    sum_over (λ i. kinds_cost headers.kinds file (headers.at i) (length file) cap parts) 0 headers.count
 
 -- how many bytes are asked for behind the file header at most
 abbrev pub behind_header : List ℕ → ℕ → ℕ → ℕ → ℕ

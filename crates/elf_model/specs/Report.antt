@@ -5,7 +5,7 @@ use Rattle.elf_model.specs.Checks.{header_checks, load_checks}
 use Rattle.elf_model.specs.Lines.{header_line}
 use Rattle.elf_model.specs.Listing.{Item, Line, guarded, each, where_asked, has_tables, report_of, fault_of, HEADER, SECTIONS, SEGMENTS}
 use Rattle.elf_model.specs.Rows.{section_row, segment_row}
-use Rattle.elf_model.specs.TableKinds.{TableKind, Headers, table_headers}
+use Rattle.elf_model.specs.TableKinds.{TableKind, TableHeaders, table_headers}
 use Rattle.elf_model.specs.declared.causes.Refusal.{Refusal}
 
 -- the rows of the table of a kind whose header has an index and stands at an offset, behind its checks; none where the
@@ -15,10 +15,10 @@ table_rows kind file cap index at =
     elim (kind.has_table file at) [ true ↦ guarded (kind.checks file at) (kind.rows file cap index at) | false ↦ [] ]
 
 -- the rows of all tables of some kinds, kind by kind, as far as the parts have them
-unfoldable pub kinds_rows : List TableKind → Headers → List ℕ → ℕ → ℕ → List Item
+unfoldable pub kinds_rows : List TableKind → TableHeaders → List ℕ → ℕ → ℕ → List Item
 kinds_rows [] headers file cap parts = []
 kinds_rows (kind ∷ kinds) headers file cap parts =
-    where_asked parts kind.part (each (λ i. table_rows kind file cap i (headers.place i)) 0 headers.count)
+    where_asked parts kind.part (each (λ i. table_rows kind file cap i (headers.at i)) 0 headers.count)
     ++ kinds_rows kinds headers file cap parts
 
 -- the section headers, the program headers, and the tables kind by kind, as far as the parts have them

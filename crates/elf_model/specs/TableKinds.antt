@@ -113,17 +113,17 @@ abbrev pub segment_kinds : List TableKind
 segment_kinds = segment_notes ∷ segment_dynamic ∷ []
 
 -- the headers that describe the tables of a file: how many, where each stands, and the kinds of tables
-pub record Headers : Type 0 where
+pub record TableHeaders : Type 0 where
   pub count : ℕ
-  pub place : ℕ → ℕ
+  pub at : ℕ → ℕ
   pub kinds : List TableKind
 
-abbrev pub by_sections : List ℕ → Headers
-by_sections file = record { count = e_shnum file; place = section_at file; kinds = section_kinds }
+abbrev pub by_sections : List ℕ → TableHeaders
+by_sections file = record { count = e_shnum file; at = section_at file; kinds = section_kinds }
 
-abbrev pub by_segments : List ℕ → Headers
-by_segments file = record { count = e_phnum file; place = segment_at file; kinds = segment_kinds }
+abbrev pub by_segments : List ℕ → TableHeaders
+by_segments file = record { count = e_phnum file; at = segment_at file; kinds = segment_kinds }
 
 -- the section headers, or where a file has none the program headers
-unfoldable pub table_headers : List ℕ → Headers
+unfoldable pub table_headers : List ℕ → TableHeaders
 table_headers file = elim (e_shnum file == 0) [ true ↦ by_segments file | false ↦ by_sections file ]

@@ -4,7 +4,7 @@ use Rattle.std.proofs.lemmas.Bool.{cases_lt}
 use Rattle.std.proofs.lemmas.List.{take_all}
 use Rattle.elf_model.specs.Bytes.{slice, field}
 use Rattle.elf_model.specs.Records.{n_namesz, n_descsz, n_type}
-use Rattle.elf_model.specs.Notes.{Note, Walk, are_zeros, first_note, first_end, to_next, descriptor_start, Found, note_shown, with_note}
+use Rattle.elf_model.specs.Notes.{Note, Walk, are_zeros, first_note, first_end, to_next, descriptor_start, OneNote, note_shown, with_note}
 use Rattle.elf_model.proofs.Slices.{slice-size, slice-slice, slice-rest, field-slice}
 use Rattle.elf_model.proofs.Spellings.{next-ends, next-tails, next-past, next-found}
 use Rattle.elf_model.proofs.Walks.{walk, walk-ends, walk-broken, walk-found}
@@ -64,7 +64,7 @@ left-found a file old new head s ends h fits same moved =
     let e = end-is a (rest file old) head (heads file old.at (left old) head h s) in
     let size : ℕ = note_size a head.namesz head.descsz (left old) in
     let its : min (first_end a (rest file old) + to_next a (first_end a (rest file old))) (length (rest file old)) ≡ size = rw (e, long) refl in
-    let next = next-found a (rest file old) (omega arith) (omega arith) ∙ ap (Found (first_note a (rest file old))) its in
+    let next = next-found a (rest file old) (omega arith) (omega arith) ∙ ap (OneNote (first_note a (rest file old))) its in
     let behind : drop size (rest file old) ≡ rest file new =
     slice-rest file old.at (left old) size (omega arith) ∙ ap (λ (x : ℕ). slice file x (left old - size)) (sym moved) ∙ ap (slice file new.at) (omega arith) in
     walk-found a old.at (rest file old) (first_note a (rest file old)) size next

@@ -282,18 +282,14 @@ fn a_fault_leaves_the_lines_before_it(rt: HostRuntime) -> Result<(), Fail> {
     let caps = Caps::new(3, 63).ok_or("caps")?;
     let mut store = HeaderStore::new(rt.alloc(), 3)?;
     let mut buffer = [0; 1024];
-    let mut src = Counted::new(Planned::new(one_symbol_table(), 5));
+    let mut src = Counted::new(Planned::new(one_symbol_table(), 4));
     let mut out = Out::new(SliceSink::new(&mut buffer));
     let parts = LISTED;
     let request = Request::Sample { caps, parts };
     let answer = run(&request, &mut src, &mut store, &mut out);
     let fault = SourceFault::Device;
-    assert!(rt; answer == Err(RunFault::Source { fault, at: 0x71 }));
-    check_text(
-        &rt,
-        out.into_inner().written(),
-        &[HEADER, SECTIONS, NO_SYMBOL],
-    );
-    assert!(rt; src.into_inner().reads == 5);
+    assert!(rt; answer == Err(RunFault::Source { fault, at: 0x70 }));
+    check_text(&rt, out.into_inner().written(), &[HEADER, SECTIONS]);
+    assert!(rt; src.into_inner().reads == 4);
     Ok(())
 }
