@@ -2,5 +2,6 @@
 
 /// The size in bytes of all fixed buffers that [`crate::show`] holds, each once, at most 16,384: those
 /// of reading a file, of reading names and symbols ahead, and of putting a line together.
-pub const FIXED_BYTES: usize =
-    elf_table::BUFFER_BYTES + elf_names::BUFFER_BYTES + elf_lines::BUFFER_BYTES;
+pub const FIXED_BYTES: usize = elf_table::BUFFER_BYTES
+    + elf_names::BUFFER_BYTES
+    + elf_lines::BUFFER_BYTES;
