@@ -102,11 +102,17 @@ fn notes_are_aligned_as_their_table_is(rt: HostRuntime) {
     assert!(rt; walk_twice(aligned_note(), 4, 256, &rt) == (cut, cut, 28));
 }
 
-#[test]
-fn two_notes_aligned_to_eight_bytes_are_cut_at_each_length(rt: HostRuntime) {
+/// Two notes aligned to 8, the second at 32.
+fn two_aligned_notes() -> [u8; 60] {
     let mut bytes = [0; 60];
     bytes[..28].copy_from_slice(aligned_note());
     bytes[32..].copy_from_slice(aligned_note());
+    bytes
+}
+
+#[test]
+fn two_notes_aligned_to_eight_bytes_are_cut_at_each_length(rt: HostRuntime) {
+    let bytes = two_aligned_notes();
     let first = refused(0, Cause::NoteCut);
     let second = refused(32, Cause::NoteCut);
     for size in 0..61usize {
