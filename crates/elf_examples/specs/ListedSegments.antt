@@ -244,7 +244,7 @@ OffsetsDoNotWrap =
 
 -- the file with a segment of another type in the place of the one that is loaded
 abbrev typed : ℕ → List ℕ
-typed type = with_bytes 0x40 (little 4 type) needed
+typed type = with_bytes 0x40 (little 4 type) library_without_sections
 
 -- segments of any other type load nothing
 abbrev pub OtherTypesLoadNothing : Type 0
@@ -262,7 +262,7 @@ EachTableHasItsStrings =
     report (object 3
     (program_header 1 5 0 0x400000 0x176 0x1000 ++ program_header 2 6 0xe8 0x4000e8 0x40 8 ++ program_header 2 6 0x128 0x400128 0x40 8
     ++ needed_with (tagged 5 0x400168) (tagged 10 11) ++ needed_with (tagged 5 0x400173) (tagged 10 3)
-    ++ library ++ (0 ∷ codes "m" ++ zeros 1))) 3 63 DYNAMIC
+    ++ library_strings ++ (0 ∷ codes "m" ++ zeros 1))) 3 63 DYNAMIC
     ≡ codes "D     0 NEEDED           0000000000000001 libc.so.6\n"
     ++ codes "D     1 STRTAB           0000000000400168 \n"
     ++ codes "D     2 STRSZ            000000000000000b \n"
@@ -275,5 +275,5 @@ EachTableHasItsStrings =
 -- sections are there by their number, also where their headers stand at the file's start
 abbrev pub SectionsByTheirNumber : Type 0
 SectionsByTheirNumber =
-    (report (with_bytes 0x3a (little 2 64 ++ little 2 1) needed) 2 63 DYNAMIC ≡ [])
-    × (cost (with_bytes 0x3a (little 2 64 ++ little 2 1) needed) 2 63 DYNAMIC ≡ 64 + 64)
+    (report (with_bytes 0x3a (little 2 64 ++ little 2 1) library_without_sections) 2 63 DYNAMIC ≡ [])
+    × (cost (with_bytes 0x3a (little 2 64 ++ little 2 1) library_without_sections) 2 63 DYNAMIC ≡ 64 + 64)
