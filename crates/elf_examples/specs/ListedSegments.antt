@@ -4,39 +4,9 @@ use Rattle.elf_model.specs.Bytes.{little}
 use Rattle.elf_model.specs.Cost.{cost, ceiling}
 use Rattle.elf_model.specs.Listing.{SEGMENTS, SYMBOLS, NOTES, DYNAMIC, ALL}
 use Rattle.elf_model.specs.Report.{report}
-use Rattle.elf_model.specs.Fixtures.{zeros, with_bytes, file_header, section_header}
+use Rattle.elf_model.specs.Fixtures.{zeros, with_bytes, section_header}
 use Rattle.elf_model.specs.FixturesTables.{program_header, one_segment, plain_note, aligned_note, tagged}
-
--- a shared object: the offset of its section headers and their number, the number of its program headers, and what stands
--- behind the file header, the program headers first
-abbrev object_with : ℕ → ℕ → ℕ → List ℕ → List ℕ
-object_with shoff shnum phnum bytes =
-    with_bytes 0x36 (little 2 56 ++ little 2 phnum) (with_bytes 0x20 (little 8 0x40) (file_header 3 shoff shnum 0)) ++ bytes
-
--- the same without sections
-abbrev object : ℕ → List ℕ → List ℕ
-object phnum bytes = object_with 0 0 phnum bytes
-
--- 11 bytes of strings
-abbrev library : List ℕ
-library = 0 ∷ codes "libc.so.6" ++ zeros 1
-
--- a segment that is loaded at an address, so many bytes from the file's start on, and one of so many bytes of dynamic entries,
--- at 0xb0; behind these the strings, at 0xf0 where there are four entries
-abbrev loaded_at : (address load_size dynamic_size : ℕ) → List ℕ → List ℕ
-loaded_at address load_size dynamic_size entries =
-    object 2 (program_header 1 5 0 address load_size 0x1000 ++ program_header 2 6 0xb0 (address + 0xb0) dynamic_size 8 ++ entries ++ library)
-
-abbrev loaded : (load_size dynamic_size : ℕ) → List ℕ → List ℕ
-loaded load_size dynamic_size entries = loaded_at 0x400000 load_size dynamic_size entries
-
--- a library that is needed, two entries, and the end
-abbrev needed_with : List ℕ → List ℕ → List ℕ
-needed_with second third = tagged 1 1 ++ second ++ third ++ tagged 0 0
-
--- a file of 251 bytes
-abbrev needed : List ℕ
-needed = loaded 0xfb 0x40 (needed_with (tagged 5 0x4000f0) (tagged 10 11))
+use Rattle.elf_model.specs.FixturesSegments.{object_with, object, library_strings, loaded_at, loaded, needed_with, library_without_sections}
 
 abbrev needed_lines : List ℕ
 needed_lines =
@@ -48,9 +18,9 @@ needed_lines =
 -- dynamic entries of a segment, with their strings where a segment loads them, also one that loads just these
 abbrev pub SegmentEntriesList : Type 0
 SegmentEntriesList =
-    (report needed 2 63 DYNAMIC ≡ needed_lines)
-    × (report (with_bytes 0x60 (little 8 11) (with_bytes 0x48 (little 8 0xf0 ++ little 8 0x4000f0) needed)) 2 63 DYNAMIC ≡ needed_lines)
-    × (report needed 2 63 ALL
+    (report library_without_sections 2 63 DYNAMIC ≡ needed_lines)
+    × (report (with_bytes 0x60 (little 8 11) (with_bytes 0x48 (little 8 0xf0 ++ little 8 0x4000f0) library_without_sections)) 2 63 DYNAMIC ≡ needed_lines)
+    × (report library_without_sections 2 63 ALL
     ≡ codes "H DYN     62 0000000000000000 0000000000000040 0000000000000000 00000000     2     0     0\n"
     ++ codes "P     0 LOAD     R-X 0000000000000000 0000000000400000 0000000000400000 00000000000000fb 00000000000000fb 0000000000001000\n"
     ++ codes "P     1 DYNAMIC  RW- 00000000000000b0 00000000004000b0 00000000004000b0 0000000000000040 0000000000000040 0000000000000008\n"
@@ -60,12 +30,12 @@ SegmentEntriesList =
 -- that ends early counts whole
 abbrev pub SegmentEntriesCost : Type 0
 SegmentEntriesCost =
-    (cost needed 2 63 DYNAMIC ≡ 560)
+    (cost library_without_sections 2 63 DYNAMIC ≡ 560)
     × (ceiling 251 2 63 ≡ 3814)
-    × (cost needed 2 63 ALL ≡ 560)
-    × (cost needed 2 63 SEGMENTS ≡ 64 + 112)
-    × (cost needed 2 63 NOTES ≡ 64 + 112)
-    × (cost needed 2 63 SYMBOLS ≡ 64)
+    × (cost library_without_sections 2 63 ALL ≡ 560)
+    × (cost library_without_sections 2 63 SEGMENTS ≡ 64 + 112)
+    × (cost library_without_sections 2 63 NOTES ≡ 64 + 112)
+    × (cost library_without_sections 2 63 SYMBOLS ≡ 64)
     × (cost (loaded 0xfb 0x3f (needed_with (tagged 5 0x4000f0) (tagged 10 11))) 2 63 DYNAMIC ≡ 64 + 112)
     × (cost (loaded 0xfb 0x50 (needed_with (tagged 5 0x4000f0) (tagged 10 11))) 2 63 DYNAMIC ≡ 64 + 112)
     × (cost (loaded 0xfb 0x40 (needed_with (tagged 0 0) (tagged 10 11))) 2 63 DYNAMIC ≡ 560)
@@ -151,16 +121,16 @@ SegmentEntriesAreChecked =
     (report (loaded 0xfb 0x3f (needed_with (tagged 5 0x4000f0) (tagged 10 11))) 2 63 DYNAMIC ≡ codes "! 0000000000000078 size-not-whole\n")
     × (report (loaded 0xfb 0x50 (needed_with (tagged 5 0x4000f0) (tagged 10 11))) 2 63 DYNAMIC ≡ codes "! 0000000000000078 table-outside\n")
     × (report (loaded 0xfb 0x51 (needed_with (tagged 5 0x4000f0) (tagged 10 11))) 2 63 DYNAMIC ≡ codes "! 0000000000000078 size-not-whole\n")
-    × (report (with_bytes 0x80 (little 8 (2 ^ 64 - 0x10)) needed) 2 63 DYNAMIC ≡ codes "! 0000000000000078 table-outside\n")
-    × (report (with_bytes 0x80 (little 8 (2 ^ 64 - 0x10)) (with_bytes 0x98 (zeros 8) needed)) 2 63 DYNAMIC ≡ [])
-    × (cost (with_bytes 0x80 (little 8 (2 ^ 64 - 0x10)) (with_bytes 0x98 (zeros 8) needed)) 2 63 DYNAMIC ≡ 64 + 112)
+    × (report (with_bytes 0x80 (little 8 (2 ^ 64 - 0x10)) library_without_sections) 2 63 DYNAMIC ≡ codes "! 0000000000000078 table-outside\n")
+    × (report (with_bytes 0x80 (little 8 (2 ^ 64 - 0x10)) (with_bytes 0x98 (zeros 8) library_without_sections)) 2 63 DYNAMIC ≡ [])
+    × (cost (with_bytes 0x80 (little 8 (2 ^ 64 - 0x10)) (with_bytes 0x98 (zeros 8) library_without_sections)) 2 63 DYNAMIC ≡ 64 + 112)
 
 -- two segments that load the strings, and one that is not loaded, before the dynamic entries at 0x120
 abbrev three_loads : (offset : ℕ) → List ℕ
 three_loads offset =
     object 4
     (program_header 6 4 0 0x400000 0x1000 8 ++ program_header 1 5 offset 0x400000 0x16b 0x1000 ++ program_header 1 5 0 0x400000 0x16b 0x1000
-    ++ program_header 2 6 0x120 0x400120 0x40 8 ++ needed_with (tagged 5 0x400160) (tagged 10 11) ++ library)
+    ++ program_header 2 6 0x120 0x400120 0x40 8 ++ needed_with (tagged 5 0x400160) (tagged 10 11) ++ library_strings)
 
 -- of the segments that load the strings the first decides, also where its bytes lie outside the file
 abbrev pub FirstLoadDecides : Type 0
@@ -183,17 +153,17 @@ abbrev pub SegmentsByFileSize : Type 0
 SegmentsByFileSize =
     (report (with_bytes 0x68 (little 8 0x1000) (loaded 0xfb 0x40 (needed_with (tagged 5 0x4000f0) (tagged 10 12)))) 2 63 DYNAMIC
     ≡ codes "! 00000000000000b0 unmapped\n")
-    × (report (with_bytes 0x68 (zeros 8) needed) 2 63 DYNAMIC ≡ needed_lines)
-    × (report (with_bytes 0xa0 (zeros 8) needed) 2 63 DYNAMIC ≡ needed_lines)
-    × (cost (with_bytes 0xa0 (little 8 0x1000) needed) 2 63 DYNAMIC ≡ 560)
-    × (report (with_bytes 0x58 (zeros 8) needed) 2 63 DYNAMIC ≡ needed_lines)
+    × (report (with_bytes 0x68 (zeros 8) library_without_sections) 2 63 DYNAMIC ≡ needed_lines)
+    × (report (with_bytes 0xa0 (zeros 8) library_without_sections) 2 63 DYNAMIC ≡ needed_lines)
+    × (cost (with_bytes 0xa0 (little 8 0x1000) library_without_sections) 2 63 DYNAMIC ≡ 560)
+    × (report (with_bytes 0x58 (zeros 8) library_without_sections) 2 63 DYNAMIC ≡ needed_lines)
 
 -- dynamic entries before the segment that loads their strings
 abbrev loaded_later : (phnum : ℕ) → List ℕ
 loaded_later phnum =
     object phnum
     (program_header 2 6 0xb0 0x4000b0 0x40 8 ++ program_header 1 5 0 0x400000 0xfb 0x1000
-    ++ needed_with (tagged 5 0x4000f0) (tagged 10 11) ++ library)
+    ++ needed_with (tagged 5 0x4000f0) (tagged 10 11) ++ library_strings)
 
 -- a later segment may load the strings, and behind the last program header there is none
 abbrev pub NoSegmentPastTheLast : Type 0
@@ -244,3 +214,66 @@ SectionsDecide =
     ++ codes "D     1 NULL             0000000000000000 \n")
     × (cost both_views 4 63 (NOTES + DYNAMIC) ≡ 64 + 256 + 16 + 2 * 80)
     × (cost both_views 4 63 ALL ≡ 64 + 256 + 112 + 16 + 2 * 80)
+
+-- the strings must lie within the file, and not the whole segment that loads them
+abbrev pub StringsInsideTheFile : Type 0
+StringsInsideTheFile = report (loaded 0x1000 0x40 (needed_with (tagged 5 0x4000f0) (tagged 10 11))) 2 63 DYNAMIC ≡ needed_lines
+
+-- no strings at all may be at a segment's end, and not behind it; they have the empty string at 0 alone
+abbrev pub EmptyStringsAtTheEnd : Type 0
+EmptyStringsAtTheEnd =
+    (report (loaded 0xfb 0x40 (tagged 1 0 ++ tagged 5 0x4000fb ++ tagged 10 0 ++ tagged 0 0)) 2 63 DYNAMIC
+    ≡ codes "D     0 NEEDED           0000000000000000 \n"
+    ++ codes "D     1 STRTAB           00000000004000fb \n"
+    ++ codes "D     2 STRSZ            0000000000000000 \n"
+    ++ codes "D     3 NULL             0000000000000000 \n")
+    × (report (loaded 0xfb 0x40 (needed_with (tagged 5 0x4000fb) (tagged 10 0))) 2 63 DYNAMIC ≡ codes "! 00000000000000b0 name-outside\n")
+    × (report (loaded 0xfb 0x40 (needed_with (tagged 5 0x4000fc) (tagged 10 0))) 2 63 DYNAMIC ≡ codes "! 00000000000000b0 unmapped\n")
+
+-- an entry that shows the string at 0 needs the string table too
+abbrev pub FirstStringsAreSought : Type 0
+FirstStringsAreSought =
+    report (loaded 0xfb 0x40 (tagged 1 0 ++ tagged 99 0x4000f0 ++ tagged 10 11 ++ tagged 0 0)) 2 63 DYNAMIC
+    ≡ codes "! 00000000000000b0 unmapped\n"
+
+-- offsets are added in whole numbers
+abbrev pub OffsetsDoNotWrap : Type 0
+OffsetsDoNotWrap =
+    report (with_bytes 0x48 (little 8 (2 ^ 64 - 1)) (loaded 0xfc 0x40 (needed_with (tagged 5 0x4000f1) (tagged 10 11)))) 2 63 DYNAMIC
+    ≡ codes "! 0000000000000040 table-outside\n"
+
+-- the file with a segment of another type in the place of the one that is loaded
+abbrev typed : ℕ → List ℕ
+typed type = with_bytes 0x40 (little 4 type) library_without_sections
+
+-- segments of any other type load nothing
+abbrev pub OtherTypesLoadNothing : Type 0
+OtherTypesLoadNothing =
+    (report (typed 0) 2 63 DYNAMIC ≡ codes "! 00000000000000b0 unmapped\n")
+    × (report (typed 3) 2 63 DYNAMIC ≡ codes "! 00000000000000b0 unmapped\n")
+    × (report (typed 4) 2 63 DYNAMIC ≡ codes "! 00000000000000b0 unmapped\n")
+    × (report (typed 7) 2 63 DYNAMIC ≡ codes "! 00000000000000b0 unmapped\n")
+    × (report (typed 0x6474e552) 2 63 DYNAMIC ≡ codes "! 00000000000000b0 unmapped\n")
+    × (report (typed 0x10001) 2 63 DYNAMIC ≡ codes "! 00000000000000b0 unmapped\n")
+
+-- each table of dynamic entries tells of its own strings
+abbrev pub EachTableHasItsStrings : Type 0
+EachTableHasItsStrings =
+    report (object 3
+    (program_header 1 5 0 0x400000 0x176 0x1000 ++ program_header 2 6 0xe8 0x4000e8 0x40 8 ++ program_header 2 6 0x128 0x400128 0x40 8
+    ++ needed_with (tagged 5 0x400168) (tagged 10 11) ++ needed_with (tagged 5 0x400173) (tagged 10 3)
+    ++ library_strings ++ (0 ∷ codes "m" ++ zeros 1))) 3 63 DYNAMIC
+    ≡ codes "D     0 NEEDED           0000000000000001 libc.so.6\n"
+    ++ codes "D     1 STRTAB           0000000000400168 \n"
+    ++ codes "D     2 STRSZ            000000000000000b \n"
+    ++ codes "D     3 NULL             0000000000000000 \n"
+    ++ codes "D     0 NEEDED           0000000000000001 m\n"
+    ++ codes "D     1 STRTAB           0000000000400173 \n"
+    ++ codes "D     2 STRSZ            0000000000000003 \n"
+    ++ codes "D     3 NULL             0000000000000000 \n"
+
+-- sections are there by their number, also where their headers stand at the file's start
+abbrev pub SectionsByTheirNumber : Type 0
+SectionsByTheirNumber =
+    (report (with_bytes 0x3a (little 2 64 ++ little 2 1) library_without_sections) 2 63 DYNAMIC ≡ [])
+    × (cost (with_bytes 0x3a (little 2 64 ++ little 2 1) library_without_sections) 2 63 DYNAMIC ≡ 64 + 64)

@@ -8,10 +8,12 @@ ghost use Rattle.elf_record.specs.Rela.{IsRela};
 
 use crate::columns::{Line, put, put_decimal, put_hex, put_left};
 use elf_record::Rela;
+use elf_record::numbers::{
+    EM_X86_64, R_X86_64_8, R_X86_64_16, R_X86_64_32, R_X86_64_32S, R_X86_64_64, R_X86_64_COPY,
+    R_X86_64_GLOB_DAT, R_X86_64_JUMP_SLOT, R_X86_64_NONE, R_X86_64_PC32, R_X86_64_PC64,
+    R_X86_64_PLT32, R_X86_64_RELATIVE,
+};
 use itoa::Buffer;
-
-/// The machine number of x86-64 (x86-64 psABI, Machine Information).
-const EM_X86_64: u16 = 62;
 
 /// The line of a relocation entry up to the name: the index of its section, offset, type on this
 /// machine, symbol and addend. The space before the name is the last byte.
@@ -83,19 +85,19 @@ fn relocation_type_name(kind: u32) -> Option<&'static str>
     ensures short { IfSome result (λ name. length name.now ≤ 10) }
 {
     match kind {
-        0 => Some("NONE"),
-        1 => Some("64"),
-        2 => Some("PC32"),
-        4 => Some("PLT32"),
-        5 => Some("COPY"),
-        6 => Some("GLOB_DAT"),
-        7 => Some("JUMP_SLOT"),
-        8 => Some("RELATIVE"),
-        10 => Some("32"),
-        11 => Some("32S"),
-        12 => Some("16"),
-        14 => Some("8"),
-        24 => Some("PC64"),
+        R_X86_64_NONE => Some("NONE"),
+        R_X86_64_64 => Some("64"),
+        R_X86_64_PC32 => Some("PC32"),
+        R_X86_64_PLT32 => Some("PLT32"),
+        R_X86_64_COPY => Some("COPY"),
+        R_X86_64_GLOB_DAT => Some("GLOB_DAT"),
+        R_X86_64_JUMP_SLOT => Some("JUMP_SLOT"),
+        R_X86_64_RELATIVE => Some("RELATIVE"),
+        R_X86_64_32 => Some("32"),
+        R_X86_64_32S => Some("32S"),
+        R_X86_64_16 => Some("16"),
+        R_X86_64_8 => Some("8"),
+        R_X86_64_PC64 => Some("PC64"),
         _ => None,
     }
 }

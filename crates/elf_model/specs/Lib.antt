@@ -27,6 +27,7 @@ pub mod Fixtures
 pub mod FixturesHash
 pub mod FixturesApply
 pub mod FixturesTables
+pub mod FixturesSegments
 pub mod NameLaws
 pub mod NoteLaws
 pub mod Values

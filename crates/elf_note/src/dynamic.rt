@@ -14,12 +14,10 @@ ghost use Rattle.elf_table.specs.declared.fault.Fault.{Fault};
 ghost use Rattle.elf_note.specs.DynCursors.{AdvancesEntries, entries_left};
 
 use elf_record::Dyn;
+use elf_record::numbers::DT_NULL;
 use elf_source::{Counted, Source};
 use elf_table::{Cursor, Fault, Row, Table};
 use std::marker::Model;
-
-/// The tag of the entry that ends a dynamic array (gABI 5, Dynamic Section).
-const DT_NULL: u64 = 0;
 
 /// A cursor over the dynamic entries of a table, of a section or of a segment (gABI 5, Dynamic
 /// Section). It reads as a cursor over rows does, and gives the rows up to and with the first whose

@@ -10,13 +10,9 @@ ghost use Rattle.elf_note.specs.DynCursors.{AreStrings, first_value, value_here}
 
 use crate::dynamic::{dynamic_rows, entry_in};
 use elf_record::Dyn;
+use elf_record::numbers::{DT_STRSZ, DT_STRTAB};
 use elf_source::{Counted, Source};
 use elf_table::{Fault, Table};
-
-/// The tag of the entry with a string table's address in memory (gABI 5, Dynamic Section).
-const DT_STRTAB: u64 = 5;
-/// The tag of the entry with a string table's size in bytes (gABI 5, Dynamic Section).
-const DT_STRSZ: u64 = 10;
 
 /// Where the string table of dynamic entries is in memory, as they say (gABI 5, Dynamic Section).
 #[derive(Clone, Copy, Debug, PartialEq, Eq)]

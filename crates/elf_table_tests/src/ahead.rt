@@ -1,6 +1,6 @@
 //! How often a source is read for names and symbols, in order and scattered, and what a fault in bytes
 //! that were read ahead leaves.
-use crate::fakes::Planned;
+use elf_fakes::Planned;
 use elf_names::{NameIndex, ReadAhead};
 use elf_source::{Counted, SourceFault};
 use elf_table::{Cap, Fault, NameBuf, NameEnd, Names, Table};

@@ -2,21 +2,12 @@
 ghost use Rattle.std.specs.Prelude.{◌≡◌};
 ghost use Rattle.elf_table.specs.Tables.{RowsWithin};
 
-use crate::fakes::Planned;
+use elf_fakes::Planned;
+use elf_fixtures::repeated_tags;
 use elf_note::{DynCursor, DynStrings, dynamic_rows, dynamic_strings};
 use elf_source::{Counted, MemorySource, Source, SourceFault};
 use elf_table::{Fault, Table};
 use std::process::Abort;
-
-/// Entries with the tags DT_NEEDED, DT_STRTAB, DT_STRTAB, DT_NULL and DT_STRSZ, each with its place
-/// for a value.
-const ENTRIES: [u8; 80] = [
-    1, 0, 0, 0, 0, 0, 0, 0, 1, 0, 0, 0, 0, 0, 0, 0, //
-    5, 0, 0, 0, 0, 0, 0, 0, 2, 0, 0, 0, 0, 0, 0, 0, //
-    5, 0, 0, 0, 0, 0, 0, 0, 3, 0, 0, 0, 0, 0, 0, 0, //
-    0, 0, 0, 0, 0, 0, 0, 0, 4, 0, 0, 0, 0, 0, 0, 0, //
-    10, 0, 0, 0, 0, 0, 0, 0, 5, 0, 0, 0, 0, 0, 0, 0,
-];
 
 /// How many entries a cursor gives, each with its index and offset.
 fn entries_given<S: Source>(
@@ -56,7 +47,7 @@ fn walk_twice(
 fn entries_end_with_the_first_null(rt: HostRuntime) {
     for (count, given) in [(0, 0), (1, 1), (3, 3), (4, 4), (5, 4)] {
         let reads = if count == 0 { 0 } else { 1 };
-        let answer = walk_twice(&ENTRIES[..16 * count], 0, &rt);
+        let answer = walk_twice(&repeated_tags()[..16 * count], 0, &rt);
         assert!(rt; answer == (Ok(given), Ok(0), reads), "{count} entries");
     }
 }
@@ -85,7 +76,7 @@ fn a_failed_cursor_over_entries_fails_the_same_for_good(rt: HostRuntime) {
 // Where so many of these entries say that their string table is, and how many bytes were asked for.
 fn strings_of(count: u64, rt: &impl Abort) -> (Result<DynStrings, Fault>, u128) {
     assert!(rt; count <= 5);
-    let mut src = Counted::new(MemorySource::new(&ENTRIES));
+    let mut src = Counted::new(MemorySource::new(repeated_tags()));
     let answer = dynamic_strings(Table::new(0, count, 16), &mut src);
     (answer, src.asked())
 }
@@ -108,7 +99,7 @@ fn the_first_values_before_a_null_tell_where_strings_are(rt: HostRuntime) {
 
 #[test]
 fn the_values_of_strings_are_those_of_their_tags(rt: HostRuntime) {
-    let mut src = Counted::new(MemorySource::new(&ENTRIES));
+    let mut src = Counted::new(MemorySource::new(repeated_tags()));
     let answer = dynamic_strings(Table::new(64, 1, 16), &mut src);
     let size_alone = DynStrings {
         address: None,
@@ -119,6 +110,6 @@ fn the_values_of_strings_are_those_of_their_tags(rt: HostRuntime) {
         fault: SourceFault::Device,
         at: 16,
     };
-    let mut src = Counted::new(Planned::new(&ENTRIES, 1));
+    let mut src = Counted::new(Planned::new(repeated_tags(), 1));
     assert!(rt; dynamic_strings(Table::new(16, 2, 16), &mut src) == Err(fault));
 }

@@ -5,11 +5,9 @@
 #[cfg(test)]
 mod ahead;
 #[cfg(test)]
+mod answers;
+#[cfg(test)]
 mod dynamic;
-#[cfg(test)]
-mod fakes;
-#[cfg(test)]
-mod fixtures;
 #[cfg(test)]
 mod limits;
 #[cfg(test)]

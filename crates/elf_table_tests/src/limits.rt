@@ -1,8 +1,8 @@
 //! Reads that run out of a limit name the offset that was asked for.
-use crate::fakes::Planned;
-use crate::fixtures::refused;
+use crate::answers::refused;
 use crate::loads::{open, two_pages};
 use crate::tables::rows_given;
+use elf_fakes::Planned;
 use elf_names::{NameIndex, ReadAhead};
 use elf_record::Cause;
 use elf_source::{Counted, MemorySource};

@@ -1,6 +1,6 @@
 //! Worked names, and how many bytes they ask for.
-use crate::fakes::Planned;
-use crate::fixtures::refused;
+use crate::answers::refused;
+use elf_fakes::Planned;
 use elf_names::{NameIndex, ReadAhead};
 use elf_record::Cause;
 use elf_source::{Counted, MemorySource, SourceFault};

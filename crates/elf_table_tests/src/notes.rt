@@ -2,26 +2,14 @@
 ghost use Rattle.std.specs.Prelude.{◌≡◌};
 ghost use Rattle.elf_table.specs.Tables.{RowsWithin};
 
-use crate::fakes::Planned;
-use crate::fixtures::refused;
+use crate::answers::refused;
+use elf_fakes::Planned;
+use elf_fixtures::{aligned_note, build_note, with_bytes};
 use elf_note::NoteCursor;
 use elf_record::Cause;
 use elf_source::{Counted, MemorySource, Source, SourceFault};
 use elf_table::{Cap, Fault, NameBuf, NameEnd, Table};
 use std::process::Abort;
-
-/// A note of the type 3 with the name `GNU` and twenty bytes.
-const BUILD: [u8; 36] = [
-    4, 0, 0, 0, 20, 0, 0, 0, 3, 0, 0, 0, b'G', b'N', b'U', 0, //
-    0, 1, 2, 3, 4, 5, 6, 7, 8, 9, 10, 11, 12, 13, 14, 15, 16, 17, 18, 19,
-];
-
-/// A note of the type 1 with the name `ABCD` and four bytes, aligned to 8, without its last
-/// padding.
-const ALIGNED: [u8; 28] = [
-    5, 0, 0, 0, 4, 0, 0, 0, 1, 0, 0, 0, b'A', b'B', b'C', b'D', //
-    0, 0, 0, 0, 0, 0, 0, 0, 1, 2, 3, 4,
-];
 
 /// How many notes a cursor gives.
 fn notes_given<S: Source>(
@@ -81,16 +69,16 @@ fn first_is(
 fn a_note_is_shown_with_its_name_and_descriptor(rt: HostRuntime) {
     let whole = (NameEnd::Whole, b"GNU".as_slice());
     let cut = (NameEnd::Cut, b"GN".as_slice());
-    let desc = (16, &BUILD[16..]);
-    assert!(rt; first_is(&BUILD, (4, 256), whole, desc, &rt));
-    assert!(rt; first_is(&BUILD, (4, 2), cut, desc, &rt));
-    assert!(rt; walk_twice(&BUILD, 4, 256, &rt) == (Ok(1), Ok(0), 36));
+    let desc = (16, &build_note()[16..]);
+    assert!(rt; first_is(build_note(), (4, 256), whole, desc, &rt));
+    assert!(rt; first_is(build_note(), (4, 2), cut, desc, &rt));
+    assert!(rt; walk_twice(build_note(), 4, 256, &rt) == (Ok(1), Ok(0), 36));
 }
 
 #[test]
 fn the_last_bytes_of_a_table_are_zero(rt: HostRuntime) {
     let mut bytes = [0; 40];
-    bytes[..36].copy_from_slice(&BUILD);
+    bytes[..36].copy_from_slice(build_note());
     assert!(rt; walk_twice(&bytes, 4, 256, &rt) == (Ok(1), Ok(0), 40));
     bytes[39] = 1;
     let cut = refused(36, Cause::NoteCut);
@@ -99,8 +87,7 @@ fn the_last_bytes_of_a_table_are_zero(rt: HostRuntime) {
 
 #[test]
 fn a_descriptor_past_the_table_cuts_it(rt: HostRuntime) {
-    let mut bytes = BUILD;
-    bytes[4..8].copy_from_slice(&[0xff; 4]);
+    let bytes = with_bytes(build_note(), 4, &[0xff; 4]);
     let cut = refused(0, Cause::NoteCut);
     assert!(rt; walk_twice(&bytes, 4, 256, &rt) == (cut, cut, 36));
 }
@@ -108,18 +95,24 @@ fn a_descriptor_past_the_table_cuts_it(rt: HostRuntime) {
 #[test]
 fn notes_are_aligned_as_their_table_is(rt: HostRuntime) {
     let name = (NameEnd::Whole, b"ABCD".as_slice());
-    assert!(rt; first_is(&ALIGNED, (8, 256), name, (24, &[1, 2, 3, 4]), &rt));
-    assert!(rt; walk_twice(&ALIGNED, 8, 256, &rt) == (Ok(1), Ok(0), 28));
-    assert!(rt; first_is(&ALIGNED, (4, 256), name, (20, &[0, 0, 0, 0]), &rt));
+    assert!(rt; first_is(aligned_note(), (8, 256), name, (24, &[1, 2, 3, 4]), &rt));
+    assert!(rt; walk_twice(aligned_note(), 8, 256, &rt) == (Ok(1), Ok(0), 28));
+    assert!(rt; first_is(aligned_note(), (4, 256), name, (20, &[0, 0, 0, 0]), &rt));
     let cut = refused(24, Cause::NoteCut);
-    assert!(rt; walk_twice(&ALIGNED, 4, 256, &rt) == (cut, cut, 28));
+    assert!(rt; walk_twice(aligned_note(), 4, 256, &rt) == (cut, cut, 28));
+}
+
+/// Two notes aligned to 8, the second at 32.
+fn two_aligned_notes() -> [u8; 60] {
+    let mut bytes = [0; 60];
+    bytes[..28].copy_from_slice(aligned_note());
+    bytes[32..].copy_from_slice(aligned_note());
+    bytes
 }
 
 #[test]
 fn two_notes_aligned_to_eight_bytes_are_cut_at_each_length(rt: HostRuntime) {
-    let mut bytes = [0; 60];
-    bytes[..28].copy_from_slice(&ALIGNED);
-    bytes[32..].copy_from_slice(&ALIGNED);
+    let bytes = two_aligned_notes();
     let first = refused(0, Cause::NoteCut);
     let second = refused(32, Cause::NoteCut);
     for size in 0..61usize {

@@ -2,9 +2,10 @@
 //! addresses.
 ghost use Rattle.std.specs.Prelude.{◌≡◌};
 
-use crate::fakes::Planned;
-use crate::fixtures::{ONE_LIBRARY, ONE_SYMBOL_TABLE, refused};
+use crate::answers::refused;
 use crate::loads::open;
+use elf_fakes::Planned;
+use elf_fixtures::{library_without_sections, one_symbol_table, with_bytes};
 use elf_record::Cause;
 use elf_source::{Counted, MemorySource, Source, SourceFault};
 use elf_table::{Fault, HeaderStore, Names, SegmentView, Table, header, load};
@@ -44,10 +45,10 @@ fn two_segments<'a>(file: &[u8], store: &'a mut HeaderStore, rt: &impl Abort) ->
 
 /// The file with some of its numbers of eight bytes changed, each at its offset.
 fn with_numbers(numbers: &[(usize, u64)], rt: &impl Abort) -> [u8; 251] {
-    let mut file = ONE_LIBRARY;
+    let mut file = *library_without_sections();
     for (at, number) in numbers {
         assert!(rt; *at <= 243);
-        file[*at..*at + 8].copy_from_slice(&number.to_le_bytes());
+        file = with_bytes(&file, *at, &number.to_le_bytes());
     }
     file
 }
@@ -75,7 +76,7 @@ fn strings(
 #[test]
 fn program_headers_are_read_once(rt: HostRuntime) -> Result<(), Fail> {
     let mut store = HeaderStore::new(rt.alloc(), 2)?;
-    let mut src = Counted::new(MemorySource::new(&ONE_LIBRARY));
+    let mut src = Counted::new(MemorySource::new(library_without_sections()));
     let answer = load_view(&mut src, &mut store, &rt);
     assert!(rt; answer == (Ok(()), 2));
     assert!(rt; src.asked() == 64 + 112);
@@ -178,8 +179,8 @@ fn addresses_are_whole_numbers(rt: HostRuntime) -> Result<(), Fail> {
 #[test]
 fn a_load_lets_go_of_what_was_loaded(rt: HostRuntime) -> Result<(), Fail> {
     let mut store = HeaderStore::new(rt.alloc(), 3)?;
-    let mut sections = Counted::new(MemorySource::new(&ONE_SYMBOL_TABLE));
-    let mut segments = Counted::new(MemorySource::new(&ONE_LIBRARY));
+    let mut sections = Counted::new(MemorySource::new(one_symbol_table()));
+    let mut segments = Counted::new(MemorySource::new(library_without_sections()));
     assert!(rt; open(&mut sections, &mut store).is_ok());
     assert!(rt; store.loaded() == 3 && store.segments() == 0);
     let answer = load_view(&mut segments, &mut store, &rt);
@@ -188,11 +189,10 @@ fn a_load_lets_go_of_what_was_loaded(rt: HostRuntime) -> Result<(), Fail> {
     assert!(rt; store.loaded() == 3 && store.segments() == 0);
     let answer = load_view(&mut segments, &mut store, &rt);
     assert!(rt; answer == (Ok(()), 2));
-    let mut refuses = Counted::new(MemorySource::new(&ONE_LIBRARY[..63]));
+    let mut refuses = Counted::new(MemorySource::new(&library_without_sections()[..63]));
     assert!(rt; open(&mut refuses, &mut store).is_err());
     assert!(rt; store.segments() == 2);
-    let mut bytes = ONE_LIBRARY;
-    bytes[0x38] = 4;
+    let bytes = with_bytes(library_without_sections(), 0x38, &[4]);
     let mut refuses = Counted::new(MemorySource::new(&bytes));
     assert!(rt; open(&mut refuses, &mut store) == refused(0x38, Cause::TooManyHeaders));
     assert!(rt; store.segments() == 0);
@@ -202,7 +202,7 @@ fn a_load_lets_go_of_what_was_loaded(rt: HostRuntime) -> Result<(), Fail> {
 /// A file of 75 program headers and no sections.
 fn two_pages() -> [u8; 64 + 56 * 75] {
     let mut file = [0; 64 + 56 * 75];
-    file[..64].copy_from_slice(&ONE_LIBRARY[..64]);
+    file[..64].copy_from_slice(&library_without_sections()[..64]);
     file[0x38] = 75;
     file[64 + 56 * 73] = 5;
     file[64 + 56 * 74] = 6;
@@ -252,10 +252,9 @@ fn a_limit_leaves_none_either(rt: HostRuntime) -> Result<(), Fail> {
 
 #[test]
 fn no_program_headers_are_not_read(rt: HostRuntime) -> Result<(), Fail> {
-    let mut file = ONE_LIBRARY;
-    file[0x38] = 0;
     // Their offset is past the end of the file.
-    file[0x27] = 0xff;
+    let far = with_bytes(library_without_sections(), 0x27, &[0xff]);
+    let file = with_bytes(&far, 0x38, &[0]);
     let mut store = HeaderStore::new(rt.alloc(), 1)?;
     let mut src = Counted::new(MemorySource::new(&file));
     let answer = load_view(&mut src, &mut store, &rt);

@@ -4,8 +4,7 @@
 mod answering;
 #[cfg(test)]
 mod budget_tests;
-#[cfg(test)]
-mod fixtures;
+mod endings;
 #[cfg(test)]
 mod listing_tests;
 mod offset_reader;
@@ -21,10 +20,13 @@ ghost use Rattle.elfsee.specs.Answers.{refused_line, refused_status};
 ghost use Rattle.elfsee.specs.Requests.{headers_of, parts_of};
 ghost use Rattle.elfsee.specs.declared.requests.RequestFault.{RequestFault};
 
-use answering::{outcome, refused, run};
+use answering::run;
 use elf_listing::RunFault;
 use elf_source::{Counted, Device, MemorySource, Out, Source, StreamSource, WriteSink};
 use elf_table::HeaderStore;
+use endings::{
+    CANNOT_OPEN, Ending, NOT_UTF8, OUT_OF_MEMORY, READ_FAULT, WRITE_FAULT, outcome, refused,
+};
 use offset_reader::OffsetReader;
 use requests::Request;
 use sample::sample;
@@ -42,19 +44,6 @@ const OUTPUT_BYTES: usize = 65_536;
 
 /// A file that is read at offsets.
 type FileReader<F> = Device<OffsetReader<F>>;
-
-/// An exit status, and a line for standard error, which is empty where there is nothing to say.
-type Ending = (u8, &'static str);
-
-const OUT_OF_MEMORY: Ending = (3, "elfsee: out of memory");
-
-const CANNOT_OPEN: Ending = (3, "elfsee: cannot open");
-
-const READ_FAULT: Ending = (3, "elfsee: read fault");
-
-const WRITE_FAULT: Ending = (3, "elfsee: write fault");
-
-const NOT_UTF8: Ending = (2, "elfsee: words are not UTF-8");
 
 fn main(rt: HostRuntime) -> ExitCode {
     let (status, line) = match answer(&rt) {
