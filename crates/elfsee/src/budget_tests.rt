@@ -7,6 +7,7 @@ use crate::fixtures::{HASH_TABLE, ONE_CALL, RELOCATIONS};
 use crate::listing_tests::{HEADER, LISTED, overlapping};
 use crate::requests::Request;
 use crate::sample::SAMPLE;
+use crate::table_fixtures::{BOTH_VIEWS, MAPPED_LIBRARY, NEEDED_LIBRARY, NOTE_SEGMENT, TWO_NOTES};
 use elf_listing::{End, show};
 use elf_record::Parts;
 use elf_source::{Counted, Out, Source, SourceFault, WriteSink};
@@ -44,11 +45,11 @@ impl Source for Tally<'_> {
 }
 
 /// A listing's text, its status, and how many bytes were asked for.
-type Listed = (Vec<u8>, u8, u64);
+pub(crate) type Listed = (Vec<u8>, u8, u64);
 
 /// Carries a request out, and checks that no read was larger than 4,096 bytes, that `show` writes the
 /// same, and that no limit is left.
-fn listed(
+pub(crate) fn listed(
     rt: &(impl Abort + AllocGlobal),
     file: &[u8],
     caps: Caps,
@@ -127,6 +128,19 @@ fn every_budget_up_to_the_cost(rt: HostRuntime) -> Result<(), Fail> {
     check_budgets(&rt, &RELOCATIONS, 3, 480)?;
     check_budgets(&rt, &ONE_CALL, 5, 672)?;
     check_budgets(&rt, &overlapping(), 5, 3552)
+}
+
+#[test]
+fn every_budget_over_notes(rt: HostRuntime) -> Result<(), Fail> {
+    check_budgets(&rt, &NOTE_SEGMENT, 1, 140)?;
+    check_budgets(&rt, &TWO_NOTES, 1, 180)
+}
+
+#[test]
+fn every_budget_over_dynamic_entries(rt: HostRuntime) -> Result<(), Fail> {
+    check_budgets(&rt, &NEEDED_LIBRARY, 3, 496)?;
+    check_budgets(&rt, &MAPPED_LIBRARY, 2, 560)?;
+    check_budgets(&rt, &BOTH_VIEWS, 4, 608)
 }
 
 /// Lists a file within a budget, and checks the text and how many bytes were asked for.

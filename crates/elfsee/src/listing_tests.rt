@@ -14,8 +14,8 @@ use elf_table::{Caps, HeaderStore};
 use std::process::Abort;
 use std::test::Fail;
 
-/// The parts that are listed: the file header, sections, program headers, symbols, relocation entries.
-pub(crate) const LISTED: Parts = Parts(31);
+/// All parts of a listing.
+pub(crate) const LISTED: Parts = Parts(127);
 
 /// The sample's file header.
 pub(crate) const HEADER: &str =
@@ -66,7 +66,7 @@ fn check_listing(
 }
 
 /// Checks that what was written is these pieces, one behind the other.
-fn check_text(rt: &impl Abort, written: &[u8], pieces: &[&str]) {
+pub(crate) fn check_text(rt: &impl Abort, written: &[u8], pieces: &[&str]) {
     let mut rest = written;
     for piece in pieces {
         let bytes = piece.as_bytes();

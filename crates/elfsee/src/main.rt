@@ -5,12 +5,18 @@ mod answering;
 #[cfg(test)]
 mod budget_tests;
 #[cfg(test)]
+mod dynamic_tests;
+#[cfg(test)]
 mod fixtures;
 #[cfg(test)]
 mod listing_tests;
+#[cfg(test)]
+mod note_tests;
 mod offset_reader;
 mod requests;
 mod sample;
+#[cfg(test)]
+mod table_fixtures;
 #[cfg(test)]
 mod tests;
 mod words;
