@@ -244,3 +244,66 @@ SectionsDecide =
     ++ codes "D     1 NULL             0000000000000000 \n")
     × (cost both_views 4 63 (NOTES + DYNAMIC) ≡ 64 + 256 + 16 + 2 * 80)
     × (cost both_views 4 63 ALL ≡ 64 + 256 + 112 + 16 + 2 * 80)
+
+-- the strings must lie within the file, and not the whole segment that loads them
+abbrev pub StringsInsideTheFile : Type 0
+StringsInsideTheFile = report (loaded 0x1000 0x40 (needed_with (tagged 5 0x4000f0) (tagged 10 11))) 2 63 DYNAMIC ≡ needed_lines
+
+-- no strings at all may be at a segment's end, and not behind it; they have the empty string at 0 alone
+abbrev pub EmptyStringsAtTheEnd : Type 0
+EmptyStringsAtTheEnd =
+    (report (loaded 0xfb 0x40 (tagged 1 0 ++ tagged 5 0x4000fb ++ tagged 10 0 ++ tagged 0 0)) 2 63 DYNAMIC
+    ≡ codes "D     0 NEEDED           0000000000000000 \n"
+    ++ codes "D     1 STRTAB           00000000004000fb \n"
+    ++ codes "D     2 STRSZ            0000000000000000 \n"
+    ++ codes "D     3 NULL             0000000000000000 \n")
+    × (report (loaded 0xfb 0x40 (needed_with (tagged 5 0x4000fb) (tagged 10 0))) 2 63 DYNAMIC ≡ codes "! 00000000000000b0 name-outside\n")
+    × (report (loaded 0xfb 0x40 (needed_with (tagged 5 0x4000fc) (tagged 10 0))) 2 63 DYNAMIC ≡ codes "! 00000000000000b0 unmapped\n")
+
+-- an entry that shows the string at 0 needs the string table too
+abbrev pub FirstStringsAreSought : Type 0
+FirstStringsAreSought =
+    report (loaded 0xfb 0x40 (tagged 1 0 ++ tagged 99 0x4000f0 ++ tagged 10 11 ++ tagged 0 0)) 2 63 DYNAMIC
+    ≡ codes "! 00000000000000b0 unmapped\n"
+
+-- offsets are added in whole numbers
+abbrev pub OffsetsDoNotWrap : Type 0
+OffsetsDoNotWrap =
+    report (with_bytes 0x48 (little 8 (2 ^ 64 - 1)) (loaded 0xfc 0x40 (needed_with (tagged 5 0x4000f1) (tagged 10 11)))) 2 63 DYNAMIC
+    ≡ codes "! 0000000000000040 table-outside\n"
+
+-- the file with a segment of another type in the place of the one that is loaded
+abbrev typed : ℕ → List ℕ
+typed type = with_bytes 0x40 (little 4 type) needed
+
+-- segments of any other type load nothing
+abbrev pub OtherTypesLoadNothing : Type 0
+OtherTypesLoadNothing =
+    (report (typed 0) 2 63 DYNAMIC ≡ codes "! 00000000000000b0 unmapped\n")
+    × (report (typed 3) 2 63 DYNAMIC ≡ codes "! 00000000000000b0 unmapped\n")
+    × (report (typed 4) 2 63 DYNAMIC ≡ codes "! 00000000000000b0 unmapped\n")
+    × (report (typed 7) 2 63 DYNAMIC ≡ codes "! 00000000000000b0 unmapped\n")
+    × (report (typed 0x6474e552) 2 63 DYNAMIC ≡ codes "! 00000000000000b0 unmapped\n")
+    × (report (typed 0x10001) 2 63 DYNAMIC ≡ codes "! 00000000000000b0 unmapped\n")
+
+-- each table of dynamic entries tells of its own strings
+abbrev pub EachTableHasItsStrings : Type 0
+EachTableHasItsStrings =
+    report (object 3
+    (program_header 1 5 0 0x400000 0x176 0x1000 ++ program_header 2 6 0xe8 0x4000e8 0x40 8 ++ program_header 2 6 0x128 0x400128 0x40 8
+    ++ needed_with (tagged 5 0x400168) (tagged 10 11) ++ needed_with (tagged 5 0x400173) (tagged 10 3)
+    ++ library ++ (0 ∷ codes "m" ++ zeros 1))) 3 63 DYNAMIC
+    ≡ codes "D     0 NEEDED           0000000000000001 libc.so.6\n"
+    ++ codes "D     1 STRTAB           0000000000400168 \n"
+    ++ codes "D     2 STRSZ            000000000000000b \n"
+    ++ codes "D     3 NULL             0000000000000000 \n"
+    ++ codes "D     0 NEEDED           0000000000000001 m\n"
+    ++ codes "D     1 STRTAB           0000000000400173 \n"
+    ++ codes "D     2 STRSZ            0000000000000003 \n"
+    ++ codes "D     3 NULL             0000000000000000 \n"
+
+-- sections are there by their number, also where their headers stand at the file's start
+abbrev pub SectionsByTheirNumber : Type 0
+SectionsByTheirNumber =
+    (report (with_bytes 0x3a (little 2 64 ++ little 2 1) needed) 2 63 DYNAMIC ≡ [])
+    × (cost (with_bytes 0x3a (little 2 64 ++ little 2 1) needed) 2 63 DYNAMIC ≡ 64 + 64)

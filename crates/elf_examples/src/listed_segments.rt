@@ -1,5 +1,5 @@
 //! Listings of the notes and dynamic entries that program headers describe, each computed by the prover.
-ghost use Rattle.elf_examples.specs.ListedSegments.{SegmentEntriesList, SegmentEntriesCost, UnmappedStringsAreRefused, SegmentStringsAreNames, StringsAreSoughtLate, FirstTagsCount, AddressesDoNotWrap, SegmentEntriesAreChecked, FirstLoadDecides, SegmentsByFileSize, NoSegmentPastTheLast, SegmentTablesInOrder, TwoNotesOfASegment, NoHeadersNoTables, SectionsDecide};
+ghost use Rattle.elf_examples.specs.ListedSegments.{SegmentEntriesList, SegmentEntriesCost, UnmappedStringsAreRefused, SegmentStringsAreNames, StringsAreSoughtLate, FirstTagsCount, AddressesDoNotWrap, SegmentEntriesAreChecked, FirstLoadDecides, SegmentsByFileSize, NoSegmentPastTheLast, SegmentTablesInOrder, TwoNotesOfASegment, NoHeadersNoTables, SectionsDecide, StringsInsideTheFile, EmptyStringsAtTheEnd, FirstStringsAreSought, OffsetsDoNotWrap, OtherTypesLoadNothing, EachTableHasItsStrings, SectionsByTheirNumber};
 
 /// Dynamic entries of a segment, with their strings where a segment loads them.
 #[tactic(auto, unfolding(elf_model::proofs::OnLiterals::on_literals))]
@@ -89,4 +89,46 @@ pub fn no_headers_no_tables()
 #[tactic(auto, unfolding(elf_model::proofs::OnLiterals::on_literals))]
 pub fn sections_decide()
     ensures { SectionsDecide }
+{}
+
+/// The strings must lie within the file, and not the whole segment that loads them.
+#[tactic(auto, unfolding(elf_model::proofs::OnLiterals::on_literals))]
+pub fn strings_inside_the_file()
+    ensures { StringsInsideTheFile }
+{}
+
+/// No strings at all may be at a segment's end, and not behind it.
+#[tactic(auto, unfolding(elf_model::proofs::OnLiterals::on_literals))]
+pub fn empty_strings_at_the_end()
+    ensures { EmptyStringsAtTheEnd }
+{}
+
+/// An entry that shows the string at 0 needs the string table too.
+#[tactic(auto, unfolding(elf_model::proofs::OnLiterals::on_literals))]
+pub fn first_strings_are_sought()
+    ensures { FirstStringsAreSought }
+{}
+
+/// Offsets are added in whole numbers.
+#[tactic(auto, unfolding(elf_model::proofs::OnLiterals::on_literals))]
+pub fn offsets_do_not_wrap()
+    ensures { OffsetsDoNotWrap }
+{}
+
+/// Segments of any other type load nothing.
+#[tactic(auto, unfolding(elf_model::proofs::OnLiterals::on_literals))]
+pub fn other_types_load_nothing()
+    ensures { OtherTypesLoadNothing }
+{}
+
+/// Each table of dynamic entries tells of its own strings.
+#[tactic(auto, unfolding(elf_model::proofs::OnLiterals::on_literals))]
+pub fn each_table_has_its_strings()
+    ensures { EachTableHasItsStrings }
+{}
+
+/// Sections are there by their number, also where their headers stand at the file's start.
+#[tactic(auto, unfolding(elf_model::proofs::OnLiterals::on_literals))]
+pub fn sections_by_their_number()
+    ensures { SectionsByTheirNumber }
 {}
