@@ -246,6 +246,8 @@ fn words_name_a_part(rt: HostRuntime) -> Result<(), Fail> {
         ("segments", Parts::SEGMENTS),
         ("symbols", Parts::SYMBOLS),
         ("relocs", Parts::RELOCS),
+        ("notes", Parts::NOTES),
+        ("dynamic", Parts::DYNAMIC),
     ] {
         let sample = request(rt.alloc(), &["sample", "--only", part])?;
         assert!(rt; sample == Request::Sample { caps, parts });

@@ -16,8 +16,8 @@ const DEFAULT_HEADERS: u16 = 4_096;
 const DEFAULT_NAME: u16 = 256;
 
 /// Reads the words of a command line, without the program's name: `show --only PART FILE` or
-/// `sample --only PART`, where PART is `header`, `sections`, `segments`, `symbols` or `relocs`. At most
-/// 4,096 headers are permitted, and 256 bytes of a name are shown.
+/// `sample --only PART`, where PART is `header`, `sections`, `segments`, `symbols`, `relocs`, `notes` or
+/// `dynamic`. At most 4,096 headers are permitted, and 256 bytes of a name are shown.
 ///
 /// # Errors
 /// `Words` for any other words, `Memory` where there is none for the file's path.
@@ -62,6 +62,8 @@ fn part_named(name: &str) -> Result<Parts, RequestFault>
         "segments" => Ok(Parts::SEGMENTS),
         "symbols" => Ok(Parts::SYMBOLS),
         "relocs" => Ok(Parts::RELOCS),
+        "notes" => Ok(Parts::NOTES),
+        "dynamic" => Ok(Parts::DYNAMIC),
         _ => Err(RequestFault::Words),
     }
 }
