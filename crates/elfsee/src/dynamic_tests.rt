@@ -27,8 +27,8 @@ fn without_an_end_all_entries_are_listed(rt: HostRuntime) -> Result<(), Fail> {
     check_rows(&rt, &file, (3, 63), Parts::DYNAMIC, &text, 496)
 }
 
-/// A relocatable file with a section of 256 dynamic entries, at 0x100, all of them the end, and one of
-/// no strings.
+/// A relocatable file with a section of 256 dynamic entries, at 0x100, all of them the end, and one
+/// of no strings.
 fn many_ends() -> [u8; 4352] {
     let mut file = [0; 4352];
     let all = &mut file[..];

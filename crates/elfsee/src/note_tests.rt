@@ -9,8 +9,8 @@ use elf_table::Caps;
 use std::process::Abort;
 use std::test::Fail;
 
-/// Lists a file by `run` and by `show`, and checks the text, which ends in a refusal or has none, and
-/// that no more bytes were asked for than the listing costs.
+/// Lists a file by `run` and by `show`, and checks the text, which ends in a refusal or has none,
+/// and that no more bytes were asked for than the listing costs.
 pub(crate) fn check_rows(
     rt: &(impl Abort + AllocGlobal),
     file: &[u8],
@@ -44,8 +44,8 @@ const BUILD_NOTE: [u8; 36] = [
 const BUILD_LINE: &str =
     "N     1 00000003 00000004 00000014 GNU 000102030405060708090a0b0c0d0e0f10111213\n";
 
-/// A note with a name of five bytes, seven zeros behind it, and four bytes more: its descriptor where
-/// notes are aligned to 8 bytes.
+/// A note with a name of five bytes, seven zeros behind it, and four bytes more: its descriptor
+/// where notes are aligned to 8 bytes.
 #[rattlefmt::skip]
 const ALIGNED_NOTE: [u8; 28] = [
     5, 0, 0, 0, 4, 0, 0, 0, 1, 0, 0, 0, 0x41, 0x42, 0x43, 0x44, 0, 0, 0, 0, 0, 0, 0, 0, 1, 2, 3, 4,
@@ -184,8 +184,8 @@ fn sections_decide_which_notes_there_are(rt: HostRuntime) -> Result<(), Fail> {
     check_rows(&rt, &BOTH_VIEWS, (4, 63), Parts::NOTES, &text, 336)
 }
 
-/// An executable file without sections: a segment of one note, whose name has 4,097 bytes and ends in
-/// this one.
+/// An executable file without sections: a segment of one note, whose name has 4,097 bytes and ends
+/// in this one.
 fn long_name(last: u8) -> [u8; 4236] {
     let mut file = [0x6e; 4236];
     let all = &mut file[..];

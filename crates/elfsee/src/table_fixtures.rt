@@ -92,8 +92,8 @@ pub(crate) static TWO_NOTES: [u8; 180] = [
     0x01, 0x02, 0x03, 0x04,
 ];
 
-/// A file with three dynamic entries, at 0x40: a library that is needed, the end, and an entry behind
-/// it. Their names stand at 0x70, the section headers of both at 0xbb and 0xfb.
+/// A file with three dynamic entries, at 0x40: a library that is needed, the end, and an entry
+/// behind it. Their names stand at 0x70, the section headers of both at 0xbb and 0xfb.
 #[rattlefmt::skip]
 pub(crate) static NEEDED_LIBRARY: [u8; 315] = [
     0x7f, 0x45, 0x4c, 0x46, 0x02, 0x01, 0x01, 0x00, 0x00, 0x00, 0x00, 0x00, 0x00, 0x00, 0x00, 0x00,
