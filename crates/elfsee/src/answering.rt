@@ -1,7 +1,6 @@
 //! A request carried out.
 ghost use Rattle.std.specs.Prelude.{◌≡◌, ◌+◌, ◌^◌, ◌≤◌, ℕ, List, Some, IfErr};
 ghost use Rattle.elf_model.specs.Cost.{cost};
-ghost use Rattle.elf_listing.specs.Parts.{AreListed};
 ghost use Rattle.elf_listing.specs.Reports.{Leaves, FaultSays};
 ghost use Rattle.elfsee.specs.Answers.{Answers, AsksAs};
 ghost use Rattle.elfsee.specs.Requests.{caps_of, headers_of, parts_of};
@@ -23,8 +22,7 @@ pub fn run<S: Source, W: Sink>(
     store: &mut HeaderStore,
     out: &mut Out<W>,
 ) -> Result<u8, RunFault>
-    requires { (store.old.slots ≡ headers_of request.now)
-        × AreListed (parts_of request.now) × (src.old.asked ≤ 2 ^ 127) }
+    requires { (store.old.slots ≡ headers_of request.now) × (src.old.asked ≤ 2 ^ 127) }
     ensures slots { store.new.slots ≡ store.old.slots }
     ensures leaves { Leaves src.old src.new }
     ensures says { IfErr result (FaultSays src.old src.new out.new) }

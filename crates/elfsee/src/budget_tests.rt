@@ -1,6 +1,5 @@
 //! Listings within a read budget, over a source that counts what it is asked for.
-ghost use Rattle.std.specs.Prelude.{◌≡◌, ◌<◌, ◌≤◌};
-ghost use Rattle.elf_listing.specs.Parts.{AreListed};
+ghost use Rattle.std.specs.Prelude.{◌<◌, ◌≤◌};
 
 use crate::answering::run;
 use crate::listing_tests::{HEADER, LISTED};
@@ -10,6 +9,7 @@ use elf_fixtures::{
     hash_with_cycle, one_call, one_symbol_table, overlapping_relocations, tables_over_headers,
     with_bytes,
 };
+use crate::table_fixtures::{BOTH_VIEWS, MAPPED_LIBRARY, NEEDED_LIBRARY, NOTE_SEGMENT, TWO_NOTES};
 use elf_listing::{End, show};
 use elf_record::Parts;
 use elf_source::{Counted, Out, WriteSink};
@@ -18,17 +18,16 @@ use std::process::Abort;
 use std::test::Fail;
 
 /// A listing's text, its status, and how many bytes were asked for.
-type Listed = (Vec<u8>, u8, u64);
+pub(crate) type Listed = (Vec<u8>, u8, u64);
 
 /// Carries a request out, and checks that no read was larger than 4,096 bytes, that `show` writes the
 /// same, and that no limit is left.
-fn listed(
+pub(crate) fn listed(
     rt: &(impl Abort + AllocGlobal),
     file: &[u8],
     caps: Caps,
     parts: Parts,
 ) -> Result<Listed, Fail>
-    requires { AreListed parts.0 }
 {
     let mut store = HeaderStore::new(rt.alloc(), caps.headers())?;
     let request = Request::Sample { caps, parts };
@@ -100,6 +99,19 @@ fn budgets_up_to_the_cost(rt: HostRuntime) -> Result<(), Fail> {
     check_budgets(&rt, tables_over_headers(), 5, 3552, 7)
 }
 
+#[test]
+fn every_budget_over_notes(rt: HostRuntime) -> Result<(), Fail> {
+    check_budgets(&rt, &NOTE_SEGMENT, 1, 140, 1)?;
+    check_budgets(&rt, &TWO_NOTES, 1, 180, 1)
+}
+
+#[test]
+fn every_budget_over_dynamic_entries(rt: HostRuntime) -> Result<(), Fail> {
+    check_budgets(&rt, &NEEDED_LIBRARY, 3, 496, 1)?;
+    check_budgets(&rt, &MAPPED_LIBRARY, 2, 560, 1)?;
+    check_budgets(&rt, &BOTH_VIEWS, 4, 608, 1)
+}
+
 /// Lists a file within a budget, and checks the text and how many bytes were asked for.
 fn check_row(
     rt: &(impl Abort + AllocGlobal),
@@ -109,7 +121,6 @@ fn check_row(
     text: &str,
     asked: u64,
 ) -> Result<(), Fail>
-    requires { AreListed parts.0 }
 {
     let caps = Caps::new(3, 63).ok_or("caps")?;
     let answer = listed(rt, file, caps.with_budget(budget), parts)?;

@@ -4,20 +4,25 @@
 mod answering;
 #[cfg(test)]
 mod budget_tests;
+#[cfg(test)]
+mod dynamic_tests;
 mod endings;
 #[cfg(test)]
 mod listing_tests;
+#[cfg(test)]
+mod note_tests;
 mod offset_reader;
 mod requests;
 mod sample;
 #[cfg(test)]
+mod table_fixtures;
+#[cfg(test)]
 mod tests;
 mod words;
 
-ghost use Rattle.std.specs.Prelude.{◌≡◌, ◌⊎◌, codes, IfErr, IfOk};
-ghost use Rattle.elf_listing.specs.Parts.{AreListed};
+ghost use Rattle.std.specs.Prelude.{◌≡◌, ◌⊎◌, codes, IfErr};
 ghost use Rattle.elfsee.specs.Answers.{refused_line, refused_status};
-ghost use Rattle.elfsee.specs.Requests.{headers_of, parts_of};
+ghost use Rattle.elfsee.specs.Requests.{headers_of};
 ghost use Rattle.elfsee.specs.declared.requests.RequestFault.{RequestFault};
 
 use answering::run;
@@ -99,8 +104,7 @@ fn read_words<R: Env + AllocGlobal>(rt: &R) -> Result<Vec<String>, Ending>
 /// Reads the request, without memory of its own: a request has no more than four words, and of others
 /// the first five tell that they are none.
 fn read_request(alloc: Global, words: &[String]) -> Result<Request, Ending>
-    ensures listed { IfOk result (λ request. AreListed (parts_of request)) }
-    ensures told { IfErr result (λ ending. (fault : RequestFault)
+    ensures { IfErr result (λ ending. (fault : RequestFault)
         × (ending.0 ≡ refused_status fault) × (ending.1.now ≡ refused_line fault)) }
 {
     let mut texts = [""; 5];
@@ -138,8 +142,7 @@ fn write_answer<S: Source + Drop, W: Write + Drop>(
     mut store: HeaderStore,
     output: BufWriter<W>,
 ) -> Ending
-    requires listed { AreListed (parts_of request.now) }
-    requires slots { store.slots ≡ headers_of request.now }
+    requires { store.slots ≡ headers_of request.now }
 {
     let mut src = Counted::new(source);
     let mut out = Out::new(WriteSink::new(output));

@@ -1,6 +1,5 @@
 //! The file header's listing over honest sources, and over sources and sinks that fail; words and endings.
 ghost use Rattle.std.specs.Prelude.{◌≡◌, ◌≤◌, IfOk};
-ghost use Rattle.elf_listing.specs.Parts.{AreListed};
 
 use crate::answering::run;
 use crate::endings::{outcome, refused};
@@ -43,7 +42,6 @@ fn check_listing(
     end: End,
     asked: u128,
 ) -> Result<(), Fail>
-    requires { AreListed parts.0 }
 {
     let (mut store, caps) = one_slot(rt)?;
     let mut buffer = [0; 256];
@@ -190,6 +188,8 @@ fn words_name_a_part(rt: HostRuntime) -> Result<(), Fail> {
         ("segments", Parts::SEGMENTS),
         ("symbols", Parts::SYMBOLS),
         ("relocs", Parts::RELOCS),
+        ("notes", Parts::NOTES),
+        ("dynamic", Parts::DYNAMIC),
     ] {
         let sample = request(rt.alloc(), &["sample", "--only", part])?;
         assert!(rt; sample == Request::Sample { caps, parts });
