@@ -131,8 +131,10 @@ kinds_are file most parts loaded store belongs view = by_cases (e_shnum file == 
   where
     count : store.loaded ≡ e_shnum file
     count = belongs.count ∙ belongs.header.e_shnum
+
     sections : (part : Part) → of_headers file most parts part (e_shnum file) ≡ of_headers file most parts part store.loaded
     sections part = ap (of_headers file most parts part) (sym count)
+
     by_cases : (none : Bool) → (e_shnum file == 0) ≡ none → kinds_rows (table_headers file).kinds (table_headers file) file most parts
         ≡ ((of_headers file most parts Symbols store.loaded ++ of_headers file most parts Relocations store.loaded)
         ++ (of_headers file most parts SectionNotes store.loaded ++ of_headers file most parts SegmentNotes store.segments))

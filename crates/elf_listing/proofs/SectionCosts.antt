@@ -203,6 +203,7 @@ tables_within file loaded store most parts belongs held view = by_cases (e_shnum
   where
     count : store.loaded ≡ e_shnum file
     count = belongs.count ∙ belongs.header.e_shnum
+
     by_cases : (none : Bool) → (e_shnum file == 0) ≡ none
         → sum_over (λ i. kinds_cost section_kinds (row store i) 0 loaded.size most parts) 0 store.loaded
         + sum_over (λ i. kinds_cost segment_kinds (segment_row store i) 0 loaded.size most parts) 0 store.segments

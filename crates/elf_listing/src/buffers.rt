@@ -1,7 +1,8 @@
 //! The fixed buffers that a listing takes.
 
-/// The size in bytes of all fixed buffers that [`crate::show`] holds, each once, at most 16,384: those
-/// of reading a file, of reading names and symbols ahead, of a note, and of putting a line together.
+/// The size in bytes of all fixed buffers that [`crate::show`] holds, each once, at most 16,384:
+/// those of reading a file, of reading names and symbols ahead, of a note, and of putting a line
+/// together.
 pub const FIXED_BYTES: usize = elf_table::BUFFER_BYTES
     + elf_names::BUFFER_BYTES
     + elf_note::BUFFER_BYTES

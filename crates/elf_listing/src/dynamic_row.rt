@@ -10,7 +10,8 @@ ghost use Rattle.elf_table.specs.Tables.{StringsWithin};
 ghost use Rattle.elf_table.specs.Views.{Views};
 ghost use Rattle.elf_listing.specs.Kinds.{OfRow};
 ghost use Rattle.elf_listing.specs.Shows.{Fetches, Lists};
-ghost use Rattle.elf_listing.specs.Strings.{AreOf, AreWithin, FoundAs, ToldRead, strings_told, told_name};
+ghost use Rattle.elf_listing.specs.Strings.{AreOf, AreWithin, FoundAs};
+ghost use Rattle.elf_listing.specs.Strings.{ToldRead, strings_told, told_name};
 ghost use Rattle.elf_listing.specs.declared.rows.Kind.TheVariants.{Dynamic};
 
 use crate::listing::Listing;
@@ -48,8 +49,8 @@ pub enum EntryStrings<'f> {
 }
 
 impl<S: Source, W: Sink> Listing<'_, '_, '_, S, W> {
-    /// Shows the row of a dynamic entry: its `D` line with its string, or the refusal of the string table
-    /// or of the string.
+    /// Shows the row of a dynamic entry: its `D` line with its string, or the refusal of the string
+    /// table or of the string.
     pub(crate) fn dynamic_row(
         &mut self,
         row: &Row<'_>,
@@ -65,8 +66,9 @@ impl<S: Source, W: Sink> Listing<'_, '_, '_, S, W> {
         self.named_line(dynamic_front(row.index, &entry), end)
     }
 
-    /// Reads the string that an entry at the file offset `at` tells of, which is empty where it tells of
-    /// none: only for one that does the string table is looked for (gABI 5, Dynamic Section).
+    /// Reads the string that an entry at the file offset `at` tells of, which is empty where it
+    /// tells of none: only for one that does the string table is looked for (gABI 5, Dynamic
+    /// Section).
     fn read_string(
         &mut self,
         entry: &Dyn,

@@ -1,6 +1,7 @@
 //! What is listed of each header, one header after another.
 ghost use Rattle.std.specs.Prelude.{◌≡◌, ◌<◌};
-ghost use Rattle.elf_listing.specs.Parts.{header_cost, header_count, header_items, part_cost, part_items};
+ghost use Rattle.elf_listing.specs.Parts.{header_cost, header_count};
+ghost use Rattle.elf_listing.specs.Parts.{header_items, part_cost, part_items};
 ghost use Rattle.elf_listing.specs.Shows.{Lists, Shows};
 
 use crate::listing::Listing;

@@ -7,9 +7,9 @@ use elf_names::ReadAhead;
 use elf_source::{Counted, Out, Sink, Source};
 use elf_table::{Cap, File, NameBuf};
 
-/// A source that is read, an output that is written, the file that was loaded, how many bytes of a name
-/// are shown, a buffer for a name, and the names and symbols that were read ahead. What shows a part of
-/// the file is a method.
+/// A source that is read, an output that is written, the file that was loaded, how many bytes of a
+/// name are shown, a buffer for a name, and the names and symbols that were read ahead. What shows
+/// a part of the file is a method.
 #[derive(Drop)]
 pub struct Listing<'s, 'o, 'f, S: Source, W: Sink> {
     pub src: &'s mut Counted<S>,

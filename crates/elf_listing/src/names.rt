@@ -12,7 +12,8 @@ use elf_source::{Sink, Source};
 use elf_table::{Fault, NameEnd, Names};
 
 impl<S: Source, W: Sink> Listing<'_, '_, '_, S, W> {
-    /// Reads the name at an index of a string table into the listing's buffer (gABI 4, String Table).
+    /// Reads the name at an index of a string table into the listing's buffer (gABI 4, String
+    /// Table).
     ///
     /// # Errors
     /// As for `ReadAhead::name`.
@@ -26,8 +27,8 @@ impl<S: Source, W: Sink> Listing<'_, '_, '_, S, W> {
         self.ahead.name(self.src, index, self.cap, &mut self.name)
     }
 
-    /// Reads the name of a section at the index `off`; without a string table it is empty. A refusal
-    /// names `at`.
+    /// Reads the name of a section at the index `off`; without a string table it is empty. A
+    /// refusal names `at`.
     pub(crate) fn read_section_name(
         &mut self,
         names: Option<Names>,

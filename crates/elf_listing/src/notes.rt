@@ -17,8 +17,8 @@ use elf_table::Table;
 
 impl<S: Source, W: Sink> Listing<'_, '_, '_, S, W> {
     /// Shows the notes of a table of single bytes, an `N` line each, up to the place where no note
-    /// stands. `align` is the alignment that the table's header tells, and `index` is the header's (gABI 5,
-    /// Note Section).
+    /// stands. `align` is the alignment that the table's header tells, and `index` is the header's
+    /// (gABI 5, Note Section).
     pub(crate) fn notes(&mut self, table: Table, align: u64, index: u16) -> Result<(), Stop>
         requires bytes { table.entry ≡ 1 }
         requires within { RowsWithin self.old.src.now.seen.size table }

@@ -86,8 +86,8 @@ impl<S: Source, W: Sink> Listing<'_, '_, '_, S, W> {
         self.headers(part)
     }
 
-    /// Shows the program headers, where the parts have them: a `P` line each (gABI 5, Program Header).
-    /// Those of a file without sections are in the store.
+    /// Shows the program headers, where the parts have them: a `P` line each (gABI 5, Program
+    /// Header). Those of a file without sections are in the store.
     fn segments(&mut self, parts: Parts) -> Result<(), Stop>
         requires { self.old.file.store.now.segments ≡ viewed parts.0 self.old.file.loaded }
         ensures lists { Lists self.old self.new result

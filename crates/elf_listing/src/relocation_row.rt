@@ -22,8 +22,8 @@ use elf_table::{Fault, NameEnd, Names, Row, Table};
 type Linked = Option<(Table, Names)>;
 
 impl<S: Source, W: Sink> Listing<'_, '_, '_, S, W> {
-    /// Shows the row of a relocation entry of a section: its `R` line with the name of its symbol, or the
-    /// refusal of its symbol at the entry's offset, or of the name at the symbol's.
+    /// Shows the row of a relocation entry of a section: its `R` line with the name of its symbol,
+    /// or the refusal of its symbol at the entry's offset, or of the name at the symbol's.
     pub(crate) fn relocation_row(
         &mut self,
         row: &Row<'_>,
@@ -43,8 +43,9 @@ impl<S: Source, W: Sink> Listing<'_, '_, '_, S, W> {
         self.named_line(relocation_front(section, machine, &entry), end)
     }
 
-    /// Reads the name of the symbol of an index, which is empty for symbol 0 (gABI 4, Symbol Table).
-    /// Where there is no such symbol the refusal names `at`, and where the name is refused the symbol.
+    /// Reads the name of the symbol of an index, which is empty for symbol 0 (gABI 4, Symbol
+    /// Table). Where there is no such symbol the refusal names `at`, and where the name is refused
+    /// the symbol.
     fn read_symbol(&mut self, linked: Linked, symbol: u32, at: u64) -> Result<NameEnd, Fault>
         requires { IfSome linked (SymbolsWithin self.old.src.now.seen.size) }
         ensures fetches { Fetches self.old self.new result

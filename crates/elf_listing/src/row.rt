@@ -27,8 +27,8 @@ impl<S: Source, W: Sink> Listing<'_, '_, '_, S, W> {
         Ok(())
     }
 
-    /// Shows the row of a symbol of a section: its `Y` line with its name, or the name's refusal at the
-    /// symbol's offset.
+    /// Shows the row of a symbol of a section: its `Y` line with its name, or the name's refusal at
+    /// the symbol's offset.
     pub(crate) fn symbol_row(
         &mut self,
         row: &Row<'_>,

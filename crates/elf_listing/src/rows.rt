@@ -1,6 +1,7 @@
 //! The rows of a table, shown one after another.
 ghost use Rattle.std.specs.Prelude.{◌≡◌, length};
-ghost use Rattle.elf_listing.specs.Kinds.{row_size, own_cost, rows_cost, KindWithin, IndexFits, IsTableOf, OfRow, OfRows};
+ghost use Rattle.elf_listing.specs.Kinds.{row_size, own_cost, rows_cost, KindWithin};
+ghost use Rattle.elf_listing.specs.Kinds.{IndexFits, IsTableOf, OfRow, OfRows};
 ghost use Rattle.elf_listing.specs.Shows.{Lists};
 
 use crate::dynamic_row::EntryStrings;
@@ -39,7 +40,8 @@ pub enum Kind<'f> {
 }
 
 impl<S: Source, W: Sink> Listing<'_, '_, '_, S, W> {
-    /// Shows the rows of a table that are listed one after another, up to the first that is refused.
+    /// Shows the rows of a table that are listed one after another, up to the first that is
+    /// refused.
     pub(crate) fn rows(&mut self, table: Table, kind: &Kind<'_>) -> Result<(), Stop>
         requires { IsTableOf self.old.src.now.seen.size kind.now table }
         ensures lists { Lists self.old self.new result

@@ -19,8 +19,8 @@ use elf_table::holds_symbols;
 const DYNAMIC_BYTES: u64 = 16;
 
 impl<S: Source, W: Sink> Listing<'_, '_, '_, S, W> {
-    /// Shows the row of a section header: its `S` line with its name, or the name's refusal at the section
-    /// header (gABI 4, Section Header).
+    /// Shows the row of a section header: its `S` line with its name, or the name's refusal at the
+    /// section header (gABI 4, Section Header).
     pub(crate) fn section_row(&mut self, section: u16) -> Result<(), Stop>
         requires { section < self.old.file.store.now.loaded }
         ensures lists { let f = self.old.file in Lists self.old self.new result
@@ -36,8 +36,8 @@ impl<S: Source, W: Sink> Listing<'_, '_, '_, S, W> {
         self.named_line(section_front(section, &header), end)
     }
 
-    /// Shows the symbols of a section, where it holds symbols: a `Y` line each, or the first refusal of its
-    /// table, of its string table or of a name (gABI 4, Symbol Table).
+    /// Shows the symbols of a section, where it holds symbols: a `Y` line each, or the first
+    /// refusal of its table, of its string table or of a name (gABI 4, Symbol Table).
     pub(crate) fn symbols(&mut self, section: u16) -> Result<(), Stop>
         requires { section < self.old.file.store.now.loaded }
         ensures lists { let f = self.old.file in Lists self.old self.new result
@@ -53,8 +53,9 @@ impl<S: Source, W: Sink> Listing<'_, '_, '_, S, W> {
         self.rows(table, &Kind::Symbols { section, names })
     }
 
-    /// Shows the relocation entries of a section, where it holds them: an `R` line each, or the first
-    /// refusal of its table, of the symbols that they refer to or of an entry (gABI 4, Relocation).
+    /// Shows the relocation entries of a section, where it holds them: an `R` line each, or the
+    /// first refusal of its table, of the symbols that they refer to or of an entry (gABI 4,
+    /// Relocation).
     pub(crate) fn relocations(&mut self, section: u16) -> Result<(), Stop>
         requires { section < self.old.file.store.now.loaded }
         ensures lists { let f = self.old.file in Lists self.old self.new result
@@ -78,8 +79,8 @@ impl<S: Source, W: Sink> Listing<'_, '_, '_, S, W> {
         )
     }
 
-    /// Shows the notes of a section, where it holds notes: an `N` line each, or the refusal of its table or
-    /// of what stands in the place of a note (gABI 5, Note Section).
+    /// Shows the notes of a section, where it holds notes: an `N` line each, or the refusal of its
+    /// table or of what stands in the place of a note (gABI 5, Note Section).
     pub(crate) fn section_notes(&mut self, section: u16) -> Result<(), Stop>
         requires { section < self.old.file.store.now.loaded }
         ensures lists { let f = self.old.file in Lists self.old self.new result
@@ -96,9 +97,9 @@ impl<S: Source, W: Sink> Listing<'_, '_, '_, S, W> {
         self.notes(table, header.sh_addralign, section)
     }
 
-    /// Shows the dynamic entries of a section, where it holds them: a `D` line each up to and with the
-    /// first DT_NULL, or the first refusal of its table, of its string table or of a string (gABI 5,
-    /// Dynamic Section).
+    /// Shows the dynamic entries of a section, where it holds them: a `D` line each up to and with
+    /// the first DT_NULL, or the first refusal of its table, of its string table or of a string
+    /// (gABI 5, Dynamic Section).
     pub(crate) fn section_dynamic(&mut self, section: u16) -> Result<(), Stop>
         requires { section < self.old.file.store.now.loaded }
         ensures lists { let f = self.old.file in Lists self.old self.new result

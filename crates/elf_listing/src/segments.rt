@@ -28,7 +28,8 @@ impl<'f, S: Source, W: Sink> Listing<'_, '_, 'f, S, W> {
         }
     }
 
-    /// Shows the row of a program header that is in the store: its `P` line (gABI 5, Program Header).
+    /// Shows the row of a program header that is in the store: its `P` line (gABI 5, Program
+    /// Header).
     pub(crate) fn segment_header(&mut self, segment: u16) -> Result<(), Stop>
         requires { segment < self.old.file.store.now.segments }
         ensures lists { let f = self.old.file in Lists self.old self.new result
@@ -41,7 +42,8 @@ impl<'f, S: Source, W: Sink> Listing<'_, '_, 'f, S, W> {
         Ok(())
     }
 
-    /// Shows the notes of a segment, where it holds notes, as those of a section (gABI 5, Note Section).
+    /// Shows the notes of a segment, where it holds notes, as those of a section (gABI 5, Note
+    /// Section).
     pub(crate) fn segment_notes(&mut self, segment: u16) -> Result<(), Stop>
         requires { segment < self.old.file.store.now.segments }
         ensures lists { let f = self.old.file in Lists self.old self.new result
@@ -58,9 +60,9 @@ impl<'f, S: Source, W: Sink> Listing<'_, '_, 'f, S, W> {
         self.notes(table, header.p_align, segment)
     }
 
-    /// Shows the dynamic entries of a segment, where it holds them, as those of a section. Their strings
-    /// are where a segment loads them: the entries are gone through once for the address and the size, and
-    /// once more to be shown (gABI 5, Dynamic Section).
+    /// Shows the dynamic entries of a segment, where it holds them, as those of a section. Their
+    /// strings are where a segment loads them: the entries are gone through once for the address
+    /// and the size, and once more to be shown (gABI 5, Dynamic Section).
     pub(crate) fn segment_dynamic(&mut self, segment: u16) -> Result<(), Stop>
         requires { segment < self.old.file.store.now.segments }
         ensures lists { let f = self.old.file in Lists self.old self.new result

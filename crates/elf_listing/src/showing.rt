@@ -33,12 +33,13 @@ use elf_table::{Cap, Caps, Fault, File, HeaderStore, Loaded, NameBuf, header, lo
 /// All parts but the file header's.
 const TABLES: Parts = Parts(126);
 
-/// Writes the listing of a file, as far as `parts` has it: the file header, the section headers, the
-/// program headers, the symbols, the relocation entries, the notes, the dynamic entries; at the first
-/// fault its line ends the listing. Notes and dynamic entries are those of the sections, and in a file
-/// without sections those of the segments. The store has a slot for each header that the caps permit,
-/// and is loaded with the file's section headers, or with the program headers of a file without any. Where the caps have a budget no more is read, and the line of a refusal for want of budget
-/// may end the listing sooner; afterwards no limit is set.
+/// Writes the listing of a file, as far as `parts` has it: the file header, the section headers,
+/// the program headers, the symbols, the relocation entries, the notes, the dynamic entries; at the
+/// first fault its line ends the listing. Notes and dynamic entries are those of the sections, and
+/// in a file without sections those of the segments. The store has a slot for each header that the
+/// caps permit, and is loaded with the file's section headers, or with the program headers of a
+/// file without any. Where the caps have a budget no more is read, and the line of a refusal for
+/// want of budget may end the listing sooner; afterwards no limit is set.
 ///
 /// # Errors
 /// A fault of the source or of the output. What went out is a front of the listing.

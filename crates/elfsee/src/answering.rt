@@ -11,8 +11,8 @@ use elf_source::{Counted, Out, Sink, Source};
 use elf_table::HeaderStore;
 
 /// Carries out a request on a source: writes its text and answers its status, 0 where the file was
-/// listed and 1 where it is refused, or the request's read budget is used up. The store has a slot for
-/// each header that the request permits. Afterwards no limit is set on the source.
+/// listed and 1 where it is refused, or the request's read budget is used up. The store has a slot
+/// for each header that the request permits. Afterwards no limit is set on the source.
 ///
 /// # Errors
 /// A fault of the source or of the output. What went out is a front of the text.

@@ -4,12 +4,12 @@ ghost use Rattle.std.specs.Prelude.{◌<◌, ◌≤◌};
 use crate::answering::run;
 use crate::listing_tests::{HEADER, LISTED};
 use crate::requests::Request;
+use crate::table_fixtures::{BOTH_VIEWS, MAPPED_LIBRARY, NEEDED_LIBRARY, NOTE_SEGMENT, TWO_NOTES};
 use elf_fakes::Planned;
 use elf_fixtures::{
     hash_with_cycle, one_call, one_symbol_table, overlapping_relocations, tables_over_headers,
     with_bytes,
 };
-use crate::table_fixtures::{BOTH_VIEWS, MAPPED_LIBRARY, NEEDED_LIBRARY, NOTE_SEGMENT, TWO_NOTES};
 use elf_listing::{End, show};
 use elf_record::Parts;
 use elf_source::{Counted, Out, WriteSink};
@@ -20,15 +20,14 @@ use std::test::Fail;
 /// A listing's text, its status, and how many bytes were asked for.
 pub(crate) type Listed = (Vec<u8>, u8, u64);
 
-/// Carries a request out, and checks that no read was larger than 4,096 bytes, that `show` writes the
-/// same, and that no limit is left.
+/// Carries a request out, and checks that no read was larger than 4,096 bytes, that `show` writes
+/// the same, and that no limit is left.
 pub(crate) fn listed(
     rt: &(impl Abort + AllocGlobal),
     file: &[u8],
     caps: Caps,
     parts: Parts,
-) -> Result<Listed, Fail>
-{
+) -> Result<Listed, Fail> {
     let mut store = HeaderStore::new(rt.alloc(), caps.headers())?;
     let request = Request::Sample { caps, parts };
     let mut src = Counted::new(Planned::new(file, 0));
@@ -120,8 +119,7 @@ fn check_row(
     budget: u64,
     text: &str,
     asked: u64,
-) -> Result<(), Fail>
-{
+) -> Result<(), Fail> {
     let caps = Caps::new(3, 63).ok_or("caps")?;
     let answer = listed(rt, file, caps.with_budget(budget), parts)?;
     assert!(rt; answer.0.as_slice() == text.as_bytes(), "{budget} bytes");
@@ -163,8 +161,8 @@ fn the_files_own_refusal_comes_before_the_budget(rt: HostRuntime) -> Result<(), 
     check_row(&rt, &file, LISTED, 64, "! 0000000000000000 not-elf\n", 64)
 }
 
-/// The sample with a symbol table of 400 symbols, the file header's 64 bytes before it and its names
-/// and the section headers behind it.
+/// The sample with a symbol table of 400 symbols, the file header's 64 bytes before it and its
+/// names and the section headers behind it.
 fn many_symbols() -> [u8; 9864] {
     let mut file = [0; 9864];
     file[..64].copy_from_slice(&one_symbol_table()[..64]);

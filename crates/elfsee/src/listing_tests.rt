@@ -1,5 +1,5 @@
-//! Whole listings of small files: sections, program headers, symbols and relocation entries, and where
-//! they are refused.
+//! Whole listings of small files: sections, program headers, symbols and relocation entries, and
+//! where they are refused.
 
 use crate::answering::run;
 use crate::requests::Request;
@@ -43,8 +43,7 @@ fn check_listing(
     text: &[&str],
     status: u8,
     cost: u128,
-) -> Result<(), Fail>
-{
+) -> Result<(), Fail> {
     let caps = Caps::new(caps.0, caps.1).ok_or("caps")?;
     let mut store = HeaderStore::new(rt.alloc(), caps.headers())?;
     let mut buffer = [0; 4096];

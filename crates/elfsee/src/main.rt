@@ -101,8 +101,8 @@ fn read_words<R: Env + AllocGlobal>(rt: &R) -> Result<Vec<String>, Ending>
     words.collect(rt.alloc()).map_err(|_| OUT_OF_MEMORY)
 }
 
-/// Reads the request, without memory of its own: a request has no more than four words, and of others
-/// the first five tell that they are none.
+/// Reads the request, without memory of its own: a request has no more than four words, and of
+/// others the first five tell that they are none.
 fn read_request(alloc: Global, words: &[String]) -> Result<Request, Ending>
     ensures { IfErr result (λ ending. (fault : RequestFault)
         × (ending.0 ≡ refused_status fault) × (ending.1.now ≡ refused_line fault)) }

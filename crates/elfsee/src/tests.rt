@@ -1,4 +1,5 @@
-//! The file header's listing over honest sources, and over sources and sinks that fail; words and endings.
+//! The file header's listing over honest sources, and over sources and sinks that fail; words and
+//! endings.
 ghost use Rattle.std.specs.Prelude.{◌≡◌, ◌≤◌, IfOk};
 
 use crate::answering::run;
@@ -41,8 +42,7 @@ fn check_listing(
     text: &str,
     end: End,
     asked: u128,
-) -> Result<(), Fail>
-{
+) -> Result<(), Fail> {
     let (mut store, caps) = one_slot(rt)?;
     let mut buffer = [0; 256];
     let mut src = Counted::new(MemorySource::new(file));
@@ -139,7 +139,8 @@ fn a_failing_read_writes_nothing(rt: HostRuntime) -> Result<(), Fail> {
     Ok(())
 }
 
-/// Carries a request out into so many bytes of memory, and checks what was written and how it ended.
+/// Carries a request out into so many bytes of memory, and checks what was written and how it
+/// ended.
 fn check_run(
     rt: &(impl Abort + AllocGlobal),
     room: usize,
@@ -285,6 +286,6 @@ fn a_file_is_read_where_a_seek_left_it(rt: HostRuntime) {
 
 #[test]
 fn the_fixed_buffers_are_small(rt: HostRuntime) {
-    assert!(rt; FIXED_BYTES == 16_168);
+    assert!(rt; FIXED_BYTES == 16_276);
     assert!(rt; FIXED_BYTES <= 16_384);
 }

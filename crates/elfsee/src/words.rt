@@ -15,8 +15,8 @@ const DEFAULT_HEADERS: u16 = 4_096;
 const DEFAULT_NAME: u16 = 256;
 
 /// Reads the words of a command line, without the program's name: `show --only PART FILE` or
-/// `sample --only PART`, where PART is `header`, `sections`, `segments`, `symbols`, `relocs`, `notes` or
-/// `dynamic`. At most 4,096 headers are permitted, and 256 bytes of a name are shown.
+/// `sample --only PART`, where PART is `header`, `sections`, `segments`, `symbols`, `relocs`,
+/// `notes` or `dynamic`. At most 4,096 headers are permitted, and 256 bytes of a name are shown.
 ///
 /// # Errors
 /// `Words` for any other words, `Memory` where there is none for the file's path.

@@ -71,8 +71,7 @@ returns-clause-lists g c =
     let within = segment_dynamic_within (segment_row f.store.now c.args.segment) f.loaded.size _ most _ kind value in
     let bytes : size_of c.in_ok-table.table ≡ c.in_ok-table.table.count * 16 = ap (λ n. c.in_ok-table.table.count * n) c.in_ok-table.ensures.entry in
     let lists = c.rows.ensures.lists in
-    let all = Spent-behind _ _ _ _ _ _ _ _ _ _ (omega (arith, within, bytes)) c.in_ok-told.ensures.reads lists.1 in
-    (
+    let all = Spent-behind _ _ _ _ _ _ _ _ _ _ (omega (arith, within, bytes)) c.in_ok-told.ensures.reads lists.1 in (
       record {
         same_src = lists.0.same_src;
         same_out = lists.0.same_out;
