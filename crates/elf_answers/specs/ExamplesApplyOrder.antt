@@ -2,17 +2,16 @@
 -- what longer names cost.
 use Rattle.std.specs.Prelude.{◌≡◌, ℕ, ◌+◌, ◌*◌, ◌-◌, ◌^◌, ◌++◌, List, [], ◌∷◌, codes, replicate}
 use Rattle.elf_model.specs.Bytes.{little}
-use Rattle.elf_model.specs.ApplyCost.{names_cost, apply_cost}
+use Rattle.elf_model.specs.ApplyCost.{layout_names_cost, apply_cost}
 use Rattle.elf_model.specs.Cost.{cost}
 use Rattle.elf_model.specs.Listing.{RELOCS, ALL}
-use Rattle.elf_model.specs.Find.{looked, find_cost}
-use Rattle.elf_model.specs.Hash.{Found}
+use Rattle.elf_model.specs.Find.{find_cost}
 use Rattle.elf_model.specs.Fixtures.{zeros, with_bytes, section_header, one_symbol_table}
 use Rattle.elf_model.specs.FixturesHash.{hash_with_cycle, with_hash_header}
 use Rattle.elf_model.specs.FixturesApply.{relocation, relocated, overlapping_relocations, one_call, with_symbol, empty_layout, placed_layout, entry_layout, unplaced_layout, full_layout}
 use Rattle.elf_model.specs.Placing.{Layout}
 use Rattle.elf_answers.specs.ExamplesApply.{Applies, RefusesToApply}
-use Rattle.elf_answers.specs.ExamplesHash.{Refuses}
+use Rattle.elf_answers.specs.ExamplesHash.{FindsSymbol, RefusesLookup}
 use Rattle.elf_model.specs.declared.causes.Cause.TheVariants.{Unsupported, Overflow, BadLink, Unplaced, PlaceOutside, SymbolIndex, NameOutside}
 
 -- the type, the place, the symbol, its name, the section's address, the value: each entry here fails the next check as well
@@ -41,7 +40,7 @@ TypesTakeTheirTerms =
 
 -- section 1 and a definition of `f`, both at 2^63
 abbrev pub high_layout : Layout
-high_layout = record { sections = (1, 2 ^ 63) ∷ []; definitions = (codes "f", 2 ^ 63) ∷ []; entries = [] }
+high_layout = record { sections = (1, 2 ^ 63) ∷ []; definitions = (codes "f", 2 ^ 63) ∷ []; linkage = [] }
 
 -- an address has 64 bits: as the symbol's section, as its definition, as its own value, and as the place
 abbrev pub AddressesAreWhole : Type 0
@@ -66,7 +65,7 @@ longer_layout =
     record {
       sections = (1, 0x1000) ∷ (3, 0x3000) ∷ [];
       definitions = (codes "g", 0x9000) ∷ (codes "f", 0x3000) ∷ [];
-      entries = (codes "ff", 0x9000) ∷ [];
+      linkage = (codes "ff", 0x9000) ∷ [];
     }
 
 -- a section that is not the first of the layout, a definition that is not, and an entry of a longer name
@@ -81,19 +80,19 @@ long_names =
     record {
       sections = [];
       definitions = (replicate 63 97, 0) ∷ (replicate 64 97, 0) ∷ [];
-      entries = (replicate 63 97, 0) ∷ (replicate 64 97, 0) ∷ [];
+      linkage = (replicate 63 97, 0) ∷ (replicate 64 97, 0) ∷ [];
     }
 
 -- a name and its NUL cost whole pieces of 64 bytes
 abbrev pub LongNamesCost : Type 0
 LongNamesCost =
-    (names_cost long_names ≡ (64 + 128) + (64 + 128))
+    (layout_names_cost long_names ≡ (64 + 128) + (64 + 128))
     × (find_cost hash_with_cycle 4 (replicate 63 99) ≡ 76 + 256 + 3 * (28 + 64))
     × (find_cost hash_with_cycle 4 (replicate 64 99) ≡ 76 + 256 + 3 * (28 + 128))
 
 -- a hash table's section with room for its counts and no more: its link comes before its counts
 abbrev pub HashLinkBeforeCounts : Type 0
-HashLinkBeforeCounts = Refuses (with_hash_header 32 (little 8 8 ++ little 4 0)) (codes "a") 0xe8 BadLink
+HashLinkBeforeCounts = RefusesLookup (with_hash_header 32 (little 8 8 ++ little 4 0)) (codes "a") 0xe8 BadLink
 
 -- where the section headers are read they cost their bytes, also where the section of the section names is refused; a table
 -- counts where its own checks pass, also where those of what it links to fail
@@ -115,5 +114,5 @@ SectionZeroIsApplied =
 -- the size of an entry in a hash table's header is not checked, and bytes may stand behind its words
 abbrev pub HashEntriesAreNotChecked : Type 0
 HashEntriesAreNotChecked =
-    (looked (with_hash_header 56 (little 8 8)) 4 (codes "a") ≡ Found 2 1 0x70 1)
-    × (looked (with_hash_header 32 (little 8 25)) 4 (codes "a") ≡ Found 2 1 0x70 1)
+    FindsSymbol (with_hash_header 56 (little 8 8)) (codes "a") 2 1 0x70 1
+    × FindsSymbol (with_hash_header 32 (little 8 25)) (codes "a") 2 1 0x70 1

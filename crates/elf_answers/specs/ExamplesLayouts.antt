@@ -1,5 +1,5 @@
 -- Worked examples of symbols in a layout, of what comes before relocation entries, and of what that costs.
-use Rattle.std.specs.Prelude.{◌≡◌, ◌+◌, ◌*◌, ◌-◌, ◌^◌, ◌++◌, pos, [], ◌∷◌, map, replicate, true, false, Ok, Err}
+use Rattle.std.specs.Prelude.{◌≡◌, ℕ, List, codes, ◌+◌, ◌*◌, ◌-◌, ◌^◌, ◌++◌, pos, [], ◌∷◌, map, replicate, true, false, Ok, Err}
 use Rattle.elf_model.specs.Bytes.{little}
 use Rattle.elf_model.specs.Apply.{applied}
 use Rattle.elf_model.specs.ApplyCost.{apply_cost, apply_cost_in_order, offsets_never_fall}
@@ -11,7 +11,7 @@ use Rattle.elf_model.specs.FixturesTables.{numbers_from}
 use Rattle.elf_model.specs.Placing.{Layout}
 use Rattle.elf_model.specs.Values.{value}
 use Rattle.elf_answers.specs.ExamplesApply.{Applies, RefusesSection, RefusesToApply}
-use Rattle.elf_model.specs.declared.causes.Cause.TheVariants.{BadClass, TooManyHeaders, TableOutside, BadLink, NotStrings, NameOutside, Unsupported, Unplaced, Undefined, PlaceOutside}
+use Rattle.elf_model.specs.declared.causes.Cause.TheVariants.{BadClass, TooManyHeaders, TableOutside, BadLink, NotStrings, NameOutside, NameUnended, NotRel, Unsupported, Unplaced, Undefined, PlaceOutside}
 
 -- an undefined symbol of no other binding than the weak one is 0
 abbrev pub WeakAloneIsZero : Type 0
@@ -24,7 +24,7 @@ WeakAloneIsZero =
 
 -- section 1, the last index of a section, and the first that is reserved, all at 0x1000
 abbrev pub last_layout : Layout
-last_layout = record { sections = (1, 0x1000) ∷ (0xfeff, 0x1000) ∷ (0xff00, 0x1000) ∷ []; definitions = []; entries = [] }
+last_layout = record { sections = (1, 0x1000) ∷ (0xfeff, 0x1000) ∷ (0xff00, 0x1000) ∷ []; definitions = []; linkage = [] }
 
 abbrev pub ReservedIndicesAreUnplaced : Type 0
 ReservedIndicesAreUnplaced =
@@ -130,3 +130,50 @@ abbrev pub EntriesPastTheLastSection : Type 0
 EntriesPastTheLastSection =
     let file = overlapping_relocations ++ section_header 4 0x40 0x48 0x18 0 1 0 24 in
     (applied file 3 1 empty_layout ≡ Ok (0x44 ∷ 0x33 ∷ 0xff ∷ 0xff ∷ zeros 4)) × (apply_cost file 3 1 empty_layout ≡ 456)
+
+-- section 1, a definition of `f` and its procedure linkage table entry at addresses of their own
+abbrev pub layout_of : ℕ → List (List ℕ × ℕ) → List (List ℕ × ℕ) → Layout
+layout_of address definitions linkage = record { sections = (1, address) ∷ []; definitions = definitions; linkage = linkage }
+
+-- an address may be 0: a definition's, a linkage table entry's, a section's as the place and as the symbol's
+abbrev pub AddressesMayBeZero : Type 0
+AddressesMayBeZero =
+    Applies one_call (layout_of 0x1000 ((codes "f", 0) ∷ []) []) (0xe8 ∷ 0xfb ∷ 0xef ∷ 0xff ∷ 0xff ∷ [])
+    × Applies one_call (layout_of 0x1000 ((codes "f", 0x3000) ∷ []) ((codes "f", 0) ∷ [])) (0xe8 ∷ 0xfb ∷ 0xef ∷ 0xff ∷ 0xff ∷ [])
+    × Applies one_call (layout_of 0 [] ((codes "f", 0x2000) ∷ [])) (0xe8 ∷ 0xfb ∷ 0x1f ∷ 0 ∷ 0 ∷ [])
+    × Applies (with_symbol 6 (little 2 1 ++ little 8 0x2000)) (layout_of 0 [] []) (0xe8 ∷ 0xfb ∷ 0x1f ∷ 0 ∷ 0 ∷ [])
+
+-- of two items with one index or one name the first stands
+abbrev pub FirstItemStands : Type 0
+FirstItemStands =
+    Applies one_call (layout_of 0x1000 ((codes "f", 0x3000) ∷ (codes "f", 0x9000) ∷ []) []) (0xe8 ∷ 0xfb ∷ 0x1f ∷ 0 ∷ 0 ∷ [])
+    × Applies one_call (layout_of 0x1000 [] ((codes "f", 0x2000) ∷ (codes "f", 0x9000) ∷ [])) (0xe8 ∷ 0xfb ∷ 0x0f ∷ 0 ∷ 0 ∷ [])
+    × Applies one_call
+    (record { sections = (1, 0x1000) ∷ (1, 0x9000) ∷ []; definitions = []; linkage = (codes "f", 0x2000) ∷ [] })
+    (0xe8 ∷ 0xfb ∷ 0x0f ∷ 0 ∷ 0 ∷ [])
+
+-- a name that another item's is not equal to may still be one that cannot be compared: here the table ends behind `f`
+abbrev pub LaterNamesAreCompared : Type 0
+LaterNamesAreCompared =
+    let file = with_bytes 0x1b8 (little 8 2) one_call in
+    RefusesToApply file (layout_of 0x1000 ((codes "g", 0x9000) ∷ (codes "f", 0x3000) ∷ []) []) 0x78 NameUnended
+    × RefusesToApply file (layout_of 0x1000 [] ((codes "g", 0x9000) ∷ (codes "f", 0x3000) ∷ [])) 0x78 NameUnended
+    × RefusesToApply file (layout_of 0x1000 ((codes "g", 0x9000) ∷ []) []) 0x48 Undefined
+
+-- the value of a symbol without a section is no part of its address: of a common one it is an alignment
+abbrev pub DefinitionsStandAlone : Type 0
+DefinitionsStandAlone =
+    Applies (with_symbol 6 (little 2 0xfff2 ++ little 8 16)) defined_layout (0xe8 ∷ 0xfb ∷ 0x1f ∷ 0 ∷ 0 ∷ [])
+    × Applies (with_symbol 6 (little 2 0 ++ little 8 16)) defined_layout (0xe8 ∷ 0xfb ∷ 0x1f ∷ 0 ∷ 0 ∷ [])
+    × Applies (with_symbol 6 (little 2 1 ++ little 8 16)) entry_layout (0xe8 ∷ 0xfb ∷ 0x0f ∷ 0 ∷ 0 ∷ [])
+    × Applies (with_symbol 4 (little 1 0x20 ++ zeros 1 ++ little 2 0 ++ little 8 16)) placed_layout
+    (0xe8 ∷ 0xfb ∷ 0xef ∷ 0xff ∷ 0xff ∷ [])
+
+-- no other file type and no other machine, whatever some of its bits are
+abbrev pub OtherFilesAreRefused : Type 0
+OtherFilesAreRefused =
+    RefusesToApply (with_bytes 16 (little 2 0) one_call) entry_layout 0x10 NotRel
+    × RefusesToApply (with_bytes 16 (little 2 0x101) one_call) entry_layout 0x10 NotRel
+    × RefusesToApply (with_bytes 18 (little 2 3) one_call) entry_layout 0x12 NotRel
+    × RefusesToApply (with_bytes 18 (little 2 63) one_call) entry_layout 0x12 NotRel
+    × RefusesToApply (with_bytes 18 (little 2 (256 + 62)) one_call) entry_layout 0x12 NotRel

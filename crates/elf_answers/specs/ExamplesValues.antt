@@ -4,8 +4,8 @@ use Rattle.elf_model.specs.Values.{value}
 use Rattle.elf_model.specs.declared.causes.Cause.TheVariants.{Unsupported, Overflow}
 
 -- the bytes of a value that takes no procedure linkage table entry
-abbrev pub Gives : ℕ → ℕ → ℤ → ℕ → List ℕ → Type 0
-Gives type s a p bytes = value type s 0 a p ≡ Ok bytes
+abbrev pub Stores : ℕ → ℕ → ℤ → ℕ → List ℕ → Type 0
+Stores type s a p bytes = value type s 0 a p ≡ Ok bytes
 
 -- a value that does not fit
 abbrev pub Overflows : ℕ → ℕ → ℤ → ℕ → Type 0
@@ -14,7 +14,7 @@ Overflows type s a p = value type s 0 a p ≡ Err Overflow
 -- R_X86_64_PC32 is a number in two's complement
 abbrev pub RelativeIsSigned : Type 0
 RelativeIsSigned =
-    Gives 2 0x402000 (negsuc 3) 0x401005 (0xf7 ∷ 0x0f ∷ 0 ∷ 0 ∷ []) × Overflows 2 0x80000000 (pos 0) 0
+    Stores 2 0x402000 (negsuc 3) 0x401005 (0xf7 ∷ 0x0f ∷ 0 ∷ 0 ∷ []) × Overflows 2 0x80000000 (pos 0) 0
 
 -- R_X86_64_PLT32 takes the procedure linkage table entry and not the symbol
 abbrev pub CallTakesEntry : Type 0
@@ -27,31 +27,31 @@ abbrev pub Bits32 : Type 0
 Bits32 =
     Overflows 10 0xffffffff (pos 1) 0
     × Overflows 10 0xffffffff80000000 (pos 0) 0
-    × Gives 10 0x80000000 (pos 0) 0 (0 ∷ 0 ∷ 0 ∷ 0x80 ∷ [])
-    × Gives 11 0xffffffff80000000 (pos 0) 0 (0 ∷ 0 ∷ 0 ∷ 0x80 ∷ [])
+    × Stores 10 0x80000000 (pos 0) 0 (0 ∷ 0 ∷ 0 ∷ 0x80 ∷ [])
+    × Stores 11 0xffffffff80000000 (pos 0) 0 (0 ∷ 0 ∷ 0 ∷ 0x80 ∷ [])
     × Overflows 11 0x80000000 (pos 0) 0
 
 -- R_X86_64_64 and R_X86_64_PC64 take any value, modulo 2^64
 abbrev pub Bits64 : Type 0
 Bits64 =
-    Gives 1 (2 ^ 64 - 1) (pos 1) 0 (replicate 8 0) × Gives 24 0 (pos 0) 1 (replicate 8 0xff)
+    Stores 1 (2 ^ 64 - 1) (pos 1) 0 (replicate 8 0) × Stores 24 0 (pos 0) 1 (replicate 8 0xff)
 
 -- R_X86_64_16 fits as a number without a sign or in two's complement
 abbrev pub Bits16 : Type 0
 Bits16 =
-    Gives 12 0xffff (pos 0) 0 (0xff ∷ 0xff ∷ [])
-    × Gives 12 (2 ^ 64 - 0x8000) (pos 0) 0 (0 ∷ 0x80 ∷ [])
+    Stores 12 0xffff (pos 0) 0 (0xff ∷ 0xff ∷ [])
+    × Stores 12 (2 ^ 64 - 0x8000) (pos 0) 0 (0 ∷ 0x80 ∷ [])
     × Overflows 12 0x10000 (pos 0) 0
     × Overflows 12 (2 ^ 64 - 0x8001) (pos 0) 0
 
 -- R_X86_64_8 likewise
 abbrev pub Bits8 : Type 0
 Bits8 =
-    Gives 14 0xff (pos 0) 0 (0xff ∷ [])
-    × Gives 14 (2 ^ 64 - 0x80) (pos 0) 0 (0x80 ∷ [])
+    Stores 14 0xff (pos 0) 0 (0xff ∷ [])
+    × Stores 14 (2 ^ 64 - 0x80) (pos 0) 0 (0x80 ∷ [])
     × Overflows 14 0x100 (pos 0) 0
     × Overflows 14 (2 ^ 64 - 0x81) (pos 0) 0
 
 -- R_X86_64_NONE stores nothing, and a type outside the table is not applied
 abbrev pub OtherTypes : Type 0
-OtherTypes = Gives 0 1 (pos 1) 1 [] × (value 9 0 0 (pos 0) 0 ≡ Err Unsupported)
+OtherTypes = Stores 0 1 (pos 1) 1 [] × (value 9 0 0 (pos 0) 0 ≡ Err Unsupported)

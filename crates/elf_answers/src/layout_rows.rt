@@ -1,5 +1,5 @@
 //! Worked symbols in layouts and requests to apply, each a theorem about the definitions that the prover computes.
-ghost use Rattle.elf_answers.specs.ExamplesLayouts.{WeakAloneIsZero, ReservedIndicesAreUnplaced, DefinitionsAreForUndefined, EntriesAreForAll, SectionBytesAreChecked, RequestsCheckTheFile, PlacesAreWhole, BadHeadersCost, OrderOverSections, NoBytesCost, OrderHasEachType, EntriesWithoutAddends, EntriesOfTheSection, OtherTypesAreUnsupported, WeakIsDefined, EntriesPastTheLastSection};
+ghost use Rattle.elf_answers.specs.ExamplesLayouts.{WeakAloneIsZero, ReservedIndicesAreUnplaced, DefinitionsAreForUndefined, EntriesAreForAll, SectionBytesAreChecked, RequestsCheckTheFile, PlacesAreWhole, BadHeadersCost, OrderOverSections, NoBytesCost, OrderHasEachType, EntriesWithoutAddends, EntriesOfTheSection, OtherTypesAreUnsupported, WeakIsDefined, EntriesPastTheLastSection, AddressesMayBeZero, FirstItemStands, LaterNamesAreCompared, DefinitionsStandAlone, OtherFilesAreRefused};
 
 /// Undefined symbols by their binding.
 #[tactic(auto, unfolding(elf_model::proofs::OnLiterals::on_literals, crate::proofs::OnExamples::on_examples))]
@@ -95,4 +95,34 @@ pub fn weak_is_defined()
 #[tactic(auto, unfolding(elf_model::proofs::OnLiterals::on_literals, crate::proofs::OnExamples::on_examples))]
 pub fn entries_past_the_last_section()
     ensures { EntriesPastTheLastSection }
+{}
+
+/// Addresses of 0.
+#[tactic(auto, unfolding(elf_model::proofs::OnLiterals::on_literals, crate::proofs::OnExamples::on_examples))]
+pub fn addresses_may_be_zero()
+    ensures { AddressesMayBeZero }
+{}
+
+/// Two items with one index or one name.
+#[tactic(auto, unfolding(elf_model::proofs::OnLiterals::on_literals, crate::proofs::OnExamples::on_examples))]
+pub fn first_item_stands()
+    ensures { FirstItemStands }
+{}
+
+/// Names behind the first that cannot be compared.
+#[tactic(auto, unfolding(elf_model::proofs::OnLiterals::on_literals, crate::proofs::OnExamples::on_examples))]
+pub fn later_names_are_compared()
+    ensures { LaterNamesAreCompared }
+{}
+
+/// Values of symbols without a section.
+#[tactic(auto, unfolding(elf_model::proofs::OnLiterals::on_literals, crate::proofs::OnExamples::on_examples))]
+pub fn definitions_stand_alone()
+    ensures { DefinitionsStandAlone }
+{}
+
+/// File types and machines next to those that are applied.
+#[tactic(auto, unfolding(elf_model::proofs::OnLiterals::on_literals, crate::proofs::OnExamples::on_examples))]
+pub fn other_files_are_refused()
+    ensures { OtherFilesAreRefused }
 {}

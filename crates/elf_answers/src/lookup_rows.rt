@@ -1,5 +1,5 @@
 //! More worked lookups, each a theorem about the definitions that the prover computes.
-ghost use Rattle.elf_answers.specs.ExamplesLookups.{LongerHashes, MoreChainsThanSymbols, CycleInTheSecondBucket, WordsHaveFourBytes, NoChains, EmptyHashIsChecked, LookupsCheckTheFile, RefusalsCompareNothing, WantedNameIsWritten, OtherHashIsNone, UndefinedIsFound, HashPastTheLastSection};
+ghost use Rattle.elf_answers.specs.ExamplesLookups.{LongerHashes, MoreChainsThanSymbols, CycleInTheSecondBucket, WordsHaveFourBytes, NoChains, EmptyHashIsChecked, LookupsCheckTheFile, RefusalsCompareNothing, WantedNameIsWritten, OtherHashIsNone, UndefinedIsFound, HashPastTheLastSection, ThreeBuckets};
 
 /// The hashes of longer names.
 #[tactic(auto, unfolding(elf_model::proofs::OnLiterals::on_literals, crate::proofs::OnExamples::on_examples))]
@@ -71,4 +71,10 @@ pub fn undefined_is_found()
 #[tactic(auto, unfolding(elf_model::proofs::OnLiterals::on_literals, crate::proofs::OnExamples::on_examples))]
 pub fn hash_past_the_last_section()
     ensures { HashPastTheLastSection }
+{}
+
+/// A number of buckets that is no power of 2.
+#[tactic(auto, unfolding(elf_model::proofs::OnLiterals::on_literals, crate::proofs::OnExamples::on_examples))]
+pub fn three_buckets()
+    ensures { ThreeBuckets }
 {}

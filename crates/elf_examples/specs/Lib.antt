@@ -9,5 +9,6 @@ pub mod ListedOrder
 pub mod ListedParts
 pub mod ListedRelocations
 pub mod ListedSections
+pub mod ListedSegments
 pub mod ListedSymbols
 pub mod ListedTags

@@ -37,13 +37,16 @@ CostsOfParts =
     × (cost needed_library 3 63 DYNAMIC ≡ 496)
     × (cost (one_table 7 4 0 build_note []) 3 63 NOTES ≡ 292)
 
--- files without sections: the program headers are read once for the segments and once for the notes
+-- files without sections: the program headers are read once, for the segments and for the tables that they describe
 abbrev pub CostsWithoutSections : Type 0
 CostsWithoutSections =
     (cost one_load 1 63 SEGMENTS ≡ 120)
-    × (cost one_load 1 63 ALL ≡ 176)
+    × (cost one_load 1 63 ALL ≡ 120)
+    × (cost one_load 1 63 NOTES ≡ 120)
+    × (cost one_load 1 63 DYNAMIC ≡ 120)
+    × (cost one_load 1 63 (SECTIONS + SYMBOLS + RELOCS) ≡ 64)
     × (cost note_segment 1 63 NOTES ≡ 140)
-    × (cost note_segment 1 63 ALL ≡ 196)
+    × (cost note_segment 1 63 ALL ≡ 140)
 
 -- the file header alone, or a fault before the section headers are read
 abbrev pub CostsOfTheHeaderAlone : Type 0

@@ -14,5 +14,6 @@ mod listed_order;
 mod listed_parts;
 mod listed_relocations;
 mod listed_sections;
+mod listed_segments;
 mod listed_symbols;
 mod listed_tags;

@@ -2,7 +2,7 @@
 ghost use Rattle.std.specs.Prelude.{◌≡◌, ◌+◌, ◌<◌, ◌≤◌, ◌++◌, [], if◌then◌else◌, length, max};
 ghost use Rattle.std.specs.Prelude.{IfSome, unwrap_or, option_copied};
 ghost use Rattle.arrayvec.specs.ArrayVec.{array_vec_len};
-ghost use Rattle.elf_model.specs.Text.{digit, hex, spaces, left, right, right_decimal};
+ghost use Rattle.elf_model.specs.Text.{digit, hex, spaces, left_in, right_in, right_decimal};
 ghost use Rattle.elf_model.specs.NameTables.{name_or_decimal};
 
 use arrayvec::ArrayVec;
@@ -37,10 +37,10 @@ pub fn put_spaces(line: &mut Line, count: usize)
 }
 
 /// Puts a text at the left of a column of this width. A longer text is not cut.
-#[tactic(auto, unfolding(elf_model::specs::Text::left))]
+#[tactic(auto, unfolding(elf_model::specs::Text::left_in))]
 pub fn put_left(line: &mut Line, width: usize, text: &[u8])
     requires { array_vec_len line.old + max width (length text.now) ≤ 256 }
-    ensures items { line.new.items ≡ line.old.items ++ left width text.now }
+    ensures items { line.new.items ≡ line.old.items ++ left_in width text.now }
     ensures len { array_vec_len line.new ≡ array_vec_len line.old + max width (length text.now) }
 {
     put(line, text);
@@ -49,7 +49,7 @@ pub fn put_left(line: &mut Line, width: usize, text: &[u8])
 
 /// Puts a name at the left of a column of this width, or the last hexadecimal digits of a number
 /// that has none.
-#[tactic(auto, using(crate::proofs::Digits::length_hex), unfolding(elf_model::specs::Text::left))]
+#[tactic(auto, using(crate::proofs::Digits::length_hex), unfolding(elf_model::specs::Text::left_in))]
 pub fn put_name_or_hex(
     line: &mut Line,
     width: usize,
@@ -62,7 +62,7 @@ pub fn put_name_or_hex(
     requires digits { digits ≤ width }
     requires short { IfSome name (λ name. length name.now ≤ width) }
     ensures items { let text = unwrap_or (option_copied name.entry) (hex digits number) in
-        line.new.items ≡ line.old.items ++ left width text }
+        line.new.items ≡ line.old.items ++ left_in width text }
     ensures len { array_vec_len line.new ≡ array_vec_len line.old + width }
 {
     match name {
@@ -75,7 +75,7 @@ pub fn put_name_or_hex(
 }
 
 /// Puts a decimal number at the right of a column of this width. A longer number is not cut.
-#[tactic(auto, unfolding(elf_model::specs::Text::right_decimal, elf_model::specs::Text::right))]
+#[tactic(auto, unfolding(elf_model::specs::Text::right_decimal, elf_model::specs::Text::right_in))]
 pub fn put_decimal(line: &mut Line, width: usize, number: u64)
     requires { array_vec_len line.old + max width 20 ≤ 256 }
     ensures items { line.new.items ≡ line.old.items ++ right_decimal width number }

@@ -1,17 +1,19 @@
 //! The lines of relocation entries.
 ghost use Rattle.std.specs.Prelude.{◌≡◌, ◌+◌, ◌≤◌, ◌++◌, ℕ, List, length, IfSome, option_copied};
 ghost use Rattle.arrayvec.specs.ArrayVec.{array_vec_len};
-ghost use Rattle.elf_model.specs.Text.{left, name_of};
+ghost use Rattle.elf_model.specs.Text.{left_in, name_of};
 ghost use Rattle.elf_model.specs.NameTables.{number_sign, relocation_types, relocation_type_text};
 ghost use Rattle.elf_model.specs.LineFronts.{addend_text, relocation_front};
 ghost use Rattle.elf_record.specs.Rela.{IsRela};
 
 use crate::columns::{Line, put, put_decimal, put_hex, put_left};
 use elf_record::Rela;
+use elf_record::numbers::{
+    EM_X86_64, R_X86_64_8, R_X86_64_16, R_X86_64_32, R_X86_64_32S, R_X86_64_64, R_X86_64_COPY,
+    R_X86_64_GLOB_DAT, R_X86_64_JUMP_SLOT, R_X86_64_NONE, R_X86_64_PC32, R_X86_64_PC64,
+    R_X86_64_PLT32, R_X86_64_RELATIVE,
+};
 use itoa::Buffer;
-
-/// The machine number of x86-64 (x86-64 psABI, Machine Information).
-const EM_X86_64: u16 = 62;
 
 /// The line of a relocation entry up to the name: the index of its section, offset, type on this
 /// machine, symbol and addend. The space before the name is the last byte.
@@ -40,7 +42,7 @@ pub fn relocation_front(section: u16, machine: u16, entry: &Rela) -> Line
 #[tactic(auto, unfolding(elf_model::specs::NameTables::relocation_type_text))]
 fn put_relocation_type(line: &mut Line, machine: u16, kind: u32)
     requires { array_vec_len line.old + 32 ≤ 256 }
-    ensures items { line.new.items ≡ line.old.items ++ left 10 (relocation_type_text machine kind) }
+    ensures items { line.new.items ≡ line.old.items ++ left_in 10 (relocation_type_text machine kind) }
     ensures len { array_vec_len line.new ≤ array_vec_len line.old + 32 }
 {
     if machine != EM_X86_64 {
@@ -83,19 +85,19 @@ fn relocation_type_name(kind: u32) -> Option<&'static str>
     ensures short { IfSome result (λ name. length name.now ≤ 10) }
 {
     match kind {
-        0 => Some("NONE"),
-        1 => Some("64"),
-        2 => Some("PC32"),
-        4 => Some("PLT32"),
-        5 => Some("COPY"),
-        6 => Some("GLOB_DAT"),
-        7 => Some("JUMP_SLOT"),
-        8 => Some("RELATIVE"),
-        10 => Some("32"),
-        11 => Some("32S"),
-        12 => Some("16"),
-        14 => Some("8"),
-        24 => Some("PC64"),
+        R_X86_64_NONE => Some("NONE"),
+        R_X86_64_64 => Some("64"),
+        R_X86_64_PC32 => Some("PC32"),
+        R_X86_64_PLT32 => Some("PLT32"),
+        R_X86_64_COPY => Some("COPY"),
+        R_X86_64_GLOB_DAT => Some("GLOB_DAT"),
+        R_X86_64_JUMP_SLOT => Some("JUMP_SLOT"),
+        R_X86_64_RELATIVE => Some("RELATIVE"),
+        R_X86_64_32 => Some("32"),
+        R_X86_64_32S => Some("32S"),
+        R_X86_64_16 => Some("16"),
+        R_X86_64_8 => Some("8"),
+        R_X86_64_PC64 => Some("PC64"),
         _ => None,
     }
 }

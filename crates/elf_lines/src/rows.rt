@@ -7,6 +7,7 @@ ghost use Rattle.elf_record.specs.Ehdr.{IsEhdr};
 ghost use Rattle.elf_source.specs.Output.{Puts};
 
 use crate::columns::{Line, put, put_decimal, put_hex, put_name_or_hex};
+use elf_record::numbers::{ET_CORE, ET_DYN, ET_EXEC, ET_NONE, ET_REL};
 use elf_record::{Cause, Ehdr, Refusal};
 use elf_source::{Out, OutFault, Sink};
 
@@ -103,6 +104,7 @@ pub fn cause_word(cause: Cause) -> &'static str
         Cause::SymbolIndex => "symbol-index",
         Cause::TooLong => "too-long",
         Cause::Budget => "budget",
+        Cause::Unmapped => "unmapped",
     }
 }
 
@@ -113,11 +115,11 @@ fn file_type_name(kind: u16) -> Option<&'static str>
     ensures short { IfSome result (λ name. length name.now ≤ 4) }
 {
     match kind {
-        0 => Some("NONE"),
-        1 => Some("REL"),
-        2 => Some("EXEC"),
-        3 => Some("DYN"),
-        4 => Some("CORE"),
+        ET_NONE => Some("NONE"),
+        ET_REL => Some("REL"),
+        ET_EXEC => Some("EXEC"),
+        ET_DYN => Some("DYN"),
+        ET_CORE => Some("CORE"),
         _ => None,
     }
 }

@@ -8,6 +8,11 @@ ghost use Rattle.elf_record.specs.Shdr.{IsShdr};
 
 use crate::columns::{Line, put, put_decimal, put_hex, put_left, put_name_or_hex, put_where};
 use bitflags::Flags;
+use elf_record::numbers::{
+    SHT_DYNAMIC, SHT_DYNSYM, SHT_FINI_ARRAY, SHT_GROUP, SHT_HASH, SHT_INIT_ARRAY, SHT_NOBITS,
+    SHT_NOTE, SHT_NULL, SHT_PREINIT_ARRAY, SHT_PROGBITS, SHT_REL, SHT_RELA, SHT_SHLIB, SHT_STRTAB,
+    SHT_SYMTAB, SHT_SYMTAB_SHNDX,
+};
 use elf_record::{SectionFlags, Shdr};
 
 /// The line of a section header up to the name: its index, type, flags, address, file offset, size,
@@ -74,23 +79,23 @@ fn section_type_name(kind: u32) -> Option<&'static str>
     ensures short { IfSome result (λ name. length name.now ≤ 13) }
 {
     match kind {
-        0 => Some("NULL"),
-        1 => Some("PROGBITS"),
-        2 => Some("SYMTAB"),
-        3 => Some("STRTAB"),
-        4 => Some("RELA"),
-        5 => Some("HASH"),
-        6 => Some("DYNAMIC"),
-        7 => Some("NOTE"),
-        8 => Some("NOBITS"),
-        9 => Some("REL"),
-        10 => Some("SHLIB"),
-        11 => Some("DYNSYM"),
-        14 => Some("INIT_ARRAY"),
-        15 => Some("FINI_ARRAY"),
-        16 => Some("PREINIT_ARRAY"),
-        17 => Some("GROUP"),
-        18 => Some("SYMTAB_SHNDX"),
+        SHT_NULL => Some("NULL"),
+        SHT_PROGBITS => Some("PROGBITS"),
+        SHT_SYMTAB => Some("SYMTAB"),
+        SHT_STRTAB => Some("STRTAB"),
+        SHT_RELA => Some("RELA"),
+        SHT_HASH => Some("HASH"),
+        SHT_DYNAMIC => Some("DYNAMIC"),
+        SHT_NOTE => Some("NOTE"),
+        SHT_NOBITS => Some("NOBITS"),
+        SHT_REL => Some("REL"),
+        SHT_SHLIB => Some("SHLIB"),
+        SHT_DYNSYM => Some("DYNSYM"),
+        SHT_INIT_ARRAY => Some("INIT_ARRAY"),
+        SHT_FINI_ARRAY => Some("FINI_ARRAY"),
+        SHT_PREINIT_ARRAY => Some("PREINIT_ARRAY"),
+        SHT_GROUP => Some("GROUP"),
+        SHT_SYMTAB_SHNDX => Some("SYMTAB_SHNDX"),
         _ => None,
     }
 }

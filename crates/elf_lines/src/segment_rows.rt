@@ -9,6 +9,9 @@ ghost use Rattle.elf_record.specs.Phdr.{IsPhdr};
 
 use crate::columns::{Line, put, put_decimal, put_hex, put_name_or_hex};
 use bitflags::Flags;
+use elf_record::numbers::{
+    PT_DYNAMIC, PT_INTERP, PT_LOAD, PT_NOTE, PT_NULL, PT_PHDR, PT_SHLIB, PT_TLS,
+};
 use elf_record::{Phdr, SegmentFlags};
 
 /// The line of a program header: its index, type, permissions, file offset, virtual and physical
@@ -70,14 +73,14 @@ fn segment_type_name(kind: u32) -> Option<&'static str>
     ensures short { IfSome result (λ name. length name.now ≤ 8) }
 {
     match kind {
-        0 => Some("NULL"),
-        1 => Some("LOAD"),
-        2 => Some("DYNAMIC"),
-        3 => Some("INTERP"),
-        4 => Some("NOTE"),
-        5 => Some("SHLIB"),
-        6 => Some("PHDR"),
-        7 => Some("TLS"),
+        PT_NULL => Some("NULL"),
+        PT_LOAD => Some("LOAD"),
+        PT_DYNAMIC => Some("DYNAMIC"),
+        PT_INTERP => Some("INTERP"),
+        PT_NOTE => Some("NOTE"),
+        PT_SHLIB => Some("SHLIB"),
+        PT_PHDR => Some("PHDR"),
+        PT_TLS => Some("TLS"),
         _ => None,
     }
 }

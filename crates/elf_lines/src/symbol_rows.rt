@@ -11,6 +11,11 @@ ghost use Rattle.elf_source.specs.Output.{Puts};
 use crate::columns::{Line, put, put_decimal, put_hex, put_name_or_decimal};
 use crate::named::show_named;
 use elf_record::Sym;
+use elf_record::numbers::{
+    SHN_ABS, SHN_COMMON, SHN_UNDEF, STB_GLOBAL, STB_LOCAL, STB_WEAK, STT_COMMON, STT_FILE,
+    STT_FUNC, STT_NOTYPE, STT_OBJECT, STT_SECTION, STT_TLS, STV_DEFAULT, STV_HIDDEN, STV_INTERNAL,
+    STV_PROTECTED,
+};
 use elf_source::{Out, OutFault, Sink};
 
 /// The line of a symbol up to the name: the index of its section, its own index, value, size, type,
@@ -79,13 +84,13 @@ fn symbol_type_name(kind: u8) -> Option<&'static str>
     ensures short { IfSome result (λ name. length name.now ≤ 7) }
 {
     match kind {
-        0 => Some("NOTYPE"),
-        1 => Some("OBJECT"),
-        2 => Some("FUNC"),
-        3 => Some("SECTION"),
-        4 => Some("FILE"),
-        5 => Some("COMMON"),
-        6 => Some("TLS"),
+        STT_NOTYPE => Some("NOTYPE"),
+        STT_OBJECT => Some("OBJECT"),
+        STT_FUNC => Some("FUNC"),
+        STT_SECTION => Some("SECTION"),
+        STT_FILE => Some("FILE"),
+        STT_COMMON => Some("COMMON"),
+        STT_TLS => Some("TLS"),
         _ => None,
     }
 }
@@ -97,9 +102,9 @@ fn binding_name(binding: u8) -> Option<&'static str>
     ensures short { IfSome result (λ name. length name.now ≤ 6) }
 {
     match binding {
-        0 => Some("LOCAL"),
-        1 => Some("GLOBAL"),
-        2 => Some("WEAK"),
+        STB_LOCAL => Some("LOCAL"),
+        STB_GLOBAL => Some("GLOBAL"),
+        STB_WEAK => Some("WEAK"),
         _ => None,
     }
 }
@@ -111,10 +116,10 @@ fn visibility_name(visibility: u8) -> Option<&'static str>
     ensures short { IfSome result (λ name. length name.now ≤ 9) }
 {
     match visibility {
-        0 => Some("DEFAULT"),
-        1 => Some("INTERNAL"),
-        2 => Some("HIDDEN"),
-        3 => Some("PROTECTED"),
+        STV_DEFAULT => Some("DEFAULT"),
+        STV_INTERNAL => Some("INTERNAL"),
+        STV_HIDDEN => Some("HIDDEN"),
+        STV_PROTECTED => Some("PROTECTED"),
         _ => None,
     }
 }
@@ -126,9 +131,9 @@ fn place_name(index: u16) -> Option<&'static str>
     ensures short { IfSome result (λ name. length name.now ≤ 5) }
 {
     match index {
-        0 => Some("UND"),
-        0xfff1 => Some("ABS"),
-        0xfff2 => Some("COM"),
+        SHN_UNDEF => Some("UND"),
+        SHN_ABS => Some("ABS"),
+        SHN_COMMON => Some("COM"),
         _ => None,
     }
 }

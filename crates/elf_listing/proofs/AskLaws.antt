@@ -1,12 +1,11 @@
 -- What a listing asks for within its budget.
-use Rattle.std.proofs.Common.{◌≡◌, ℕ, ◌+◌, ◌^◌, ◌<◌, ◌≤◌, false, Option, None, Some, Result, Ok, option_map, refl, sym, ap, ◌∙◌, arith, min}
+use Rattle.std.proofs.Common.{◌≡◌, ℕ, ◌+◌, ◌^◌, ◌<◌, ◌≤◌, false, Option, None, Some, Result, Ok, refl, sym, ap, ◌∙◌, arith}
 use Rattle.std.specs.Prelude.{IfSome}
-use Rattle.elf_model.specs.Budget.{IsBudget}
 use Rattle.elf_model.specs.Checks.{first_refusal, length_checks}
 use Rattle.elf_model.specs.Cost.{ceiling}
 use Rattle.elf_model.specs.Listing.{has_tables}
 use Rattle.elf_model.specs.declared.causes.Refusal.{Refusal}
-use Rattle.elf_source.specs.Source.{Seen, Counting, Reads, Limits, IsWithin, OverLimit, counted}
+use Rattle.elf_source.specs.Source.{Seen, Counting, Reads, Limits, OverLimit, counted}
 use Rattle.elf_table.specs.Faults.{RefusalSays}
 use Rattle.elf_table.specs.declared.caps.Caps.{Caps}
 use Rattle.elf_listing.specs.Reports.{AsksWithin}
@@ -46,4 +45,5 @@ asks_within caps parts s0 s1 s2 s3 n result small set reads unset unread alone l
       late = λ refusal is budget.
           let over = late_budget caps.budget s0 s1 s2 n small set (late refusal is budget).1 in
           (over.0, over.1, omega (arith, over.2, unset.asked));
+      place = λ refusal is budget. (late refusal is budget).2 ∙ sym unset.stopped;
     }

@@ -1,20 +1,26 @@
 -- The items of a whole listing: the file header's, and what stands behind it.
-use Rattle.std.proofs.Common.{◌≡◌, ℕ, true, List, [], ◌∷◌, ◌++◌, None, Some, Err, false, sym, ap, ◌∙◌, refl, append-nil}
+use Rattle.std.proofs.lemmas.Bool.{eqb-true}
+use Rattle.std.proofs.Common.{◌≡◌, ℕ, ◌==◌, ◌||◌, Bool, true, List, [], ◌∷◌, ◌++◌, None, Err, false, sym, ap, ◌∙◌, refl, append-nil, append_assoc}
 use Rattle.elf_model.specs.Budget.{IsBudget}
 use Rattle.elf_model.specs.Checks.{first_refusal, header_checks, load_checks}
 use Rattle.elf_model.specs.Lines.{header_line}
-use Rattle.elf_model.specs.Listing.{Item, Line, Fault, has, has_tables, where_asked, each, HEADER, SECTIONS, SEGMENTS, SYMBOLS, RELOCS, NOTES, DYNAMIC}
+use Rattle.elf_model.specs.Listing.{Item, Line, Fault, has, has_tables, where_asked, each, HEADER, SEGMENTS, NOTES, DYNAMIC}
 use Rattle.elf_model.specs.Records.{e_shnum, e_phnum}
-use Rattle.elf_model.specs.Report.{items, load_items, table_items, note_items}
-use Rattle.elf_model.specs.Rows.{section_row, segment_row, symbol_rows, relocation_rows, dynamic_rows}
+use Rattle.elf_model.specs.Report.{items, load_items, table_items, kinds_rows}
+use Rattle.elf_model.specs.TableKinds.{TableHeaders, symbols, relocations, section_notes, section_dynamic, segment_notes, segment_dynamic, section_kinds, segment_kinds, by_sections, by_segments, table_headers}
+use Rattle.elf_model.proofs.CostLemmas.{headers_none, headers_some}
+use Rattle.elf_model.specs.Rows.{segment_row}
 use Rattle.elf_model.specs.declared.causes.Refusal.{Refusal}
-use Rattle.elf_model.proofs.ListingLemmas.{checked-passes, checked-fault, load_some}
-use Rattle.elf_table.specs.Load.{LoadedAs}
+use Rattle.elf_model.proofs.ListingLemmas.{guarded-passes, guarded-fault, load_some}
+use Rattle.elf_table.specs.Load.{Opened, Belongs, LoadedAs}
 use Rattle.elf_table.specs.Faults.{HeaderRead}
 use Rattle.elf_table.specs.Store.{Stored}
 use Rattle.elf_table.specs.declared.fault.Fault.{Fault as TableFault}
 use Rattle.elf_table.specs.declared.fault.Fault.TheVariants.{Refused}
-use Rattle.elf_listing.specs.Parts.{AreListed}
+use Rattle.elf_listing.specs.Parts.{bit_of, part_items}
+use Rattle.elf_listing.specs.Viewed.{viewed}
+use Rattle.elf_listing.specs.declared.parts.Part.{Part}
+use Rattle.elf_listing.specs.declared.parts.Part.TheVariants.{Headers, Symbols, Relocations, SectionNotes, SegmentNotes, SectionDynamic, SegmentDynamic}
 
 -- the file header's part
 abbrev pub header_part : List ℕ → ℕ → List Item
@@ -22,7 +28,7 @@ header_part file parts = where_asked parts HEADER (Line (header_line file) ∷ [
 
 pub items_are : (file : List ℕ) (headers cap parts : ℕ) → first_refusal (header_checks file) ≡ None → items file headers cap parts ≡ header_part file parts ++ load_items file headers cap parts
 unfolding items
-items_are file headers cap parts passed = checked-passes (header_checks file) (header_part file parts ++ load_items file headers cap parts) passed
+items_are file headers cap parts passed = guarded-passes (header_checks file) (header_part file parts ++ load_items file headers cap parts) passed
 
 -- a refusal of the file header is all that is listed
 pub header_alone : (file : List ℕ) (headers cap parts : ℕ) (fault : TableFault) → HeaderRead file (Err fault) → (refusal : Refusal) → fault ≡ Refused refusal
@@ -30,7 +36,7 @@ pub header_alone : (file : List ℕ) (headers cap parts : ℕ) (fault : TableFau
 unfolding items
 header_alone file headers cap parts fault read refusal is other =
     let first = rw is at read in
-    checked-fault (header_checks file) (header_part file parts ++ load_items file headers cap parts) refusal (first other)
+    guarded-fault (header_checks file) (header_part file parts ++ load_items file headers cap parts) refusal (first other)
 
 -- a refusal of the load is all that is listed behind the file header
 pub load_alone : (file : List ℕ) (headers cap parts : ℕ) (fault : TableFault) (store : Stored) → LoadedAs file (Err fault) store → store.slots ≡ headers → has_tables parts ≡ true
@@ -38,39 +44,139 @@ pub load_alone : (file : List ℕ) (headers cap parts : ℕ) (fault : TableFault
 load_alone file headers cap parts fault store read same tables refusal is other =
     let first = rw is at read in
     load_some file headers cap parts tables
-    ∙ checked-fault (load_checks file headers) (table_items file cap parts) refusal (ap (λ n. first_refusal (load_checks file n)) (sym same) ∙ first other)
+    ∙ guarded-fault (load_checks file headers) (table_items file cap parts) refusal (ap (λ n. first_refusal (load_checks file n)) (sym same) ∙ first other)
 
 -- where the load passes, the tables are listed
 pub load_passed : (file : List ℕ) (headers slots cap parts : ℕ) → first_refusal (load_checks file slots) ≡ None → slots ≡ headers → has_tables parts ≡ true
     → load_items file headers cap parts ≡ table_items file cap parts
 load_passed file headers slots cap parts passed same tables =
     load_some file headers cap parts tables
-    ∙ checked-passes (load_checks file headers) (table_items file cap parts) (ap (λ n. first_refusal (load_checks file n)) (sym same) ∙ passed)
+    ∙ guarded-passes (load_checks file headers) (table_items file cap parts) (ap (λ n. first_refusal (load_checks file n)) (sym same) ∙ passed)
 
--- the four parts that are listed
-abbrev pub section_part : List ℕ → ℕ → ℕ → List Item
-section_part file cap parts = where_asked parts SECTIONS (each (section_row file cap) 0 (e_shnum file))
+-- a part of so many headers
+abbrev pub of_headers : List ℕ → ℕ → ℕ → Part → ℕ → List Item
+of_headers file most parts part count = where_asked parts (bit_of part) (part_items part most count file)
 
 abbrev pub segment_part : List ℕ → ℕ → List Item
 segment_part file parts = where_asked parts SEGMENTS (each (segment_row file) 0 (e_phnum file))
 
-abbrev pub symbol_part : List ℕ → ℕ → ℕ → List Item
-symbol_part file cap parts = where_asked parts SYMBOLS (each (symbol_rows file cap) 0 (e_shnum file))
+nothing_asked : (parts part : ℕ) → where_asked parts part [] ≡ []
+nothing_asked parts part = by_cases (has parts part)
+  where
+    by_cases : (b : Bool) → (elim b as (λ _. List Item) [ true ↦ [] | false ↦ [] ]) ≡ []
+    by_cases true = refl
+    by_cases false = refl
 
-abbrev pub relocation_part : List ℕ → ℕ → ℕ → List Item
-relocation_part file cap parts = where_asked parts RELOCS (each (relocation_rows file cap) 0 (e_shnum file))
+-- a part of no header
+none_of : (file : List ℕ) (most parts : ℕ) (part : Part) (count : ℕ) → count ≡ 0 → of_headers file most parts part count ≡ []
+unfolding each
+none_of file most parts part count none = rw none (nothing_asked parts (bit_of part))
 
-unasked : (parts part : ℕ) (members : List Item) → has parts part ≡ false → where_asked parts part members ≡ []
-unasked parts part members h = rw (h, where_asked) refl
+-- a part whose number of headers matters only where it is asked for
+asked_same : (parts part : ℕ) (items : ℕ → List Item) (n m : ℕ) → (has parts part ≡ true → n ≡ m) → where_asked parts part (items n) ≡ where_asked parts part (items m)
+asked_same parts part items n m same = by_cases (has parts part) same
+  where
+    by_cases : (b : Bool) → (b ≡ true → n ≡ m)
+        → (elim b as (λ _. List Item) [ true ↦ items n | false ↦ [] ]) ≡ (elim b as (λ _. List Item) [ true ↦ items m | false ↦ [] ])
+    by_cases true h = ap items (h refl)
+    by_cases false h = refl
 
-none_behind : (xs a b : List Item) → a ≡ [] → b ≡ [] → xs ++ a ++ b ≡ xs
-none_behind xs a b p q = rw (p, q) (append-nil (xs ++ []) ∙ append-nil xs)
+kinds_of_sections : (file : List ℕ) (most parts : ℕ) → kinds_rows section_kinds (by_sections file) file most parts
+    ≡ of_headers file most parts Symbols (e_shnum file) ++ (of_headers file most parts Relocations (e_shnum file)
+    ++ (of_headers file most parts SectionNotes (e_shnum file) ++ (of_headers file most parts SectionDynamic (e_shnum file) ++ [])))
+unfolding kinds_rows symbols relocations section_notes section_dynamic
+kinds_of_sections file most parts = refl
 
--- the tables are those of the parts that are listed, where no other is asked for
-pub tables_are : (file : List ℕ) (cap parts : ℕ) → AreListed parts
-    → table_items file cap parts ≡ section_part file cap parts ++ segment_part file parts ++ symbol_part file cap parts ++ relocation_part file cap parts
+kinds_of_segments : (file : List ℕ) (most parts : ℕ) → kinds_rows segment_kinds (by_segments file) file most parts
+    ≡ of_headers file most parts SegmentNotes (e_phnum file) ++ (of_headers file most parts SegmentDynamic (e_phnum file) ++ [])
+unfolding kinds_rows segment_notes segment_dynamic
+kinds_of_segments file most parts = refl
+
+sections_alone : (y r n m d e : List Item) → m ≡ [] → e ≡ [] → y ++ (r ++ (n ++ (d ++ []))) ≡ ((y ++ r) ++ (n ++ m)) ++ (d ++ e)
+sections_alone y r n m d e p q =
+    rw (p, q) (sym (append_assoc y r (n ++ (d ++ []))) ∙ (sym (append_assoc (y ++ r) n (d ++ [])) ∙ ap (λ x. ((y ++ r) ++ x) ++ (d ++ [])) (sym (append-nil n))))
+
+segments_alone : (y r n m d e : List Item) → y ≡ [] → r ≡ [] → n ≡ [] → d ≡ [] → m ++ (e ++ []) ≡ ((y ++ r) ++ (n ++ m)) ++ (d ++ e)
+segments_alone y r n m d e a b c f = rw (a, b, c, f) (ap (λ x. m ++ x) (append-nil e))
+
+needs_notes : (segments dynamic : Bool) → (segments || (true || dynamic)) ≡ true
+needs_notes true dynamic = refl
+needs_notes false dynamic = refl
+
+needs_dynamic : (segments notes : Bool) → (segments || (notes || true)) ≡ true
+needs_dynamic true notes = refl
+needs_dynamic false true = refl
+needs_dynamic false false = refl
+
+-- where the notes, or the dynamic entries, of a file without sections are asked for, its program headers are loaded
+viewed_notes : (parts : ℕ) (loaded : Opened) → (loaded.header.e_shnum == 0) ≡ true → has parts NOTES ≡ true → viewed parts loaded ≡ loaded.header.e_phnum
+viewed_notes parts loaded none asked = rw (none, asked, needs_notes (has parts SEGMENTS) (has parts DYNAMIC)) refl
+
+viewed_dynamic : (parts : ℕ) (loaded : Opened) → (loaded.header.e_shnum == 0) ≡ true → has parts DYNAMIC ≡ true → viewed parts loaded ≡ loaded.header.e_phnum
+viewed_dynamic parts loaded none asked = rw (none, asked, needs_dynamic (has parts SEGMENTS) (has parts NOTES)) refl
+
+pub viewed_none : (parts : ℕ) (loaded : Opened) → (loaded.header.e_shnum == 0) ≡ false → viewed parts loaded ≡ 0
+viewed_none parts loaded some = rw some refl
+
+pub viewed_segments : (parts : ℕ) (loaded : Opened) → (loaded.header.e_shnum == 0) ≡ true → has parts SEGMENTS ≡ true → viewed parts loaded ≡ loaded.header.e_phnum
+viewed_segments parts loaded none asked = rw (none, asked) refl
+
+-- the tables of all kinds are those of the headers in the store
+kinds_are : (file : List ℕ) (most parts : ℕ) (loaded : Opened) (store : Stored) → Belongs file loaded store → store.segments ≡ viewed parts loaded
+    → kinds_rows (table_headers file).kinds (table_headers file) file most parts
+    ≡ ((of_headers file most parts Symbols store.loaded ++ of_headers file most parts Relocations store.loaded)
+    ++ (of_headers file most parts SectionNotes store.loaded ++ of_headers file most parts SegmentNotes store.segments))
+    ++ (of_headers file most parts SectionDynamic store.loaded ++ of_headers file most parts SegmentDynamic store.segments)
+kinds_are file most parts loaded store belongs view = by_cases (e_shnum file == 0) refl
+  where
+    count : store.loaded ≡ e_shnum file
+    count = belongs.count ∙ belongs.header.e_shnum
+
+    sections : (part : Part) → of_headers file most parts part (e_shnum file) ≡ of_headers file most parts part store.loaded
+    sections part = ap (of_headers file most parts part) (sym count)
+
+    by_cases : (none : Bool) → (e_shnum file == 0) ≡ none → kinds_rows (table_headers file).kinds (table_headers file) file most parts
+        ≡ ((of_headers file most parts Symbols store.loaded ++ of_headers file most parts Relocations store.loaded)
+        ++ (of_headers file most parts SectionNotes store.loaded ++ of_headers file most parts SegmentNotes store.segments))
+        ++ (of_headers file most parts SectionDynamic store.loaded ++ of_headers file most parts SegmentDynamic store.segments)
+    by_cases true h =
+        let zero : store.loaded ≡ 0 = count ∙ eqb-true (e_shnum file) 0 h in
+        let unsectioned : (loaded.header.e_shnum == 0) ≡ true = ap (λ n. n == 0) belongs.header.e_shnum ∙ h in
+        let notes = asked_same parts NOTES (λ n. part_items SegmentNotes most n file) (e_phnum file) store.segments
+        (λ asked. sym (view ∙ (viewed_notes parts loaded unsectioned asked ∙ belongs.header.e_phnum))) in
+        let dynamic = asked_same parts DYNAMIC (λ n. part_items SegmentDynamic most n file) (e_phnum file) store.segments
+        (λ asked. sym (view ∙ (viewed_dynamic parts loaded unsectioned asked ∙ belongs.header.e_phnum))) in
+        ap (λ (headers : TableHeaders). kinds_rows headers.kinds headers file most parts) (headers_none file h)
+        ∙ (kinds_of_segments file most parts
+        ∙ (ap (λ x. x ++ (of_headers file most parts SegmentDynamic (e_phnum file) ++ [])) notes
+        ∙ (ap (λ x. of_headers file most parts SegmentNotes store.segments ++ (x ++ [])) dynamic
+        ∙ segments_alone (of_headers file most parts Symbols store.loaded) (of_headers file most parts Relocations store.loaded) (of_headers file most parts SectionNotes store.loaded)
+        (of_headers file most parts SegmentNotes store.segments) (of_headers file most parts SectionDynamic store.loaded) (of_headers file most parts SegmentDynamic store.segments) (none_of file most parts Symbols store.loaded zero) (none_of file most parts Relocations store.loaded zero)
+        (none_of file most parts SectionNotes store.loaded zero) (none_of file most parts SectionDynamic store.loaded zero))))
+    by_cases false h =
+        let sectioned : (loaded.header.e_shnum == 0) ≡ false = ap (λ n. n == 0) belongs.header.e_shnum ∙ h in
+        let zero : store.segments ≡ 0 = view ∙ viewed_none parts loaded sectioned in
+        ap (λ (headers : TableHeaders). kinds_rows headers.kinds headers file most parts) (headers_some file h)
+        ∙ (kinds_of_sections file most parts
+        ∙ (sections_alone (of_headers file most parts Symbols (e_shnum file)) (of_headers file most parts Relocations (e_shnum file)) (of_headers file most parts SectionNotes (e_shnum file))
+        (of_headers file most parts SegmentNotes store.segments) (of_headers file most parts SectionDynamic (e_shnum file)) (of_headers file most parts SegmentDynamic store.segments) (none_of file most parts SegmentNotes store.segments zero) (none_of file most parts SegmentDynamic store.segments zero)
+        ∙ ap (λ n. ((of_headers file most parts Symbols n ++ of_headers file most parts Relocations n)
+        ++ (of_headers file most parts SectionNotes n ++ of_headers file most parts SegmentNotes store.segments))
+        ++ (of_headers file most parts SectionDynamic n ++ of_headers file most parts SegmentDynamic store.segments)) (sym count)))
+
+behind : (a b c d : List Item) → a ++ ((b ++ c) ++ d) ≡ ((a ++ b) ++ c) ++ d
+behind a b c d = sym (append_assoc a (b ++ c) d) ∙ ap (λ x. x ++ d) (sym (append_assoc a b c))
+
+-- the tables of a loaded file, by the headers in the store
+pub tables_are : (file : List ℕ) (most parts : ℕ) (loaded : Opened) (store : Stored) → Belongs file loaded store → store.segments ≡ viewed parts loaded
+    → table_items file most parts
+    ≡ (((of_headers file most parts Headers store.loaded ++ segment_part file parts)
+    ++ (of_headers file most parts Symbols store.loaded ++ of_headers file most parts Relocations store.loaded))
+    ++ (of_headers file most parts SectionNotes store.loaded ++ of_headers file most parts SegmentNotes store.segments))
+    ++ (of_headers file most parts SectionDynamic store.loaded ++ of_headers file most parts SegmentDynamic store.segments)
 unfolding table_items
-tables_are file cap parts listed =
-    none_behind (section_part file cap parts ++ segment_part file parts ++ symbol_part file cap parts ++ relocation_part file cap parts) _ _
-    (unasked parts NOTES (note_items file cap) listed.0)
-    (unasked parts DYNAMIC (each (dynamic_rows file cap) 0 (e_shnum file)) listed.1)
+tables_are file most parts loaded store belongs view =
+    let count : e_shnum file ≡ store.loaded = sym (belongs.count ∙ belongs.header.e_shnum) in
+    ap (λ n. (of_headers file most parts Headers n ++ segment_part file parts) ++ kinds_rows (table_headers file).kinds (table_headers file) file most parts) count
+    ∙ (ap (λ rest. (of_headers file most parts Headers store.loaded ++ segment_part file parts) ++ rest) (kinds_are file most parts loaded store belongs view)
+    ∙ behind (of_headers file most parts Headers store.loaded ++ segment_part file parts) _ _ _)

@@ -10,7 +10,7 @@ use Rattle.elf_table.specs.Cursors.{Reading, Gives, Agrees, unread_bytes, place,
 use Rattle.elf_table.specs.Tables.{Rows, size_of}
 use Rattle.elf_table.specs.declared.fault.Fault.{Fault}
 use Rattle.elf_table.specs.declared.row.Row.{Row}
-use Rattle.elf_listing.specs.Kinds.{row_size, own_cost, rows_cost, table_place, IsRowOf}
+use Rattle.elf_listing.specs.Kinds.{row_size, own_cost, rows_cost, IsRowOf}
 use Rattle.elf_listing.specs.Shows.{Whole, Stopped}
 use Rattle.elf_listing.specs.Stops.{stop_of}
 use Rattle.elf_listing.specs.declared.rows.Kind.{Kind}
@@ -65,17 +65,17 @@ given_index gives lends = omega (arith, lends.its_index, gives.next_index)
 
 -- the row that a step gave
 pub given_row : {holds : Option (List ℕ)} {old new : Reading} {row : Row} (file : List ℕ) (kind : Kind) (table : Rows)
-    → Gives holds old new → Lends new row → holds ≡ Some file → Agrees file old → old.table ≡ table → table.entry ≡ row_size kind → table.at ≡ table_place kind file
-    → IsRowOf file kind row
-given_row {old = old} {new = new} {row = row} file kind table gives lends held agrees same entry at =
+    → Gives holds old new → Lends new row → holds ≡ Some file → Agrees file old → old.table ≡ table → table.entry ≡ row_size kind
+    → IsRowOf file table.at kind row
+given_row {old = old} {new = new} {row = row} file kind table gives lends held agrees same entry =
     let index : row.index ≡ old.index = omega (arith, lends.its_index, gives.next_index) in
     let moved : row.at ≡ place old =
     lends.its_offset ∙ ap (λ (t : Rows). t.at + row.index * t.entry) gives.same_table ∙ ap (λ (i : ℕ). old.table.at + i * old.table.entry) index in
     let whole : old.table.entry ≡ row_size kind = ap (λ (t : Rows). t.entry) same ∙ entry in
-    let from_ : old.table.at ≡ table_place kind file = ap (λ (t : Rows). t.at) same ∙ at in
+    let from_ : old.table.at ≡ table.at = ap (λ (t : Rows). t.at) same in
     record {
       bytes = lends.its_bytes ∙ (gives.exact file held agrees ∙ (ap (λ (p : ℕ). slice file p old.table.entry) (sym moved) ∙ ap (λ (n : ℕ). slice file row.at n) whole));
-      here = moved ∙ (ap (λ (n : ℕ). old.table.at + old.index * n) whole ∙ (ap (λ (p : ℕ). p + old.index * row_size kind) from_ ∙ ap (λ (i : ℕ). table_place kind file + i * row_size kind) (sym index)));
+      here = moved ∙ (ap (λ (n : ℕ). old.table.at + old.index * n) whole ∙ (ap (λ (p : ℕ). p + old.index * row_size kind) from_ ∙ ap (λ (i : ℕ). table.at + i * row_size kind) (sym index)));
     }
 
 -- one section's cost more

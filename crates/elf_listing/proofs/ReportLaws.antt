@@ -1,12 +1,12 @@
 -- The report of a listing, and of one that a budget cuts short.
-use Rattle.std.proofs.Common.{◌≡◌, ℕ, ◌+◌, ◌^◌, ◌<◌, ◌≤◌, List, [], ◌∷◌, ◌++◌, length, None, Some, Result, Ok, Err, Option, option_map, refl, sym, ap, ◌∙◌, inl, inr, ◌⊎◌, append-nil, arith, min}
-use Rattle.elf_model.specs.Budget.{IsBudget, IsBudgeted, IsReport, IsCut}
+use Rattle.std.proofs.Common.{◌≡◌, ℕ, ◌+◌, ◌^◌, ◌<◌, ◌≤◌, List, ◌∷◌, ◌++◌, length, None, Some, Ok, Err, Option, option_map, refl, sym, ap, ◌∙◌, inl, inr, ◌⊎◌, append-nil, arith}
+use Rattle.elf_model.specs.Budget.{IsBudget, IsBudgeted, IsReport}
 use Rattle.elf_model.specs.Cost.{cost}
 use Rattle.elf_model.specs.Lines.{refusal_line}
 use Rattle.elf_model.specs.Listing.{Item, Fault as FaultItem, lines_of, fault_of, report_of, end_text}
 use Rattle.elf_model.specs.Report.{items}
 use Rattle.elf_model.specs.declared.causes.Cause.{Cause}
-use Rattle.elf_model.specs.declared.causes.Cause.TheVariants.{Short, NotElf, BadClass, BadData, BadVersion, ExtendedNumbering, TooManyHeaders, EntrySize, TableOutside, BadLink, NotStrings, SizeNotWhole, NameOutside, NameUnended, NoteCut, NoHash, HashShape, HashIndex, HashCycle, Unsupported, Overflow, LayoutFull, LayoutRepeat, NotRel, Unplaced, Undefined, PlaceOutside, SymbolIndex, TooLong, Budget}
+use Rattle.elf_model.specs.declared.causes.Cause.TheVariants.{Short, NotElf, BadClass, BadData, BadVersion, ExtendedNumbering, TooManyHeaders, EntrySize, TableOutside, BadLink, NotStrings, SizeNotWhole, NameOutside, NameUnended, NoteCut, NoHash, HashShape, HashIndex, HashCycle, Unsupported, Overflow, LayoutFull, LayoutRepeat, NotRel, Unplaced, Undefined, PlaceOutside, SymbolIndex, TooLong, Budget, Unmapped}
 use Rattle.elf_model.specs.declared.causes.Refusal.{Refusal}
 use Rattle.elf_model.proofs.ListingLemmas.{listings_append}
 use Rattle.elf_source.specs.Source.{Counting, Limits, counted}
@@ -18,7 +18,6 @@ use Rattle.elf_listing.specs.Reports.{Reports}
 use Rattle.elf_listing.specs.Shows.{Whole, Front, IsNext, Ends}
 use Rattle.elf_listing.specs.declared.end.End.TheVariants.{Listed, Refused}
 use Rattle.elf_listing.specs.declared.end.RunFault.{RunFault}
-use Rattle.elf_listing.specs.declared.end.RunFault.TheVariants.{Source, Out}
 use Rattle.elf_listing.proofs.EachLaws.{lines_front}
 
 -- whether a refusal is for want of budget
@@ -53,6 +52,7 @@ is_budget PlaceOutside = inr (λ e. cc)
 is_budget SymbolIndex = inr (λ e. cc)
 is_budget TooLong = inr (λ e. cc)
 is_budget Budget = inl refl
+is_budget Unmapped = inr (λ e. cc)
 
 -- a report is what is listed, within every budget
 report_listed : (budget : Option ℕ) (file : List ℕ) (headers cap parts : ℕ) (text : List ℕ) (fault : Option Refusal) → IsReport (items file headers cap parts) text fault

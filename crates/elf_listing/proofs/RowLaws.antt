@@ -1,5 +1,5 @@
 -- The items of one row, by the line that was put.
-use Rattle.std.proofs.Common.{◌≡◌, ℕ, ◌+◌, ◌*◌, Bool, List, [], ◌∷◌, Result, Ok, Err, refl, sym, ap, ◌∙◌, subst, arith, append-nil}
+use Rattle.std.proofs.Common.{◌≡◌, ℕ, ◌+◌, ◌*◌, List, [], ◌∷◌, Result, Ok, Err, refl, sym, ap, ◌∙◌, subst, arith, append-nil}
 use Rattle.elf_model.specs.Budget.{IsBudget}
 use Rattle.elf_model.specs.Records.{e_phoff, segment_at, section_at, sh_offset, st_name, e_machine, r_sym}
 use Rattle.elf_model.specs.Names.{Shown, shown}
@@ -13,6 +13,7 @@ use Rattle.elf_model.specs.declared.causes.Cause.{Cause}
 use Rattle.elf_lines.specs.Pieces.{shown_as}
 use Rattle.elf_source.specs.Output.{Written, Takes, TakesFront}
 use Rattle.elf_source.proofs.PutsLaws.{Takes-nothing}
+use Rattle.elf_table.specs.Faults.{IsOfRead}
 use Rattle.elf_table.specs.NamesRead.{NameRead}
 use Rattle.elf_table.specs.declared.fault.Fault.{Fault}
 use Rattle.elf_table.specs.declared.fault.Fault.TheVariants.{Refused, Source}
@@ -21,7 +22,6 @@ use Rattle.elf_table.specs.declared.names.NameEnd.TheVariants.{Whole as NameWhol
 use Rattle.elf_listing.specs.Shows.{Whole, Front, Ends, Stopped, Writes, cut_of}
 use Rattle.elf_listing.specs.Stops.{stop_of}
 use Rattle.elf_listing.specs.declared.stop.Stop.{Stop}
-use Rattle.elf_listing.specs.declared.stop.Stop.TheVariants.{Out}
 
 -- the same items
 pub Writes-as : {X : Type 0} (a b : Written) (result : Result X Stop) {xs ys : List Item} → xs ≡ ys → Writes a b result ys → Writes a b result xs
@@ -47,6 +47,11 @@ Ends-first a refusal all is = record { front = Front-none a all; next = λ other
 pub Stopped-first : (a : Written) (fault : Fault) (all : List Item) → ((refusal : Refusal) → fault ≡ Refused refusal → (IsBudget refusal → ⊥) → all ≡ FaultItem refusal ∷ []) → Stopped a a (stop_of fault) all
 Stopped-first a (Refused refusal) all is = Ends-first a refusal all (is refusal refl)
 Stopped-first a (Source fault at) all is = Front-none a all
+
+-- a fault of a read before anything was written, and nothing is known of the file
+pub Stopped-unread-first : (a : Written) (fault : Fault) (all : List Item) → IsOfRead fault → Stopped a a (stop_of fault) all
+Stopped-unread-first a (Refused refusal) all read = Ends-first a refusal all (λ other. absurd (other read))
+Stopped-unread-first a (Source fault at) all read = Front-none a all
 
 -- what is shown of a name that was read
 pub read_shown : (at : ℕ) (end : NameEnd) (name : List ℕ) (answer : Result Shown Cause) → NameRead at (Ok end) name answer → answer ≡ Ok (shown_as (cut_of end) name)

@@ -4,13 +4,14 @@ use Rattle.elf_source.specs.Source.{Counting, Reads}
 use Rattle.elf_source.specs.Output.{Written}
 use Rattle.elf_source.proofs.PutsLaws.{Takes-nothing, Takes-then, TakesFront-then, TakesFront-more}
 use Rattle.elf_source.proofs.ReadsLaws.{Reads-to, Reads-then, Faults-then, OverLimit-then, OverLimit-more}
+use Rattle.elf_names.proofs.SpendsLaws.{Spends-reads, Spends-then, Spends-to}
 use Rattle.elf_table.specs.Faults.{IsAt, Says}
 use Rattle.elf_model.specs.declared.causes.Refusal.{Refusal}
 use Rattle.elf_table.specs.declared.fault.Fault.{Fault}
 use Rattle.elf_table.specs.declared.fault.Fault.TheVariants.{Refused as Refuses, Source as Unread}
-use Rattle.elf_model.specs.Listing.{Item, lines_of, fault_of}
+use Rattle.elf_model.specs.Listing.{Item, lines_of}
 use Rattle.elf_listing.specs.Stops.{stop_of}
-use Rattle.elf_listing.specs.Shows.{Whole, Front, Stopped, Writes, StopSays, IsOfOutput, Costs}
+use Rattle.elf_listing.specs.Shows.{Whole, Front, Stopped, Writes, StopSays, IsOfOutput, Costs, Spent}
 use Rattle.elf_listing.specs.declared.stop.Stop.{Stop}
 use Rattle.elf_listing.specs.declared.stop.Stop.TheVariants.{Refused, Source, Out}
 use Rattle.elf_model.proofs.ListingLemmas.{listings_append}
@@ -80,13 +81,13 @@ Stopped-unread a b (Unread fault offset) at xs ys is p = Front-all ys p
 -- a stop after other calls, in a bound on all
 pub StopSays-then : (a b c : Counting) (out : Written) (stop : Stop) (n m k : ℕ) → b.asked + m ≤ a.asked + k → Reads a b n → StopSays b c out m stop → StopSays a c out k stop
 StopSays-then a b c out (Refused refusal) n m k within p q = λ is.
-    let over = q is in (rw (sym p.keeps.same_size) over.0, OverLimit-then n k within p over.1)
-StopSays-then a b c out (Source fault at) n m k within p q = Faults-then a.seen b.seen c.seen fault p.keeps q
+    let over = q is in (rw (sym p.keeps.same_size) over.0, OverLimit-then n k within p over.1, over.2)
+StopSays-then a b c out (Source fault at) n m k within p q = (Faults-then a.seen b.seen c.seen fault p.keeps q.0, q.1)
 StopSays-then a b c out (Out fault) n m k within p q = q
 
 -- a fault of a read is a stop
 pub StopSays-fault : (a b : Counting) (out : Written) (fault : Fault) (n k : ℕ) → n ≤ k → Says a b n fault → StopSays a b out k (stop_of fault)
-StopSays-fault a b out (Refuses refusal) n k within q = λ is. let over = q is in (over.0, OverLimit-more within over.1)
+StopSays-fault a b out (Refuses refusal) n k within q = λ is. let over = q is in (over.0, OverLimit-more within over.1, over.2)
 StopSays-fault a b out (Unread fault at) n k within q = q
 
 -- a call after reads, in a bound on all
@@ -98,15 +99,31 @@ Costs-then a b c out (Err stop) n m k within p q = (Reads-to (Reads-then p q.0) 
 pub Costs-fault : (a b : Counting) (out : Written) (fault : Fault) (n k : ℕ) → n ≤ k → Reads a b n → Says a b n fault → Costs {X = Unit {0}} a b out (Err (stop_of fault)) k
 Costs-fault a b out fault n k within p q = (Reads-to p (omega (arith, p.at_most)), StopSays-fault a b out fault n k within q)
 
+-- a read that failed behind others
+pub Costs-later : (a b c : Counting) (out : Written) (fault : Fault) (n m k : ℕ) → b.asked + m ≤ a.asked + k → Reads a b n → Reads b c m → Says b c m fault
+    → Costs {X = Unit {0}} a c out (Err (stop_of fault)) k
+Costs-later a b c out fault n m k within p q r = Costs-then {X = Unit {0}} a b c out (Err (stop_of fault)) n m k within p (Costs-fault b c out fault m m (omega arith) q r)
+
+-- a stop, in a looser bound
+pub StopSays-more : (a b : Counting) (out : Written) (stop : Stop) (n k : ℕ) → n ≤ k → StopSays a b out n stop → StopSays a b out k stop
+StopSays-more a b out (Refused refusal) n k within q = λ is. let over = q is in (over.0, OverLimit-more within over.1, over.2)
+StopSays-more a b out (Source fault at) n k within q = q
+StopSays-more a b out (Out fault) n k within q = q
+
 -- a call in a looser bound
-pub Costs-within : {X : Type 0} (a b : Counting) (out : Written) (result : Result X Stop) (n k : ℕ) → n ≤ k → Costs a b out result n → Costs a b out result k
-Costs-within a b out (Ok x) n k within p = (Reads-to p.0 (omega (arith, p.0.at_most)), tt)
-Costs-within a b out (Err stop) n k within p = (Reads-to p.0 (omega (arith, p.0.at_most)), StopSays-more stop n k within p.1)
-  where
-    StopSays-more : (stop : Stop) (n k : ℕ) → n ≤ k → StopSays a b out n stop → StopSays a b out k stop
-    StopSays-more (Refused refusal) n k within q = λ is. let over = q is in (over.0, OverLimit-more within over.1)
-    StopSays-more (Source fault at) n k within q = q
-    StopSays-more (Out fault) n k within q = q
+pub Spent-within : {X : Type 0} (a b : Counting) (out : Written) (x y : ℕ) (result : Result X Stop) (n k : ℕ) → n ≤ k → Spent a b out x y result n → Spent a b out x y result k
+Spent-within a b out x y (Ok v) n k within p = (Spends-to p.0 (omega (arith, p.0.account)), tt)
+Spent-within a b out x y (Err stop) n k within p = (Spends-to p.0 (omega (arith, p.0.account)), StopSays-more a b out stop (x + n) (x + k) (omega arith) p.1)
+
+-- a call behind reads, in a bound on all
+pub Spent-behind : {X : Type 0} (a b c : Counting) (out : Written) (x y : ℕ) (result : Result X Stop) (n m k : ℕ) → n + m ≤ k → Reads a b n → Spent b c out x y result m → Spent a c out x y result k
+Spent-behind a b c out x y (Ok v) n m k within p q = (Spends-to (Spends-then (Spends-reads x p) q.0) (omega (arith, p.at_most, q.0.account)), tt)
+Spent-behind a b c out x y (Err stop) n m k within p q =
+    (Spends-to (Spends-then (Spends-reads x p) q.0) (omega (arith, p.at_most, q.0.account)), StopSays-then a b c out stop n (x + m) (x + k) (omega (arith, p.at_most)) p q.1)
+
+-- a read that failed and took nothing of the credit, in a looser bound
+pub Spent-fault : (a b : Counting) (out : Written) (x : ℕ) (fault : Fault) (n k : ℕ) → n ≤ k → Reads a b n → Says a b n fault → Spent {X = Unit {0}} a b out x x (Err (stop_of fault)) k
+Spent-fault a b out x fault n k within p q = (Spends-reads x (Reads-to p (omega (arith, p.at_most))), StopSays-fault a b out fault n (x + k) (omega arith) q)
 
 -- the output failed after reads
 pub Costs-out : (a b : Counting) (out : Written) (stop : Stop) (n k : ℕ) → n ≤ k → Reads a b n → IsOfOutput out stop → Costs {X = Unit {0}} a b out (Err stop) k

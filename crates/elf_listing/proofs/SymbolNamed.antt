@@ -1,14 +1,13 @@
 -- The symbol that a relocation entry names, by what the file's sections answer.
-use Rattle.std.proofs.Common.{◌≡◌, ℕ, ◌+◌, ◌*◌, ◌/◌, ◌<◌, ◌≤◌, ◌==◌, nat_lt, not, Bool, true, false, if◌then◌else◌, List, Option, None, Some, Result, Err, refl, sym, ap, ◌∙◌, subst, arith}
+use Rattle.std.proofs.Common.{◌≡◌, ℕ, ◌+◌, ◌*◌, ◌/◌, ◌<◌, ◌≤◌, ◌==◌, nat_lt, Bool, true, false, List, Option, None, Some, Result, Err, refl, sym, ap, ◌∙◌, subst, arith}
 use Rattle.std.proofs.lemmas.Bool.{lt-ltb, le-ltb, eqb-true}
 use Rattle.elf_model.specs.Bytes.{slice}
 use Rattle.elf_model.specs.Names.{Shown, shown}
 use Rattle.elf_model.specs.Records.{sh_offset, sh_size, sh_link, section_at, st_name}
 use Rattle.elf_model.specs.Rows.{no_name, symbol_named}
-use Rattle.elf_model.specs.Tables.{SYMBOL_SIZE, linked_at, entry_at, entry_count, has_symbols, strings_of}
+use Rattle.elf_model.specs.Tables.{linked_at, entry_at, entry_count, has_symbols, strings_of}
 use Rattle.elf_model.specs.declared.causes.Cause.{Cause}
 use Rattle.elf_model.specs.declared.causes.Cause.TheVariants.{BadLink, SymbolIndex}
-use Rattle.elf_model.specs.declared.causes.Refusal.{Refusal}
 use Rattle.elf_table.specs.Tables.{Rows, Strings}
 use Rattle.elf_table.specs.Sections.{rows, strings, names_at, symbols_in, symbols_linked}
 use Rattle.elf_table.specs.Cursors.{row_at}

@@ -1,20 +1,23 @@
 -- The kinds of tables whose rows are listed.
 use Rattle.std.specs.Prelude.{ℕ, ◌≡◌, ◌+◌, ◌*◌, ◌^◌, ◌<◌, List, Some, Result, IfSome}
 use Rattle.elf_model.specs.Bytes.{slice}
+use Rattle.elf_model.specs.Dynamic.{dynamic_at}
 use Rattle.elf_model.specs.Records.{e_phoff, e_machine, sh_offset, section_at}
 use Rattle.elf_model.specs.Names.{name_bytes}
-use Rattle.elf_model.specs.Tables.{SYMBOL_SIZE, RELA_SIZE, strings_of}
+use Rattle.elf_model.specs.Tables.{SYMBOL_SIZE, RELA_SIZE, DYNAMIC_SIZE, strings_of}
 use Rattle.elf_model.specs.Listing.{Item, each}
-use Rattle.elf_model.specs.Rows.{segment_row, symbol_row, relocation_row}
+use Rattle.elf_model.specs.Rows.{segment_row, symbol_row, relocation_row, dynamic_row}
 use Rattle.elf_source.specs.declared.source.Source.{Ghosts as Sources}
 use Rattle.elf_source.specs.declared.sink.Sink.{Ghosts as Sinks}
 use Rattle.elf_table.specs.Sections.{symbols_linked}
 use Rattle.elf_table.specs.Tables.{Rows, RowsWithin, StringsWithin, SymbolsWithin, strings_in}
 use Rattle.elf_table.specs.declared.row.Row.{Row}
+use Rattle.elf_listing.specs.RowCursors.{rows_listed}
 use Rattle.elf_listing.specs.Shows.{Writes}
+use Rattle.elf_listing.specs.Strings.{strings_told, AreWithin, AreOf}
 use Rattle.elf_listing.specs.declared.listing.Listing.{Listing}
 use Rattle.elf_listing.specs.declared.rows.Kind.{Kind}
-use Rattle.elf_listing.specs.declared.rows.Kind.TheVariants.{Segments, Symbols, Relocations}
+use Rattle.elf_listing.specs.declared.rows.Kind.TheVariants.{Segments, Symbols, Relocations, Dynamic}
 use Rattle.elf_listing.specs.declared.stop.Stop.{Stop}
 
 -- the size of a row in bytes
@@ -22,46 +25,49 @@ abbrev pub row_size : Kind → ℕ
 row_size Segments = 56
 row_size (Symbols section names) = SYMBOL_SIZE
 row_size (Relocations section machine linked) = RELA_SIZE
+row_size (Dynamic strings) = DYNAMIC_SIZE
 
 -- how many bytes a row asks for at most beside its own
 abbrev pub own_cost : Kind → ℕ → ℕ
 own_cost Segments cap = 0
 own_cost (Symbols section names) cap = name_bytes cap
 own_cost (Relocations section machine linked) cap = SYMBOL_SIZE + name_bytes cap
+own_cost (Dynamic strings) cap = name_bytes cap
 
 -- how many bytes the rows of a table ask for at most
 abbrev pub rows_cost : Kind → Rows → ℕ → ℕ
 rows_cost kind table cap = table.count * (row_size kind + own_cost kind cap)
 
--- where the table of a kind stands in a file
-abbrev pub table_place : Kind → List ℕ → ℕ
-table_place Segments file = e_phoff file
-table_place (Symbols section names) file = sh_offset file (section_at file section)
-table_place (Relocations section machine linked) file = sh_offset file (section_at file section)
-
--- the items of the row of an index
-abbrev pub row_items : Kind → List ℕ → ℕ → ℕ → List Item
-row_items Segments file cap = segment_row file
-row_items (Symbols section names) file cap = symbol_row file cap section (section_at file section)
-row_items (Relocations section machine linked) file cap = relocation_row file cap section (section_at file section)
+-- the items of the row of an index, in a table at an offset
+abbrev pub row_items : Kind → List ℕ → ℕ → ℕ → ℕ → List Item
+row_items Segments file cap table_at index = segment_row file index
+row_items (Symbols section names) file cap table_at index = symbol_row file cap section (section_at file section) index
+row_items (Relocations section machine linked) file cap table_at index = relocation_row file cap section (section_at file section) index
+row_items (Dynamic strings) file cap table_at index = dynamic_row file cap (strings_told strings file) (dynamic_at table_at index) index
 
 -- the tables that a kind's names are read from lie within a source of this size
 abbrev pub KindWithin : ℕ → Kind → Type 0
 KindWithin size Segments = Unit {0}
 KindWithin size (Symbols section names) = StringsWithin size names
 KindWithin size (Relocations section machine linked) = IfSome linked (SymbolsWithin size)
+KindWithin size (Dynamic strings) = AreWithin size strings
 
--- the tables that a kind's names are read from are those that the file's section refers to, and the machine is the file's
-abbrev pub KindOf : List ℕ → Kind → Type 0
-KindOf file Segments = Unit {0}
-KindOf file (Symbols section names) = strings_in file names ≡ strings_of file (section_at file section)
-KindOf file (Relocations section machine linked) = (machine ≡ e_machine file) × (linked ≡ symbols_linked file (section_at file section))
+-- a table at an offset is one of the file: it stands where the file's header or section tells, the tables that its names
+-- are read from are those that the section refers to, and the machine is the file's
+abbrev pub KindOf : List ℕ → ℕ → Kind → Type 0
+KindOf file table_at Segments = table_at ≡ e_phoff file
+KindOf file table_at (Symbols section names) =
+    (strings_in file names ≡ strings_of file (section_at file section)) × (table_at ≡ sh_offset file (section_at file section))
+KindOf file table_at (Relocations section machine linked) =
+    (machine ≡ e_machine file) × (linked ≡ symbols_linked file (section_at file section)) × (table_at ≡ sh_offset file (section_at file section))
+KindOf file table_at (Dynamic strings) = AreOf file strings
 
 -- an index of a kind's rows fits the column's type
 abbrev pub IndexFits : Kind → ℕ → Type 0
 IndexFits Segments index = index < 2 ^ 16
 IndexFits (Symbols section names) index = Unit {0}
 IndexFits (Relocations section machine linked) index = Unit {0}
+IndexFits (Dynamic strings) index = Unit {0}
 
 -- a table of the rows of a kind, which lies within a source of this size with what it refers to
 pub record IsTableOf (size : ℕ) (kind : Kind) (table : Rows) : Type 0 where
@@ -70,19 +76,19 @@ pub record IsTableOf (size : ℕ) (kind : Kind) (table : Rows) : Type 0 where
   pub names : KindWithin size kind
   pub fits : (index : ℕ) → index < table.count → IndexFits kind index
 
--- a row is the one of its index in a file
-pub record IsRowOf (file : List ℕ) (kind : Kind) (row : Row) : Type 0 where
+-- a row is the one of its index in a file's table at an offset
+pub record IsRowOf (file : List ℕ) (table_at : ℕ) (kind : Kind) (row : Row) : Type 0 where
   pub bytes : row.bytes.now ≡ slice file row.at (row_size kind)
-  pub here : row.at ≡ table_place kind file + row.index * row_size kind
+  pub here : row.at ≡ table_at + row.index * row_size kind
 
 -- what a call wrote of a row: where the row is the file's, its items
 abbrev pub OfRow : {S W X : Type 0} {s : Sources S} {w : Sinks W} → Listing S W s w → Listing S W s w → Result X Stop → Row → Kind → Type 0
 OfRow old new result row kind =
-    (file : List ℕ) → old.src.now.seen.file ≡ Some file → KindOf file kind → IsRowOf file kind row
-    → Writes old.out.now new.out.now result (row_items kind file old.cap.bytes row.index)
+    (file : List ℕ) → old.src.now.seen.file ≡ Some file → (table_at : ℕ) → KindOf file table_at kind → IsRowOf file table_at kind row
+    → Writes old.out.now new.out.now result (row_items kind file old.cap.bytes table_at row.index)
 
--- what it wrote of a table's rows: where the table is the file's, the items of all
+-- what it wrote of a table's rows: where the table is the file's, the items of all that are listed
 abbrev pub OfRows : {S W X : Type 0} {s : Sources S} {w : Sinks W} → Listing S W s w → Listing S W s w → Result X Stop → Rows → Kind → Type 0
 OfRows old new result table kind =
-    (file : List ℕ) → old.src.now.seen.file ≡ Some file → (0 < table.count → KindOf file kind × (table.at ≡ table_place kind file))
-    → Writes old.out.now new.out.now result (each (row_items kind file old.cap.bytes) 0 table.count)
+    (file : List ℕ) → old.src.now.seen.file ≡ Some file → (0 < table.count → KindOf file table.at kind)
+    → Writes old.out.now new.out.now result (each (row_items kind file old.cap.bytes table.at) 0 (rows_listed kind file table))

@@ -2,7 +2,7 @@
 use Rattle.std.specs.Prelude.{ℕ, ◌≡◌, ◌<◌, ◌+◌, ◌≤◌, false, List, Option, None, Some, Result, Ok, Err, IfSome}
 use Rattle.elf_model.specs.Budget.{IsBudgeted, IsBudget}
 use Rattle.elf_model.specs.Checks.{first_refusal, length_checks}
-use Rattle.elf_model.specs.Cost.{cost, ceiling}
+use Rattle.elf_model.specs.Cost.{ceiling}
 use Rattle.elf_model.specs.Listing.{has_tables}
 use Rattle.elf_model.specs.declared.causes.Refusal.{Refusal}
 use Rattle.elf_source.specs.Source.{Counting, Keeps, Faults}
@@ -31,14 +31,14 @@ pub record Reports (file : List ℕ) (caps : Caps) (parts : ℕ) (old new : Writ
   pub listed : IsBudgeted caps.budget file caps.headers caps.name.bytes parts text fault
   pub wrote : Wrote old new result text fault
 
--- what a fault says of the source and the output
+-- what a fault says of the source and the output: the source's names the read that failed
 abbrev pub FaultSays : Counting → Counting → Written → RunFault → Type 0
-FaultSays old new out (Source fault at) = Faults old.seen new.seen fault
+FaultSays old new out (Source fault at) = Faults old.seen new.seen fault × (at ≡ new.stopped)
 FaultSays old new out (Out fault) = Fails out fault
 
 -- WHAT IS ASKED FOR, for every source: no more than the ceiling, nothing where the length refuses the file, and the file
 -- header alone where no table is asked for; never more than the budget; and where the answer is that the budget is used up,
--- fewer than 4,096 bytes of it are left
+-- fewer than 4,096 bytes of it are left, and the answer names the read that it had no room for
 pub record AsksWithin (caps : Caps) (parts : ℕ) (old new : Counting) (result : Result End RunFault) : Type 0 where
   pub ceiling : new.asked ≤ old.asked + ceiling old.seen.size caps.headers caps.name.bytes
   pub unread : (refusal : Refusal) → first_refusal (length_checks old.seen.size) ≡ Some refusal → new.seen ≡ old.seen × new.asked ≡ old.asked
@@ -46,6 +46,7 @@ pub record AsksWithin (caps : Caps) (parts : ℕ) (old new : Counting) (result :
   pub budget : IfSome caps.budget (λ bytes. new.asked ≤ old.asked + bytes)
   pub late : (refusal : Refusal) → result ≡ Ok (Refused refusal) → IsBudget refusal
       → (bytes : ℕ) × (caps.budget ≡ Some bytes) × (old.asked + bytes < new.asked + 4096)
+  pub place : (refusal : Refusal) → result ≡ Ok (Refused refusal) → IsBudget refusal → refusal.at ≡ new.stopped
 
 -- what is kept of the source: its size, its failures so far, its file; and no limit is left
 pub record Leaves (old new : Counting) : Type 0 where

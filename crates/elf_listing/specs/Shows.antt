@@ -1,5 +1,5 @@
 -- What a call that writes a part of a listing did.
-use Rattle.std.specs.Prelude.{ℕ, ◌≡◌, Bool, true, false, List, ◌∷◌, ◌++◌, None, Some, Result, Ok, Err, IfErr}
+use Rattle.std.specs.Prelude.{ℕ, ◌≡◌, ◌+◌, Bool, true, false, List, ◌∷◌, ◌++◌, None, Some, Result, Ok, Err, IfErr}
 use Rattle.elf_model.specs.Budget.{IsBudget}
 use Rattle.elf_model.specs.Listing.{Item, Fault, lines_of, fault_of}
 use Rattle.elf_model.specs.Names.{Shown}
@@ -10,8 +10,10 @@ use Rattle.elf_source.specs.Source.{Counting, Reads, Faults}
 use Rattle.elf_source.specs.Output.{Written, Takes, TakesFront, Fails}
 use Rattle.elf_source.specs.declared.source.Source.{Ghosts as Sources}
 use Rattle.elf_source.specs.declared.sink.Sink.{Ghosts as Sinks}
-use Rattle.elf_table.specs.Faults.{RefusalSays}
+use Rattle.elf_names.specs.Ahead.{Spends}
+use Rattle.elf_table.specs.Faults.{RefusalSays, Says}
 use Rattle.elf_table.specs.NamesRead.{NameRead}
+use Rattle.elf_table.specs.declared.fault.Fault.{Fault as Failure}
 use Rattle.elf_table.specs.declared.names.NameEnd.{NameEnd}
 use Rattle.elf_table.specs.declared.names.NameEnd.TheVariants.{Whole as NameWhole, Cut as NameCut}
 use Rattle.elf_listing.specs.declared.listing.Listing.{Listing}
@@ -55,7 +57,7 @@ Writes old new (Err stop) items = Stopped old new stop items
 -- what a stop says of the source and the output
 abbrev pub StopSays : Counting → Counting → Written → ℕ → Stop → Type 0
 StopSays old new out n (Refused refusal) = RefusalSays old new n refusal
-StopSays old new out n (Source fault at) = Faults old.seen new.seen fault
+StopSays old new out n (Source fault at) = Faults old.seen new.seen fault × (at ≡ new.stopped)
 StopSays old new out n (Out fault) = Fails out fault
 
 -- a stop is a fault of the output
@@ -75,9 +77,20 @@ pub record SameFile {S W : Type 0} {s : Sources S} {w : Sinks W} (old new : List
   pub same_file : new.file ≡ old.file
   pub same_cap : new.cap ≡ old.cap
 
+-- what a call costs that has some credit before it, and some after it: it asked for no more than n bytes and what it took of
+-- the credit, and a stop says what is so
+abbrev pub Spent : {X : Type 0} → Counting → Counting → Written → ℕ → ℕ → Result X Stop → ℕ → Type 0
+Spent old new out before after result n = Spends old new before after n × IfErr result (StopSays old new out (before + n))
+
 -- WHAT A CALL OF A LISTING DID, for every source
 abbrev pub Lists : {S W X : Type 0} {s : Sources S} {w : Sinks W} → Listing S W s w → Listing S W s w → Result X Stop → ℕ → Type 0
-Lists old new result n = SameFile old new × Reads old.src.now new.src.now n × IfErr result (StopSays old.src.now new.src.now new.out.now n)
+Lists old new result n = SameFile old new × Spent old.src.now new.src.now new.out.now old.ahead.credit new.ahead.credit result n
+
+-- WHAT A CALL THAT WRITES NOTHING DID, for every source: the same, and a fault says what is so
+abbrev pub Fetches : {S W X : Type 0} {s : Sources S} {w : Sinks W} → Listing S W s w → Listing S W s w → Result X Failure → ℕ → Type 0
+Fetches old new result n =
+    SameFile old new × (new.out.now ≡ old.out.now) × Spends old.src.now new.src.now old.ahead.credit new.ahead.credit n
+    × IfErr result (Says old.src.now new.src.now (old.ahead.credit + n))
 
 -- WHAT IT WROTE: where the file of the source is known, its items
 abbrev pub Shows : {S W X : Type 0} {s : Sources S} {w : Sinks W} → Listing S W s w → Listing S W s w → Result X Stop → (List ℕ → List Item) → Type 0

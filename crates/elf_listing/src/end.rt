@@ -8,7 +8,8 @@ use thiserror::Error;
 pub enum End {
     /// The file was listed.
     Listed,
-    /// The file is refused, or the read budget is used up. The refusal's line is the last one written.
+    /// The file is refused, or the read budget is used up. The refusal's line is the last one
+    /// written.
     Refused(Refusal),
 }
 

@@ -2,13 +2,19 @@
 #![tactic(auto)]
 
 mod buffers;
+mod dynamic_row;
 mod end;
+mod headers;
 mod listing;
+mod names;
+mod notes;
 mod parts;
 mod relocation_row;
 mod row;
+mod row_cursor;
 mod rows;
 mod sections;
+mod segments;
 mod showing;
 mod stop;
 

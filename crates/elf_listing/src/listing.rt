@@ -1,11 +1,15 @@
 //! What a listing is written with.
+ghost use Rattle.elf_names.specs.Ahead.{AgreesWith};
+ghost use Rattle.elf_listing.specs.Viewed.{IsViewed};
 ghost use Rattle.elf_table.specs.Load.{IsOpen};
 
+use elf_names::ReadAhead;
 use elf_source::{Counted, Out, Sink, Source};
 use elf_table::{Cap, File, NameBuf};
 
-/// A source that is read, an output that is written, the file that was loaded, how many bytes of a name
-/// are shown, and a buffer for a name. What shows a part of the file is a method.
+/// A source that is read, an output that is written, the file that was loaded, how many bytes of a
+/// name are shown, a buffer for a name, and the names and symbols that were read ahead. What shows
+/// a part of the file is a method.
 #[derive(Drop)]
 pub struct Listing<'s, 'o, 'f, S: Source, W: Sink> {
     pub src: &'s mut Counted<S>,
@@ -13,5 +17,8 @@ pub struct Listing<'s, 'o, 'f, S: Source, W: Sink> {
     pub file: File<'f>,
     pub cap: Cap,
     pub name: NameBuf,
+    pub ahead: ReadAhead,
     pub ghost loaded: { IsOpen src.now file.loaded file.store.now },
+    pub ghost viewed: { IsViewed src.now.seen.file file.loaded file.store.now },
+    pub ghost held: { AgreesWith src.now.seen.file ahead },
 }

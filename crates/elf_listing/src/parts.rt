@@ -1,12 +1,13 @@
 //! The parts of a listing behind the file header, one after another.
-ghost use Rattle.std.specs.Prelude.{◌≡◌, ◌*◌};
-ghost use Rattle.elf_model.specs.Cost.{cost_where};
-ghost use Rattle.elf_model.specs.Listing.{has, where_asked, each, SEGMENTS};
+ghost use Rattle.std.specs.Prelude.{◌≡◌, ◌+◌, ◌++◌};
+ghost use Rattle.elf_model.specs.Listing.{where_asked, each, SEGMENTS};
 ghost use Rattle.elf_model.specs.Records.{e_phnum};
 ghost use Rattle.elf_model.specs.Report.{table_items};
 ghost use Rattle.elf_model.specs.Rows.{segment_row};
-ghost use Rattle.elf_listing.specs.Parts.{bit_of, part_cost, part_items, tables_listed, AreListed};
+ghost use Rattle.elf_listing.specs.Parts.{asked_cost, bit_of, header_count, part_items};
+ghost use Rattle.elf_listing.specs.Parts.{segments_listed, tables_listed};
 ghost use Rattle.elf_listing.specs.Shows.{Lists, Shows};
+ghost use Rattle.elf_listing.specs.Viewed.{viewed};
 
 use crate::listing::Listing;
 use crate::rows::Kind;
@@ -15,22 +16,33 @@ use bitflags::Flags;
 use elf_record::Parts;
 use elf_source::{Sink, Source};
 
-/// A part of a listing that goes through the sections.
+/// A part of a listing that goes through the headers in the store: through the section headers, or
+/// through the program headers of a file that has none.
 #[derive(Clone, Copy, Debug, PartialEq, Eq)]
 pub enum Part {
     /// The section headers.
     Headers,
-    /// The symbols.
+    /// The program headers.
+    Segments,
+    /// The symbols of sections.
     Symbols,
-    /// The relocation entries.
+    /// The relocation entries of sections.
     Relocations,
+    /// The notes of sections.
+    SectionNotes,
+    /// The notes of segments.
+    SegmentNotes,
+    /// The dynamic entries of sections.
+    SectionDynamic,
+    /// The dynamic entries of segments.
+    SegmentDynamic,
 }
 
 impl<S: Source, W: Sink> Listing<'_, '_, '_, S, W> {
     /// Shows the tables of the file in their order, as far as the parts have them, up to the first
     /// refusal.
     pub(crate) fn tables(&mut self, parts: Parts) -> Result<(), Stop>
-        requires { AreListed parts.0 }
+        requires { self.old.file.store.now.segments ≡ viewed parts.0 self.old.file.loaded }
         ensures lists { let f = self.old.file in Lists self.old self.new result
             (tables_listed parts.0 f.loaded f.store.now self.old.cap.bytes) }
         ensures shows { Shows self.old self.new result
@@ -38,33 +50,56 @@ impl<S: Source, W: Sink> Listing<'_, '_, '_, S, W> {
     {
         self.part(parts, Part::Headers)?;
         self.segments(parts)?;
-        self.part(parts, Part::Symbols)?;
-        self.part(parts, Part::Relocations)
+        self.pair(parts, Part::Symbols, Part::Relocations)?;
+        self.pair(parts, Part::SectionNotes, Part::SegmentNotes)?;
+        self.pair(parts, Part::SectionDynamic, Part::SegmentDynamic)
     }
 
-    /// Shows a part of each section, where the parts have it.
+    /// Shows two parts, one behind the other.
+    fn pair(&mut self, parts: Parts, first: Part, second: Part) -> Result<(), Stop>
+        ensures lists { let f = self.old.file in let cap = self.old.cap.bytes in
+            Lists self.old self.new result
+            (asked_cost parts.0 first f.loaded f.store.now cap
+            + asked_cost parts.0 second f.loaded f.store.now cap) }
+        ensures shows { let cap = self.old.cap.bytes in let store = self.old.file.store.now in
+            Shows self.old self.new result (λ file.
+            where_asked parts.0 (bit_of first)
+            (part_items first cap (header_count first store) file)
+            ++ where_asked parts.0 (bit_of second)
+            (part_items second cap (header_count second store) file)) }
+    {
+        self.part(parts, first)?;
+        self.part(parts, second)
+    }
+
+    /// Shows a part of each header, where the parts have it.
     fn part(&mut self, parts: Parts, part: Part) -> Result<(), Stop>
-        ensures lists { let f = self.old.file in
-            let cost = part_cost part f.loaded f.store.now self.old.cap.bytes in
-            Lists self.old self.new result (cost_where (has parts.0 (bit_of part)) cost) }
-        ensures shows { Shows self.old self.new result
-            (λ file. where_asked parts.0 (bit_of part) (part_items part self.old.cap.bytes file)) }
+        ensures lists { let f = self.old.file in Lists self.old self.new result
+            (asked_cost parts.0 part f.loaded f.store.now self.old.cap.bytes) }
+        ensures shows { let count = header_count part self.old.file.store.now in
+            Shows self.old self.new result (λ file. where_asked parts.0 (bit_of part)
+            (part_items part self.old.cap.bytes count file)) }
     {
         if !parts.contains(bit(part)) {
             return Ok(());
         }
-        self.sections(part)
+        self.headers(part)
     }
 
-    /// Shows the program headers, where the parts have them: a `P` line each (gABI 5, Program Header).
+    /// Shows the program headers, where the parts have them: a `P` line each (gABI 5, Program
+    /// Header). Those of a file without sections are in the store.
     fn segments(&mut self, parts: Parts) -> Result<(), Stop>
+        requires { self.old.file.store.now.segments ≡ viewed parts.0 self.old.file.loaded }
         ensures lists { Lists self.old self.new result
-            (cost_where (has parts.0 SEGMENTS) (56 * self.old.file.loaded.header.e_phnum)) }
+            (segments_listed parts.0 self.old.file.loaded) }
         ensures shows { Shows self.old self.new result
             (λ file. where_asked parts.0 SEGMENTS (each (segment_row file) 0 (e_phnum file))) }
     {
         if !parts.contains(Parts::SEGMENTS) {
             return Ok(());
+        }
+        if self.file.sections() == 0 {
+            return self.headers(Part::Segments);
         }
         let table = self.file.segments();
         self.rows(table, &Kind::Segments)
@@ -77,7 +112,10 @@ fn bit(part: Part) -> Parts
 {
     match part {
         Part::Headers => Parts::SECTIONS,
+        Part::Segments => Parts::SEGMENTS,
         Part::Symbols => Parts::SYMBOLS,
         Part::Relocations => Parts::RELOCS,
+        Part::SectionNotes | Part::SegmentNotes => Parts::NOTES,
+        Part::SectionDynamic | Part::SegmentDynamic => Parts::DYNAMIC,
     }
 }

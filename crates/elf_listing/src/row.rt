@@ -9,6 +9,7 @@ ghost use Rattle.elf_listing.specs.declared.rows.Kind.TheVariants.{Segments, Sym
 use crate::listing::Listing;
 use crate::stop::Stop;
 use elf_lines::{Line, segment_row, show_named, symbol_front};
+use elf_names::NameIndex;
 use elf_record::{Phdr, Sym};
 use elf_source::{Sink, Source};
 use elf_table::{NameEnd, Names, Row};
@@ -26,8 +27,8 @@ impl<S: Source, W: Sink> Listing<'_, '_, '_, S, W> {
         Ok(())
     }
 
-    /// Shows the row of a symbol of a section: its `Y` line with its name, or the name's refusal at the
-    /// symbol's offset.
+    /// Shows the row of a symbol of a section: its `Y` line with its name, or the name's refusal at
+    /// the symbol's offset.
     pub(crate) fn symbol_row(
         &mut self,
         row: &Row<'_>,
@@ -41,7 +42,11 @@ impl<S: Source, W: Sink> Listing<'_, '_, '_, S, W> {
     {
         let symbol = Sym::decode(whole_row(row));
         let off = u64::from(symbol.st_name);
-        let end = names.read(self.src, off, row.at, self.cap, &mut self.name)?;
+        let end = self.read_name(NameIndex {
+            names: *names,
+            off,
+            at: row.at,
+        })?;
         self.named_line(symbol_front(section, row.index, &symbol), end)
     }
 
@@ -56,7 +61,7 @@ impl<S: Source, W: Sink> Listing<'_, '_, '_, S, W> {
 }
 
 /// Whether a name is cut.
-fn is_cut(end: NameEnd) -> bool
+pub(crate) fn is_cut(end: NameEnd) -> bool
     ensures { result ≡ cut_of end }
 {
     match end {

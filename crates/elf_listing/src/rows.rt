@@ -1,16 +1,19 @@
 //! The rows of a table, shown one after another.
 ghost use Rattle.std.specs.Prelude.{◌≡◌, length};
-ghost use Rattle.elf_listing.specs.Kinds.{row_size, own_cost, rows_cost, KindWithin, IndexFits, IsTableOf, OfRow, OfRows};
+ghost use Rattle.elf_listing.specs.Kinds.{row_size, own_cost, rows_cost, KindWithin};
+ghost use Rattle.elf_listing.specs.Kinds.{IndexFits, IsTableOf, OfRow, OfRows};
 ghost use Rattle.elf_listing.specs.Shows.{Lists};
 
+use crate::dynamic_row::EntryStrings;
 use crate::listing::Listing;
+use crate::row_cursor::RowCursor;
 use crate::stop::Stop;
 use elf_source::{Sink, Source};
-use elf_table::{Cursor, Names, Row, Table};
+use elf_table::{Names, Row, Table};
 
 /// What the rows of a table are listed as.
 #[derive(Clone, Copy)]
-pub enum Kind {
+pub enum Kind<'f> {
     /// Program headers, a `P` line each.
     Segments,
     /// The symbols of a section, a `Y` line each.
@@ -29,17 +32,23 @@ pub enum Kind {
         /// The symbols that they refer to, with their names.
         linked: Option<(Table, Names)>,
     },
+    /// Dynamic entries, a `D` line each.
+    Dynamic {
+        /// Where their strings are looked for.
+        strings: EntryStrings<'f>,
+    },
 }
 
 impl<S: Source, W: Sink> Listing<'_, '_, '_, S, W> {
-    /// Shows the rows of a table one after another, up to the first that is refused.
-    pub(crate) fn rows(&mut self, table: Table, kind: &Kind) -> Result<(), Stop>
+    /// Shows the rows of a table that are listed one after another, up to the first that is
+    /// refused.
+    pub(crate) fn rows(&mut self, table: Table, kind: &Kind<'_>) -> Result<(), Stop>
         requires { IsTableOf self.old.src.now.seen.size kind.now table }
         ensures lists { Lists self.old self.new result
             (rows_cost kind.now table self.old.cap.bytes) }
         ensures shows { OfRows self.old self.new result table kind.now }
     {
-        let mut cursor = Cursor::new(table);
+        let mut cursor = RowCursor::new(table, kind);
         'rows: while cursor.advance(self.src)? {
             self.row(&cursor.row(), kind)?;
         }
@@ -47,7 +56,7 @@ impl<S: Source, W: Sink> Listing<'_, '_, '_, S, W> {
     }
 
     /// Shows one row.
-    fn row(&mut self, row: &Row<'_>, kind: &Kind) -> Result<(), Stop>
+    fn row(&mut self, row: &Row<'_>, kind: &Kind<'_>) -> Result<(), Stop>
         requires whole { length row.now.bytes.now ≡ row_size kind.now }
         requires within { KindWithin self.old.src.now.seen.size kind.now }
         requires fits { IndexFits kind.now row.now.index }
@@ -62,6 +71,7 @@ impl<S: Source, W: Sink> Listing<'_, '_, '_, S, W> {
                 machine,
                 linked,
             } => self.relocation_row(row, *section, *machine, *linked),
+            Kind::Dynamic { strings } => self.dynamic_row(row, strings),
         }
     }
 }

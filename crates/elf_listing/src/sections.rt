@@ -1,78 +1,49 @@
-//! What is listed of each section, one section after another.
-ghost use Rattle.std.specs.Prelude.{◌≡◌, ◌<◌, ℕ, List, Some, IfErr, IfSome};
-ghost use Rattle.elf_source.specs.Source.{Reads};
-ghost use Rattle.elf_table.specs.Faults.{Says};
-ghost use Rattle.elf_table.specs.NamesRead.{NameRead};
-ghost use Rattle.elf_table.specs.Tables.{StringsWithin};
-ghost use Rattle.elf_listing.specs.Parts.{part_cost, part_items, section_cost, section_items, names_cost, name_in};
+//! What is listed of a section.
+ghost use Rattle.std.specs.Prelude.{◌<◌};
+ghost use Rattle.elf_listing.specs.Parts.{header_cost, header_items};
 ghost use Rattle.elf_listing.specs.Shows.{Lists, Shows};
-ghost use Rattle.elf_listing.specs.declared.parts.Part.TheVariants.{Headers, Symbols, Relocations};
+ghost use Rattle.elf_listing.specs.declared.parts.Part.TheVariants.{Headers, Symbols};
+ghost use Rattle.elf_listing.specs.declared.parts.Part.TheVariants.{Relocations};
+ghost use Rattle.elf_listing.specs.declared.parts.Part.TheVariants.{SectionNotes, SectionDynamic};
 
+use crate::dynamic_row::EntryStrings;
 use crate::listing::Listing;
-use crate::parts::Part;
 use crate::rows::Kind;
 use crate::stop::Stop;
 use elf_lines::section_front;
-use elf_record::numbers::SHT_RELA;
-use elf_source::{Counted, Sink, Source};
-use elf_table::{Cap, Fault, NameBuf, NameEnd, Names, holds_symbols};
+use elf_record::numbers::{SHT_DYNAMIC, SHT_NOTE, SHT_RELA};
+use elf_source::{Sink, Source};
+use elf_table::holds_symbols;
+
+/// The size of a dynamic entry in bytes.
+const DYNAMIC_BYTES: u64 = 16;
 
 impl<S: Source, W: Sink> Listing<'_, '_, '_, S, W> {
-    /// Shows a part of each section in the order of the section headers, up to the first that is refused.
-    pub(crate) fn sections(&mut self, part: Part) -> Result<(), Stop>
-        ensures lists { let f = self.old.file in Lists self.old self.new result
-            (part_cost part f.loaded f.store.now self.old.cap.bytes) }
-        ensures shows { Shows self.old self.new result (part_items part self.old.cap.bytes) }
-    {
-        let count = self.file.sections();
-        let mut section = 0;
-        'sections: while section < count {
-            self.section(part, section)?;
-            section += 1;
-        }
-        Ok(())
-    }
-
-    /// Shows a part of one section.
-    fn section(&mut self, part: Part, section: u16) -> Result<(), Stop>
+    /// Shows the row of a section header: its `S` line with its name, or the name's refusal at the
+    /// section header (gABI 4, Section Header).
+    pub(crate) fn section_row(&mut self, section: u16) -> Result<(), Stop>
         requires { section < self.old.file.store.now.loaded }
         ensures lists { let f = self.old.file in Lists self.old self.new result
-            (section_cost part f.loaded f.store.now self.old.cap.bytes section) }
+            (header_cost Headers f.loaded f.store.now self.old.cap.bytes section) }
         ensures shows { Shows self.old self.new result
-            (section_items part self.old.cap.bytes section) }
-    {
-        match part {
-            Part::Headers => self.section_row(section),
-            Part::Symbols => self.symbols(section),
-            Part::Relocations => self.relocations(section),
-        }
-    }
-
-    /// Shows the row of a section header: its `S` line with its name, or the name's refusal at the section
-    /// header (gABI 4, Section Header).
-    fn section_row(&mut self, section: u16) -> Result<(), Stop>
-        requires { section < self.old.file.store.now.loaded }
-        ensures lists { let f = self.old.file in Lists self.old self.new result
-            (section_cost Headers f.loaded f.store.now self.old.cap.bytes section) }
-        ensures shows { Shows self.old self.new result
-            (section_items Headers self.old.cap.bytes section) }
+            (header_items Headers self.old.cap.bytes section) }
     {
         let header = self.file.section(section);
         let place = self.file.place(section);
         let names = self.file.names();
         let off = header.sh_name;
-        let end = read_section_name(self.src, names, off, place, self.cap, &mut self.name)?;
+        let end = self.read_section_name(names, off, place)?;
         self.named_line(section_front(section, &header), end)
     }
 
-    /// Shows the symbols of a section, where it holds symbols: a `Y` line each, or the first refusal of its
-    /// table, of its string table or of a name (gABI 4, Symbol Table).
-    fn symbols(&mut self, section: u16) -> Result<(), Stop>
+    /// Shows the symbols of a section, where it holds symbols: a `Y` line each, or the first
+    /// refusal of its table, of its string table or of a name (gABI 4, Symbol Table).
+    pub(crate) fn symbols(&mut self, section: u16) -> Result<(), Stop>
         requires { section < self.old.file.store.now.loaded }
         ensures lists { let f = self.old.file in Lists self.old self.new result
-            (section_cost Symbols f.loaded f.store.now self.old.cap.bytes section) }
+            (header_cost Symbols f.loaded f.store.now self.old.cap.bytes section) }
         ensures shows { Shows self.old self.new result
-            (section_items Symbols self.old.cap.bytes section) }
+            (header_items Symbols self.old.cap.bytes section) }
     {
         if !holds_symbols(&self.file.section(section)) {
             return Ok(());
@@ -82,14 +53,15 @@ impl<S: Source, W: Sink> Listing<'_, '_, '_, S, W> {
         self.rows(table, &Kind::Symbols { section, names })
     }
 
-    /// Shows the relocation entries of a section, where it holds them: an `R` line each, or the first
-    /// refusal of its table, of the symbols that they refer to or of an entry (gABI 4, Relocation).
-    fn relocations(&mut self, section: u16) -> Result<(), Stop>
+    /// Shows the relocation entries of a section, where it holds them: an `R` line each, or the
+    /// first refusal of its table, of the symbols that they refer to or of an entry (gABI 4,
+    /// Relocation).
+    pub(crate) fn relocations(&mut self, section: u16) -> Result<(), Stop>
         requires { section < self.old.file.store.now.loaded }
         ensures lists { let f = self.old.file in Lists self.old self.new result
-            (section_cost Relocations f.loaded f.store.now self.old.cap.bytes section) }
+            (header_cost Relocations f.loaded f.store.now self.old.cap.bytes section) }
         ensures shows { Shows self.old self.new result
-            (section_items Relocations self.old.cap.bytes section) }
+            (header_items Relocations self.old.cap.bytes section) }
     {
         if self.file.section(section).sh_type != SHT_RELA {
             return Ok(());
@@ -106,29 +78,45 @@ impl<S: Source, W: Sink> Listing<'_, '_, '_, S, W> {
             },
         )
     }
-}
 
-/// Reads the name of a section at the index `off` into `name`; without a string table it is empty. A
-/// refusal names `place`.
-fn read_section_name<S: Source>(
-    src: &mut Counted<S>,
-    names: Option<Names>,
-    off: u32,
-    place: u64,
-    cap: Cap,
-    name: &mut NameBuf,
-) -> Result<NameEnd, Fault>
-    requires { IfSome names (StringsWithin src.old.seen.size) }
-    ensures reads { Reads src.old src.new (names_cost names cap.bytes) }
-    ensures says { IfErr result (Says src.old src.new (names_cost names cap.bytes)) }
-    ensures read { (file : List ℕ) → src.old.seen.file ≡ Some file →
-        NameRead place result name.new (name_in file names off cap.bytes) }
-{
-    match names {
-        Some(names) => names.read(src, u64::from(off), place, cap, name),
-        None => {
-            name.clear();
-            Ok(NameEnd::Whole)
+    /// Shows the notes of a section, where it holds notes: an `N` line each, or the refusal of its
+    /// table or of what stands in the place of a note (gABI 5, Note Section).
+    pub(crate) fn section_notes(&mut self, section: u16) -> Result<(), Stop>
+        requires { section < self.old.file.store.now.loaded }
+        ensures lists { let f = self.old.file in Lists self.old self.new result
+            (header_cost SectionNotes f.loaded f.store.now self.old.cap.bytes section) }
+        ensures shows { Shows self.old self.new result
+            (header_items SectionNotes self.old.cap.bytes section) }
+    {
+        let header = self.file.section(section);
+        if header.sh_type != SHT_NOTE {
+            return Ok(());
         }
+        let at = self.file.place(section);
+        let table = self.file.bytes(header.sh_offset, header.sh_size, at)?;
+        self.notes(table, header.sh_addralign, section)
+    }
+
+    /// Shows the dynamic entries of a section, where it holds them: a `D` line each up to and with
+    /// the first DT_NULL, or the first refusal of its table, of its string table or of a string
+    /// (gABI 5, Dynamic Section).
+    pub(crate) fn section_dynamic(&mut self, section: u16) -> Result<(), Stop>
+        requires { section < self.old.file.store.now.loaded }
+        ensures lists { let f = self.old.file in Lists self.old self.new result
+            (header_cost SectionDynamic f.loaded f.store.now self.old.cap.bytes section) }
+        ensures shows { Shows self.old self.new result
+            (header_items SectionDynamic self.old.cap.bytes section) }
+    {
+        let header = self.file.section(section);
+        if header.sh_type != SHT_DYNAMIC {
+            return Ok(());
+        }
+        if header.sh_size == 0 {
+            return Ok(());
+        }
+        let table = self.file.table(section, DYNAMIC_BYTES)?;
+        let names = self.file.strings(section)?;
+        let strings = EntryStrings::Linked(names);
+        self.rows(table, &Kind::Dynamic { strings })
     }
 }

@@ -1,15 +1,22 @@
 //! The call that writes a listing.
-ghost use Rattle.std.specs.Prelude.{◌≡◌, ◌+◌, ◌-◌, ◌^◌, ◌≤◌, [], ◌∷◌, false, ℕ, List, Some, None, Ok, IfErr};
+ghost use Rattle.std.specs.Prelude.{◌≡◌, ◌+◌, ◌-◌, ◌^◌, ◌≤◌, ◌||◌, [], ◌∷◌, false, ℕ, List};
+ghost use Rattle.std.specs.Prelude.{Some, None, Ok, IfErr, OnOk};
 ghost use Rattle.elf_model.specs.Checks.{first_refusal, length_checks};
 ghost use Rattle.elf_model.specs.declared.causes.Refusal.{Refusal as Refuses};
 ghost use Rattle.elf_model.specs.Cost.{cost, ceiling, behind_header};
 ghost use Rattle.elf_model.specs.Lines.{header_line};
-ghost use Rattle.elf_model.specs.Listing.{Line as LineItem, has_tables, where_asked, HEADER};
+ghost use Rattle.elf_model.specs.Listing.{Line as LineItem, has, has_tables, where_asked, HEADER};
+ghost use Rattle.elf_model.specs.Listing.{SEGMENTS, NOTES, DYNAMIC};
 ghost use Rattle.elf_model.specs.Report.{items, load_items, table_items};
 ghost use Rattle.elf_record.specs.Ehdr.{IsEhdr};
-ghost use Rattle.elf_listing.specs.Parts.{AreListed, tables_listed};
-ghost use Rattle.elf_table.specs.Faults.{HeaderRead};
-ghost use Rattle.elf_table.specs.Load.{IsOpen};
+ghost use Rattle.elf_listing.specs.Parts.{tables_listed};
+ghost use Rattle.elf_listing.specs.Viewed.{IsViewed, view_cost, viewed};
+ghost use Rattle.elf_source.specs.Source.{Reads};
+ghost use Rattle.elf_table.specs.Faults.{HeaderRead, IsOfRead, Says};
+ghost use Rattle.elf_table.specs.Files.{program_headers};
+ghost use Rattle.elf_table.specs.Load.{Belongs, IsOpen};
+ghost use Rattle.elf_table.specs.Store.{HoldsSegments};
+ghost use Rattle.elf_table.specs.Tables.{RowsWithin};
 ghost use Rattle.elf_listing.specs.Reports.{Reports, FaultSays, AsksWithin, Leaves};
 ghost use Rattle.elf_listing.specs.Shows.{Costs, IsOfOutput, Writes};
 
@@ -18,18 +25,21 @@ use crate::listing::Listing;
 use crate::stop::Stop;
 use bitflags::Flags;
 use elf_lines::{header_row, show_refusal};
+use elf_names::ReadAhead;
 use elf_record::{Ehdr, Parts};
 use elf_source::{Counted, Out, Sink, Source};
-use elf_table::{Cap, Caps, File, HeaderStore, Loaded, NameBuf, header, load};
+use elf_table::{Cap, Caps, Fault, File, HeaderStore, Loaded, NameBuf, header, load};
 
 /// All parts but the file header's.
 const TABLES: Parts = Parts(126);
 
-/// Writes the listing of a file, as far as `parts` has it: the file header, the section headers, the
-/// program headers, the symbols, the relocation entries; at the first fault its line ends the listing.
-/// The store has a slot for each header that the caps permit, and is loaded with the file's section
-/// headers. Where the caps have a budget no more is read, and the line of a refusal for want of budget
-/// may end the listing sooner; afterwards no limit is set.
+/// Writes the listing of a file, as far as `parts` has it: the file header, the section headers,
+/// the program headers, the symbols, the relocation entries, the notes, the dynamic entries; at the
+/// first fault its line ends the listing. Notes and dynamic entries are those of the sections, and
+/// in a file without sections those of the segments. The store has a slot for each header that the
+/// caps permit, and is loaded with the file's section headers, or with the program headers of a
+/// file without any. Where the caps have a budget no more is read, and the line of a refusal for
+/// want of budget may end the listing sooner; afterwards no limit is set.
 ///
 /// # Errors
 /// A fault of the source or of the output. What went out is a front of the listing.
@@ -40,7 +50,7 @@ pub fn show<S: Source, W: Sink>(
     parts: Parts,
     out: &mut Out<W>,
 ) -> Result<End, RunFault>
-    requires { (store.old.slots ≡ caps.headers) × AreListed parts.0 × (src.old.asked ≤ 2 ^ 127) }
+    requires { (store.old.slots ≡ caps.headers) × (src.old.asked ≤ 2 ^ 127) }
     ensures slots { store.new.slots ≡ store.old.slots }
     ensures leaves { Leaves src.old src.new }
     ensures says { IfErr result (FaultSays src.old src.new out.new) }
@@ -73,7 +83,6 @@ fn list<S: Source, W: Sink>(
     parts: Parts,
     out: &mut Out<W>,
 ) -> Result<(), Stop>
-    requires { AreListed parts.0 }
     ensures slots { store.new.slots ≡ store.old.slots }
     ensures ceiling { Costs src.old src.new out.new result
         (ceiling src.old.seen.size store.old.slots cap.bytes) }
@@ -103,7 +112,7 @@ fn list_header<W: Sink>(header: &Ehdr, parts: Parts, out: &mut Out<W>) -> Result
     Ok(())
 }
 
-/// Loads the section headers and lists the tables, where the parts have more than the file header.
+/// Loads the headers and lists the tables, where the parts have more than the file header.
 /// `header` is the file's header.
 fn list_loaded<S: Source, W: Sink>(
     src: &mut Counted<S>,
@@ -113,7 +122,6 @@ fn list_loaded<S: Source, W: Sink>(
     parts: Parts,
     out: &mut Out<W>,
 ) -> Result<(), Stop>
-    requires listed { AreListed parts.0 }
     requires header { (file : List ℕ) → src.old.seen.file ≡ Some file →
         HeaderRead file (Ok header.now) }
     ensures slots { store.new.slots ≡ store.old.slots }
@@ -130,10 +138,48 @@ fn list_loaded<S: Source, W: Sink>(
         return Ok(());
     }
     let loaded = load(src, store, header)?;
+    load_view(src, store, &loaded, parts)?;
     list_tables(src, out, loaded, store, cap, parts)
 }
 
-/// Lists the tables of a file whose section headers are in the store.
+/// Loads the program headers of a file without sections, where the parts need them: to be shown, or
+/// because they tell where its notes and its dynamic entries are.
+fn load_view<S: Source>(
+    src: &mut Counted<S>,
+    store: &mut HeaderStore,
+    loaded: &Loaded,
+    parts: Parts,
+) -> Result<(), Fault>
+    requires whole { store.old.loaded ≡ loaded.now.header.e_shnum }
+    requires none { store.old.segments ≡ 0 }
+    requires room { loaded.now.header.e_phnum ≤ store.old.slots }
+    requires within { RowsWithin src.old.seen.size (program_headers loaded.now.header) }
+    ensures slots { store.new.slots ≡ store.old.slots }
+    ensures loaded { store.new.loaded ≡ store.old.loaded }
+    ensures segments { OnOk result (store.new.segments ≡ viewed parts.0 loaded.now) }
+    ensures reads { Reads src.old src.new (view_cost parts.0 loaded.now) }
+    ensures says { IfErr result (Says src.old src.new (view_cost parts.0 loaded.now)) }
+    ensures fault { IfErr result IsOfRead }
+    ensures held { (file : List ℕ) → src.old.seen.file ≡ Some file →
+        Belongs file loaded.now store.old → OnOk result
+        (Belongs file loaded.now store.new × HoldsSegments file store.new) }
+{
+    if loaded.header().e_shnum != 0 || !needs_view(parts) {
+        return Ok(());
+    }
+    loaded.load_segments(src, store)
+}
+
+/// Whether the parts of a file without sections need its program headers.
+fn needs_view(parts: Parts) -> bool
+    ensures { result ≡ (has parts.0 SEGMENTS || (has parts.0 NOTES || has parts.0 DYNAMIC)) }
+{
+    parts.contains(Parts::SEGMENTS)
+        || parts.contains(Parts::NOTES)
+        || parts.contains(Parts::DYNAMIC)
+}
+
+/// Lists the tables of a file whose headers are in the store.
 fn list_tables<S: Source, W: Sink>(
     src: &mut Counted<S>,
     out: &mut Out<W>,
@@ -142,15 +188,17 @@ fn list_tables<S: Source, W: Sink>(
     cap: Cap,
     parts: Parts,
 ) -> Result<(), Stop>
-    requires listed { AreListed parts.0 }
     requires opened { IsOpen src.old loaded store.now }
     requires whole { store.now.loaded ≡ loaded.header.e_shnum }
+    requires counted { store.now.segments ≡ viewed parts.0 loaded }
+    requires viewed { IsViewed src.old.seen.file loaded store.now }
     ensures costs { Costs src.old src.new out.new result
         (tables_listed parts.0 loaded store.now cap.bytes) }
     ensures text { (file : List ℕ) → src.old.seen.file ≡ Some file →
         Writes out.old out.new result (table_items file cap.bytes parts.0) }
 {
     let name = NameBuf::new();
+    let ahead = ReadAhead::new();
     let file = File { loaded, store };
     let mut listing = Listing {
         src,
@@ -158,6 +206,7 @@ fn list_tables<S: Source, W: Sink>(
         file,
         cap,
         name,
+        ahead,
     };
     listing.tables(parts)
 }

@@ -6,7 +6,7 @@ use Rattle.elf_model.specs.ApplyCost.{offsets_at, never_fall_from, offsets_never
 use Rattle.elf_model.specs.Checks.{first_refusal, header_checks, early_checks, is_section_outside}
 use Rattle.elf_model.specs.Placing.{Layout}
 use Rattle.elf_model.specs.Records.{e_shnum, sh_offset, sh_size, r_offset, r_type, section_at}
-use Rattle.elf_model.specs.Values.{R_NONE}
+use Rattle.elf_model.specs.Values.{R_X86_64_NONE}
 use Rattle.elf_model.specs.declared.causes.Refusal.{Refusal}
 
 -- a section that holds bytes within the file holds as many as its size
@@ -82,7 +82,7 @@ pub offsets_at-append :
 unfolding offsets_at
 offsets_at-append file [] second = refl
 offsets_at-append file (entry ∷ first) second =
-    elim (cases_Bool (r_type file entry == R_NONE)) [
+    elim (cases_Bool (r_type file entry == R_X86_64_NONE)) [
       | inl none ↦ rw (none, offsets_at) (offsets_at-append file first second)
       | inr some ↦ rw (some, offsets_at) (ap (λ rest. r_offset file entry ∷ rest) (offsets_at-append file first second))
     ]

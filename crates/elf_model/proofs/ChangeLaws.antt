@@ -1,17 +1,18 @@
--- What relocation entries store lies in the section.
-use Rattle.std.proofs.Common.{◌≡◌, ℕ, zero, suc, ◌+◌, ◌/◌, ◌≤◌, inl, inr, true, nat_lt, List, [], ◌∷◌, length, All, Option, None, Some, Result, Ok, Err, refl, sym, ap, ◌∙◌, arith}
+-- What relocation entries store is their value, and lies in the section.
+use Rattle.std.proofs.Common.{◌≡◌, ℕ, zero, suc, ◌+◌, ◌/◌, ◌≤◌, ◌==◌, inl, inr, true, false, not, nat_lt, List, [], ◌∷◌, ◌++◌, length, flat_map, All, Option, None, Some, Result, Ok, Err, refl, sym, ap, ◌∙◌, arith}
 use Rattle.std.proofs.lemmas.Bool.{cases_Bool, ltb-false}
 use Rattle.std.proofs.lemmas.List.Elements.{All-nil, All-cons, All-append, All-head, All-tail}
 use Rattle.elf_model.specs.Bytes.{little}
-use Rattle.elf_model.specs.Apply.{Patch, Change, Put, Fails, Target, applies_to, has_value, change_with, change_by, change_of, kind_changes, entry_changes, rows_changes, section_changes, changes_from, changes_of, and_patches, patches_of}
-use Rattle.elf_model.specs.ApplyLaws.{IsInside, AllInside, ChangesInside}
-use Rattle.elf_model.specs.Checks.{first_refusal}
-use Rattle.elf_model.specs.Records.{e_shnum, r_offset, section_at}
-use Rattle.elf_model.specs.Tables.{RELA_SIZE, entry_count, entry_at, relocation_table_checks}
-use Rattle.elf_model.specs.Values.{Terms, Kind, fits, value_of, patch_of}
-use Rattle.elf_model.specs.declared.causes.Cause.{Cause}
-use Rattle.elf_model.specs.declared.causes.Cause.TheVariants.{Overflow}
+use Rattle.elf_model.specs.Apply.{Patch, Change, Put, Fails, Target, named_value, symbol_checks, value_checks, terms_of, entry_checks, change_of, entry_changes, applies_to, relocation_entries, section_headers, section_changes, changes_of, and_patches, patches_of}
+use Rattle.elf_model.specs.ApplyLaws.{IsInside, AllInside, EntryStoresValue, ChangesInside}
+use Rattle.elf_model.specs.Checks.{refuse, first_refusal}
+use Rattle.elf_model.specs.Placing.{symbol_value, linkage_value, place_value}
+use Rattle.elf_model.specs.Records.{r_offset, r_type}
+use Rattle.elf_model.specs.Tables.{relocation_table_checks}
+use Rattle.elf_model.specs.Values.{Terms, takes_linkage, takes_place, Kind, kind_of, R_X86_64_NONE, overflows, value_of, low_bytes, patch_of, value}
+use Rattle.elf_model.specs.declared.causes.Cause.TheVariants.{Overflow, PlaceOutside}
 use Rattle.elf_model.specs.declared.causes.Refusal.{Refusal}
+use Rattle.elf_model.proofs.CheckSteps.{first_refusal-back}
 
 pub length-little : (width n : ℕ) → length (little width n) ≡ width
 unfolding little
@@ -22,14 +23,12 @@ length-little (suc width) n = ap suc (length-little width (n / 256))
 pub length-patch_of : (type : Kind) (terms : Terms) (bytes : List ℕ) → patch_of type terms ≡ Ok bytes → length bytes ≡ type.width
 unfolding patch_of
 length-patch_of type terms bytes e =
-    elim (cases_Bool (fits type.range type.width (value_of type terms))) [
-      | inl fitting ↦
-          let here : patch_of type terms ≡ Ok (little type.width (value_of type terms)) = rw (fitting, patch_of) refl in
-          let same : little type.width (value_of type terms) ≡ bytes = cc in
+    elim (cases_Bool (overflows type terms)) [
+      | inl over ↦ let here : patch_of type terms ≡ Err Overflow = rw (over, patch_of) refl in absurd (cc)
+      | inr fits ↦
+          let here : patch_of type terms ≡ Ok (low_bytes type terms) = rw (fits, patch_of) refl in
+          let same : low_bytes type terms ≡ bytes = cc in
           ap length (sym same) ∙ length-little type.width (value_of type terms)
-      | inr no_fit ↦
-          let here : patch_of type terms ≡ Err Overflow = rw (no_fit, patch_of) refl in
-          absurd (cc)
     ]
 
 -- a change that stores bytes stores them within the section
@@ -41,72 +40,117 @@ fails_inside : (size : ℕ) (refusal : Refusal) → IsInsideChange size (Fails r
 unfolding IsInsideChange
 fails_inside size refusal = tt
 
-with_inside :
-    (file : List ℕ) (entry width size : ℕ) → r_offset file entry + width ≤ size
-    → (bytes : Result (List ℕ) Cause) → ((b : List ℕ) → bytes ≡ Ok b → length b ≡ width)
-    → IsInsideChange size (change_with file entry bytes)
-unfolding IsInsideChange change_with
-with_inside file entry width size room (Err cause) long = tt
-with_inside file entry width size room (Ok bytes) long = let l = long bytes refl in omega arith
-
-by_inside :
-    (file : List ℕ) (entry : ℕ) (type : Kind) (size : ℕ) → r_offset file entry + type.width ≤ size
-    → (named place : Result ℕ Refusal) → IsInsideChange size (change_by file entry type named place)
-unfolding IsInsideChange change_by
-by_inside file entry type size room (Err refusal) place = tt
-by_inside file entry type size room (Ok named) (Err refusal) = tt
-by_inside file entry type size room (Ok named) (Ok place) =
-    with_inside file entry type.width size room _ (λ b e. length-patch_of type _ b e)
+-- what holds of all that each of some items gives holds of all
+all_given : {A : Type 0} (P : A → Type 0) (f : ℕ → List A) (xs : List ℕ) → ((x : ℕ) → All P (f x)) → All P (flat_map f xs)
+all_given P f [] each = All-nil P
+all_given P f (x ∷ xs) each = All-append P (f x) (flat_map f xs) (each x) (all_given P f xs each)
 
 module _ (target : Target) where
-  change_inside : (at entry : ℕ) (type : Kind) → IsInsideChange target.size (change_of target at entry type)
-  unfolding IsInsideChange change_of
-  change_inside at entry type =
-      elim (cases_Bool (nat_lt target.size (r_offset target.file entry + type.width))) [
-        | inl out ↦ rw (out, change_of) tt
-        | inr room ↦
-            let low = ltb-false target.size (r_offset target.file entry + type.width) room in
-            rw (room, change_of) (by_inside target.file entry type target.size low _ _)
+  -- the first check of an entry
+  room :
+      (at rela : ℕ) (type : Kind) → first_refusal (entry_checks target at rela type) ≡ None
+      → r_offset target.file rela + type.width ≤ target.size
+  unfolding entry_checks
+  room at rela type e =
+      elim (cases_Bool (nat_lt target.size (r_offset target.file rela + type.width))) [
+        | inl out ↦ let f = rw out at e in absurd (cc)
+        | inr fits ↦ ltb-false target.size (r_offset target.file rela + type.width) fits
       ]
-
-  kind_inside : (at entry : ℕ) (type : Option Kind) → All (IsInsideChange target.size) (kind_changes target at entry type)
-  unfolding kind_changes
-  kind_inside at entry None = All-cons (IsInsideChange target.size) _ [] (fails_inside _ _) (All-nil _)
-  kind_inside at entry (Some type) =
-      elim (cases_Bool (has_value type.formula)) [
-        | inl some ↦ rw (some, kind_changes) (All-cons (IsInsideChange target.size) _ [] (change_inside at entry type) (All-nil _))
-        | inr none ↦ rw (none, kind_changes) (All-nil _)
-      ]
-
-  rows_inside : (at i n : ℕ) → All (IsInsideChange target.size) (rows_changes target at i n)
-  unfolding rows_changes entry_changes
-  rows_inside at i zero = All-nil _
-  rows_inside at i (suc n) =
-      All-append (IsInsideChange target.size) _ _ (kind_inside at (entry_at target.file at RELA_SIZE i) _)
-      (rows_inside at (suc i) n)
 
   checked_inside :
+      (at rela : ℕ) (type : Kind) (refusal : Option Refusal) → first_refusal (entry_checks target at rela type) ≡ refusal
+      → IsInsideChange target.size (change_of target at rela (Some type))
+  unfolding IsInsideChange change_of
+  checked_inside at rela type (Some refusal) e = rw (e, change_of) tt
+  checked_inside at rela type None e =
+      let fits = room at rela type e in
+      let long = length-little type.width (value_of type (terms_of target at rela)) in
+      rw (e, change_of) (omega arith)
+
+  change_inside : (at rela : ℕ) (type : Option Kind) → IsInsideChange target.size (change_of target at rela type)
+  unfolding IsInsideChange change_of
+  change_inside at rela None = tt
+  change_inside at rela (Some type) = checked_inside at rela type _ refl
+
+  entry_inside : (at rela : ℕ) → All (IsInsideChange target.size) (entry_changes target at rela)
+  unfolding entry_changes
+  entry_inside at rela =
+      elim (cases_Bool (r_type target.file rela == R_X86_64_NONE)) [
+        | inl none ↦ rw (none, entry_changes) (All-nil _)
+        | inr some ↦ rw (some, entry_changes) (All-cons (IsInsideChange target.size) _ [] (change_inside at rela _) (All-nil _))
+      ]
+
+  table_inside :
       (at : ℕ) (refusal : Option Refusal) → first_refusal (relocation_table_checks target.file at) ≡ refusal
       → applies_to target.file target.section at ≡ true → All (IsInsideChange target.size) (section_changes target at)
   unfolding section_changes
-  checked_inside at None e on =
-      rw (on, section_changes) (rw (e, section_changes) (rows_inside at 0 (entry_count target.file at RELA_SIZE)))
-  checked_inside at (Some refusal) e on =
+  table_inside at None e on =
+      rw (on, section_changes) (rw (e, section_changes)
+      (all_given (IsInsideChange target.size) (entry_changes target at) (relocation_entries target.file at) (entry_inside at)))
+  table_inside at (Some refusal) e on =
       rw (on, section_changes) (rw (e, section_changes) (All-cons (IsInsideChange target.size) _ [] (fails_inside _ _) (All-nil _)))
 
   section_inside : (at : ℕ) → All (IsInsideChange target.size) (section_changes target at)
   unfolding section_changes
   section_inside at =
       elim (cases_Bool (applies_to target.file target.section at)) [
-        | inl on ↦ checked_inside at _ refl on
+        | inl on ↦ table_inside at _ refl on
         | inr off ↦ rw (off, section_changes) (All-nil _)
       ]
 
-  sections_inside : (i n : ℕ) → All (IsInsideChange target.size) (changes_from target i n)
-  unfolding changes_from
-  sections_inside i zero = All-nil _
-  sections_inside i (suc n) =
-      All-append (IsInsideChange target.size) _ _ (section_inside (section_at target.file i)) (sections_inside (suc i) n)
+-- What an entry stores.
+module _ (target : Target) (at rela : ℕ) where
+  -- the last check of an entry
+  in_range : (type : Kind) → first_refusal (entry_checks target at rela type) ≡ None → overflows type (terms_of target at rela) ≡ false
+  unfolding entry_checks
+  in_range type e =
+      let before = refuse (nat_lt target.size (r_offset target.file rela + type.width)) rela PlaceOutside
+      ∷ symbol_checks target.file at rela
+      ++ value_checks (takes_linkage type.formula) (named_value linkage_value target at rela)
+      ++ value_checks (not (takes_linkage type.formula)) (named_value symbol_value target at rela)
+      ++ value_checks (takes_place type.formula) (place_value target.file target.layout target.section rela) in
+      let last = first_refusal-back before (refuse (overflows type (terms_of target at rela)) rela Overflow ∷ []) e in
+      elim (cases_Bool (overflows type (terms_of target at rela))) [
+        | inl over ↦ let f = rw over at last in absurd (cc)
+        | inr fits ↦ fits
+      ]
+
+  stored :
+      (type : Kind) (patch : Patch) (refusal : Option Refusal) → first_refusal (entry_checks target at rela type) ≡ refusal
+      → change_of target at rela (Some type) ≡ Put patch
+      → (patch.at ≡ r_offset target.file rela) × (patch_of type (terms_of target at rela) ≡ Ok patch.bytes)
+  unfolding change_of patch_of
+  stored type patch (Some refusal) e is =
+      let here : change_of target at rela (Some type) ≡ Fails refusal = rw (e, change_of) refl in absurd (cc)
+  stored type patch None e is =
+      let put : Patch = record { at = r_offset target.file rela; bytes = low_bytes type (terms_of target at rela) } in
+      let here : change_of target at rela (Some type) ≡ Put put = rw (e, change_of) refl in
+      let same : put ≡ patch = cc in
+      let fits = in_range type e in
+      let value_is : patch_of type (terms_of target at rela) ≡ Ok (low_bytes type (terms_of target at rela)) = rw (fits, patch_of) refl in
+      (ap (λ (p : Patch). p.at) (sym same), value_is ∙ ap (λ (p : Patch). Ok p.bytes) same)
+
+  value_stored :
+      (type : Option Kind) (patch : Patch) → kind_of (r_type target.file rela) ≡ type
+      → (r_type target.file rela == R_X86_64_NONE) ≡ false → change_of target at rela type ≡ Put patch
+      → (patch.at ≡ r_offset target.file rela)
+      × (value (r_type target.file rela) (terms_of target at rela).symbol (terms_of target at rela).linkage
+      (terms_of target at rela).addend (terms_of target at rela).place ≡ Ok patch.bytes)
+  unfolding change_of value
+  value_stored None patch k other is = absurd (cc)
+  value_stored (Some type) patch k other is =
+      let s = stored type patch _ refl is in
+      (s.0, rw (other, value) (rw (k, value) s.1))
+
+pub entry_stores_value : EntryStoresValue
+unfolding entry_changes
+entry_stores_value target at rela patch e =
+    elim (cases_Bool (r_type target.file rela == R_X86_64_NONE)) [
+      | inl none ↦ let f = rw (none, entry_changes) at e in absurd (cc)
+      | inr some ↦
+          let f : change_of target at rela (kind_of (r_type target.file rela)) ∷ [] ≡ Put patch ∷ [] = rw (some, entry_changes) at e in
+          value_stored target at rela _ patch refl some (cc)
+    ]
 
 -- where no change is a fault, the patches are what the changes store
 stored_inside :
@@ -132,4 +176,5 @@ patches_inside size (Put patch ∷ changes) patches inside e =
 pub changes_inside : ChangesInside
 unfolding changes_of
 changes_inside target patches e =
-    patches_inside target.size (changes_of target) patches (sections_inside target 0 (e_shnum target.file)) e
+    patches_inside target.size (changes_of target) patches
+    (all_given (IsInsideChange target.size) (section_changes target) (section_headers target.file) (section_inside target)) e

@@ -1,34 +1,30 @@
 -- Changes row by row and section by section, and what they store.
-use Rattle.std.proofs.Common.{◌≡◌, ℕ, zero, suc, ◌+◌, List, [], ◌∷◌, ◌++◌, length, Result, Ok, Err, refl, sym, ap, ◌∙◌, arith, append_assoc, append-nil}
-use Rattle.elf_model.specs.Apply.{Patch, Change, Put, Fails, Target, entry_changes, rows_changes, section_changes, changes_from, and_patches, patches_of, put, patched}
-use Rattle.elf_model.specs.ApplyCost.{places_from, entries_in, entries_from}
-use Rattle.elf_model.specs.Records.{section_at}
-use Rattle.elf_model.specs.Tables.{RELA_SIZE, entry_at}
+use Rattle.std.proofs.Common.{◌≡◌, ℕ, zero, suc, ◌+◌, List, [], ◌∷◌, ◌++◌, length, Result, Ok, Err, refl, sym, ap, ◌∙◌, arith, append-nil, flat_map}
+use Rattle.std.proofs.lemmas.List.Concat.{flat_map-append}
+use Rattle.elf_model.specs.Apply.{Patch, Change, Put, Fails, places_from, and_patches, patches_of, put, patched}
 use Rattle.elf_model.specs.declared.causes.Refusal.{Refusal}
 
--- one row more
-pub rows_changes-more :
-    (target : Target) (at i n : ℕ)
-    → rows_changes target at i (suc n) ≡ rows_changes target at i n ++ entry_changes target at (entry_at target.file at RELA_SIZE (i + n))
-unfolding rows_changes
-rows_changes-more target at i zero = let e : i + 0 ≡ i = omega arith in rw e (append-nil _)
-rows_changes-more target at i (suc n) =
+-- one place more
+pub places_from-more : (place : ℕ → ℕ) (i n : ℕ) → places_from place i (suc n) ≡ places_from place i n ++ place (i + n) ∷ []
+unfolding places_from
+places_from-more place i zero = let e : i + 0 ≡ i = omega arith in ap (λ k. place k ∷ []) (sym e)
+places_from-more place i (suc n) =
     let e : i + suc n ≡ suc i + n = omega arith in
-    rw e (ap (λ rest. entry_changes target at (entry_at target.file at RELA_SIZE i) ++ rest) (rows_changes-more target at (suc i) n)
-    ∙ sym (append_assoc (entry_changes target at (entry_at target.file at RELA_SIZE i)) (rows_changes target at (suc i) n)
-    (entry_changes target at (entry_at target.file at RELA_SIZE (suc i + n)))))
+    rw e (ap (λ rest. place i ∷ rest) (places_from-more place (suc i) n))
 
--- one section more
-pub changes_from-more :
-    (target : Target) (i n : ℕ)
-    → changes_from target i (suc n) ≡ changes_from target i n ++ section_changes target (section_at target.file (i + n))
-unfolding changes_from
-changes_from-more target i zero = let e : i + 0 ≡ i = omega arith in rw e (append-nil _)
-changes_from-more target i (suc n) =
-    let e : i + suc n ≡ suc i + n = omega arith in
-    rw e (ap (λ rest. section_changes target (section_at target.file i) ++ rest) (changes_from-more target (suc i) n)
-    ∙ sym (append_assoc (section_changes target (section_at target.file i)) (changes_from target (suc i) n)
-    (section_changes target (section_at target.file (suc i + n)))))
+-- what one entry, or one section, more gives
+pub flat_map-more :
+    {A : Type 0} (f : ℕ → List A) (place : ℕ → ℕ) (i n : ℕ)
+    → flat_map f (places_from place i (suc n)) ≡ flat_map f (places_from place i n) ++ f (place (i + n))
+flat_map-more f place i n =
+    ap (flat_map f) (places_from-more place i n) ∙ flat_map-append f (places_from place i n) (place (i + n) ∷ [])
+    ∙ ap (λ last. flat_map f (places_from place i n) ++ last) (append-nil (f (place (i + n))))
+
+-- as many places as entries
+pub length-places_from : (place : ℕ → ℕ) (i n : ℕ) → length (places_from place i n) ≡ n
+unfolding places_from
+length-places_from place i zero = refl
+length-places_from place i (suc n) = ap suc (length-places_from place (suc i) n)
 
 -- patches before what further changes give
 abbrev pub before_more : List Patch → Result (List Patch) Refusal → Result (List Patch) Refusal
@@ -89,21 +85,3 @@ pub patched-append :
 unfolding patched
 patched-append [] second base = refl
 patched-append (patch ∷ first) second base = patched-append first second (put patch base)
-
--- as many places as entries
-pub length-places_from : (file : List ℕ) (at i n : ℕ) → length (places_from file at i n) ≡ n
-unfolding places_from
-length-places_from file at i zero = refl
-length-places_from file at i (suc n) = ap suc (length-places_from file at (suc i) n)
-
--- the entries of one section more
-pub entries_from-more :
-    (file : List ℕ) (section i n : ℕ)
-    → entries_from file section i (suc n) ≡ entries_from file section i n ++ entries_in file section (section_at file (i + n))
-unfolding entries_from
-entries_from-more file section i zero = let e : i + 0 ≡ i = omega arith in rw e (append-nil _)
-entries_from-more file section i (suc n) =
-    let e : i + suc n ≡ suc i + n = omega arith in
-    rw e (ap (λ rest. entries_in file section (section_at file i) ++ rest) (entries_from-more file section (suc i) n)
-    ∙ sym (append_assoc (entries_in file section (section_at file i)) (entries_from file section (suc i) n)
-    (entries_in file section (section_at file (suc i + n)))))

@@ -1,5 +1,5 @@
 -- Checks one list behind the other.
-use Rattle.std.proofs.Common.{◌≡◌, List, [], ◌∷◌, ◌++◌, None, Some, refl, inl, inr}
+use Rattle.std.proofs.Common.{◌≡◌, List, [], ◌∷◌, ◌++◌, Option, None, Some, refl, sym, ◌∙◌, inl, inr}
 use Rattle.std.proofs.lemmas.Bool.{cases_Bool}
 use Rattle.elf_model.specs.Checks.{Check, first_refusal}
 use Rattle.elf_model.specs.declared.causes.Refusal.{Refusal}
@@ -24,3 +24,11 @@ first_refusal-none (check ∷ front) back e =
       | inl fails ↦ let f = rw fails at e in absurd (cc)
       | inr passes ↦ rw passes (first_refusal-none front back (rw passes at e))
     ]
+
+-- where both lists pass one behind the other, the second passes
+pub first_refusal-back : (front back : List Check) → first_refusal (front ++ back) ≡ None → first_refusal back ≡ None
+first_refusal-back front back e = go (first_refusal front) refl
+  where
+    go : (refusal : Option Refusal) → first_refusal front ≡ refusal → first_refusal back ≡ None
+    go None f = sym (first_refusal-none front back f) ∙ e
+    go (Some refusal) f = let g = first_refusal-some front back refusal f in absurd (cc)

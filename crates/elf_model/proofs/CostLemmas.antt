@@ -7,15 +7,17 @@ use Rattle.std.proofs.lemmas.Nat.{le-div}
 use Rattle.std.specs.Prelude.{is_none}
 use Rattle.elf_model.specs.Records.{e_shnum, e_phnum, e_shstrndx, sh_type, sh_offset, sh_size, sh_entsize, p_type, p_offset, p_filesz, section_at, segment_at}
 use Rattle.elf_model.specs.Names.{name_bytes}
-use Rattle.elf_model.specs.Checks.{Check, first_refusal, header_checks, early_checks, is_outside}
+use Rattle.elf_model.specs.Checks.{Check, first_refusal, pass, header_checks, early_checks, is_outside, range_checks_of, whole_checks_of, table_checks_of}
 use Rattle.elf_model.specs.declared.causes.Refusal.{Refusal}
 use Rattle.elf_model.specs.Listing.{has, has_tables}
-use Rattle.elf_model.specs.Cost.{sum_over, cost_where, is_table, entries_cost, symbols_cost, relocations_cost, notes_cost, section_notes_cost, segment_notes_cost, dynamic_cost, table_cost, is_loadable, sections_cost, segments_cost, tables_cost, cost, ceiling}
+use Rattle.elf_model.specs.declared.causes.Cause.TheVariants.{EntrySize, SizeNotWhole, TableOutside}
+use Rattle.elf_model.specs.TableKinds.{TableHeaders, symbols, relocations, section_dynamic, section_notes, segment_notes, segment_dynamic, section_kinds, segment_kinds, by_sections, by_segments, table_headers}
+use Rattle.elf_model.specs.Cost.{sum_over, cost_where, table_cost, kinds_cost, is_loadable, needs_segments, sections_cost, segments_cost, tables_cost, cost, ceiling}
 use Rattle.elf_model.specs.CostLaws.{CostIsWithinCeiling}
 
 -- what one table costs at most, in a file of so many bytes
 abbrev pub table_bound : ℕ → ℕ → ℕ
-table_bound size name = size + size / 16 * (32 + name_bytes name)
+table_bound size cap = size + size / 16 * (32 + name_bytes cap)
 
 pub cost_where-le : (condition : Bool) (amount : ℕ) → cost_where condition amount ≤ amount
 cost_where-le true amount = omega arith
@@ -30,37 +32,42 @@ cost_where-mono true amount bound h = h
 cost_where-mono false amount bound h = omega arith
 
 -- a table's size in entries, each at a cost
-entries_within : (entry further name size table : ℕ) → 16 ≤ entry → further ≤ 32 + name → table ≤ size
-    → table / entry * (entry + further) ≤ size + size / 16 * (32 + name)
-entries_within entry further name size table e f t =
+entries_within : (entry further cap size table : ℕ) → 16 ≤ entry → further ≤ 32 + cap → table ≤ size
+    → table / entry * (entry + further) ≤ size + size / 16 * (32 + cap)
+entries_within entry further cap size table e f t =
     let d : table / entry * entry ≤ table = div-mul-le_self table entry in
     let few : table / entry * 16 ≤ size = let m : table / entry * 16 ≤ table / entry * entry = mul-le-mul_left (table / entry) e in omega arith in
     let n : table / entry ≤ size / 16 = le-div (table / entry) size 16 (omega arith) few in
-    let m : table / entry * further ≤ size / 16 * (32 + name) = mul-le-mul n f in
+    let m : table / entry * further ≤ size / 16 * (32 + cap) = mul-le-mul n f in
     let s : table / entry * (entry + further) ≡ table / entry * entry + table / entry * further = mul-add (table / entry) entry further in
     omega arith
 
--- a table that is within the file has a size within it
-table_within : (bytes : List ℕ) (at size entry : ℕ) → is_table bytes at size entry ≡ true → sh_size bytes at ≤ size
-unfolding is_table
-table_within bytes at size entry h =
-    within (sh_entsize bytes at == entry) (sh_size bytes at % entry == 0) size (sh_offset bytes at) (sh_size bytes at) h
+pub pass-second : (fails : Bool) (refusal : Refusal) (checks : List Check) → pass (record { fails = fails; refusal = refusal } ∷ checks) ≡ true → pass checks ≡ true
+pass-second true refusal checks h = cc
+pass-second false refusal checks h = h
+
+-- a range that is within the file has a size within it
+range_within : (size offset table place : ℕ) → pass (range_checks_of size offset table place) ≡ true → table ≤ size
+range_within size offset table place h = by_cases (is_outside size offset table) refl h
   where
-    within : (a b : Bool) (size offset table : ℕ) → a && b && not (is_outside size offset table) ≡ true → table ≤ size
-    within true true size offset table h = grind (arith, nat_tests)
-    within true false size offset table h = cc
-    within false b size offset table h = cc
+    by_cases : (outside : Bool) → is_outside size offset table ≡ outside → pass (record { fails = outside; refusal = record { at = place; cause = TableOutside } } ∷ []) ≡ true → table ≤ size
+    by_cases true o h = cc
+    by_cases false o h = let low = ltb-false size (offset + table) o in omega arith
 
-entries_cost-le : (bytes : List ℕ) (at size entry further name : ℕ) → 16 ≤ entry → further ≤ 32 + name_bytes name
-    → entries_cost bytes at size entry (entry + further) ≤ table_bound size name
-unfolding entries_cost
-entries_cost-le bytes at size entry further name e f =
-    cost_where-within (is_table bytes at size entry) _ (table_bound size name)
-    (λ h. entries_within entry further (name_bytes name) size (sh_size bytes at) e f (table_within bytes at size entry h))
+whole_within : (size offset table place entry_size : ℕ) → pass (whole_checks_of size offset table place entry_size) ≡ true → table ≤ size
+whole_within size offset table place entry_size h =
+    range_within size offset table place
+    (pass-second (not (table % entry_size == 0)) (record { at = place; cause = SizeNotWhole }) (range_checks_of size offset table place) h)
 
-notes_cost-le : (size offset table : ℕ) → notes_cost size offset table ≤ size
-notes_cost-le size offset table =
-    cost_where-within (not (is_outside size offset table)) table size (λ h. grind (arith, nat_tests))
+table_within : (bytes : List ℕ) (at size place entry_size : ℕ) → pass (table_checks_of bytes at size place entry_size) ≡ true → sh_size bytes at ≤ size
+table_within bytes at size place entry_size h =
+    whole_within size (sh_offset bytes at) (sh_size bytes at) place entry_size
+    (pass-second (not (sh_entsize bytes at == entry_size)) (record { at = place; cause = EntrySize }) (whole_checks_of size (sh_offset bytes at) (sh_size bytes at) place entry_size) h)
+
+-- a cost under two conditions
+cost_where-and : (a b : Bool) (amount bound : ℕ) → (b ≡ true → amount ≤ bound) → cost_where (a && b) amount ≤ cost_where a bound
+cost_where-and true b amount bound h = cost_where-within b amount bound h
+cost_where-and false b amount bound h = omega arith
 
 -- a section is of one kind
 one_kind : (type bound : ℕ)
@@ -68,52 +75,86 @@ one_kind : (type bound : ℕ)
 one_kind type bound = grind (arith, nat_tests)
 
 -- each kind of table is within the bound, and costs nothing where the section is of another kind
-symbols_cost-le : (bytes : List ℕ) (at size name : ℕ)
-    → symbols_cost bytes at size name ≤ cost_where (sh_type bytes at == 2 || sh_type bytes at == 11) (table_bound size name)
-unfolding symbols_cost
-symbols_cost-le bytes at size name =
-    cost_where-mono (sh_type bytes at == 2 || sh_type bytes at == 11) _ _ (entries_cost-le bytes at size 24 (name_bytes name) name (omega arith) (omega arith))
+symbols-le : (bytes : List ℕ) (at size cap : ℕ)
+    → table_cost symbols bytes at size cap ≤ cost_where (sh_type bytes at == 2 || sh_type bytes at == 11) (table_bound size cap)
+unfolding table_cost symbols
+symbols-le bytes at size cap =
+    cost_where-and (sh_type bytes at == 2 || sh_type bytes at == 11) (pass (table_checks_of bytes at size at 24)) _ (table_bound size cap)
+    (λ h. entries_within 24 (name_bytes cap) (name_bytes cap) size (sh_size bytes at) (omega arith) (omega arith) (table_within bytes at size at 24 h))
 
-relocations_cost-le : (bytes : List ℕ) (at size name : ℕ)
-    → relocations_cost bytes at size name ≤ cost_where (sh_type bytes at == 4) (table_bound size name)
-unfolding relocations_cost
-relocations_cost-le bytes at size name =
-    let e : 24 + 24 + name_bytes name ≡ 24 + (24 + name_bytes name) = omega arith in
-    cost_where-mono (sh_type bytes at == 4) (entries_cost bytes at size 24 (24 + 24 + name_bytes name)) (table_bound size name)
-    (rw e (entries_cost-le bytes at size 24 (24 + name_bytes name) name (omega arith) (omega arith)))
+relocations-le : (bytes : List ℕ) (at size cap : ℕ)
+    → table_cost relocations bytes at size cap ≤ cost_where (sh_type bytes at == 4) (table_bound size cap)
+unfolding table_cost relocations
+relocations-le bytes at size cap =
+    cost_where-and (sh_type bytes at == 4) (pass (table_checks_of bytes at size at 24)) _ (table_bound size cap)
+    (λ h. entries_within 24 (24 + name_bytes cap) (name_bytes cap) size (sh_size bytes at) (omega arith) (omega arith) (table_within bytes at size at 24 h))
 
-section_notes_cost-le : (bytes : List ℕ) (at size name : ℕ)
-    → section_notes_cost bytes at size ≤ cost_where (sh_type bytes at == 7) (table_bound size name)
-unfolding section_notes_cost
-section_notes_cost-le bytes at size name =
-    let within = notes_cost-le size (sh_offset bytes at) (sh_size bytes at) in
-    cost_where-mono (sh_type bytes at == 7) (notes_cost size (sh_offset bytes at) (sh_size bytes at)) (table_bound size name) (omega arith)
+section_dynamic-le : (bytes : List ℕ) (at size cap : ℕ)
+    → table_cost section_dynamic bytes at size cap ≤ cost_where (sh_type bytes at == 6) (table_bound size cap)
+unfolding table_cost section_dynamic
+section_dynamic-le bytes at size cap =
+    cost_where-and (sh_type bytes at == 6) (pass (table_checks_of bytes at size at 16)) _ (table_bound size cap)
+    (λ h. entries_within 16 (name_bytes cap) (name_bytes cap) size (sh_size bytes at) (omega arith) (omega arith) (table_within bytes at size at 16 h))
 
-dynamic_cost-le : (bytes : List ℕ) (at size name : ℕ)
-    → dynamic_cost bytes at size name ≤ cost_where (sh_type bytes at == 6) (table_bound size name)
-unfolding dynamic_cost
-dynamic_cost-le bytes at size name =
-    cost_where-mono (sh_type bytes at == 6) _ _ (entries_cost-le bytes at size 16 (name_bytes name) name (omega arith) (omega arith))
+section_notes-le : (bytes : List ℕ) (at size cap : ℕ)
+    → table_cost section_notes bytes at size cap ≤ cost_where (sh_type bytes at == 7) (table_bound size cap)
+unfolding table_cost section_notes
+section_notes-le bytes at size cap =
+    cost_where-and (sh_type bytes at == 7) (pass (range_checks_of size (sh_offset bytes at) (sh_size bytes at) at)) (sh_size bytes at * 1) (table_bound size cap)
+    (λ h. let within = range_within size (sh_offset bytes at) (sh_size bytes at) at h in omega arith)
 
--- the table of one section is within its bound, whatever the parts
-pub table_cost-le : (bytes : List ℕ) (at size name parts : ℕ) → table_cost bytes at size name parts ≤ table_bound size name
-unfolding table_cost
-table_cost-le bytes at size name parts =
-    let one = one_kind (sh_type bytes at) (table_bound size name) in
-    let symbols = symbols_cost-le bytes at size name in
-    let relocations = relocations_cost-le bytes at size name in
-    let notes = section_notes_cost-le bytes at size name in
-    let dynamic = dynamic_cost-le bytes at size name in
-    let a = cost_where-le (has parts 8) (symbols_cost bytes at size name) in
-    let b = cost_where-le (has parts 16) (relocations_cost bytes at size name) in
-    let c = cost_where-le (has parts 32) (section_notes_cost bytes at size) in
-    let d = cost_where-le (has parts 64) (dynamic_cost bytes at size name) in
+segment_notes-le : (bytes : List ℕ) (at size cap : ℕ)
+    → table_cost segment_notes bytes at size cap ≤ cost_where (p_type bytes at == 4) size
+unfolding table_cost segment_notes
+segment_notes-le bytes at size cap =
+    cost_where-and (p_type bytes at == 4) (pass (range_checks_of size (p_offset bytes at) (p_filesz bytes at) at)) (p_filesz bytes at * 1) size
+    (λ h. let within = range_within size (p_offset bytes at) (p_filesz bytes at) at h in omega arith)
+
+-- the tables of one section header are within the bound of one, whatever the parts
+pub section_kinds-le : (bytes : List ℕ) (at size cap parts : ℕ) → kinds_cost section_kinds bytes at size cap parts ≤ table_bound size cap
+unfolding kinds_cost
+section_kinds-le bytes at size cap parts =
+    let one = one_kind (sh_type bytes at) (table_bound size cap) in
+    let a = symbols-le bytes at size cap in
+    let b = relocations-le bytes at size cap in
+    let c = section_notes-le bytes at size cap in
+    let d = section_dynamic-le bytes at size cap in
+    let e = cost_where-le (has parts symbols.part) (table_cost symbols bytes at size cap) in
+    let f = cost_where-le (has parts relocations.part) (table_cost relocations bytes at size cap) in
+    let g = cost_where-le (has parts section_notes.part) (table_cost section_notes bytes at size cap) in
+    let h = cost_where-le (has parts section_dynamic.part) (table_cost section_dynamic bytes at size cap) in
     omega arith
 
-segment_notes_cost-le : (bytes : List ℕ) (at size : ℕ) → segment_notes_cost bytes at size ≤ size
-unfolding segment_notes_cost
-segment_notes_cost-le bytes at size =
-    cost_where-within (p_type bytes at == 4) _ size (λ _. notes_cost-le size (p_offset bytes at) (p_filesz bytes at))
+-- a segment is of one kind
+one_segment_kind : (type size bound : ℕ) → size ≤ bound → cost_where (type == 4) size + cost_where (type == 2) bound ≤ bound
+one_segment_kind type size bound h = grind (arith, nat_tests)
+
+-- so many entries of 16 bytes, each gone through twice and with a name
+twice_within : (size table name : ℕ) → table ≤ size → table / 16 * (2 * 16 + name) ≤ size + size / 16 * (32 + name)
+twice_within size table name t =
+    let d : table / 16 * 16 ≤ table = div-mul-le_self table 16 in
+    let n : table / 16 ≤ size / 16 = le-div (table / 16) size 16 (omega arith) (omega arith) in
+    let m : table / 16 * (32 + name) ≤ size / 16 * (32 + name) = mul-le-mul_right (32 + name) n in
+    let e : table / 16 * (2 * 16 + name) ≡ table / 16 * (32 + name) = ap (λ (k : ℕ). table / 16 * (k + name)) refl in
+    omega arith
+
+segment_dynamic-le : (bytes : List ℕ) (at size cap : ℕ)
+    → table_cost segment_dynamic bytes at size cap ≤ cost_where (p_type bytes at == 2) (table_bound size cap)
+unfolding table_cost segment_dynamic
+segment_dynamic-le bytes at size cap =
+    cost_where-and (p_type bytes at == 2) (pass (whole_checks_of size (p_offset bytes at) (p_filesz bytes at) at 16)) _ (table_bound size cap)
+    (λ h. twice_within size (p_filesz bytes at) (name_bytes cap) (whole_within size (p_offset bytes at) (p_filesz bytes at) at 16 h))
+
+-- and those of one program header
+pub segment_kinds-le : (bytes : List ℕ) (at size cap parts : ℕ) → kinds_cost segment_kinds bytes at size cap parts ≤ table_bound size cap
+unfolding kinds_cost
+segment_kinds-le bytes at size cap parts =
+    let one = one_segment_kind (p_type bytes at) size (table_bound size cap) (omega arith) in
+    let a = segment_notes-le bytes at size cap in
+    let b = segment_dynamic-le bytes at size cap in
+    let c = cost_where-le (has parts segment_notes.part) (table_cost segment_notes bytes at size cap) in
+    let d = cost_where-le (has parts segment_dynamic.part) (table_cost segment_dynamic bytes at size cap) in
+    omega arith
 
 -- a sum of costs within a bound
 pub sum_over-le : (amount : ℕ → ℕ) (bound first count : ℕ) → ((i : ℕ) → amount i ≤ bound) → sum_over amount first count ≤ count * bound
@@ -131,11 +172,11 @@ AllPass [] = Unit {0}
 AllPass (check ∷ checks) = (check.fails ≡ false) × AllPass checks
 
 first_passes : (fails : Bool) (refusal : Refusal) (checks : List Check)
-    → is_none (elim fails [ true ↦ Some refusal | false ↦ first_refusal checks ]) ≡ true → (fails ≡ false) × (is_none (first_refusal checks) ≡ true)
+    → is_none (elim fails [ true ↦ Some refusal | false ↦ first_refusal checks ]) ≡ true → (fails ≡ false) × (pass checks ≡ true)
 first_passes true refusal checks h = cc
 first_passes false refusal checks h = (refl, h)
 
-pub all_pass : (checks : List Check) → is_none (first_refusal checks) ≡ true → AllPass checks
+pub all_pass : (checks : List Check) → pass checks ≡ true → AllPass checks
 all_pass [] h = tt
 all_pass (check ∷ checks) h =
     let p = first_passes check.fails check.refusal checks h in
@@ -152,61 +193,71 @@ loadable-within file headers h =
     let early = pass-behind (header_checks file) (early_checks file headers) (all_pass (header_checks file ++ early_checks file headers) h) in
     (ltb-false headers (e_shnum file) early.1.1.1.0, ltb-false headers (e_phnum file) early.1.1.1.1.0)
 
--- where there are no sections the program headers are read twice, and all notes are theirs
-without_sections : (file : List ℕ) (name parts headers : ℕ) → e_shnum file ≡ 0 → e_phnum file ≤ headers
-    → sections_cost file name parts + segments_cost file parts + tables_cost file name parts
-    ≤ headers * (112 + length file)
-unfolding sections_cost segments_cost tables_cost sum_over
-without_sections file name parts headers z p =
-    rw z (
-    let notes = sum_over-le (λ i. segment_notes_cost file (segment_at file i) (length file)) (length file) 0 (e_phnum file)
-    (λ i. segment_notes_cost-le file (segment_at file i) (length file)) in
-    let a = cost_where-le (has parts 4) (56 * e_phnum file) in
-    let b = cost_where-le (has parts 32 && true)
-    (56 * e_phnum file + sum_over (λ i. segment_notes_cost file (segment_at file i) (length file)) 0 (e_phnum file)) in
-    let c = cost_where-le (has parts 2 && not (e_shstrndx file == 0)) (0 * name_bytes name) in
-    let m = mul-le-mul_right (112 + length file) p in
-    let s : e_phnum file * (112 + length file) ≡ e_phnum file * 112 + e_phnum file * length file = mul-add (e_phnum file) 112 (length file) in
-    omega arith)
+-- what the tables cost that some headers describe
+abbrev pub tables_by : (file : List ℕ) (cap parts : ℕ) → TableHeaders → ℕ
+tables_by file cap parts headers = sum_over (λ i. kinds_cost headers.kinds file (headers.at i) (length file) cap parts) 0 headers.count
 
--- where there are sections no segment is searched for notes
-with_sections : (file : List ℕ) (name parts headers : ℕ) → (e_shnum file == 0) ≡ false → e_shnum file ≤ headers → e_phnum file ≤ headers
-    → sections_cost file name parts + segments_cost file parts + tables_cost file name parts
-    ≤ headers * (120 + name_bytes name + table_bound (length file) name)
+pub headers_none : (file : List ℕ) → (e_shnum file == 0) ≡ true → table_headers file ≡ by_segments file
+unfolding table_headers
+headers_none file h = rw (h, table_headers) refl
+
+pub headers_some : (file : List ℕ) → (e_shnum file == 0) ≡ false → table_headers file ≡ by_sections file
+unfolding table_headers
+headers_some file h = rw (h, table_headers) refl
+
+-- headers of some size each, with their tables
+pub headers_within : (each_header n bound count headers tables : ℕ) → count ≤ headers → each_header ≤ 120 + n → tables ≤ count * bound
+    → each_header * count + tables ≤ headers * (120 + n + bound)
+headers_within each_header n bound count headers tables few small within =
+    let m : count * (each_header + bound) ≤ headers * (120 + n + bound) = mul-le-mul few (omega arith) in
+    let e : count * (each_header + bound) ≡ count * each_header + count * bound = mul-add count each_header bound in
+    omega arith
+
+-- where there are no sections all tables are those of the program headers
+without_sections : (file : List ℕ) (cap parts headers : ℕ) → (e_shnum file == 0) ≡ true → e_phnum file ≤ headers
+    → sections_cost file cap parts + segments_cost file parts + tables_cost file cap parts
+    ≤ headers * (120 + name_bytes cap + table_bound (length file) cap)
 unfolding sections_cost segments_cost tables_cost
-with_sections file name parts headers z s p =
-    rw z (
-    let n : ℕ = name_bytes name in
-    let bound : ℕ = table_bound (length file) name in
-    let tables = sum_over-le (λ i. table_cost file (section_at file i) (length file) name parts) bound 0 (e_shnum file)
-    (λ i. table_cost-le file (section_at file i) (length file) name parts) in
-    let a = cost_where-le (has parts 4) (56 * e_phnum file) in
-    let b : cost_where (has parts 32 && false)
-    (56 * e_phnum file + sum_over (λ i. segment_notes_cost file (segment_at file i) (length file)) 0 (e_phnum file)) ≤ 0 =
-    never (has parts 32) _ in
+without_sections file cap parts headers z p =
+    let n : e_shnum file ≡ 0 = eqb-true (e_shnum file) 0 z in
+    let bound : ℕ = table_bound (length file) cap in
+    let tables = sum_over-le (λ i. kinds_cost segment_kinds file (segment_at file i) (length file) cap parts) bound 0 (e_phnum file)
+    (λ i. segment_kinds-le file (segment_at file i) (length file) cap parts) in
+    let same = ap (tables_by file cap parts) (headers_none file z) in
+    let a = cost_where-le (needs_segments file parts) (56 * e_phnum file) in
+    let c = cost_where-le (has parts 2 && not (e_shstrndx file == 0)) (e_shnum file * name_bytes cap) in
+    let d : e_shnum file * name_bytes cap ≡ 0 * name_bytes cap = ap (λ (k : ℕ). k * name_bytes cap) n in
+    let all = headers_within 56 (name_bytes cap) bound (e_phnum file) headers _ p (omega arith) tables in
+    omega arith
+
+-- where there are sections they are those of the section headers
+with_sections : (file : List ℕ) (cap parts headers : ℕ) → (e_shnum file == 0) ≡ false → e_shnum file ≤ headers → e_phnum file ≤ headers
+    → sections_cost file cap parts + segments_cost file parts + tables_cost file cap parts
+    ≤ headers * (120 + name_bytes cap + table_bound (length file) cap)
+unfolding sections_cost segments_cost tables_cost
+with_sections file cap parts headers z s p =
+    let n : ℕ = name_bytes cap in
+    let bound : ℕ = table_bound (length file) cap in
+    let tables = sum_over-le (λ i. kinds_cost section_kinds file (section_at file i) (length file) cap parts) bound 0 (e_shnum file)
+    (λ i. section_kinds-le file (section_at file i) (length file) cap parts) in
+    let same = ap (tables_by file cap parts) (headers_some file z) in
+    let a = cost_where-le (needs_segments file parts) (56 * e_phnum file) in
     let c = cost_where-le (has parts 2 && not (e_shstrndx file == 0)) (e_shnum file * n) in
     let m : e_shnum file * (64 + n + bound) ≤ headers * (64 + n + bound) = mul-le-mul_right (64 + n + bound) s in
     let e : e_shnum file * (64 + n + bound) ≡ e_shnum file * 64 + e_shnum file * n + e_shnum file * bound =
     mul-add (e_shnum file) (64 + n) bound ∙ ap (λ k. k + e_shnum file * bound) (mul-add (e_shnum file) 64 n) in
     let h : headers * (120 + n + bound) ≡ headers * 56 + headers * (64 + n + bound) =
     ap (λ k. headers * k) (omega arith) ∙ mul-add headers 56 (64 + n + bound) in
-    omega arith)
-  where
-    never : (condition : Bool) (amount : ℕ) → cost_where (condition && false) amount ≤ 0
-    never true amount = omega arith
-    never false amount = omega arith
+    omega arith
 
 -- what is asked for behind the file header is within the ceiling
-behind_header : (file : List ℕ) (name parts headers : ℕ) (none : Bool) → (e_shnum file == 0) ≡ none → is_loadable file headers ≡ true
-    → sections_cost file name parts + segments_cost file parts + tables_cost file name parts
-    ≤ headers * (120 + name_bytes name + table_bound (length file) name)
-behind_header file name parts headers true z h =
-    let w = without_sections file name parts headers (eqb-true (e_shnum file) 0 z) (loadable-within file headers h).1 in
-    let m : headers * (112 + length file) ≤ headers * (120 + name_bytes name + table_bound (length file) name) = mul-le-mul_left headers (omega arith) in
-    omega arith
-behind_header file name parts headers false z h =
+behind_header : (file : List ℕ) (cap parts headers : ℕ) (none : Bool) → (e_shnum file == 0) ≡ none → is_loadable file headers ≡ true
+    → sections_cost file cap parts + segments_cost file parts + tables_cost file cap parts
+    ≤ headers * (120 + name_bytes cap + table_bound (length file) cap)
+behind_header file cap parts headers true z h = without_sections file cap parts headers z (loadable-within file headers h).1
+behind_header file cap parts headers false z h =
     let l = loadable-within file headers h in
-    with_sections file name parts headers z l.0 l.1
+    with_sections file cap parts headers z l.0 l.1
 
 -- a condition of two parts has the second
 and-second : (a b : Bool) → a && b ≡ true → b ≡ true
@@ -215,12 +266,12 @@ and-second false b h = cc
 
 pub cost_within : CostIsWithinCeiling
 unfolding cost ceiling
-cost_within file headers name parts =
-    let n : ℕ = name_bytes name in
+cost_within file headers cap parts =
+    let n : ℕ = name_bytes cap in
     let within = cost_where-within (has_tables parts && is_loadable file headers)
-    (sections_cost file name parts + segments_cost file parts + tables_cost file name parts)
-    (headers * (120 + n + table_bound (length file) name))
-    (λ h. behind_header file name parts headers (e_shnum file == 0) refl (and-second (has_tables parts) (is_loadable file headers) h)) in
-    let e : 120 + n + table_bound (length file) name ≡ 120 + n + length file + length file / 16 * (32 + n) = omega arith in
+    (sections_cost file cap parts + segments_cost file parts + tables_cost file cap parts)
+    (headers * (120 + n + table_bound (length file) cap))
+    (λ h. behind_header file cap parts headers (e_shnum file == 0) refl (and-second (has_tables parts) (is_loadable file headers) h)) in
+    let e : 120 + n + table_bound (length file) cap ≡ 120 + n + length file + length file / 16 * (32 + n) = omega arith in
     let f = ap (λ k. headers * k) e in
     omega arith

@@ -1,44 +1,45 @@
 -- How listings are put together.
 use Rattle.std.proofs.lemmas.Nat.{and_assoc}
 use Rattle.std.specs.Int.RustNames.{bit_and}
-use Rattle.elf_model.specs.Records.{e_shnum, e_phnum, e_shstrndx, section_at, segment_at}
+use Rattle.elf_model.specs.Records.{e_shnum, e_phnum, e_shstrndx}
 use Rattle.elf_model.specs.Names.{name_bytes}
-use Rattle.elf_model.specs.Cost.{sum_over, cost_where, symbols_cost, relocations_cost, section_notes_cost, segment_notes_cost, dynamic_cost, table_cost, is_loadable, sections_cost, segments_cost, tables_cost, cost}
+use Rattle.elf_model.specs.Cost.{cost_where, table_cost, kinds_cost, is_loadable, needs_segments, sections_cost, segments_cost, tables_cost, cost}
 use Rattle.elf_model.proofs.StoreLemmas.{sum_over-equal}
-use Rattle.elf_model.specs.Rows.{section_row, segment_row, symbol_rows, relocation_rows, dynamic_rows}
+use Rattle.elf_model.specs.Rows.{section_row, segment_row}
+use Rattle.elf_model.specs.TableKinds.{TableKind, TableHeaders, symbols, relocations, section_notes, section_dynamic, segment_notes, segment_dynamic, section_kinds, segment_kinds, by_sections, by_segments, table_headers}
 use Rattle.std.proofs.Common.{◌≡◌, ℕ, ◌+◌, ◌*◌, ◌==◌, ◌&&◌, not, Bool, true, false, List, [], ◌∷◌, ◌++◌, length, Some, None, arith, refl, ap, sym, ◌∙◌, append-nil, append_assoc}
 use Rattle.elf_model.specs.Checks.{Check, first_refusal, header_checks, load_checks}
 use Rattle.elf_model.specs.Lines.{header_line, refusal_line}
-use Rattle.elf_model.specs.Listing.{Item, Line, Fault, lines_of, fault_of, report_of, checked, where_asked, each, has, has_tables, header_items, HEADER, SECTIONS, SEGMENTS, SYMBOLS, RELOCS, NOTES, DYNAMIC, TABLES, ALL}
-use Rattle.elf_model.specs.Report.{items, load_items, table_items, note_items}
+use Rattle.elf_model.specs.Listing.{Item, Line, Fault, lines_of, fault_of, report_of, guarded, where_asked, each, has, has_tables, header_items, HEADER, SECTIONS, SEGMENTS, NOTES, DYNAMIC, TABLES, ALL}
+use Rattle.elf_model.specs.Report.{items, load_items, table_items, table_rows, kinds_rows}
 use Rattle.elf_model.specs.declared.causes.Refusal.{Refusal}
 use Rattle.elf_model.specs.ListingLaws.{HeaderAloneIsListed, HeaderFaultIsListedAlone, LoadFaultIsListedSecond, NothingBehindTheFault, ListingsAppend, OtherBitsMeanNothing}
 
 -- a check that fails stands in the place of the items
-pub checked-fault : (checks : List Check) (members : List Item) (refusal : Refusal) → first_refusal checks ≡ Some refusal
-    → checked checks members ≡ Fault refusal ∷ []
-checked-fault checks members refusal h = rw (h, checked) refl
+pub guarded-fault : (checks : List Check) (members : List Item) (refusal : Refusal) → first_refusal checks ≡ Some refusal
+    → guarded checks members ≡ Fault refusal ∷ []
+guarded-fault checks members refusal h = rw (h, guarded) refl
 
 -- where all checks pass, the items stand
-pub checked-passes : (checks : List Check) (members : List Item) → first_refusal checks ≡ None → checked checks members ≡ members
-checked-passes checks members h = rw (h, checked) refl
+pub guarded-passes : (checks : List Check) (members : List Item) → first_refusal checks ≡ None → guarded checks members ≡ members
+guarded-passes checks members h = rw (h, guarded) refl
 
 pub asked-true : (parts part : ℕ) (members : List Item) → has parts part ≡ true → where_asked parts part members ≡ members
 asked-true parts part members h = rw (h, where_asked) refl
 
-pub load_none : (file : List ℕ) (headers name parts : ℕ) → has_tables parts ≡ false → load_items file headers name parts ≡ []
+pub load_none : (file : List ℕ) (headers cap parts : ℕ) → has_tables parts ≡ false → load_items file headers cap parts ≡ []
 unfolding load_items
-load_none file headers name parts h = by_cases (has_tables parts) h
+load_none file headers cap parts h = by_cases (has_tables parts) h
   where
     by_cases : (b : Bool) → b ≡ false
-        → elim b as (λ _. List Item) [ true ↦ checked (load_checks file headers) (table_items file name parts) | false ↦ [] ] ≡ []
+        → elim b as (λ _. List Item) [ true ↦ guarded (load_checks file headers) (table_items file cap parts) | false ↦ [] ] ≡ []
     by_cases false h = refl
     by_cases true h = cc
 
-pub load_some : (file : List ℕ) (headers name parts : ℕ) → has_tables parts ≡ true
-    → load_items file headers name parts ≡ checked (load_checks file headers) (table_items file name parts)
+pub load_some : (file : List ℕ) (headers cap parts : ℕ) → has_tables parts ≡ true
+    → load_items file headers cap parts ≡ guarded (load_checks file headers) (table_items file cap parts)
 unfolding load_items
-load_some file headers name parts h = by_cases (has_tables parts) (checked (load_checks file headers) (table_items file name parts)) h
+load_some file headers cap parts h = by_cases (has_tables parts) (guarded (load_checks file headers) (table_items file cap parts)) h
   where
     by_cases : (b : Bool) (members : List Item) → b ≡ true → elim b as (λ _. List Item) [ true ↦ members | false ↦ [] ] ≡ members
     by_cases false members h = cc
@@ -46,26 +47,26 @@ load_some file headers name parts h = by_cases (has_tables parts) (checked (load
 
 pub header_alone : HeaderAloneIsListed
 unfolding items header_items
-header_alone file headers name parts h =
+header_alone file headers cap parts h =
     let line : List Item = where_asked parts HEADER (Line (header_line file) ∷ []) in
-    ap (checked (header_checks file)) (ap (λ more. line ++ more) (load_none file headers name parts h) ∙ append-nil line)
+    ap (guarded (header_checks file)) (ap (λ more. line ++ more) (load_none file headers cap parts h) ∙ append-nil line)
 
 pub header_fault : HeaderFaultIsListedAlone
 unfolding items
-header_fault file headers name parts refusal h =
-    let e : items file headers name parts ≡ Fault refusal ∷ [] =
-    checked-fault (header_checks file) (where_asked parts HEADER (Line (header_line file) ∷ []) ++ load_items file headers name parts) refusal h in
+header_fault file headers cap parts refusal h =
+    let e : items file headers cap parts ≡ Fault refusal ∷ [] =
+    guarded-fault (header_checks file) (where_asked parts HEADER (Line (header_line file) ∷ []) ++ load_items file headers cap parts) refusal h in
     (ap report_of e, ap fault_of e)
 
 pub load_fault : LoadFaultIsListedSecond
 unfolding items
-load_fault file headers name parts refusal h l p t =
+load_fault file headers cap parts refusal h l p t =
     let line : List Item = where_asked parts HEADER (Line (header_line file) ∷ []) in
-    let passes : items file headers name parts ≡ line ++ load_items file headers name parts =
-    checked-passes (header_checks file) (line ++ load_items file headers name parts) h in
-    let fault : load_items file headers name parts ≡ Fault refusal ∷ [] =
-    load_some file headers name parts t ∙ checked-fault (load_checks file headers) (table_items file name parts) refusal l in
-    let e : items file headers name parts ≡ Line (header_line file) ∷ Fault refusal ∷ [] =
+    let passes : items file headers cap parts ≡ line ++ load_items file headers cap parts =
+    guarded-passes (header_checks file) (line ++ load_items file headers cap parts) h in
+    let fault : load_items file headers cap parts ≡ Fault refusal ∷ [] =
+    load_some file headers cap parts t ∙ guarded-fault (load_checks file headers) (table_items file cap parts) refusal l in
+    let e : items file headers cap parts ≡ Line (header_line file) ∷ Fault refusal ∷ [] =
     passes ∙ ap (λ more. line ++ more) fault ∙ ap (λ first. first ++ Fault refusal ∷ []) (asked-true parts HEADER (Line (header_line file) ∷ []) p) in
     ap report_of e ∙ ap (λ text. text ++ refusal_line refusal) (append-nil (header_line file))
 
@@ -95,78 +96,105 @@ asked_masked : (parts part : ℕ) (members : List Item) → bit_and ALL part ≡
 asked_masked parts part members h =
     ap (λ b. elim b as (λ _. List Item) [ true ↦ members | false ↦ [] ]) (has_masked parts part h)
 
-table_items_masked : (file : List ℕ) (name parts : ℕ) → table_items file name (bit_and parts ALL) ≡ table_items file name parts
-unfolding table_items
-table_items_masked file name parts =
-    let a = asked_masked parts SECTIONS (each (section_row file name) 0 (e_shnum file)) refl in
-    let b = asked_masked parts SEGMENTS (each (segment_row file) 0 (e_phnum file)) refl in
-    let c = asked_masked parts SYMBOLS (each (symbol_rows file name) 0 (e_shnum file)) refl in
-    let d = asked_masked parts RELOCS (each (relocation_rows file name) 0 (e_shnum file)) refl in
-    let e = asked_masked parts NOTES (note_items file name) refl in
-    let f = asked_masked parts DYNAMIC (each (dynamic_rows file name) 0 (e_shnum file)) refl in
-    joined a b c d e f
-  where
-    joined : {a a' b b' c c' d d' e e' f f' : List Item} → a ≡ a' → b ≡ b' → c ≡ c' → d ≡ d' → e ≡ e' → f ≡ f'
-        → a ++ b ++ c ++ d ++ e ++ f ≡ a' ++ b' ++ c' ++ d' ++ e' ++ f'
-    joined p q r s t u = cc
+-- the parts of some kinds are among the seven
+abbrev AreParts : List TableKind → Type 0
+AreParts [] = Unit {0}
+AreParts (kind ∷ kinds) = (bit_and ALL kind.part ≡ kind.part) × AreParts kinds
 
-load_items_masked : (file : List ℕ) (headers name parts : ℕ) → load_items file headers name (bit_and parts ALL) ≡ load_items file headers name parts
+section_parts : AreParts section_kinds
+unfolding symbols relocations section_notes section_dynamic
+section_parts = (refl, (refl, (refl, (refl, tt))))
+
+segment_parts : AreParts segment_kinds
+unfolding segment_notes segment_dynamic
+segment_parts = (refl, (refl, tt))
+
+header_parts : (file : List ℕ) → AreParts (table_headers file).kinds
+unfolding table_headers
+header_parts file = by_cases (e_shnum file == 0)
+  where
+    by_cases : (none : Bool) → AreParts (elim none as (λ _. TableHeaders) [ true ↦ by_segments file | false ↦ by_sections file ]).kinds
+    by_cases true = segment_parts
+    by_cases false = section_parts
+
+kinds_rows_masked : (kinds : List TableKind) (headers : TableHeaders) (file : List ℕ) (cap parts : ℕ) → AreParts kinds
+    → kinds_rows kinds headers file cap (bit_and parts ALL) ≡ kinds_rows kinds headers file cap parts
+unfolding kinds_rows
+kinds_rows_masked [] headers file cap parts are = refl
+kinds_rows_masked (kind ∷ kinds) headers file cap parts are =
+    let a = asked_masked parts kind.part (each (λ i. table_rows kind file cap i (headers.at i)) 0 headers.count) are.0 in
+    let b = kinds_rows_masked kinds headers file cap parts are.1 in
+    cc
+
+table_items_masked : (file : List ℕ) (cap parts : ℕ) → table_items file cap (bit_and parts ALL) ≡ table_items file cap parts
+unfolding table_items
+table_items_masked file cap parts =
+    let a = asked_masked parts SECTIONS (each (section_row file cap) 0 (e_shnum file)) refl in
+    let b = asked_masked parts SEGMENTS (each (segment_row file) 0 (e_phnum file)) refl in
+    let c = kinds_rows_masked (table_headers file).kinds (table_headers file) file cap parts (header_parts file) in
+    joined a b c
+  where
+    joined : {a a' b b' c c' : List Item} → a ≡ a' → b ≡ b' → c ≡ c' → a ++ b ++ c ≡ a' ++ b' ++ c'
+    joined p q r = cc
+
+load_items_masked : (file : List ℕ) (headers cap parts : ℕ) → load_items file headers cap (bit_and parts ALL) ≡ load_items file headers cap parts
 unfolding load_items
-load_items_masked file headers name parts =
-    ap (λ members. elim (has_tables (bit_and parts ALL)) as (λ _. List Item) [ true ↦ checked (load_checks file headers) members | false ↦ [] ])
-    (table_items_masked file name parts)
-    ∙ ap (λ b. elim b as (λ _. List Item) [ true ↦ checked (load_checks file headers) (table_items file name parts) | false ↦ [] ])
+load_items_masked file headers cap parts =
+    ap (λ members. elim (has_tables (bit_and parts ALL)) as (λ _. List Item) [ true ↦ guarded (load_checks file headers) members | false ↦ [] ])
+    (table_items_masked file cap parts)
+    ∙ ap (λ b. elim b as (λ _. List Item) [ true ↦ guarded (load_checks file headers) (table_items file cap parts) | false ↦ [] ])
     (tables_masked parts)
 
-pub items_masked : (file : List ℕ) (headers name parts : ℕ) → items file headers name (bit_and parts ALL) ≡ items file headers name parts
+pub items_masked : (file : List ℕ) (headers cap parts : ℕ) → items file headers cap (bit_and parts ALL) ≡ items file headers cap parts
 unfolding items
-items_masked file headers name parts =
+items_masked file headers cap parts =
     let a = asked_masked parts HEADER (Line (header_line file) ∷ []) refl in
-    let b = load_items_masked file headers name parts in
-    ap (checked (header_checks file))
-    (ap (λ line. line ++ load_items file headers name (bit_and parts ALL)) a
+    let b = load_items_masked file headers cap parts in
+    ap (guarded (header_checks file))
+    (ap (λ line. line ++ load_items file headers cap (bit_and parts ALL)) a
     ∙ ap (λ more. where_asked parts HEADER (Line (header_line file) ∷ []) ++ more) b)
 
 cost_where_masked : (parts part amount : ℕ) → bit_and ALL part ≡ part
     → cost_where (has (bit_and parts ALL) part) amount ≡ cost_where (has parts part) amount
 cost_where_masked parts part amount h = ap (λ b. cost_where b amount) (has_masked parts part h)
 
-table_cost_masked : (bytes : List ℕ) (at size name parts : ℕ) → table_cost bytes at size name (bit_and parts ALL) ≡ table_cost bytes at size name parts
-unfolding table_cost
-table_cost_masked bytes at size name parts =
-    let a = cost_where_masked parts SYMBOLS (symbols_cost bytes at size name) refl in
-    let b = cost_where_masked parts RELOCS (relocations_cost bytes at size name) refl in
-    let c = cost_where_masked parts NOTES (section_notes_cost bytes at size) refl in
-    let d = cost_where_masked parts DYNAMIC (dynamic_cost bytes at size name) refl in
+kinds_cost_masked : (kinds : List TableKind) (bytes : List ℕ) (at size cap parts : ℕ) → AreParts kinds
+    → kinds_cost kinds bytes at size cap (bit_and parts ALL) ≡ kinds_cost kinds bytes at size cap parts
+unfolding kinds_cost
+kinds_cost_masked [] bytes at size cap parts are = refl
+kinds_cost_masked (kind ∷ kinds) bytes at size cap parts are =
+    let a = cost_where_masked parts kind.part (table_cost kind bytes at size cap) are.0 in
+    let b = kinds_cost_masked kinds bytes at size cap parts are.1 in
     omega arith
 
-tables_cost_masked : (file : List ℕ) (name parts : ℕ) → tables_cost file name (bit_and parts ALL) ≡ tables_cost file name parts
+tables_cost_masked : (file : List ℕ) (cap parts : ℕ) → tables_cost file cap (bit_and parts ALL) ≡ tables_cost file cap parts
 unfolding tables_cost
-tables_cost_masked file name parts =
-    sum_over-equal (λ i. table_cost file (section_at file i) (length file) name (bit_and parts ALL))
-    (λ i. table_cost file (section_at file i) (length file) name parts) 0 (e_shnum file)
-    (λ i _ _. table_cost_masked file (section_at file i) (length file) name parts)
+tables_cost_masked file cap parts =
+    let headers = table_headers file in
+    sum_over-equal (λ i. kinds_cost headers.kinds file (headers.at i) (length file) cap (bit_and parts ALL))
+    (λ i. kinds_cost headers.kinds file (headers.at i) (length file) cap parts) 0 headers.count
+    (λ i _ _. kinds_cost_masked headers.kinds file (headers.at i) (length file) cap parts (header_parts file))
 
-headers_cost_masked : (file : List ℕ) (name parts : ℕ)
-    → sections_cost file name (bit_and parts ALL) + segments_cost file (bit_and parts ALL) ≡ sections_cost file name parts + segments_cost file parts
+headers_cost_masked : (file : List ℕ) (cap parts : ℕ)
+    → sections_cost file cap (bit_and parts ALL) + segments_cost file (bit_and parts ALL) ≡ sections_cost file cap parts + segments_cost file parts
 unfolding sections_cost segments_cost
-headers_cost_masked file name parts =
-    let notes : ℕ = 56 * e_phnum file + sum_over (λ i. segment_notes_cost file (segment_at file i) (length file)) 0 (e_phnum file) in
-    let a = ap (λ b. cost_where (b && not (e_shstrndx file == 0)) (e_shnum file * name_bytes name)) (has_masked parts SECTIONS refl) in
-    let b = ap (λ b. cost_where b (56 * e_phnum file)) (has_masked parts SEGMENTS refl) in
-    let c = ap (λ b. cost_where (b && e_shnum file == 0) notes) (has_masked parts NOTES refl) in
+headers_cost_masked file cap parts =
+    let a = ap (λ b. cost_where (b && not (e_shstrndx file == 0)) (e_shnum file * name_bytes cap)) (has_masked parts SECTIONS refl) in
+    let b : needs_segments file (bit_and parts ALL) ≡ needs_segments file parts =
+    rw (has_masked parts SEGMENTS refl, has_masked parts NOTES refl, has_masked parts DYNAMIC refl) refl in
+    let c = ap (λ b. cost_where b (56 * e_phnum file)) b in
     omega arith
 
-pub cost_masked : (file : List ℕ) (headers name parts : ℕ) → cost file headers name (bit_and parts ALL) ≡ cost file headers name parts
+pub cost_masked : (file : List ℕ) (headers cap parts : ℕ) → cost file headers cap (bit_and parts ALL) ≡ cost file headers cap parts
 unfolding cost
-cost_masked file headers name parts =
-    let a = headers_cost_masked file name parts in
-    let b = tables_cost_masked file name parts in
-    let rest : sections_cost file name (bit_and parts ALL) + segments_cost file (bit_and parts ALL) + tables_cost file name (bit_and parts ALL)
-    ≡ sections_cost file name parts + segments_cost file parts + tables_cost file name parts = omega arith in
+cost_masked file headers cap parts =
+    let a = headers_cost_masked file cap parts in
+    let b = tables_cost_masked file cap parts in
+    let rest : sections_cost file cap (bit_and parts ALL) + segments_cost file (bit_and parts ALL) + tables_cost file cap (bit_and parts ALL)
+    ≡ sections_cost file cap parts + segments_cost file parts + tables_cost file cap parts = omega arith in
     ap (λ n. 64 + cost_where (has_tables (bit_and parts ALL) && is_loadable file headers) n) rest
-    ∙ ap (λ b. 64 + cost_where (b && is_loadable file headers) (sections_cost file name parts + segments_cost file parts + tables_cost file name parts))
+    ∙ ap (λ b. 64 + cost_where (b && is_loadable file headers) (sections_cost file cap parts + segments_cost file parts + tables_cost file cap parts))
     (tables_masked parts)
 
 pub other_bits : OtherBitsMeanNothing
-other_bits file headers name parts = (items_masked file headers name parts, cost_masked file headers name parts)
+other_bits file headers cap parts = (items_masked file headers cap parts, cost_masked file headers cap parts)

@@ -1,10 +1,10 @@
 -- A lookup step by step: the answer after each stage, and the words as they are read.
-use Rattle.std.proofs.Common.{◌≡◌, ℕ, zero, suc, ◌+◌, ◌*◌, ◌<◌, ◌≤◌, inl, inr, Bool, true, false, List, ◌++◌, length, None, Some, refl, ap, arith}
+use Rattle.std.proofs.Common.{◌≡◌, ℕ, zero, suc, ◌+◌, ◌*◌, ◌<◌, ◌≤◌, inl, inr, Bool, true, false, List, ◌++◌, length, Option, None, Some, refl, ap, arith}
 use Rattle.std.proofs.lemmas.Bool.{cases_eq}
 use Rattle.elf_model.specs.Bytes.{field}
 use Rattle.elf_model.specs.Checks.{first_refusal, header_checks, early_checks, load_checks}
-use Rattle.elf_model.specs.Find.{first_that, first_hash, hash_checks, shape_checks, looked_in, looked, compared_after, compared, find_cost}
-use Rattle.elf_model.specs.Hash.{chain_place, next_in_chain, walk_word, lookup_word, lookup_place, Refused, refused, looked_up, compared_in}
+use Rattle.elf_model.specs.Find.{first_that, first_hash, hash_checks, shape_checks, looked_in, looked, find_cost}
+use Rattle.elf_model.specs.Hash.{chain_at, next_in_chain, walk_word, lookup_word, word_at, LookupEnd, refused_after, looked_up}
 use Rattle.elf_model.specs.HashLaws.{GoesOn}
 use Rattle.elf_model.specs.Names.{pad64}
 use Rattle.elf_model.specs.Records.{e_shnum, section_at}
@@ -12,36 +12,36 @@ use Rattle.elf_model.specs.declared.causes.Cause.TheVariants.{NoHash}
 use Rattle.elf_model.specs.declared.causes.Refusal.{Refusal}
 
 -- each word stands at its place
-pub word_at_place : (file : List ℕ) (at : ℕ) (wanted : List ℕ) (i : ℕ) → field file (lookup_place file at wanted i) 4 ≡ lookup_word file at wanted i
-unfolding lookup_place walk_word
-word_at_place file at wanted zero = refl
-word_at_place file at wanted (suc i) = refl
+pub word_is_read : (file : List ℕ) (at : ℕ) (wanted : List ℕ) (i : ℕ) → field file (word_at file at wanted i) 4 ≡ lookup_word file at wanted i
+unfolding word_at walk_word
+word_is_read file at wanted zero = refl
+word_is_read file at wanted (suc i) = refl
 
 -- the next word is the chain's
 pub next_word : (file : List ℕ) (at : ℕ) (wanted : List ℕ) (i : ℕ) → lookup_word file at wanted (suc i) ≡ next_in_chain file at (lookup_word file at wanted i)
 unfolding walk_word
 next_word file at wanted i = refl
 
-pub next_place : (file : List ℕ) (at : ℕ) (wanted : List ℕ) (i : ℕ) → lookup_place file at wanted (suc i) ≡ chain_place file at (lookup_word file at wanted i)
-unfolding lookup_place
-next_place file at wanted i = refl
+pub next_word_at : (file : List ℕ) (at : ℕ) (wanted : List ℕ) (i : ℕ) → word_at file at wanted (suc i) ≡ chain_at file at (lookup_word file at wanted i)
+unfolding word_at
+next_word_at file at wanted i = refl
 
 -- one word more goes on
-pub goes_on_more : (test : ℕ → Bool) (words : ℕ → ℕ) (n : ℕ) → GoesOn test words n → test (words n) ≡ false → GoesOn test words (suc n)
-goes_on_more test words n goes here i low =
+pub goes_on_more : (ends : ℕ → Option LookupEnd) (words : ℕ → ℕ) (n : ℕ) → GoesOn ends words n → ends (words n) ≡ None → GoesOn ends words (suc n)
+goes_on_more ends words n goes here i low =
     elim (cases_eq i n) [ inl same ↦ rw same here | inr other ↦ goes i (omega arith) ]
 
 -- the stages of a lookup in a file
 module _ (file : List ℕ) (headers : ℕ) (wanted : List ℕ) where
   pub looked-refused :
       (refusal : Refusal) → first_refusal (header_checks file ++ load_checks file headers) ≡ Some refusal
-      → looked file headers wanted ≡ Refused refusal
+      → looked file headers wanted ≡ refused_after 0 refusal
   unfolding looked
   looked-refused refusal e = rw (e, looked) refl
 
   pub looked-no_hash :
       first_refusal (header_checks file ++ load_checks file headers) ≡ None → first_hash file ≡ None
-      → looked file headers wanted ≡ refused 0x28 NoHash
+      → looked file headers wanted ≡ refused_after 0 (record { at = 0x28; cause = NoHash })
   unfolding looked
   looked-no_hash e n = rw (e, looked) (rw (n, looked) refl)
 
@@ -50,24 +50,6 @@ module _ (file : List ℕ) (headers : ℕ) (wanted : List ℕ) where
       → looked file headers wanted ≡ looked_in file (section_at file section) wanted
   unfolding looked
   looked-at section e n = rw (e, looked) (rw (n, looked) refl)
-
-  pub compared-refused :
-      (refusal : Refusal) → first_refusal (header_checks file ++ load_checks file headers) ≡ Some refusal
-      → compared file headers wanted ≡ 0
-  unfolding compared
-  compared-refused refusal e = rw (e, compared) refl
-
-  pub compared-no_hash :
-      first_refusal (header_checks file ++ load_checks file headers) ≡ None → first_hash file ≡ None
-      → compared file headers wanted ≡ 0
-  unfolding compared
-  compared-no_hash e n = rw (e, compared) (rw (n, compared) refl)
-
-  pub compared-at :
-      (section : ℕ) → first_refusal (header_checks file ++ load_checks file headers) ≡ None → first_hash file ≡ Some section
-      → compared file headers wanted ≡ compared_after file (section_at file section) wanted
-  unfolding compared
-  compared-at section e n = rw (e, compared) (rw (n, compared) refl)
 
   pub find_cost-early :
       (refusal : Refusal) → first_refusal (header_checks file ++ early_checks file headers) ≡ Some refusal
@@ -78,14 +60,14 @@ module _ (file : List ℕ) (headers : ℕ) (wanted : List ℕ) where
   pub find_cost-loaded :
       first_refusal (header_checks file ++ early_checks file headers) ≡ None
       → find_cost file headers wanted
-      ≡ 76 + 64 * e_shnum file + compared file headers wanted * (28 + pad64 (length wanted + 1))
+      ≡ 76 + 64 * e_shnum file + (looked file headers wanted).compared * (28 + pad64 (length wanted + 1))
   unfolding find_cost
   find_cost-loaded e = rw (e, find_cost) refl
 
 module _ (file : List ℕ) (at : ℕ) (wanted : List ℕ) where
   pub looked_in-refused :
       (refusal : Refusal) → first_refusal (hash_checks file at ++ shape_checks file at) ≡ Some refusal
-      → looked_in file at wanted ≡ Refused refusal
+      → looked_in file at wanted ≡ refused_after 0 refusal
   unfolding looked_in
   looked_in-refused refusal e = rw (e, looked_in) refl
 
@@ -93,18 +75,6 @@ module _ (file : List ℕ) (at : ℕ) (wanted : List ℕ) where
       first_refusal (hash_checks file at ++ shape_checks file at) ≡ None → looked_in file at wanted ≡ looked_up file at wanted
   unfolding looked_in
   looked_in-passed e = rw (e, looked_in) refl
-
-  pub compared_after-refused :
-      (refusal : Refusal) → first_refusal (hash_checks file at ++ shape_checks file at) ≡ Some refusal
-      → compared_after file at wanted ≡ 0
-  unfolding compared_after
-  compared_after-refused refusal e = rw (e, compared_after) refl
-
-  pub compared_after-passed :
-      first_refusal (hash_checks file at ++ shape_checks file at) ≡ None
-      → compared_after file at wanted ≡ compared_in file at wanted
-  unfolding compared_after
-  compared_after-passed e = rw (e, compared_after) refl
 
 -- the first number that passes a test, where the ones before it do not
 pub first_that-some :

@@ -3,7 +3,7 @@ use Rattle.std.proofs.Common.{min, ◌≡◌, ℕ, suc, zero, ◌+◌, ◌<◌, 
 use Rattle.std.proofs.lemmas.List.{append_assoc, drop_all}
 use Rattle.std.proofs.lemmas.Bool.{cases_lt}
 use Rattle.elf_model.specs.Bytes.{slice}
-use Rattle.elf_model.specs.Notes.{Note, Spelt, Padded, AllPadded, Filled, Short, Notes, CutAt, Ends, Broken, Found, Walk, to_next, padded_size, first_note, first_end, next_note, walked, with_note}
+use Rattle.elf_model.specs.Notes.{Note, Spelt, Padded, AllPadded, EndsInZeros, EndsInSpelling, Notes, CutAt, Ends, Broken, OneNote, Walk, to_next, padded_size, first_note, first_end, next_note, walked, with_note}
 use Rattle.elf_model.specs.NoteLaws.{WalkedFits, FittingIsWalked, OneListAtMost, WalkedIsCut, CutIsWalked, FitsOrIsCut}
 use Rattle.elf_model.proofs.Spellings.{NextView, ends, tails, past, found, next_view, next-ends, next-spelt, spelt-size, found-spelt}
 use Rattle.elf_model.proofs.Slices.{slice-size}
@@ -17,7 +17,7 @@ walked-is a table = refl
 pub nothing-ends : (a place : ℕ) → walk a place [] ≡ record { notes = []; cut = None }
 nothing-ends a place = walk-ends a place [] (next-ends a [] (omega arith) refl)
 
-filled-walked : (a : ℕ) (notes : List Note) (table : List ℕ) → Filled a notes table → walk a 0 table ≡ record { notes = notes; cut = None }
+filled-walked : (a : ℕ) (notes : List Note) (table : List ℕ) → EndsInZeros a notes table → walk a 0 table ≡ record { notes = notes; cut = None }
 filled-walked a notes table f =
     let all = walk-all-padded a 0 notes f.front f.tail f.padded in
     let end = walk-ends a (0 + length f.front) f.tail (next-ends a f.tail f.few f.zeros) in
@@ -26,7 +26,7 @@ filled-walked a notes table f =
     whole : List Note → Walk
     whole x = record { notes = x; cut = None }
 
-short-walked : (a : ℕ) (notes : List Note) (table : List ℕ) → Short a notes table → walk a 0 table ≡ record { notes = notes; cut = None }
+short-walked : (a : ℕ) (notes : List Note) (table : List ℕ) → EndsInSpelling a notes table → walk a 0 table ≡ record { notes = notes; cut = None }
 short-walked a notes table s =
     let rest : List ℕ = s.spelling ++ s.padding in
     let parts : table ≡ s.front ++ rest = s.parts ∙ append_assoc s.front s.spelling s.padding in
@@ -35,7 +35,7 @@ short-walked a notes table s =
     let turned = ap (to_next a) size in
     let few = s.short in
     let m : min (padded_size a s.last) (length rest) ≡ length rest = omega (arith, length-append s.spelling s.padding) in
-    let next = next-spelt a s.last s.spelling s.padding s.spelt ∙ ap (Found s.last) m in
+    let next = next-spelt a s.last s.spelling s.padding s.spelt ∙ ap (OneNote s.last) m in
     let one = walk-found a (0 + length s.front) rest s.last (length rest) next in
     let nothing : drop (length rest) rest ≡ [] = drop_all (length rest) rest (omega arith) in
     let end = ap (walk a (0 + length s.front + length rest)) nothing ∙ nothing-ends a (0 + length s.front + length rest) in
@@ -98,7 +98,7 @@ outcome-broken : (a place : ℕ) (rest : List ℕ) → next_note a rest ≡ Brok
 outcome-broken a place rest e = rw (walk-broken a place rest e) (cuts 0 (ap (λ (n : ℕ). Some n) (sym (add-zero place))) zero-le refl)
 
 -- a note whose padding ends too early is the last
-outcome-short : (a place : ℕ) (rest : List ℕ) (note : Note) (size : ℕ) → next_note a rest ≡ Found note size
+outcome-short : (a place : ℕ) (rest : List ℕ) (note : Note) (size : ℕ) → next_note a rest ≡ OneNote note size
     → Spelt a note (take (first_end a rest) rest) → first_end a rest ≤ length rest → size ≡ length rest
     → length rest < first_end a rest + to_next a (first_end a rest) → Outcome a place rest (walk a place rest)
 outcome-short a place rest note size e s l z few =
@@ -120,7 +120,7 @@ outcome-short a place rest note size e s l z few =
     })))
 
 -- a padded note in front of an outcome
-outcome-more : (a place : ℕ) (rest : List ℕ) (note : Note) (size : ℕ) → next_note a rest ≡ Found note size → size ≤ length rest
+outcome-more : (a place : ℕ) (rest : List ℕ) (note : Note) (size : ℕ) → next_note a rest ≡ OneNote note size → size ≤ length rest
     → Padded a note (take size rest) → Outcome a (place + size) (drop size rest) (walk a (place + size) (drop size rest))
     → Outcome a place rest (walk a place rest)
 outcome-more a place rest note size e l p o = rw (walk-found a place rest note size e) (go o)
@@ -151,7 +151,7 @@ outcome a (suc most) place rest h = step (λ n xs. outcome a most n xs)
     step : ((n : ℕ) (xs : List ℕ) → length xs < most → Outcome a n xs (walk a n xs)) → Outcome a place rest (walk a place rest)
     step more = go (next_view a rest)
       where
-        one : (note : Note) (size : ℕ) → next_note a rest ≡ Found note size → Spelt a note (take (first_end a rest) rest) → first_end a rest ≤ length rest
+        one : (note : Note) (size : ℕ) → next_note a rest ≡ OneNote note size → Spelt a note (take (first_end a rest) rest) → first_end a rest ≤ length rest
             → size ≡ min (first_end a rest + to_next a (first_end a rest)) (length rest)
             → (length rest < first_end a rest + to_next a (first_end a rest)) ⊎ (first_end a rest + to_next a (first_end a rest) ≤ length rest)
             → Outcome a place rest (walk a place rest)

@@ -6,7 +6,7 @@ use Rattle.elf_model.specs.Bytes.{slice}
 use Rattle.elf_model.specs.Records.{n_namesz, n_descsz, n_type}
 use Rattle.elf_model.specs.Names.{nul_in}
 use Rattle.elf_model.specs.Names.Shown.{Whole, Cut}
-use Rattle.elf_model.specs.Notes.{before_nul, note_shown, Note, Ends, Broken, Found, Walk, NoteRow, to_next, padded_size, first_note, first_end, next_note, walked, note_rows}
+use Rattle.elf_model.specs.Notes.{before_nul, note_shown, Note, Ends, Broken, OneNote, Walk, NoteRow, to_next, padded_size, first_note, first_end, next_note, walked, note_rows}
 use Rattle.elf_model.proofs.Nuls.{free, none-free, some-free, free-some}
 use Rattle.elf_model.proofs.NameLoops.{nul_in-whole, nul_in-take-some}
 use Rattle.elf_model.proofs.Slices.{field-slice}
@@ -39,7 +39,7 @@ rows-broken a place rest e =
     (ap (λ (x : Walk). note_rows a place x.notes) w ∙ rows-nil a place, ap (λ (x : Walk). x.cut) w)
 
 -- what is found is the first note
-pub found-first : (a : ℕ) (rest : List ℕ) (note : Note) (size : ℕ) → next_note a rest ≡ Found note size
+pub found-first : (a : ℕ) (rest : List ℕ) (note : Note) (size : ℕ) → next_note a rest ≡ OneNote note size
     → (note ≡ first_note a rest) × (size ≡ min (first_end a rest + to_next a (first_end a rest)) (length rest)) × (12 ≤ length rest) × (first_end a rest ≤ length rest)
 found-first a rest note size e = go (next_view a rest)
   where
@@ -53,7 +53,7 @@ found-first a rest note size e = go (next_view a rest)
 rows-end : (a at n : ℕ) (rest : List ℕ) → rest ≡ [] → note_rows a n (walk a at rest).notes ≡ []
 rows-end a at n rest e = rw (e) (ap (λ (w : Walk). note_rows a n w.notes) (nothing-ends a at) ∙ rows-nil a n)
 
-rows-behind : (a place : ℕ) (rest : List ℕ) (note : Note) (size : ℕ) → next_note a rest ≡ Found note size
+rows-behind : (a place : ℕ) (rest : List ℕ) (note : Note) (size : ℕ) → next_note a rest ≡ OneNote note size
     → note_rows a (place + padded_size a note) (walk a (place + size) (drop size rest)).notes ≡ rows_left a (place + size) (drop size rest)
 rows-behind a place rest note size e = go (cases_lt (length rest) (first_end a rest + to_next a (first_end a rest)))
   where
@@ -69,7 +69,7 @@ rows-behind a place rest note size e = go (cases_lt (length rest) (first_end a r
         let q : padded_size a note ≡ size = ap (padded_size a) f.0 ∙ omega arith in
         ap (λ n. note_rows a (place + n) (walk a (place + size) (drop size rest)).notes) q
 
-pub rows-found : (a place : ℕ) (rest : List ℕ) (note : Note) (size : ℕ) → next_note a rest ≡ Found note size
+pub rows-found : (a place : ℕ) (rest : List ℕ) (note : Note) (size : ℕ) → next_note a rest ≡ OneNote note size
     → (rows_left a place rest ≡ row_of a place note ∷ rows_left a (place + size) (drop size rest))
     × (cut_left a place rest ≡ cut_left a (place + size) (drop size rest))
 rows-found a place rest note size e =

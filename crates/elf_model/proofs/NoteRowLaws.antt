@@ -7,7 +7,7 @@ use Rattle.std.proofs.lemmas.Bool.Decides.{nat_tests}
 use Rattle.elf_model.specs.Bytes.{slice}
 use Rattle.elf_model.specs.Names.{nul_in}
 use Rattle.elf_model.specs.Names.Shown.{Whole, Cut}
-use Rattle.elf_model.specs.Notes.{Note, Spelt, Found, Walk, NoteRow, to_next, descriptor_start, spelt_size, padded_size, first_note, first_end, next_note, note_rows, note_align, before_nul, note_shown}
+use Rattle.elf_model.specs.Notes.{Note, Spelt, OneNote, Walk, NoteRow, to_next, descriptor_start, spelt_size, padded_size, first_note, first_end, next_note, note_rows, note_align, before_nul, note_shown}
 use Rattle.elf_model.specs.NoteLaws.{StandsIn, RowsStand, IsAligned, RowsAligned, BeforeNulExactly, NoteShownWholeExactly, NoteShownCutExactly}
 use Rattle.elf_model.proofs.Nuls.{free, none-free, free-none, free-append, free-take, split_at_nul}
 use Rattle.elf_model.proofs.Spellings.{NextView, ends, tails, past, found, next_view, spelt-size, spelt-name, spelt-descriptor, found-spelt}
@@ -52,7 +52,7 @@ row-stands a place table i h l =
     }
 
 rows-found : (a place size : ℕ) (table : List ℕ) → place ≤ length table → 12 ≤ length (drop place table) → first_end a (drop place table) ≤ length (drop place table)
-    → next_note a (drop place table) ≡ Found (first_note a (drop place table)) size
+    → next_note a (drop place table) ≡ OneNote (first_note a (drop place table)) size
     → All (StandsIn a table) (note_rows a (place + padded_size a (first_note a (drop place table))) (walk a (place + size) (drop size (drop place table))).notes)
     → All (StandsIn a table) (note_rows a place (walk a place (drop place table)).notes)
 rows-found a place size table i h l e more =

@@ -6,7 +6,7 @@ use Rattle.std.proofs.lemmas.Bool.{cases_lt}
 use Rattle.elf_model.specs.Bytes.{slice, field}
 use Rattle.elf_model.proofs.Slices.{field-front, slice-size}
 use Rattle.elf_model.specs.Records.{n_namesz, n_descsz, n_type}
-use Rattle.elf_model.specs.Notes.{Note, Spelt, Ends, Broken, Found, to_next, gap_between, descriptor_start, spelt_size, padded_size, are_zeros, first_note, first_end, next_note}
+use Rattle.elf_model.specs.Notes.{Note, Spelt, Ends, Broken, OneNote, to_next, gap_between, descriptor_start, spelt_size, padded_size, are_zeros, first_note, first_end, next_note}
 
 -- a slice that stands behind a front
 pub slice-behind : (x y z : List ℕ) (at size : ℕ) → length x ≡ at → length y ≡ size → slice (x ++ y ++ z) at size ≡ y
@@ -19,7 +19,7 @@ pub data NextView (a : ℕ) (rest : List ℕ) : Type 0 where
   tails : length rest < 12 → next_note a rest ≡ Broken → NextView a rest
   past : next_note a rest ≡ Broken → NextView a rest
   found : 12 ≤ length rest → first_end a rest ≤ length rest
-      → next_note a rest ≡ Found (first_note a rest) (min (first_end a rest + to_next a (first_end a rest)) (length rest)) → NextView a rest
+      → next_note a rest ≡ OneNote (first_note a rest) (min (first_end a rest + to_next a (first_end a rest)) (length rest)) → NextView a rest
 
 pub next-ends : (a : ℕ) (rest : List ℕ) → length rest < 12 → are_zeros rest ≡ true → next_note a rest ≡ Ends
 unfolding next_note
@@ -37,7 +37,7 @@ next-past a rest h l =
     rw (t, u) refl
 
 pub next-found : (a : ℕ) (rest : List ℕ) → 12 ≤ length rest → first_end a rest ≤ length rest
-    → next_note a rest ≡ Found (first_note a rest) (min (first_end a rest + to_next a (first_end a rest)) (length rest))
+    → next_note a rest ≡ OneNote (first_note a rest) (min (first_end a rest + to_next a (first_end a rest)) (length rest))
 unfolding next_note
 next-found a rest h l =
     let t : nat_lt (length rest) 12 ≡ false = grind (arith, nat_tests) in
@@ -106,7 +106,7 @@ spelt-first a note text rest s =
 
 -- a spelling is what stands next
 pub next-spelt : (a : ℕ) (note : Note) (text rest : List ℕ) → Spelt a note text
-    → next_note a (text ++ rest) ≡ Found note (min (padded_size a note) (length (text ++ rest)))
+    → next_note a (text ++ rest) ≡ OneNote note (min (padded_size a note) (length (text ++ rest)))
 next-spelt a note text rest s =
     let f = spelt-first a note text rest s in
     let l = spelt-size a note text s in

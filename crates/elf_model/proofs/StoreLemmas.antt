@@ -1,26 +1,51 @@
 -- Section headers that are read at their own bytes cost what they cost in the file.
-use Rattle.std.proofs.Common.{◌≡◌, ℕ, suc, zero, ◌+◌, ◌*◌, ◌/◌, ◌%◌, ◌<◌, ◌≤◌, ◌==◌, ◌&&◌, not, Bool, true, false, List, length, Some, None, refl, ap, ◌∙◌, arith}
+use Rattle.std.proofs.Common.{◌≡◌, ℕ, suc, zero, ◌+◌, ◌*◌, ◌/◌, ◌%◌, ◌<◌, ◌≤◌, ◌==◌, not, Bool, true, false, List, [], ◌∷◌, length, refl, ap, ◌∙◌, arith, add-zero}
 use Rattle.std.proofs.Math.Nat.{mul-le-mul_right, mul-add}
-use Rattle.std.specs.Prelude.{is_none}
+use Rattle.std.proofs.lemmas.Bool.{eqb-true}
 use Rattle.elf_model.specs.Bytes.{slice}
 use Rattle.elf_model.proofs.Slices.{field-slice}
-use Rattle.elf_model.specs.Records.{e_shnum, sh_offset, sh_size, sh_entsize, section_at}
+use Rattle.elf_model.specs.Records.{e_shnum, e_phnum, sh_offset, sh_size, sh_entsize, p_offset, p_filesz, section_at, segment_at}
 use Rattle.elf_model.specs.Names.{name_bytes}
-use Rattle.elf_model.specs.Checks.{is_outside}
-use Rattle.elf_model.specs.declared.causes.Refusal.{Refusal}
-use Rattle.elf_model.specs.declared.causes.Cause.{Cause}
+use Rattle.elf_model.specs.Checks.{pass, refuse, is_outside, table_checks_of, whole_checks_of, range_checks_of}
 use Rattle.elf_model.specs.declared.causes.Cause.TheVariants.{EntrySize, SizeNotWhole, TableOutside}
 use Rattle.elf_model.specs.Listing.{has}
-use Rattle.elf_model.specs.Cost.{sum_over, cost_where, is_table, entries_cost, symbols_cost, relocations_cost, section_notes_cost, dynamic_cost, table_cost, tables_cost, ceiling}
-use Rattle.elf_model.specs.CostLaws.{TablesCountWhereChecksPass, RowsCostWhatTheFileCosts, TablesCostPartByPart, AnyRowsAreWithinCeiling, AnySegmentsAreWithinCeiling}
-use Rattle.elf_model.proofs.CostLemmas.{table_bound, table_cost-le, sum_over-le}
+use Rattle.elf_model.specs.TableKinds.{symbols, relocations, section_dynamic, section_notes, section_kinds, segment_notes, segment_dynamic, segment_kinds}
+use Rattle.elf_model.specs.Cost.{sum_over, cost_where, table_cost, kinds_cost, tables_cost, ceiling}
+use Rattle.elf_model.specs.CostLaws.{PlacesDecideNothing, RowsCostWhatTheFileCosts, SegmentsCostWhatTheFileCosts, kind_by_kind, TablesCostKindByKind, AnyRowsAreWithinCeiling, AnySegmentsAreWithinCeiling}
+use Rattle.elf_model.proofs.CostLemmas.{table_bound, section_kinds-le, segment_kinds-le, headers_within, sum_over-le, tables_by, headers_some}
+
+-- checks that pass for one place pass for another
+table-pass : (a b c : Bool) (p q : ℕ)
+    → pass (refuse a p EntrySize ∷ refuse b p SizeNotWhole ∷ refuse c p TableOutside ∷ []) ≡ pass (refuse a q EntrySize ∷ refuse b q SizeNotWhole ∷ refuse c q TableOutside ∷ [])
+table-pass true b c p q = refl
+table-pass false true c p q = refl
+table-pass false false true p q = refl
+table-pass false false false p q = refl
+
+pub places_decide_nothing : PlacesDecideNothing
+places_decide_nothing bytes at size place other entry_size =
+    table-pass (not (sh_entsize bytes at == entry_size)) (not (sh_size bytes at % entry_size == 0)) (is_outside size (sh_offset bytes at) (sh_size bytes at)) place other
+
+range-pass : (c : Bool) (p q : ℕ) → pass (refuse c p TableOutside ∷ []) ≡ pass (refuse c q TableOutside ∷ [])
+range-pass true p q = refl
+range-pass false p q = refl
 
 -- a section header's cost at its own bytes
-table_cost_of_slice : (file : List ℕ) (at size name parts : ℕ)
-    → table_cost (slice file at 64) 0 size name parts ≡ table_cost file at size name parts
-unfolding table_cost symbols_cost relocations_cost section_notes_cost dynamic_cost entries_cost is_table
-table_cost_of_slice file at size name parts =
-    rw (field-slice file at 64 4 4 (omega arith), field-slice file at 64 24 8 (omega arith), field-slice file at 64 32 8 (omega arith), field-slice file at 64 56 8 (omega arith))
+same_checks : (bytes : List ℕ) (at size entry_size : ℕ) → pass (table_checks_of (slice bytes at 64) 0 size 0 entry_size) ≡ pass (table_checks_of bytes at size at entry_size)
+same_checks bytes at size entry_size =
+    rw (field-slice bytes at 64 24 8 (omega arith), field-slice bytes at 64 32 8 (omega arith), field-slice bytes at 64 56 8 (omega arith))
+    (table-pass (not (sh_entsize bytes at == entry_size)) (not (sh_size bytes at % entry_size == 0)) (is_outside size (sh_offset bytes at) (sh_size bytes at)) 0 at)
+
+same_range : (bytes : List ℕ) (at size : ℕ) → pass (range_checks_of size (sh_offset (slice bytes at 64) 0) (sh_size (slice bytes at 64) 0) 0) ≡ pass (range_checks_of size (sh_offset bytes at) (sh_size bytes at) at)
+same_range bytes at size =
+    rw (field-slice bytes at 64 24 8 (omega arith), field-slice bytes at 64 32 8 (omega arith))
+    (range-pass (is_outside size (sh_offset bytes at) (sh_size bytes at)) 0 at)
+
+kinds_cost_of_slice : (file : List ℕ) (at size cap parts : ℕ)
+    → kinds_cost section_kinds (slice file at 64) 0 size cap parts ≡ kinds_cost section_kinds file at size cap parts
+unfolding kinds_cost table_cost symbols relocations section_notes section_dynamic
+kinds_cost_of_slice file at size cap parts =
+    rw (same_checks file at size 24, same_checks file at size 16, same_range file at size, field-slice file at 64 4 4 (omega arith), field-slice file at 64 32 8 (omega arith)) refl
 
 -- sums of equal costs
 pub sum_over-equal : (amount other : ℕ → ℕ) (first count : ℕ) → ((i : ℕ) → first ≤ i → i < first + count → amount i ≡ other i)
@@ -33,12 +58,53 @@ sum_over-equal amount other first (suc count) h =
     cc
 
 pub rows_cost : RowsCostWhatTheFileCosts
-unfolding tables_cost
-rows_cost file row name parts h =
-    sum_over-equal (λ i. table_cost (row i) 0 (length file) name parts) (λ i. table_cost file (section_at file i) (length file) name parts)
+rows_cost file row cap parts h =
+    sum_over-equal (λ i. kinds_cost section_kinds (row i) 0 (length file) cap parts) (λ i. kinds_cost section_kinds file (section_at file i) (length file) cap parts)
     0 (e_shnum file)
-    (λ i a b. ap (λ bytes. table_cost bytes 0 (length file) name parts) (h i (omega arith))
-    ∙ table_cost_of_slice file (section_at file i) (length file) name parts)
+    (λ i a b. ap (λ bytes. kinds_cost section_kinds bytes 0 (length file) cap parts) (h i (omega arith))
+    ∙ kinds_cost_of_slice file (section_at file i) (length file) cap parts)
+
+-- a program header's cost at its own bytes
+whole-pass : (b c : Bool) (p q : ℕ) → pass (refuse b p SizeNotWhole ∷ refuse c p TableOutside ∷ []) ≡ pass (refuse b q SizeNotWhole ∷ refuse c q TableOutside ∷ [])
+whole-pass true c p q = refl
+whole-pass false true p q = refl
+whole-pass false false p q = refl
+
+same_whole : (bytes : List ℕ) (at size : ℕ)
+    → pass (whole_checks_of size (p_offset (slice bytes at 56) 0) (p_filesz (slice bytes at 56) 0) 0 16) ≡ pass (whole_checks_of size (p_offset bytes at) (p_filesz bytes at) at 16)
+same_whole bytes at size =
+    rw (field-slice bytes at 56 8 8 (omega arith), field-slice bytes at 56 32 8 (omega arith))
+    (whole-pass (not (p_filesz bytes at % 16 == 0)) (is_outside size (p_offset bytes at) (p_filesz bytes at)) 0 at)
+
+same_segment_range : (bytes : List ℕ) (at size : ℕ)
+    → pass (range_checks_of size (p_offset (slice bytes at 56) 0) (p_filesz (slice bytes at 56) 0) 0) ≡ pass (range_checks_of size (p_offset bytes at) (p_filesz bytes at) at)
+same_segment_range bytes at size =
+    rw (field-slice bytes at 56 8 8 (omega arith), field-slice bytes at 56 32 8 (omega arith))
+    (range-pass (is_outside size (p_offset bytes at) (p_filesz bytes at)) 0 at)
+
+segment_cost_of_slice : (file : List ℕ) (at size cap parts : ℕ)
+    → kinds_cost segment_kinds (slice file at 56) 0 size cap parts ≡ kinds_cost segment_kinds file at size cap parts
+unfolding kinds_cost table_cost segment_notes segment_dynamic
+segment_cost_of_slice file at size cap parts =
+    rw (same_whole file at size, same_segment_range file at size, field-slice file at 56 0 4 (omega arith), field-slice file at 56 32 8 (omega arith), add-zero at) refl
+
+pub segments_cost_rows : SegmentsCostWhatTheFileCosts
+segments_cost_rows file row cap parts h =
+    sum_over-equal (λ i. kinds_cost segment_kinds (row i) 0 (length file) cap parts) (λ i. kinds_cost segment_kinds file (segment_at file i) (length file) cap parts)
+    0 (e_phnum file)
+    (λ i a b. ap (λ bytes. kinds_cost segment_kinds bytes 0 (length file) cap parts) (h i (omega arith))
+    ∙ segment_cost_of_slice file (segment_at file i) (length file) cap parts)
+
+-- what the sections' tables cost is among the costs of all
+pub sections_counted : (file : List ℕ) (cap parts : ℕ)
+    → sum_over (λ i. kinds_cost section_kinds file (section_at file i) (length file) cap parts) 0 (e_shnum file) ≤ tables_cost file cap parts
+unfolding tables_cost sum_over
+sections_counted file cap parts = by_cases (e_shnum file == 0) refl
+  where
+    by_cases : (none : Bool) → (e_shnum file == 0) ≡ none
+        → sum_over (λ i. kinds_cost section_kinds file (section_at file i) (length file) cap parts) 0 (e_shnum file) ≤ tables_cost file cap parts
+    by_cases true h = let zero : e_shnum file ≡ 0 = eqb-true (e_shnum file) 0 h in rw zero (omega arith)
+    by_cases false h = let same = ap (tables_by file cap parts) (headers_some file h) in omega arith
 
 -- a sum of sums, and a sum under one condition
 sum_over-add : (amount other : ℕ → ℕ) (first count : ℕ)
@@ -57,28 +123,22 @@ pub sum_over-where : (condition : Bool) (amount : ℕ → ℕ) (first count : �
 sum_over-where true amount first count = refl
 sum_over-where false amount first count = sum_over-zero first count
 
-pub part_by_part : TablesCostPartByPart
-unfolding table_cost
-part_by_part row at size name parts count =
-    let symbols : ℕ → ℕ = λ i. cost_where (has parts 8) (symbols_cost (row i) (at i) size name) in
-    let relocations : ℕ → ℕ = λ i. cost_where (has parts 16) (relocations_cost (row i) (at i) size name) in
-    let notes : ℕ → ℕ = λ i. cost_where (has parts 32) (section_notes_cost (row i) (at i) size) in
-    let dynamic : ℕ → ℕ = λ i. cost_where (has parts 64) (dynamic_cost (row i) (at i) size name) in
-    let a = sum_over-add (λ i. symbols i + relocations i + notes i) dynamic 0 count in
-    let b = sum_over-add (λ i. symbols i + relocations i) notes 0 count in
-    let c = sum_over-add symbols relocations 0 count in
-    let d = sum_over-where (has parts 8) (λ i. symbols_cost (row i) (at i) size name) 0 count in
-    let e = sum_over-where (has parts 16) (λ i. relocations_cost (row i) (at i) size name) 0 count in
-    let f = sum_over-where (has parts 32) (λ i. section_notes_cost (row i) (at i) size) 0 count in
-    let g = sum_over-where (has parts 64) (λ i. dynamic_cost (row i) (at i) size name) 0 count in
-    a ∙ ap (λ n. n + sum_over dynamic 0 count) (b ∙ ap (λ n. n + sum_over notes 0 count) c) ∙ rw (d, e, f, g)
+pub by_kind : TablesCostKindByKind
+unfolding kinds_cost kind_by_kind
+by_kind [] row at size cap parts count = sum_over-zero 0 count
+by_kind (kind ∷ kinds) row at size cap parts count =
+    let one : ℕ → ℕ = λ i. table_cost kind (row i) (at i) size cap in
+    let split = sum_over-add (λ i. cost_where (has parts kind.part) (one i)) (λ i. kinds_cost kinds (row i) (at i) size cap parts) 0 count in
+    let first = sum_over-where (has parts kind.part) one 0 count in
+    let more = by_kind kinds row at size cap parts count in
+    omega arith
 
 pub any_rows : AnyRowsAreWithinCeiling
 unfolding ceiling
-any_rows row size headers name parts sections segments s p =
-    let n : ℕ = name_bytes name in
-    let bound : ℕ = table_bound size name in
-    let tables = sum_over-le (λ i. table_cost (row i) 0 size name parts) bound 0 sections (λ i. table_cost-le (row i) 0 size name parts) in
+any_rows row size headers cap parts sections segments s p =
+    let n : ℕ = name_bytes cap in
+    let bound : ℕ = table_bound size cap in
+    let tables = sum_over-le (λ i. kinds_cost section_kinds (row i) 0 size cap parts) bound 0 sections (λ i. section_kinds-le (row i) 0 size cap parts) in
     let m : sections * (64 + n + bound) ≤ headers * (64 + n + bound) = mul-le-mul_right (64 + n + bound) s in
     let e : sections * (64 + n + bound) ≡ sections * 64 + sections * n + sections * bound =
     mul-add sections (64 + n) bound ∙ ap (λ k. k + sections * bound) (mul-add sections 64 n) in
@@ -88,25 +148,9 @@ any_rows row size headers name parts sections segments s p =
 
 pub any_segments : AnySegmentsAreWithinCeiling
 unfolding ceiling
-any_segments size headers name segments p =
-    let rest : ℕ = 8 + name_bytes name + size / 16 * (32 + name_bytes name) in
-    let m : segments * (112 + size) ≤ headers * (112 + size) = mul-le-mul_right (112 + size) p in
-    let e : segments * (112 + size) ≡ segments * 112 + segments * size = mul-add segments 112 size in
-    let h : headers * (120 + name_bytes name + size + size / 16 * (32 + name_bytes name)) ≡ headers * (112 + size) + headers * rest =
-    ap (λ k. headers * k) (omega arith) ∙ mul-add headers (112 + size) rest in
+any_segments row size headers cap parts segments p =
+    let bound : ℕ = table_bound size cap in
+    let tables = sum_over-le (λ i. kinds_cost segment_kinds (row i) 0 size cap parts) bound 0 segments (λ i. segment_kinds-le (row i) 0 size cap parts) in
+    let all = headers_within 56 (name_bytes cap) bound segments headers _ p (omega arith) tables in
+    let h : headers * (120 + name_bytes cap + size + size / 16 * (32 + name_bytes cap)) ≡ headers * (120 + name_bytes cap + bound) = ap (λ k. headers * k) (omega arith) in
     omega arith
-
-abbrev refusal_of : Cause → ℕ → Refusal
-refusal_of cause at = record { at = at; cause = cause }
-
--- the three checks of a table, read one at a time
-pub tables_count : TablesCountWhereChecksPass
-unfolding is_table
-tables_count bytes at size place entry = by_cases (sh_entsize bytes at == entry) (sh_size bytes at % entry == 0) (is_outside size (sh_offset bytes at) (sh_size bytes at))
-  where
-    by_cases : (a b c : Bool)
-        → a && b && not c ≡ is_none (elim (not a) [ true ↦ Some (refusal_of EntrySize place) | false ↦ elim (not b) [ true ↦ Some (refusal_of SizeNotWhole place) | false ↦ elim c [ true ↦ Some (refusal_of TableOutside place) | false ↦ None ] ] ])
-    by_cases true true true = refl
-    by_cases true true false = refl
-    by_cases true false c = refl
-    by_cases false b c = refl

@@ -1,7 +1,7 @@
 -- Walks: a walk that comes to a word again never ends, and so does one that is longer than its words are many.
-use Rattle.std.proofs.Common.{◌≡◌, ℕ, zero, suc, ◌+◌, ◌-◌, ◌<◌, ◌≤◌, inl, inr, Bool, true, false, None, Some, refl, sym, ap, ◌∙◌, arith, add-suc, add-zero}
-use Rattle.std.proofs.lemmas.Bool.{cases_eq, cases_lt, cases_Bool, both_ways}
-use Rattle.elf_model.specs.Hash.{walk_word, first_in_walk, IsFirst}
+use Rattle.std.proofs.Common.{◌≡◌, ℕ, zero, suc, ◌+◌, ◌-◌, ◌<◌, ◌≤◌, ◌⊎◌, inl, inr, Option, None, Some, refl, sym, ap, ◌∙◌, arith, add-suc, add-zero}
+use Rattle.std.proofs.lemmas.Bool.{cases_eq, cases_lt}
+use Rattle.elf_model.specs.Hash.{walk_word, LookupEnd, end_among, IsFirst}
 use Rattle.elf_model.specs.HashLaws.{Repeats, GoesOn, RepeatNeverEnds, LongWalkRepeats, LongWalkNeverEnds}
 use Rattle.elf_model.proofs.Pigeons.{two_are_the_same}
 
@@ -13,11 +13,11 @@ unfolding walk_word
 same_from next start i j zero e = rw (add-zero, add-zero) e
 same_from next start i j (suc d) e = rw (add-suc, add-suc) (ap next (same_from next start i j d e))
 
-module _ (test : ℕ → Bool) (next : ℕ → ℕ) (start n : ℕ) where
+module _ (ends : ℕ → Option LookupEnd) (next : ℕ → ℕ) (start n : ℕ) where
   -- all words below a number go on, the later ones as the ones at the earlier turn
   goes_on_below :
-      Repeats (walk_word next start) n → GoesOn test (walk_word next start) n
-      → (limit k : ℕ) → k < limit → test (walk_word next start k) ≡ false
+      Repeats (walk_word next start) n → GoesOn ends (walk_word next start) n
+      → (limit k : ℕ) → k < limit → ends (walk_word next start k) ≡ None
   goes_on_below r goes zero k low = absurd (omega arith)
   goes_on_below r goes (suc limit) k low =
       let b = r.before in
@@ -29,13 +29,13 @@ module _ (test : ℕ → Bool) (next : ℕ → ℕ) (start n : ℕ) where
             = same_from next start r.earlier r.later (k - r.later) r.again in
             let whole : r.later + (k - r.later) ≡ k = omega arith in
             let same : walk_word next start (r.earlier + (k - r.later)) ≡ walk_word next start k = rw whole at past in
-            let before : test (walk_word next start (r.earlier + (k - r.later))) ≡ false
+            let before : ends (walk_word next start (r.earlier + (k - r.later))) ≡ None
             = goes_on_below r goes limit (r.earlier + (k - r.later)) (omega arith) in
             rw (← same) before
       ]
 
 pub repeat_never_ends : RepeatNeverEnds
-repeat_never_ends test next start n r goes i = goes_on_below test next start n r goes (suc i) i (omega arith)
+repeat_never_ends ends next start n r goes i = goes_on_below ends next start n r goes (suc i) i (omega arith)
 
 -- a word that goes on, less one
 less_one : (ℕ → ℕ) → ℕ → ℕ
@@ -43,10 +43,10 @@ less_one words i = words i - 1
 
 pub long_walk_repeats : LongWalkRepeats
 unfolding less_one
-long_walk_repeats test words zero bounded some goes = absurd (omega arith)
-long_walk_repeats test words (suc n) bounded some goes =
+long_walk_repeats ends words zero bounded some goes = absurd (omega arith)
+long_walk_repeats ends words (suc n) bounded some goes =
     let r = two_are_the_same n (less_one words) (λ i within.
-    let go : test (words i) ≡ false = goes i (omega arith) in
+    let go : ends (words i) ≡ None = goes i (omega arith) in
     let a : 0 < words i = bounded.above (words i) go in
     let b : words i < suc n = bounded.below (words i) go in
     omega arith) in
@@ -58,52 +58,64 @@ long_walk_repeats test words (suc n) bounded some goes =
     record { earlier = r.earlier; later = r.later; before = b; within = omega arith; again = omega arith }
 
 pub long_walk_never_ends : LongWalkNeverEnds
-long_walk_never_ends test next start n bounded some goes =
-    repeat_never_ends test next start n (long_walk_repeats test (walk_word next start) n bounded some goes) goes
+long_walk_never_ends ends next start n bounded some goes =
+    repeat_never_ends ends next start n (long_walk_repeats ends (walk_word next start) n bounded some goes) goes
 
--- a word that passes the test is found
+-- a walk ends at a word, or goes on
+pub ends_or_goes : (end : Option LookupEnd) → ((e : LookupEnd) × (end ≡ Some e)) ⊎ (end ≡ None)
+ends_or_goes None = inr refl
+ends_or_goes (Some e) = inl (e, refl)
+
+-- it does not do both
+pub not_both : (end : Option LookupEnd) (e : LookupEnd) → end ≡ Some e → end ≡ None → ⊥
+not_both end e some none = cc
+
+-- a word at which the walk ends is found
 pub found_here :
-    (test : ℕ → Bool) (next : ℕ → ℕ) (word i n : ℕ) → test word ≡ true
-    → first_in_walk test next word i (suc n) ≡ Some i
-unfolding first_in_walk
-found_here test next word i n t = rw (t, first_in_walk) refl
+    (ends : ℕ → Option LookupEnd) (next : ℕ → ℕ) (word i n : ℕ) (end : LookupEnd) → ends word ≡ Some end
+    → end_among ends next word i (suc n) ≡ Some (i, end)
+unfolding end_among
+found_here ends next word i n end t = rw (t, end_among) refl
 
--- a word that does not is passed over
+-- a word at which it does not is passed over
 pub passed_over :
-    (test : ℕ → Bool) (next : ℕ → ℕ) (word i n : ℕ) → test word ≡ false
-    → first_in_walk test next word i (suc n) ≡ first_in_walk test next (next word) (suc i) n
-unfolding first_in_walk
-passed_over test next word i n t = rw (t, first_in_walk) refl
+    (ends : ℕ → Option LookupEnd) (next : ℕ → ℕ) (word i n : ℕ) → ends word ≡ None
+    → end_among ends next word i (suc n) ≡ end_among ends next (next word) (suc i) n
+unfolding end_among
+passed_over ends next word i n t = rw (t, end_among) refl
 
-module _ (test : ℕ → Bool) (next : ℕ → ℕ) (start : ℕ) where
-  -- none found: all words looked at go on
+module _ (ends : ℕ → Option LookupEnd) (next : ℕ → ℕ) (start : ℕ) where
+  -- none found: the walk goes on at all words looked at
   pub none_found :
-      (n i : ℕ) → first_in_walk test next (walk_word next start i) i n ≡ None
-      → (k : ℕ) → i ≤ k → k < i + n → test (walk_word next start k) ≡ false
-  unfolding first_in_walk walk_word
+      (n i : ℕ) → end_among ends next (walk_word next start i) i n ≡ None
+      → (k : ℕ) → i ≤ k → k < i + n → ends (walk_word next start k) ≡ None
+  unfolding end_among walk_word
   none_found zero i e k low high = absurd (omega arith)
   none_found (suc n) i e k low high =
-      elim (cases_Bool (test (walk_word next start i))) [
-        | inl ends ↦ let f = found_here test next (walk_word next start i) i n ends in absurd (cc)
+      elim (ends_or_goes (ends (walk_word next start i))) [
+        | inl end ↦ let f = found_here ends next (walk_word next start i) i n end.0 end.1 in absurd (cc)
         | inr goes ↦ elim (cases_eq i k) [
           | inl same ↦ rw (← same) goes
-          | inr other ↦ none_found n (suc i) (sym (passed_over test next (walk_word next start i) i n goes) ∙ e) k (omega arith) (omega arith)
+          | inr other ↦ none_found n (suc i) (sym (passed_over ends next (walk_word next start i) i n goes) ∙ e) k (omega arith) (omega arith)
         ]
       ]
 
   -- one found: it is the first
   pub one_found :
-      (n i k : ℕ) → first_in_walk test next (walk_word next start i) i n ≡ Some k
-      → ((j : ℕ) → j < i → test (walk_word next start j) ≡ false)
-      → IsFirst test (walk_word next start) k
-  unfolding first_in_walk walk_word
-  one_found zero i k e before = absurd (cc)
-  one_found (suc n) i k e before =
-      elim (cases_Bool (test (walk_word next start i))) [
-        | inl ends ↦ let f = found_here test next (walk_word next start i) i n ends in
-            let same : i ≡ k = cc in
-            record { here = rw (← same) ends; none_before = rw (← same) before }
-        | inr goes ↦ one_found n (suc i) k (sym (passed_over test next (walk_word next start i) i n goes) ∙ e) (λ j low. elim (cases_eq j i) [
+      (n i k : ℕ) (end : LookupEnd) → end_among ends next (walk_word next start i) i n ≡ Some (k, end)
+      → ((j : ℕ) → j < i → ends (walk_word next start j) ≡ None)
+      → IsFirst ends (walk_word next start) k end
+  unfolding end_among walk_word
+  one_found zero i k end e before = absurd (cc)
+  one_found (suc n) i k end e before =
+      elim (ends_or_goes (ends (walk_word next start i))) [
+        | inl found ↦
+            let f = found_here ends next (walk_word next start i) i n found.0 found.1 in
+            let both : (i, found.0) ≡ (k, end) = cc in
+            let same : i ≡ k = ap (λ (p : ℕ × LookupEnd). p.0) both in
+            let why : found.0 ≡ end = ap (λ (p : ℕ × LookupEnd). p.1) both in
+            record { here = rw (← same) (found.1 ∙ ap Some why); none_before = rw (← same) before }
+        | inr goes ↦ one_found n (suc i) k end (sym (passed_over ends next (walk_word next start i) i n goes) ∙ e) (λ j low. elim (cases_eq j i) [
           | inl same ↦ rw same goes
           | inr other ↦ before j (omega arith)
         ])
@@ -111,12 +123,17 @@ module _ (test : ℕ → Bool) (next : ℕ → ℕ) (start : ℕ) where
 
   -- there is one first word only
   pub first_is_one :
-      (i j : ℕ) → IsFirst test (walk_word next start) i → IsFirst test (walk_word next start) j → i ≡ j
-  first_is_one i j a b =
+      (i j : ℕ) (a b : LookupEnd) → IsFirst ends (walk_word next start) i a → IsFirst ends (walk_word next start) j b → i ≡ j
+  first_is_one i j a b f g =
       elim (cases_lt i j) [
-        | inl low ↦ absurd (both_ways (test (walk_word next start i)) (b.none_before i low) a.here)
+        | inl low ↦ absurd (not_both (ends (walk_word next start i)) a f.here (g.none_before i low))
         | inr high ↦ elim (cases_lt j i) [
-          | inl low ↦ absurd (both_ways (test (walk_word next start j)) (a.none_before j low) b.here)
+          | inl low ↦ absurd (not_both (ends (walk_word next start j)) b g.here (f.none_before j low))
           | inr same ↦ omega arith
         ]
       ]
+
+  -- which ends in one way
+  pub end_is_one :
+      (i : ℕ) (a b : LookupEnd) → IsFirst ends (walk_word next start) i a → IsFirst ends (walk_word next start) i b → a ≡ b
+  end_is_one i a b f g = let here = f.here in let there = g.here in cc

@@ -1,14 +1,14 @@
 -- The walk over a note table, one note at a time.
 use Rattle.std.proofs.Common.{min, ◌≡◌, ℕ, suc, zero, ◌+◌, ◌<◌, ◌≤◌, List, [], ◌∷◌, ◌++◌, length, drop, Some, None, refl, ap, sym, ◌∙◌, arith, length-append, length-drop, add-zero}
 use Rattle.std.proofs.lemmas.List.{drop_at, append_assoc}
-use Rattle.elf_model.specs.Notes.{Note, Padded, AllPadded, Next, Ends, Broken, Found, Walk, to_next, padded_size, first_end, next_note, walk_from, with_note}
+use Rattle.elf_model.specs.Notes.{Note, Padded, AllPadded, Next, Ends, Broken, OneNote, Walk, to_next, padded_size, first_end, next_note, walk_from, with_note}
 use Rattle.elf_model.proofs.Spellings.{NextView, ends, tails, past, found, next_view, next-spelt, spelt-size}
 
 -- one turn of the walk
 abbrev turn : ℕ → List ℕ → (ℕ → List ℕ → Walk) → Next → Walk
 turn place rest more Ends = record { notes = []; cut = None }
 turn place rest more Broken = record { notes = []; cut = Some place }
-turn place rest more (Found note size) = with_note note (more (place + size) (drop size rest))
+turn place rest more (OneNote note size) = with_note note (more (place + size) (drop size rest))
 
 walk_from-suc : (a most place : ℕ) (rest : List ℕ) → walk_from a (suc most) place rest ≡ turn place rest (walk_from a most) (next_note a rest)
 unfolding walk_from
@@ -17,10 +17,10 @@ walk_from-suc a most place rest = go (next_note a rest) refl
     go : (next : Next) → next_note a rest ≡ next → walk_from a (suc most) place rest ≡ turn place rest (walk_from a most) next
     go Ends e = rw (e, walk_from) refl
     go Broken e = rw (e, walk_from) refl
-    go (Found note size) e = rw (e, walk_from) refl
+    go (OneNote note size) e = rw (e, walk_from) refl
 
 -- a note that stands next has at least its head, and is in the bytes
-pub found-size : (a : ℕ) (rest : List ℕ) (note : Note) (size : ℕ) → next_note a rest ≡ Found note size → (12 ≤ size) × (size ≤ length rest)
+pub found-size : (a : ℕ) (rest : List ℕ) (note : Note) (size : ℕ) → next_note a rest ≡ OneNote note size → (12 ≤ size) × (size ≤ length rest)
 found-size a rest note size e = go (next_view a rest)
   where
     go : NextView a rest → (12 ≤ size) × (size ≤ length rest)
@@ -44,7 +44,7 @@ walk-enough a (suc f) (suc g) place rest p q = step (λ n xs. walk-enough a f g 
         go : (next : Next) → next_note a rest ≡ next → turn place rest (walk_from a f) next ≡ turn place rest (walk_from a g) next
         go Ends e = refl
         go Broken e = refl
-        go (Found note size) e =
+        go (OneNote note size) e =
             let s = found-size a rest note size e in
             ap (with_note note) (more (place + size) (drop size rest) (omega (arith, length-drop size rest)) (omega (arith, length-drop size rest)))
 
@@ -58,7 +58,7 @@ walk-ends a place rest e = walk_from-suc a (length rest) place rest ∙ ap (turn
 pub walk-broken : (a place : ℕ) (rest : List ℕ) → next_note a rest ≡ Broken → walk a place rest ≡ record { notes = []; cut = Some place }
 walk-broken a place rest e = walk_from-suc a (length rest) place rest ∙ ap (turn place rest (walk_from a (length rest))) e
 
-pub walk-found : (a place : ℕ) (rest : List ℕ) (note : Note) (size : ℕ) → next_note a rest ≡ Found note size
+pub walk-found : (a place : ℕ) (rest : List ℕ) (note : Note) (size : ℕ) → next_note a rest ≡ OneNote note size
     → walk a place rest ≡ with_note note (walk a (place + size) (drop size rest))
 walk-found a place rest note size e =
     let s = found-size a rest note size e in
@@ -73,10 +73,10 @@ walk-padded a place note first rest p =
     let e : first ++ rest ≡ p.spelling ++ (p.padding ++ rest) = rw (p.parts) (append_assoc p.spelling p.padding rest) in
     let size : length first ≡ padded_size a note =
     ap length p.parts ∙ omega (arith, length-append p.spelling p.padding, p.padding_size, spelt-size a note p.spelling p.spelt, ap (to_next a) (spelt-size a note p.spelling p.spelt)) in
-    let next : next_note a (first ++ rest) ≡ Found note (min (padded_size a note) (length (first ++ rest))) =
+    let next : next_note a (first ++ rest) ≡ OneNote note (min (padded_size a note) (length (first ++ rest))) =
     rw e (next-spelt a note p.spelling (p.padding ++ rest) p.spelt) in
     let m : min (padded_size a note) (length (first ++ rest)) ≡ length first = omega (arith, length-append first rest) in
-    walk-found a place (first ++ rest) note (length first) (next ∙ ap (Found note) m)
+    walk-found a place (first ++ rest) note (length first) (next ∙ ap (OneNote note) m)
     ∙ ap (λ x. with_note note (walk a (place + length first) x)) (drop_at first rest (length first) refl)
 
 -- notes in front of those of a walk

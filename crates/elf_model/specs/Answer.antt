@@ -18,17 +18,17 @@ status_of (Some refusal) = 1
 
 -- `show`: the listing of a file
 abbrev pub show_answer : List ℕ → ℕ → ℕ → ℕ → Answer
-show_answer file headers name parts =
-    record { text = report file headers name parts; status = status_of (report_fault file headers name parts) }
+show_answer file headers cap parts =
+    record { text = report file headers cap parts; status = status_of (report_fault file headers cap parts) }
 
 -- `show` within a budget: the same answer; or, where it costs more than the budget, one that is cut short, with status 1
 abbrev pub IsShown : Option ℕ → List ℕ → ℕ → ℕ → ℕ → Answer → Type 0
-IsShown None file headers name parts answer = answer ≡ show_answer file headers name parts
-IsShown (Some budget) file headers name parts answer =
-    (answer ≡ show_answer file headers name parts)
-    ⊎ ((budget < cost file headers name parts) × (answer.status ≡ 1)
-    × ((fault : Option Refusal) × IsCut (length file) (items file headers name parts) answer.text fault))
+IsShown None file headers cap parts answer = answer ≡ show_answer file headers cap parts
+IsShown (Some budget) file headers cap parts answer =
+    (answer ≡ show_answer file headers cap parts)
+    ⊎ ((budget < cost file headers cap parts) × (answer.status ≡ 1)
+    × ((fault : Option Refusal) × IsCut (length file) (items file headers cap parts) answer.text fault))
 
 -- `sample`: the listing of the file that the program carries
 abbrev pub sample_answer : ℕ → ℕ → ℕ → Answer
-sample_answer headers name parts = show_answer one_symbol_table headers name parts
+sample_answer headers cap parts = show_answer one_symbol_table headers cap parts

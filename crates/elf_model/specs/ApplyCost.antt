@@ -1,19 +1,14 @@
 -- How many bytes may be asked for to apply the relocations of a section.
-use Rattle.std.specs.Prelude.{ℕ, zero, suc, ◌+◌, ◌*◌, ◌/◌, ◌==◌, ◌&&◌, nat_le, Bool, true, false, List, [], ◌∷◌, ◌++◌, length, sum_by, None, Some}
-use Rattle.elf_model.specs.Apply.{applies_to, before_entries, held_bytes}
+use Rattle.std.specs.Prelude.{ℕ, ◌+◌, ◌*◌, ◌/◌, ◌==◌, ◌&&◌, nat_le, Bool, true, false, List, [], ◌∷◌, ◌++◌, length, sum_by, flat_map, None, Some}
+use Rattle.elf_model.specs.Apply.{applies_to, before_entries, held_size, relocation_entries, section_headers}
 use Rattle.elf_model.specs.Checks.{first_refusal, header_checks, early_checks, table_checks}
 use Rattle.elf_model.specs.Names.{pad64}
 use Rattle.elf_model.specs.Placing.{Layout}
-use Rattle.elf_model.specs.Records.{e_shnum, r_offset, r_type, section_at}
-use Rattle.elf_model.specs.Tables.{RELA_SIZE, entry_count, entry_at}
-use Rattle.elf_model.specs.Values.{R_NONE}
+use Rattle.elf_model.specs.Records.{e_shnum, r_offset, r_type}
+use Rattle.elf_model.specs.Tables.{SYMBOL_SIZE, RELA_SIZE}
+use Rattle.elf_model.specs.Values.{R_X86_64_NONE}
 
--- the places of so many relocation entries of a section, from an index on
-unfoldable pub places_from : List ℕ → ℕ → ℕ → ℕ → List ℕ
-places_from file at i zero = []
-places_from file at i (suc n) = entry_at file at RELA_SIZE i ∷ places_from file at (suc i) n
-
--- the places of a section's relocation entries: none unless it holds entries for the other section and passes its
+-- where the entries for a section stand in another: it has none unless it holds entries for the section and passes its
 -- own checks
 unfoldable pub entries_in : List ℕ → ℕ → ℕ → List ℕ
 entries_in file section at =
@@ -21,24 +16,22 @@ entries_in file section at =
       | false ↦ []
       | true ↦ elim (first_refusal (table_checks file at RELA_SIZE)) [
         | Some refusal ↦ []
-        | None ↦ places_from file at 0 (entry_count file at RELA_SIZE)
+        | None ↦ relocation_entries file at
       ]
     ]
 
--- the places of the relocation entries for a section, in so many sections from an index on
-unfoldable pub entries_from : List ℕ → ℕ → ℕ → ℕ → List ℕ
-entries_from file section i zero = []
-entries_from file section i (suc n) = entries_in file section (section_at file i) ++ entries_from file section (suc i) n
-
--- the places of all relocation entries for a section
+-- where all entries for a section stand
 unfoldable pub entries_for : List ℕ → ℕ → List ℕ
-entries_for file section = entries_from file section 0 (e_shnum file)
+entries_for file section = flat_map (entries_in file section) (section_headers file)
 
 -- the offsets that entries other than R_X86_64_NONE change
 unfoldable pub offsets_at : List ℕ → List ℕ → List ℕ
 offsets_at file [] = []
-offsets_at file (entry ∷ entries) =
-    elim (r_type file entry == R_NONE) [ true ↦ offsets_at file entries | false ↦ r_offset file entry ∷ offsets_at file entries ]
+offsets_at file (rela ∷ relas) =
+    elim (r_type file rela == R_X86_64_NONE) [
+      | true ↦ offsets_at file relas
+      | false ↦ r_offset file rela ∷ offsets_at file relas
+    ]
 
 -- numbers each of which is at least the one before it, the first at least a given one
 unfoldable pub never_fall_from : ℕ → List ℕ → Bool
@@ -50,22 +43,20 @@ unfoldable pub offsets_never_fall : List ℕ → ℕ → Bool
 offsets_never_fall file section = never_fall_from 0 (offsets_at file (entries_for file section))
 
 -- what the names of a layout may cost, each once
-unfoldable pub names_cost : Layout → ℕ
-names_cost layout =
-    sum_by (λ item. pad64 (length item.0 + 1)) layout.definitions + sum_by (λ item. pad64 (length item.0 + 1)) layout.entries
+unfoldable pub layout_names_cost : Layout → ℕ
+layout_names_cost layout = sum_by (λ item. pad64 (length item.0 + 1)) (layout.definitions ++ layout.linkage)
 
--- what one pass through the entries for a section may cost: an entry, a symbol and the layout's names for each
+-- what one pass through the entries for a section may cost: for each the entry, a symbol and the layout's names
 abbrev pub pass_cost : List ℕ → ℕ → Layout → ℕ
-pass_cost file section layout = length (entries_for file section) * (48 + names_cost layout)
+pass_cost file section layout = length (entries_for file section) * (RELA_SIZE + SYMBOL_SIZE + layout_names_cost layout)
 
 -- the cost of applying once the section headers are read: so many passes through the entries, and the section
 abbrev pub cost_of_passes : List ℕ → ℕ → Layout → ℕ → ℕ
-cost_of_passes file section layout passes =
-    passes * pass_cost file section layout + length (held_bytes file (section_at file section))
+cost_of_passes file section layout passes = passes * pass_cost file section layout + held_size file section
 
 -- passes through the entries in windows of 64 bytes: one to check, and one for each window of the section
 abbrev pub window_passes : List ℕ → ℕ → ℕ
-window_passes file section = 1 + (length (held_bytes file (section_at file section)) + 63) / 64
+window_passes file section = 1 + (held_size file section + 63) / 64
 
 -- the bytes that may be asked for with so many passes through the entries: the file header alone where the section
 -- headers are not read; no entries and no section where a check before the entries fails

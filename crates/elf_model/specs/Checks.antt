@@ -1,5 +1,5 @@
 -- Checks in their order: the first one that fails is the answer. Sums are whole numbers.
-use Rattle.std.specs.Prelude.{ℕ, ◌+◌, ◌*◌, ◌%◌, ◌^◌, ◌==◌, ◌&&◌, ◌||◌, nat_lt, not, Bool, true, false, List, [], ◌∷◌, ◌++◌, length, Option, None, Some}
+use Rattle.std.specs.Prelude.{ℕ, ◌+◌, ◌*◌, ◌%◌, ◌^◌, ◌==◌, ◌&&◌, ◌||◌, nat_lt, not, Bool, true, false, List, [], ◌∷◌, ◌++◌, length, if◌then◌else◌, is_none, Option, None, Some}
 use Rattle.elf_model.specs.Bytes.{field}
 use Rattle.elf_model.specs.Records.{e_phoff, e_shoff, e_phentsize, e_phnum, e_shentsize, e_shnum, e_shstrndx, sh_type, sh_offset, sh_size, sh_link, sh_entsize, section_at}
 use Rattle.elf_model.specs.Numbers.{PN_XNUM, SHN_XINDEX, SHT_STRTAB, SHT_SYMTAB, SHT_DYNSYM}
@@ -20,6 +20,14 @@ refuse fails at cause = record { fails = fails; refusal = record { at = at; caus
 abbrev pub first_refusal : List Check → Option Refusal
 first_refusal [] = None
 first_refusal (check ∷ checks) = elim check.fails [ true ↦ Some check.refusal | false ↦ first_refusal checks ]
+
+-- all checks pass
+abbrev pub pass : List Check → Bool
+pass checks = is_none (first_refusal checks)
+
+-- a table of size 0 is not checked, and neither is what it links to
+abbrev pub unless_empty : ℕ → List Check → List Check
+unless_empty size checks = if size == 0 then [] else checks
 
 -- before anything is read: the file's length
 abbrev pub length_checks : ℕ → List Check
@@ -49,20 +57,46 @@ is_outside file_size offset size = nat_lt file_size (offset + size)
 abbrev pub is_section_outside : List ℕ → ℕ → Bool
 is_section_outside file at = is_outside (length file) (sh_offset file at) (sh_size file at)
 
--- before the section headers are read, with so many headers permitted (gABI 4, ELF Header)
-abbrev pub early_checks : List ℕ → ℕ → List Check
-early_checks file headers =
-    refuse (e_phnum file == PN_XNUM) 0x38 ExtendedNumbering
-    ∷ refuse (e_shstrndx file == SHN_XINDEX) 0x3e ExtendedNumbering
-    ∷ refuse (e_shnum file == 0 && not (e_shoff file == 0)) 0x3c ExtendedNumbering
-    ∷ refuse (nat_lt headers (e_shnum file)) 0x3c TooManyHeaders
-    ∷ refuse (nat_lt headers (e_phnum file)) 0x38 TooManyHeaders
-    ∷ refuse (not (e_shnum file == 0) && not (e_shentsize file == 64)) 0x3a EntrySize
-    ∷ refuse (not (e_phnum file == 0) && not (e_phentsize file == 56)) 0x36 EntrySize
-    ∷ refuse (not (e_shnum file == 0) && is_outside (length file) (e_shoff file) (64 * e_shnum file)) 0x28 TableOutside
-    ∷ refuse (not (e_phnum file == 0) && is_outside (length file) (e_phoff file) (56 * e_phnum file)) 0x20 TableOutside
-    ∷ refuse (not (e_shnum file == 0) && not (nat_lt (e_shstrndx file) (e_shnum file))) 0x3e BadLink
+-- the places, sizes and numbers of the headers that a file header tells
+pub record Counts : Type 0 where
+  pub phoff : ℕ
+  pub shoff : ℕ
+  pub phentsize : ℕ
+  pub phnum : ℕ
+  pub shentsize : ℕ
+  pub shnum : ℕ
+  pub shstrndx : ℕ
+
+-- before the section headers are read, in a file of so many bytes and with so many headers permitted (gABI 4, ELF Header)
+abbrev pub early_checks_of : Counts → ℕ → ℕ → List Check
+early_checks_of e size headers =
+    refuse (e.phnum == PN_XNUM) 0x38 ExtendedNumbering
+    ∷ refuse (e.shstrndx == SHN_XINDEX) 0x3e ExtendedNumbering
+    ∷ refuse (e.shnum == 0 && not (e.shoff == 0)) 0x3c ExtendedNumbering
+    ∷ refuse (nat_lt headers e.shnum) 0x3c TooManyHeaders
+    ∷ refuse (nat_lt headers e.phnum) 0x38 TooManyHeaders
+    ∷ refuse (not (e.shnum == 0) && not (e.shentsize == 64)) 0x3a EntrySize
+    ∷ refuse (not (e.phnum == 0) && not (e.phentsize == 56)) 0x36 EntrySize
+    ∷ refuse (not (e.shnum == 0) && is_outside size e.shoff (64 * e.shnum)) 0x28 TableOutside
+    ∷ refuse (not (e.phnum == 0) && is_outside size e.phoff (56 * e.phnum)) 0x20 TableOutside
+    ∷ refuse (not (e.shnum == 0) && not (nat_lt e.shstrndx e.shnum)) 0x3e BadLink
     ∷ []
+
+-- what a file's header tells
+abbrev pub counts_in : List ℕ → Counts
+counts_in file = record {
+  phoff = e_phoff file;
+  shoff = e_shoff file;
+  phentsize = e_phentsize file;
+  phnum = e_phnum file;
+  shentsize = e_shentsize file;
+  shnum = e_shnum file;
+  shstrndx = e_shstrndx file;
+}
+
+-- the same of a file
+abbrev pub early_checks : List ℕ → ℕ → List Check
+early_checks file headers = early_checks_of (counts_in file) (length file) headers
 
 -- the file has a section of the section names
 abbrev pub has_section_names : List ℕ → Bool
@@ -80,22 +114,29 @@ section_name_checks file =
 abbrev pub load_checks : List ℕ → ℕ → List Check
 load_checks file headers = early_checks file headers ++ section_name_checks file
 
+-- so many bytes from an offset on are within a file of so many bytes; the refusal names a place
+abbrev pub range_checks_of : ℕ → ℕ → ℕ → ℕ → List Check
+range_checks_of file_size offset size place = refuse (is_outside file_size offset size) place TableOutside ∷ []
+
 -- a section's bytes are within the file
 abbrev pub range_checks : List ℕ → ℕ → List Check
-range_checks file at = refuse (is_section_outside file at) at TableOutside ∷ []
+range_checks file at = range_checks_of (length file) (sh_offset file at) (sh_size file at) at
+
+-- so many bytes from an offset on are whole entries of one size, and within the file
+abbrev pub whole_checks_of : ℕ → ℕ → ℕ → ℕ → ℕ → List Check
+whole_checks_of file_size offset size place entry_size =
+    refuse (not (size % entry_size == 0)) place SizeNotWhole ∷ range_checks_of file_size offset size place
 
 -- a section that is a table of entries of one size: its header stands at an offset of some bytes, in a
 -- file of so many bytes; the refusals name a place
 abbrev pub table_checks_of : List ℕ → ℕ → ℕ → ℕ → ℕ → List Check
-table_checks_of bytes at file_size place entry =
-    refuse (not (sh_entsize bytes at == entry)) place EntrySize
-    ∷ refuse (not (sh_size bytes at % entry == 0)) place SizeNotWhole
-    ∷ refuse (is_outside file_size (sh_offset bytes at) (sh_size bytes at)) place TableOutside
-    ∷ []
+table_checks_of bytes at file_size place entry_size =
+    refuse (not (sh_entsize bytes at == entry_size)) place EntrySize
+    ∷ whole_checks_of file_size (sh_offset bytes at) (sh_size bytes at) place entry_size
 
 -- the same of a section header of the file
 abbrev pub table_checks : List ℕ → ℕ → ℕ → List Check
-table_checks file at entry = table_checks_of file at (length file) at entry
+table_checks file at entry_size = table_checks_of file at (length file) at entry_size
 
 -- the string table that a section at an offset refers to by its link
 abbrev pub strings_checks : List ℕ → ℕ → List Check

@@ -1,7 +1,7 @@
 -- The lookup of a name in a file: the checks before it, its answer, and how many bytes it may ask for.
 use Rattle.std.specs.Prelude.{ℕ, zero, suc, ◌+◌, ◌*◌, ◌==◌, ◌||◌, nat_lt, not, Bool, true, false, List, [], ◌∷◌, ◌++◌, length, Option, None, Some}
 use Rattle.elf_model.specs.Checks.{Check, refuse, first_refusal, header_checks, early_checks, load_checks, range_checks}
-use Rattle.elf_model.specs.Hash.{nbucket, nchain, looked_up, compared_in, Lookup, Refused, refused}
+use Rattle.elf_model.specs.Hash.{nbucket, nchain, Lookup, refused_after, looked_up}
 use Rattle.elf_model.specs.Numbers.{SHT_HASH}
 use Rattle.elf_model.specs.Records.{e_shnum, sh_type, sh_size, sh_link, section_at}
 use Rattle.elf_model.specs.Names.{pad64}
@@ -29,39 +29,23 @@ unfoldable pub shape_checks : List ℕ → ℕ → List Check
 shape_checks file at =
     refuse (nbucket file at == 0 || nat_lt (sh_size file at) (8 + 4 * nbucket file at + 4 * nchain file at)) at HashShape ∷ []
 
--- the answer in a HASH section once its checks pass, else the first refusal
+-- what a lookup gives in a HASH section once its checks pass, else the first refusal
 unfoldable pub looked_in : List ℕ → ℕ → List ℕ → Lookup
 looked_in file at wanted =
     elim (first_refusal (hash_checks file at ++ shape_checks file at)) [
-      | Some refusal ↦ Refused refusal
+      | Some refusal ↦ refused_after 0 refusal
       | None ↦ looked_up file at wanted
     ]
 
--- the answer of a lookup in a file, with so many headers permitted
+-- what a lookup gives in a file, with so many headers permitted
 unfoldable pub looked : List ℕ → ℕ → List ℕ → Lookup
 looked file headers wanted =
     elim (first_refusal (header_checks file ++ load_checks file headers)) [
-      | Some refusal ↦ Refused refusal
+      | Some refusal ↦ refused_after 0 refusal
       | None ↦ elim (first_hash file) [
-        | None ↦ refused 0x28 NoHash
+        | None ↦ refused_after 0 (record { at = 0x28; cause = NoHash })
         | Some section ↦ looked_in file (section_at file section) wanted
       ]
-    ]
-
--- how many symbols' names are compared in a HASH section
-unfoldable pub compared_after : List ℕ → ℕ → List ℕ → ℕ
-compared_after file at wanted =
-    elim (first_refusal (hash_checks file at ++ shape_checks file at)) [
-      | Some refusal ↦ 0
-      | None ↦ compared_in file at wanted
-    ]
-
--- how many symbols' names a lookup in a file compares
-unfoldable pub compared : List ℕ → ℕ → List ℕ → ℕ
-compared file headers wanted =
-    elim (first_refusal (header_checks file ++ load_checks file headers)) [
-      | Some refusal ↦ 0
-      | None ↦ elim (first_hash file) [ None ↦ 0 | Some section ↦ compared_after file (section_at file section) wanted ]
     ]
 
 -- how many bytes a lookup may ask for: the file header alone where the section headers are not read, else that,
@@ -70,5 +54,5 @@ unfoldable pub find_cost : List ℕ → ℕ → List ℕ → ℕ
 find_cost file headers wanted =
     elim (first_refusal (header_checks file ++ early_checks file headers)) [
       | Some refusal ↦ 64
-      | None ↦ 76 + 64 * e_shnum file + compared file headers wanted * (28 + pad64 (length wanted + 1))
+      | None ↦ 76 + 64 * e_shnum file + (looked file headers wanted).compared * (28 + pad64 (length wanted + 1))
     ]

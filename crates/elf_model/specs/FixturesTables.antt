@@ -69,6 +69,10 @@ tagged tag value = little 8 tag ++ little 8 value
 unfoldable pub needed_library : List ℕ
 needed_library = one_table 6 8 16 (tagged 1 1 ++ tagged 0 0 ++ tagged 1 99) (0 ∷ codes "libc.so.6" ++ zeros 1)
 
+-- five dynamic entries: two with the same tag, and one behind the end
+unfoldable pub repeated_tags : List ℕ
+repeated_tags = tagged 1 1 ++ tagged 5 2 ++ tagged 5 3 ++ tagged 0 4 ++ tagged 10 5
+
 -- one symbol table, whose string table is also that of the section names: section 1 is named `main`
 unfoldable pub named_section : List ℕ
 named_section = with_bytes 0xb8 (little 4 1) (with_bytes 62 (little 2 2) one_symbol_table)

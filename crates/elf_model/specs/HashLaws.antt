@@ -1,6 +1,6 @@
--- Laws of lookups: what the calculation gives is the one answer, and a walk either ends or comes to a word again.
-use Rattle.std.specs.Prelude.{ℕ, ◌<◌, ◌≤◌, ◌≡◌, ◌↔◌, ◌⊎◌, Bool, false, List}
-use Rattle.elf_model.specs.Hash.{nchain, walk_word, lookup_word, decides, Lookup, Found, Absent, IsEndless, Answers, looked_up, compared_in, cycle}
+-- Laws of lookups: what the calculation gives is the one lookup, and a walk either ends or comes to a word again.
+use Rattle.std.specs.Prelude.{ℕ, ◌<◌, ◌≤◌, ◌≡◌, Option, None, List}
+use Rattle.elf_model.specs.Hash.{nchain, walk_word, lookup_word, LookupEnd, end_at_word, Lookup, IsEndless, IsLookup, looked_up, cycle}
 
 -- two words are the same, the later of them number n or before it
 pub record Repeats (words : ℕ → ℕ) (n : ℕ) : Type 0 where
@@ -10,69 +10,64 @@ pub record Repeats (words : ℕ → ℕ) (n : ℕ) : Type 0 where
   pub within : later ≤ n
   pub again : words earlier ≡ words later
 
--- a word that does not end a walk is above 0 and below a bound
-pub record IsBounded (test : ℕ → Bool) (bound : ℕ) : Type 0 where
-  pub above : (word : ℕ) → test word ≡ false → 0 < word
-  pub below : (word : ℕ) → test word ≡ false → word < bound
+-- a word at which a walk does not end is above 0 and below a bound
+pub record IsBounded (ends : ℕ → Option LookupEnd) (bound : ℕ) : Type 0 where
+  pub above : (word : ℕ) → ends word ≡ None → 0 < word
+  pub below : (word : ℕ) → ends word ≡ None → word < bound
 
--- the first words, so many, do not end a walk
-abbrev pub GoesOn : (ℕ → Bool) → (ℕ → ℕ) → ℕ → Type 0
-GoesOn test words n = (i : ℕ) → i < n → test (words i) ≡ false
+-- a walk does not end at its first words, so many
+abbrev pub GoesOn : (ℕ → Option LookupEnd) → (ℕ → ℕ) → ℕ → Type 0
+GoesOn ends words n = (i : ℕ) → i < n → ends (words i) ≡ None
 
 -- a walk that comes to a word again before it ends never ends
 abbrev pub RepeatNeverEnds : Type 0
 RepeatNeverEnds =
-    (test : ℕ → Bool) (next : ℕ → ℕ) (start n : ℕ)
-    → Repeats (walk_word next start) n → GoesOn test (walk_word next start) n → IsEndless test (walk_word next start)
+    (ends : ℕ → Option LookupEnd) (next : ℕ → ℕ) (start n : ℕ)
+    → Repeats (walk_word next start) n → GoesOn ends (walk_word next start) n → IsEndless ends (walk_word next start)
 
 -- a walk over words below a bound that goes on for as many words comes to one of them again
 abbrev pub LongWalkRepeats : Type 0
 LongWalkRepeats =
-    (test : ℕ → Bool) (words : ℕ → ℕ) (n : ℕ)
-    → IsBounded test n → 0 < n → GoesOn test words n → Repeats words n
+    (ends : ℕ → Option LookupEnd) (words : ℕ → ℕ) (n : ℕ)
+    → IsBounded ends n → 0 < n → GoesOn ends words n → Repeats words n
 
 -- a walk over words below a bound that goes on for as many words goes on for ever
 abbrev pub LongWalkNeverEnds : Type 0
 LongWalkNeverEnds =
-    (test : ℕ → Bool) (next : ℕ → ℕ) (start n : ℕ)
-    → IsBounded test n → 0 < n → GoesOn test (walk_word next start) n → IsEndless test (walk_word next start)
+    (ends : ℕ → Option LookupEnd) (next : ℕ → ℕ) (start n : ℕ)
+    → IsBounded ends n → 0 < n → GoesOn ends (walk_word next start) n → IsEndless ends (walk_word next start)
 
--- the words that do not end a lookup are above 0 and below the number of chains
+-- the words at which a lookup does not end are above 0 and below the number of chains
 abbrev pub LookupIsBounded : Type 0
-LookupIsBounded = (file : List ℕ) (at : ℕ) (wanted : List ℕ) → IsBounded (decides file at wanted) (nchain file at)
+LookupIsBounded = (file : List ℕ) (at : ℕ) (wanted : List ℕ) → IsBounded (end_at_word file at wanted) (nchain file at)
 
--- the calculated answer is an answer
+-- what is calculated is what a lookup gives
 abbrev pub LookupAnswers : Type 0
-LookupAnswers = (file : List ℕ) (at : ℕ) (wanted : List ℕ) → Answers file at wanted (looked_up file at wanted)
+LookupAnswers = (file : List ℕ) (at : ℕ) (wanted : List ℕ) → IsLookup file at wanted (looked_up file at wanted)
 
--- there is no other answer
+-- it gives nothing else
 abbrev pub LookupIsOne : Type 0
 LookupIsOne =
     (file : List ℕ) (at : ℕ) (wanted : List ℕ) (first second : Lookup)
-    → Answers file at wanted first → Answers file at wanted second → first ≡ second
+    → IsLookup file at wanted first → IsLookup file at wanted second → first ≡ second
 
 -- a lookup that goes on for as many words as there are chains, one at least, never ends
 abbrev pub CycleIsEndless : Type 0
 CycleIsEndless =
     (file : List ℕ) (at : ℕ) (wanted : List ℕ)
     → 0 < nchain file at
-    → GoesOn (decides file at wanted) (lookup_word file at wanted) (nchain file at)
-    → IsEndless (decides file at wanted) (lookup_word file at wanted)
+    → GoesOn (end_at_word file at wanted) (lookup_word file at wanted) (nchain file at)
+    → IsEndless (end_at_word file at wanted) (lookup_word file at wanted)
 
--- the answer is the cycle exactly where the lookup never ends
+-- a lookup is the cycle exactly where it never ends: its answer alone tells that it does
 abbrev pub CycleExactly : Type 0
 CycleExactly =
     (file : List ℕ) (at : ℕ) (wanted : List ℕ)
-    → (looked_up file at wanted ≡ cycle file at wanted)
-    ↔ IsEndless (decides file at wanted) (lookup_word file at wanted)
+    → ((looked_up file at wanted).answer ≡ (cycle file at wanted).answer
+    → IsEndless (end_at_word file at wanted) (lookup_word file at wanted))
+    × (IsEndless (end_at_word file at wanted) (lookup_word file at wanted) → looked_up file at wanted ≡ cycle file at wanted)
 
 -- a lookup compares no more symbols' names than there are chains
 abbrev pub ComparedWithinChains : Type 0
-ComparedWithinChains = (file : List ℕ) (at : ℕ) (wanted : List ℕ) → compared_in file at wanted ≤ nchain file at
-
--- the steps that a lookup tells are the number of symbols whose names it compares
-abbrev pub StepsAreCompared : Type 0
-StepsAreCompared =
-    (file : List ℕ) (at : ℕ) (wanted : List ℕ) (section index place steps : ℕ)
-    → (looked_up file at wanted ≡ Found section index place steps ⊎ looked_up file at wanted ≡ Absent steps)
-    → compared_in file at wanted ≡ steps
+ComparedWithinChains =
+    (file : List ℕ) (at : ℕ) (wanted : List ℕ) → (looked_up file at wanted).compared ≤ nchain file at

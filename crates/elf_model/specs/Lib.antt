@@ -11,8 +11,11 @@ pub mod LineFronts
 pub mod Lines
 pub mod Checks
 pub mod Tables
+pub mod Segments
 pub mod Listing
+pub mod Mapped
 pub mod Rows
+pub mod TableKinds
 pub mod Report
 pub mod ListingLaws
 pub mod Cost
@@ -24,6 +27,7 @@ pub mod Fixtures
 pub mod FixturesHash
 pub mod FixturesApply
 pub mod FixturesTables
+pub mod FixturesSegments
 pub mod NameLaws
 pub mod NoteLaws
 pub mod Values

@@ -1,14 +1,14 @@
 -- The lines with a name, up to the name: a front reads one record, which stands at an offset of some bytes.
 use Rattle.std.specs.Prelude.{ℕ, ℤ, pos, int_lt, nat_abs, if◌then◌else◌, List, ◌++◌, codes}
-use Rattle.elf_model.specs.Text.{hex, left, right_decimal, space}
+use Rattle.elf_model.specs.Text.{hex, left_in, right_decimal, space}
 use Rattle.elf_model.specs.Records.{sh_type, sh_flags, sh_addr, sh_offset, sh_size, sh_link, sh_info, st_value, st_size, st_type, st_bind, st_visibility, st_shndx, r_offset, r_type, r_sym, r_addend, twos_complement, d_tag, d_un}
 use Rattle.elf_model.specs.NameTables.{name_or_number, section_type_text, section_flags_text, symbol_types, bindings, visibilities, places, relocation_type_text, dynamic_tag_text}
 
 -- a section: its index, type, flags, address, offset in the file, size, link and info
 unfoldable pub section_front : List ℕ → ℕ → ℕ → List ℕ
 section_front bytes at index =
-    codes "S " ++ right_decimal 5 index ++ space ++ left 13 (section_type_text (sh_type bytes at))
-    ++ space ++ left 12 (section_flags_text (sh_flags bytes at)) ++ space ++ hex 16 (sh_addr bytes at)
+    codes "S " ++ right_decimal 5 index ++ space ++ left_in 13 (section_type_text (sh_type bytes at))
+    ++ space ++ left_in 12 (section_flags_text (sh_flags bytes at)) ++ space ++ hex 16 (sh_addr bytes at)
     ++ space ++ hex 16 (sh_offset bytes at) ++ space ++ hex 16 (sh_size bytes at)
     ++ space ++ hex 8 (sh_link bytes at) ++ space ++ hex 8 (sh_info bytes at) ++ space
 
@@ -30,7 +30,7 @@ addend_text addend = (if int_lt addend (pos 0) then codes "-" else codes "+") ++
 unfoldable pub relocation_front : List ℕ → ℕ → ℕ → ℕ → List ℕ
 relocation_front bytes at machine section =
     codes "R " ++ right_decimal 5 section ++ space ++ hex 16 (r_offset bytes at)
-    ++ space ++ left 10 (relocation_type_text machine (r_type bytes at)) ++ space ++ hex 8 (r_sym bytes at)
+    ++ space ++ left_in 10 (relocation_type_text machine (r_type bytes at)) ++ space ++ hex 8 (r_sym bytes at)
     ++ space ++ addend_text (twos_complement (r_addend bytes at)) ++ space
 
 -- a note: the index of its section or program header, type, and the sizes of its name and its descriptor
@@ -41,5 +41,5 @@ note_front index kind namesz descsz =
 -- a dynamic entry: its index in its table, tag and value
 unfoldable pub dynamic_front : List ℕ → ℕ → ℕ → List ℕ
 dynamic_front bytes at index =
-    codes "D " ++ right_decimal 5 index ++ space ++ left 16 (dynamic_tag_text (d_tag bytes at))
+    codes "D " ++ right_decimal 5 index ++ space ++ left_in 16 (dynamic_tag_text (d_tag bytes at))
     ++ space ++ hex 16 (d_un bytes at) ++ space

@@ -1,6 +1,6 @@
 -- The lines of a listing. Each is its letter and its fields, one space between two, and a newline.
 use Rattle.std.specs.Prelude.{ℕ, ◌==◌, ◌&&◌, nat_le, nat_lt, if◌then◌else◌, Bool, List, [], ◌∷◌, ◌++◌, codes, take, length}
-use Rattle.elf_model.specs.Text.{hex, left, right_decimal, name_in, space, newline}
+use Rattle.elf_model.specs.Text.{hex, left_in, right_decimal, name_in, space, newline}
 use Rattle.elf_model.specs.Records.{e_type, e_machine, e_entry, e_phoff, e_shoff, e_flags, e_phnum, e_shnum, e_shstrndx, p_type, p_flags, p_offset, p_vaddr, p_paddr, p_filesz, p_memsz, p_align}
 use Rattle.elf_model.specs.NameTables.{segment_type_text, segment_flags_text}
 use Rattle.elf_model.specs.Names.{Shown}
@@ -20,7 +20,7 @@ file_type_text n = name_in file_types n (hex 4 n)
 -- headers are, flags, how many of them there are, and the section of the section names
 unfoldable pub header_line : List ℕ → List ℕ
 header_line file =
-    codes "H " ++ left 4 (file_type_text (e_type file)) ++ space ++ right_decimal 5 (e_machine file)
+    codes "H " ++ left_in 4 (file_type_text (e_type file)) ++ space ++ right_decimal 5 (e_machine file)
     ++ space ++ hex 16 (e_entry file) ++ space ++ hex 16 (e_phoff file) ++ space ++ hex 16 (e_shoff file)
     ++ space ++ hex 8 (e_flags file) ++ space ++ right_decimal 5 (e_phnum file)
     ++ space ++ right_decimal 5 (e_shnum file) ++ space ++ right_decimal 5 (e_shstrndx file) ++ newline
@@ -29,7 +29,7 @@ header_line file =
 -- address, size in the file and in memory, alignment
 unfoldable pub segment_line : List ℕ → ℕ → ℕ → List ℕ
 segment_line bytes at index =
-    codes "P " ++ right_decimal 5 index ++ space ++ left 8 (segment_type_text (p_type bytes at))
+    codes "P " ++ right_decimal 5 index ++ space ++ left_in 8 (segment_type_text (p_type bytes at))
     ++ space ++ segment_flags_text (p_flags bytes at) ++ space ++ hex 16 (p_offset bytes at)
     ++ space ++ hex 16 (p_vaddr bytes at) ++ space ++ hex 16 (p_paddr bytes at) ++ space ++ hex 16 (p_filesz bytes at)
     ++ space ++ hex 16 (p_memsz bytes at) ++ space ++ hex 16 (p_align bytes at) ++ newline
@@ -37,7 +37,7 @@ segment_line bytes at index =
 -- the line that ends a lookup: whether the name was found, and how many symbols were compared
 unfoldable pub steps_line : Bool → ℕ → List ℕ
 steps_line found steps =
-    codes "F " ++ left 6 (if found then codes "found" else codes "absent") ++ space ++ right_decimal 10 steps ++ newline
+    codes "F " ++ left_in 6 (if found then codes "found" else codes "absent") ++ space ++ right_decimal 10 steps ++ newline
 
 -- the line of a refusal: the file offset that it points to, and the word of its cause
 unfoldable pub refusal_line : Refusal → List ℕ

@@ -32,8 +32,8 @@ abbrev pub report_of : List Item → List ℕ
 report_of items = lines_of items ++ end_text (fault_of items)
 
 -- the first check that fails is a fault in the place of the items, which mean nothing then
-abbrev pub checked : List Check → List Item → List Item
-checked checks items = elim (first_refusal checks) [ None ↦ items | Some refusal ↦ Fault refusal ∷ [] ]
+abbrev pub guarded : List Check → List Item → List Item
+guarded checks items = elim (first_refusal checks) [ None ↦ items | Some refusal ↦ Fault refusal ∷ [] ]
 
 -- the items of so many rows, or tables, from a first one on
 unfoldable pub each : (ℕ → List Item) → ℕ → ℕ → List Item
@@ -84,4 +84,4 @@ where_asked parts part items = elim (has parts part) [ true ↦ items | false �
 
 -- the file header's part: the first of its checks that fails, else its line where the parts have it
 unfoldable pub header_items : List ℕ → ℕ → List Item
-header_items file parts = checked (header_checks file) (where_asked parts HEADER (Line (header_line file) ∷ []))
+header_items file parts = guarded (header_checks file) (where_asked parts HEADER (Line (header_line file) ∷ []))

@@ -12,22 +12,22 @@ use Rattle.elf_model.specs.declared.causes.Refusal.{Refusal}
 -- with no part but the file header's the listing is the file header's
 abbrev pub HeaderAloneIsListed : Type 0
 HeaderAloneIsListed =
-    (file : List ℕ) → (headers name parts : ℕ) → has_tables parts ≡ false
-    → items file headers name parts ≡ header_items file parts
+    (file : List ℕ) → (headers cap parts : ℕ) → has_tables parts ≡ false
+    → items file headers cap parts ≡ header_items file parts
 
 -- where a check of the file header fails, the listing is that fault's line alone, under any parts
 abbrev pub HeaderFaultIsListedAlone : Type 0
 HeaderFaultIsListedAlone =
-    (file : List ℕ) → (headers name parts : ℕ) → (refusal : Refusal) → first_refusal (header_checks file) ≡ Some refusal
-    → (report file headers name parts ≡ refusal_line refusal) × (report_fault file headers name parts ≡ Some refusal)
+    (file : List ℕ) → (headers cap parts : ℕ) → (refusal : Refusal) → first_refusal (header_checks file) ≡ Some refusal
+    → (report file headers cap parts ≡ refusal_line refusal) × (report_fault file headers cap parts ≡ Some refusal)
 
 -- where a load check fails, the listing of all parts is the file header's line and that fault's line
 abbrev pub LoadFaultIsListedSecond : Type 0
 LoadFaultIsListedSecond =
-    (file : List ℕ) → (headers name parts : ℕ) → (refusal : Refusal)
+    (file : List ℕ) → (headers cap parts : ℕ) → (refusal : Refusal)
     → first_refusal (header_checks file) ≡ None → first_refusal (load_checks file headers) ≡ Some refusal
     → has parts HEADER ≡ true → has_tables parts ≡ true
-    → report file headers name parts ≡ header_line file ++ refusal_line refusal
+    → report file headers cap parts ≡ header_line file ++ refusal_line refusal
 
 -- what stands behind the first fault of a listing is not shown
 abbrev pub NothingBehindTheFault : Type 0
@@ -44,9 +44,9 @@ ListingsAppend =
 -- bits outside the seven parts mean nothing
 abbrev pub OtherBitsMeanNothing : Type 0
 OtherBitsMeanNothing =
-    (file : List ℕ) → (headers name parts : ℕ)
-    → (items file headers name (bit_and parts ALL) ≡ items file headers name parts)
-    × (cost file headers name (bit_and parts ALL) ≡ cost file headers name parts)
+    (file : List ℕ) → (headers cap parts : ℕ)
+    → (items file headers cap (bit_and parts ALL) ≡ items file headers cap parts)
+    × (cost file headers cap (bit_and parts ALL) ≡ cost file headers cap parts)
 
 -- within a budget of at least its cost a listing is its report
 abbrev pub AmpleBudgetIsReport : Type 0

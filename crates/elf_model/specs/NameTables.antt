@@ -1,11 +1,11 @@
 -- The numbers that a listing has names for, set by set, and what stands for any other number.
 use Rattle.std.specs.Prelude.{ℕ, ◌==◌, if◌then◌else◌, List, [], ◌∷◌, ◌++◌, Option, None, Some, codes, decimal}
 use Rattle.std.specs.Int.RustNames.{bit_and}
-use Rattle.elf_model.specs.Text.{hex, left, right_decimal, name_of, name_in}
+use Rattle.elf_model.specs.Text.{hex, left_in, right_decimal, name_of, name_in}
 
 -- a name at the left of a column, or where there is none the number at the right of it
 abbrev pub name_or_decimal : ℕ → Option (List ℕ) → ℕ → List ℕ
-name_or_decimal width (Some name) n = left width name
+name_or_decimal width (Some name) n = left_in width name
 name_or_decimal width None n = right_decimal width n
 
 -- a number's name in a column, else the number

@@ -19,29 +19,29 @@ OneListAtMost = (a : ℕ) (table : List ℕ) (notes others : List Note) → Note
 
 -- where the walk is cut the table is
 abbrev pub WalkedIsCut : Type 0
-WalkedIsCut = (a : ℕ) (table : List ℕ) (place : ℕ) → (walked a table).cut ≡ Some place → CutAt a (walked a table).notes place table
+WalkedIsCut = (a : ℕ) (table : List ℕ) (offset : ℕ) → (walked a table).cut ≡ Some offset → CutAt a (walked a table).notes offset table
 
 -- where a table is cut the walk is
 abbrev pub CutIsWalked : Type 0
 CutIsWalked =
-    (a : ℕ) (notes : List Note) (place : ℕ) (table : List ℕ) → CutAt a notes place table
-    → walked a table ≡ record { notes = notes; cut = Some place }
+    (a : ℕ) (notes : List Note) (offset : ℕ) (table : List ℕ) → CutAt a notes offset table
+    → walked a table ≡ record { notes = notes; cut = Some offset }
 
--- a list of notes fits a table, or the table is cut at a place
+-- a list of notes fits a table, or the table is cut at an offset
 abbrev pub FitsOrIsCut : Type 0
 FitsOrIsCut =
     (a : ℕ) (table : List ℕ)
-    → ((notes : List Note) × Notes a notes table) ⊎ ((notes : List Note) × (place : ℕ) × CutAt a notes place table)
+    → ((notes : List Note) × Notes a notes table) ⊎ ((notes : List Note) × (offset : ℕ) × CutAt a notes offset table)
 
--- a row's note stands in the table: its spelling at the row's place, its name behind the head, its descriptor
--- at the descriptor's place
+-- a row's note stands in the table: its spelling at the row's offset, its name behind the head, its descriptor
+-- at the descriptor's offset
 pub record StandsIn (a : ℕ) (table : List ℕ) (row : NoteRow) : Type 0 where
   pub within : row.at + spelt_size a row.note ≤ length table
   pub spelt : Spelt a row.note (slice table row.at (spelt_size a row.note))
   pub name : slice table (row.at + 12) (length row.note.name) ≡ row.note.name
   pub descriptor : slice table row.descriptor_at (length row.note.descriptor) ≡ row.note.descriptor
 
--- each note that is walked stands in its table at its row's place
+-- each note that is walked stands in its table at its row's offset
 abbrev pub RowsStand : Type 0
 RowsStand = (a : ℕ) (table : List ℕ) → All (StandsIn a table) (note_rows a 0 (walked a table).notes)
 

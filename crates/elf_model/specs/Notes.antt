@@ -1,4 +1,5 @@
--- Notes (gABI 5, Note Section), each with a head of three words of four bytes.
+-- Notes (gABI 5, Note Section), each with a head of three words of four bytes: what the notes of a table are, how they are
+-- shown, and how they are calculated.
 use Rattle.std.specs.Prelude.{◌≡◌, ℕ, zero, suc, ◌+◌, ◌-◌, ◌%◌, ◌==◌, ◌<◌, ◌≤◌, min, nat_lt, Bool, true, if◌then◌else◌, List, [], ◌∷◌, ◌++◌, length, take, drop, ◌⊎◌, Option, None, Some}
 use Rattle.std.specs.List.{list_all, before_first}
 use Rattle.elf_model.specs.Bytes.{slice}
@@ -23,10 +24,6 @@ to_next a n = (a - n % a) % a
 -- the bytes between a name and its descriptor, for the two sizes: none where the descriptor is empty
 abbrev pub gap_between : ℕ → ℕ → ℕ → ℕ
 gap_between a namesz descsz = if descsz == 0 then 0 else to_next a (12 + namesz)
-
--- the bytes from a note's start to its descriptor's start, for the two sizes
-abbrev pub descriptor_start : ℕ → ℕ → ℕ → ℕ
-descriptor_start a namesz descsz = 12 + namesz + gap_between a namesz descsz
 
 -- a text spells a note: the head with the two sizes and the type, the name, the gap, the descriptor
 pub record Spelt (a : ℕ) (note : Note) (text : List ℕ) : Type 0 where
@@ -58,7 +55,7 @@ abbrev pub are_zeros : List ℕ → Bool
 are_zeros bytes = list_all (λ b. b == 0) bytes
 
 -- a table is padded notes and fewer than 12 zero bytes
-pub record Filled (a : ℕ) (notes : List Note) (table : List ℕ) : Type 0 where
+pub record EndsInZeros (a : ℕ) (notes : List Note) (table : List ℕ) : Type 0 where
   pub front : List ℕ
   pub tail : List ℕ
   pub parts : table ≡ front ++ tail
@@ -67,7 +64,7 @@ pub record Filled (a : ℕ) (notes : List Note) (table : List ℕ) : Type 0 wher
   pub zeros : are_zeros tail ≡ true
 
 -- a table is padded notes, and one more whose padding ends too early
-pub record Short (a : ℕ) (notes : List Note) (table : List ℕ) : Type 0 where
+pub record EndsInSpelling (a : ℕ) (notes : List Note) (table : List ℕ) : Type 0 where
   pub before : List Note
   pub last : Note
   pub front : List ℕ
@@ -79,23 +76,63 @@ pub record Short (a : ℕ) (notes : List Note) (table : List ℕ) : Type 0 where
   pub spelt : Spelt a last spelling
   pub short : length padding < to_next a (length spelling)
 
--- the notes of a table (gABI 5, Note Section)
+-- a table has these notes
 abbrev pub Notes : ℕ → List Note → List ℕ → Type 0
-Notes a notes table = Filled a notes table ⊎ Short a notes table
+Notes a notes table = EndsInZeros a notes table ⊎ EndsInSpelling a notes table
 
--- no list of notes fits a table, and the longest front of it that is padded notes alone ends at a place
-pub record CutAt (a : ℕ) (notes : List Note) (place : ℕ) (table : List ℕ) : Type 0 where
-  pub within : place ≤ length table
-  pub padded : AllPadded a notes (take place table)
-  pub longest : (others : List Note) (other : ℕ) → other ≤ length table → AllPadded a others (take other table) → other ≤ place
+-- a table has no list of notes, and the longest front of it that is padded notes alone ends at an offset
+pub record CutAt (a : ℕ) (notes : List Note) (offset : ℕ) (table : List ℕ) : Type 0 where
+  pub within : offset ≤ length table
+  pub padded : AllPadded a notes (take offset table)
+  pub longest : (others : List Note) (other : ℕ) → other ≤ length table → AllPadded a others (take other table) → other ≤ offset
   pub none_fits : (others : List Note) → Notes a others table → ⊥
+
+-- the bytes from a note's start to its descriptor's start, for the two sizes
+abbrev pub descriptor_start : ℕ → ℕ → ℕ → ℕ
+descriptor_start a namesz descsz = 12 + namesz + gap_between a namesz descsz
+
+-- a note's size without its padding
+abbrev pub spelt_size : ℕ → Note → ℕ
+spelt_size a note = descriptor_start a (length note.name) (length note.descriptor) + length note.descriptor
+
+-- a note's size with its padding
+abbrev pub padded_size : ℕ → Note → ℕ
+padded_size a note = spelt_size a note + to_next a (spelt_size a note)
+
+-- a note and its offset in its table; the descriptor's, where it is empty the note's end
+pub record NoteRow : Type 0 where
+  pub at : ℕ
+  pub note : Note
+  pub descriptor_at : ℕ
+
+-- the notes from an offset on, each with its own
+unfoldable pub note_rows : ℕ → ℕ → List Note → List NoteRow
+note_rows a offset [] = []
+note_rows a offset (note ∷ notes) =
+    record { at = offset; note = note; descriptor_at = offset + descriptor_start a (length note.name) (length note.descriptor) }
+    ∷ note_rows a (offset + padded_size a note) notes
+
+-- a name up to its first NUL, or all of it
+abbrev pub before_nul : List ℕ → List ℕ
+before_nul name = before_first (λ b. b == 0) name
+
+-- a name whole, or cut to cap bytes where it has more
+abbrev pub capped : ℕ → List ℕ → Shown
+capped cap name = if nat_lt cap (length name) then Cut (take cap name) else Whole name
+
+-- a note's name as it is shown with at most cap bytes: up to its first NUL, or all of it
+unfoldable pub note_shown : ℕ → Note → Shown
+note_shown cap note = capped cap (before_nul note.name)
+
+-- The calculation. By the laws `WalkedFits` and `FittingIsWalked` the notes of `walked` are those that `Notes` tells, and by
+-- `WalkedIsCut` and `CutIsWalked` its cut is that of `CutAt`.
 
 -- what stands at the start of the bytes that are left of a table: its end, nothing that is a note, or a note
 -- and its size with its padding
 pub data Next : Type 0 where
   Ends : Next
   Broken : Next
-  Found : Note → ℕ → Next
+  OneNote : Note → ℕ → Next
 
 -- the note whose head stands at the start of some bytes
 abbrev pub first_note : ℕ → List ℕ → Note
@@ -116,9 +153,9 @@ unfoldable pub next_note : ℕ → List ℕ → Next
 next_note a rest =
     if nat_lt (length rest) 12 then (if are_zeros rest then Ends else Broken)
     else if nat_lt (length rest) (first_end a rest) then Broken
-    else Found (first_note a rest) (min (first_end a rest + to_next a (first_end a rest)) (length rest))
+    else OneNote (first_note a rest) (min (first_end a rest + to_next a (first_end a rest)) (length rest))
 
--- the notes that a table has, up to the place where it is cut, if it is
+-- the notes that a table has, up to the offset where it is cut, if it is
 pub record Walk : Type 0 where
   pub notes : List Note
   pub cut : Option ℕ
@@ -127,49 +164,16 @@ pub record Walk : Type 0 where
 abbrev pub with_note : Note → Walk → Walk
 with_note note walk = record { notes = note ∷ walk.notes; cut = walk.cut }
 
--- the notes of the bytes from a place on, no more than so many notes
+-- the notes of the bytes from an offset on, no more than so many notes
 unfoldable pub walk_from : ℕ → ℕ → ℕ → List ℕ → Walk
-walk_from a zero place rest = record { notes = []; cut = Some place }
-walk_from a (suc most) place rest =
+walk_from a zero offset rest = record { notes = []; cut = Some offset }
+walk_from a (suc most) offset rest =
     elim (next_note a rest) [
       | Ends ↦ record { notes = []; cut = None }
-      | Broken ↦ record { notes = []; cut = Some place }
-      | Found note size ↦ with_note note (walk_from a most (place + size) (drop size rest))
+      | Broken ↦ record { notes = []; cut = Some offset }
+      | OneNote note size ↦ with_note note (walk_from a most (offset + size) (drop size rest))
     ]
 
 -- the notes of a table
 unfoldable pub walked : ℕ → List ℕ → Walk
 walked a table = walk_from a (suc (length table)) 0 table
-
--- a note's size without its padding
-abbrev pub spelt_size : ℕ → Note → ℕ
-spelt_size a note = descriptor_start a (length note.name) (length note.descriptor) + length note.descriptor
-
--- a note's size with its padding
-abbrev pub padded_size : ℕ → Note → ℕ
-padded_size a note = spelt_size a note + to_next a (spelt_size a note)
-
--- a note and its place in its table; the descriptor's place, where it is empty the note's end
-pub record NoteRow : Type 0 where
-  pub at : ℕ
-  pub note : Note
-  pub descriptor_at : ℕ
-
--- the notes from a place on, each with its place
-unfoldable pub note_rows : ℕ → ℕ → List Note → List NoteRow
-note_rows a place [] = []
-note_rows a place (note ∷ notes) =
-    record { at = place; note = note; descriptor_at = place + descriptor_start a (length note.name) (length note.descriptor) }
-    ∷ note_rows a (place + padded_size a note) notes
-
--- a name up to its first NUL, or all of it
-abbrev pub before_nul : List ℕ → List ℕ
-before_nul name = before_first (λ b. b == 0) name
-
--- a name whole, or cut to cap bytes where it has more
-abbrev pub capped : ℕ → List ℕ → Shown
-capped cap name = if nat_lt cap (length name) then Cut (take cap name) else Whole name
-
--- a note's name as it is shown with at most cap bytes: up to its first NUL, or all of it
-unfoldable pub note_shown : ℕ → Note → Shown
-note_shown cap note = capped cap (before_nul note.name)

@@ -29,9 +29,37 @@ SHT_NOBITS = 8
 abbrev pub SHT_DYNSYM : ℕ
 SHT_DYNSYM = 11
 
--- a segment of notes (gABI 5, Segment Types)
+-- segment types (gABI 5, Segment Types)
+abbrev pub PT_LOAD : ℕ
+PT_LOAD = 1
+
+abbrev pub PT_DYNAMIC : ℕ
+PT_DYNAMIC = 2
+
 abbrev pub PT_NOTE : ℕ
 PT_NOTE = 4
+
+-- dynamic array tags (gABI 5, Dynamic Section)
+abbrev pub DT_NULL : ℕ
+DT_NULL = 0
+
+abbrev pub DT_NEEDED : ℕ
+DT_NEEDED = 1
+
+abbrev pub DT_STRTAB : ℕ
+DT_STRTAB = 5
+
+abbrev pub DT_STRSZ : ℕ
+DT_STRSZ = 10
+
+abbrev pub DT_SONAME : ℕ
+DT_SONAME = 14
+
+abbrev pub DT_RPATH : ℕ
+DT_RPATH = 15
+
+abbrev pub DT_RUNPATH : ℕ
+DT_RUNPATH = 29
 
 -- special section indices (gABI 4, Special Section Indexes)
 abbrev pub SHN_UNDEF : ℕ

@@ -1,9 +1,9 @@
--- A layout: the addresses that are given for sections, names and procedure linkage table entries; and the value
--- of a symbol in it.
-use Rattle.std.specs.Prelude.{ℕ, ◌+◌, ◌%◌, ◌^◌, ◌==◌, ◌&&◌, ◌||◌, nat_lt, Bool, true, false, List, [], ◌∷◌, Option, None, Some, Result, Ok, Err}
+-- A layout: the addresses that are given for sections, names and procedure linkage table entries; and what S, L and P
+-- are in it (psABI 4.4, Relocation). A relocation entry stands at an offset `rela` of the file, and its symbol at another.
+use Rattle.std.specs.Prelude.{ℕ, ◌+◌, ◌%◌, ◌^◌, ◌==◌, ◌&&◌, ◌||◌, nat_lt, if◌then◌else◌, true, false, List, [], ◌∷◌, Option, None, Some, Result, Ok, Err}
 use Rattle.elf_model.specs.Names.{same}
 use Rattle.elf_model.specs.Numbers.{SHN_UNDEF, SHN_LORESERVE, SHN_ABS, SHN_COMMON}
-use Rattle.elf_model.specs.Records.{st_name, st_shndx, st_value, st_bind}
+use Rattle.elf_model.specs.Records.{st_name, st_shndx, st_value, st_bind, r_offset}
 use Rattle.elf_model.specs.declared.causes.Cause.{Cause}
 use Rattle.elf_model.specs.declared.causes.Cause.TheVariants.{Unplaced, Undefined}
 use Rattle.elf_model.specs.declared.causes.Refusal.{Refusal}
@@ -13,7 +13,7 @@ use Rattle.elf_model.specs.declared.causes.Refusal.{Refusal}
 pub record Layout : Type 0 where
   pub sections : List (ℕ × ℕ)
   pub definitions : List (List ℕ × ℕ)
-  pub entries : List (List ℕ × ℕ)
+  pub linkage : List (List ℕ × ℕ)
 
 -- the address of a section
 unfoldable pub address_in : List (ℕ × ℕ) → ℕ → Option ℕ
@@ -21,60 +21,56 @@ address_in [] section = None
 address_in (item ∷ items) section = elim (item.0 == section) [ true ↦ Some item.1 | false ↦ address_in items section ]
 
 -- the address of the first item whose name is the one at an index of a string table; a name that cannot be
--- compared before that is the fault
+-- compared before that is the fault. Without items the name is not looked at
 unfoldable pub address_named : List ℕ → ℕ → List (List ℕ × ℕ) → Result (Option ℕ) Cause
-address_named table index [] = Ok None
-address_named table index (item ∷ items) =
-    elim (same table index item.0) [
+address_named strings index [] = Ok None
+address_named strings index (item ∷ items) =
+    elim (same strings index item.0) [
       | Err cause ↦ Err cause
-      | Ok equal ↦ elim equal [ true ↦ Ok (Some item.1) | false ↦ address_named table index items ]
+      | Ok equal ↦ elim equal [ true ↦ Ok (Some item.1) | false ↦ address_named strings index items ]
     ]
-
--- the weak binding (gABI 4, Symbol Binding)
-abbrev pub STB_WEAK : ℕ
-STB_WEAK = 2
 
 -- a refusal at an offset in the place of a value
 abbrev pub refusal_at : {A : Type 0} → ℕ → Cause → Result A Refusal
 refusal_at at cause = Err (record { at = at; cause = cause })
 
--- a symbol has no section in its file: it is undefined or common (gABI 4, Special Section Indexes)
-abbrev pub is_undefined : List ℕ → ℕ → Bool
-is_undefined file place = st_shndx file place == SHN_UNDEF || st_shndx file place == SHN_COMMON
+-- an address that is looked for by a symbol's name, or a value in its place where there is none; the name's fault is
+-- at the symbol
+abbrev pub named_or : ℕ → Result (Option ℕ) Cause → Result ℕ Refusal → Result ℕ Refusal
+named_or symbol (Err cause) other = refusal_at symbol cause
+named_or symbol (Ok None) other = other
+named_or symbol (Ok (Some address)) other = Ok address
 
--- an undefined symbol without a definition is 0 if it is weak (gABI 4, Symbol Binding)
-abbrev pub is_weak : List ℕ → ℕ → Bool
-is_weak file place = st_shndx file place == SHN_UNDEF && st_bind file place == STB_WEAK
+-- an offset from an address, modulo 2^64; without an address the entry is refused
+abbrev pub placed_at : ℕ → Option ℕ → ℕ → Result ℕ Refusal
+placed_at rela None offset = refusal_at rela Unplaced
+placed_at rela (Some address) offset = Ok ((address + offset) % 2 ^ 64)
 
--- the value of a symbol that its file does not define: the layout's definition
-unfoldable pub defined_value : List ℕ → ℕ → ℕ → Result (Option ℕ) Cause → Result ℕ Refusal
-defined_value file entry place (Err cause) = refusal_at place cause
-defined_value file entry place (Ok (Some address)) = Ok address
-defined_value file entry place (Ok None) = elim (is_weak file place) [ true ↦ Ok 0 | false ↦ refusal_at entry Undefined ]
+-- the weak binding (gABI 4, Symbol Binding)
+abbrev pub STB_WEAK : ℕ
+STB_WEAK = 2
 
--- the value of a symbol that its file defines in a section: the section's address and the symbol's offset
-unfoldable pub placed_value : List ℕ → ℕ → ℕ → Option ℕ → Result ℕ Refusal
-placed_value file entry place None = refusal_at entry Unplaced
-placed_value file entry place (Some address) = Ok ((address + st_value file place) % 2 ^ 64)
+-- the value of an undefined or common symbol without a definition: 0 where it is undefined and weak
+-- (gABI 4, Symbol Binding)
+abbrev pub undefined_value : List ℕ → ℕ → ℕ → Result ℕ Refusal
+undefined_value file rela symbol =
+    if st_shndx file symbol == SHN_UNDEF && st_bind file symbol == STB_WEAK then Ok 0 else refusal_at rela Undefined
 
--- the value of the symbol at a place of the file, for the relocation entry at another (gABI 4, Symbol Values)
+-- S, the value of a symbol (gABI 4, Symbol Values), by its section index: its own where it is absolute; the layout's
+-- definition where it is undefined or common; else its offset in its section, and reserved indices have no address
 unfoldable pub symbol_value : List ℕ → List ℕ → Layout → ℕ → ℕ → Result ℕ Refusal
-symbol_value file table layout entry place =
-    elim (st_shndx file place == SHN_ABS) [
-      | true ↦ Ok (st_value file place)
-      | false ↦ elim (is_undefined file place) [
-        | true ↦ defined_value file entry place (address_named table (st_name file place) layout.definitions)
-        | false ↦ elim (nat_lt (st_shndx file place) SHN_LORESERVE) [
-          | true ↦ placed_value file entry place (address_in layout.sections (st_shndx file place))
-          | false ↦ refusal_at entry Unplaced
-        ]
-      ]
-    ]
+symbol_value file strings layout rela symbol =
+    let index = st_shndx file symbol in
+    if index == SHN_ABS then Ok (st_value file symbol)
+    else if index == SHN_UNDEF || index == SHN_COMMON then
+    named_or symbol (address_named strings (st_name file symbol) layout.definitions) (undefined_value file rela symbol)
+    else placed_at rela (if nat_lt index SHN_LORESERVE then address_in layout.sections index else None) (st_value file symbol)
 
--- the place of a symbol's procedure linkage table entry: the layout's, else the symbol's value
-unfoldable pub entry_value : List ℕ → List ℕ → Layout → ℕ → ℕ → Result ℕ Refusal
-entry_value file table layout entry place =
-    elim (address_named table (st_name file place) layout.entries) [
-      | Err cause ↦ refusal_at place cause
-      | Ok found ↦ elim found [ Some address ↦ Ok address | None ↦ symbol_value file table layout entry place ]
-    ]
+-- L, the address of a symbol's procedure linkage table entry, where the layout has one; else S
+unfoldable pub linkage_value : List ℕ → List ℕ → Layout → ℕ → ℕ → Result ℕ Refusal
+linkage_value file strings layout rela symbol =
+    named_or symbol (address_named strings (st_name file symbol) layout.linkage) (symbol_value file strings layout rela symbol)
+
+-- P, the place of the bytes that are relocated: their offset in their section
+unfoldable pub place_value : List ℕ → Layout → ℕ → ℕ → Result ℕ Refusal
+place_value file layout section rela = placed_at rela (address_in layout.sections section) (r_offset file rela)

@@ -1,8 +1,8 @@
 -- The tables of a file: where their entries stand, what they link to, and their checks.
-use Rattle.std.specs.Prelude.{ℕ, ◌+◌, ◌*◌, ◌/◌, ◌==◌, ◌&&◌, nat_lt, if◌then◌else◌, Bool, List, [], ◌++◌}
+use Rattle.std.specs.Prelude.{ℕ, ◌+◌, ◌*◌, ◌/◌, ◌&&◌, nat_lt, if◌then◌else◌, Bool, List, [], ◌++◌}
 use Rattle.elf_model.specs.Bytes.{slice}
 use Rattle.elf_model.specs.Records.{e_shnum, sh_offset, sh_size, sh_link, section_at}
-use Rattle.elf_model.specs.Checks.{Check, table_checks, strings_checks, is_symbol_table}
+use Rattle.elf_model.specs.Checks.{Check, unless_empty, table_checks, strings_checks, is_symbol_table}
 
 -- the size of a symbol, of a relocation entry with an addend, and of a dynamic entry, in bytes
 abbrev pub SYMBOL_SIZE : ℕ
@@ -28,19 +28,15 @@ strings_of file at = section_bytes file (linked_at file at)
 
 -- how many entries of one size a section has
 abbrev pub entry_count : List ℕ → ℕ → ℕ → ℕ
-entry_count file at entry = sh_size file at / entry
+entry_count file at entry_size = sh_size file at / entry_size
 
 -- where an entry of a section stands in the file
 abbrev pub entry_at : List ℕ → ℕ → ℕ → ℕ → ℕ
-entry_at file at entry index = sh_offset file at + entry * index
-
--- a table without entries is not checked, and neither is what it links to
-abbrev pub unless_empty : List ℕ → ℕ → List Check → List Check
-unless_empty file at checks = if sh_size file at == 0 then [] else checks
+entry_at file at entry_size index = sh_offset file at + entry_size * index
 
 -- a symbol table: its own checks, then its string table's
 abbrev pub symbol_table_checks : List ℕ → ℕ → List Check
-symbol_table_checks file at = unless_empty file at (table_checks file at SYMBOL_SIZE ++ strings_checks file at)
+symbol_table_checks file at = unless_empty (sh_size file at) (table_checks file at SYMBOL_SIZE ++ strings_checks file at)
 
 -- a section links to a symbol table; section 0 counts like any other
 abbrev pub has_symbols : List ℕ → ℕ → Bool
@@ -49,10 +45,10 @@ has_symbols file at = nat_lt (sh_link file at) (e_shnum file) && is_symbol_table
 -- a table of relocation entries: its own checks, then those of the symbol table that it links to, if it has one
 abbrev pub relocation_table_checks : List ℕ → ℕ → List Check
 relocation_table_checks file at =
-    unless_empty file at
+    unless_empty (sh_size file at)
     (table_checks file at RELA_SIZE
     ++ (if has_symbols file at then symbol_table_checks file (linked_at file at) else []))
 
 -- a table of dynamic entries: its own checks, then its string table's
 abbrev pub dynamic_table_checks : List ℕ → ℕ → List Check
-dynamic_table_checks file at = unless_empty file at (table_checks file at DYNAMIC_SIZE ++ strings_checks file at)
+dynamic_table_checks file at = unless_empty (sh_size file at) (table_checks file at DYNAMIC_SIZE ++ strings_checks file at)

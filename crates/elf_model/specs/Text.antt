@@ -23,16 +23,16 @@ abbrev pub newline : List ℕ
 newline = 10 ∷ []
 
 -- a text at the left of a column
-unfoldable pub left : ℕ → List ℕ → List ℕ
-left width text = text ++ spaces (width - length text)
+unfoldable pub left_in : ℕ → List ℕ → List ℕ
+left_in width text = text ++ spaces (width - length text)
 
 -- a text at the right of a column
-unfoldable pub right : ℕ → List ℕ → List ℕ
-right width text = spaces (width - length text) ++ text
+unfoldable pub right_in : ℕ → List ℕ → List ℕ
+right_in width text = spaces (width - length text) ++ text
 
 -- a decimal number at the right of a column
 unfoldable pub right_decimal : ℕ → ℕ → List ℕ
-right_decimal width n = right width (decimal n)
+right_decimal width n = right_in width (decimal n)
 
 -- the name of a number in a table of names
 unfoldable pub name_of : List (ℕ × List ℕ) → ℕ → Option (List ℕ)

@@ -1,30 +1,40 @@
--- Relocation values for x86-64 (psABI 4.4, Relocation). S is the value of the symbol, L the place of its
--- procedure linkage table entry, A the addend, P the place of the bytes that are relocated.
+-- Relocation values for x86-64 (psABI 4.4, Relocation). S is the value of the symbol, L the address of its procedure
+-- linkage table entry, A the addend, P the place of the bytes that are relocated.
 use Rattle.std.specs.Prelude.{ℕ, ◌-◌, ◌*◌, ◌%◌, ◌^◌, ◌==◌, ◌||◌, nat_lt, not, Bool, true, false, ℤ, pos, negsuc, ◌+ℤ◌, ◌-ℤ◌, List, [], ◌∷◌, Option, None, Some, Result, Ok, Err}
 use Rattle.elf_model.specs.Bytes.{little}
 use Rattle.elf_model.specs.declared.causes.Cause.{Cause}
 use Rattle.elf_model.specs.declared.causes.Cause.TheVariants.{Unsupported, Overflow}
 
--- how a relocation type's value is calculated: nothing, S + A, S + A - P, L + A - P
+-- how a relocation type's value is calculated: S + A, S + A - P, L + A - P
 pub data Formula : Type 0 where
-  NoValue : Formula
   Absolute : Formula
   Relative : Formula
-  EntryRelative : Formula
+  LinkageRelative : Formula
 
--- the terms of a formula
+-- the formula takes L in place of S
+abbrev pub takes_linkage : Formula → Bool
+takes_linkage Absolute = false
+takes_linkage Relative = false
+takes_linkage LinkageRelative = true
+
+-- the formula takes P
+abbrev pub takes_place : Formula → Bool
+takes_place Absolute = false
+takes_place Relative = true
+takes_place LinkageRelative = true
+
+-- the terms of a formula: S, L, A and P
 pub record Terms : Type 0 where
   pub symbol : ℕ
-  pub entry : ℕ
+  pub linkage : ℕ
   pub addend : ℤ
   pub place : ℕ
 
 -- a formula's value, as a whole number
 unfoldable pub whole : Formula → Terms → ℤ
-whole NoValue terms = pos 0
 whole Absolute terms = pos terms.symbol +ℤ terms.addend
 whole Relative terms = (pos terms.symbol +ℤ terms.addend) -ℤ pos terms.place
-whole EntryRelative terms = (pos terms.entry +ℤ terms.addend) -ℤ pos terms.place
+whole LinkageRelative terms = (pos terms.linkage +ℤ terms.addend) -ℤ pos terms.place
 
 -- a whole number modulo 2^64
 unfoldable pub modulo_2_64 : ℤ → ℕ
@@ -64,17 +74,12 @@ pub record Kind : Type 0 where
 abbrev pub kind : ℕ → Formula → Range → Kind
 kind width formula range = record { width = width; formula = formula; range = range }
 
--- the relocation type that changes nothing, R_X86_64_NONE
-abbrev pub R_NONE : ℕ
-R_NONE = 0
-
--- the relocation types that are applied: R_X86_64_NONE, 64, PC32, PLT32, 32, 32S, 16, 8, PC64
+-- the relocation types that store a value: R_X86_64_64, PC32, PLT32, 32, 32S, 16, 8, PC64
 unfoldable pub kinds : List (ℕ × Kind)
 kinds =
-    (R_NONE, kind 0 NoValue AnyValue)
-    ∷ (1, kind 8 Absolute AnyValue)
+    (1, kind 8 Absolute AnyValue)
     ∷ (2, kind 4 Relative Signed)
-    ∷ (4, kind 4 EntryRelative Signed)
+    ∷ (4, kind 4 LinkageRelative Signed)
     ∷ (10, kind 4 Absolute Unsigned)
     ∷ (11, kind 4 Absolute Signed)
     ∷ (12, kind 2 Absolute EitherWay)
@@ -85,28 +90,39 @@ kinds =
 -- the relocation type of a number, in a table
 unfoldable pub kind_in : List (ℕ × Kind) → ℕ → Option Kind
 kind_in [] n = None
-kind_in (entry ∷ entries) n = elim (n == entry.0) [ true ↦ Some entry.1 | false ↦ kind_in entries n ]
+kind_in (row ∷ rows) n = elim (n == row.0) [ true ↦ Some row.1 | false ↦ kind_in rows n ]
 
--- the relocation type of a number, if it is one that is applied
+-- the relocation type of a number, if it is one that stores a value
 unfoldable pub kind_of : ℕ → Option Kind
 kind_of n = kind_in kinds n
+
+-- the relocation type that stores nothing
+abbrev pub R_X86_64_NONE : ℕ
+R_X86_64_NONE = 0
 
 -- a relocation type's value modulo 2^64
 abbrev pub value_of : Kind → Terms → ℕ
 value_of type terms = modulo_2_64 (whole type.formula terms)
 
--- the bytes of a relocation type's value, its low ones, if the value is in the type's range
+-- the value is outside the type's range
+abbrev pub overflows : Kind → Terms → Bool
+overflows type terms = not (fits type.range type.width (value_of type terms))
+
+-- the bytes of the value: its low ones
+abbrev pub low_bytes : Kind → Terms → List ℕ
+low_bytes type terms = little type.width (value_of type terms)
+
+-- the bytes that a relocation of a type stores, if its value is in the type's range
 unfoldable pub patch_of : Kind → Terms → Result (List ℕ) Cause
-patch_of type terms =
-    elim (fits type.range type.width (value_of type terms)) [
-      | true ↦ Ok (little type.width (value_of type terms))
-      | false ↦ Err Overflow
-    ]
+patch_of type terms = elim (overflows type terms) [ true ↦ Err Overflow | false ↦ Ok (low_bytes type terms) ]
 
 -- the bytes that a relocation stores: its type's number, S, L, A and P
 unfoldable pub value : ℕ → ℕ → ℕ → ℤ → ℕ → Result (List ℕ) Cause
 value n s l a p =
-    elim (kind_of n) [
-      | None ↦ Err Unsupported
-      | Some type ↦ patch_of type (record { symbol = s; entry = l; addend = a; place = p })
+    elim (n == R_X86_64_NONE) [
+      | true ↦ Ok []
+      | false ↦ elim (kind_of n) [
+        | None ↦ Err Unsupported
+        | Some type ↦ patch_of type (record { symbol = s; linkage = l; addend = a; place = p })
+      ]
     ]

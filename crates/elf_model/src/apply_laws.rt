@@ -1,5 +1,5 @@
 //! Laws of relocations applied to a section, each proved of the definitions.
-ghost use Rattle.elf_model.specs.ApplyLaws.{LengthKept, BytePatched, WindowPatched, FinalBelow, KeptAbove, ChangesInside};
+ghost use Rattle.elf_model.specs.ApplyLaws.{LengthKept, BytePatched, WindowPatched, FinalBelow, KeptAbove, EntryStoresValue, ChangesInside};
 
 /// Patches within a section leave its length.
 pub fn length_kept()
@@ -24,6 +24,11 @@ pub fn final_below()
 /// What stands behind all patches stays.
 pub fn kept_above()
     ensures { KeptAbove }
+{}
+
+/// An entry that stores bytes stores the value of its S, L, A and P at its offset.
+pub fn entry_stores_value()
+    ensures { EntryStoresValue }
 {}
 
 /// What the relocation entries store lies in the section.

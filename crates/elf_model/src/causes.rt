@@ -65,6 +65,8 @@ pub enum Cause {
     TooLong,
     /// A limit on what may be read has too few bytes left. It says nothing of the file.
     Budget,
+    /// An address that no LOAD segment holds (gABI 5, Program Loading).
+    Unmapped,
 }
 
 /// A refusal: its cause, and the file offset that it points to.

@@ -1,5 +1,5 @@
 //! The laws of costs.
-ghost use Rattle.elf_model.specs.CostLaws.{CostIsWithinCeiling, TablesCountWhereChecksPass, RowsCostWhatTheFileCosts, TablesCostPartByPart, AnyRowsAreWithinCeiling, AnySegmentsAreWithinCeiling};
+ghost use Rattle.elf_model.specs.CostLaws.{CostIsWithinCeiling, PlacesDecideNothing, RowsCostWhatTheFileCosts, SegmentsCostWhatTheFileCosts, TablesCostKindByKind, AnyRowsAreWithinCeiling, AnySegmentsAreWithinCeiling};
 
 /// No listing costs more than the ceiling, whatever the file's bytes, the caps and the parts are.
 #[tactic(auto, using(crate::proofs::CostLemmas::cost_within))]
@@ -7,10 +7,10 @@ pub fn cost_is_within_ceiling()
     ensures { CostIsWithinCeiling }
 {}
 
-/// A table counts exactly where its own checks pass.
-#[tactic(auto, using(crate::proofs::StoreLemmas::tables_count))]
-pub fn tables_count_where_checks_pass()
-    ensures { TablesCountWhereChecksPass }
+/// Whether the checks of a table pass does not depend on the place that they name.
+#[tactic(auto, using(crate::proofs::StoreLemmas::places_decide_nothing))]
+pub fn places_decide_nothing()
+    ensures { PlacesDecideNothing }
 {}
 
 /// Section headers that were copied from a file cost what they cost in the file.
@@ -19,10 +19,16 @@ pub fn rows_cost_what_the_file_costs()
     ensures { RowsCostWhatTheFileCosts }
 {}
 
-/// The sum over all sections is the sum part by part.
-#[tactic(auto, using(crate::proofs::StoreLemmas::part_by_part))]
-pub fn tables_cost_part_by_part()
-    ensures { TablesCostPartByPart }
+/// And program headers do.
+#[tactic(auto, using(crate::proofs::StoreLemmas::segments_cost_rows))]
+pub fn segments_cost_what_the_file_costs()
+    ensures { SegmentsCostWhatTheFileCosts }
+{}
+
+/// The sum over all headers is the sum kind by kind.
+#[tactic(auto, using(crate::proofs::StoreLemmas::by_kind))]
+pub fn tables_cost_kind_by_kind()
+    ensures { TablesCostKindByKind }
 {}
 
 /// Whatever bytes stand in the place of the section headers, the listing is within the ceiling.
@@ -30,7 +36,7 @@ pub fn any_rows_are_within_ceiling()
     ensures { AnyRowsAreWithinCeiling }
 {}
 
-/// And so it is without sections, whatever the program headers are at each of two reads.
+/// And so it is without sections, whatever bytes stand in the place of the program headers.
 #[tactic(auto, using(crate::proofs::StoreLemmas::any_segments))]
 pub fn any_segments_are_within_ceiling()
     ensures { AnySegmentsAreWithinCeiling }

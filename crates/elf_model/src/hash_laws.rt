@@ -1,5 +1,5 @@
 //! Laws of lookups in a hash table (gABI 5, Hash Table), each proved of the definitions.
-ghost use Rattle.elf_model.specs.HashLaws.{RepeatNeverEnds, LongWalkRepeats, LongWalkNeverEnds, LookupIsBounded, LookupAnswers, LookupIsOne, CycleIsEndless, CycleExactly, ComparedWithinChains, StepsAreCompared};
+ghost use Rattle.elf_model.specs.HashLaws.{RepeatNeverEnds, LongWalkRepeats, LongWalkNeverEnds, LookupIsBounded, LookupAnswers, LookupIsOne, CycleIsEndless, CycleExactly, ComparedWithinChains};
 
 /// A walk that comes to a word again before it ends never ends.
 pub fn repeat_never_ends()
@@ -16,17 +16,17 @@ pub fn long_walk_never_ends()
     ensures { LongWalkNeverEnds }
 {}
 
-/// The words that do not end a lookup are above 0 and below the number of chains.
+/// The words at which a lookup does not end are above 0 and below the number of chains.
 pub fn lookup_is_bounded()
     ensures { LookupIsBounded }
 {}
 
-/// The calculated answer of a lookup is an answer.
+/// What is calculated is what a lookup gives: its answer, and how many names it compares.
 pub fn lookup_answers()
     ensures { LookupAnswers }
 {}
 
-/// A lookup has one answer only.
+/// A lookup gives nothing else.
 pub fn lookup_is_one()
     ensures { LookupIsOne }
 {}
@@ -36,7 +36,7 @@ pub fn cycle_is_endless()
     ensures { CycleIsEndless }
 {}
 
-/// The answer of a lookup is the cycle exactly where it never ends.
+/// A lookup is the cycle exactly where it never ends, and its answer alone tells that.
 pub fn cycle_exactly()
     ensures { CycleExactly }
 {}
@@ -44,9 +44,4 @@ pub fn cycle_exactly()
 /// A lookup compares no more symbols' names than there are chains.
 pub fn compared_within_chains()
     ensures { ComparedWithinChains }
-{}
-
-/// The steps that a lookup tells are the number of symbols whose names it compares.
-pub fn steps_are_compared()
-    ensures { StepsAreCompared }
 {}

@@ -26,12 +26,12 @@ pub fn cut_is_walked()
     ensures { CutIsWalked }
 {}
 
-/// A list of notes fits a table, or the table is cut at a place.
+/// A list of notes fits a table, or the table is cut at an offset.
 pub fn fits_or_is_cut()
     ensures { FitsOrIsCut }
 {}
 
-/// Each note that is walked stands in its table at its row's place.
+/// Each note that is walked stands in its table at its row's offset.
 pub fn rows_stand()
     ensures { RowsStand }
 {}

@@ -1,9 +1,10 @@
 -- The value of a relocation, step by step: its type, its number, its bytes.
-use Rattle.std.proofs.Common.{SFits, ◌≡◌, ℕ, ℤ, Bool, true, false, List, Option, None, Some, Result, Ok, Err, refl, ap, ◌∙◌}
+use Rattle.std.proofs.Common.{SFits, ◌≡◌, ◌≢◌, ◌==◌, not, ℕ, ℤ, Bool, true, false, List, [], Option, None, Some, Result, Ok, Err, refl, ap, ◌∙◌}
 use Rattle.std.proofs.Math.Facts.{to_z-of_z}
+use Rattle.std.proofs.lemmas.Bool.{ne_eqb}
 use Rattle.std.specs.Int.{cast_signed, cast_unsigned, w64}
 use Rattle.elf_model.specs.Bytes.{little}
-use Rattle.elf_model.specs.Values.{Kind, Terms, kind_of, fits, patch_of, value_of, value}
+use Rattle.elf_model.specs.Values.{Kind, Terms, R_X86_64_NONE, kind_of, fits, patch_of, value_of, value}
 use Rattle.elf_model.specs.declared.causes.Cause.{Cause}
 use Rattle.elf_model.specs.declared.causes.Cause.TheVariants.{Unsupported, Overflow}
 use Rattle.elf_reloc.specs.Types.{terms}
@@ -11,25 +12,33 @@ use Rattle.elf_reloc.specs.Types.{terms}
 abbrev stored_of : Terms → Option Kind → Result (List ℕ) Cause
 stored_of given type = elim type [ None ↦ Err Unsupported | Some type ↦ patch_of type given ]
 
-value_is : (n s l : ℕ) (a : ℤ) (p : ℕ) → stored_of (terms s l a p) (kind_of n) ≡ value n s l a p
+value_is :
+    (n s l : ℕ) (a : ℤ) (p : ℕ) → n ≢ R_X86_64_NONE → stored_of (terms s l a p) (kind_of n) ≡ value n s l a p
 unfolding value
-value_is n s l a p = refl
+value_is n s l a p other = let f : (n == R_X86_64_NONE) ≡ false = ne_eqb n R_X86_64_NONE other in rw (f, value) refl
 
 -- the low bytes of a number, where it is in the range
 abbrev pub patch_in : Kind → ℕ → Bool → Result (List ℕ) Cause
-patch_in type number in_range = elim in_range [ true ↦ Ok (little type.width number) | false ↦ Err Overflow ]
+patch_in type number in_range = elim (not in_range) [ true ↦ Err Overflow | false ↦ Ok (little type.width number) ]
 
 patch_is : (type : Kind) (given : Terms) → patch_in type (value_of type given) (fits type.range type.width (value_of type given)) ≡ patch_of type given
 unfolding patch_of
 patch_is type given = refl
 
-pub unsupported : (n s l : ℕ) (a : ℤ) (p : ℕ) → None ≡ kind_of n → Err Unsupported ≡ value n s l a p
-unsupported n s l a p is = ap (stored_of (terms s l a p)) is ∙ value_is n s l a p
+-- R_X86_64_NONE stores nothing
+pub nothing : (n s l : ℕ) (a : ℤ) (p : ℕ) → n ≡ R_X86_64_NONE → Ok [] ≡ value n s l a p
+unfolding value
+nothing n s l a p none = rw (none, value) refl
+
+pub unsupported :
+    (n s l : ℕ) (a : ℤ) (p : ℕ) → n ≢ R_X86_64_NONE → None ≡ kind_of n → Err Unsupported ≡ value n s l a p
+unsupported n s l a p other is = ap (stored_of (terms s l a p)) is ∙ value_is n s l a p other
 
 pub found :
     (n s l : ℕ) (a : ℤ) (p : ℕ) (type : Kind) (number : ℕ) (in_range : Bool)
-    → SFits w64 a → Some type ≡ kind_of n → number ≡ value_of type (terms s l (cast_signed w64 (cast_unsigned w64 a)) p) → in_range ≡ fits type.range type.width number
+    → n ≢ R_X86_64_NONE → SFits w64 a → Some type ≡ kind_of n
+    → number ≡ value_of type (terms s l (cast_signed w64 (cast_unsigned w64 a)) p) → in_range ≡ fits type.range type.width number
     → patch_in type number in_range ≡ value n s l a p
-found n s l a p type number in_range small is same ranged =
+found n s l a p type number in_range other small is same ranged =
     ap (patch_in type number) ranged ∙ ap (λ m. patch_in type m (fits type.range type.width m)) (same ∙ ap (λ z. value_of type (terms s l z p)) (to_z-of_z small))
-    ∙ patch_is type (terms s l a p) ∙ ap (stored_of (terms s l a p)) is ∙ value_is n s l a p
+    ∙ patch_is type (terms s l a p) ∙ ap (stored_of (terms s l a p)) is ∙ value_is n s l a p other

@@ -35,12 +35,13 @@ Faults old new Ended = IsHonest new → ⊥
 abbrev pub IsWithin : ℕ → Option ℕ → Type 0
 IsWithin asked most = (n : ℕ) → most ≡ Some n → (asked ≤ n) × (n < asked + 2 ^ 64)
 
--- a source whose reads are counted: what is seen of it, how many bytes were asked for, and the count that this may not
--- pass, where a limit is set
+-- a source whose reads are counted: what is seen of it, how many bytes were asked for, the count that this may not pass,
+-- where a limit is set, and where the last read was asked for that failed or that the limit had no room for
 pub record Counting : Type 0 where
   pub seen : Seen
   pub asked : ℕ
   pub most : Option ℕ
+  pub stopped : ℕ
   pub within : IsWithin asked most
   pub fits : asked < 2 ^ 128
 
@@ -57,6 +58,7 @@ pub record Limits (old new : Counting) (bytes : Option ℕ) : Type 0 where
   pub seen : new.seen ≡ old.seen
   pub asked : new.asked ≡ old.asked
   pub most : new.most ≡ option_map (counted old.asked) bytes
+  pub stopped : new.stopped ≡ old.stopped
   pub small : (n : ℕ) → bytes ≡ Some n → n < 2 ^ 64
 
 -- so many bytes from an offset on may be asked for in one read
@@ -87,13 +89,18 @@ Blames old new n Budget = OverLimit old new n
 abbrev pub Asks : {X : Type 0} → Counting → Counting → ℕ → Result X AskFault → Type 0
 Asks old new n (Ok x) = new.asked ≡ counted old.asked n
 Asks old new n (Err (Source fault)) = new.asked ≡ counted old.asked n
-Asks old new n (Err Budget) = new ≡ old
+Asks old new n (Err Budget) = new.asked ≡ old.asked
+
+-- where a read stops it is remembered where it was asked for, and nowhere else
+abbrev pub Stops : {X E : Type 0} → Counting → Counting → ℕ → Result X E → Type 0
+Stops old new at (Ok x) = new.stopped ≡ old.stopped
+Stops old new at (Err fault) = new.stopped ≡ at
 
 -- the source was read once, or not at all for want of budget
 abbrev pub AsksOnce : {X : Type 0} → (Seen → ℕ → ℕ → Seen → Type 0) → Counting → Counting → ℕ → ℕ → Result X AskFault → Type 0
 AsksOnce one_read old new at n (Ok x) = one_read old.seen at n new.seen
 AsksOnce one_read old new at n (Err (Source fault)) = one_read old.seen at n new.seen
-AsksOnce one_read old new at n (Err Budget) = new ≡ old
+AsksOnce one_read old new at n (Err Budget) = new.seen ≡ old.seen
 
 -- a read outside the limit: it is counted, and what is left of the limit stays
 pub record Fills (old new : Counting) (n : ℕ) : Type 0 where

@@ -1,6 +1,6 @@
 //! A source whose reads are counted.
 ghost use Rattle.std.specs.Prelude.{◌≡◌, ℕ, ◌+◌, ◌-◌, ◌^◌, ◌<◌, ◌≤◌, List, length, take, drop, None, Some, IfErr, OnOk};
-ghost use Rattle.elf_source.specs.Source.{Reads, Faults, Blames, Asks, AsksOnce, Fills, IsReadable, IsWithin, Limits, left};
+ghost use Rattle.elf_source.specs.Source.{Reads, Faults, Blames, Asks, AsksOnce, Stops, Fills, IsReadable, IsWithin, Limits, left};
 
 use crate::faults::{AskFault, SourceFault};
 use crate::source::Source;
@@ -9,13 +9,14 @@ use std::marker::Model;
 /// The most bytes that one read within a limit may ask for.
 pub const READ_BYTES: usize = 4096;
 
-/// A source, how many bytes were asked of it, and the count that this may not pass, where a limit is
-/// set.
+/// A source, how many bytes were asked of it, the count that this may not pass, where a limit is set,
+/// and the offset of the last read that failed or that the limit had no room for.
 #[derive(Drop)]
 pub struct Counted<S: Source> {
     source: S,
     asked: u128,
     most: Option<u128>,
+    stopped: u64,
     ghost within: { IsWithin asked most },
     ghost fits: { asked < 2 ^ 128 },
 }
@@ -29,6 +30,7 @@ impl<S: Source> Model for Counted<S> {
       seen = S.seen c.source;
       asked = c.asked;
       most = c.most;
+      stopped = c.stopped;
       within = c.within;
       fits = c.fits;
     } };
@@ -40,11 +42,13 @@ impl<S: Source> Counted<S> {
         ensures seen { result.seen ≡ S.seen source }
         ensures asked { result.asked ≡ 0 }
         ensures unlimited { result.most ≡ None }
+        ensures stopped { result.stopped ≡ 0 }
     {
         Counted {
             source,
             asked: 0,
             most: None,
+            stopped: 0,
         }
     }
 
@@ -61,6 +65,14 @@ impl<S: Source> Counted<S> {
         ensures fits { self.now.seen.size < 2 ^ 64 }
     {
         self.source.length()
+    }
+
+    /// The offset, in bytes, of the last read that failed or that a limit had no room for; 0 before the
+    /// first.
+    pub fn stopped(&self) -> u64
+        ensures { result ≡ self.now.stopped }
+    {
+        self.stopped
     }
 
     /// How many bytes [`Counted::ask`] may still ask for, where a limit is set.
@@ -88,7 +100,8 @@ impl<S: Source> Counted<S> {
     /// much, at a fault of the source too.
     ///
     /// # Errors
-    /// `Budget` where a limit has fewer bytes left than `out` has: nothing is asked and nothing changes.
+    /// `Budget` where a limit has fewer bytes left than `out` has: nothing is asked, and nothing changes
+    /// but what [`Counted::stopped`] answers.
     /// Else the source's own fault: `Device` only where its count of failures rose, `Ended` only where it
     /// isn't honest. After a fault `out` holds any bytes, and the source may be asked again.
     pub fn ask(&mut self, at: u64, out: &mut [u8]) -> Result<(), AskFault>
@@ -98,18 +111,23 @@ impl<S: Source> Counted<S> {
         ensures slice { (file : List ℕ) → self.old.seen.file ≡ Some file → OnOk result
             (out.new ≡ take (length out.old) (drop at file)) }
         ensures asks { Asks self.old self.new (length out.old) result }
+        ensures stops { Stops self.old self.new at result }
         ensures once { AsksOnce S.one_read self.old self.new at (length out.old) result }
     {
         let count = out.len();
         if let Some(left) = self.left() {
             if count as u64 > left {
+                self.stopped = at;
                 return Err(AskFault::Budget);
             }
         }
         self.asked = self.asked.saturating_add(count as u128);
         match self.source.fill(at, out) {
             Ok(()) => Ok(()),
-            Err(fault) => Err(AskFault::Source(fault)),
+            Err(fault) => {
+                self.stopped = at;
+                Err(AskFault::Source(fault))
+            }
         }
     }
 
@@ -123,6 +141,7 @@ impl<S: Source> Counted<S> {
     pub fn fill(&mut self, at: u64, out: &mut [u8]) -> Result<(), SourceFault>
         requires { at + length out.old ≤ self.old.seen.size }
         ensures fills { Fills self.old self.new (length out.old) }
+        ensures stops { Stops self.old self.new at result }
         ensures faults { IfErr result (Faults self.old.seen self.new.seen) }
         ensures slice { (file : List ℕ) → self.old.seen.file ≡ Some file → OnOk result
             (out.new ≡ take (length out.old) (drop at file)) }
@@ -132,6 +151,9 @@ impl<S: Source> Counted<S> {
         self.most = None;
         self.asked = self.asked.saturating_add(out.len() as u128);
         let answer = self.source.fill(at, out);
+        if answer.is_err() {
+            self.stopped = at;
+        }
         self.limit(left);
         answer
     }

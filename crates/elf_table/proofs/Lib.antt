@@ -7,4 +7,5 @@ pub mod SaysLaws
 pub mod SectionLaws
 pub mod Shown
 pub mod Standing
+pub mod ViewLaws
 pub mod Walking

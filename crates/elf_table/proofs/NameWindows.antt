@@ -10,7 +10,7 @@ use Rattle.elf_table.specs.Windows.{Ahead, AgreesWith, Holds, Moves, range_end}
 pub record Between (start want done : ℕ) (w : Ahead) : Type 0 where
   pub its_place : w.at ≡ start + done
   pub its_end : range_end w ≡ start + want
-  pub its_page : w.page ≡ 64
+  pub some_page : 0 < w.page
   pub none_held : w.held ≡ []
 
 -- the piece that it then holds is the file's
@@ -39,7 +39,7 @@ pub Between-next : (start want done : ℕ) (old new next : Ahead) (piece : List 
 Between-next start want done old new next piece before after s h m e at end page held = record {
   its_place = let a = h.stays in let b = s.its_place in omega arith;
   its_end = end ∙ m.same_end ∙ s.its_end;
-  its_page = page ∙ m.same_page ∙ s.its_page;
+  some_page = let p = s.some_page in let q = m.same_page in omega arith;
   none_held = held ∙ drop_all (length piece) new.held (let long = ap length e in omega arith);
 }
 

@@ -1,15 +1,11 @@
 -- The rows of one size that some bytes are.
-use Rattle.std.proofs.Common.{◌≡◌, ℕ, zero, suc, ◌+◌, ◌*◌, ◌<◌, List, [], take, refl, sym, ap, ◌∙◌, arith}
+use Rattle.std.proofs.Common.{◌≡◌, ℕ, zero, suc, ◌+◌, ◌*◌, ◌<◌, ◌≤◌, List, [], take, sym, ap, ◌∙◌, arith, mul-suc}
 use Rattle.std.specs.Prelude.{slice_index_or}
+use Rattle.std.proofs.Math.Nat.{mul-le-mul_left}
 use Rattle.elf_model.specs.Bytes.{slice}
 use Rattle.elf_model.proofs.Slices.{slice-slice}
 use Rattle.elf_table.specs.Cursors.{rows_from}
 use Rattle.elf_table.specs.Store.{AreRows}
-
--- no rows
-pub rows_none : (bytes : List ℕ) (at entry : ℕ) → rows_from bytes at entry 0 ≡ []
-unfolding rows_from
-rows_none bytes at entry = refl
 
 -- the row of an index
 pub row_held : (bytes : List ℕ) (at entry count i : ℕ) → i < count → slice_index_or (rows_from bytes at entry count) i [] ≡ slice bytes (at + entry * i) entry
@@ -19,11 +15,16 @@ row_held bytes at entry (suc count) zero below = ap (λ (x : ℕ). slice bytes x
 row_held bytes at entry (suc count) (suc i) below =
     row_held bytes (at + entry) entry count i (omega arith) ∙ ap (λ (x : ℕ). slice bytes x entry) (omega arith)
 
+-- a row ends within the rows
+rows-within : (entry i count : ℕ) → i < count → entry * i + entry ≤ entry * count
+rows-within entry i count below = rw (← mul-suc entry i) (mul-le-mul_left entry (omega arith))
+
 -- bytes that were read at the front are a file's rows
-pub rows_read : (file bytes : List ℕ) (from count : ℕ) → take (64 * count) bytes ≡ slice file from (64 * count) → AreRows file from count (rows_from bytes 0 64 count)
-rows_read file bytes from count read = λ i below.
-    row_held bytes 0 64 count i below
-    ∙ ap (λ (x : ℕ). slice bytes x 64) (omega arith)
-    ∙ sym (slice-slice bytes 0 (64 * count) (64 * i) 64 (omega arith))
-    ∙ ap (λ (x : List ℕ). slice x (64 * i) 64) read
-    ∙ slice-slice file from (64 * count) (64 * i) 64 (omega arith)
+pub rows_read : (entry : ℕ) (file bytes : List ℕ) (from count : ℕ) → take (entry * count) bytes ≡ slice file from (entry * count) → AreRows file from entry count (rows_from bytes 0 entry count)
+rows_read entry file bytes from count read = λ i below.
+    let within : entry * i + entry ≤ entry * count = rows-within entry i count below in
+    row_held bytes 0 entry count i below
+    ∙ ap (λ (x : ℕ). slice bytes x entry) (omega arith)
+    ∙ sym (slice-slice bytes 0 (entry * count) (entry * i) entry within)
+    ∙ ap (λ (x : List ℕ). slice x (entry * i) entry) read
+    ∙ slice-slice file from (entry * count) (entry * i) entry within

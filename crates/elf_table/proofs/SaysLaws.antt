@@ -11,8 +11,8 @@ use Rattle.elf_table.specs.declared.fault.Fault.TheVariants.{Refused, Source}
 -- a fault after other reads, in a bound on all
 pub Says-within : {a b : Counting} {n : ℕ} (c : Counting) (m k : ℕ) (fault : Fault) → b.asked + m ≤ a.asked + k → Reads a b n → Says b c m fault → Says a c k fault
 Says-within {n = n} c m k (Refused refusal) within p q =
-    λ budget. let r = q budget in (subst (λ (size : ℕ). refusal.at < size) p.keeps.same_size r.0, OverLimit-then n k within p r.1)
-Says-within {a = a} {b = b} c m k (Source fault at) within p q = Faults-then a.seen b.seen c.seen fault p.keeps q
+    λ budget. let r = q budget in (subst (λ (size : ℕ). refusal.at < size) p.keeps.same_size r.0, OverLimit-then n k within p r.1, r.2)
+Says-within {a = a} {b = b} c m k (Source fault at) within p q = (Faults-then a.seen b.seen c.seen fault p.keeps q.0, q.1)
 
 -- a fault after other reads
 pub Says-then : {a b : Counting} {n : ℕ} (c : Counting) (m : ℕ) (fault : Fault) → Reads a b n → Says b c m fault → Says a c (n + m) fault
@@ -20,7 +20,7 @@ Says-then {n = n} c m fault p q = Says-within c m (n + m) fault (omega (arith, p
 
 -- a looser bound
 pub Says-more : (a b : Counting) {n k : ℕ} (fault : Fault) → n ≤ k → Says a b n fault → Says a b k fault
-Says-more a b (Refused refusal) within p = λ budget. let r = p budget in (r.0, OverLimit-more within r.1)
+Says-more a b (Refused refusal) within p = λ budget. let r = p budget in (r.0, OverLimit-more within r.1, r.2)
 Says-more a b (Source fault at) within p = p
 
 -- a fault of a read at an offset is one of a read

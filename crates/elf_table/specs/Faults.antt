@@ -10,14 +10,15 @@ use Rattle.elf_source.specs.Source.{Counting, Faults, OverLimit}
 use Rattle.elf_table.specs.declared.fault.Fault.{Fault}
 use Rattle.elf_table.specs.declared.fault.Fault.TheVariants.{Refused, Source}
 
--- what a refusal says of the source, by reads of at most n bytes: nothing, unless it is for want of budget
+-- what a refusal says of the source, by reads of at most n bytes: nothing, unless it is for want of budget; then it names
+-- the read that stopped
 abbrev pub RefusalSays : Counting → Counting → ℕ → Refusal → Type 0
-RefusalSays old new n refusal = IsBudget refusal → (refusal.at < old.seen.size) × OverLimit old new n
+RefusalSays old new n refusal = IsBudget refusal → (refusal.at < old.seen.size) × OverLimit old new n × (refusal.at ≡ new.stopped)
 
--- what a fault says of the source, by reads of at most n bytes
+-- what a fault says of the source, by reads of at most n bytes: the source's own names the read that stopped
 abbrev pub Says : Counting → Counting → ℕ → Fault → Type 0
 Says old new n (Refused refusal) = RefusalSays old new n refusal
-Says old new n (Source fault at) = Faults old.seen new.seen fault
+Says old new n (Source fault at) = Faults old.seen new.seen fault × (at ≡ new.stopped)
 
 -- a fault of a read at an offset: the source's, or a refusal for want of budget
 abbrev pub IsAt : ℕ → Fault → Type 0

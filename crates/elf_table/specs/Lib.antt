@@ -7,4 +7,5 @@ pub mod Permitted
 pub mod Sections
 pub mod Store
 pub mod Tables
+pub mod Views
 pub mod Windows

@@ -1,10 +1,8 @@
 -- The load of a file's section headers.
-use Rattle.std.specs.Prelude.{ℕ, ◌≡◌, ◌+◌, ◌*◌, ◌^◌, ◌<◌, ◌≤◌, ◌==◌, ◌&&◌, nat_lt, not, List, [], ◌∷◌, length, is_none, None, Some, Result, Ok, Err}
+use Rattle.std.specs.Prelude.{ℕ, ◌≡◌, ◌+◌, ◌*◌, ◌^◌, ◌<◌, ◌≤◌, List, length, is_none, None, Some, Result, Ok, Err}
 use Rattle.elf_model.specs.Budget.{IsBudget}
-use Rattle.elf_model.specs.Checks.{Check, refuse, first_refusal, is_outside, length_checks, load_checks}
+use Rattle.elf_model.specs.Checks.{Check, Counts, first_refusal, early_checks_of, length_checks, load_checks}
 use Rattle.elf_model.specs.Cost.{cost_where}
-use Rattle.elf_model.specs.Numbers.{PN_XNUM, SHN_XINDEX}
-use Rattle.elf_model.specs.declared.causes.Cause.TheVariants.{ExtendedNumbering, TooManyHeaders, EntrySize, TableOutside, BadLink}
 use Rattle.elf_record.specs.Ehdr.{IsEhdr}
 use Rattle.elf_record.specs.declared.ehdr.Ehdr.{Ehdr}
 use Rattle.elf_source.specs.Source.{Counting}
@@ -17,20 +15,21 @@ pub record Opened : Type 0 where
   pub size : ℕ
   pub header : Ehdr
 
+-- what a decoded file header tells of its headers
+abbrev pub counts_of : Ehdr → Counts
+counts_of header = record {
+  phoff = header.e_phoff;
+  shoff = header.e_shoff;
+  phentsize = header.e_phentsize;
+  phnum = header.e_phnum;
+  shentsize = header.e_shentsize;
+  shnum = header.e_shnum;
+  shstrndx = header.e_shstrndx;
+}
+
 -- the checks before the section headers are read, over the fields of the file header
 abbrev pub early_of : Ehdr → ℕ → ℕ → List Check
-early_of header size headers =
-    refuse (header.e_phnum == PN_XNUM) 0x38 ExtendedNumbering
-    ∷ refuse (header.e_shstrndx == SHN_XINDEX) 0x3e ExtendedNumbering
-    ∷ refuse (header.e_shnum == 0 && not (header.e_shoff == 0)) 0x3c ExtendedNumbering
-    ∷ refuse (nat_lt headers header.e_shnum) 0x3c TooManyHeaders
-    ∷ refuse (nat_lt headers header.e_phnum) 0x38 TooManyHeaders
-    ∷ refuse (not (header.e_shnum == 0) && not (header.e_shentsize == 64)) 0x3a EntrySize
-    ∷ refuse (not (header.e_phnum == 0) && not (header.e_phentsize == 56)) 0x36 EntrySize
-    ∷ refuse (not (header.e_shnum == 0) && is_outside size header.e_shoff (64 * header.e_shnum)) 0x28 TableOutside
-    ∷ refuse (not (header.e_phnum == 0) && is_outside size header.e_phoff (56 * header.e_phnum)) 0x20 TableOutside
-    ∷ refuse (not (header.e_shnum == 0) && not (nat_lt header.e_shstrndx header.e_shnum)) 0x3e BadLink
-    ∷ []
+early_of header size headers = early_checks_of (counts_of header) size headers
 
 -- what those checks leave: headers within the file and within the slots, the section names among the sections
 pub record Passes (size headers : ℕ) (header : Ehdr) : Type 0 where

@@ -1,26 +1,42 @@
--- The store of section headers, and what it holds of a file.
+-- The store of headers, and what it holds of a file.
 use Rattle.std.specs.Prelude.{ℕ, ◌≡◌, ◌+◌, ◌*◌, ◌<◌, List, [], slice_index_or}
 use Rattle.elf_model.specs.Bytes.{slice}
-use Rattle.elf_model.specs.Records.{section_at}
+use Rattle.elf_model.specs.Records.{section_at, segment_at}
 
--- how many slots a store has, how many section headers are loaded, and the bytes of each of those
+-- how many slots a store has, how many section headers are loaded, and the bytes of each of those; the same of the program
+-- headers
 pub record Stored : Type 0 where
   pub slots : ℕ
   pub loaded : ℕ
   pub rows : List (List ℕ)
+  pub segments : ℕ
+  pub segment_rows : List (List ℕ)
 
--- a store with as many slots and no section header
+-- a store with so many slots and no header
+abbrev pub empty : ℕ → Stored
+empty slots = record { slots = slots; loaded = 0; rows = []; segments = 0; segment_rows = [] }
+
+-- a store with as many slots and no header
 abbrev pub emptied : Stored → Stored
-emptied store = record { slots = store.slots; loaded = 0; rows = [] }
+emptied store = empty store.slots
 
 -- the bytes of the section header of an index
 abbrev pub row : Stored → ℕ → List ℕ
 row store i = slice_index_or store.rows i []
 
--- the first rows, so many of them, are a file's consecutive slices of 64 bytes from an offset on
-abbrev pub AreRows : List ℕ → ℕ → ℕ → List (List ℕ) → Type 0
-AreRows file from count rows = (i : ℕ) → i < count → slice_index_or rows i [] ≡ slice file (from + 64 * i) 64
+-- the bytes of the program header of an index
+abbrev pub segment_row : Stored → ℕ → List ℕ
+segment_row store i = slice_index_or store.segment_rows i []
+
+-- the first rows, so many of them, are a file's consecutive slices of one size from an offset on
+abbrev pub AreRows : List ℕ → ℕ → ℕ → ℕ → List (List ℕ) → Type 0
+AreRows file from entry count rows =
+    (i : ℕ) → i < count → slice_index_or rows i [] ≡ slice file (from + entry * i) entry
 
 -- the loaded rows are the file's section headers
 abbrev pub Holds : List ℕ → Stored → Type 0
 Holds file store = (i : ℕ) → i < store.loaded → row store i ≡ slice file (section_at file i) 64
+
+-- the loaded rows are the file's program headers
+abbrev pub HoldsSegments : List ℕ → Stored → Type 0
+HoldsSegments file store = (i : ℕ) → i < store.segments → segment_row store i ≡ slice file (segment_at file i) 56

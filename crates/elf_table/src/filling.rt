@@ -12,7 +12,7 @@ use elf_source::{AskFault, Counted, Source};
 ///
 /// # Errors
 /// A refusal for want of budget, or the source's fault; both name `at`. Then `out` holds any bytes.
-pub(crate) fn fill<S: Source>(src: &mut Counted<S>, at: u64, out: &mut [u8]) -> Result<(), Fault>
+pub fn fill<S: Source>(src: &mut Counted<S>, at: u64, out: &mut [u8]) -> Result<(), Fault>
     requires { IsReadable src.old at (length out.old) }
     ensures reads { Reads src.old src.new (length out.old) }
     ensures says { IfErr result (Says src.old src.new (length out.old)) }

@@ -20,7 +20,8 @@ use elf_source::{Counted, Source};
 
 /// Loads the section headers of a file into the store, each read once, and checks the file header's
 /// counts and places and the section of the section names (gABI 4, ELF Header). `header` is the
-/// file's header. At an error no section header is loaded, and the store may be loaded again.
+/// file's header. At an error no section header is loaded, and the store may be loaded again. No
+/// program header stays loaded.
 ///
 /// # Errors
 /// The first check that fails, of the file header's with nothing read: `ExtendedNumbering` at 0x38,
@@ -34,6 +35,7 @@ pub fn load<S: Source>(
     header: &Ehdr,
 ) -> Result<Loaded, Fault>
     ensures slots { store.new.slots ≡ store.old.slots }
+    ensures segments { store.new.segments ≡ 0 }
     // At most the section headers are asked for, and nothing where the file header refuses the file.
     ensures reads { Reads src.old src.new (load_cost header.now src.old.seen.size store.old.slots) }
     ensures says { IfErr result

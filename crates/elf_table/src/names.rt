@@ -1,23 +1,23 @@
 //! Names in a string table.
-ghost use Rattle.std.specs.Prelude.{◌≡◌, ◌≢◌, ℕ, ◌+◌, ◌-◌, ◌^◌, ◌<◌, ◌≤◌, List, [], length, slice_index, Some, IfErr, MatchBool};
+ghost use Rattle.std.specs.Prelude.{◌≡◌, ◌≢◌, ℕ, ◌+◌, ◌-◌, ◌^◌, ◌<◌, ◌≤◌, List, length, slice_index, Some, IfErr, MatchBool};
 ghost use Rattle.elf_model.specs.Bytes.{slice};
 ghost use Rattle.elf_model.specs.Names.{shown, same, pad64, name_bytes};
 ghost use Rattle.elf_source.specs.Source.{Reads};
 ghost use Rattle.elf_table.specs.Faults.{IsOfRead, Says};
-ghost use Rattle.elf_table.specs.NamesRead.{NameRead, Compared, Searched, Matched};
+ghost use Rattle.elf_table.specs.NamesRead.{NameRead, Compared, Matched};
 ghost use Rattle.elf_table.specs.Tables.{StringsWithin, strings_in};
 
 use crate::caps::Cap;
 use crate::fault::Fault;
 use crate::name_buf::NameBuf;
-use crate::window::Window;
+use crate::name_search::search_name;
+use crate::window::{WINDOW_BYTES, Window};
 use elf_record::{Cause, Refusal};
 use elf_source::{Counted, Source};
-use memchr::memchr;
 use std::marker::Model;
 
 /// How many bytes of a name are asked for at once.
-pub(crate) const PIECE: usize = 64;
+const PIECE: usize = 64;
 
 /// How a name that was read ends.
 #[derive(Clone, Copy, Debug, PartialEq, Eq)]
@@ -96,7 +96,8 @@ impl Names {
         }
         let left = self.size - off;
         let want = left.min(u64::from(cap.bytes) + 1);
-        if search(src, self.at + off, want, cap, name)? {
+        let mut window: Window<PIECE> = Window::new(self.at + off, want, PIECE as u64);
+        if search_name(&mut window, src, want, cap, name)? {
             return Ok(NameEnd::Whole);
         }
         if left > u64::from(cap.bytes) {
@@ -105,9 +106,25 @@ impl Names {
         Err(refused(at, Cause::NameUnended))
     }
 
-    /// Whether the name at the index `off` is `wanted`, which has no NUL (gABI 4, String Table). It
-    /// reads in pieces of 64 bytes, up to the first byte that differs from `wanted` and a NUL, never
-    /// past the string table's end. In an empty string table the answer at index 0 is false.
+    /// The file offset of the first byte.
+    pub fn at(&self) -> u64
+        ensures value { result ≡ self.now.at }
+        ensures ends { self.now.at + self.now.size < 2 ^ 64 }
+    {
+        self.at
+    }
+
+    /// The number of bytes.
+    pub fn size(&self) -> u64
+        ensures value { result ≡ self.now.size }
+        ensures ends { self.now.at + self.now.size < 2 ^ 64 }
+    {
+        self.size
+    }
+
+    /// Whether the name at the index `off` is `wanted`, which has no NUL (gABI 4, String Table). It asks
+    /// once for as many bytes as `wanted` has with its NUL, never past the string table's end; where
+    /// those are 4,097, twice at most. In an empty string table the answer at index 0 is false.
     ///
     /// # Errors
     /// Refused at `at`, the offset of the entry that holds the index: `NameOutside` where the index is
@@ -154,43 +171,8 @@ fn refused(at: u64, cause: Cause) -> Fault
     Fault::Refused(Refusal { at, cause })
 }
 
-// Reads `want` bytes from `start` on, or fewer up to the first NUL, and adds those before it to
-// `name`, as far as `cap`. Answers whether there is a NUL.
-fn search<S: Source>(
-    src: &mut Counted<S>,
-    start: u64,
-    want: u64,
-    cap: Cap,
-    name: &mut NameBuf,
-) -> Result<bool, Fault>
-    requires empty { name.old ≡ [] }
-    requires ends { start + want < 2 ^ 64 }
-    requires within { start + want ≤ src.old.seen.size }
-    ensures reads { Reads src.old src.new want }
-    ensures says { IfErr result (Says src.old src.new want) }
-    ensures fault { IfErr result IsOfRead }
-    ensures searched { (file : List ℕ) → src.old.seen.file ≡ Some file →
-        Searched (slice file start want) cap.bytes result name.new }
-{
-    let mut window: Window<PIECE> = Window::new(start, want, PIECE as u64);
-    let mut done: u64 = 0;
-    while done < want {
-        window.bring(src, 1)?;
-        let piece = window.front();
-        let count = piece.len() as u64;
-        if let Some(place) = memchr(0, piece) {
-            name.add(&piece[..place], cap);
-            return Ok(true);
-        }
-        name.add(piece, cap);
-        window.skip(count);
-        done += count;
-    }
-    Ok(false)
-}
-
 // Reads `want` bytes from `start` on, or fewer up to the first that differs, and answers whether they
-// are those of `wanted` and a NUL.
+// are those of `wanted` and a NUL. It reads as many at once as one read may ask for.
 fn matches<S: Source>(
     src: &mut Counted<S>,
     start: u64,
@@ -206,7 +188,32 @@ fn matches<S: Source>(
     ensures matched { (file : List ℕ) → src.old.seen.file ≡ Some file →
         Matched (slice file start want) wanted.now result }
 {
-    let mut window: Window<PIECE> = Window::new(start, want, PIECE as u64);
+    if want <= PIECE as u64 {
+        match_pieces::<S, PIECE>(src, start, want, wanted)
+    } else {
+        match_pieces::<S, WINDOW_BYTES>(src, start, want, wanted)
+    }
+}
+
+// The same in pieces of `N` bytes.
+fn match_pieces<S: Source, const N: usize>(
+    src: &mut Counted<S>,
+    start: u64,
+    want: u64,
+    wanted: &[u8],
+) -> Result<bool, Fault>
+    requires some { 0 < N }
+    requires small { N ≤ 4096 }
+    requires most { want ≤ length wanted.now + 1 }
+    requires ends { start + want < 2 ^ 64 }
+    requires within { start + want ≤ src.old.seen.size }
+    ensures reads { Reads src.old src.new want }
+    ensures says { IfErr result (Says src.old src.new want) }
+    ensures fault { IfErr result IsOfRead }
+    ensures matched { (file : List ℕ) → src.old.seen.file ≡ Some file →
+        Matched (slice file start want) wanted.now result }
+{
+    let mut window: Window<N> = Window::new(start, want, N as u64);
     let mut done: u64 = 0;
     while done < want {
         window.bring(src, 1)?;

@@ -10,6 +10,8 @@ pub(crate) const PROGRAM_HEADER_BYTES: u64 = 56;
 pub(crate) const SYMBOL_BYTES: u64 = 24;
 /// The size of a relocation entry with an addend in bytes.
 pub(crate) const RELOCATION_BYTES: u64 = 24;
+/// The size of a dynamic entry in bytes.
+pub(crate) const DYNAMIC_BYTES: u64 = 16;
 
 /// Whether `bytes` bytes from `offset` on end past a file of `size` bytes.
 pub(crate) fn ends_outside(size: u64, offset: u64, bytes: u64) -> bool

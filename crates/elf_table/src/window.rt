@@ -10,8 +10,8 @@ use crate::filling::fill;
 use elf_source::{Counted, Source};
 use std::marker::Model;
 
-/// How many bytes a window holds at most.
-pub(crate) const WINDOW_BYTES: usize = 4096;
+/// How many bytes the window of a cursor holds at most.
+pub const WINDOW_BYTES: usize = 4096;
 
 /// A window over a range of a file: a place, and the bytes that were read ahead from there on. Each
 /// byte of the range is asked for at most once, in order, and none past the range's end. Pages are

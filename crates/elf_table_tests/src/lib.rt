@@ -1,11 +1,13 @@
-//! Tests of loads, tables, names and relocation entries, in a crate of their own: a crate with
-//! tests is proved twice.
+//! Tests of loads, tables, names, relocation entries, the segment view, notes and dynamic entries, in
+//! a crate of their own: a crate with tests is proved twice.
 #![tactic(auto)]
 
 #[cfg(test)]
-mod fakes;
+mod ahead;
 #[cfg(test)]
-mod fixtures;
+mod answers;
+#[cfg(test)]
+mod dynamic;
 #[cfg(test)]
 mod limits;
 #[cfg(test)]
@@ -13,8 +15,12 @@ mod loads;
 #[cfg(test)]
 mod names;
 #[cfg(test)]
+mod notes;
+#[cfg(test)]
 mod readers;
 #[cfg(test)]
 mod relocations;
+#[cfg(test)]
+mod segments;
 #[cfg(test)]
 mod tables;

@@ -1,8 +1,9 @@
 //! Reads that run out of a limit name the offset that was asked for.
-use crate::fakes::Planned;
-use crate::fixtures::refused;
+use crate::answers::refused;
 use crate::loads::{open, two_pages};
 use crate::tables::rows_given;
+use elf_fakes::Planned;
+use elf_names::{NameIndex, ReadAhead};
 use elf_record::Cause;
 use elf_source::{Counted, MemorySource};
 use elf_table::{Cap, Cursor, Fault, HeaderStore, NameBuf, NameEnd, Names, Table};
@@ -63,27 +64,25 @@ fn a_symbol_past_its_limit_is_refused_at_its_place(rt: HostRuntime) {
 fn read_and_compare(limit: u64) -> (Result<NameEnd, Fault>, Result<bool, Fault>) {
     let bytes = [b'a'; 220];
     let names = Names::new(20, 200);
+    let (off, at) = (10, 7);
+    let index = NameIndex { names, off, at };
     let mut name = NameBuf::new();
     let mut src = Counted::new(MemorySource::new(&bytes));
     src.limit(Some(limit));
-    let read = names.read(&mut src, 10, 7, Cap { bytes: 180 }, &mut name);
+    let read = ReadAhead::new().name(&mut src, index, Cap { bytes: 180 }, &mut name);
     src.limit(Some(limit));
-    let compared = names.equals(&mut src, 10, 7, &[b'a'; 180]);
+    let compared = names.equals(&mut src, off, at, &[b'a'; 180]);
     (read, compared)
 }
 
 #[test]
 fn a_name_past_its_limit_is_refused_at_its_piece(rt: HostRuntime) {
-    for (limit, at) in [
-        (0, 30),
-        (63, 30),
-        (64, 94),
-        (127, 94),
-        (128, 158),
-        (180, 158),
-    ] {
-        let wanted = (refused(at, Cause::Budget), refused(at, Cause::Budget));
+    for (limit, at) in [(0, 30), (63, 30), (64, 94), (180, 94)] {
+        let wanted = (refused(at, Cause::Budget), refused(30, Cause::Budget));
         assert!(rt; read_and_compare(limit) == wanted, "{limit}");
     }
-    assert!(rt; read_and_compare(181) == (Ok(NameEnd::Cut), Ok(false)));
+    let wanted = (refused(94, Cause::Budget), Ok(false));
+    assert!(rt; read_and_compare(181) == wanted);
+    assert!(rt; read_and_compare(189) == wanted);
+    assert!(rt; read_and_compare(190) == (Ok(NameEnd::Cut), Ok(false)));
 }

@@ -1,8 +1,9 @@
 //! What no clause says: that the store can be made, and the answers at files with known ones.
 ghost use Rattle.std.specs.Prelude.{◌≡◌};
 
-use crate::fakes::{Ending, Planned};
-use crate::fixtures::{FIVE_SECTIONS, ONE_SYMBOL_TABLE, refused};
+use crate::answers::refused;
+use elf_fakes::{Ending, Planned};
+use elf_fixtures::{one_symbol_table, tables_over_headers, with_bytes};
 use elf_record::{Cause, Ehdr, Shdr};
 use elf_source::{Counted, MemorySource, Source, SourceFault};
 use elf_table::{Fault, File, HeaderStore, Loaded, Names, Table, header, load};
@@ -56,10 +57,7 @@ fn three_sections<'a>(file: &[u8], store: &'a mut HeaderStore, rt: &impl Abort) 
 
 /// The file with one symbol table, whose section 2 has the section names and a link to section 1.
 fn linked_file() -> [u8; 312] {
-    let mut file = ONE_SYMBOL_TABLE;
-    file[0x3e] = 2;
-    file[0x120] = 1;
-    file
+    with_bytes(&with_bytes(one_symbol_table(), 0x3e, &[2]), 0x120, &[1])
 }
 
 /// The symbols of that file, and their names.
@@ -71,7 +69,7 @@ fn symbols_and_names() -> (Table, Names) {
 fn two_slots_are_too_few_for_three_headers(rt: HostRuntime) -> Result<(), Fail> {
     let mut store = HeaderStore::new(rt.alloc(), 2)?;
     assert!(rt; store.bytes() == 128);
-    let answer = run(&ONE_SYMBOL_TABLE, &mut store);
+    let answer = run(one_symbol_table(), &mut store);
     assert!(rt; answer == (refused(0x3c, Cause::TooManyHeaders), 64));
     assert!(rt; store.bytes() == 128);
     Ok(())
@@ -80,7 +78,7 @@ fn two_slots_are_too_few_for_three_headers(rt: HostRuntime) -> Result<(), Fail> 
 #[test]
 fn three_slots_are_enough(rt: HostRuntime) -> Result<(), Fail> {
     let mut store = HeaderStore::new(rt.alloc(), 3)?;
-    let asked = run_well(&ONE_SYMBOL_TABLE, &mut store, &rt);
+    let asked = run_well(one_symbol_table(), &mut store, &rt);
     assert!(rt; asked == 256);
     assert!(rt; store.loaded() == 3);
     assert!(rt; section(&store, 1, &rt).sh_size == 0x30);
@@ -99,10 +97,9 @@ fn a_load_refuses_by_the_first_check_that_fails(rt: HostRuntime) -> Result<(), F
         (0x3a, 63, 0x3a, Cause::EntrySize),
         (0x28, 0x79, 0x28, Cause::TableOutside),
     ] {
-        let mut file = ONE_SYMBOL_TABLE;
-        file[place] = value;
+        let file = with_bytes(one_symbol_table(), place, &[value]);
         let (answer, _asked) = run(&file, &mut store);
-        assert!(rt; answer == refused(at, cause));
+        assert!(rt; answer == refused(at, cause), "{place}");
         assert!(rt; store.loaded() == 0);
     }
     Ok(())
@@ -111,9 +108,9 @@ fn a_load_refuses_by_the_first_check_that_fails(rt: HostRuntime) -> Result<(), F
 #[test]
 fn a_store_that_refused_is_loaded_again(rt: HostRuntime) -> Result<(), Fail> {
     let mut store = HeaderStore::new(rt.alloc(), 3)?;
-    let (answer, _asked) = run(&FIVE_SECTIONS, &mut store);
+    let (answer, _asked) = run(tables_over_headers(), &mut store);
     assert!(rt; answer == refused(0x3c, Cause::TooManyHeaders));
-    let _asked = run_well(&ONE_SYMBOL_TABLE, &mut store, &rt);
+    let _asked = run_well(one_symbol_table(), &mut store, &rt);
     assert!(rt; store.loaded() == 3);
     Ok(())
 }
@@ -129,7 +126,7 @@ fn a_length_of_two_to_the_63_is_too_long(rt: HostRuntime) {
 fn a_read_that_ends_names_the_offset_asked_for(rt: HostRuntime) -> Result<(), Fail> {
     let mut store = HeaderStore::new(rt.alloc(), 3)?;
     let mut bytes = [0; 64];
-    bytes.copy_from_slice(&ONE_SYMBOL_TABLE[..64]);
+    bytes.copy_from_slice(&one_symbol_table()[..64]);
     let header = Ehdr::decode(&bytes);
     let mut src = Counted::new(Ending { length: 312 });
     let fault = SourceFault::Ended;
@@ -142,7 +139,7 @@ fn a_read_that_ends_names_the_offset_asked_for(rt: HostRuntime) -> Result<(), Fa
 /// A file with room for 130 section headers, which says that it has so many.
 fn three_pages(count: u8) -> [u8; 64 + 64 * 130] {
     let mut file = [0; 64 + 64 * 130];
-    file[..64].copy_from_slice(&FIVE_SECTIONS[..64]);
+    file[..64].copy_from_slice(&tables_over_headers()[..64]);
     file[0x3c] = count;
     file
 }
@@ -180,7 +177,7 @@ fn a_store_of_any_size_can_be_made(rt: HostRuntime) -> Result<(), Fail> {
 /// A file of 65 section headers, one more than a page has.
 pub(crate) fn two_pages() -> [u8; 64 + 64 * 65] {
     let mut file = [0; 64 + 64 * 65];
-    file[..64].copy_from_slice(&FIVE_SECTIONS[..64]);
+    file[..64].copy_from_slice(&tables_over_headers()[..64]);
     file[0x3c] = 65;
     file[64 + 64 * 63] = 5;
     file[64 + 64 * 64] = 6;
@@ -237,10 +234,9 @@ fn symbols_come_with_their_names(rt: HostRuntime) -> Result<(), Fail> {
 #[test]
 fn ranges_are_whole_numbers(rt: HostRuntime) -> Result<(), Fail> {
     let mut store = HeaderStore::new(rt.alloc(), 3)?;
-    let mut bytes = ONE_SYMBOL_TABLE;
     // Section 1 at 2^64 - 8, of 24 bytes.
-    bytes[0xd0..0xd8].copy_from_slice(&(u64::MAX - 7).to_le_bytes());
-    bytes[0xd8] = 24;
+    let far = with_bytes(one_symbol_table(), 0xd0, &(u64::MAX - 7).to_le_bytes());
+    let bytes = with_bytes(&far, 0xd8, &[24]);
     let file = three_sections(&bytes, &mut store, &rt);
     let outside = refused(9, Cause::TableOutside);
     let symbols = file.symbols(1);

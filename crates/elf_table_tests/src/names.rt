@@ -1,6 +1,7 @@
 //! Worked names, and how many bytes they ask for.
-use crate::fakes::Planned;
-use crate::fixtures::refused;
+use crate::answers::refused;
+use elf_fakes::Planned;
+use elf_names::{NameIndex, ReadAhead};
 use elf_record::Cause;
 use elf_source::{Counted, MemorySource, SourceFault};
 use elf_table::{Cap, Fault, NameBuf, NameEnd, Names};
@@ -16,13 +17,12 @@ fn read_name(
 ) -> (Result<NameEnd, Fault>, u128) {
     assert!(rt; cap >= 1 && cap <= 4096);
     let mut src = Counted::new(MemorySource::new(strings));
-    let answer = Names::new(0, strings.len() as u64).read(
-        &mut src,
+    let index = NameIndex {
+        names: Names::new(0, strings.len() as u64),
         off,
-        7,
-        Cap { bytes: cap },
-        name,
-    );
+        at: 7,
+    };
+    let answer = ReadAhead::new().name(&mut src, index, Cap { bytes: cap }, name);
     (answer, src.asked())
 }
 
@@ -45,11 +45,12 @@ fn names_are_whole_or_cut(rt: HostRuntime) {
     let open = b"\0abc";
     let mut name = NameBuf::new();
     let abc = (NameEnd::Whole, b"abc".as_slice(), 4);
-    let ab = (NameEnd::Cut, b"ab".as_slice(), 3);
+    let ab_of_whole = (NameEnd::Cut, b"ab".as_slice(), 4);
+    let ab_of_open = (NameEnd::Cut, b"ab".as_slice(), 3);
     let empty = (NameEnd::Whole, b"".as_slice(), 0);
     assert!(rt; shows(whole, 1, 3, &mut name, abc, &rt));
-    assert!(rt; shows(whole, 1, 2, &mut name, ab, &rt));
-    assert!(rt; shows(open, 1, 2, &mut name, ab, &rt));
+    assert!(rt; shows(whole, 1, 2, &mut name, ab_of_whole, &rt));
+    assert!(rt; shows(open, 1, 2, &mut name, ab_of_open, &rt));
     assert!(rt; shows(b"", 0, 3, &mut name, empty, &rt));
 }
 
@@ -69,8 +70,8 @@ fn the_longest_name_fills_the_buffer(rt: HostRuntime) {
     let longest = [b'a'; 4096];
     let mut strings = [b'a'; 4200];
     let mut name = NameBuf::new();
-    let cut = (NameEnd::Cut, longest.as_slice(), 4097);
-    let whole = (NameEnd::Whole, longest.as_slice(), 4097);
+    let cut = (NameEnd::Cut, longest.as_slice(), 4160);
+    let whole = (NameEnd::Whole, longest.as_slice(), 4160);
     assert!(rt; shows(&strings, 0, 4096, &mut name, cut, &rt));
     strings[4096] = 0;
     assert!(rt; shows(&strings, 0, 4096, &mut name, whole, &rt));
@@ -111,22 +112,44 @@ fn names_are_compared_with_their_end(rt: HostRuntime) {
 fn read_and_compare(failing: u32) -> (Result<NameEnd, Fault>, Result<bool, Fault>) {
     let bytes = [b'a'; 220];
     let names = Names::new(20, 200);
+    let (off, at) = (10, 7);
+    let index = NameIndex { names, off, at };
     let mut name = NameBuf::new();
     let mut src = Counted::new(Planned::new(&bytes, failing));
-    let read = names.read(&mut src, 10, 7, Cap { bytes: 180 }, &mut name);
+    let read = ReadAhead::new().name(&mut src, index, Cap { bytes: 180 }, &mut name);
     let mut src = Counted::new(Planned::new(&bytes, failing));
-    let compared = names.equals(&mut src, 10, 7, &[b'a'; 180]);
+    let compared = names.equals(&mut src, off, at, &[b'a'; 180]);
     (read, compared)
 }
 
 #[test]
 fn a_fault_in_any_piece_names_its_offset(rt: HostRuntime) {
-    for (failing, at) in [(1, 30), (2, 94), (3, 158)] {
-        let fault = SourceFault::Device;
-        let answer = Fault::Source { fault, at };
-        assert!(rt;
-            read_and_compare(failing) == (Err(answer), Err(answer)),
-            "{failing}"
-        );
-    }
+    let fault = SourceFault::Device;
+    let first = Fault::Source { fault, at: 30 };
+    let second = Fault::Source { fault, at: 94 };
+    assert!(rt; read_and_compare(1) == (Err(first), Err(first)));
+    assert!(rt; read_and_compare(2) == (Err(second), Ok(false)));
+    assert!(rt; read_and_compare(3) == (Ok(NameEnd::Cut), Ok(false)));
+}
+
+// How many reads a comparison takes with a name of `count` bytes, of a string table of nothing else.
+fn reads_of_a_comparison(count: usize, rt: &impl Abort) -> u32 {
+    assert!(rt; count <= 4096);
+    let mut strings = [b'a'; 4097];
+    strings[count] = 0;
+    let names = Names::new(0, 4097);
+    let mut src = Counted::new(Planned::new(&strings, 0));
+    assert!(rt; src.length() == 4097);
+    let answer = names.equals(&mut src, 0, 7, &[b'a'; 4096][..count]);
+    assert!(rt; answer == Ok(true) && src.asked() == count as u128 + 1);
+    src.into_inner().reads
+}
+
+#[test]
+fn a_comparison_asks_once_where_one_read_will_do(rt: HostRuntime) {
+    assert!(rt; reads_of_a_comparison(0, &rt) == 1);
+    assert!(rt; reads_of_a_comparison(63, &rt) == 1);
+    assert!(rt; reads_of_a_comparison(64, &rt) == 1);
+    assert!(rt; reads_of_a_comparison(4095, &rt) == 1);
+    assert!(rt; reads_of_a_comparison(4096, &rt) == 2);
 }

@@ -1,8 +1,8 @@
 //! A stream over a reader in memory, which tells its file, is read as the memory itself is.
-use crate::fakes::Pieces;
-use crate::fixtures::ONE_CALL;
 use crate::loads::open;
 use crate::relocations::name_of_the_call;
+use elf_fakes::Pieces;
+use elf_fixtures::one_call;
 use elf_source::{Counted, MemorySource, Source, SourceFault, StreamSource};
 use elf_table::HeaderStore;
 use std::process::Abort;
@@ -40,9 +40,9 @@ fn a_reader_that_tells_its_file_is_read_as_memory_is(rt: HostRuntime) -> Result<
 #[test]
 fn a_reader_that_tells_its_file_is_loaded_as_memory_is(rt: HostRuntime) -> Result<(), Fail> {
     let mut store = HeaderStore::new(rt.alloc(), 5)?;
-    let mut memory = Counted::new(MemorySource::new(&ONE_CALL));
+    let mut memory = Counted::new(MemorySource::new(one_call()));
     let wanted = open(&mut memory, &mut store);
-    let mut stream = Counted::new(StreamSource::over(Pieces::new(&ONE_CALL))?);
+    let mut stream = Counted::new(StreamSource::over(Pieces::new(one_call()))?);
     let loaded = open(&mut stream, &mut store);
     assert!(rt; loaded.is_ok() && loaded == wanted);
     name_of_the_call(&mut stream, &rt);

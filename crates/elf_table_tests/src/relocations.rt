@@ -2,7 +2,9 @@
 //! told.
 ghost use Rattle.std.specs.Prelude.{◌≡◌};
 
-use crate::fixtures::{ONE_CALL, refused};
+use crate::answers::refused;
+use elf_fixtures::{linked_to_zero, one_call, with_bytes};
+use elf_names::{NameIndex, ReadAhead};
 use elf_record::{Cause, Rela, Sym};
 use elf_source::{Counted, MemorySource, Source};
 use elf_table::{
@@ -42,6 +44,16 @@ fn linked(file: &[u8], store: &mut HeaderStore, rt: &impl Abort) -> Result<Optio
     five_sections(file, store, rt).linked(2)
 }
 
+/// The call with other bytes at some places.
+fn call_with(changes: &[(usize, u8)], rt: &impl Abort) -> [u8; 472] {
+    let mut file = *one_call();
+    for (place, byte) in changes {
+        assert!(rt; *place < 472);
+        file = with_bytes(&file, *place, &[*byte]);
+    }
+    file
+}
+
 /// The entry of the call.
 fn one_entry() -> Table
     ensures { result ≡ record { at = 0x48; count = 1; entry = 24 } }
@@ -61,17 +73,16 @@ fn two_symbols() -> Symbols
 fn entries_come_with_their_symbols(rt: HostRuntime) -> Result<(), Fail> {
     let mut store = HeaderStore::new(rt.alloc(), 5)?;
     let (symbols, names) = two_symbols();
-    let answer = relocations(&ONE_CALL, &mut store, &rt);
+    let answer = relocations(one_call(), &mut store, &rt);
     assert!(rt; answer == Ok((one_entry(), Some((symbols, names)))));
-    assert!(rt; linked(&ONE_CALL, &mut store, &rt) == Ok(Some((symbols, names))));
+    assert!(rt; linked(one_call(), &mut store, &rt) == Ok(Some((symbols, names))));
     Ok(())
 }
 
 #[test]
 fn a_table_of_dynamic_symbols_is_linked_too(rt: HostRuntime) -> Result<(), Fail> {
     let mut store = HeaderStore::new(rt.alloc(), 5)?;
-    let mut file = ONE_CALL;
-    file[0x15c] = 11;
+    let file = call_with(&[(0x15c, 11)], &rt);
     assert!(rt; linked(&file, &mut store, &rt) == Ok(Some(two_symbols())));
     Ok(())
 }
@@ -90,8 +101,7 @@ fn a_link_to_no_symbols_links_to_none(rt: HostRuntime) -> Result<(), Fail> {
         (0x142, 1),
         (0x143, 0xff),
     ] {
-        let mut file = ONE_CALL;
-        file[place] = value;
+        let file = call_with(&[(place, value)], &rt);
         let none = Ok((one_entry(), None));
         assert!(rt;
             linked(&file, &mut store, &rt) == Ok(None),
@@ -105,29 +115,21 @@ fn a_link_to_no_symbols_links_to_none(rt: HostRuntime) -> Result<(), Fail> {
     Ok(())
 }
 
-/// The call with its symbols in the place of section 0, to which its entries link.
-fn linked_to_zero() -> [u8; 472] {
-    let mut file = ONE_CALL;
-    file[0x98..0xd8].copy_from_slice(&ONE_CALL[0x158..0x198]);
-    file[0x140] = 0;
-    file
-}
-
 #[test]
 fn section_zero_is_linked_like_any_other(rt: HostRuntime) -> Result<(), Fail> {
     let mut store = HeaderStore::new(rt.alloc(), 5)?;
-    let mut file = linked_to_zero();
+    let file = linked_to_zero();
     let symbols = Some(two_symbols());
     assert!(rt; relocations(&file, &mut store, &rt) == Ok((one_entry(), symbols)));
-    file[0xd0] = 16;
-    let answer = relocations(&file, &mut store, &rt);
+    let answer = relocations(&with_bytes(&file, 0xd0, &[16]), &mut store, &rt);
     assert!(rt; answer == refused(0x98, Cause::EntrySize));
     Ok(())
 }
 
 #[test]
-fn faults_of_a_table_are_told_at_its_header(rt: HostRuntime) -> Result<(), Fail> {
+fn faults_are_told_where_they_stand(rt: HostRuntime) -> Result<(), Fail> {
     let mut store = HeaderStore::new(rt.alloc(), 5)?;
+    // Of the entries, of the symbols, and of their names.
     for (place, value, at, cause) in [
         (0x150, 16, 0x118, Cause::EntrySize),
         (0x138, 0x17, 0x118, Cause::SizeNotWhole),
@@ -135,27 +137,13 @@ fn faults_of_a_table_are_told_at_its_header(rt: HostRuntime) -> Result<(), Fail>
         (0x190, 16, 0x158, Cause::EntrySize),
         (0x178, 0x31, 0x158, Cause::SizeNotWhole),
         (0x17f, 0x30, 0x158, Cause::TableOutside),
-    ] {
-        let mut file = ONE_CALL;
-        file[place] = value;
-        let answer = relocations(&file, &mut store, &rt);
-        assert!(rt; answer == refused(at, cause), "{value} at {place}");
-    }
-    Ok(())
-}
-
-#[test]
-fn faults_of_the_names_are_told_where_they_stand(rt: HostRuntime) -> Result<(), Fail> {
-    let mut store = HeaderStore::new(rt.alloc(), 5)?;
-    for (place, value, at, cause) in [
         (0x180, 0, 0x158, Cause::BadLink),
         (0x180, 5, 0x158, Cause::BadLink),
         (0x180, 3, 0x158, Cause::NotStrings),
         (0x19c, 1, 0x198, Cause::NotStrings),
         (0x1b7, 0xff, 0x198, Cause::TableOutside),
     ] {
-        let mut file = ONE_CALL;
-        file[place] = value;
+        let file = call_with(&[(place, value)], &rt);
         let answer = relocations(&file, &mut store, &rt);
         assert!(rt; answer == refused(at, cause), "{value} at {place}");
     }
@@ -165,13 +153,12 @@ fn faults_of_the_names_are_told_where_they_stand(rt: HostRuntime) -> Result<(), 
 #[test]
 fn faults_of_the_linked_tables_are_told_by_linked(rt: HostRuntime) -> Result<(), Fail> {
     let mut store = HeaderStore::new(rt.alloc(), 5)?;
-    let mut file = ONE_CALL;
-    file[0x150] = 16;
+    let file = call_with(&[(0x150, 16)], &rt);
     assert!(rt; linked(&file, &mut store, &rt) == Ok(Some(two_symbols())));
-    file[0x1b1] = 2;
+    let file = call_with(&[(0x150, 16), (0x1b1, 2)], &rt);
     let answer = linked(&file, &mut store, &rt);
     assert!(rt; answer == refused(0x198, Cause::TableOutside));
-    file[0x190] = 16;
+    let file = call_with(&[(0x150, 16), (0x1b1, 2), (0x190, 16)], &rt);
     let answer = linked(&file, &mut store, &rt);
     assert!(rt; answer == refused(0x158, Cause::EntrySize));
     Ok(())
@@ -181,39 +168,41 @@ fn faults_of_the_linked_tables_are_told_by_linked(rt: HostRuntime) -> Result<(),
 fn faults_are_told_in_their_order(rt: HostRuntime) -> Result<(), Fail> {
     let mut store = HeaderStore::new(rt.alloc(), 5)?;
     // The entries, the symbols, then their names: what one byte breaks, and where that is told.
-    let faults = [
-        (0x150, 16, 0x118, Cause::EntrySize),
-        (0x138, 0x17, 0x118, Cause::SizeNotWhole),
-        (0x131, 2, 0x118, Cause::TableOutside),
-        (0x190, 16, 0x158, Cause::EntrySize),
-        (0x178, 0x31, 0x158, Cause::SizeNotWhole),
-        (0x171, 2, 0x158, Cause::TableOutside),
-        (0x181, 1, 0x158, Cause::BadLink),
-        (0x19c, 1, 0x198, Cause::NotStrings),
-        (0x1b1, 2, 0x198, Cause::TableOutside),
+    let changes = [
+        (0x150, 16),
+        (0x138, 0x17),
+        (0x131, 2),
+        (0x190, 16),
+        (0x178, 0x31),
+        (0x171, 2),
+        (0x181, 1),
+        (0x19c, 1),
+        (0x1b1, 2),
     ];
-    let mut file = ONE_CALL;
-    for (place, value, _at, _cause) in faults {
-        file[place] = value;
-    }
-    for (place, _value, at, cause) in faults {
+    for (mended, at, cause) in [
+        (0, 0x118, Cause::EntrySize),
+        (1, 0x118, Cause::SizeNotWhole),
+        (2, 0x118, Cause::TableOutside),
+        (3, 0x158, Cause::EntrySize),
+        (4, 0x158, Cause::SizeNotWhole),
+        (5, 0x158, Cause::TableOutside),
+        (6, 0x158, Cause::BadLink),
+        (7, 0x198, Cause::NotStrings),
+        (8, 0x198, Cause::TableOutside),
+    ] {
+        assert!(rt; mended <= changes.len());
+        let file = call_with(&changes[mended..], &rt);
         let answer = relocations(&file, &mut store, &rt);
-        assert!(rt; answer == refused(at, cause), "{place}");
-        file[place] = ONE_CALL[place];
+        assert!(rt; answer == refused(at, cause), "{mended}");
     }
-    assert!(rt; file == ONE_CALL);
     Ok(())
 }
 
 #[test]
 fn no_entries_have_no_checks(rt: HostRuntime) -> Result<(), Fail> {
     let mut store = HeaderStore::new(rt.alloc(), 5)?;
-    let mut file = ONE_CALL;
     // No entries, of another size, past the end; symbols of another size.
-    file[0x138] = 0;
-    file[0x150] = 16;
-    file[0x131] = 2;
-    file[0x190] = 16;
+    let file = call_with(&[(0x138, 0), (0x150, 16), (0x131, 2), (0x190, 16)], &rt);
     let none = Table::new(0x248, 0, 24);
     assert!(rt; relocations(&file, &mut store, &rt) == Ok((none, None)));
     let answer = linked(&file, &mut store, &rt);
@@ -224,12 +213,8 @@ fn no_entries_have_no_checks(rt: HostRuntime) -> Result<(), Fail> {
 #[test]
 fn no_symbols_have_no_checks_and_are_linked(rt: HostRuntime) -> Result<(), Fail> {
     let mut store = HeaderStore::new(rt.alloc(), 5)?;
-    let mut file = ONE_CALL;
     // No symbols, of another size, past the end, with a link to no section.
-    file[0x178] = 0;
-    file[0x190] = 16;
-    file[0x171] = 2;
-    file[0x180] = 9;
+    let file = call_with(&[(0x178, 0), (0x190, 16), (0x171, 2), (0x180, 9)], &rt);
     let none = Table::new(0x260, 0, 24);
     let unnamed = Names::new(0x260, 0);
     assert!(rt; linked(&file, &mut store, &rt) == Ok(Some((none, unnamed))));
@@ -241,12 +226,11 @@ fn no_symbols_have_no_checks_and_are_linked(rt: HostRuntime) -> Result<(), Fail>
 #[test]
 fn names_without_bytes_are_checked(rt: HostRuntime) -> Result<(), Fail> {
     let mut store = HeaderStore::new(rt.alloc(), 5)?;
-    let mut file = ONE_CALL;
-    file[0x1b8] = 0;
     let (symbols, _names) = two_symbols();
     let unnamed = Some((symbols, Names::new(0x90, 0)));
+    let file = call_with(&[(0x1b8, 0)], &rt);
     assert!(rt; linked(&file, &mut store, &rt) == Ok(unnamed));
-    file[0x1b1] = 2;
+    let file = call_with(&[(0x1b8, 0), (0x1b1, 2)], &rt);
     let answer = linked(&file, &mut store, &rt);
     assert!(rt; answer == refused(0x198, Cause::TableOutside));
     Ok(())
@@ -263,7 +247,7 @@ fn a_symbol_has_its_place(rt: HostRuntime) {
 #[test]
 fn the_symbol_of_the_call_is_read(rt: HostRuntime) {
     let (symbols, _names) = two_symbols();
-    let mut src = Counted::new(MemorySource::new(&ONE_CALL));
+    let mut src = Counted::new(MemorySource::new(one_call()));
     let want = Sym {
         st_name: 1,
         st_info: 0x10,
@@ -289,21 +273,21 @@ pub(crate) fn name_of_the_call<S: Source>(src: &mut Counted<S>, rt: &impl Abort)
         bytes.copy_from_slice(row.bytes);
     }
     assert!(rt; Rela::decode(&bytes).symbol() == 1);
-    let symbol = symbols.symbol(src, 1).expect(rt, "a symbol");
+    let mut ahead = ReadAhead::new();
+    let symbol = ahead.symbol(src, &symbols, 1).expect(rt, "a symbol");
     let mut name = NameBuf::new();
-    let end = names.read(
-        src,
-        u64::from(symbol.st_name),
-        0x78,
-        Cap { bytes: 63 },
-        &mut name,
-    );
+    let index = NameIndex {
+        names,
+        off: u64::from(symbol.st_name),
+        at: 0x78,
+    };
+    let end = ahead.name(src, index, Cap { bytes: 63 }, &mut name);
     assert!(rt; end == Ok(NameEnd::Whole) && name.bytes() == b"f".as_slice());
 }
 
 #[test]
 fn the_entry_of_the_call_leads_to_a_name(rt: HostRuntime) {
-    let mut src = Counted::new(MemorySource::new(&ONE_CALL));
+    let mut src = Counted::new(MemorySource::new(one_call()));
     name_of_the_call(&mut src, &rt);
     assert!(rt; src.asked() == 24 + 24 + 2);
 }

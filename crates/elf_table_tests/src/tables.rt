@@ -2,7 +2,7 @@
 ghost use Rattle.std.specs.Prelude.{◌≡◌};
 ghost use Rattle.elf_table.specs.Tables.{RowsWithin};
 
-use crate::fakes::Planned;
+use elf_fakes::Planned;
 use elf_source::{Counted, MemorySource, Source, SourceFault};
 use elf_table::{Cursor, Fault, Table};
 use std::process::Abort;

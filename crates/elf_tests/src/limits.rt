@@ -1,8 +1,8 @@
 //! Limits on what is asked for: what is left of one, at a fault too, and what doesn't touch it.
-use crate::sources::{Plan, stream};
+use crate::sources::{FAILS, stream};
+use elf_fakes::Script;
 use elf_source::{AskFault, Counted, MemorySource, Source, SourceFault};
 use std::process::Abort;
-use std::test::Fail;
 
 // Asks for `out` from `at` on, which the source's length has to allow.
 fn ask_at<S: Source>(
@@ -36,9 +36,9 @@ fn account<S: Source>(source: &Counted<S>) -> (u128, Option<u64>) {
 }
 
 #[test]
-fn a_limit_is_spent_to_its_last_byte(rt: HostRuntime) -> Result<(), Fail> {
-    let plan = Plan::new();
-    let mut source = Counted::new(stream(9, &plan)?);
+fn a_limit_is_spent_to_its_last_byte(rt: HostRuntime) {
+    let script = Script::new();
+    let mut source = Counted::new(stream(6, 9, &script, &rt));
     source.limit(Some(5));
     assert!(rt; account(&source) == (0, Some(5)));
     assert!(rt; gives(&mut source, 1, b"bcde", &rt));
@@ -53,24 +53,24 @@ fn a_limit_is_spent_to_its_last_byte(rt: HostRuntime) -> Result<(), Fail> {
     let refused = ask_at(&mut source, 0, &mut [0; 1], &rt);
     assert!(rt; refused == Err(AskFault::Budget));
     // The end, a place and two reads.
-    assert!(rt; plan.calls.get() == 4);
-    Ok(())
+    assert!(rt; script.calls() == 4);
 }
 
 #[test]
-fn a_read_that_fails_is_spent_too(rt: HostRuntime) -> Result<(), Fail> {
-    let plan = Plan::new();
-    let mut source = Counted::new(stream(9, &plan)?);
+fn a_read_that_fails_is_spent_too(rt: HostRuntime) {
+    let script = Script::new();
+    let mut source = Counted::new(stream(6, 9, &script, &rt));
     source.limit(Some(5));
-    plan.failing.set(1);
+    script.go_wrong(0, FAILS);
     let failed = ask_at(&mut source, 1, &mut [0; 3], &rt);
     assert!(rt; failed == Err(AskFault::Source(SourceFault::Device)));
     assert!(rt; account(&source) == (3, Some(2)));
-    let refused = ask_at(&mut source, 1, &mut [0; 3], &rt);
+    assert!(rt; source.stopped() == 1);
+    let refused = ask_at(&mut source, 2, &mut [0; 3], &rt);
     assert!(rt; refused == Err(AskFault::Budget));
     assert!(rt; gives(&mut source, 4, b"ef", &rt));
     assert!(rt; account(&source) == (5, Some(0)));
-    Ok(())
+    assert!(rt; source.stopped() == 2);
 }
 
 #[test]
@@ -92,17 +92,16 @@ fn a_limit_is_set_anew_or_taken_away(rt: HostRuntime) {
 }
 
 #[test]
-fn a_fill_leaves_what_is_left_alone(rt: HostRuntime) -> Result<(), Fail> {
-    let plan = Plan::new();
-    let mut source = Counted::new(stream(9, &plan)?);
+fn a_fill_leaves_what_is_left_alone(rt: HostRuntime) {
+    let script = Script::new();
+    let mut source = Counted::new(stream(6, 9, &script, &rt));
     source.limit(Some(4));
     assert!(rt; fill_six(&mut source, &rt) == Ok(()));
     assert!(rt; account(&source) == (6, Some(4)));
-    plan.failing.set(1);
+    script.go_wrong(0, FAILS);
     assert!(rt; fill_six(&mut source, &rt) == Err(SourceFault::Device));
     assert!(rt; account(&source) == (12, Some(4)));
     assert!(rt; gives(&mut source, 0, b"abcd", &rt));
     assert!(rt; fill_six(&mut source, &rt) == Ok(()));
     assert!(rt; account(&source) == (22, Some(0)));
-    Ok(())
 }

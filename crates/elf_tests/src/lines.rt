@@ -161,7 +161,8 @@ fn a_full_sink_is_a_fault(rt: HostRuntime) {
 
 #[test]
 fn the_fixed_buffers_are_small(rt: HostRuntime) {
-    assert!(rt; elf_table::BUFFER_BYTES == 64 + 4096 + 4096 + 64 + 24);
+    assert!(rt; elf_table::BUFFER_BYTES == 64 + 4096 + 4096);
+    assert!(rt; elf_names::BUFFER_BYTES == 4096 + 3264);
     assert!(rt; elf_lines::BUFFER_BYTES == 2 * 256 + 40);
     assert!(rt; elf_table::BUFFER_BYTES + elf_lines::BUFFER_BYTES <= 16_384);
 }

@@ -1,20 +1,30 @@
 //! Each record once, from bytes whose fields are known from elsewhere.
+ghost use Rattle.std.specs.Prelude.{◌+◌, ◌≤◌, length};
+
 use bitflags::Flags;
+use elf_fixtures::{one_call, one_symbol_table, with_bytes};
 use elf_record::{
     Cause, Dyn, Ehdr, NoteHead, Parts, Phdr, Place, Refusal, Rela, SectionFlags, SegmentFlags,
     Shdr, Sym,
 };
 
+/// So many bytes of a file, from an offset on.
+fn part<const N: usize>(file: &[u8], at: usize) -> [u8; N]
+    requires { at + N ≤ length file.now }
+{
+    let mut part = [0; N];
+    part.copy_from_slice(&file[at..at + N]);
+    part
+}
+
 /// The header of a relocatable file for x86-64 with three section headers at 0x78.
-const HEADER: [u8; 64] = [
-    0x7f, 0x45, 0x4c, 0x46, 2, 1, 1, 0, 0, 0, 0, 0, 0, 0, 0, 0, 1, 0, 0x3e, 0, 0, 0, 0, 0, 0, 0, 0,
-    0, 0, 0, 0, 0, 0, 0, 0, 0, 0, 0, 0, 0, 0x78, 0, 0, 0, 0, 0, 0, 0, 0, 0, 0, 0, 0, 0, 0, 0, 0, 0,
-    0x40, 0, 3, 0, 0, 0,
-];
+fn file_header() -> [u8; 64] {
+    part(one_symbol_table(), 0)
+}
 
 #[test]
 fn a_file_header_is_decoded(rt: HostRuntime) {
-    let header = Ehdr::decode(&HEADER);
+    let header = Ehdr::decode(&file_header());
     let want = Ehdr {
         ident_magic: [0x7f, 0x45, 0x4c, 0x46],
         ident_class: 2,
@@ -38,12 +48,12 @@ fn a_file_header_is_decoded(rt: HostRuntime) {
         e_shstrndx: 0,
     };
     assert!(rt; header == want);
-    assert!(rt; header.encode() == HEADER);
+    assert!(rt; header.encode() == file_header());
 }
 
 #[test]
 fn a_file_header_is_checked(rt: HostRuntime) {
-    assert!(rt; Ehdr::check(&HEADER) == Ok(Ehdr::decode(&HEADER)));
+    assert!(rt; Ehdr::check(&file_header()) == Ok(Ehdr::decode(&file_header())));
     for (place, cause) in [
         (0, Cause::NotElf),
         (3, Cause::NotElf),
@@ -51,8 +61,7 @@ fn a_file_header_is_checked(rt: HostRuntime) {
         (5, Cause::BadData),
         (6, Cause::BadVersion),
     ] {
-        let mut bytes = HEADER;
-        bytes[place] = 0;
+        let bytes = with_bytes(&file_header(), place, &[0]);
         let at = if place == 3 { 0 } else { place as u64 };
         assert!(rt;
             Ehdr::check(&bytes) == Err(Refusal { at, cause }),
@@ -61,16 +70,11 @@ fn a_file_header_is_checked(rt: HostRuntime) {
     }
 }
 
-/// The header of a symbol table of two symbols at 0x40.
-const SECTION: [u8; 64] = [
-    0, 0, 0, 0, 2, 0, 0, 0, 0, 0, 0, 0, 0, 0, 0, 0, 0, 0, 0, 0, 0, 0, 0, 0, 0x40, 0, 0, 0, 0, 0, 0,
-    0, 0x30, 0, 0, 0, 0, 0, 0, 0, 2, 0, 0, 0, 1, 0, 0, 0, 8, 0, 0, 0, 0, 0, 0, 0, 0x18, 0, 0, 0, 0,
-    0, 0, 0,
-];
-
 #[test]
 fn a_section_header_is_decoded(rt: HostRuntime) {
-    let section = Shdr::decode(&SECTION);
+    // The header of a symbol table of two symbols at 0x40.
+    let bytes = part(one_symbol_table(), 0xb8);
+    let section = Shdr::decode(&bytes);
     let want = Shdr {
         sh_name: 0,
         sh_type: 2,
@@ -84,7 +88,7 @@ fn a_section_header_is_decoded(rt: HostRuntime) {
         sh_entsize: 24,
     };
     assert!(rt; section == want);
-    assert!(rt; section.encode() == SECTION);
+    assert!(rt; section.encode() == bytes);
 }
 
 #[test]
@@ -151,10 +155,7 @@ fn symbols_are_placed(rt: HostRuntime) {
 
 #[test]
 fn a_relocation_entry_is_decoded(rt: HostRuntime) {
-    let bytes = [
-        1, 0, 0, 0, 0, 0, 0, 0, 4, 0, 0, 0, 1, 0, 0, 0, 0xfc, 0xff, 0xff, 0xff, 0xff, 0xff, 0xff,
-        0xff,
-    ];
+    let bytes = part(one_call(), 0x48);
     let entry = Rela::decode(&bytes);
     let want = Rela {
         r_offset: 1,

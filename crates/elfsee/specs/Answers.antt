@@ -1,6 +1,8 @@
 -- What a run answers.
-use Rattle.std.specs.Prelude.{ℕ, ◌≡◌, ◌<◌, ◌+◌, ◌⊎◌, ⊤, List, Some, Result, Ok, Err, [], codes}
+use Rattle.std.specs.Prelude.{ℕ, ◌≡◌, ◌<◌, ◌+◌, ◌⊎◌, ⊤, List, ◌++◌, Some, Result, Ok, Err, [], codes}
 use Rattle.elf_model.specs.Answer.{Answer, IsShown, show_answer}
+use Rattle.elf_model.specs.Lines.{refusal_line}
+use Rattle.elf_model.specs.declared.causes.Cause.TheVariants.{Budget}
 use Rattle.elf_source.specs.Source.{Counting}
 use Rattle.elf_source.specs.Output.{Written, Takes, TakesFront}
 use Rattle.elf_listing.specs.Reports.{AsksWithin}
@@ -21,9 +23,14 @@ WroteAnswer old new (Err fault) answer = TakesFront old new answer.text
 abbrev pub IsUsedUp : Caps → Counting → Counting → Type 0
 IsUsedUp caps before after = (bytes : ℕ) × (caps.budget ≡ Some bytes) × (before.asked + bytes < after.asked + 4096)
 
--- an answer that was given is the whole one, or it is cut short and its budget is used up
+-- a text ends in the line of a refusal for want of budget at an offset
+abbrev pub EndsAt : ℕ → List ℕ → Type 0
+EndsAt at text = (lines : List ℕ) × (text ≡ lines ++ refusal_line (record { at = at; cause = Budget }))
+
+-- an answer that was given is the whole one, or it is cut short: its budget is used up, and its last line names the read
+-- that this had no room for
 abbrev pub WholeOrUsedUp : Caps → Counting → Counting → Result ℕ RunFault → (whole answer : Answer) → Type 0
-WholeOrUsedUp caps before after (Ok status) whole answer = (answer ≡ whole) ⊎ IsUsedUp caps before after
+WholeOrUsedUp caps before after (Ok status) whole answer = (answer ≡ whole) ⊎ (IsUsedUp caps before after × EndsAt after.stopped answer.text)
 WholeOrUsedUp caps before after (Err fault) whole answer = ⊤
 
 -- THE ANSWER: what these caps and parts give of a file, within their budget

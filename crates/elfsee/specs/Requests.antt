@@ -2,7 +2,7 @@
 use Rattle.std.specs.Prelude.{ℕ, ◌≡◌, List, [], ◌∷◌, codes, length, slice_index_or, string_bytes, None, Some, Bool, bytes_eq, ◌||◌, false}
 use Rattle.std.specs.Borrow.{Bor}
 use Rattle.elf_model.specs.Text.{name_of as name_in_table}
-use Rattle.elf_model.specs.Listing.{HEADER, SECTIONS, SEGMENTS, SYMBOLS, RELOCS}
+use Rattle.elf_model.specs.Listing.{HEADER, SECTIONS, SEGMENTS, SYMBOLS, RELOCS, NOTES, DYNAMIC}
 use Rattle.elf_table.specs.declared.caps.Caps.{Caps}
 use Rattle.elfsee.specs.declared.requests.Request.{Request}
 use Rattle.elfsee.specs.declared.requests.Request.TheVariants.{Show, Sample}
@@ -23,7 +23,9 @@ headers_of request = (caps_of request).headers
 
 -- the names of the parts that can be asked for
 abbrev pub part_names : List (ℕ × List ℕ)
-part_names = (HEADER, codes "header") ∷ (SECTIONS, codes "sections") ∷ (SEGMENTS, codes "segments") ∷ (SYMBOLS, codes "symbols") ∷ (RELOCS, codes "relocs") ∷ []
+part_names =
+    (HEADER, codes "header") ∷ (SECTIONS, codes "sections") ∷ (SEGMENTS, codes "segments") ∷ (SYMBOLS, codes "symbols")
+    ∷ (RELOCS, codes "relocs") ∷ (NOTES, codes "notes") ∷ (DYNAMIC, codes "dynamic") ∷ []
 
 -- a `&[&str]`
 abbrev pub Words : Type 0
@@ -39,7 +41,9 @@ AsksFor words count first parts = (length words ≡ count) × (word words 0 ≡ 
 
 -- whether this is the name of a part
 abbrev pub is_part : List ℕ → Bool
-is_part name = bytes_eq name (codes "header") || (bytes_eq name (codes "sections") || (bytes_eq name (codes "segments") || (bytes_eq name (codes "symbols") || bytes_eq name (codes "relocs"))))
+is_part name =
+    bytes_eq name (codes "header") || (bytes_eq name (codes "sections") || (bytes_eq name (codes "segments")
+    || (bytes_eq name (codes "symbols") || (bytes_eq name (codes "relocs") || (bytes_eq name (codes "notes") || bytes_eq name (codes "dynamic"))))))
 
 -- so many words, the first two of them these, and the third no name of a part
 abbrev pub AsksForNone : Words → ℕ → List ℕ → Type 0

@@ -1,21 +1,22 @@
-//! Whole listings of small files: sections, program headers, symbols and relocation entries, and where
-//! they are refused.
-ghost use Rattle.std.specs.Prelude.{◌≡◌, ◌+◌, ◌≤◌, length};
-ghost use Rattle.elf_listing.specs.Parts.{AreListed};
+//! Whole listings of small files: sections, program headers, symbols and relocation entries, and
+//! where they are refused.
 
 use crate::answering::run;
-use crate::fixtures::{HASH_TABLE, ONE_CALL, RELOCATIONS};
 use crate::requests::Request;
-use crate::sample::SAMPLE;
+use elf_fakes::Planned;
+use elf_fixtures::{
+    hash_with_cycle, named_section, one_call, one_load, one_symbol_table, overlapping_relocations,
+    tables_over_headers, with_bytes,
+};
 use elf_listing::RunFault;
 use elf_record::Parts;
-use elf_source::{Counted, MemorySource, Out, SliceSink, Source, SourceFault};
+use elf_source::{Counted, MemorySource, Out, SliceSink, SourceFault};
 use elf_table::{Caps, HeaderStore};
 use std::process::Abort;
 use std::test::Fail;
 
-/// The parts that are listed: the file header, sections, program headers, symbols, relocation entries.
-pub(crate) const LISTED: Parts = Parts(31);
+/// All parts of a listing.
+pub(crate) const LISTED: Parts = Parts(127);
 
 /// The sample's file header.
 pub(crate) const HEADER: &str =
@@ -32,14 +33,6 @@ const SECTIONS: &str = concat!(
 const NO_SYMBOL: &str =
     "Y     1          0 0000000000000000 0000000000000000 NOTYPE  LOCAL  DEFAULT   UND   \n";
 
-/// Puts bytes into a file at an offset.
-fn put(file: &mut [u8], at: usize, bytes: &[u8])
-    requires { at + length bytes.now ≤ length file.old }
-    ensures { length file.new ≡ length file.old }
-{
-    file[at..at + bytes.len()].copy_from_slice(bytes);
-}
-
 /// Lists a file from memory, and checks the text, the status, and that no more bytes were asked for
 /// than the listing costs.
 fn check_listing(
@@ -50,9 +43,7 @@ fn check_listing(
     text: &[&str],
     status: u8,
     cost: u128,
-) -> Result<(), Fail>
-    requires { AreListed parts.0 }
-{
+) -> Result<(), Fail> {
     let caps = Caps::new(caps.0, caps.1).ok_or("caps")?;
     let mut store = HeaderStore::new(rt.alloc(), caps.headers())?;
     let mut buffer = [0; 4096];
@@ -66,7 +57,7 @@ fn check_listing(
 }
 
 /// Checks that what was written is these pieces, one behind the other.
-fn check_text(rt: &impl Abort, written: &[u8], pieces: &[&str]) {
+pub(crate) fn check_text(rt: &impl Abort, written: &[u8], pieces: &[&str]) {
     let mut rest = written;
     for piece in pieces {
         let bytes = piece.as_bytes();
@@ -83,33 +74,42 @@ const MAIN: &str =
 #[test]
 fn the_sample_is_listed_whole(rt: HostRuntime) -> Result<(), Fail> {
     let text = [HEADER, SECTIONS, NO_SYMBOL, MAIN];
-    check_listing(&rt, &SAMPLE, (3, 63), LISTED, &text, 0, 432)?;
-    check_listing(&rt, &SAMPLE, (3, 63), Parts::SYMBOLS, &text[2..], 0, 432)
+    check_listing(&rt, one_symbol_table(), (3, 63), LISTED, &text, 0, 432)?;
+    check_listing(
+        &rt,
+        one_symbol_table(),
+        (3, 63),
+        Parts::SYMBOLS,
+        &text[2..],
+        0,
+        432,
+    )
 }
 
 #[test]
 fn too_few_headers_permitted(rt: HostRuntime) -> Result<(), Fail> {
     let text = [HEADER, "! 000000000000003c too-many-headers\n"];
-    check_listing(&rt, &SAMPLE, (2, 63), LISTED, &text, 1, 64)
+    check_listing(&rt, one_symbol_table(), (2, 63), LISTED, &text, 1, 64)
 }
 
 #[test]
 fn a_file_cut_in_its_section_headers(rt: HostRuntime) -> Result<(), Fail> {
     let text = [HEADER, "! 0000000000000028 table-outside\n"];
-    check_listing(&rt, &SAMPLE[..311], (3, 63), LISTED, &text, 1, 64)
+    check_listing(
+        &rt,
+        &one_symbol_table()[..311],
+        (3, 63),
+        LISTED,
+        &text,
+        1,
+        64,
+    )
 }
 
 /// The sample with section 1 of this type, at 2^64 - 8 and 24 bytes long.
 fn far_section(kind: u8) -> [u8; 312] {
-    let mut file = SAMPLE;
-    file[0xbc] = kind;
-    put(
-        &mut file,
-        0xd0,
-        &[0xf8, 0xff, 0xff, 0xff, 0xff, 0xff, 0xff, 0xff],
-    );
-    file[0xd8] = 24;
-    file
+    let far = [0xf8, 0xff, 0xff, 0xff, 0xff, 0xff, 0xff, 0xff, 24];
+    with_bytes(&with_bytes(one_symbol_table(), 0xbc, &[kind]), 0xd0, &far)
 }
 
 #[test]
@@ -136,9 +136,7 @@ fn other_ranges_are_not_checked(rt: HostRuntime) -> Result<(), Fail> {
 
 #[test]
 fn sections_have_names(rt: HostRuntime) -> Result<(), Fail> {
-    let mut file = SAMPLE;
-    file[0x3e] = 2;
-    file[0xb8] = 1;
+    let file = named_section();
     let first =
         "S     0 NULL                       0000000000000000 0000000000000000 0000000000000000 00000000 00000000 \n";
     let second =
@@ -153,42 +151,29 @@ fn sections_have_names(rt: HostRuntime) -> Result<(), Fail> {
 
 #[test]
 fn program_headers_are_listed(rt: HostRuntime) -> Result<(), Fail> {
-    let mut file = [0; 120];
-    put(&mut file, 0, &[0x7f, 0x45, 0x4c, 0x46, 2, 1, 1]);
-    put(&mut file, 0x10, &[2, 0, 62]);
-    file[0x20] = 0x40;
-    put(&mut file, 0x36, &[56, 0, 1]);
-    put(&mut file, 0x40, &[1, 0, 0, 0, 5]);
-    put(&mut file, 0x52, &[0x40]);
-    put(&mut file, 0x5a, &[0x40]);
-    put(&mut file, 0x60, &[0x78]);
-    put(&mut file, 0x68, &[0x78]);
-    put(&mut file, 0x71, &[0x10]);
     let text = [
         "P     0 LOAD     R-X 0000000000000000 0000000000400000 0000000000400000 0000000000000078 0000000000000078 0000000000001000\n",
     ];
-    check_listing(&rt, &file, (1, 63), Parts::SEGMENTS, &text, 0, 120)
+    check_listing(&rt, one_load(), (1, 63), Parts::SEGMENTS, &text, 0, 120)
 }
 
 #[test]
 fn names_are_escaped_cut_and_refused(rt: HostRuntime) -> Result<(), Fail> {
     let front =
         "Y     1          1 0000000000001000 0000000000000010 FUNC    GLOBAL DEFAULT   ABS   ";
-    let mut file = SAMPLE;
-    put(&mut file, 0x71, b"a\\b\x07".as_slice());
+    let file = with_bytes(one_symbol_table(), 0x71, b"a\\b\x07".as_slice());
     let text = [NO_SYMBOL, front, "a\\\\b\\x07\n"];
     check_listing(&rt, &file, (3, 4), Parts::SYMBOLS, &text, 0, 432)?;
     let text = [NO_SYMBOL, front, "a\\\\b\\+\n"];
     check_listing(&rt, &file, (3, 3), Parts::SYMBOLS, &text, 0, 432)?;
-    file[0x118] = 5;
     let text = [NO_SYMBOL, "! 0000000000000058 name-unended\n"];
+    let file = with_bytes(&file, 0x118, &[5]);
     check_listing(&rt, &file, (3, 4), Parts::SYMBOLS, &text, 1, 432)
 }
 
 #[test]
 fn places_and_types_without_a_name_are_numbers(rt: HostRuntime) -> Result<(), Fail> {
-    let mut file = SAMPLE;
-    put(&mut file, 0x5c, &[0x9d, 3, 0x05, 0xff]);
+    let file = with_bytes(one_symbol_table(), 0x5c, &[0x9d, 3, 0x05, 0xff]);
     let text = [
         NO_SYMBOL,
         "Y     1          1 0000000000001000 0000000000000010      13      9 PROTECTED 65285 main\n",
@@ -196,34 +181,12 @@ fn places_and_types_without_a_name_are_numbers(rt: HostRuntime) -> Result<(), Fa
     check_listing(&rt, &file, (3, 63), Parts::SYMBOLS, &text, 0, 432)
 }
 
-/// Three symbol tables of twelve symbols over the section headers, which hold their names too.
-pub(crate) fn overlapping() -> [u8; 384] {
-    let mut file = [0; 384];
-    file[..64].copy_from_slice(&SAMPLE[..64]);
-    file[0x28] = 0x40;
-    file[0x3c] = 5;
-    for table in 1..4 {
-        let at = 64 + 64 * table;
-        put(&mut file, at + 4, &[2]);
-        put(&mut file, at + 24, &[0x40]);
-        put(&mut file, at + 32, &[0x20, 1]);
-        put(&mut file, at + 40, &[4]);
-        put(&mut file, at + 48, &[8]);
-        put(&mut file, at + 56, &[24]);
-    }
-    put(&mut file, 0x144, &[3]);
-    put(&mut file, 0x158, &[0x40]);
-    put(&mut file, 0x160, &[0x40, 1]);
-    file
-}
-
 #[test]
 fn tables_may_overlap_the_section_headers(rt: HostRuntime) -> Result<(), Fail> {
     let caps = Caps::new(5, 63).ok_or("caps")?;
     let mut store = HeaderStore::new(rt.alloc(), 5)?;
     let mut buffer = [0; 4096];
-    let file = overlapping();
-    let mut src = Counted::new(MemorySource::new(&file));
+    let mut src = Counted::new(MemorySource::new(tables_over_headers()));
     let mut out = Out::new(SliceSink::new(&mut buffer));
     let parts = Parts::SYMBOLS;
     let request = Request::Sample { caps, parts };
@@ -245,7 +208,15 @@ fn relocation_entries_are_listed(rt: HostRuntime) -> Result<(), Fail> {
         "R     2 0000000000000000 32         00000000 +0000000011223344 \n",
         "R     2 0000000000000002 16         00000000 +000000000000ffff \n",
     ];
-    check_listing(&rt, &RELOCATIONS, (3, 63), Parts::RELOCS, &text, 0, 480)
+    check_listing(
+        &rt,
+        overlapping_relocations(),
+        (3, 63),
+        Parts::RELOCS,
+        &text,
+        0,
+        480,
+    )
 }
 
 /// The call with one byte of the file changed, its relocation entries listed.
@@ -257,8 +228,7 @@ fn check_call(
     status: u8,
 ) -> Result<(), Fail> {
     assert!(rt; at < 472);
-    let mut file = ONE_CALL;
-    file[at] = byte;
+    let file = with_bytes(one_call(), at, &[byte]);
     check_listing(rt, &file, (5, 63), Parts::RELOCS, &[text], status, 496)
 }
 
@@ -298,43 +268,10 @@ fn check_cost(
 
 #[test]
 fn other_files_are_listed_within_their_cost(rt: HostRuntime) -> Result<(), Fail> {
-    check_cost(&rt, &overlapping(), 5, 3552)?;
-    check_cost(&rt, &HASH_TABLE, 4, 584)?;
-    check_cost(&rt, &RELOCATIONS, 3, 480)?;
-    check_cost(&rt, &ONE_CALL, 5, 672)
-}
-
-/// The sample, of which so many reads succeed.
-struct Failing {
-    reads: u8,
-    failures: u64,
-}
-
-impl Source for Failing {
-    ghost use Rattle.std.specs.Prelude.{⊤};
-    ghost use Rattle.elf_source.specs.Source.{unknown};
-
-    ghost seen = { λ s. unknown 312 s.failures };
-
-    ghost one_read = { λ _ _ _ _. ⊤ };
-
-    fn length(&self) -> u64 {
-        312
-    }
-
-    fn fill(&mut self, at: u64, out: &mut [u8]) -> Result<(), SourceFault> {
-        if self.reads == 0 && self.failures < u64::MAX {
-            self.failures += 1;
-            return Err(SourceFault::Device);
-        }
-        if self.reads == 0 {
-            return Err(SourceFault::Ended);
-        }
-        self.reads -= 1;
-        let at = at as usize;
-        out.copy_from_slice(&SAMPLE[at..at + out.len()]);
-        Ok(())
-    }
+    check_cost(&rt, tables_over_headers(), 5, 3552)?;
+    check_cost(&rt, hash_with_cycle(), 4, 584)?;
+    check_cost(&rt, overlapping_relocations(), 3, 480)?;
+    check_cost(&rt, one_call(), 5, 672)
 }
 
 #[test]
@@ -342,23 +279,14 @@ fn a_fault_leaves_the_lines_before_it(rt: HostRuntime) -> Result<(), Fail> {
     let caps = Caps::new(3, 63).ok_or("caps")?;
     let mut store = HeaderStore::new(rt.alloc(), 3)?;
     let mut buffer = [0; 1024];
-    let mut src = Counted::new(Failing {
-        reads: 4,
-        failures: 0,
-    });
+    let mut src = Counted::new(Planned::new(one_symbol_table(), 4));
     let mut out = Out::new(SliceSink::new(&mut buffer));
     let parts = LISTED;
     let request = Request::Sample { caps, parts };
     let answer = run(&request, &mut src, &mut store, &mut out);
     let fault = SourceFault::Device;
-    assert!(rt; answer == Err(RunFault::Source { fault, at: 0x71 }));
-    check_text(
-        &rt,
-        out.into_inner().written(),
-        &[HEADER, SECTIONS, NO_SYMBOL],
-    );
-    let Failing { reads, failures } = src.into_inner();
-    assert!(rt; reads == 0);
-    assert!(rt; failures == 1);
+    assert!(rt; answer == Err(RunFault::Source { fault, at: 0x70 }));
+    check_text(&rt, out.into_inner().written(), &[HEADER, SECTIONS]);
+    assert!(rt; src.into_inner().reads == 4);
     Ok(())
 }

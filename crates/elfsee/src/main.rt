@@ -5,26 +5,33 @@ mod answering;
 #[cfg(test)]
 mod budget_tests;
 #[cfg(test)]
-mod fixtures;
+mod dynamic_tests;
+mod endings;
 #[cfg(test)]
 mod listing_tests;
+#[cfg(test)]
+mod note_tests;
 mod offset_reader;
 mod requests;
 mod sample;
 #[cfg(test)]
+mod table_fixtures;
+#[cfg(test)]
 mod tests;
 mod words;
 
-ghost use Rattle.std.specs.Prelude.{◌≡◌, ◌⊎◌, codes, IfErr, IfOk};
-ghost use Rattle.elf_listing.specs.Parts.{AreListed};
+ghost use Rattle.std.specs.Prelude.{◌≡◌, ◌⊎◌, codes, IfErr};
 ghost use Rattle.elfsee.specs.Answers.{refused_line, refused_status};
-ghost use Rattle.elfsee.specs.Requests.{headers_of, parts_of};
+ghost use Rattle.elfsee.specs.Requests.{headers_of};
 ghost use Rattle.elfsee.specs.declared.requests.RequestFault.{RequestFault};
 
-use answering::{outcome, refused, run};
+use answering::run;
 use elf_listing::RunFault;
 use elf_source::{Counted, Device, MemorySource, Out, Source, StreamSource, WriteSink};
 use elf_table::HeaderStore;
+use endings::{
+    CANNOT_OPEN, Ending, NOT_UTF8, OUT_OF_MEMORY, READ_FAULT, WRITE_FAULT, outcome, refused,
+};
 use offset_reader::OffsetReader;
 use requests::Request;
 use sample::sample;
@@ -42,19 +49,6 @@ const OUTPUT_BYTES: usize = 65_536;
 
 /// A file that is read at offsets.
 type FileReader<F> = Device<OffsetReader<F>>;
-
-/// An exit status, and a line for standard error, which is empty where there is nothing to say.
-type Ending = (u8, &'static str);
-
-const OUT_OF_MEMORY: Ending = (3, "elfsee: out of memory");
-
-const CANNOT_OPEN: Ending = (3, "elfsee: cannot open");
-
-const READ_FAULT: Ending = (3, "elfsee: read fault");
-
-const WRITE_FAULT: Ending = (3, "elfsee: write fault");
-
-const NOT_UTF8: Ending = (2, "elfsee: words are not UTF-8");
 
 fn main(rt: HostRuntime) -> ExitCode {
     let (status, line) = match answer(&rt) {
@@ -107,11 +101,10 @@ fn read_words<R: Env + AllocGlobal>(rt: &R) -> Result<Vec<String>, Ending>
     words.collect(rt.alloc()).map_err(|_| OUT_OF_MEMORY)
 }
 
-/// Reads the request, without memory of its own: a request has no more than four words, and of others
-/// the first five tell that they are none.
+/// Reads the request, without memory of its own: a request has no more than four words, and of
+/// others the first five tell that they are none.
 fn read_request(alloc: Global, words: &[String]) -> Result<Request, Ending>
-    ensures listed { IfOk result (λ request. AreListed (parts_of request)) }
-    ensures told { IfErr result (λ ending. (fault : RequestFault)
+    ensures { IfErr result (λ ending. (fault : RequestFault)
         × (ending.0 ≡ refused_status fault) × (ending.1.now ≡ refused_line fault)) }
 {
     let mut texts = [""; 5];
@@ -149,8 +142,7 @@ fn write_answer<S: Source + Drop, W: Write + Drop>(
     mut store: HeaderStore,
     output: BufWriter<W>,
 ) -> Ending
-    requires listed { AreListed (parts_of request.now) }
-    requires slots { store.slots ≡ headers_of request.now }
+    requires { store.slots ≡ headers_of request.now }
 {
     let mut src = Counted::new(source);
     let mut out = Out::new(WriteSink::new(output));

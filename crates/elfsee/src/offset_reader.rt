@@ -3,8 +3,8 @@ use std::io;
 use std::io::{ErrorKind, Read, Seek, SeekFrom};
 use std::os::unix::fs::FileExt;
 
-/// A file that is read at the place where a seek left it. A seek to a place asks the system nothing,
-/// so that a read at a place is one call of the system and not two.
+/// A file that is read at the place where a seek left it. A seek to a place asks the system
+/// nothing, so that a read at a place is one call of the system and not two.
 #[derive(Drop)]
 pub struct OffsetReader<F> {
     file: F,

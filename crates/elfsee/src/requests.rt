@@ -8,8 +8,8 @@ use thiserror::Error;
 pub enum Request {
     /// The listing of a file.
     Show {
-        /// How many headers are permitted, how many bytes of a name are shown, and how many bytes may
-        /// be read.
+        /// How many headers are permitted, how many bytes of a name are shown, and how many bytes
+        /// may be read.
         caps: Caps,
         /// The parts that are listed.
         parts: Parts,
@@ -18,8 +18,8 @@ pub enum Request {
     },
     /// The listing of the file that the program carries.
     Sample {
-        /// How many headers are permitted, how many bytes of a name are shown, and how many bytes may
-        /// be read.
+        /// How many headers are permitted, how many bytes of a name are shown, and how many bytes
+        /// may be read.
         caps: Caps,
         /// The parts that are listed.
         parts: Parts,
@@ -30,8 +30,8 @@ impl Request {
     ghost use Rattle.std.specs.Prelude.{◌≡◌, ◌≤◌};
     ghost use Rattle.elfsee.specs.Requests.{caps_of, headers_of, parts_of};
 
-    /// How many headers are permitted, how many bytes of a name are shown, and how many bytes may be
-    /// read.
+    /// How many headers are permitted, how many bytes of a name are shown, and how many bytes may
+    /// be read.
     pub fn caps(&self) -> Caps
         ensures { result ≡ caps_of self.now }
     {

@@ -1,15 +1,18 @@
-//! The file header's listing over honest sources, and over sources and sinks that fail; words and endings.
+//! The file header's listing over honest sources, and over sources and sinks that fail; words and
+//! endings.
 ghost use Rattle.std.specs.Prelude.{◌≡◌, ◌≤◌, IfOk};
-ghost use Rattle.elf_listing.specs.Parts.{AreListed};
 
-use crate::answering::{outcome, refused, run};
+use crate::answering::run;
+use crate::endings::{outcome, refused};
 use crate::offset_reader::OffsetReader;
 use crate::requests::{Request, RequestFault};
 use crate::words::request;
+use elf_fakes::{Ending, Pieces, Planned};
+use elf_fixtures::{bare_header, with_bytes};
 use elf_listing::{End, FIXED_BYTES, RunFault, show};
 use elf_record::{Cause, Parts, Refusal};
 use elf_source::{
-    Counted, MemorySource, Out, OutFault, SliceSink, Source, SourceFault, StreamSource, WriteSink,
+    Counted, MemorySource, Out, OutFault, SliceSink, SourceFault, StreamSource, WriteSink,
 };
 use elf_table::{Caps, HeaderStore};
 use std::io;
@@ -18,24 +21,9 @@ use std::os::unix::fs::FileExt;
 use std::process::Abort;
 use std::test::Fail;
 
-/// The file header of a relocatable file for x86-64 with nothing behind it.
-const BARE: [u8; 64] = [
-    0x7f, 0x45, 0x4c, 0x46, 2, 1, 1, 0, 0, 0, 0, 0, 0, 0, 0, 0, 1, 0, 62, 0, 0, 0, 0, 0, 0, 0, 0,
-    0, 0, 0, 0, 0, 0, 0, 0, 0, 0, 0, 0, 0, 0, 0, 0, 0, 0, 0, 0, 0, 0, 0, 0, 0, 0, 0, 0, 0, 0, 0, 0,
-    0, 0, 0, 0, 0,
-];
-
-/// Its line, by hand.
+/// The line of a bare header, by hand.
 const BARE_LINE: &str =
     "H REL     62 0000000000000000 0000000000000000 0000000000000000 00000000     0     0     0\n";
-
-fn with_byte(at: usize, byte: u8) -> [u8; 64] {
-    let mut file = BARE;
-    if at < 64 {
-        file[at] = byte;
-    }
-    file
-}
 
 /// A store of one slot, and the caps for it.
 fn one_slot(rt: &impl AllocGlobal) -> Result<(HeaderStore, Caps), Fail>
@@ -54,9 +42,7 @@ fn check_listing(
     text: &str,
     end: End,
     asked: u128,
-) -> Result<(), Fail>
-    requires { AreListed parts.0 }
-{
+) -> Result<(), Fail> {
     let (mut store, caps) = one_slot(rt)?;
     let mut buffer = [0; 256];
     let mut src = Counted::new(MemorySource::new(file));
@@ -77,10 +63,17 @@ fn refusal(at: u64, cause: Cause) -> End {
 
 #[test]
 fn a_header_is_listed(rt: HostRuntime) -> Result<(), Fail> {
-    check_listing(&rt, &BARE, Parts::HEADER, BARE_LINE, End::Listed, 64)?;
-    check_listing(&rt, &BARE, Parts(15), BARE_LINE, End::Listed, 64)?;
-    check_listing(&rt, &BARE, Parts(0x80), "", End::Listed, 64)?;
-    check_listing(&rt, &BARE, Parts::SECTIONS, "", End::Listed, 64)
+    check_listing(
+        &rt,
+        bare_header(),
+        Parts::HEADER,
+        BARE_LINE,
+        End::Listed,
+        64,
+    )?;
+    check_listing(&rt, bare_header(), Parts(15), BARE_LINE, End::Listed, 64)?;
+    check_listing(&rt, bare_header(), Parts(0x80), "", End::Listed, 64)?;
+    check_listing(&rt, bare_header(), Parts::SECTIONS, "", End::Listed, 64)
 }
 
 #[test]
@@ -90,7 +83,7 @@ fn short_files_are_refused_unread(rt: HostRuntime) -> Result<(), Fail> {
     check_listing(&rt, &[], Parts::HEADER, text, short, 0)?;
     let short = refusal(63, Cause::Short);
     let text = "! 000000000000003f short\n";
-    check_listing(&rt, &BARE[..63], Parts::SYMBOLS, text, short, 0)
+    check_listing(&rt, &bare_header()[..63], Parts::SYMBOLS, text, short, 0)
 }
 
 #[test]
@@ -101,7 +94,7 @@ fn the_identification_is_checked(rt: HostRuntime) -> Result<(), Fail> {
         (5, 2, 5, Cause::BadData, "! 0000000000000005 data\n"),
         (6, 0, 6, Cause::BadVersion, "! 0000000000000006 version\n"),
     ] {
-        let file = with_byte(at, byte);
+        let file = with_bytes(bare_header(), at, &[byte]);
         check_listing(&rt, &file, Parts::HEADER, text, refusal(named, cause), 64)?;
     }
     Ok(())
@@ -109,8 +102,7 @@ fn the_identification_is_checked(rt: HostRuntime) -> Result<(), Fail> {
 
 #[test]
 fn extended_numbering_lists_under_header_alone(rt: HostRuntime) -> Result<(), Fail> {
-    let mut file = with_byte(56, 0xff);
-    file[57] = 0xff;
+    let file = with_bytes(bare_header(), 56, &[0xff, 0xff]);
     let line =
         "H REL     62 0000000000000000 0000000000000000 0000000000000000 00000000 65535     0     0\n";
     check_listing(&rt, &file, Parts::HEADER, line, End::Listed, 64)?;
@@ -119,85 +111,36 @@ fn extended_numbering_lists_under_header_alone(rt: HostRuntime) -> Result<(), Fa
     check_listing(&rt, &file, Parts::SYMBOLS, text, refused, 64)
 }
 
-/// A source of this length that must not be asked for anything.
-struct Unread {
-    length: u64,
-}
-
-impl Source for Unread {
-    ghost use Rattle.std.specs.Prelude.{⊤};
-    ghost use Rattle.elf_source.specs.Source.{unknown};
-
-    ghost seen = { λ s. unknown s.length 0 };
-
-    ghost one_read = { λ _ _ _ _. ⊤ };
-
-    fn length(&self) -> u64 {
-        self.length
-    }
-
-    fn fill(&mut self, _at: u64, _out: &mut [u8]) -> Result<(), SourceFault> {
-        Err(SourceFault::Ended)
-    }
-}
-
 #[test]
 fn too_long_is_refused_unread(rt: HostRuntime) -> Result<(), Fail> {
     let (mut store, caps) = one_slot(&rt)?;
     let mut buffer = [0; 256];
-    let mut src = Counted::new(Unread { length: 1 << 63 });
+    let mut src = Counted::new(Ending { length: 1 << 63 });
     let mut out = Out::new(SliceSink::new(&mut buffer));
     let answer = show(&mut src, &mut store, caps, Parts::SECTIONS, &mut out);
     assert!(rt; answer == Ok(refusal(1 << 63, Cause::TooLong)));
     assert!(rt; out.into_inner().written() == b"! 8000000000000000 too-long\n".as_slice());
     assert!(rt; src.asked() == 0);
-    let Unread { length: _ } = src.into_inner();
     Ok(())
-}
-
-/// A source over a bare header whose every read fails.
-struct Broken {
-    failures: u64,
-}
-
-impl Source for Broken {
-    ghost use Rattle.std.specs.Prelude.{⊤};
-    ghost use Rattle.elf_source.specs.Source.{unknown};
-
-    ghost seen = { λ s. unknown 64 s.failures };
-
-    ghost one_read = { λ _ _ _ _. ⊤ };
-
-    fn length(&self) -> u64 {
-        64
-    }
-
-    fn fill(&mut self, _at: u64, _out: &mut [u8]) -> Result<(), SourceFault> {
-        if self.failures == u64::MAX {
-            return Err(SourceFault::Ended);
-        }
-        self.failures += 1;
-        Err(SourceFault::Device)
-    }
 }
 
 #[test]
 fn a_failing_read_writes_nothing(rt: HostRuntime) -> Result<(), Fail> {
     let (mut store, caps) = one_slot(&rt)?;
     let mut buffer = [0; 256];
-    let mut src = Counted::new(Broken { failures: 0 });
+    let mut src = Counted::new(Planned::new(bare_header(), 1));
     let mut out = Out::new(SliceSink::new(&mut buffer));
     let answer = show(&mut src, &mut store, caps, Parts::HEADER, &mut out);
     let fault = SourceFault::Device;
     assert!(rt; answer == Err(RunFault::Source { fault, at: 0 }));
     assert!(rt; out.into_inner().written().is_empty());
     assert!(rt; src.asked() == 64);
-    let Broken { failures } = src.into_inner();
-    assert!(rt; failures == 1);
+    assert!(rt; src.into_inner().reads == 1);
     Ok(())
 }
 
-/// Carries a request out into so many bytes of memory, and checks what was written and how it ended.
+/// Carries a request out into so many bytes of memory, and checks what was written and how it
+/// ended.
 fn check_run(
     rt: &(impl Abort + AllocGlobal),
     room: usize,
@@ -210,7 +153,7 @@ fn check_run(
     let mut buffer = [0; 256];
     let parts = Parts::HEADER;
     let asked = Request::Sample { caps, parts };
-    let mut src = Counted::new(MemorySource::new(&BARE));
+    let mut src = Counted::new(MemorySource::new(bare_header()));
     let mut out = Out::new(SliceSink::new(&mut buffer[..room]));
     assert!(rt; run(&asked, &mut src, &mut store, &mut out) == answer);
     assert!(rt; out.into_inner().written() == text.as_bytes());
@@ -229,7 +172,7 @@ fn output_that_ends_early(rt: HostRuntime) -> Result<(), Fail> {
 #[test]
 fn a_writer_gets_the_line(rt: HostRuntime) -> Result<(), Fail> {
     let (mut store, caps) = one_slot(&rt)?;
-    let mut src = Counted::new(MemorySource::new(&BARE));
+    let mut src = Counted::new(MemorySource::new(bare_header()));
     let mut out = Out::new(WriteSink::new(Vec::new(rt.alloc())));
     let answer = show(&mut src, &mut store, caps, Parts::HEADER, &mut out);
     assert!(rt; answer == Ok(End::Listed));
@@ -246,6 +189,8 @@ fn words_name_a_part(rt: HostRuntime) -> Result<(), Fail> {
         ("segments", Parts::SEGMENTS),
         ("symbols", Parts::SYMBOLS),
         ("relocs", Parts::RELOCS),
+        ("notes", Parts::NOTES),
+        ("dynamic", Parts::DYNAMIC),
     ] {
         let sample = request(rt.alloc(), &["sample", "--only", part])?;
         assert!(rt; sample == Request::Sample { caps, parts });
@@ -285,38 +230,11 @@ fn endings(rt: HostRuntime) {
     assert!(rt; refused(&RequestFault::Memory) == (3, "elfsee: out of memory"));
 }
 
-/// A reader of a bare header that gives one byte at each read.
-#[derive(Drop)]
-struct Dribble {
-    at: u64,
-}
-
-impl Read for Dribble {
-    fn read(&mut self, buf: &mut [u8]) -> io::Result<usize> {
-        if self.at >= 64 || buf.is_empty() {
-            return Ok(0);
-        }
-        buf[0] = BARE[self.at as usize];
-        self.at += 1;
-        Ok(1)
-    }
-}
-
-impl Seek for Dribble {
-    fn seek(&mut self, to: SeekFrom) -> io::Result<u64> {
-        self.at = match to {
-            SeekFrom::Start(at) => at,
-            _ => 64,
-        };
-        Ok(self.at)
-    }
-}
-
 #[test]
 fn a_stream_lists_as_memory_does(rt: HostRuntime) -> Result<(), Fail> {
     let (mut store, caps) = one_slot(&rt)?;
     let mut buffer = [0; 256];
-    let mut src = Counted::new(StreamSource::new(Dribble { at: 0 })?);
+    let mut src = Counted::new(StreamSource::over(Pieces::new(bare_header()))?);
     let mut out = Out::new(SliceSink::new(&mut buffer));
     let answer = show(&mut src, &mut store, caps, Parts(15), &mut out);
     assert!(rt; answer == Ok(End::Listed));
@@ -334,7 +252,7 @@ impl FileExt for Tape {
         if offset >= 64 || buf.is_empty() {
             return Ok(0);
         }
-        buf[0] = BARE[offset as usize];
+        buf[0] = bare_header()[offset as usize];
         Ok(1)
     }
 
@@ -368,6 +286,6 @@ fn a_file_is_read_where_a_seek_left_it(rt: HostRuntime) {
 
 #[test]
 fn the_fixed_buffers_are_small(rt: HostRuntime) {
-    assert!(rt; FIXED_BYTES == 8_896);
+    assert!(rt; FIXED_BYTES == 16_276);
     assert!(rt; FIXED_BYTES <= 16_384);
 }

@@ -1,8 +1,7 @@
 //! The words of a command line.
 ghost use Rattle.std.specs.Prelude.{◌≡◌, IfOk, IfErr, IsErr, Some, codes, false};
 ghost use Rattle.elf_model.specs.Text.{name_of};
-ghost use Rattle.elf_listing.specs.Parts.{AreListed};
-ghost use Rattle.elfsee.specs.Requests.{Asks, AsksForNone, is_part, part_names, parts_of};
+ghost use Rattle.elfsee.specs.Requests.{Asks, AsksForNone, is_part, part_names};
 ghost use Rattle.elfsee.specs.declared.requests.RequestFault.TheVariants.{Words};
 
 use crate::requests::{Request, RequestFault};
@@ -16,13 +15,12 @@ const DEFAULT_HEADERS: u16 = 4_096;
 const DEFAULT_NAME: u16 = 256;
 
 /// Reads the words of a command line, without the program's name: `show --only PART FILE` or
-/// `sample --only PART`, where PART is `header`, `sections`, `segments`, `symbols` or `relocs`. At most
-/// 4,096 headers are permitted, and 256 bytes of a name are shown.
+/// `sample --only PART`, where PART is `header`, `sections`, `segments`, `symbols`, `relocs`,
+/// `notes` or `dynamic`. At most 4,096 headers are permitted, and 256 bytes of a name are shown.
 ///
 /// # Errors
 /// `Words` for any other words, `Memory` where there is none for the file's path.
 pub fn request(alloc: Global, words: &[&str]) -> Result<Request, RequestFault>
-    ensures listed { IfOk result (λ request. AreListed (parts_of request)) }
     ensures asked { IfOk result (λ request. Asks words.now request) }
     // Want of memory is never told as bad words.
     ensures no_show { IfErr result (λ fault. fault ≡ Words →
@@ -52,7 +50,6 @@ pub fn request(alloc: Global, words: &[&str]) -> Result<Request, RequestFault>
 /// The part of a listing that has this name.
 #[tactic(auto, unfolding(elf_model::specs::Text::name_of))]
 fn part_named(name: &str) -> Result<Parts, RequestFault>
-    ensures listed { IfOk result (λ parts. AreListed parts.0) }
     ensures unnamed { IsErr result → is_part name.now ≡ false }
     ensures named { IfOk result (λ parts. name_of part_names parts.0 ≡ Some name.now) }
 {
@@ -62,6 +59,8 @@ fn part_named(name: &str) -> Result<Parts, RequestFault>
         "segments" => Ok(Parts::SEGMENTS),
         "symbols" => Ok(Parts::SYMBOLS),
         "relocs" => Ok(Parts::RELOCS),
+        "notes" => Ok(Parts::NOTES),
+        "dynamic" => Ok(Parts::DYNAMIC),
         _ => Err(RequestFault::Words),
     }
 }

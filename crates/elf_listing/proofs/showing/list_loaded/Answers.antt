@@ -4,10 +4,12 @@ use Rattle.std.proofs.lemmas.Result.{err_from_is_err_and}
 use Rattle.elf_model.specs.Listing.{has_tables}
 use Rattle.elf_model.proofs.ListingLemmas.{load_none}
 use Rattle.elf_record.specs.declared.ehdr.Ehdr.{Ehdr}
+use Rattle.elf_source.proofs.ReadsLaws.{Reads-then}
+use Rattle.elf_listing.specs.Viewed.{view_cost}
 use Rattle.elf_listing.proofs.FileShown.{load_alone, load_passed}
-use Rattle.elf_listing.proofs.RowLaws.{Stopped-first, Writes-as}
-use Rattle.elf_listing.proofs.SectionCosts.{load_below, load_within, load_most, loaded_within, loaded_below}
-use Rattle.elf_listing.proofs.ShowLaws.{Whole-none, Costs-then, Costs-fault}
+use Rattle.elf_listing.proofs.RowLaws.{Stopped-first, Stopped-unread-first, Writes-as}
+use Rattle.elf_listing.proofs.SectionCosts.{load_below, load_within, load_most, loaded_within, loaded_below, view_within, view_below, few_headers, viewed_all}
+use Rattle.elf_listing.proofs.ShowLaws.{Whole-none, Costs-then, Costs-fault, Costs-later}
 use Rattle.elf_listing.proofs.showing.list_loaded.Goals as goal
 
 pub returns-then-not-intersects-clause-text : goal.returns-then-not-intersects-clause-text
@@ -35,38 +37,95 @@ returns-in_err-loaded-clause-text g c = λ file held.
     let tables : has_tables c.args.parts.0 ≡ true = search rules in
     rw (p.1, p.2) (Stopped-first _ _ _ (load_alone file c.args.store.now.slots c.args.cap.bytes c.args.parts.0 _ _ (c.in_err-loaded.ensures.held file held (c.requires.header file held).1) c.load.ensures.slots tables))
 
+pub load_view-requires-clause-within : goal.load_view-requires-clause-within
+load_view-requires-clause-within g c =
+    let opens = c.in_ok-loaded.ensures.opens in
+    let within = opens.passes.segments in
+    rw (opens.same_header, c.load.ensures.reads.keeps.same_size) (λ some. let inside = within some in omega (arith, inside))
+
+pub load_view-requires-clause-room : goal.load_view-requires-clause-room
+load_view-requires-clause-room g c = let opens = c.in_ok-loaded.ensures.opens in rw opens.same_header opens.passes.few_segments
+
+pub returns-in_err-load_view-clause-below : goal.returns-in_err-load_view-clause-below
+returns-in_err-load_view-clause-below g c =
+    let p = err_from_is_err_and c.from_residual-in_err-load_view.result c.from_residual-in_err-load_view.ensures.1 in
+    let opens = c.in_ok-loaded.ensures.opens in
+    let size = c.args.src.now.seen.size in
+    let few = few_headers c.in_ok-loaded.loaded c.args.header.now size c.load.new.store opens c.load.ensures.slots in
+    let below = view_below c.in_ok-loaded.loaded size c.args.store.now.slots c.args.cap.bytes c.args.parts.0 few.0 few.1 in
+    let most = load_most c.args.header.now size c.args.store.now.slots in
+    let same = ap (λ (header : Ehdr). header.e_shnum) opens.same_header in
+    let asked = view_cost c.args.parts.0 c.in_ok-loaded.loaded in
+    rw (p.1, p.2) (Costs-later _ _ _ c.args.out.now _ _ asked _ (omega (arith, below, most, same, c.load.ensures.reads.at_most)) c.load.ensures.reads c.load_view.ensures.reads c.in_err-load_view.ensures.says)
+
+pub returns-in_err-load_view-clause-cost : goal.returns-in_err-load_view-clause-cost
+returns-in_err-load_view-clause-cost g c = λ file held.
+    let p = err_from_is_err_and c.from_residual-in_err-load_view.result c.from_residual-in_err-load_view.ensures.1 in
+    let tables : has_tables c.args.parts.0 ≡ true = search rules in
+    let read = c.requires.header file held in
+    let belongs = c.in_ok-loaded.ensures.held file held read.1 in
+    let within = view_within file c.in_ok-loaded.loaded c.load.new.store c.args.store.now.slots c.args.cap.bytes c.args.parts.0 belongs c.load.ensures.slots read.0 tables in
+    let most = load_most c.args.header.now c.args.src.now.seen.size c.args.store.now.slots in
+    let same = ap (λ (header : Ehdr). header.e_shnum) c.in_ok-loaded.ensures.opens.same_header in
+    let asked = view_cost c.args.parts.0 c.in_ok-loaded.loaded in
+    rw (p.1, p.2) (Costs-later _ _ _ c.args.out.now _ _ asked _ (omega (arith, within, most, same, c.load.ensures.reads.at_most)) c.load.ensures.reads c.load_view.ensures.reads c.in_err-load_view.ensures.says)
+
+pub returns-in_err-load_view-clause-text : goal.returns-in_err-load_view-clause-text
+returns-in_err-load_view-clause-text g c = λ file held.
+    let p = err_from_is_err_and c.from_residual-in_err-load_view.result c.from_residual-in_err-load_view.ensures.1 in
+    rw (p.1, p.2) (Stopped-unread-first _ _ _ c.in_err-load_view.ensures.fault)
+
 pub list_tables-requires-clause-opened : goal.list_tables-requires-clause-opened
 list_tables-requires-clause-opened g c =
-    let reads = c.load.ensures.reads in
+    let reads = Reads-then c.load.ensures.reads c.load_view.ensures.reads in
     record {
       size = c.in_ok-loaded.ensures.opens.same_size ∙ sym reads.keeps.same_size;
       belongs = λ file held.
           let before = sym reads.keeps.same_file ∙ held in
-          c.in_ok-loaded.ensures.held file before (c.requires.header file before).1;
+          let loaded = sym c.load_view.ensures.reads.keeps.same_file ∙ held in
+          (c.in_ok-load_view.ensures.held file loaded (c.in_ok-loaded.ensures.held file before (c.requires.header file before).1)).0;
     }
+
+pub list_tables-requires-clause-viewed : goal.list_tables-requires-clause-viewed
+list_tables-requires-clause-viewed g c = record {
+  all = viewed_all c.args.parts.0 c.in_ok-loaded.loaded c.load_view.new.store c.in_ok-load_view.ensures.segments;
+  held = λ file held.
+      let loaded = sym c.load_view.ensures.reads.keeps.same_file ∙ held in
+      let before = sym c.load.ensures.reads.keeps.same_file ∙ loaded in
+      (c.in_ok-load_view.ensures.held file loaded (c.in_ok-loaded.ensures.held file before (c.requires.header file before).1)).1;
+}
 
 pub returns-clause-below : goal.returns-clause-below
 returns-clause-below g c =
     let opens = c.in_ok-loaded.ensures.opens in
     let size = c.args.src.now.seen.size in
-    let below = loaded_below c.in_ok-loaded.loaded c.load.new.store c.args.header.now size c.args.store.now.slots c.args.cap.bytes c.args.parts.0 opens c.load.ensures.slots in
+    let few = few_headers c.in_ok-loaded.loaded c.args.header.now size c.load.new.store opens c.load.ensures.slots in
+    let same = ap (λ (header : Ehdr). header.e_shnum) opens.same_header in
+    let count = c.in_ok-load_view.ensures.loaded ∙ (opens.count ∙ sym same) in
+    let below = loaded_below c.in_ok-loaded.loaded c.load_view.new.store size c.args.store.now.slots c.args.cap.bytes c.args.parts.0 opens.same_size
+    (c.load_view.ensures.slots ∙ c.load.ensures.slots) count few.0 few.1 c.in_ok-load_view.ensures.segments in
     let most = load_most c.args.header.now size c.args.store.now.slots in
-    Costs-then _ _ _ _ _ _ _ _ (omega (arith, below, most, c.load.ensures.reads.at_most)) c.load.ensures.reads c.list_tables.ensures.costs
+    let reads = Reads-then c.load.ensures.reads c.load_view.ensures.reads in
+    Costs-then _ _ _ _ _ _ _ _ (omega (arith, below, most, same, reads.at_most)) reads c.list_tables.ensures.costs
 
 pub returns-clause-cost : goal.returns-clause-cost
 returns-clause-cost g c = λ file held.
     let tables : has_tables c.args.parts.0 ≡ true = search rules in
     let read = c.requires.header file held in
-    let belongs = c.in_ok-loaded.ensures.held file held read.1 in
+    let loaded = c.load.ensures.reads.keeps.same_file ∙ held in
+    let both = c.in_ok-load_view.ensures.held file loaded (c.in_ok-loaded.ensures.held file held read.1) in
     let opens = c.in_ok-loaded.ensures.opens in
-    let within = loaded_within file c.in_ok-loaded.loaded c.load.new.store c.args.store.now.slots c.args.cap.bytes c.args.parts.0 belongs c.load.ensures.slots read.0 tables in
+    let within = loaded_within file c.in_ok-loaded.loaded c.load_view.new.store c.args.store.now.slots c.args.cap.bytes c.args.parts.0 both.0 (c.load_view.ensures.slots ∙ c.load.ensures.slots)
+    both.1 c.in_ok-load_view.ensures.segments read.0 tables in
     let most = load_most c.args.header.now c.args.src.now.seen.size c.args.store.now.slots in
     let same = ap (λ (header : Ehdr). header.e_shnum) opens.same_header in
-    Costs-then _ _ _ _ _ _ _ _ (omega (arith, within, most, same, c.load.ensures.reads.at_most)) c.load.ensures.reads c.list_tables.ensures.costs
+    let reads = Reads-then c.load.ensures.reads c.load_view.ensures.reads in
+    Costs-then _ _ _ _ _ _ _ _ (omega (arith, within, most, same, reads.at_most)) reads c.list_tables.ensures.costs
 
 pub returns-clause-text : goal.returns-clause-text
 returns-clause-text g c = λ file held.
     let tables : has_tables c.args.parts.0 ≡ true = search rules in
     let belongs = c.in_ok-loaded.ensures.held file held (c.requires.header file held).1 in
+    let reads = Reads-then c.load.ensures.reads c.load_view.ensures.reads in
     Writes-as _ _ _ (load_passed file c.args.store.now.slots _ c.args.cap.bytes c.args.parts.0 belongs.passes c.load.ensures.slots tables)
-    (c.list_tables.ensures.text file (c.load.ensures.reads.keeps.same_file ∙ held))
+    (c.list_tables.ensures.text file (reads.keeps.same_file ∙ held))

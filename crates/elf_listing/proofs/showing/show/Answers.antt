@@ -17,7 +17,7 @@ returns-in-Ok-clause-text g c = λ file held.
 
 pub returns-in-Ok-clause-asks : goal.returns-in-Ok-clause-asks
 returns-in-Ok-clause-asks g c =
-    asks_within c.args.caps c.args.parts.0 c.args.src.now c.limit.new.self c.list-end.new.src c.limit-2.new.self 0 _ c.requires.2 c.limit.ensures
+    asks_within c.args.caps c.args.parts.0 c.args.src.now c.limit.new.self c.list-end.new.src c.limit-2.new.self 0 _ c.requires.1 c.limit.ensures
     (rw (c.requires.0) at c.list-end.ensures.ceiling.0) c.limit-2.ensures c.list-end.ensures.unread c.list-end.ensures.alone (λ refusal is. cc)
 
 pub returns-in-Ok-show_refusal-clause-text : goal.returns-in-Ok-show_refusal-clause-text
@@ -27,14 +27,14 @@ returns-in-Ok-show_refusal-clause-text g c = λ file held.
     let ends = rw (c.requires.0, end) at (c.list-end.ensures.text file now) in
     let says = rw (c.requires.0, end) at (c.list-end.ensures.cost file now).1 in
     let sized = sym (c.args.src.now.seen.sized file held) in
-    ended_report file c.args.caps c.args.parts.0 c.in-Err-Refused.refusal _ _ _ c.requires.2 c.limit.ensures sized says ends (c.in-Ok-show_refusal.ensures.puts.0)
+    ended_report file c.args.caps c.args.parts.0 c.in-Err-Refused.refusal _ _ _ c.requires.1 c.limit.ensures sized says ends (c.in-Ok-show_refusal.ensures.puts.0)
 
 pub returns-in-Ok-show_refusal-clause-asks : goal.returns-in-Ok-show_refusal-clause-asks
 returns-in-Ok-show_refusal-clause-asks g c =
     let end : c.list-end.result ≡ Err (Refused c.in-Err-Refused.refusal) = search rules in
     let says = rw end at c.list-end.ensures.ceiling.1 in
     let n : ℕ = ceiling c.limit.new.self.seen.size c.args.store.now.slots c.args.caps.name.bytes in
-    asks_within c.args.caps c.args.parts.0 c.args.src.now c.limit.new.self c.list-end.new.src c.limit-2.new.self n _ c.requires.2 c.limit.ensures
+    asks_within c.args.caps c.args.parts.0 c.args.src.now c.limit.new.self c.list-end.new.src c.limit-2.new.self n _ c.requires.1 c.limit.ensures
     (rw (c.requires.0) at c.list-end.ensures.ceiling.0) c.limit-2.ensures c.list-end.ensures.unread c.list-end.ensures.alone (λ refusal is.
     let same : c.in-Err-Refused.refusal ≡ refusal = cc in
     subst (λ (r : Refusal). RefusalSays c.limit.new.self c.list-end.new.src n r) same says)
@@ -46,11 +46,11 @@ returns-in-Err-clause-text g c = λ file held.
     let ends = rw (c.requires.0, end) at (c.list-end.ensures.text file now) in
     let says = rw (c.requires.0, end) at (c.list-end.ensures.cost file now).1 in
     let sized = sym (c.args.src.now.seen.sized file held) in
-    ended_fault file c.args.caps c.args.parts.0 c.in-Err-Refused.refusal _ _ _ _ c.requires.2 c.limit.ensures sized says ends (c.in-Err.ensures.puts.0)
+    ended_fault file c.args.caps c.args.parts.0 c.in-Err-Refused.refusal _ _ _ _ c.requires.1 c.limit.ensures sized says ends (c.in-Err.ensures.puts.0)
 
 pub returns-in-Err-clause-asks : goal.returns-in-Err-clause-asks
 returns-in-Err-clause-asks g c =
-    asks_within c.args.caps c.args.parts.0 c.args.src.now c.limit.new.self c.list-end.new.src c.limit-2.new.self 0 _ c.requires.2 c.limit.ensures
+    asks_within c.args.caps c.args.parts.0 c.args.src.now c.limit.new.self c.list-end.new.src c.limit-2.new.self 0 _ c.requires.1 c.limit.ensures
     (rw (c.requires.0) at c.list-end.ensures.ceiling.0) c.limit-2.ensures c.list-end.ensures.unread c.list-end.ensures.alone (λ refusal is. cc)
 
 pub returns-in-Err-Source-clause-text : goal.returns-in-Err-Source-clause-text
@@ -62,7 +62,7 @@ returns-in-Err-Source-clause-text g c = λ file held.
 
 pub returns-in-Err-Source-clause-asks : goal.returns-in-Err-Source-clause-asks
 returns-in-Err-Source-clause-asks g c =
-    asks_within c.args.caps c.args.parts.0 c.args.src.now c.limit.new.self c.list-end.new.src c.limit-2.new.self 0 _ c.requires.2 c.limit.ensures
+    asks_within c.args.caps c.args.parts.0 c.args.src.now c.limit.new.self c.list-end.new.src c.limit-2.new.self 0 _ c.requires.1 c.limit.ensures
     (rw (c.requires.0) at c.list-end.ensures.ceiling.0) c.limit-2.ensures c.list-end.ensures.unread c.list-end.ensures.alone (λ refusal is. cc)
 
 pub returns-in-Err-Out-clause-text : goal.returns-in-Err-Out-clause-text
@@ -74,5 +74,5 @@ returns-in-Err-Out-clause-text g c = λ file held.
 
 pub returns-in-Err-Out-clause-asks : goal.returns-in-Err-Out-clause-asks
 returns-in-Err-Out-clause-asks g c =
-    asks_within c.args.caps c.args.parts.0 c.args.src.now c.limit.new.self c.list-end.new.src c.limit-2.new.self 0 _ c.requires.2 c.limit.ensures
+    asks_within c.args.caps c.args.parts.0 c.args.src.now c.limit.new.self c.list-end.new.src c.limit-2.new.self 0 _ c.requires.1 c.limit.ensures
     (rw (c.requires.0) at c.list-end.ensures.ceiling.0) c.limit-2.ensures c.list-end.ensures.unread c.list-end.ensures.alone (λ refusal is. cc)

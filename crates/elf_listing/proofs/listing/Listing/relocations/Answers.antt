@@ -9,7 +9,7 @@ use Rattle.elf_table.specs.Store.{row}
 use Rattle.elf_listing.proofs.RowLaws.{Writes-as, Stopped-first}
 use Rattle.elf_listing.proofs.SectionCosts.{relocations_within}
 use Rattle.elf_listing.proofs.SectionShown.{no_relocations, relocations_fault, relocations_pass, relocations_are, rows_checked}
-use Rattle.elf_listing.proofs.ShowLaws.{Whole-none, Costs-within}
+use Rattle.elf_listing.proofs.ShowLaws.{Whole-none, Spent-within}
 use Rattle.elf_listing.proofs.listing.Listing.relocations.Goals as goal
 
 pub returns-then-section-ne-SHT_RELA-clause-shows : goal.returns-then-section-ne-SHT_RELA-clause-shows
@@ -31,8 +31,8 @@ returns-clause-lists g c =
     let f = c.args.self.now.file in
     let kind = sym c.section.ensures.fields.sh_type ∙ c.if-section-ne-SHT_RELA.false in
     let lists = c.rows.ensures.lists in
-    let costs = Costs-within _ _ _ _ _ _ (relocations_within (row f.store.now c.args.section) f.loaded.size _ c.args.self.now.cap.bytes _ kind c.in_ok-found.ensures.table) (lists.1, lists.2) in
-    (lists.0, costs.0, costs.1)
+    let costs = Spent-within _ _ _ _ _ _ _ _ (relocations_within (row f.store.now c.args.section) f.loaded.size _ c.args.self.now.cap.bytes _ kind c.in_ok-found.ensures.table) lists.1 in
+    (lists.0, costs)
 
 pub returns-clause-shows : goal.returns-clause-shows
 returns-clause-shows g c = λ file held.
@@ -43,4 +43,4 @@ returns-clause-shows g c = λ file held.
     let found = relocations_pass file c.args.section _ _ (sym (c.in_ok-found.ensures.held file belongs)) in
     let machine = ap (λ (header : Ehdr). header.e_machine) c.header-machine.ensures.value ∙ belongs.header.e_machine in
     Writes-as _ _ _ (rows_checked (relocation_table_checks file at) (relocation_row file cap c.args.section at) _ _ _ (relocations_are file cap c.args.section kind) found.pass found.counted)
-    (c.rows.ensures.shows file held (λ some. ((machine, found.refers some), found.placed some)))
+    (c.rows.ensures.shows file held (λ some. (machine, found.refers some, found.placed some)))

@@ -1,10 +1,13 @@
 -- Each row that the cursor gives is the file's, and is shown behind those before it.
-use Rattle.std.proofs.Common.{◌≡◌, ◌+◌, ◌*◌, ◌<◌, refl, ap, sym, ◌∙◌, arith}
+use Rattle.std.proofs.Common.{◌≡◌, ◌+◌, ◌<◌, refl, ◌∙◌, arith}
 use Rattle.std.proofs.lemmas.Result.{err_from_is_err_and}
-use Rattle.elf_source.proofs.ReadsLaws.{Reads-none, Reads-then, Reads-to}
+use Rattle.elf_source.proofs.ReadsLaws.{Reads-then}
+use Rattle.elf_names.proofs.HeldLaws.{still_held}
+use Rattle.elf_names.proofs.SpendsLaws.{Spends-none, Spends-reads, Spends-then, Spends-to}
 use Rattle.elf_table.proofs.SaysLaws.{still_open}
-use Rattle.elf_table.specs.Tables.{Rows}
-use Rattle.elf_listing.specs.Kinds.{row_size, own_cost, row_items, rows_cost}
+use Rattle.elf_listing.proofs.ViewedLaws.{still_viewed}
+use Rattle.elf_listing.specs.Kinds.{own_cost, row_items}
+use Rattle.elf_listing.specs.RowCursors.{reading, rows_listed}
 use Rattle.elf_listing.proofs.LoopLaws.{rows_none, rows_more, rows_unread, rows_stopped, account_begins, account_step, account_row, agrees_none, given_index, given_row}
 use Rattle.elf_listing.proofs.ShowLaws.{StopSays-then}
 use Rattle.elf_listing.proofs.listing.Listing.rows.Goals as goal
@@ -13,13 +16,14 @@ pub rows-init : goal.rows-init
 rows-init g c =
     let n = c.new-cursor.ensures in
     record {
-      same_table = n.table;
+      same_table = n.its_table;
       not_failed = n.failed;
       counted = omega (arith, n.index, n.left);
       keeps = record { same_src = refl; same_out = refl; same_file = refl; same_cap = refl };
-      reads = Reads-none _ _;
-      asked = omega (arith, account_begins c.new-cursor.result c.args.table c.args.kind.now c.args.self.now.cap.bytes c.requires.entry n.failed n.unread n.left);
-      agrees = λ file held. agrees_none file c.new-cursor.result n.held;
+      spends = Spends-none _ _ _ _ (omega arith);
+      asked = omega (arith, account_begins (reading c.new-cursor.result) c.args.table c.args.kind.now c.args.self.now.cap.bytes c.requires.entry n.failed n.unread n.left);
+      agrees = λ file held. agrees_none file (reading c.new-cursor.result) n.held;
+      listed = λ file held. omega (arith, n.index, n.rows file);
       text = λ file held of_kind. rows_none _ _ _ n.index;
     }
 
@@ -27,19 +31,22 @@ pub returns-in_err-advance-clause-shows : goal.returns-in_err-advance-clause-sho
 returns-in_err-advance-clause-shows g c = λ file held of_kind.
     let p = err_from_is_err_and c.from_residual.result c.from_residual.ensures.1 in
     let known = c.rows.invariant in
-    rw (p.1, p.2) (rows_unread (row_items c.args.kind.now file c.args.self.now.cap.bytes) c.rows.cursor.index _ _ _ _ _ (omega (arith, known.counted)) (c.in_err-advance.ensures.steps.at_next known.not_failed) (known.text file held of_kind))
+    rw (p.1, p.2) (rows_unread (row_items c.args.kind.now file c.args.self.now.cap.bytes c.args.table.at) (reading c.rows.cursor).index _ _ _ _ _ (omega (arith, known.listed file held)) (c.in_err-advance.ensures.steps.at_next known.not_failed) (known.text file held of_kind))
 
 pub returns-in_err-row-clause-lists : goal.returns-in_err-row-clause-lists
 returns-in_err-row-clause-lists g c =
     let p = err_from_is_err_and c.from_residual-in_err-row.result c.from_residual-in_err-row.ensures.1 in
     let known = c.rows.invariant in
-    let gives = rw c.if-branch.true at c.in_ok-advance.ensures.steps in
+    let step = rw c.if-branch.true at c.in_ok-advance.ensures.steps in
+    let gives = step.gives in
     let account = c.in_ok-advance.ensures.account in
     let reads = c.in_ok-advance.ensures.reads in
     let lists = c.in_err-row.ensures.lists in
-    let within = account_row c.rows.cursor c.advance.new.self _ _ _ _ gives.one_less account known.asked in
-    let says = rw known.keeps.same_cap at lists.2 in
-    let asks = rw known.keeps.same_cap at lists.1 in
+    let own = own_cost c.args.kind.now c.args.self.now.cap.bytes in
+    let credit = c.rows.self.ahead.credit in
+    let within = account_row (reading c.rows.cursor) (reading c.advance.new.self) _ (c.advance.new.src.asked + credit) own _ gives.one_less (omega (arith, account)) known.asked in
+    let says = rw known.keeps.same_cap at lists.1.1 in
+    let asks = rw known.keeps.same_cap at lists.1.0 in
     rw (p.1, p.2) (
       record {
         same_src = lists.0.same_src ∙ known.keeps.same_src;
@@ -47,32 +54,39 @@ returns-in_err-row-clause-lists g c =
         same_file = lists.0.same_file ∙ known.keeps.same_file;
         same_cap = lists.0.same_cap ∙ known.keeps.same_cap;
       },
-      Reads-to (Reads-then known.reads (Reads-then reads asks)) (omega (arith, within, asks.at_most)),
-      StopSays-then _ _ _ _ _ _ _ _ within (Reads-then known.reads reads) says,
+      (
+        Spends-to (Spends-then known.spends (Spends-then (Spends-reads credit reads) asks)) (omega (arith, within, asks.account)),
+        StopSays-then _ _ _ _ _ _ _ _ (omega (arith, within)) (Reads-then known.spends.reads reads) says,
+      ),
     )
 
 pub returns-in_err-row-clause-shows : goal.returns-in_err-row-clause-shows
 returns-in_err-row-clause-shows g c = λ file held of_kind.
     let p = err_from_is_err_and c.from_residual-in_err-row.result c.from_residual-in_err-row.ensures.1 in
     let known = c.rows.invariant in
-    let gives = rw c.if-branch.true at c.in_ok-advance.ensures.steps in
-    let now = known.reads.keeps.same_file ∙ held in
-    let below : c.rows.cursor.index < c.args.table.count = omega (arith, known.counted, gives.one_less) in
-    let kind = of_kind (omega (arith, below)) in
-    let row = given_row file c.args.kind.now c.args.table gives c.row.ensures now (known.agrees file held) known.same_table c.requires.entry kind.1 in
-    let shown = rw (given_index gives c.row.ensures, known.keeps.same_cap) at (c.in_err-row.ensures.shows file (c.in_ok-advance.ensures.reads.keeps.same_file ∙ now) kind.0 row) in
-    rw (p.1, p.2) (rows_stopped (row_items c.args.kind.now file c.args.self.now.cap.bytes) c.rows.cursor.index _ _ _ _ _ below (known.text file held of_kind) shown)
+    let step = rw c.if-branch.true at c.in_ok-advance.ensures.steps in
+    let gives = step.gives in
+    let now = known.spends.reads.keeps.same_file ∙ held in
+    let less = step.one_less file now (known.agrees file held) in
+    let below : (reading c.rows.cursor).index < rows_listed c.args.kind.now file c.args.table = omega (arith, known.listed file held, less) in
+    let some : 0 < c.args.table.count = omega (arith, known.counted, gives.one_less) in
+    let row = given_row file c.args.kind.now c.args.table gives c.row.ensures now (known.agrees file held) known.same_table c.requires.entry in
+    let shown = rw (given_index gives c.row.ensures, known.keeps.same_cap) at (c.in_err-row.ensures.shows file (c.in_ok-advance.ensures.reads.keeps.same_file ∙ now) c.args.table.at (of_kind some) row) in
+    rw (p.1, p.2) (rows_stopped (row_items c.args.kind.now file c.args.self.now.cap.bytes c.args.table.at) (reading c.rows.cursor).index _ _ _ _ _ below (known.text file held of_kind) shown)
 
 pub rows-preserved : goal.rows-preserved
 rows-preserved g c =
     let known = c.rows.invariant in
-    let gives = rw c.if-branch.true at c.in_ok-advance.ensures.steps in
+    let step = rw c.if-branch.true at c.in_ok-advance.ensures.steps in
+    let gives = step.gives in
     let account = c.in_ok-advance.ensures.account in
     let lists = c.in_ok-row.ensures.lists.0 in
-    let asks = c.in_ok-row.ensures.lists.1 in
+    let asks = c.in_ok-row.ensures.lists.1.0 in
     let reads = c.in_ok-advance.ensures.reads in
-    let most = rw known.keeps.same_cap at asks.at_most in
-    let asked = account_step c.rows.cursor c.advance.new.self _ _ _ _ _ gives.one_less account most known.asked in
+    let own = own_cost c.args.kind.now c.args.self.now.cap.bytes in
+    let credit = c.rows.self.ahead.credit in
+    let most = rw known.keeps.same_cap at asks.account in
+    let asked = account_step (reading c.rows.cursor) (reading c.advance.new.self) _ (c.advance.new.src.asked + credit) _ own _ gives.one_less (omega (arith, account)) (omega (arith, most)) known.asked in
     record {
       same_table = gives.same_table ∙ known.same_table;
       not_failed = gives.still_not_failed;
@@ -83,17 +97,30 @@ rows-preserved g c =
         same_file = lists.same_file ∙ known.keeps.same_file;
         same_cap = lists.same_cap ∙ known.keeps.same_cap;
       };
-      reads = Reads-to (Reads-then known.reads (Reads-then reads asks)) (omega (arith, asked));
+      spends = Spends-to (Spends-then known.spends (Spends-then (Spends-reads credit reads) asks)) (omega (arith, asked));
       asked = asked;
-      agrees = λ file held. gives.agrees file (known.reads.keeps.same_file ∙ held) (known.agrees file held);
+      agrees = λ file held. gives.agrees file (known.spends.reads.keeps.same_file ∙ held) (known.agrees file held);
+      listed = λ file held.
+          let less = step.one_less file (known.spends.reads.keeps.same_file ∙ held) (known.agrees file held) in
+          omega (arith, known.listed file held, less, gives.next_index);
       text = λ file held of_kind.
-          let now = known.reads.keeps.same_file ∙ held in
-          let below : c.rows.cursor.index < c.args.table.count = omega (arith, known.counted, gives.one_less) in
-          let kind = of_kind (omega (arith, below)) in
-          let row = given_row file c.args.kind.now c.args.table gives c.row.ensures now (known.agrees file held) known.same_table c.requires.entry kind.1 in
-          let shown = rw (given_index gives c.row.ensures, known.keeps.same_cap) at (c.in_ok-row.ensures.shows file (reads.keeps.same_file ∙ now) kind.0 row) in
-          rows_more (row_items c.args.kind.now file c.args.self.now.cap.bytes) c.rows.cursor.index _ gives.next_index (known.text file held of_kind) shown;
+          let now = known.spends.reads.keeps.same_file ∙ held in
+          let some : 0 < c.args.table.count = omega (arith, known.counted, gives.one_less) in
+          let row = given_row file c.args.kind.now c.args.table gives c.row.ensures now (known.agrees file held) known.same_table c.requires.entry in
+          let shown = rw (given_index gives c.row.ensures, known.keeps.same_cap) at (c.in_ok-row.ensures.shows file (reads.keeps.same_file ∙ now) c.args.table.at (of_kind some) row) in
+          rows_more (row_items c.args.kind.now file c.args.self.now.cap.bytes c.args.table.at) (reading c.rows.cursor).index _ gives.next_index (known.text file held of_kind) shown;
     }
 
+pub returns-clause-shows : goal.returns-clause-shows
+returns-clause-shows g c = λ file held of_kind.
+    let known = c.rows.invariant in
+    let ends = rw c.if-branch.false at c.in_ok-advance.ensures.steps in
+    let all : (reading c.rows.cursor).index ≡ rows_listed c.args.kind.now file c.args.table = omega (arith, known.listed file held, ends.none_left file) in
+    rw (← all) (known.text file held of_kind)
+
 pub invariant_of-self : goal.invariant_of-self
-invariant_of-self g c = record { loaded = still_open _ _ c.advance.ensures.reads c.rows.self.loaded }
+invariant_of-self g c = record {
+  loaded = still_open _ _ c.advance.ensures.reads c.rows.self.loaded;
+  viewed = still_viewed _ _ c.advance.ensures.reads c.rows.self.viewed;
+  held = still_held _ c.advance.ensures.reads c.rows.self.held;
+}

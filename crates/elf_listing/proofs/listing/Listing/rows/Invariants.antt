@@ -1,26 +1,29 @@
 -- What was shown so far are the rows before the cursor's, and what may still be asked for is counted.
 use Rattle.std.proofs.Common.{◌≡◌, ℕ, ◌+◌, ◌*◌, ◌<◌, ◌≤◌, List, None, Some}
 use Rattle.elf_model.specs.Listing.{each}
-use Rattle.elf_source.specs.Source.{Reads}
+use Rattle.elf_names.specs.Ahead.{Spends}
 use Rattle.elf_table.specs.Cursors.{Agrees, unread_bytes}
-use Rattle.elf_listing.specs.Kinds.{own_cost, row_items, rows_cost, table_place, KindOf}
+use Rattle.elf_listing.specs.Kinds.{own_cost, row_items, rows_cost, KindOf}
+use Rattle.elf_listing.specs.RowCursors.{reading, rows_left, rows_listed}
 use Rattle.elf_listing.specs.Shows.{SameFile, Whole}
 use Rattle.elf_listing.proofs.listing.Listing.rows.Given as goal
 
 abbrev pub invariant-rows : goal.invariant-rows
 invariant-rows g l =
     let cap = l.fn.self.cap.bytes in
+    let now = reading l.cursor in
     record {
-      same_table : l.cursor.table ≡ l.fn.table;
-      not_failed : l.cursor.failed ≡ None;
-      counted : l.cursor.index + l.cursor.left ≡ l.fn.table.count;
+      same_table : now.table ≡ l.fn.table;
+      not_failed : now.failed ≡ None;
+      counted : now.index + now.left ≡ l.fn.table.count;
       keeps : SameFile l.fn.self l.self;
-      reads : Reads l.fn.self.src.now l.self.src.now (rows_cost l.fn.kind l.fn.table cap);
-      asked : l.self.src.now.asked + (unread_bytes l.cursor + l.cursor.left * own_cost l.fn.kind cap) ≤ l.fn.self.src.now.asked + rows_cost l.fn.kind l.fn.table cap;
-      agrees : (file : List ℕ) → l.fn.self.src.now.seen.file ≡ Some file → Agrees file l.cursor;
-      text : (file : List ℕ) → l.fn.self.src.now.seen.file ≡ Some file → (0 < l.fn.table.count → KindOf file l.fn.kind × (l.fn.table.at ≡ table_place l.fn.kind file))
-          → Whole l.fn.self.out.now l.self.out.now (each (row_items l.fn.kind file cap) 0 l.cursor.index);
+      spends : Spends l.fn.self.src.now l.self.src.now l.fn.self.ahead.credit l.self.ahead.credit (rows_cost l.fn.kind l.fn.table cap);
+      asked : l.self.src.now.asked + l.self.ahead.credit + (unread_bytes now + now.left * own_cost l.fn.kind cap) ≤ l.fn.self.src.now.asked + (l.fn.self.ahead.credit + rows_cost l.fn.kind l.fn.table cap);
+      agrees : (file : List ℕ) → l.fn.self.src.now.seen.file ≡ Some file → Agrees file now;
+      listed : (file : List ℕ) → l.fn.self.src.now.seen.file ≡ Some file → now.index + rows_left file l.cursor ≡ rows_listed l.fn.kind file l.fn.table;
+      text : (file : List ℕ) → l.fn.self.src.now.seen.file ≡ Some file → (0 < l.fn.table.count → KindOf file l.fn.table.at l.fn.kind)
+          → Whole l.fn.self.out.now l.self.out.now (each (row_items l.fn.kind file cap l.fn.table.at) 0 now.index);
     }
 
 abbrev pub decreases-rows : goal.decreases-rows
-decreases-rows g l = l.cursor.left
+decreases-rows g l = (reading l.cursor).left

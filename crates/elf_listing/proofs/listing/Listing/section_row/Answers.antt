@@ -1,7 +1,6 @@
-use Rattle.std.proofs.Common.{◌≡◌, ◌<◌, arith, refl, ◌∙◌, []}
+use Rattle.std.proofs.Common.{◌≡◌, ◌<◌, arith, refl, []}
 use Rattle.std.proofs.lemmas.Result.{err_from_is_err_and}
 use Rattle.elf_model.specs.Records.{section_at, e_shnum}
-use Rattle.elf_table.proofs.SaysLaws.{still_open}
 use Rattle.elf_listing.proofs.RowLaws.{Writes-as, Stopped-name}
 use Rattle.elf_listing.proofs.SectionShown.{section_is}
 use Rattle.elf_listing.proofs.listing.Listing.section_row.Goals as goal
@@ -13,7 +12,7 @@ returns-in_err-end-clause-shows g c = λ file held.
     let stands = c.section-header.ensures.stands file belongs in
     let some : 0 < e_shnum file = omega (arith, c.requires, belongs.count, belongs.header.e_shnum) in
     let place : c.place-place.result ≡ section_at file c.args.section = omega (arith, c.place-place.ensures.value, belongs.header.e_shoff) in
-    rw (p.1, p.2, section_is file _ _ _ _ c.args.section c.args.self.now.cap.bytes (c.names-names.ensures.held file belongs) some place stands.sh_name refl)
+    rw (p.1, p.2, section_is file _ _ _ _ c.args.section c.args.self.now.cap.bytes (c.names-names.ensures.held file belongs) some place stands.sh_name refl, c.in_err-end.ensures.fetches.1)
     (Stopped-name _ _ _ _ [] _ (c.in_err-end.ensures.read file held))
 
 pub returns-clause-shows : goal.returns-clause-shows
@@ -23,8 +22,6 @@ returns-clause-shows g c = λ file held.
     let front = c.section_front.ensures file (section_at file c.args.section) stands in
     let some : 0 < e_shnum file = omega (arith, c.requires, belongs.count, belongs.header.e_shnum) in
     let place : c.place-place.result ≡ section_at file c.args.section = omega (arith, c.place-place.ensures.value, belongs.header.e_shoff) in
-    Writes-as _ _ _ (section_is file _ _ _ _ c.args.section c.args.self.now.cap.bytes (c.names-names.ensures.held file belongs) some place stands.sh_name front)
-    (c.named_line.ensures.shows _ _ (c.in_ok-end.ensures.read file held))
-
-pub invariant_of-self : goal.invariant_of-self
-invariant_of-self g c = record { loaded = still_open _ _ c.read_section_name.ensures.reads c.args.self.now.loaded }
+    rw (← c.in_ok-end.ensures.fetches.1)
+    (Writes-as _ _ _ (section_is file _ _ _ _ c.args.section c.args.self.now.cap.bytes (c.names-names.ensures.held file belongs) some place stands.sh_name front)
+    (c.named_line.ensures.shows _ _ (c.in_ok-end.ensures.read file held)))

@@ -9,7 +9,7 @@ use Rattle.elf_table.specs.Store.{row}
 use Rattle.elf_listing.proofs.RowLaws.{Writes-as, Stopped-first}
 use Rattle.elf_listing.proofs.SectionCosts.{symbols_within}
 use Rattle.elf_listing.proofs.SectionShown.{no_symbols, symbols_fault, symbols_pass, symbols_are, rows_checked}
-use Rattle.elf_listing.proofs.ShowLaws.{Whole-none, Costs-within}
+use Rattle.elf_listing.proofs.ShowLaws.{Whole-none, Spent-within}
 use Rattle.elf_listing.proofs.listing.Listing.symbols.Goals as goal
 
 pub returns-then-not-holds_symbols-clause-shows : goal.returns-then-not-holds_symbols-clause-shows
@@ -34,8 +34,8 @@ returns-clause-lists g c =
     let bytes = row f.store.now c.args.section in
     let kind : is_symbol_table bytes 0 ≡ true = let is = c.holds_symbols.ensures bytes 0 c.section.ensures.fields in cc in
     let lists = c.rows.ensures.lists in
-    let costs = Costs-within _ _ _ _ _ _ (symbols_within bytes f.loaded.size _ c.args.self.now.cap.bytes _ kind c.in_ok-symbols.ensures.table) (lists.1, lists.2) in
-    (lists.0, costs.0, costs.1)
+    let costs = Spent-within _ _ _ _ _ _ _ _ (symbols_within bytes f.loaded.size _ c.args.self.now.cap.bytes _ kind c.in_ok-symbols.ensures.table) lists.1 in
+    (lists.0, costs)
 
 pub returns-clause-shows : goal.returns-clause-shows
 returns-clause-shows g c = λ file held.

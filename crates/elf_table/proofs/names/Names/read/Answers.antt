@@ -1,5 +1,6 @@
-use Rattle.std.proofs.Common.{ap, refl, sym, ◌∙◌, arith}
+use Rattle.std.proofs.Common.{◌≡◌, ℕ, ◌+◌, ap, refl, sym, ◌∙◌, arith}
 use Rattle.elf_table.specs.Tables.{Strings}
+use Rattle.elf_table.specs.Windows.{Ahead}
 use Rattle.elf_table.proofs.Shown.{shown-none, shown-past, shown-whole, shown-cut, shown-unended}
 use Rattle.elf_table.proofs.names.Names.read.Goals as goal
 use Rattle.elf_table.proofs.names.Names.read.Goals.{else-self-eq0-via-then-self-eq0+else-off-eq0, else-self-eq0-via-else-self-eq0}
@@ -30,8 +31,9 @@ returns-then-branch-clause-read g c = λ file h.
     let want = c.min-want.ensures in
     let ends = c.requires (omega arith) in
     let sized = c.args.src.now.seen.sized file h in
-    let found = rw (c.if-branch.true, a) at (c.in_ok-search.ensures.searched file h) in
-    shown-whole file c.search.new.name n.at n.size c.args.off c.min-want.result c.args.cap.bytes (omega arith) (omega arith) (omega arith) (omega arith) found
+    let place : c.new-window.result.at ≡ n.at + c.args.off = ap (λ (w : Ahead). w.at) c.new-window.ensures ∙ ap (λ (x : ℕ). x + c.args.off) a in
+    let found = rw (c.if-branch.true, place) at (c.in_ok-search_name.ensures.searched file h (rw c.new-window.ensures refl)) in
+    shown-whole file c.search_name.new.name n.at n.size c.args.off c.min-want.result c.args.cap.bytes (omega arith) (omega arith) (omega arith) (omega arith) found
 
 pub returns-then-left-from-clause-read : goal.returns-then-left-from-clause-read
 returns-then-left-from-clause-read g c = λ file h.
@@ -45,8 +47,9 @@ returns-then-left-from-clause-read g c = λ file h.
     let want = c.min-want.ensures in
     let ends = c.requires (omega arith) in
     let sized = c.args.src.now.seen.sized file h in
-    let found = rw (c.if-branch.false, a) at (c.in_ok-search.ensures.searched file h) in
-    shown-cut file c.search.new.name n.at n.size c.args.off c.min-want.result c.args.cap.bytes (omega arith) (omega arith) (omega arith) found
+    let place : c.new-window.result.at ≡ n.at + c.args.off = ap (λ (w : Ahead). w.at) c.new-window.ensures ∙ ap (λ (x : ℕ). x + c.args.off) a in
+    let found = rw (c.if-branch.false, place) at (c.in_ok-search_name.ensures.searched file h (rw c.new-window.ensures refl)) in
+    shown-cut file c.search_name.new.name n.at n.size c.args.off c.min-want.result c.args.cap.bytes (omega arith) (omega arith) (omega arith) found
 
 pub returns-clause-read : goal.returns-clause-read
 returns-clause-read g c = λ file h.
@@ -60,6 +63,7 @@ returns-clause-read g c = λ file h.
     let want = c.min-want.ensures in
     let ends = c.requires (omega arith) in
     let sized = c.args.src.now.seen.sized file h in
-    let found = rw (c.if-branch.false, a) at (c.in_ok-search.ensures.searched file h) in
+    let place : c.new-window.result.at ≡ n.at + c.args.off = ap (λ (w : Ahead). w.at) c.new-window.ensures ∙ ap (λ (x : ℕ). x + c.args.off) a in
+    let found = rw (c.if-branch.false, place) at (c.in_ok-search_name.ensures.searched file h (rw c.new-window.ensures refl)) in
     rw c.refused-2.ensures (λ _.
-    (refl, shown-unended file c.search.new.name n.at n.size c.args.off c.min-want.result c.args.cap.bytes (omega arith) (omega arith) (omega arith) (omega arith) found))
+    (refl, shown-unended file c.search_name.new.name n.at n.size c.args.off c.min-want.result c.args.cap.bytes (omega arith) (omega arith) (omega arith) (omega arith) found))

@@ -14,5 +14,5 @@ returns-clause-rows g c = λ file h.
     let same = c.read_front.auto.bytes in
     let fits : n ≤ c.self.inside.bytes.len = omega arith in
     let inside : n ≤ length c.read_front.new.bytes = omega arith in
-    rows_read file _ c.args.from c.args.count
+    rows_read 64 file _ c.args.from c.args.count
     (take-take n c.self.inside.bytes.len _ fits ∙ take-append-le n c.read_front.new.bytes _ inside ∙ c.in_ok-read_front.ensures.read file h)

@@ -1,0 +1,71 @@
+"""Runs a program quietly, and tells its time, its peak memory and its system calls."""
+
+import collections
+import ctypes
+import os
+import subprocess
+import sys
+import time
+
+READS = ("read", "pread64", "readv", "preadv", "lseek")
+ENVIRONMENT = dict(os.environ, LC_ALL="C", DEBUGINFOD_URLS="")
+QUIET = [(os.POSIX_SPAWN_OPEN, 0, os.devnull, os.O_RDONLY, 0),
+         (os.POSIX_SPAWN_OPEN, 1, os.devnull, os.O_WRONLY, 0),
+         (os.POSIX_SPAWN_OPEN, 2, os.devnull, os.O_WRONLY, 0)]
+
+# Wall seconds, and user and system seconds.
+Run = collections.namedtuple("Run", "wall processor")
+
+
+def run_once(words):
+    began = time.perf_counter()
+    process = os.posix_spawn(words[0], words, ENVIRONMENT, file_actions=QUIET)
+    _, _, usage = os.wait4(process, 0)
+    return Run(time.perf_counter() - began, usage.ru_utime + usage.ru_stime)
+
+
+def best_runs(words_of, count):
+    """The best of so many runs of each program, the programs taking turns."""
+    runs = {name: [] for name in words_of}
+    for _ in range(count):
+        for name, words in words_of.items():
+            runs[name].append(run_once(words))
+    return {name: Run(min(run.wall for run in of_one), min(run.processor for run in of_one))
+            for name, of_one in runs.items()}
+
+
+def adopt_orphans():
+    """From now on a process whose parent has ended is a child of this one."""
+    set_child_subreaper = 36
+    if ctypes.CDLL(None).prctl(set_child_subreaper, 1, 0, 0, 0) != 0:
+        sys.exit("processes without a parent cannot be adopted")
+
+
+def peak_memory(words):
+    """The most bytes of memory that a run held. The system counts among them what the process
+    held that started it; so a small shell starts it, and leaves it to this one."""
+    shell = os.posix_spawn("/bin/sh", ["sh", "-c", '"$@" &', "sh", *words], ENVIRONMENT,
+                           file_actions=QUIET)
+    os.waitpid(shell, 0)
+    _, _, usage = os.wait4(-1, 0)
+    return usage.ru_maxrss * 1024
+
+
+def system_calls(strace, words, room):
+    """How many system calls a run makes, and how many of them read or seek."""
+    path = os.path.join(room, "calls")
+    run_once([strace, "-f", "-c", "-o", path, *words])
+    counts = {}
+    with open(path, encoding="ascii") as lines:
+        for columns in map(str.split, lines):
+            if len(columns) >= 5 and columns[3].isdigit() and columns[-1] != "total":
+                counts[columns[-1]] = int(columns[3])
+    return sum(counts.values()), sum(counts.get(name, 0) for name in READS)
+
+
+def listed(words):
+    """The exit status of a listing, how many lines it has, and the last of them."""
+    done = subprocess.run(words, stdin=subprocess.DEVNULL, stdout=subprocess.PIPE,
+                          stderr=subprocess.DEVNULL, env=ENVIRONMENT, check=False)
+    last = done.stdout[-4096:].decode("ascii", "replace").rstrip("\n").split("\n")[-1]
+    return done.returncode, done.stdout.count(b"\n"), last

@@ -1,0 +1,75 @@
+//! A reader that tells its file.
+ghost use Rattle.std.specs.Prelude.{◌≡◌, IfErr};
+ghost use Rattle.elf_source.specs.Reader.{IsTurn};
+
+use elf_source::{Reader, ReaderFault};
+
+/// A reader of bytes in memory that tells its file. It gives at most seven bytes at a turn, and each
+/// third turn is interrupted.
+#[derive(Drop)]
+pub struct Pieces<'a> {
+    bytes: &'a [u8],
+    place: u64,
+    turns: u64,
+    interrupted: u64,
+}
+
+impl<'a> Pieces<'a> {
+    /// A reader before the first of these bytes.
+    pub fn new(bytes: &'a [u8]) -> Self {
+        Pieces {
+            bytes,
+            place: 0,
+            turns: 0,
+            interrupted: 0,
+        }
+    }
+
+    // Takes a turn, unless it is interrupted.
+    fn turn(&mut self) -> Result<(), ReaderFault>
+        ensures bytes { self.new.bytes ≡ self.old.bytes }
+        ensures place { self.new.place ≡ self.old.place }
+        ensures turn { IsTurn self.old.interrupted self.new.interrupted result }
+        ensures interrupted { IfErr result (λ fault. fault ≡ ReaderFault.Interrupted) }
+    {
+        self.turns = self.turns.saturating_add(1);
+        if self.turns % 3 != 0 {
+            return Ok(());
+        }
+        self.interrupted = self.interrupted.saturating_add(1);
+        Err(ReaderFault::Interrupted)
+    }
+}
+
+impl<'a> Reader for Pieces<'a> {
+    ghost use Rattle.std.specs.Prelude.{◌==◌, Some};
+
+    ghost file = { λ r. Some r.bytes.now };
+
+    ghost stands = { λ r at. r.place == at };
+
+    ghost interrupted = { λ r. r.interrupted };
+
+    fn end(&mut self) -> Result<u64, ReaderFault> {
+        self.turn()?;
+        Ok(self.bytes.len() as u64)
+    }
+
+    fn seek(&mut self, at: u64) -> Result<(), ReaderFault> {
+        self.turn()?;
+        self.place = at;
+        Ok(())
+    }
+
+    fn read(&mut self, out: &mut [u8]) -> Result<usize, ReaderFault> {
+        self.turn()?;
+        let start = self.place as usize;
+        if start >= self.bytes.len() {
+            return Ok(0);
+        }
+        let count = out.len().min(7).min(self.bytes.len() - start);
+        out[..count].copy_from_slice(&self.bytes[start..start + count]);
+        self.place += count as u64;
+        Ok(count)
+    }
+}

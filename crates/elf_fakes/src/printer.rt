@@ -1,0 +1,41 @@
+//! A writer that takes little.
+use crate::script::{Script, Trouble};
+use std::alloc::Global;
+use std::io;
+use std::io::{Error, Write};
+
+/// A writer that takes at most so many bytes at a write.
+#[derive(Drop)]
+pub struct Printer<'a> {
+    /// What was written.
+    pub written: Vec<u8>,
+    most: usize,
+    script: &'a Script,
+}
+
+impl<'a> Printer<'a> {
+    /// A writer that takes at most `most` bytes at a write, and does what its script has.
+    pub fn new(most: usize, script: &'a Script, alloc: Global) -> Self {
+        Printer {
+            written: Vec::new(alloc),
+            most,
+            script,
+        }
+    }
+}
+
+impl<'a> Write for Printer<'a> {
+    fn write(&mut self, buf: &[u8]) -> io::Result<usize> {
+        match self.script.turn() {
+            Some(Trouble::Fails(kind)) => return Err(Error::from(kind)),
+            Some(Trouble::Ends) => return Ok(0),
+            None => {}
+        }
+        let most = buf.len().min(self.most);
+        self.written.write(&buf[..most])
+    }
+
+    fn flush(&mut self) -> io::Result<()> {
+        Ok(())
+    }
+}

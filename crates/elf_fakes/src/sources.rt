@@ -1,0 +1,88 @@
+//! Sources that fail, or end.
+ghost use Rattle.std.specs.Prelude.{◌≡◌};
+
+use elf_source::{Source, SourceFault};
+
+/// A source over bytes in memory that counts what it is asked for, and fails at one of its reads.
+#[derive(Drop)]
+pub struct Planned<'a> {
+    /// The bytes that it gives.
+    pub bytes: &'a [u8],
+    /// The number of the read that fails, counted from 1 on; 0 where none does.
+    pub failing: u32,
+    /// Whether that read has come.
+    pub has_failed: bool,
+    /// How many reads it was asked for.
+    pub reads: u32,
+    /// How many bytes it was asked for.
+    pub asked: u64,
+    /// How many bytes it was asked for in the largest read.
+    pub largest: usize,
+}
+
+impl<'a> Planned<'a> {
+    /// A source over `bytes` whose read with the number `failing` fails, counted from 1 on. With 0
+    /// none does.
+    pub fn new(bytes: &'a [u8], failing: u32) -> Self
+        ensures { result.bytes.now ≡ bytes.now }
+    {
+        Planned {
+            bytes,
+            failing,
+            has_failed: false,
+            reads: 0,
+            asked: 0,
+            largest: 0,
+        }
+    }
+}
+
+impl<'a> Source for Planned<'a> {
+    ghost use Rattle.std.specs.Prelude.{⊤, length, if◌then◌else◌};
+    ghost use Rattle.elf_source.specs.Source.{unknown};
+
+    ghost seen = { λ s. unknown (length s.bytes.now) (if s.has_failed then 1 else 0) };
+
+    ghost one_read = { λ _ _ _ _. ⊤ };
+
+    fn length(&self) -> u64 {
+        self.bytes.len() as u64
+    }
+
+    fn fill(&mut self, at: u64, out: &mut [u8]) -> Result<(), SourceFault> {
+        self.reads = self.reads.saturating_add(1);
+        self.asked = self.asked.saturating_add(out.len() as u64);
+        self.largest = self.largest.max(out.len());
+        if !self.has_failed && self.reads == self.failing {
+            self.has_failed = true;
+            return Err(SourceFault::Device);
+        }
+        let start = at as usize;
+        out.copy_from_slice(&self.bytes[start..start + out.len()]);
+        Ok(())
+    }
+}
+
+/// A source that is never honest: it has a length in bytes, and each read ends.
+#[derive(Drop)]
+pub struct Ending {
+    /// Its length in bytes.
+    pub length: u64,
+}
+
+impl Source for Ending {
+    ghost use Rattle.std.specs.Prelude.{◌≡◌};
+    ghost use Rattle.elf_source.specs.Source.{unknown};
+
+    ghost seen = { λ s. unknown s.length 0 };
+
+    ghost one_read = { λ before _ _ after. after ≡ before };
+
+    fn length(&self) -> u64 {
+        self.length
+    }
+
+    fn fill(&mut self, _at: u64, _out: &mut [u8]) -> Result<(), SourceFault> {
+        Err(SourceFault::Ended)
+    }
+}

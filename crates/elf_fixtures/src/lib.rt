@@ -1,0 +1,23 @@
+//! The files that worked examples and tests are over, byte by byte. Each is proved to be the file that
+//! the definitions spell by its fields.
+#![tactic(auto)]
+
+mod dynamic;
+mod edits;
+mod lookups;
+mod notes;
+mod relocations;
+mod tables;
+
+pub use dynamic::{library_without_sections, repeated_tags};
+pub use edits::with_bytes;
+pub use lookups::{hash_with_cycle, hash_with_end};
+pub use notes::{aligned_note, build_note};
+pub use relocations::{
+    falling_relocations, linked_to_zero, one_call, overlapping_in_other_order,
+    overlapping_relocations, rising_relocations, third_overflows,
+};
+pub use tables::{
+    bare_header, named_section, needed_library, note_segment, odd_name, one_load, one_symbol_table,
+    special_places, tables_over_headers,
+};

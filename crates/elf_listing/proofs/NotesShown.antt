@@ -1,0 +1,141 @@
+-- The notes of a table, by what is left of them.
+use Rattle.std.proofs.Common.{◌≡◌, ℕ, ◌+◌, zero, suc, List, [], ◌∷◌, ◌++◌, inl, inr, length, drop, refl, sym, ap, ◌∙◌, arith, append_assoc, append-nil, zero-add}
+use Rattle.elf_model.specs.Bytes.{slice}
+use Rattle.elf_model.specs.LineFronts.{note_front}
+use Rattle.elf_model.specs.Lines.{note_line}
+use Rattle.elf_model.specs.Listing.{Item, Line, Fault as FaultItem}
+use Rattle.elf_model.specs.Names.{Shown}
+use Rattle.elf_model.specs.Notes.{Note, Walk, Next, Ends as EndsHere, Broken, OneNote, next_note, walk_from, walked, with_note, note_shown}
+use Rattle.elf_model.specs.Rows.{note_row, notes_rows, walk_rows}
+use Rattle.elf_model.specs.declared.causes.Cause.TheVariants.{NoteCut}
+use Rattle.elf_model.proofs.NoteLaws.{walked-is}
+use Rattle.elf_record.specs.declared.note_head.NoteHead.{NoteHead}
+use Rattle.elf_lines.specs.Pieces.{shown_as}
+use Rattle.elf_note.specs.NoteCursors.{Reading, IsFound, NameIs, Shows as Lends, Stops, notes_from, notes_left, no_notes, cut_at, note_cut}
+use Rattle.elf_note.specs.declared.row.NoteRow.{NoteRow}
+use Rattle.elf_source.specs.Output.{Written}
+use Rattle.elf_table.specs.Faults.{IsOfRead}
+use Rattle.elf_table.specs.Windows.{Ahead}
+use Rattle.elf_table.specs.declared.fault.Fault.{Fault}
+use Rattle.elf_table.specs.declared.fault.Fault.TheVariants.{Refused, Source as Unread}
+use Rattle.elf_table.specs.declared.names.NameEnd.{NameEnd}
+use Rattle.elf_table.specs.declared.names.NameEnd.TheVariants.{Whole as NameWhole, Cut as NameCut}
+use Rattle.elf_listing.specs.Notes.{IsNote, WrittenBefore, rows_of}
+use Rattle.elf_listing.specs.Shows.{Whole, Front, Stopped, cut_of}
+use Rattle.elf_listing.specs.Stops.{stop_of}
+use Rattle.elf_listing.specs.declared.stop.Stop.{Stop}
+use Rattle.elf_listing.proofs.ShowLaws.{Whole-none, Whole-then, Stopped-then, Stopped-more}
+
+-- what is left where no note is, and where no note stands
+none_left : (cap index : ℕ) → rows_of cap index no_notes ≡ []
+unfolding walk_rows notes_rows
+none_left cap index = refl
+
+cut_left : (cap index at : ℕ) → rows_of cap index (cut_at at) ≡ FaultItem (record { at = at; cause = NoteCut }) ∷ []
+unfolding walk_rows notes_rows
+cut_left cap index at = ap (λ (x : ℕ). FaultItem (record { at = x; cause = NoteCut }) ∷ []) (zero-add at)
+
+-- a note, and what is left behind it
+pub note_left : (cap index : ℕ) (note : Note) (left : Walk) → rows_of cap index (with_note note left) ≡ (note_row cap index note ∷ []) ++ rows_of cap index left
+unfolding walk_rows notes_rows
+note_left cap index note left = refl
+
+-- nothing was written yet
+pub before_all : (a : Written) (all left : List Item) → all ≡ left → WrittenBefore a a all left
+before_all a all left same = record { done = []; split = same; whole = Whole-none a }
+
+-- some items more were written
+pub before_more : {a b c : Written} (all left next later : List Item) → left ≡ next ++ later → WrittenBefore a b all left → Whole b c next → WrittenBefore a c all later
+before_more all left next later is before more = record {
+  done = before.done ++ next;
+  split = before.split ∙ ap (λ (x : List Item). before.done ++ x) is ∙ sym (append_assoc before.done next later);
+  whole = Whole-then before.whole more;
+}
+
+-- no item is left
+pub before_end : {a b : Written} (all left : List Item) → left ≡ [] → WrittenBefore a b all left → Whole a b all
+before_end all left none before = rw (before.split ∙ ap (λ (x : List Item). before.done ++ x) none ∙ append-nil before.done) before.whole
+
+-- what is written next stopped
+pub before_stopped : (a b c : Written) (stop : Stop) (all left next later : List Item) → left ≡ next ++ later → WrittenBefore a b all left → Stopped b c stop next → Stopped a c stop all
+before_stopped a b c stop all left next later is before more =
+    rw (before.split ∙ ap (λ (x : List Item). before.done ++ x) is ∙ sym (append_assoc before.done next later))
+    (Stopped-more a c stop (before.done ++ next) later (Stopped-then a b c stop before.done next before.whole more))
+
+front_of : {a b : Written} (all left : List Item) → WrittenBefore a b all left → Front a b all
+front_of all left before = record { front = before.done; rest = left; split = before.split; takes = before.whole.takes; no_fault = before.whole.no_fault }
+
+unread_next : (a b : Written) (fault : Fault) (all left : List Item) → IsOfRead fault → WrittenBefore a b all left → Stopped a b (stop_of fault) all
+unfolding front_of
+unread_next a b (Refused refusal) all left is before = record { front = front_of all left before; next = λ other. absurd (other is) }
+unread_next a b (Unread fault at) all left is before = front_of all left before
+
+cut_next : (a b : Written) (at : ℕ) (all left : List Item) → left ≡ FaultItem (record { at = at; cause = NoteCut }) ∷ [] → WrittenBefore a b all left → Stopped a b (stop_of (note_cut at)) all
+unfolding front_of
+cut_next a b at all left is before = record { front = front_of all left before; next = λ other. record { behind = []; is_next = is } }
+
+-- a step over the next note failed: at a read, or where no note stands
+pub before_fault : (a b : Written) (fault : Fault) (cap index at : ℕ) (all : List Item) (left : Walk) → Stops at fault → (fault ≡ note_cut at → left ≡ cut_at at)
+    → WrittenBefore a b all (rows_of cap index left) → Stopped a b (stop_of fault) all
+before_fault a b fault cap index at all left (inl read) cut before = unread_next a b fault all (rows_of cap index left) read before
+before_fault a b fault cap index at all left (inr is) cut before =
+    rw is (cut_next a b at all (rows_of cap index left) (ap (rows_of cap index) (cut is) ∙ cut_left cap index at) before)
+
+-- behind the last note
+pub before_none : {a b : Written} (cap index : ℕ) (all : List Item) (left : Walk) → left ≡ no_notes → WrittenBefore a b all (rows_of cap index left) → Whole a b all
+before_none cap index all left none before = before_end all (rows_of cap index left) (ap (rows_of cap index) none ∙ none_left cap index) before
+
+-- a note as a row of a cursor shows it
+pub note_of : (align cap at : ℕ) (note : Note) (c : Reading) (row : NoteRow) (name : List ℕ) → Lends c row → IsFound align cap at note c.found name c.descriptor → IsNote cap note row name
+note_of align cap at note c row name lends found = record {
+  named = rw lends.its_end found.shown_name;
+  kind = ap (λ (x : NoteHead). x.kind) lends.its_head ∙ found.kind;
+  namesz = ap (λ (x : NoteHead). x.namesz) lends.its_head ∙ found.namesz;
+  descsz = ap (λ (x : NoteHead). x.descsz) lends.its_head ∙ found.descsz;
+  first_bytes = lends.its_bytes ∙ found.first_bytes;
+}
+
+-- a note's name as it is shown
+pub named_as : (end : NameEnd) (name : List ℕ) (shown : Shown) → NameIs end name shown → shown ≡ shown_as (cut_of end) name
+named_as NameWhole name shown is = is
+named_as NameCut name shown is = is
+
+-- the line of a note, by what it shows
+pub note_is : (cap index kind namesz descsz : ℕ) (shown : Shown) (note : Note) → kind ≡ note.kind → namesz ≡ length note.name → descsz ≡ length note.descriptor
+    → note_shown cap note ≡ shown → note_row cap index note ≡ Line (note_line (note_front index kind namesz descsz) shown note.descriptor)
+unfolding note_row
+note_is cap index kind namesz descsz shown note k n d s = rw (k, n, d, s) refl
+
+-- all notes of a table are left at first
+pub all_left : (a : ℕ) (file : List ℕ) (w : Ahead) (at count page : ℕ) → w ≡ record { at = at; held = []; unread = count; page = page }
+    → notes_left a file w ≡ notes_from a at (slice file at count)
+all_left a file w at count page is = rw is (ap (λ (n : ℕ). notes_from a at (slice file at n)) (zero-add count))
+
+plus : (x y z : ℕ) → x + y + z ≡ x + (y + z)
+plus x y z = omega arith
+
+-- the rows of notes from an offset on are those of the table, with the cut at its offset
+rows_shifted : (a cap index offset most place : ℕ) (rest : List ℕ) → rows_of cap index (walk_from a most (offset + place) rest) ≡ walk_rows cap index offset (walk_from a most place rest)
+unfolding walk_from walk_rows notes_rows
+rows_shifted a cap index offset zero place rest = ap (λ (x : ℕ). FaultItem (record { at = x; cause = NoteCut }) ∷ []) (zero-add (offset + place))
+rows_shifted a cap index offset (suc most) place rest = step (λ n xs. rows_shifted a cap index offset most n xs)
+  where
+    step : ((n : ℕ) (xs : List ℕ) → rows_of cap index (walk_from a most (offset + n) xs) ≡ walk_rows cap index offset (walk_from a most n xs))
+        → rows_of cap index (walk_from a (suc most) (offset + place) rest) ≡ walk_rows cap index offset (walk_from a (suc most) place rest)
+    step more = go (next_note a rest) refl
+      where
+        go : (next : Next) → next_note a rest ≡ next → rows_of cap index (walk_from a (suc most) (offset + place) rest) ≡ walk_rows cap index offset (walk_from a (suc most) place rest)
+        go EndsHere e = rw (e, walk_from, walk_rows) refl
+        go Broken e = rw (e, walk_from, walk_rows) (ap (λ (x : ℕ). FaultItem (record { at = x; cause = NoteCut }) ∷ []) (zero-add (offset + place)))
+        go (OneNote note size) e =
+            rw (e, walk_from, walk_rows)
+            (ap (λ (x : List Item). note_row cap index note ∷ x)
+            (ap (λ (x : ℕ). rows_of cap index (walk_from a most x (drop size rest))) (plus offset place size) ∙ more (place + size) (drop size rest)))
+
+pub table_rows : (a cap index at : ℕ) (table : List ℕ) → rows_of cap index (notes_from a at table) ≡ walk_rows cap index at (walked a table)
+table_rows a cap index at table =
+    ap (λ (x : ℕ). rows_of cap index (notes_from a x table)) (sym (plus_zero at)) ∙ rows_shifted a cap index at (suc (length table)) 0 table
+    ∙ ap (walk_rows cap index at) (sym (walked-is a table))
+  where
+    plus_zero : (x : ℕ) → x + 0 ≡ x
+    plus_zero x = omega arith

@@ -1,0 +1,20 @@
+-- The items of one program header, by what the store and the checks of a viewed file answer.
+use Rattle.std.proofs.Common.{◌≡◌, ℕ, ◌<◌, List, [], ◌∷◌, Option, Some, sym, ap}
+use Rattle.elf_model.specs.Lines.{segment_line}
+use Rattle.elf_model.specs.Listing.{Line}
+use Rattle.elf_model.specs.Records.{segment_at}
+use Rattle.elf_model.specs.Rows.{segment_row}
+use Rattle.elf_table.specs.Load.{Opened, Belongs}
+use Rattle.elf_table.specs.Store.{Stored}
+use Rattle.elf_table.specs.Views.{Views}
+use Rattle.elf_listing.specs.Viewed.{IsViewed}
+
+-- a file whose program headers are loaded is viewed
+pub views : (file : List ℕ) (loaded : Opened) (store : Stored) (known : Option (List ℕ)) → Belongs file loaded store → IsViewed known loaded store → known ≡ Some file → 0 < store.segments
+    → Views file loaded store
+views file loaded store known belongs viewed held some = record { belongs = belongs; count = viewed.all some; rows = viewed.held file held }
+
+-- a program header's line
+pub segment_line_is : (file line : List ℕ) (index : ℕ) → line ≡ segment_line file (segment_at file index) index → segment_row file index ≡ Line line ∷ []
+unfolding segment_row
+segment_line_is file line index same = sym (ap (λ text. Line text ∷ []) same)

@@ -1,0 +1,116 @@
+-- The string of a dynamic entry, by whether it tells of one.
+use Rattle.std.proofs.Common.{◌≡◌, ℕ, Bool, true, false, List, [], ◌∷◌, Option, None, Some, Result, Ok, Err, refl, sym, ap, ◌∙◌, subst}
+use Rattle.elf_model.specs.Checks.{first_refusal}
+use Rattle.elf_model.specs.LineFronts.{dynamic_front}
+use Rattle.elf_model.specs.Listing.{Item, Fault as FaultItem}
+use Rattle.elf_model.specs.Mapped.{strings_at}
+use Rattle.elf_model.specs.Names.{Shown, shown}
+use Rattle.elf_model.specs.Records.{d_tag, d_un}
+use Rattle.elf_model.specs.Rows.{dynamic_row, is_string_tag, named_row, no_name}
+use Rattle.elf_model.specs.Segments.{mapped_checks, mapped_place}
+use Rattle.elf_model.specs.declared.causes.Cause.{Cause}
+use Rattle.elf_model.specs.declared.causes.Cause.TheVariants.{Unmapped}
+use Rattle.elf_model.specs.declared.causes.Refusal.{Refusal}
+use Rattle.elf_source.specs.Output.{Written}
+use Rattle.elf_table.specs.NamesRead.{NameRead}
+use Rattle.elf_table.specs.Sections.{answered}
+use Rattle.elf_table.specs.Tables.{Strings, strings_in}
+use Rattle.elf_table.specs.Views.{strings_mapped}
+use Rattle.elf_table.specs.declared.fault.Fault.{Fault}
+use Rattle.elf_table.specs.declared.fault.Fault.TheVariants.{Refused}
+use Rattle.elf_table.specs.declared.names.NameEnd.{NameEnd}
+use Rattle.elf_listing.specs.Shows.{Stopped}
+use Rattle.elf_listing.specs.Stops.{stop_of}
+use Rattle.elf_listing.specs.Strings.{FoundAs, ToldRead, told_by, told_name}
+use Rattle.elf_listing.proofs.RowLaws.{Ends-first, Stopped-name}
+
+-- the row of an entry by its bytes before the name, and its string
+abbrev pub told_row : List ℕ → ℕ → Result (Result Shown Cause) Refusal → List Item
+told_row front at (Ok answer) = named_row front at answer
+told_row front at (Err refusal) = FaultItem refusal ∷ []
+
+row_by_cases : (tells : Bool) (table : Result (List ℕ) Refusal) (front : List ℕ) (at : ℕ) (name : List ℕ → Result Shown Cause)
+    → (elim tells as (λ _. List Item) [
+      | false ↦ named_row front at no_name
+      | true ↦ elim table as (λ _. List Item) [ Err refusal ↦ FaultItem refusal ∷ [] | Ok strings ↦ named_row front at (name strings) ]
+    ])
+    ≡ told_row front at (told_by tells table name)
+row_by_cases false table front at name = refl
+row_by_cases true (Ok strings) front at name = refl
+row_by_cases true (Err refusal) front at name = refl
+
+pub row_told : (file : List ℕ) (cap : ℕ) (strings : ℕ → Result (List ℕ) Refusal) (at index : ℕ)
+    → dynamic_row file cap strings at index ≡ told_row (dynamic_front file at index) at (told_name strings file cap at)
+unfolding dynamic_row
+row_told file cap strings at index =
+    row_by_cases (is_string_tag (d_tag file at)) (strings at) (dynamic_front file at index) at (λ table. shown table (d_un file at) cap)
+
+-- the row of an entry at its place, by its front
+pub entry_is : (file front : List ℕ) (cap at index place : ℕ) (strings : ℕ → Result (List ℕ) Refusal) → front ≡ dynamic_front file at index → at ≡ place
+    → dynamic_row file cap strings place index ≡ told_row front at (told_name strings file cap at)
+entry_is file front cap at index place strings same here =
+    ap (λ p. dynamic_row file cap strings p index) (sym here) ∙ (row_told file cap strings at index ∙ ap (λ text. told_row text at (told_name strings file cap at)) (sym same))
+
+-- a string that could not be read
+pub Stopped-told : (a : Written) (front : List ℕ) (at : ℕ) (fault : Fault) (name : List ℕ) (told : Result (Result Shown Cause) Refusal) → ToldRead at (Err fault) name told
+    → Stopped a a (stop_of fault) (told_row front at told)
+Stopped-told a front at fault name (Ok answer) read = Stopped-name a front at fault name answer read
+Stopped-told a front at fault name (Err refusal) read =
+    let is : fault ≡ Refused refusal = cc in
+    let P : Fault → Type 0 = λ f. Stopped a a (stop_of f) (FaultItem refusal ∷ []) in
+    subst P (sym is) (Ends-first a refusal (FaultItem refusal ∷ []) (λ other. refl))
+
+-- a string that was read is the one that is told
+pub told_shown : (at : ℕ) (end : NameEnd) (name : List ℕ) (told : Result (Result Shown Cause) Refusal) → ToldRead at (Ok end) name told
+    → (answer : Result Shown Cause) × (told ≡ Ok answer) × NameRead at (Ok end) name answer
+told_shown at end name (Ok answer) read = (answer, refl, read)
+told_shown at end name (Err refusal) read = cc
+
+abbrev name_at : List ℕ → ℕ → ℕ → List ℕ → Result Shown Cause
+name_at file cap at table = shown table (d_un file at) cap
+
+-- an entry that tells of no string
+pub told_none : (strings : ℕ → Result (List ℕ) Refusal) (file : List ℕ) (most at : ℕ) → is_string_tag (d_tag file at) ≡ false → told_name strings file most at ≡ Ok no_name
+told_none strings file most at none = ap (λ tells. told_by tells (strings at) (name_at file most at)) none
+
+told_as : (strings : ℕ → Result (List ℕ) Refusal) (file : List ℕ) (most at : ℕ) (table : Result (List ℕ) Refusal) → strings at ≡ table → is_string_tag (d_tag file at) ≡ true
+    → told_name strings file most at ≡ told_by true table (name_at file most at)
+told_as strings file most at table same tells =
+    ap (λ b. told_by b (strings at) (name_at file most at)) tells ∙ ap (λ t. told_by true t (name_at file most at)) same
+
+-- one whose string table is refused
+pub told_refused : (strings : ℕ → Result (List ℕ) Refusal) (file name : List ℕ) (most at : ℕ) (fault : Fault) (table : Result (List ℕ) Refusal) → strings at ≡ table
+    → is_string_tag (d_tag file at) ≡ true → FoundAs file (Err fault) table → ToldRead at (Err fault) name (told_name strings file most at)
+told_refused strings file name most at fault (Ok table) same tells found = absurd found
+told_refused strings file name most at fault (Err refusal) same tells found =
+    let P : Result (Result Shown Cause) Refusal → Type 0 = λ told. ToldRead at (Err fault) name told in
+    subst P (sym (told_as strings file most at (Err refusal) same tells)) (ap (λ (f : Fault). Err f) found)
+
+-- one whose string was read in its table
+pub told_read : (strings : ℕ → Result (List ℕ) Refusal) (file name : List ℕ) (most at off : ℕ) (names : Strings) (result : Result NameEnd Fault) (table : Result (List ℕ) Refusal) → strings at ≡ table
+    → is_string_tag (d_tag file at) ≡ true → FoundAs file (Ok names) table → off ≡ d_un file at → NameRead at result name (shown (strings_in file names) off most)
+    → ToldRead at result name (told_name strings file most at)
+told_read strings file name most at off names result (Ok table) same tells found is read =
+    let P : Result Shown Cause → Type 0 = λ answer. NameRead at result name answer in
+    let Q : Result (Result Shown Cause) Refusal → Type 0 = λ told. ToldRead at result name told in
+    subst Q (sym (told_as strings file most at (Ok table) same tells)) (subst P (ap (λ t. shown t off most) found ∙ ap (λ n. shown table n most) is) read)
+told_read strings file name most at off names result (Err refusal) same tells found is read = absurd found
+
+-- a string table that a segment loads is the one that is told
+found_by_cases : (file : List ℕ) (first : Option Refusal) (names : Strings)
+    → FoundAs file (answered first names) (elim first as (λ _. Result (List ℕ) Refusal) [ None ↦ Ok (strings_in file names) | Some refusal ↦ Err refusal ])
+found_by_cases file None names = refl
+found_by_cases file (Some refusal) names = refl
+
+pub found_mapped : (file : List ℕ) (address size at : ℕ) → FoundAs file (strings_mapped file address size at) (strings_at file at (Some address) (Some size))
+unfolding strings_at
+found_mapped file address size at =
+    found_by_cases file (first_refusal (mapped_checks file address size at)) (record { at = mapped_place file address size; size = size })
+
+pub no_address : (file : List ℕ) (size : Option ℕ) (at : ℕ) → FoundAs file (Err (Refused (record { at = at; cause = Unmapped }))) (strings_at file at None size)
+unfolding strings_at
+no_address file size at = refl
+
+pub no_size : (file : List ℕ) (address at : ℕ) → FoundAs file (Err (Refused (record { at = at; cause = Unmapped }))) (strings_at file at (Some address) None)
+unfolding strings_at
+no_size file address at = refl

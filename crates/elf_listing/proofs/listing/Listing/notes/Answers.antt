@@ -1,0 +1,98 @@
+-- Each note that the cursor gives is the file's, and is shown behind those before it.
+use Rattle.std.proofs.Common.{refl, ap, sym, ◌∙◌, arith}
+use Rattle.std.proofs.lemmas.Result.{err_from_is_err_and}
+use Rattle.elf_model.specs.Bytes.{slice}
+use Rattle.elf_model.specs.Notes.{note_align}
+use Rattle.elf_names.proofs.HeldLaws.{still_held}
+use Rattle.elf_names.proofs.SpendsLaws.{Spends-none, Spends-reads, Spends-then, Spends-to}
+use Rattle.elf_table.proofs.SaysLaws.{still_open}
+use Rattle.elf_listing.proofs.ViewedLaws.{still_viewed}
+use Rattle.elf_listing.specs.Notes.{rows_of}
+use Rattle.elf_listing.proofs.NotesShown.{all_left, before_all, before_more, before_stopped, before_fault, before_none, note_left, note_of, table_rows}
+use Rattle.elf_listing.proofs.listing.Listing.notes.Goals as goal
+
+pub notes-init : goal.notes-init
+notes-init g c =
+    let n = c.new-cursor.ensures in
+    let unread = ap (λ w. w.unread) n.ahead in
+    record {
+      same_table = n.table;
+      same_align = n.align;
+      not_failed = n.failed;
+      keeps = record { same_src = refl; same_out = refl; same_file = refl; same_cap = refl };
+      spends = Spends-none _ _ _ _ (omega arith);
+      asked = omega (arith, unread);
+      agrees = λ file held. rw n.ahead refl;
+      text = λ file held.
+          let align = note_align c.args.align in
+          let cap = c.args.self.now.cap.bytes in
+          let all = all_left align file c.new-cursor.result.ahead c.args.table.at c.args.table.count 4096 n.ahead in
+          before_all _ _ _ (sym (ap (rows_of cap c.args.index) all ∙ table_rows align cap c.args.index c.args.table.at (slice file c.args.table.at c.args.table.count)));
+    }
+
+pub returns-in_err-advance-clause-shows : goal.returns-in_err-advance-clause-shows
+returns-in_err-advance-clause-shows g c = λ file held.
+    let p = err_from_is_err_and c.from_residual.result c.from_residual.ensures.1 in
+    let known = c.notes.invariant in
+    let now = known.spends.reads.keeps.same_file ∙ held in
+    let step = c.in_err-advance.ensures.steps in
+    let tells = rw known.same_align at (step.tells file now (known.agrees file held) known.not_failed) in
+    rw (p.1, p.2) (before_fault _ _ _ c.args.self.now.cap.bytes c.args.index _ _ _ (step.leaves.1 known.not_failed) tells (known.text file held))
+
+pub returns-in_err-note_row-clause-shows : goal.returns-in_err-note_row-clause-shows
+returns-in_err-note_row-clause-shows g c = λ file held.
+    let p = err_from_is_err_and c.from_residual-in_err-note_row.result c.from_residual-in_err-note_row.ensures.1 in
+    let known = c.notes.invariant in
+    let now = known.spends.reads.keeps.same_file ∙ held in
+    let step = rw c.if-branch.true at c.in_ok-advance.ensures.steps in
+    let tells = rw (known.same_align, known.keeps.same_cap) at (step.tells file now (known.agrees file held)) in
+    let note = note_of _ _ _ tells.0 _ c.row.result _ c.row.ensures.shows tells.2 in
+    let next = ap (rows_of c.args.self.now.cap.bytes c.args.index) tells.1 ∙ note_left c.args.self.now.cap.bytes c.args.index tells.0 _ in
+    rw (p.1, p.2) (before_stopped _ _ _ _ _ _ _ _ next (known.text file held) (c.in_err-note_row.ensures.shows c.args.self.now.cap.bytes tells.0 note))
+
+pub notes-preserved : goal.notes-preserved
+notes-preserved g c =
+    let known = c.notes.invariant in
+    let step = rw c.if-branch.true at c.in_ok-advance.ensures.steps in
+    let lists = c.in_ok-note_row.ensures.lists.0 in
+    let asks = c.in_ok-note_row.ensures.lists.1.0 in
+    let reads = c.in_ok-advance.ensures.reads in
+    let keeps = c.in_ok-advance.ensures.keeps in
+    let account = keeps.moves.account in
+    let credit = c.notes.self.ahead.credit in
+    let most = asks.account in
+    record {
+      same_table = keeps.same_table ∙ known.same_table;
+      same_align = keeps.same_align ∙ known.same_align;
+      not_failed = step.leaves.1;
+      keeps = record {
+        same_src = lists.same_src ∙ known.keeps.same_src;
+        same_out = lists.same_out ∙ known.keeps.same_out;
+        same_file = lists.same_file ∙ known.keeps.same_file;
+        same_cap = lists.same_cap ∙ known.keeps.same_cap;
+      };
+      spends = Spends-to (Spends-then known.spends (Spends-then (Spends-reads credit reads) asks)) (omega (arith, known.asked, account, most));
+      asked = omega (arith, known.asked, account, most);
+      agrees = λ file held. step.agrees file (known.spends.reads.keeps.same_file ∙ held) (known.agrees file held);
+      text = λ file held.
+          let now = known.spends.reads.keeps.same_file ∙ held in
+          let tells = rw (known.same_align, known.keeps.same_cap) at (step.tells file now (known.agrees file held)) in
+          let note = note_of _ _ _ tells.0 _ c.row.result _ c.row.ensures.shows tells.2 in
+          let next = ap (rows_of c.args.self.now.cap.bytes c.args.index) tells.1 ∙ note_left c.args.self.now.cap.bytes c.args.index tells.0 _ in
+          before_more _ _ _ _ next (known.text file held) (c.in_ok-note_row.ensures.shows c.args.self.now.cap.bytes tells.0 note);
+    }
+
+pub returns-clause-shows : goal.returns-clause-shows
+returns-clause-shows g c = λ file held.
+    let known = c.notes.invariant in
+    let now = known.spends.reads.keeps.same_file ∙ held in
+    let step = rw c.if-branch.false at c.in_ok-advance.ensures.steps in
+    let tells = rw known.same_align at (step.tells file now (known.agrees file held)) in
+    before_none c.args.self.now.cap.bytes c.args.index _ _ tells (known.text file held)
+
+pub invariant_of-self : goal.invariant_of-self
+invariant_of-self g c = record {
+  loaded = still_open _ _ c.advance.ensures.reads c.notes.self.loaded;
+  viewed = still_viewed _ _ c.advance.ensures.reads c.notes.self.viewed;
+  held = still_held _ c.advance.ensures.reads c.notes.self.held;
+}

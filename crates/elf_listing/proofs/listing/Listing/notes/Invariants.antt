@@ -1,0 +1,32 @@
+-- What was shown so far are the notes before the cursor's, and what may still be asked for is counted.
+use Rattle.std.proofs.Common.{◌≡◌, ℕ, ◌+◌, ◌≤◌, List, None, Some}
+use Rattle.elf_model.specs.Bytes.{slice}
+use Rattle.elf_model.specs.Notes.{note_align, walked}
+use Rattle.elf_model.specs.Rows.{walk_rows}
+use Rattle.elf_names.specs.Ahead.{Spends}
+use Rattle.elf_note.specs.NoteCursors.{notes_left}
+use Rattle.elf_table.specs.Windows.{Agrees, left}
+use Rattle.elf_listing.specs.Notes.{WrittenBefore, rows_of}
+use Rattle.elf_listing.specs.Shows.{SameFile}
+use Rattle.elf_listing.proofs.listing.Listing.notes.Given as goal
+
+abbrev pub invariant-notes : goal.invariant-notes
+invariant-notes g l =
+    let cap = l.fn.self.cap.bytes in
+    let align = note_align l.fn.align in
+    record {
+      same_table : l.cursor.table ≡ l.fn.table;
+      same_align : l.cursor.align ≡ align;
+      not_failed : l.cursor.failed ≡ None;
+      keeps : SameFile l.fn.self l.self;
+      spends : Spends l.fn.self.src.now l.self.src.now l.fn.self.ahead.credit l.self.ahead.credit l.fn.table.count;
+      asked : l.self.src.now.asked + l.self.ahead.credit + l.cursor.ahead.unread ≤ l.fn.self.src.now.asked + (l.fn.self.ahead.credit + l.fn.table.count);
+      agrees : (file : List ℕ) → l.fn.self.src.now.seen.file ≡ Some file → Agrees file l.cursor.ahead;
+      text : (file : List ℕ) → l.fn.self.src.now.seen.file ≡ Some file
+          → WrittenBefore l.fn.self.out.now l.self.out.now
+          (walk_rows cap l.fn.index l.fn.table.at (walked align (slice file l.fn.table.at l.fn.table.count)))
+          (rows_of cap l.fn.index (notes_left align file l.cursor.ahead));
+    }
+
+abbrev pub decreases-notes : goal.decreases-notes
+decreases-notes g l = left l.cursor.ahead

@@ -1,0 +1,29 @@
+-- The program headers of a file without sections are in the store, and those ask for nothing.
+use Rattle.std.proofs.Common.{rules, ◌≡◌, ◌==◌, true, false, [], sym, ap, ◌∙◌, arith}
+use Rattle.elf_model.specs.Listing.{each, has, SEGMENTS}
+use Rattle.elf_model.specs.Records.{e_phnum}
+use Rattle.elf_model.specs.Rows.{segment_row}
+use Rattle.elf_listing.specs.Parts.{segments_listed}
+use Rattle.elf_listing.proofs.FileShown.{viewed_segments}
+use Rattle.elf_listing.proofs.RowLaws.{Writes-as}
+use Rattle.elf_listing.proofs.SectionCosts.{sum_of_equal}
+use Rattle.elf_listing.proofs.ShowLaws.{Spent-within}
+use Rattle.elf_listing.proofs.listing.Listing.segments.Goals as goal
+
+pub returns-then-sections-eq0-clause-lists : goal.returns-then-sections-eq0-clause-lists
+returns-then-sections-eq0-clause-lists g c =
+    let f = c.args.self.now.file in
+    let lists = c.headers.ensures.lists in
+    let none = sum_of_equal 0 f.store.now.segments in
+    (lists.0, Spent-within _ _ _ _ _ _ _ (segments_listed c.args.parts.0 f.loaded) (omega (arith, none)) lists.1)
+
+pub returns-then-sections-eq0-clause-shows : goal.returns-then-sections-eq0-clause-shows
+returns-then-sections-eq0-clause-shows g c = λ file held.
+    let f = c.args.self.now.file in
+    let belongs = c.args.self.now.loaded.belongs file held in
+    let zero : f.loaded.header.e_shnum ≡ 0 = sym belongs.count ∙ (sym c.sections.ensures ∙ c.if-sections-eq0.true) in
+    let none : (f.loaded.header.e_shnum == 0) ≡ true = ap (λ n. n == 0) zero in
+    let asked : has c.args.parts.0 SEGMENTS ≡ true = search rules in
+    let all : f.store.now.segments ≡ e_phnum file = c.requires ∙ (viewed_segments c.args.parts.0 f.loaded none asked ∙ belongs.header.e_phnum) in
+    Writes-as _ _ _ (ap (λ b. elim b [ true ↦ each (segment_row file) 0 (e_phnum file) | false ↦ [] ]) asked ∙ ap (each (segment_row file) 0) (sym all))
+    (c.headers.ensures.shows file held)

@@ -1,0 +1,55 @@
+-- What a cursor over the rows of a table that are listed gives, row by row.
+use Rattle.std.specs.Prelude.{ℕ, suc, ◌≡◌, Bool, true, false, List, [], Option, None, Some, Result, Ok, Err}
+use Rattle.elf_model.specs.Dynamic.{dynamic_count}
+use Rattle.elf_note.specs.DynCursors.{entries_left}
+use Rattle.elf_table.specs.Cursors.{Reading, Agrees, Gives, Fails}
+use Rattle.elf_table.specs.Tables.{Rows, size_of}
+use Rattle.elf_table.specs.declared.fault.Fault.{Fault}
+use Rattle.elf_listing.specs.declared.row_cursor.RowCursor.{RowCursor}
+use Rattle.elf_listing.specs.declared.row_cursor.RowCursor.TheVariants.{All, Entries}
+use Rattle.elf_listing.specs.declared.rows.Kind.{Kind}
+use Rattle.elf_listing.specs.declared.rows.Kind.TheVariants.{Segments, Symbols, Relocations, Dynamic}
+
+-- the cursor over the rows of the table
+abbrev pub reading : RowCursor → Reading
+reading (All cursor) = cursor
+reading (Entries entries) = entries.cursor
+
+-- how many rows of a file it still gives
+abbrev pub rows_left : List ℕ → RowCursor → ℕ
+rows_left file (All cursor) = cursor.left
+rows_left file (Entries entries) = entries_left file entries
+
+-- how many rows of a table are listed
+abbrev pub rows_listed : Kind → List ℕ → Rows → ℕ
+rows_listed Segments file table = table.count
+rows_listed (Symbols section names) file table = table.count
+rows_listed (Relocations section machine linked) file table = table.count
+rows_listed (Dynamic strings) file table = dynamic_count file table.at table.count
+
+-- a cursor before the first row of a table
+pub record Begins (kind : Kind) (table : Rows) (cursor : RowCursor) : Type 0 where
+  pub its_table : (reading cursor).table ≡ table
+  pub index : (reading cursor).index ≡ 0
+  pub left : (reading cursor).left ≡ table.count
+  pub unread : (reading cursor).unread ≡ size_of table
+  pub held : (reading cursor).held ≡ []
+  pub failed : (reading cursor).failed ≡ None
+  pub rows : (file : List ℕ) → rows_left file cursor ≡ rows_listed kind file table
+
+-- a step that gives the next row
+pub record GivesRow (file : Option (List ℕ)) (old new : RowCursor) : Type 0 where
+  pub gives : Gives file (reading old) (reading new)
+  pub one_less : (bytes : List ℕ) → file ≡ Some bytes → Agrees bytes (reading old) → rows_left bytes old ≡ suc (rows_left bytes new)
+
+-- a step behind the last row
+pub record EndsRows (old new : RowCursor) : Type 0 where
+  pub unchanged : new ≡ old
+  pub not_failed : (reading old).failed ≡ None
+  pub none_left : (bytes : List ℕ) → rows_left bytes old ≡ 0
+
+-- a step of a cursor, where it answers whether it gave a row
+abbrev pub AdvancesRows : Option (List ℕ) → RowCursor → RowCursor → Result Bool Fault → Type 0
+AdvancesRows file old new (Ok true) = GivesRow file old new
+AdvancesRows file old new (Ok false) = EndsRows old new
+AdvancesRows file old new (Err fault) = Fails (reading old) (reading new) fault

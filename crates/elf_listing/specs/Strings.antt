@@ -1,0 +1,53 @@
+-- The strings that dynamic entries tell of.
+use Rattle.std.specs.Prelude.{ℕ, ◌≡◌, Bool, true, false, List, Result, Ok, Err}
+use Rattle.elf_model.specs.Mapped.{strings_at}
+use Rattle.elf_model.specs.Names.{Shown, shown}
+use Rattle.elf_model.specs.Records.{d_tag, d_un}
+use Rattle.elf_model.specs.Rows.{is_string_tag, no_name}
+use Rattle.elf_model.specs.declared.causes.Cause.{Cause}
+use Rattle.elf_model.specs.declared.causes.Refusal.{Refusal}
+use Rattle.elf_table.specs.NamesRead.{NameRead}
+use Rattle.elf_table.specs.Tables.{Strings, StringsWithin, strings_in}
+use Rattle.elf_table.specs.Views.{Views}
+use Rattle.elf_table.specs.declared.fault.Fault.{Fault as Failure}
+use Rattle.elf_table.specs.declared.fault.Fault.TheVariants.{Refused}
+use Rattle.elf_table.specs.declared.names.NameEnd.{NameEnd}
+use Rattle.elf_listing.specs.declared.dynamic_row.EntryStrings.{EntryStrings}
+use Rattle.elf_listing.specs.declared.dynamic_row.EntryStrings.TheVariants.{Linked, Mapped}
+
+-- the string table of the entry at an offset of a file, or the refusal where there is none
+abbrev pub strings_told : EntryStrings → List ℕ → ℕ → Result (List ℕ) Refusal
+strings_told (Linked names) file entry_at = Ok (strings_in file names)
+strings_told (Mapped view told) file entry_at = strings_at file entry_at told.address told.size
+
+-- what the strings are looked for in lies within a source of this size
+abbrev pub AreWithin : ℕ → EntryStrings → Type 0
+AreWithin size (Linked names) = StringsWithin size names
+AreWithin size (Mapped view told) = view.loaded.size ≡ size
+
+-- what the strings are looked for in is of this file
+abbrev pub AreOf : List ℕ → EntryStrings → Type 0
+AreOf file (Linked names) = Unit {0}
+AreOf file (Mapped view told) = Views file view.loaded view.store.now
+
+-- a string table was found as it is told, or refused
+abbrev pub FoundAs : List ℕ → Result Strings Failure → Result (List ℕ) Refusal → Type 0
+FoundAs file (Ok names) (Ok table) = strings_in file names ≡ table
+FoundAs file (Ok names) (Err refusal) = ⊥
+FoundAs file (Err fault) (Ok table) = ⊥
+FoundAs file (Err fault) (Err refusal) = fault ≡ Refused refusal
+
+-- the string of the entry at an offset, as it is shown; the refusal where its string table is refused
+abbrev pub told_by : Bool → Result (List ℕ) Refusal → (List ℕ → Result Shown Cause) → Result (Result Shown Cause) Refusal
+told_by false table name = Ok no_name
+told_by true (Err refusal) name = Err refusal
+told_by true (Ok strings) name = Ok (name strings)
+
+abbrev pub told_name : (ℕ → Result (List ℕ) Refusal) → List ℕ → ℕ → ℕ → Result (Result Shown Cause) Refusal
+told_name strings file cap entry_at =
+    told_by (is_string_tag (d_tag file entry_at)) (strings entry_at) (λ table. shown table (d_un file entry_at) cap)
+
+-- that string was read, or its string table is refused
+abbrev pub ToldRead : ℕ → Result NameEnd Failure → List ℕ → Result (Result Shown Cause) Refusal → Type 0
+ToldRead at result name (Ok answer) = NameRead at result name answer
+ToldRead at result name (Err refusal) = result ≡ Err (Refused refusal)

@@ -1,0 +1,23 @@
+-- The program headers that are loaded beside a file: where they describe its tables.
+use Rattle.std.specs.Prelude.{ℕ, ◌≡◌, ◌*◌, ◌<◌, ◌==◌, ◌&&◌, ◌||◌, Bool, List, Option, Some, if◌then◌else◌}
+use Rattle.elf_model.specs.Cost.{cost_where}
+use Rattle.elf_model.specs.Listing.{has, SEGMENTS, NOTES, DYNAMIC}
+use Rattle.elf_table.specs.Load.{Opened}
+use Rattle.elf_table.specs.Store.{Stored, HoldsSegments}
+
+-- the parts of a file without sections need its program headers
+abbrev pub needs_view : ℕ → Opened → Bool
+needs_view parts loaded = loaded.header.e_shnum == 0 && (has parts SEGMENTS || (has parts NOTES || has parts DYNAMIC))
+
+-- how many program headers are loaded
+abbrev pub viewed : ℕ → Opened → ℕ
+viewed parts loaded = if needs_view parts loaded then loaded.header.e_phnum else 0
+
+-- how many bytes that asks for
+abbrev pub view_cost : ℕ → Opened → ℕ
+view_cost parts loaded = cost_where (needs_view parts loaded) (56 * loaded.header.e_phnum)
+
+-- where program headers are loaded all are, and they are those of the source's file
+pub record IsViewed (file : Option (List ℕ)) (loaded : Opened) (store : Stored) : Type 0 where
+  pub all : 0 < store.segments → store.segments ≡ loaded.header.e_phnum
+  pub held : (bytes : List ℕ) → file ≡ Some bytes → HoldsSegments bytes store

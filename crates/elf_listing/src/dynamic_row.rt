@@ -1,0 +1,131 @@
+//! The row of a dynamic entry, shown.
+ghost use Rattle.std.specs.Prelude.{◌≡◌, ℕ, List, Some, length, IfOk, IfErr};
+ghost use Rattle.elf_model.specs.Names.{name_bytes};
+ghost use Rattle.elf_model.specs.Records.{d_tag};
+ghost use Rattle.elf_model.specs.Rows.{is_string_tag};
+ghost use Rattle.elf_record.specs.Dyn.{IsDyn};
+ghost use Rattle.elf_table.specs.Faults.{IsOfCheck};
+ghost use Rattle.elf_model.specs.Mapped.{strings_at};
+ghost use Rattle.elf_table.specs.Tables.{StringsWithin};
+ghost use Rattle.elf_table.specs.Views.{Views};
+ghost use Rattle.elf_listing.specs.Kinds.{OfRow};
+ghost use Rattle.elf_listing.specs.Shows.{Fetches, Lists};
+ghost use Rattle.elf_listing.specs.Strings.{AreOf, AreWithin, FoundAs};
+ghost use Rattle.elf_listing.specs.Strings.{ToldRead, strings_told, told_name};
+ghost use Rattle.elf_listing.specs.declared.rows.Kind.TheVariants.{Dynamic};
+
+use crate::listing::Listing;
+use crate::relocation_row::refused;
+use crate::row::whole_row;
+use crate::stop::Stop;
+use elf_lines::dynamic_front;
+use elf_names::NameIndex;
+use elf_note::DynStrings;
+use elf_record::{Cause, Dyn};
+use elf_source::{Sink, Source};
+use elf_table::{Fault, NameEnd, Names, Row, SegmentView};
+
+/// The tag of a needed library's name (gABI 5, Dynamic Section).
+const DT_NEEDED: u64 = 1;
+/// The tag of a shared object's own name.
+const DT_SONAME: u64 = 14;
+/// The tag of a library search path.
+const DT_RPATH: u64 = 15;
+/// The tag of the library search path that stands in its place.
+const DT_RUNPATH: u64 = 29;
+
+/// Where the strings of dynamic entries are looked for.
+#[derive(Clone, Copy)]
+pub enum EntryStrings<'f> {
+    /// In the string table that their section links to.
+    Linked(Names),
+    /// Where a segment loads them, at the address that the entries tell.
+    Mapped {
+        /// The file with its program headers.
+        view: SegmentView<'f>,
+        /// The address and the size that the entries tell.
+        told: DynStrings,
+    },
+}
+
+impl<S: Source, W: Sink> Listing<'_, '_, '_, S, W> {
+    /// Shows the row of a dynamic entry: its `D` line with its string, or the refusal of the string
+    /// table or of the string.
+    pub(crate) fn dynamic_row(
+        &mut self,
+        row: &Row<'_>,
+        strings: &EntryStrings<'_>,
+    ) -> Result<(), Stop>
+        requires whole { length row.now.bytes.now ≡ 16 }
+        requires within { AreWithin self.old.src.now.seen.size strings.now }
+        ensures lists { Lists self.old self.new result (name_bytes self.old.cap.bytes) }
+        ensures shows { OfRow self.old self.new result row.now (Dynamic strings.now) }
+    {
+        let entry = Dyn::decode(whole_row(row));
+        let end = self.read_string(&entry, strings, row.at)?;
+        self.named_line(dynamic_front(row.index, &entry), end)
+    }
+
+    /// Reads the string that an entry at the file offset `at` tells of, which is empty where it
+    /// tells of none: only for one that does the string table is looked for (gABI 5, Dynamic
+    /// Section).
+    fn read_string(
+        &mut self,
+        entry: &Dyn,
+        strings: &EntryStrings<'_>,
+        at: u64,
+    ) -> Result<NameEnd, Fault>
+        requires { AreWithin self.old.src.now.seen.size strings.now }
+        ensures fetches { Fetches self.old self.new result (name_bytes self.old.cap.bytes) }
+        ensures read { (file : List ℕ) → self.old.src.now.seen.file ≡ Some file →
+            AreOf file strings.now → IsDyn file at entry.now →
+            ToldRead at result self.new.name
+            (told_name (strings_told strings.now file) file self.old.cap.bytes at) }
+    {
+        if !tells_of_string(entry) {
+            self.name.clear();
+            return Ok(NameEnd::Whole);
+        }
+        let names = strings_for(strings, at)?;
+        let off = entry.d_un;
+        self.read_name(NameIndex { names, off, at })
+    }
+}
+
+/// The string table of the entry at the file offset `at`.
+fn strings_for(strings: &EntryStrings<'_>, at: u64) -> Result<Names, Fault>
+    ensures told { (file : List ℕ) → AreOf file strings.now →
+        FoundAs file result (strings_told strings.now file at) }
+    ensures within { (size : ℕ) → AreWithin size strings.now → IfOk result (StringsWithin size) }
+    ensures refusal { IfErr result IsOfCheck }
+{
+    match strings {
+        EntryStrings::Linked(names) => Ok(*names),
+        EntryStrings::Mapped { view, told } => strings_mapped(view, told, at),
+    }
+}
+
+/// The string table at the address that entries tell, for the entry at the file offset `at`.
+fn strings_mapped(view: &SegmentView<'_>, told: &DynStrings, at: u64) -> Result<Names, Fault>
+    ensures told { (file : List ℕ) → Views file view.now.loaded view.now.store.now →
+        FoundAs file result (strings_at file at told.now.address told.now.size) }
+    ensures within { IfOk result (StringsWithin view.now.loaded.size) }
+    ensures refusal { IfErr result IsOfCheck }
+{
+    let Some(address) = told.address else {
+        return refused(at, Cause::Unmapped);
+    };
+    let Some(size) = told.size else {
+        return refused(at, Cause::Unmapped);
+    };
+    view.mapped(address, size, at)
+}
+
+/// Whether the value of an entry is the index of a string (gABI 5, Dynamic Section).
+fn tells_of_string(entry: &Dyn) -> bool
+    ensures { (file : List ℕ) (at : ℕ) → IsDyn file at entry.now →
+        result ≡ is_string_tag (d_tag file at) }
+{
+    let tag = entry.d_tag.cast_unsigned();
+    tag == DT_NEEDED || tag == DT_SONAME || tag == DT_RPATH || tag == DT_RUNPATH
+}

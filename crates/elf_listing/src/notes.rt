@@ -1,0 +1,48 @@
+//! The notes of a table, shown one after another.
+ghost use Rattle.std.specs.Prelude.{◌≡◌, ◌≤◌, length};
+ghost use Rattle.elf_model.specs.Bytes.{slice};
+ghost use Rattle.elf_model.specs.Notes.{note_align, walked};
+ghost use Rattle.elf_model.specs.Rows.{walk_rows};
+ghost use Rattle.elf_table.specs.Tables.{RowsWithin};
+ghost use Rattle.elf_listing.specs.Notes.{OfNote};
+ghost use Rattle.elf_listing.specs.Shows.{Lists, Shows};
+
+use crate::listing::Listing;
+use crate::row::is_cut;
+use crate::stop::Stop;
+use elf_lines::show_note;
+use elf_note::{NoteCursor, NoteRow};
+use elf_source::{Sink, Source};
+use elf_table::Table;
+
+impl<S: Source, W: Sink> Listing<'_, '_, '_, S, W> {
+    /// Shows the notes of a table of single bytes, an `N` line each, up to the place where no note
+    /// stands. `align` is the alignment that the table's header tells, and `index` is the header's
+    /// (gABI 5, Note Section).
+    pub(crate) fn notes(&mut self, table: Table, align: u64, index: u16) -> Result<(), Stop>
+        requires bytes { table.entry ≡ 1 }
+        requires within { RowsWithin self.old.src.now.seen.size table }
+        ensures lists { Lists self.old self.new result table.count }
+        ensures shows { Shows self.old self.new result (λ file.
+            walk_rows self.old.cap.bytes index table.at
+            (walked (note_align align) (slice file table.at table.count))) }
+    {
+        let mut cursor = NoteCursor::new(table, align);
+        'notes: while cursor.advance(self.src, self.cap, &mut self.name)? {
+            self.note_row(&cursor.row(), index)?;
+        }
+        Ok(())
+    }
+
+    /// Shows a note, whose name was read: its `N` line.
+    fn note_row(&mut self, row: &NoteRow<'_>, index: u16) -> Result<(), Stop>
+        requires { length row.now.desc.now ≤ 32 }
+        ensures lists { Lists self.old self.new result 0 }
+        ensures shows { OfNote self.old self.new result row.now index }
+    {
+        let is_cut = is_cut(row.name_end);
+        let name = self.name.bytes();
+        show_note(index, &row.head, name, is_cut, row.desc, self.out)?;
+        Ok(())
+    }
+}

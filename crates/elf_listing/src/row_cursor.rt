@@ -1,0 +1,65 @@
+//! A cursor over the rows of a table that are listed.
+ghost use Rattle.std.specs.Prelude.{◌≡◌, ◌+◌, ◌<◌, ◌≤◌, None, IfErr};
+ghost use Rattle.elf_source.specs.Source.{Reads};
+ghost use Rattle.elf_table.specs.Cursors.{Shows as Lends, unread_bytes};
+ghost use Rattle.elf_table.specs.Faults.{Says};
+ghost use Rattle.elf_table.specs.Tables.{RowsWithin};
+ghost use Rattle.elf_listing.specs.Kinds.{row_size};
+ghost use Rattle.elf_listing.specs.RowCursors.{AdvancesRows, Begins, reading};
+
+use crate::rows::Kind;
+use elf_note::{DynCursor, dynamic_rows};
+use elf_source::{Counted, Source};
+use elf_table::{Cursor, Fault, Row, Table};
+
+/// A cursor over the rows of a table that are listed.
+#[derive(Drop)]
+pub enum RowCursor {
+    /// Over all rows.
+    All(Cursor),
+    /// Over dynamic entries, which end sooner where one of them says so.
+    Entries(DynCursor),
+}
+
+impl RowCursor {
+    /// A cursor before the first row of a table of a kind.
+    pub(crate) fn new(table: Table, kind: &Kind<'_>) -> RowCursor
+        requires { table.entry ≡ row_size kind.now }
+        ensures { Begins kind.now table result }
+    {
+        match kind {
+            Kind::Dynamic { .. } => RowCursor::Entries(dynamic_rows(table)),
+            _ => RowCursor::All(Cursor::new(table)),
+        }
+    }
+
+    /// Goes to the next row, and answers whether there is one.
+    ///
+    /// # Errors
+    /// As for `Cursor::advance`.
+    pub(crate) fn advance<S: Source>(&mut self, src: &mut Counted<S>) -> Result<bool, Fault>
+        requires { RowsWithin src.old.seen.size (reading self.old).table }
+        ensures reads { Reads src.old src.new (unread_bytes (reading self.old)) }
+        ensures says { (reading self.old).failed ≡ None →
+            IfErr result (Says src.old src.new (unread_bytes (reading self.old))) }
+        ensures account { src.new.asked + unread_bytes (reading self.new)
+            ≤ src.old.asked + unread_bytes (reading self.old) }
+        ensures steps { AdvancesRows src.old.seen.file self.old self.new result }
+    {
+        match self {
+            RowCursor::All(cursor) => cursor.advance(src),
+            RowCursor::Entries(cursor) => cursor.advance(src),
+        }
+    }
+
+    /// The row that the last step gave.
+    pub(crate) fn row(&self) -> Row<'_>
+        requires { 0 < (reading self.now).index }
+        ensures { Lends (reading self.now) result }
+    {
+        match self {
+            RowCursor::All(cursor) => cursor.row(),
+            RowCursor::Entries(cursor) => cursor.row(),
+        }
+    }
+}

@@ -1,0 +1,82 @@
+//! What is listed of a program header of a file without sections.
+ghost use Rattle.std.specs.Prelude.{◌≡◌, ◌<◌};
+ghost use Rattle.elf_listing.specs.Parts.{header_cost, header_items};
+ghost use Rattle.elf_listing.specs.Shows.{Lists, Shows};
+ghost use Rattle.elf_listing.specs.declared.parts.Part.TheVariants.{Segments, SegmentNotes};
+ghost use Rattle.elf_listing.specs.declared.parts.Part.TheVariants.{SegmentDynamic};
+
+use crate::dynamic_row::EntryStrings;
+use crate::listing::Listing;
+use crate::rows::Kind;
+use crate::stop::Stop;
+use elf_lines::segment_row;
+use elf_note::dynamic_strings;
+use elf_record::numbers::{PT_DYNAMIC, PT_NOTE};
+use elf_source::{Sink, Source};
+use elf_table::SegmentView;
+
+impl<'f, S: Source, W: Sink> Listing<'_, '_, 'f, S, W> {
+    /// The file with its program headers, where they are loaded.
+    fn view(&self) -> SegmentView<'f>
+        requires { 0 < self.now.file.store.now.segments }
+        ensures loaded { result.loaded ≡ self.now.file.loaded }
+        ensures store { result.store.now ≡ self.now.file.store.now }
+    {
+        SegmentView {
+            loaded: self.file.loaded,
+            store: self.file.store,
+        }
+    }
+
+    /// Shows the row of a program header that is in the store: its `P` line (gABI 5, Program
+    /// Header).
+    pub(crate) fn segment_header(&mut self, segment: u16) -> Result<(), Stop>
+        requires { segment < self.old.file.store.now.segments }
+        ensures lists { let f = self.old.file in Lists self.old self.new result
+            (header_cost Segments f.loaded f.store.now self.old.cap.bytes segment) }
+        ensures shows { Shows self.old self.new result
+            (header_items Segments self.old.cap.bytes segment) }
+    {
+        let header = self.view().segment(segment);
+        self.out.put(&segment_row(segment, &header))?;
+        Ok(())
+    }
+
+    /// Shows the notes of a segment, where it holds notes, as those of a section (gABI 5, Note
+    /// Section).
+    pub(crate) fn segment_notes(&mut self, segment: u16) -> Result<(), Stop>
+        requires { segment < self.old.file.store.now.segments }
+        ensures lists { let f = self.old.file in Lists self.old self.new result
+            (header_cost SegmentNotes f.loaded f.store.now self.old.cap.bytes segment) }
+        ensures shows { Shows self.old self.new result
+            (header_items SegmentNotes self.old.cap.bytes segment) }
+    {
+        let header = self.view().segment(segment);
+        if header.p_type != PT_NOTE {
+            return Ok(());
+        }
+        let place = self.view().place(segment);
+        let table = self.file.bytes(header.p_offset, header.p_filesz, place)?;
+        self.notes(table, header.p_align, segment)
+    }
+
+    /// Shows the dynamic entries of a segment, where it holds them, as those of a section. Their
+    /// strings are where a segment loads them: the entries are gone through once for the address
+    /// and the size, and once more to be shown (gABI 5, Dynamic Section).
+    pub(crate) fn segment_dynamic(&mut self, segment: u16) -> Result<(), Stop>
+        requires { segment < self.old.file.store.now.segments }
+        ensures lists { let f = self.old.file in Lists self.old self.new result
+            (header_cost SegmentDynamic f.loaded f.store.now self.old.cap.bytes segment) }
+        ensures shows { Shows self.old self.new result
+            (header_items SegmentDynamic self.old.cap.bytes segment) }
+    {
+        let view = self.view();
+        if view.segment(segment).p_type != PT_DYNAMIC {
+            return Ok(());
+        }
+        let table = view.dynamic(segment)?;
+        let told = dynamic_strings(table, self.src)?;
+        let strings = EntryStrings::Mapped { view, told };
+        self.rows(table, &Kind::Dynamic { strings })
+    }
+}

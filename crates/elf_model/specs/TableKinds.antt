@@ -1,0 +1,129 @@
+-- The kinds of tables whose rows are listed. A header stands at an offset of some bytes: of the file, or of its own bytes
+-- alone, at 0.
+use Rattle.std.specs.Prelude.{ℕ, ◌+◌, ◌*◌, ◌/◌, ◌==◌, Bool, true, false, List, [], ◌∷◌, length, Result, Ok}
+use Rattle.elf_model.specs.Bytes.{slice}
+use Rattle.elf_model.specs.Checks.{Check, table_checks_of, whole_checks_of, range_checks_of, is_symbol_table, unless_empty}
+use Rattle.elf_model.specs.Dynamic.{dynamic_count, dynamic_at}
+use Rattle.elf_model.specs.Listing.{Item, each, SYMBOLS, RELOCS, NOTES, DYNAMIC}
+use Rattle.elf_model.specs.Mapped.{mapped_strings}
+use Rattle.elf_model.specs.Names.{name_bytes}
+use Rattle.elf_model.specs.Notes.{note_align, walked}
+use Rattle.elf_model.specs.Numbers.{SHT_RELA, SHT_NOTE, SHT_DYNAMIC, PT_NOTE, PT_DYNAMIC}
+use Rattle.elf_model.specs.Records.{e_shnum, e_phnum, sh_type, sh_offset, sh_size, sh_addralign, p_type, p_offset, p_filesz, p_align, section_at, segment_at}
+use Rattle.elf_model.specs.Rows.{symbol_row, relocation_row, walk_rows, dynamic_row}
+use Rattle.elf_model.specs.Segments.{segment_dynamic_checks}
+use Rattle.elf_model.specs.Tables.{SYMBOL_SIZE, RELA_SIZE, DYNAMIC_SIZE, strings_of, entry_count, symbol_table_checks, relocation_table_checks, dynamic_table_checks}
+use Rattle.elf_model.specs.declared.causes.Refusal.{Refusal}
+
+-- A KIND OF TABLE: its part of a listing; which headers describe one; its own checks, in a file of so many bytes; how many
+-- entries the header tells of, and what each asks for; then, in a file, all checks, which are the table's own and those of
+-- what it links to, and the rows of the table whose header has an index and stands at an offset
+pub record TableKind : Type 0 where
+  pub part : ℕ
+  pub has_table : List ℕ → ℕ → Bool
+  pub own_checks : List ℕ → ℕ → ℕ → List Check
+  pub entries : List ℕ → ℕ → ℕ
+  pub entry_cost : ℕ → ℕ
+  pub checks : List ℕ → ℕ → List Check
+  pub rows : List ℕ → ℕ → ℕ → ℕ → List Item
+
+-- symbols (gABI 4, Symbol Table): each with its name
+unfoldable pub symbols : TableKind
+symbols = record {
+  part = SYMBOLS;
+  has_table = is_symbol_table;
+  own_checks = λ bytes at file_size. table_checks_of bytes at file_size at SYMBOL_SIZE;
+  entries = λ bytes at. entry_count bytes at SYMBOL_SIZE;
+  entry_cost = λ cap. SYMBOL_SIZE + name_bytes cap;
+  checks = symbol_table_checks;
+  rows = λ file cap section at. each (symbol_row file cap section at) 0 (entry_count file at SYMBOL_SIZE);
+}
+
+-- relocation entries (gABI 4, Relocation): each with its symbol and the symbol's name
+unfoldable pub relocations : TableKind
+relocations = record {
+  part = RELOCS;
+  has_table = λ bytes at. sh_type bytes at == SHT_RELA;
+  own_checks = λ bytes at file_size. table_checks_of bytes at file_size at RELA_SIZE;
+  entries = λ bytes at. entry_count bytes at RELA_SIZE;
+  entry_cost = λ cap. RELA_SIZE + (SYMBOL_SIZE + name_bytes cap);
+  checks = relocation_table_checks;
+  rows = λ file cap section at. each (relocation_row file cap section at) 0 (entry_count file at RELA_SIZE);
+}
+
+-- the rows of dynamic entries (gABI 5, Dynamic Section), so many from an offset on, up to and with the first that is
+-- DT_NULL: where the strings of so many are told for the entry at an offset
+abbrev pub dynamic_rows : List ℕ → ℕ → (offset entries : ℕ) → (ℕ → ℕ → Result (List ℕ) Refusal) → List Item
+dynamic_rows file cap offset entries strings =
+    let count = dynamic_count file offset entries in
+    each (λ i. dynamic_row file cap (strings count) (dynamic_at offset i) i) 0 count
+
+-- the dynamic entries of a section, each with its string in the string table that the section links to
+unfoldable pub section_dynamic : TableKind
+section_dynamic = record {
+  part = DYNAMIC;
+  has_table = λ bytes at. sh_type bytes at == SHT_DYNAMIC;
+  own_checks = λ bytes at file_size. table_checks_of bytes at file_size at DYNAMIC_SIZE;
+  entries = λ bytes at. entry_count bytes at DYNAMIC_SIZE;
+  entry_cost = λ cap. DYNAMIC_SIZE + name_bytes cap;
+  checks = dynamic_table_checks;
+  rows = λ file cap section at.
+      dynamic_rows file cap (sh_offset file at) (entry_count file at DYNAMIC_SIZE) (λ n dynamic_at. Ok (strings_of file at));
+}
+
+-- those of a segment, each with its string in the string table that the entries tell of: they are gone through twice
+unfoldable pub segment_dynamic : TableKind
+segment_dynamic = record {
+  part = DYNAMIC;
+  has_table = λ bytes at. p_type bytes at == PT_DYNAMIC;
+  own_checks = λ bytes at file_size. whole_checks_of file_size (p_offset bytes at) (p_filesz bytes at) at DYNAMIC_SIZE;
+  entries = λ bytes at. p_filesz bytes at / DYNAMIC_SIZE;
+  entry_cost = λ cap. 2 * DYNAMIC_SIZE + name_bytes cap;
+  checks = segment_dynamic_checks;
+  rows = λ file cap segment at.
+      dynamic_rows file cap (p_offset file at) (p_filesz file at / DYNAMIC_SIZE) (mapped_strings file (p_offset file at));
+}
+
+-- notes (gABI 5, Note Section), each of whose bytes counts: of which headers, and where such a header tells the table's
+-- offset, size and alignment
+abbrev notes_of : (List ℕ → ℕ → Bool) → (offset size align : List ℕ → ℕ → ℕ) → TableKind
+notes_of has_table offset size align = record {
+  part = NOTES;
+  has_table = has_table;
+  own_checks = λ bytes at file_size. range_checks_of file_size (offset bytes at) (size bytes at) at;
+  entries = size;
+  entry_cost = λ cap. 1;
+  checks = λ file at. unless_empty (size file at) (range_checks_of (length file) (offset file at) (size file at) at);
+  rows = λ file cap index at.
+      walk_rows cap index (offset file at) (walked (note_align (align file at)) (slice file (offset file at) (size file at)));
+}
+
+-- the notes of a section, and of a segment
+unfoldable pub section_notes : TableKind
+section_notes = notes_of (λ bytes at. sh_type bytes at == SHT_NOTE) sh_offset sh_size sh_addralign
+
+unfoldable pub segment_notes : TableKind
+segment_notes = notes_of (λ bytes at. p_type bytes at == PT_NOTE) p_offset p_filesz p_align
+
+-- the kinds of tables that section headers describe, and those that program headers do, in their order
+abbrev pub section_kinds : List TableKind
+section_kinds = symbols ∷ relocations ∷ section_notes ∷ section_dynamic ∷ []
+
+abbrev pub segment_kinds : List TableKind
+segment_kinds = segment_notes ∷ segment_dynamic ∷ []
+
+-- the headers that describe the tables of a file: how many, where each stands, and the kinds of tables
+pub record TableHeaders : Type 0 where
+  pub count : ℕ
+  pub at : ℕ → ℕ
+  pub kinds : List TableKind
+
+abbrev pub by_sections : List ℕ → TableHeaders
+by_sections file = record { count = e_shnum file; at = section_at file; kinds = section_kinds }
+
+abbrev pub by_segments : List ℕ → TableHeaders
+by_segments file = record { count = e_phnum file; at = segment_at file; kinds = segment_kinds }
+
+-- the section headers, or where a file has none the program headers
+unfoldable pub table_headers : List ℕ → TableHeaders
+table_headers file = elim (e_shnum file == 0) [ true ↦ by_segments file | false ↦ by_sections file ]

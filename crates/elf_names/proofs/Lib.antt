@@ -1,0 +1,4 @@
+pub mod HeldLaws
+pub mod Searching
+pub mod Shown
+pub mod SpendsLaws

@@ -1,0 +1,50 @@
+-- What is held of a file ahead of the rows that want it, and what may still be asked for.
+use Rattle.std.specs.Prelude.{ℕ, ◌≡◌, ◌+◌, ◌-◌, ◌≤◌, List, length, Option, Some}
+use Rattle.elf_model.specs.Bytes.{slice}
+use Rattle.elf_source.specs.Source.{Counting, Reads}
+
+-- some bytes from an offset on
+pub record Held : Type 0 where
+  pub at : ℕ
+  pub bytes : List ℕ
+
+-- the offset behind the bytes that are held
+abbrev pub reach : Held → ℕ
+reach h = h.at + length h.bytes
+
+-- the bytes that are held are the file's
+abbrev pub IsOf : List ℕ → Held → Type 0
+IsOf file h = h.bytes ≡ slice file h.at (length h.bytes)
+
+-- what was the source's file's before a call is it afterwards
+abbrev pub StaysOf : Option (List ℕ) → Held → Held → Type 0
+StaysOf file old new = (bytes : List ℕ) → file ≡ Some bytes → IsOf bytes old → IsOf bytes new
+
+-- what is held of names and of symbols, and how many bytes may be asked for on credit
+pub record Ahead : Type 0 where
+  pub names : Held
+  pub symbols : Held
+  pub credit : ℕ
+
+-- what is held is the file's
+pub record Agrees (file : List ℕ) (a : Ahead) : Type 0 where
+  pub names : IsOf file a.names
+  pub symbols : IsOf file a.symbols
+
+-- what is held is the file's, where the source's is known
+abbrev pub AgreesWith : Option (List ℕ) → Ahead → Type 0
+AgreesWith file a = (bytes : List ℕ) → file ≡ Some bytes → Agrees bytes a
+
+-- WHAT READS ON CREDIT DO, fault or not: with n bytes more of it, what was asked for and what may still be asked for come to
+-- no more than before
+pub record Spends (old new : Counting) (before after n : ℕ) : Type 0 where
+  pub reads : Reads old new (before + n)
+  pub account : new.asked + after ≤ old.asked + (before + n)
+
+-- so many bytes are held from an offset on; what was asked for, and what of the credit was spent, is no more than what is
+-- held from there on
+pub record Brings (new : Held) (at count before after credit left : ℕ) : Type 0 where
+  pub begins : new.at ≤ at
+  pub ends : at + count ≤ reach new
+  pub asked : after ≤ before + (reach new - at)
+  pub paid : credit ≤ left + (reach new - at)

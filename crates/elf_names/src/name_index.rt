@@ -1,0 +1,14 @@
+//! Where a name is.
+use elf_table::Names;
+
+/// An index into a string table, as `st_name` and `sh_name` are, with the entry that holds it (gABI 4,
+/// String Table).
+#[derive(Clone, Copy, Debug, PartialEq, Eq)]
+pub struct NameIndex {
+    /// The string table.
+    pub names: Names,
+    /// The index of the name's first byte.
+    pub off: u64,
+    /// The file offset of the entry that holds the index. Refusals of the name point there.
+    pub at: u64,
+}

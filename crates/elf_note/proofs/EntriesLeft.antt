@@ -1,0 +1,119 @@
+-- What is left of the dynamic entries of a table after a step.
+use Rattle.std.proofs.lemmas.Bool.Decides.{nat_tests}
+use Rattle.std.proofs.Common.{◌≡◌, ◌≢◌, ◌==◌, ℕ, zero, suc, ◌+◌, ◌*◌, Bool, true, false, List, Option, None, Some, Ok, inr, refl, ap, sym, ◌∙◌, arith}
+use Rattle.elf_model.specs.Bytes.{slice, field}
+use Rattle.elf_model.specs.Dynamic.{dynamic_count, dynamic_value}
+use Rattle.elf_model.specs.Numbers.{DT_NULL}
+use Rattle.elf_model.specs.Records.{d_tag, d_un}
+use Rattle.elf_model.proofs.DynamicLaws.{count-zero, count-null, count-more, value-none, value-here, value-more}
+use Rattle.elf_model.proofs.Slices.{field-slice}
+use Rattle.elf_table.specs.Cursors.{Reading, Gives, Advances, place}
+use Rattle.elf_table.specs.Tables.{Rows}
+use Rattle.elf_note.specs.DynCursors.{Entries, AdvancesEntries, GivesEntry, EndsEntries, entries_left, first_value, value_here}
+
+is-same : (x y : ℕ) → (x == y) ≡ true → x ≡ y
+is-same x y t = grind (arith, nat_tests)
+
+is-other : (x y : ℕ) → (x == y) ≡ false → x ≢ y
+is-other x y t = grind (arith, nat_tests)
+
+-- behind the last entry none is left
+pub left-ended : (file : List ℕ) (d : Entries) → d.ended ≡ true → entries_left file d ≡ 0
+left-ended file d e = rw e refl
+
+-- else those are left that the table has
+left-more : (file : List ℕ) (d : Entries) → d.ended ≡ false → entries_left file d ≡ dynamic_count file (place d.cursor) d.cursor.left
+left-more file d e = rw e refl
+
+-- behind the last row none is left
+left-none : (file : List ℕ) (d : Entries) → d.ended ≡ false → d.cursor.left ≡ 0 → entries_left file d ≡ 0
+left-none file d e z = left-more file d e ∙ ap (dynamic_count file (place d.cursor)) z ∙ count-zero file (place d.cursor)
+
+-- the next entry stands behind the one that a step gives
+pub next-place : (file : Option (List ℕ)) (old new : Reading) → Gives file old new → old.table.entry ≡ 16 → place new ≡ place old + 16
+next-place file old new g e =
+    let next = g.next_index in
+    let moved : old.table.at + new.index * 16 ≡ old.table.at + old.index * 16 + 16 = omega arith in
+    ap (λ (t : Rows). t.at + new.index * t.entry) g.same_table ∙ ap (λ (x : ℕ). old.table.at + new.index * x) e ∙ moved
+    ∙ ap (λ (x : ℕ). old.table.at + old.index * x + 16) (sym e)
+
+one-less : (file : List ℕ) (old new : Entries) → old.ended ≡ false → new.ended ≡ (d_tag file (place old.cursor) == DT_NULL)
+    → new.cursor.left + 1 ≡ old.cursor.left → place new.cursor ≡ place old.cursor + 16 → entries_left file old ≡ suc (entries_left file new)
+one-less file old new e n l p =
+    let more : old.cursor.left ≡ suc new.cursor.left = omega arith in
+    left-more file old e ∙ ap (dynamic_count file (place old.cursor)) more ∙ go (d_tag file (place old.cursor) == DT_NULL) refl
+  where
+    go : (b : Bool) → (d_tag file (place old.cursor) == DT_NULL) ≡ b
+        → dynamic_count file (place old.cursor) (suc new.cursor.left) ≡ suc (entries_left file new)
+    go true t = count-null file (place old.cursor) new.cursor.left (is-same (d_tag file (place old.cursor)) DT_NULL t) ∙ ap suc (sym (left-ended file new (n ∙ t)))
+    go false t =
+        count-more file (place old.cursor) new.cursor.left (is-other (d_tag file (place old.cursor)) DT_NULL t)
+        ∙ ap suc (ap (λ (x : ℕ). dynamic_count file x new.cursor.left) (sym p) ∙ sym (left-more file new (n ∙ t)))
+
+-- a step over a row gives its entry
+pub gives-entry : (file : Option (List ℕ)) (old new : Entries) (b : Bool) → b ≡ true → Advances file old.cursor new.cursor (Ok b) → old.cursor.table.entry ≡ 16
+    → old.ended ≡ false → new.ended ≡ (d_tag new.cursor.row 0 == DT_NULL) → GivesEntry file old new
+gives-entry file old new false t s size e n = cc
+gives-entry file old new true t s size e n = record {
+  gives = s;
+  not_ended = e;
+  ends_with = n;
+  one_less = λ bytes h a.
+      let row : new.cursor.row ≡ slice bytes (place old.cursor) 16 = s.exact bytes h a ∙ ap (slice bytes (place old.cursor)) size in
+      let here : place old.cursor + 0 ≡ place old.cursor = omega arith in
+      let tag : d_tag new.cursor.row 0 ≡ d_tag bytes (place old.cursor) =
+      ap (λ (x : List ℕ). field x 0 8) row ∙ field-slice bytes (place old.cursor) 16 0 8 (omega arith) ∙ ap (λ (x : ℕ). field bytes x 8) here in
+      one-less bytes old new e (n ∙ ap (λ (x : ℕ). x == DT_NULL) tag) s.one_less (next-place file old.cursor new.cursor s size);
+}
+
+-- a step past the last row
+pub ends-entries : (file : Option (List ℕ)) (old : Entries) (later : Reading) (b : Bool) → b ≡ false → Advances file old.cursor later (Ok b) → old.ended ≡ false
+    → EndsEntries old (record { cursor = later; ended = old.ended })
+ends-entries file old later true t s e = cc
+ends-entries file old later false t s e = record {
+  unchanged = ap (λ (x : Reading). record { cursor = x; ended = old.ended }) s.unchanged;
+  not_failed = s.not_failed;
+  behind = inr s.none_left;
+  none_left = λ bytes. left-none bytes old e s.none_left;
+}
+
+here-some : (file : List ℕ) (at tag : ℕ) → (d_tag file at == tag) ≡ true → value_here file at tag ≡ Some (d_un file at)
+here-some file at tag t = rw (t, value_here) refl
+
+here-none : (file : List ℕ) (at tag : ℕ) → (d_tag file at == tag) ≡ false → value_here file at tag ≡ None
+here-none file at tag t = rw (t, value_here) refl
+
+-- the value of the first entry is its own, or that of those behind it
+value-suc : (file : List ℕ) (at n tag : ℕ) → first_value (value_here file at tag) (dynamic_value file (at + 16) n tag) ≡ dynamic_value file at (suc n) tag
+value-suc file at n tag = go (d_tag file at == tag) refl
+  where
+    go : (b : Bool) → (d_tag file at == tag) ≡ b → first_value (value_here file at tag) (dynamic_value file (at + 16) n tag) ≡ dynamic_value file at (suc n) tag
+    go true t = ap (λ (x : Option ℕ). first_value x (dynamic_value file (at + 16) n tag)) (here-some file at tag t) ∙ sym (value-here file at n tag (is-same (d_tag file at) tag t))
+    go false t = ap (λ (x : Option ℕ). first_value x (dynamic_value file (at + 16) n tag)) (here-none file at tag t) ∙ sym (value-more file at n tag (is-other (d_tag file at) tag t))
+
+-- a value that is looked for in the entry that a step gives, and then in those that are left
+pub value-step : (file : List ℕ) (old new : Entries) (tag : ℕ) (found : Option ℕ) → entries_left file old ≡ suc (entries_left file new)
+    → place new.cursor ≡ place old.cursor + 16
+    → first_value (first_value found (value_here file (place old.cursor) tag)) (dynamic_value file (place new.cursor) (entries_left file new) tag)
+    ≡ first_value found (dynamic_value file (place old.cursor) (entries_left file old) tag)
+value-step file old new tag (Some value) less next = refl
+value-step file old new tag None less next =
+    ap (λ (x : ℕ). first_value (value_here file (place old.cursor) tag) (dynamic_value file x (entries_left file new) tag)) next
+    ∙ value-suc file (place old.cursor) (entries_left file new) tag
+    ∙ ap (λ (n : ℕ). dynamic_value file (place old.cursor) n tag) (sym less)
+
+-- where no entry is left, a value is what was found
+pub value-end : (file : List ℕ) (d : Entries) (tag : ℕ) (found : Option ℕ) → entries_left file d ≡ 0
+    → first_value found (dynamic_value file (place d.cursor) (entries_left file d) tag) ≡ found
+value-end file d tag (Some value) z = refl
+value-end file d tag None z = ap (λ (n : ℕ). dynamic_value file (place d.cursor) n tag) z ∙ value-none file (place d.cursor) tag
+
+-- a step that answered an entry gave it
+pub given : (file : Option (List ℕ)) (old new : Entries) (b : Bool) → b ≡ true → AdvancesEntries file old new (Ok b) → GivesEntry file old new
+given file old new true t s = s
+given file old new false t s = cc
+
+-- a step that answered none ended
+pub ended : (file : Option (List ℕ)) (old new : Entries) (b : Bool) → b ≡ false → AdvancesEntries file old new (Ok b) → EndsEntries old new
+ended file old new false t s = s
+ended file old new true t s = cc

@@ -1,0 +1,3 @@
+pub mod EntriesLeft
+pub mod ShownNames
+pub mod Stepping

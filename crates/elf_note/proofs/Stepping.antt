@@ -1,0 +1,135 @@
+-- What a step over a window says of the notes that are left.
+use Rattle.std.proofs.Common.{◌≡◌, ℕ, ◌+◌, ◌-◌, ◌<◌, ◌≤◌, min, true, false, List, length, take, drop, Some, Ok, Err, ◌⊎◌, inl, inr, ap, sym, ◌∙◌, refl, arith, length-take, take-take}
+use Rattle.std.proofs.lemmas.Bool.{cases_lt}
+use Rattle.std.proofs.lemmas.List.{take_all}
+use Rattle.elf_model.specs.Bytes.{slice, field}
+use Rattle.elf_model.specs.Records.{n_namesz, n_descsz, n_type}
+use Rattle.elf_model.specs.Notes.{Note, Walk, are_zeros, first_note, first_end, to_next, descriptor_start, OneNote, note_shown, with_note}
+use Rattle.elf_model.proofs.Slices.{slice-size, slice-slice, slice-rest, field-slice}
+use Rattle.elf_model.proofs.Spellings.{next-ends, next-tails, next-past, next-found}
+use Rattle.elf_model.proofs.Walks.{walk, walk-ends, walk-broken, walk-found}
+use Rattle.elf_record.specs.NoteHead.{IsNoteHead}
+use Rattle.elf_record.specs.declared.note_head.NoteHead.{NoteHead}
+use Rattle.elf_table.specs.declared.fault.Fault.{Fault}
+use Rattle.elf_table.specs.declared.names.NameEnd.{NameEnd}
+use Rattle.elf_table.specs.Windows.{Ahead, left, range_end}
+use Rattle.elf_note.specs.NoteCursors.{rest, notes_left, no_notes, cut_at, NameIs, Tells, note_size}
+
+short : (file : List ℕ) (w : Ahead) → left w < 12 → length (rest file w) < 12
+short file w few = omega (arith, length-take (left w) (drop w.at file))
+
+-- zeros alone are left
+pub left-zeros : (a : ℕ) (file : List ℕ) (w : Ahead) → left w < 12 → are_zeros (rest file w) ≡ true → notes_left a file w ≡ no_notes
+left-zeros a file w few z = walk-ends a w.at (rest file w) (next-ends a (rest file w) (short file w few) z)
+
+-- too few bytes are left, and not all are zero
+pub left-few : (a : ℕ) (file : List ℕ) (w : Ahead) → left w < 12 → are_zeros (rest file w) ≡ false → notes_left a file w ≡ cut_at w.at
+left-few a file w few z = walk-broken a w.at (rest file w) (next-tails a (rest file w) (short file w few) z)
+
+-- the head of what is left is the note's
+record Heads (bytes : List ℕ) (head : NoteHead) : Type 0 where
+  name : n_namesz bytes 0 ≡ head.namesz
+  descriptor : n_descsz bytes 0 ≡ head.descsz
+  kind : n_type bytes 0 ≡ head.kind
+
+heads : (file : List ℕ) (at size : ℕ) (head : NoteHead) → 12 ≤ size → IsNoteHead file at head → Heads (slice file at size) head
+heads file at size head h s = record {
+  name = field-slice file at size 0 4 (omega arith) ∙ ap (λ (x : ℕ). field file x 4) (omega arith) ∙ sym s.namesz;
+  descriptor = field-slice file at size 4 4 (omega arith) ∙ sym s.descsz;
+  kind = field-slice file at size 8 4 (omega arith) ∙ sym s.kind;
+}
+
+end-is : (a : ℕ) (bytes : List ℕ) (head : NoteHead) → Heads bytes head → first_end a bytes ≡ descriptor_start a head.namesz head.descsz + head.descsz
+end-is a bytes head e = rw (e.name, e.descriptor) refl
+
+-- the note that the head says does not fit
+pub left-short : (a : ℕ) (file : List ℕ) (w : Ahead) (head : NoteHead) → IsNoteHead file w.at head → range_end w ≤ length file → 12 ≤ left w
+    → left w < descriptor_start a head.namesz head.descsz + head.descsz → notes_left a file w ≡ cut_at w.at
+left-short a file w head s ends h few =
+    let long : length (rest file w) ≡ left w = slice-size file w.at (left w) (omega arith) in
+    let e = end-is a (rest file w) head (heads file w.at (left w) head h s) in
+    walk-broken a w.at (rest file w) (next-past a (rest file w) (omega arith) (omega arith))
+
+-- a size within what is left, in its parts
+pub size-parts : (s t n : ℕ) → s ≤ n → min (s + t) n ≡ s + min t (n - s)
+size-parts s t n few = omega arith
+
+-- a note stands there
+pub left-found : (a : ℕ) (file : List ℕ) (old new : Ahead) (head : NoteHead) → IsNoteHead file old.at head → range_end old ≤ length file → 12 ≤ left old
+    → descriptor_start a head.namesz head.descsz + head.descsz ≤ left old → range_end new ≡ range_end old
+    → new.at ≡ old.at + note_size a head.namesz head.descsz (left old)
+    → notes_left a file old ≡ with_note (first_note a (rest file old)) (notes_left a file new)
+left-found a file old new head s ends h fits same moved =
+    let long : length (rest file old) ≡ left old = slice-size file old.at (left old) (omega arith) in
+    let e = end-is a (rest file old) head (heads file old.at (left old) head h s) in
+    let size : ℕ = note_size a head.namesz head.descsz (left old) in
+    let its : min (first_end a (rest file old) + to_next a (first_end a (rest file old))) (length (rest file old)) ≡ size = rw (e, long) refl in
+    let next = next-found a (rest file old) (omega arith) (omega arith) ∙ ap (OneNote (first_note a (rest file old))) its in
+    let behind : drop size (rest file old) ≡ rest file new =
+    slice-rest file old.at (left old) size (omega arith) ∙ ap (λ (x : ℕ). slice file x (left old - size)) (sym moved) ∙ ap (slice file new.at) (omega arith) in
+    walk-found a old.at (rest file old) (first_note a (rest file old)) size next
+    ∙ ap (λ (x : List ℕ). with_note (first_note a (rest file old)) (walk a (old.at + size) x)) behind
+    ∙ ap (λ (x : ℕ). with_note (first_note a (rest file old)) (walk a x (rest file new))) (sym moved)
+
+-- the first bytes of a front
+pub first-bytes : (file : List ℕ) (at size shown : ℕ) → shown ≡ min size 32 → take 32 (slice file at size) ≡ slice file at shown
+first-bytes file at size shown e = go (cases_lt size 32)
+  where
+    go : (size < 32) ⊎ (32 ≤ size) → take 32 (slice file at size) ≡ slice file at shown
+    go (inl few) =
+        let all : size ≡ shown = omega arith in
+        take_all 32 (slice file at size) (omega (arith, length-take size (drop at file))) ∙ ap (slice file at) all
+    go (inr more) =
+        let most : 32 ≡ shown = omega arith in
+        take-take 32 size (drop at file) more ∙ ap (slice file at) most
+
+pub found-tells : (file : List ℕ) (a cap : ℕ) (old new : Ahead) (head : NoteHead) (name_end : NameEnd) (name desc : List ℕ) (place desc_at shown : ℕ)
+    → place ≡ old.at → IsNoteHead file old.at head → range_end old ≤ length file → 12 ≤ left old
+    → descriptor_start a head.namesz head.descsz + head.descsz ≤ left old → range_end new ≡ range_end old
+    → new.at ≡ old.at + note_size a head.namesz head.descsz (left old)
+    → ((note : Note) → note.name ≡ slice file (old.at + 12) head.namesz → length note.name ≡ head.namesz → NameIs name_end name (note_shown cap note))
+    → desc_at ≡ old.at + descriptor_start a head.namesz head.descsz → shown ≡ min head.descsz 32 → take shown desc ≡ slice file desc_at shown
+    → Tells a cap old.at name desc (notes_left a file old) (notes_left a file new) (Ok (Some (record { at = place; head = head; name_end = name_end; desc_at = desc_at; shown = shown })))
+found-tells file a cap old new head name_end name desc place desc_at shown here s ends h fits same moved named da sh db =
+    let bytes : List ℕ = rest file old in
+    let long : length bytes ≡ left old = slice-size file old.at (left old) (omega arith) in
+    let e = heads file old.at (left old) head h s in
+    let start : ℕ = descriptor_start a head.namesz head.descsz in
+    let n1 : slice bytes 12 (n_namesz bytes 0) ≡ slice file (old.at + 12) head.namesz =
+    ap (slice bytes 12) e.name ∙ slice-slice file old.at (left old) 12 head.namesz (omega arith) in
+    let nl : length (slice bytes 12 (n_namesz bytes 0)) ≡ head.namesz = ap length n1 ∙ slice-size file (old.at + 12) head.namesz (omega arith) in
+    let d1 : slice bytes (descriptor_start a (n_namesz bytes 0) (n_descsz bytes 0)) (n_descsz bytes 0) ≡ slice file (old.at + start) head.descsz =
+    (rw (e.name, e.descriptor) refl) ∙ slice-slice file old.at (left old) start head.descsz (omega arith) in
+    let dl : length (first_note a bytes).descriptor ≡ head.descsz = ap length d1 ∙ slice-size file (old.at + start) head.descsz (omega arith) in (
+      first_note a bytes,
+      left-found a file old new head s ends h fits same moved,
+      record {
+        its_place = here;
+        namesz = sym nl;
+        descsz = sym dl;
+        kind = sym e.kind;
+        shown_name = named (first_note a bytes) n1 nl;
+        descriptor_at = rw (nl, dl) da;
+        first_bytes = db ∙ ap (λ (x : ℕ). slice file x shown) da ∙ sym (first-bytes file (old.at + start) head.descsz shown sh) ∙ ap (take 32) (sym d1);
+      },
+    )
+
+-- a refusal at the place tells of the cut
+pub tells-cut : (a cap at : ℕ) (name desc : List ℕ) (old new : Walk) (fault : Fault) → old ≡ cut_at at → Tells a cap at name desc old new (Err fault)
+tells-cut a cap at name desc old new fault e = λ f. e
+
+-- the places of a note's parts, one behind the other
+pub moved-by : (a at namesz descsz left behind place start moved : ℕ) → place ≡ at + descriptor_start a namesz descsz → start ≡ descriptor_start a namesz descsz
+    → descriptor_start a namesz descsz + descsz ≤ left → behind + descriptor_start a namesz descsz ≡ left
+    → moved ≡ place + descsz + min (to_next a (start + descsz)) (behind - descsz) → moved ≡ at + note_size a namesz descsz left
+moved-by a at namesz descsz left behind place start moved p s fits b m =
+    let size : ℕ = descriptor_start a namesz descsz + descsz in
+    let e : behind - descsz ≡ left - size = omega arith in
+    m ∙ ap (λ (x : ℕ). x + descsz + min (to_next a (start + descsz)) (behind - descsz)) p
+    ∙ ap (λ (x : ℕ). at + descriptor_start a namesz descsz + descsz + min (to_next a (x + descsz)) (behind - descsz)) s
+    ∙ ap (λ (x : ℕ). at + descriptor_start a namesz descsz + descsz + min (to_next a size) x) e
+    ∙ sum at (descriptor_start a namesz descsz) descsz (min (to_next a size) (left - size))
+    ∙ ap (λ (x : ℕ). at + x) (sym (size-parts size (to_next a size) left fits))
+  where
+    sum : (x y z w : ℕ) → x + y + z + w ≡ x + (y + z + w)
+    sum x y z w = omega arith

@@ -1,0 +1,64 @@
+-- What a cursor over dynamic entries gives, entry by entry.
+use Rattle.std.specs.Prelude.{ℕ, suc, ◌≡◌, ◌==◌, Bool, true, false, if◌then◌else◌, List, ◌⊎◌, Option, None, Some, Result, Ok, Err}
+use Rattle.elf_model.specs.Dynamic.{dynamic_count, listed_value}
+use Rattle.elf_model.specs.Numbers.{DT_NULL, DT_STRSZ, DT_STRTAB}
+use Rattle.elf_model.specs.Records.{d_tag, d_un}
+use Rattle.elf_table.specs.Cursors.{Reading, Agrees, Fails, Gives, Shows, place}
+use Rattle.elf_table.specs.Tables.{Rows}
+use Rattle.elf_table.specs.declared.fault.Fault.{Fault}
+use Rattle.elf_table.specs.declared.row.Row.{Row}
+use Rattle.elf_note.specs.declared.string_values.DynStrings.{DynStrings}
+
+-- a cursor over the rows of a table, and whether it has given the entry that ends them
+pub record Entries : Type 0 where
+  pub cursor : Reading
+  pub ended : Bool
+
+-- how many entries of a file a cursor still gives: those up to and with the first DT_NULL, or all
+abbrev pub entries_left : List ℕ → Entries → ℕ
+entries_left file d = if d.ended then 0 else dynamic_count file (place d.cursor) d.cursor.left
+
+-- a step that gives the next entry; it is the last where its tag is DT_NULL
+pub record GivesEntry (file : Option (List ℕ)) (old new : Entries) : Type 0 where
+  pub gives : Gives file old.cursor new.cursor
+  pub not_ended : old.ended ≡ false
+  pub ends_with : new.ended ≡ (d_tag new.cursor.row 0 == DT_NULL)
+  pub one_less : (bytes : List ℕ) → file ≡ Some bytes → Agrees bytes old.cursor → entries_left bytes old ≡ suc (entries_left bytes new)
+
+-- a step behind the last entry
+pub record EndsEntries (old new : Entries) : Type 0 where
+  pub unchanged : new ≡ old
+  pub not_failed : old.cursor.failed ≡ None
+  pub behind : (old.ended ≡ true) ⊎ (old.cursor.left ≡ 0)
+  pub none_left : (bytes : List ℕ) → entries_left bytes old ≡ 0
+
+-- a step that fails, as that of a cursor over rows does
+pub record FailsEntries (old new : Entries) (fault : Fault) : Type 0 where
+  pub fails : Fails old.cursor new.cursor fault
+  pub same_end : new.ended ≡ old.ended
+
+-- a step of a cursor, where it answers whether it gave an entry
+abbrev pub AdvancesEntries : Option (List ℕ) → Entries → Entries → Result Bool Fault → Type 0
+AdvancesEntries file old new (Ok true) = GivesEntry file old new
+AdvancesEntries file old new (Ok false) = EndsEntries old new
+AdvancesEntries file old new (Err fault) = FailsEntries old new fault
+
+-- a step of a cursor, where it answers the entry's row
+abbrev pub StepsEntries : Option (List ℕ) → Entries → Entries → Result (Option Row) Fault → Type 0
+StepsEntries file old new (Ok (Some row)) = GivesEntry file old new × Shows new.cursor row
+StepsEntries file old new (Ok None) = EndsEntries old new
+StepsEntries file old new (Err fault) = FailsEntries old new fault
+
+-- a value, or another where there is none
+abbrev pub first_value : Option ℕ → Option ℕ → Option ℕ
+first_value (Some value) other = Some value
+first_value None other = other
+
+-- the value of the entry at an offset, where it has a tag
+abbrev pub value_here : List ℕ → ℕ → ℕ → Option ℕ
+value_here file at tag = elim (d_tag file at == tag) [ true ↦ Some (d_un file at) | false ↦ None ]
+
+-- the values that tell where a string table is, of the entries of a table that are listed
+pub record AreStrings (file : List ℕ) (table : Rows) (found : DynStrings) : Type 0 where
+  pub its_address : found.address ≡ listed_value file table.at table.count DT_STRTAB
+  pub its_size : found.size ≡ listed_value file table.at table.count DT_STRSZ

@@ -1,0 +1,2 @@
+pub mod DynCursors
+pub mod NoteCursors

@@ -1,0 +1,132 @@
+-- What a cursor over notes gives, note by note.
+use Rattle.std.specs.Prelude.{ℕ, ◌≡◌, ◌+◌, ◌^◌, ◌<◌, ◌≤◌, min, suc, Bool, true, false, List, [], length, take, ◌⊎◌, Option, None, Some, Result, Ok, Err}
+use Rattle.elf_model.specs.Bytes.{slice}
+use Rattle.elf_model.specs.Lines.{SHOWN_DESCRIPTOR}
+use Rattle.elf_model.specs.Names.{Shown}
+use Rattle.elf_model.specs.Names.Shown.{Whole as ShownWhole, Cut as ShownCut}
+use Rattle.elf_model.specs.Notes.{Note, Walk, walk_from, with_note, descriptor_start, to_next, note_shown}
+use Rattle.elf_model.specs.declared.causes.Cause.TheVariants.{NoteCut}
+use Rattle.elf_table.specs.Faults.{IsOfRead}
+use Rattle.elf_table.specs.Tables.{Rows}
+use Rattle.elf_table.specs.Windows.{Ahead, Agrees, AgreesWith, Moves, left}
+use Rattle.elf_table.specs.declared.fault.Fault.{Fault}
+use Rattle.elf_table.specs.declared.fault.Fault.TheVariants.{Refused}
+use Rattle.elf_table.specs.declared.names.NameEnd.{NameEnd}
+use Rattle.elf_table.specs.declared.names.NameEnd.TheVariants.{Whole, Cut}
+use Rattle.elf_note.specs.declared.note.Found.{Found}
+use Rattle.elf_note.specs.declared.row.NoteRow.{NoteRow}
+
+-- a cursor: its table, the alignment of its notes, the bytes of the table that are left, the note that it shows with the
+-- first bytes of its descriptor, and the fault where it failed
+pub record Reading : Type 0 where
+  pub table : Rows
+  pub align : ℕ
+  pub ahead : Ahead
+  pub found : Found
+  pub descriptor : List ℕ
+  pub failed : Option Fault
+
+-- the bytes of a file that are left
+abbrev pub rest : List ℕ → Ahead → List ℕ
+rest file w = slice file w.at (left w)
+
+-- the notes of some bytes from an offset on, up to the offset where they are cut, if they are
+abbrev pub notes_from : ℕ → ℕ → List ℕ → Walk
+notes_from a at bytes = walk_from a (suc (length bytes)) at bytes
+
+-- the notes that are left
+abbrev pub notes_left : ℕ → List ℕ → Ahead → Walk
+notes_left a file w = notes_from a w.at (rest file w)
+
+-- no note is left
+abbrev pub no_notes : Walk
+no_notes = record { notes = []; cut = None }
+
+-- no note is left, and what is left at an offset is none
+abbrev pub cut_at : ℕ → Walk
+cut_at at = record { notes = []; cut = Some at }
+
+-- the fault that refuses a table of notes at an offset
+abbrev pub note_cut : ℕ → Fault
+note_cut at = Refused (record { at = at; cause = NoteCut })
+
+-- what a step fails with: a fault of a read, or the refusal of what is left
+abbrev pub Stops : ℕ → Fault → Type 0
+Stops at fault = IsOfRead fault ⊎ (fault ≡ note_cut at)
+
+-- bytes are a name as it is shown
+abbrev pub NameIs : NameEnd → List ℕ → Shown → Type 0
+NameIs Whole bytes shown = shown ≡ ShownWhole bytes
+NameIs Cut bytes shown = shown ≡ ShownCut bytes
+
+-- how many bytes a note takes of those that are left, for the sizes of its name and its descriptor
+abbrev pub note_size : ℕ → ℕ → ℕ → ℕ → ℕ
+note_size a namesz descsz left =
+    let size = descriptor_start a namesz descsz + descsz in
+    min (size + to_next a size) left
+
+-- a note at an offset as it is found, with its name as it is shown and the first bytes of its descriptor
+pub record IsFound (a cap at : ℕ) (note : Note) (found : Found) (name descriptor : List ℕ) : Type 0 where
+  pub its_place : found.at ≡ at
+  pub namesz : found.head.namesz ≡ length note.name
+  pub descsz : found.head.descsz ≡ length note.descriptor
+  pub kind : found.head.kind ≡ note.kind
+  pub shown_name : NameIs found.name_end name (note_shown cap note)
+  pub descriptor_at : found.desc_at ≡ at + descriptor_start a (length note.name) (length note.descriptor)
+  pub first_bytes : descriptor ≡ take SHOWN_DESCRIPTOR note.descriptor
+
+-- the notes that were left are a note, as it is found, and those that are left
+abbrev pub GivesNote : ℕ → ℕ → ℕ → List ℕ → List ℕ → Walk → Walk → Found → Type 0
+GivesNote a cap at name descriptor old new found = (note : Note) × (old ≡ with_note note new) × IsFound a cap at note found name descriptor
+
+-- what a step over the next note says of the notes that were left and are left
+abbrev pub Tells : ℕ → ℕ → ℕ → List ℕ → List ℕ → Walk → Walk → Result (Option Found) Fault → Type 0
+Tells a cap at name bytes old new (Ok (Some found)) = GivesNote a cap at name (take found.shown bytes) old new found
+Tells a cap at name bytes old new (Ok None) = old ≡ no_notes
+Tells a cap at name bytes old new (Err fault) = fault ≡ note_cut at → old ≡ cut_at at
+
+-- a note takes at least its head, and at the end nothing is left
+abbrev pub Passes : ℕ → ℕ → Option Found → Type 0
+Passes before after (Some found) = (after + 12 ≤ before) × (found.at + 12 < 2 ^ 64) × (found.shown ≤ 32)
+Passes before after None = after ≡ 0
+
+-- where a step leaves a cursor: behind a note, at the end, or failed
+abbrev pub Leaves : Reading → Reading → Result Bool Fault → Type 0
+Leaves old new (Ok true) = (old.failed ≡ None) × (new.failed ≡ None) × (left new.ahead + 12 ≤ left old.ahead)
+Leaves old new (Ok false) = (old.failed ≡ None) × (new.failed ≡ None) × (left new.ahead ≡ 0)
+Leaves old new (Err fault) = (new.failed ≡ Some fault) × (old.failed ≡ None → Stops old.ahead.at fault)
+
+-- what a step of a cursor says of a file's notes: those that were left are the one that it shows now and those that are
+-- left; or none; or they are cut here
+abbrev pub StepTells : List ℕ → ℕ → Reading → Reading → List ℕ → Result Bool Fault → Type 0
+StepTells file cap old new name (Ok true) =
+    GivesNote old.align cap old.ahead.at name new.descriptor (notes_left old.align file old.ahead) (notes_left old.align file new.ahead) new.found
+StepTells file cap old new name (Ok false) = notes_left old.align file old.ahead ≡ no_notes
+StepTells file cap old new name (Err fault) = old.failed ≡ None → fault ≡ note_cut old.ahead.at → notes_left old.align file old.ahead ≡ cut_at old.ahead.at
+
+-- what every step keeps, fault or not
+pub record Keeps (old new : Reading) (before after : ℕ) : Type 0 where
+  pub same_table : new.table ≡ old.table
+  pub same_align : new.align ≡ old.align
+  pub moves : Moves old.ahead new.ahead before after
+
+-- a step of a cursor, where it answers whether it gave a note
+pub record Advances (file : Option (List ℕ)) (cap : ℕ) (old new : Reading) (name : List ℕ) (result : Result Bool Fault) : Type 0 where
+  pub leaves : Leaves old new result
+  pub agrees : AgreesWith file old.ahead new.ahead
+  pub tells : (bytes : List ℕ) → file ≡ Some bytes → Agrees bytes old.ahead → StepTells bytes cap old new name result
+
+-- the note that a cursor holds, as it shows it
+pub record Shows (c : Reading) (row : NoteRow) : Type 0 where
+  pub its_place : row.at ≡ c.found.at
+  pub its_head : row.head ≡ c.found.head
+  pub its_name : row.name_at ≡ c.found.at + 12
+  pub its_end : row.name_end ≡ c.found.name_end
+  pub its_descriptor : row.desc_at ≡ c.found.desc_at
+  pub its_bytes : row.desc.now ≡ c.descriptor
+
+-- the same, where it answers the note
+abbrev pub Steps : Option (List ℕ) → ℕ → Reading → Reading → List ℕ → Result (Option NoteRow) Fault → Type 0
+Steps file cap old new name (Ok (Some row)) = Advances file cap old new name (Ok true) × Shows new row
+Steps file cap old new name (Ok None) = Advances file cap old new name (Ok false)
+Steps file cap old new name (Err fault) = Advances file cap old new name (Err fault)

@@ -1,0 +1,19 @@
+//! Notes and dynamic entries, read from their tables one after the other.
+#![tactic(auto)]
+
+mod buffers;
+mod cursor;
+mod dynamic;
+mod naming;
+mod note;
+mod row;
+mod sizes;
+mod string_values;
+mod tail;
+mod taking;
+
+pub use buffers::BUFFER_BYTES;
+pub use cursor::NoteCursor;
+pub use dynamic::{DynCursor, dynamic_rows};
+pub use row::NoteRow;
+pub use string_values::{DynStrings, dynamic_strings};

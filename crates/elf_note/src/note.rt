@@ -1,0 +1,137 @@
+//! The next note of a window.
+ghost use Rattle.std.specs.Prelude.{◌≡◌, ℕ, ◌+◌, ◌-◌, ◌^◌, ◌<◌, ◌≤◌, List, length, min};
+ghost use Rattle.std.specs.Prelude.{Some, IfErr, OnOk, IfOk};
+ghost use Rattle.elf_model.specs.Bytes.{slice};
+ghost use Rattle.elf_model.specs.Notes.{to_next};
+ghost use Rattle.elf_source.specs.Source.{Reads};
+ghost use Rattle.elf_table.specs.Faults.{IsOfRead, Says};
+ghost use Rattle.elf_table.specs.Windows.{Agrees, AgreesWith, IsWithin, Moves, left};
+ghost use Rattle.elf_note.specs.NoteCursors.{Passes, Stops, Tells, notes_left, note_cut};
+
+use crate::naming::read_name;
+use crate::sizes::{gap_between, padding};
+use crate::tail::ends_in_zeros;
+use crate::taking::take;
+use elf_record::{Cause, NoteHead, Refusal};
+use elf_source::{Counted, Source};
+use elf_table::{Cap, Fault, NameBuf, NameEnd, WINDOW_BYTES, Window};
+
+/// The size of a note's head in bytes.
+pub(crate) const HEAD_BYTES: usize = 12;
+/// How many bytes of a descriptor are shown.
+pub(crate) const SHOWN_DESCRIPTOR: usize = 32;
+
+/// What is known of a note beside its name and its descriptor.
+#[derive(Clone, Copy)]
+pub(crate) struct Found {
+    /// The file offset of its head.
+    pub(crate) at: u64,
+    /// Its head.
+    pub(crate) head: NoteHead,
+    /// How its name ends.
+    pub(crate) name_end: NameEnd,
+    /// The file offset of its descriptor.
+    pub(crate) desc_at: u64,
+    /// How many bytes of its descriptor are shown.
+    pub(crate) shown: u64,
+}
+
+/// Goes over the next note with its padding. Its name is then in `name`, and the first bytes of its
+/// descriptor are in `desc`. None where only zero bytes are left, fewer than 12.
+///
+/// # Errors
+/// Refused with `NoteCut` at the note's offset where no note stands there. Else a fault of a read.
+pub(crate) fn next_note<S: Source>(
+    window: &mut Window<WINDOW_BYTES>,
+    src: &mut Counted<S>,
+    align: u64,
+    cap: Cap,
+    name: &mut NameBuf,
+    desc: &mut [u8; SHOWN_DESCRIPTOR],
+) -> Result<Option<Found>, Fault>
+    requires aligned { 0 < align }
+    requires small { align ≤ 8 }
+    requires page { 32 ≤ window.old.page }
+    requires within { IsWithin src.old.seen.size window.old }
+    ensures reads { Reads src.old src.new window.old.unread }
+    ensures says { IfErr result (Says src.old src.new window.old.unread) }
+    ensures stops { IfErr result (Stops window.old.at) }
+    ensures moves { Moves window.old window.new src.old.asked src.new.asked }
+    ensures passes { IfOk result (Passes (left window.old) (left window.new)) }
+    ensures agrees { AgreesWith src.old.seen.file window.old window.new }
+    ensures tells { (file : List ℕ) → src.old.seen.file ≡ Some file → Agrees file window.old →
+        Tells align cap.bytes window.old.at name.new desc.new
+        (notes_left align file window.old) (notes_left align file window.new) result }
+{
+    let at = window.at();
+    if window.left() < HEAD_BYTES as u64 {
+        if ends_in_zeros(window, src)? {
+            return Ok(None);
+        }
+        return Err(cut(at));
+    }
+    let mut bytes = [0; HEAD_BYTES];
+    take(window, src, &mut bytes)?;
+    let head = NoteHead::decode(&bytes);
+    let gap = gap_between(align, head.namesz, head.descsz);
+    if window.left() < u64::from(head.namesz) + gap + u64::from(head.descsz) {
+        return Err(cut(at));
+    }
+    let name_end = read_name(window, src, u64::from(head.namesz), cap, name)?;
+    window.skip(gap);
+    let desc_at = window.at();
+    let shown = u64::from(head.descsz).min(SHOWN_DESCRIPTOR as u64);
+    let first = &mut desc[..shown as usize];
+    read_rest(window, src, align, desc_at - at, head.descsz, first)?;
+    Ok(Some(Found {
+        at,
+        head,
+        name_end,
+        desc_at,
+        shown,
+    }))
+}
+
+// Reads the first bytes of a descriptor, which stands so far behind its note's start, and passes
+// over the others and the padding.
+fn read_rest<S: Source>(
+    window: &mut Window<WINDOW_BYTES>,
+    src: &mut Counted<S>,
+    align: u64,
+    start: u64,
+    size: u32,
+    desc: &mut [u8],
+) -> Result<(), Fault>
+    requires aligned { 0 < align }
+    requires few { length desc.old ≤ 32 }
+    requires page { 32 ≤ window.old.page }
+    requires part { length desc.old ≤ size }
+    requires enough { size ≤ left window.old }
+    requires ends { start + size < 2 ^ 64 }
+    requires within { IsWithin src.old.seen.size window.old }
+    ensures reads { Reads src.old src.new window.old.unread }
+    ensures says { IfErr result (Says src.old src.new window.old.unread) }
+    ensures fault { IfErr result IsOfRead }
+    ensures moves { Moves window.old window.new src.old.asked src.new.asked }
+    ensures at { OnOk result (window.new.at
+        ≡ window.old.at + size + min (to_next align (start + size)) (left window.old - size)) }
+    ensures agrees { AgreesWith src.old.seen.file window.old window.new }
+    ensures read { (file : List ℕ) → src.old.seen.file ≡ Some file → Agrees file window.old →
+        OnOk result (desc.new ≡ slice file window.old.at (length desc.old)) }
+{
+    take(window, src, desc)?;
+    window.skip(u64::from(size) - desc.len() as u64);
+    let padding = padding(align, start + u64::from(size), window.left());
+    window.skip(padding);
+    Ok(())
+}
+
+// The fault that refuses a table of notes at an offset.
+fn cut(at: u64) -> Fault
+    ensures { result ≡ note_cut at }
+{
+    Fault::Refused(Refusal {
+        at,
+        cause: Cause::NoteCut,
+    })
+}

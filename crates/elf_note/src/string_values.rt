@@ -1,0 +1,61 @@
+//! Where dynamic entries say that their string table is.
+ghost use Rattle.std.specs.Prelude.{◌≡◌, ℕ, List, Some, Option, IfErr, IfOk};
+ghost use Rattle.elf_model.specs.Numbers.{DT_STRSZ, DT_STRTAB};
+ghost use Rattle.elf_model.specs.Records.{d_tag, d_un};
+ghost use Rattle.elf_record.specs.Dyn.{IsDyn};
+ghost use Rattle.elf_source.specs.Source.{Reads};
+ghost use Rattle.elf_table.specs.Faults.{IsOfRead, Says};
+ghost use Rattle.elf_table.specs.Tables.{RowsWithin, size_of};
+ghost use Rattle.elf_note.specs.DynCursors.{AreStrings, first_value, value_here};
+
+use crate::dynamic::{dynamic_rows, entry_in};
+use elf_record::Dyn;
+use elf_record::numbers::{DT_STRSZ, DT_STRTAB};
+use elf_source::{Counted, Source};
+use elf_table::{Fault, Table};
+
+/// Where the string table of dynamic entries is in memory, as they say (gABI 5, Dynamic Section).
+#[derive(Clone, Copy, Debug, PartialEq, Eq)]
+pub struct DynStrings {
+    /// Its virtual address, the value of the first DT_STRTAB, if there is one.
+    pub address: Option<u64>,
+    /// Its size in bytes, the value of the first DT_STRSZ, if there is one.
+    pub size: Option<u64>,
+}
+
+/// Goes over the dynamic entries of a table, whose rows have 16 bytes, up to and with the first
+/// DT_NULL, and answers where they say that their string table is. It asks for each byte of the
+/// table at most once.
+///
+/// # Errors
+/// A fault of a read, or a refusal for want of budget, at an entry's offset.
+pub fn dynamic_strings<S: Source>(table: Table, src: &mut Counted<S>) -> Result<DynStrings, Fault>
+    requires rows { table.entry ≡ 16 }
+    requires within { RowsWithin src.old.seen.size table }
+    ensures reads { Reads src.old src.new (size_of table) }
+    ensures says { IfErr result (Says src.old src.new (size_of table)) }
+    ensures fault { IfErr result IsOfRead }
+    ensures values { (file : List ℕ) → src.old.seen.file ≡ Some file →
+        IfOk result (AreStrings file table) }
+{
+    let mut address: Option<u64> = None;
+    let mut size: Option<u64> = None;
+    let mut cursor = dynamic_rows(table);
+    'entries: while cursor.advance(src)? {
+        let entry = entry_in(&cursor.row());
+        address = first_of(address, DT_STRTAB, &entry);
+        size = first_of(size, DT_STRSZ, &entry);
+    }
+    Ok(DynStrings { address, size })
+}
+
+// A value that was found, or that of an entry where it has the tag.
+fn first_of(found: Option<u64>, tag: u64, entry: &Dyn) -> Option<u64>
+    ensures { (file : List ℕ) (at : ℕ) → IsDyn file at entry.now →
+        result ≡ first_value found (value_here file at tag) }
+{
+    if found.is_none() && entry.d_tag.cast_unsigned() == tag {
+        return Some(entry.d_un);
+    }
+    found
+}

@@ -1,0 +1,44 @@
+//! The end of a table of notes.
+ghost use Rattle.std.specs.Prelude.{◌≡◌, ℕ, ◌≤◌, List, Some, IfErr, OnOk, IfOk};
+ghost use Rattle.elf_model.specs.Notes.{are_zeros};
+ghost use Rattle.elf_source.specs.Source.{Reads};
+ghost use Rattle.elf_table.specs.Faults.{IsOfRead, Says};
+ghost use Rattle.elf_table.specs.Windows.{Agrees, AgreesWith, IsWithin, Moves, left};
+ghost use Rattle.elf_note.specs.NoteCursors.{rest};
+
+use elf_source::{Counted, Source};
+use elf_table::{Fault, WINDOW_BYTES, Window};
+
+/// Whether all bytes that are left are zero, which are no more than the window holds. They are
+/// passed over.
+///
+/// # Errors
+/// A fault of a read.
+pub(crate) fn ends_in_zeros<S: Source>(
+    window: &mut Window<WINDOW_BYTES>,
+    src: &mut Counted<S>,
+) -> Result<bool, Fault>
+    requires few { left window.old ≤ window.old.page }
+    requires within { IsWithin src.old.seen.size window.old }
+    ensures reads { Reads src.old src.new window.old.unread }
+    ensures says { IfErr result (Says src.old src.new window.old.unread) }
+    ensures fault { IfErr result IsOfRead }
+    ensures moves { Moves window.old window.new src.old.asked src.new.asked }
+    ensures passed { OnOk result (left window.new ≡ 0) }
+    ensures agrees { AgreesWith src.old.seen.file window.old window.new }
+    ensures zeros { (file : List ℕ) → src.old.seen.file ≡ Some file → Agrees file window.old →
+        IfOk result (λ zeros. zeros ≡ are_zeros (rest file window.old)) }
+{
+    let left = window.left();
+    window.bring(src, left)?;
+    let zeros = are_zeros(window.front());
+    window.skip(left);
+    Ok(zeros)
+}
+
+// Whether all bytes are zero.
+fn are_zeros(bytes: &[u8]) -> bool
+    ensures { result ≡ are_zeros bytes.now }
+{
+    bytes.iter().all(|byte| *byte == 0)
+}

@@ -1,0 +1,57 @@
+-- A loaded file in the segment view, and what it tells of its segments.
+use Rattle.std.specs.Prelude.{ℕ, ◌≡◌, ◌+◌, ◌*◌, ◌/◌, List, [], ◌∷◌, length, Result}
+use Rattle.elf_model.specs.Checks.{refuse, is_outside}
+use Rattle.elf_model.specs.Records.{p_offset, p_filesz, segment_at}
+use Rattle.elf_model.specs.Segments.{segment_dynamic_checks_of, mapped_checks, mapped_place}
+use Rattle.elf_model.specs.declared.causes.Cause.TheVariants.{TableOutside}
+use Rattle.elf_record.specs.declared.ehdr.Ehdr.{Ehdr}
+use Rattle.elf_table.specs.Load.{Opened, Belongs}
+use Rattle.elf_table.specs.Sections.{checked, rows, strings}
+use Rattle.elf_table.specs.Store.{Stored, HoldsSegments, segment_row}
+use Rattle.elf_table.specs.Tables.{Rows, Strings}
+use Rattle.elf_table.specs.declared.fault.Fault.{Fault}
+use Rattle.elf_table.specs.declared.segment_view.SegmentView.{SegmentView}
+
+-- this file was loaded, and the store holds its program headers
+pub record Views (file : List ℕ) (loaded : Opened) (store : Stored) : Type 0 where
+  pub belongs : Belongs file loaded store
+  pub count : store.segments ≡ loaded.header.e_phnum
+  pub rows : HoldsSegments file store
+
+-- an answer for a segment is what the file that is viewed has at its program header
+abbrev pub TellsSegment : {A : Type 0} → SegmentView → ℕ → A → (List ℕ → ℕ → A) → Type 0
+TellsSegment v segment answer has =
+    (file : List ℕ) → Views file v.loaded v.store.now → answer ≡ has file (segment_at file segment)
+
+-- the file offset of the program header of an index
+abbrev pub segment_place : Ehdr → ℕ → ℕ
+segment_place header i = header.e_phoff + 56 * i
+
+-- the dynamic entries of a segment whose program header stands at an offset of some bytes, in a file of so many bytes;
+-- the refusals name a place
+abbrev pub dynamic_of : List ℕ → ℕ → ℕ → ℕ → Result Rows Fault
+dynamic_of bytes at file_size place =
+    checked (segment_dynamic_checks_of bytes at file_size place) (rows (p_offset bytes at) (p_filesz bytes at / 16) 16)
+
+-- those of a segment of the file
+abbrev pub dynamic_at : List ℕ → ℕ → Result Rows Fault
+dynamic_at file at = dynamic_of file at (length file) at
+
+-- those of a segment, by its program header in the store
+abbrev pub dynamic_in : SegmentView → ℕ → Result Rows Fault
+dynamic_in v segment =
+    dynamic_of (segment_row v.store.now segment) 0 v.loaded.size (segment_place v.loaded.header segment)
+
+-- how many bytes a segment has in the file, by its program header in the store
+abbrev pub filesz_in : SegmentView → ℕ → ℕ
+filesz_in v segment = p_filesz (segment_row v.store.now segment) 0
+
+-- a string table of so many bytes at a place of a file of so many bytes; the refusal names a program header
+abbrev pub strings_placed : ℕ → ℕ → ℕ → ℕ → Result Strings Fault
+strings_placed file_size header place size =
+    checked (refuse (is_outside file_size place size) header TableOutside ∷ []) (strings place size)
+
+-- the string table of so many bytes at an address, which an entry gives
+abbrev pub strings_mapped : List ℕ → ℕ → ℕ → ℕ → Result Strings Fault
+strings_mapped file address size entry =
+    checked (mapped_checks file address size entry) (strings (mapped_place file address size) size)

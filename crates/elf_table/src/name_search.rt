@@ -1,0 +1,58 @@
+//! The search for the NUL that ends a name.
+ghost use Rattle.std.specs.Prelude.{◌≡◌, ℕ, ◌+◌, ◌<◌, ◌≤◌, List, [], Some, IfErr, OnOk};
+ghost use Rattle.elf_model.specs.Bytes.{slice};
+ghost use Rattle.elf_source.specs.Source.{Reads};
+ghost use Rattle.elf_table.specs.Faults.{IsOfRead, Says};
+ghost use Rattle.elf_table.specs.NamesRead.{Searched};
+ghost use Rattle.elf_table.specs.Windows.{Agrees, AgreesWith, IsWithin, Moves, left};
+
+use crate::caps::Cap;
+use crate::fault::Fault;
+use crate::name_buf::NameBuf;
+use crate::window::Window;
+use elf_source::{Counted, Source};
+use memchr::memchr;
+
+/// Goes over the next `want` bytes of a window, or fewer up to the first NUL, and adds those before
+/// it to `name`, which is empty, as far as `cap`. Answers whether there is a NUL. The window then
+/// stands somewhere in those bytes, or behind them.
+///
+/// # Errors
+/// A fault of a read, or a refusal for want of budget, at the first byte that was not asked for.
+pub fn search_name<S: Source, const N: usize>(
+    window: &mut Window<N>,
+    src: &mut Counted<S>,
+    want: u64,
+    cap: Cap,
+    name: &mut NameBuf,
+) -> Result<bool, Fault>
+    requires empty { name.old ≡ [] }
+    requires enough { want ≤ left window.old }
+    requires some { 0 < window.old.page }
+    requires within { IsWithin src.old.seen.size window.old }
+    ensures reads { Reads src.old src.new window.old.unread }
+    ensures says { IfErr result (Says src.old src.new window.old.unread) }
+    ensures fault { IfErr result IsOfRead }
+    ensures moves { Moves window.old window.new src.old.asked src.new.asked }
+    ensures inside { OnOk result (window.new.at ≤ window.old.at + want) }
+    ensures agrees { AgreesWith src.old.seen.file window.old window.new }
+    ensures searched { (file : List ℕ) → src.old.seen.file ≡ Some file →
+        Agrees file window.old →
+        Searched (slice file window.old.at want) cap.bytes result name.new }
+{
+    let mut done: u64 = 0;
+    while done < want {
+        window.bring(src, 1)?;
+        let front = window.front();
+        let count = (front.len() as u64).min(want - done);
+        let piece = &front[..count as usize];
+        if let Some(place) = memchr(0, piece) {
+            name.add(&piece[..place], cap);
+            return Ok(true);
+        }
+        name.add(piece, cap);
+        window.skip(count);
+        done += count;
+    }
+    Ok(false)
+}

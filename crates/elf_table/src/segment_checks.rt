@@ -1,0 +1,73 @@
+//! The checks of one segment by its program header.
+ghost use Rattle.std.specs.Prelude.{◌≡◌, ℕ, ◌≤◌, List, IfOk, IfErr, true};
+ghost use Rattle.elf_model.specs.Segments.{is_mapped_by, mapped_offset};
+ghost use Rattle.elf_record.specs.Phdr.{IsPhdr};
+ghost use Rattle.elf_table.specs.Faults.{IsOfCheck};
+ghost use Rattle.elf_table.specs.Tables.{RowsWithin, StringsWithin, size_of};
+ghost use Rattle.elf_table.specs.Views.{dynamic_of, strings_placed};
+
+use crate::checks::refused;
+use crate::fault::Fault;
+use crate::names::Names;
+use crate::ranges::{DYNAMIC_BYTES, ends_outside};
+use crate::table::Table;
+use elf_record::numbers::PT_LOAD;
+use elf_record::{Cause, Phdr};
+
+/// The segment as a table of dynamic entries, in a file of `size` bytes. Refusals name `place`.
+pub(crate) fn checked_dynamic(header: &Phdr, size: u64, place: u64) -> Result<Table, Fault>
+    ensures value { (bytes : List ℕ) (at : ℕ) → IsPhdr bytes at header.now →
+        result ≡ dynamic_of bytes at size place }
+    ensures within { IfOk result (RowsWithin size) }
+    ensures entry { IfOk result (λ table. table.entry ≡ 16) }
+    ensures sized { IfOk result (λ table. size_of table ≡ header.now.p_filesz) }
+    ensures refusal { IfErr result IsOfCheck }
+{
+    if header.p_filesz == 0 {
+        return Ok(Table::new(header.p_offset, 0, DYNAMIC_BYTES));
+    }
+    if header.p_filesz % DYNAMIC_BYTES != 0 {
+        return refused(place, Cause::SizeNotWhole);
+    }
+    if ends_outside(size, header.p_offset, header.p_filesz) {
+        return refused(place, Cause::TableOutside);
+    }
+    let count = header.p_filesz / DYNAMIC_BYTES;
+    Ok(Table::new(header.p_offset, count, DYNAMIC_BYTES))
+}
+
+/// Whether the segment is a LOAD segment whose bytes in the file hold the `size` bytes from the
+/// address `address` on (gABI 5, Program Loading). The sums are whole numbers.
+pub(crate) fn maps(header: &Phdr, address: u64, size: u64) -> bool
+    ensures value { (bytes : List ℕ) (at : ℕ) → IsPhdr bytes at header.now →
+        result ≡ is_mapped_by bytes at address size }
+    ensures above { result ≡ true → header.now.p_vaddr ≤ address }
+{
+    let end = u128::from(header.p_vaddr) + u128::from(header.p_filesz);
+    header.p_type == PT_LOAD
+        && header.p_vaddr <= address
+        && u128::from(address) + u128::from(size) <= end
+}
+
+/// The string table of `bytes` bytes at an address that the segment holds, in a file of `size`
+/// bytes. A refusal names `place`.
+pub(crate) fn checked_mapped(
+    header: &Phdr,
+    size: u64,
+    place: u64,
+    address: u64,
+    bytes: u64,
+) -> Result<Names, Fault>
+    requires { header.now.p_vaddr ≤ address }
+    ensures value { (file : List ℕ) (at : ℕ) → IsPhdr file at header.now →
+        result ≡ strings_placed size place (mapped_offset file at address) bytes }
+    ensures within { IfOk result (StringsWithin size) }
+    ensures sized { IfOk result (λ names. names.size ≡ bytes) }
+    ensures refusal { IfErr result IsOfCheck }
+{
+    let offset = u128::from(header.p_offset) + u128::from(address - header.p_vaddr);
+    if offset + u128::from(bytes) > u128::from(size) {
+        return refused(place, Cause::TableOutside);
+    }
+    Ok(Names::new(offset as u64, bytes))
+}

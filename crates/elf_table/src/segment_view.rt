@@ -1,0 +1,15 @@
+//! A loaded file in the segment view.
+ghost use Rattle.std.specs.Prelude.{◌≡◌};
+
+use crate::loaded::Loaded;
+use crate::store::HeaderStore;
+
+/// A loaded file in the segment view: with the store that holds its program headers.
+#[derive(Clone, Copy)]
+pub struct SegmentView<'a> {
+    /// The file.
+    pub loaded: Loaded,
+    /// The program headers.
+    pub store: &'a HeaderStore,
+    pub ghost whole: { store.now.segments ≡ loaded.header.e_phnum },
+}

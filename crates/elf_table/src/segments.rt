@@ -1,0 +1,107 @@
+//! The checks of the segments of a file in the segment view.
+ghost use Rattle.std.specs.Prelude.{◌≡◌, ◌≤◌, ◌<◌, ℕ, List, IfOk, IfErr, IfSome};
+ghost use Rattle.std.specs.Option.{option_map};
+ghost use Rattle.elf_model.specs.Records.{p_vaddr, segment_at};
+ghost use Rattle.elf_model.specs.Segments.{mapped_at};
+ghost use Rattle.elf_record.specs.Phdr.{IsPhdr};
+ghost use Rattle.elf_table.specs.Faults.{IsOfCheck};
+ghost use Rattle.elf_table.specs.Store.{segment_row};
+ghost use Rattle.elf_table.specs.Tables.{RowsWithin, StringsWithin, size_of};
+ghost use Rattle.elf_table.specs.Views.{Views, TellsSegment, dynamic_at, dynamic_in, filesz_in};
+ghost use Rattle.elf_table.specs.Views.{segment_place, strings_mapped};
+
+use crate::checks::refused;
+use crate::fault::Fault;
+use crate::names::Names;
+use crate::ranges::PROGRAM_HEADER_BYTES;
+use crate::segment_checks::{checked_dynamic, checked_mapped, maps};
+use crate::segment_view::SegmentView;
+use crate::table::Table;
+use elf_record::{Cause, Phdr};
+
+impl SegmentView<'_> {
+    /// How many program headers there are.
+    pub fn segments(&self) -> u16
+        ensures { result ≡ self.now.store.now.segments }
+    {
+        self.store.segments()
+    }
+
+    /// The program header of an index below [`SegmentView::segments`] (gABI 5, Program Header).
+    pub fn segment(&self, segment: u16) -> Phdr
+        requires { segment < self.now.store.now.segments }
+        ensures fields { IsPhdr (segment_row self.now.store.now segment) 0 result }
+        ensures stands { (file : List ℕ) → Views file self.now.loaded self.now.store.now →
+            IsPhdr file (segment_at file segment) result }
+    {
+        self.store.segment(segment)
+    }
+
+    /// The file offset of the program header of an index below e_phnum, in bytes.
+    pub fn place(&self, segment: u16) -> u64
+        requires { segment < self.now.loaded.header.e_phnum }
+        ensures value { result ≡ segment_place self.now.loaded.header segment }
+    {
+        self.loaded.header().e_phoff + PROGRAM_HEADER_BYTES * u64::from(segment)
+    }
+
+    /// The dynamic entries of a segment, rows of 16 bytes. One of size 0 is not checked. The
+    /// segment's type is not looked at. No bytes are read (gABI 5, Dynamic Section).
+    ///
+    /// # Errors
+    /// The first check that fails, at the program header: `SizeNotWhole` where p_filesz is no
+    /// multiple of 16, `TableOutside` where the segment ends past the end of the file.
+    pub fn dynamic(&self, segment: u16) -> Result<Table, Fault>
+        requires { segment < self.now.store.now.segments }
+        ensures value { result ≡ dynamic_in self.now segment }
+        ensures held { TellsSegment self.now segment result dynamic_at }
+        ensures within { IfOk result (RowsWithin self.now.loaded.size) }
+        ensures entry { IfOk result (λ table. table.entry ≡ 16) }
+        ensures sized { IfOk result (λ table. size_of table ≡ filesz_in self.now segment) }
+        ensures refusal { IfErr result IsOfCheck }
+    {
+        let header = self.segment(segment);
+        checked_dynamic(&header, self.loaded.size(), self.place(segment))
+    }
+
+    /// The string table of `size` bytes at an address, which the entry at the file offset `at`
+    /// gives: where the first LOAD program header that holds them all says. It is checked at every
+    /// size. No bytes are read (gABI 5, Program Loading).
+    ///
+    /// # Errors
+    /// `Unmapped` at `at` where no LOAD program header holds them; `TableOutside` at that program
+    /// header where they end past the end of the file.
+    pub fn mapped(&self, address: u64, size: u64, at: u64) -> Result<Names, Fault>
+        ensures held { (file : List ℕ) → Views file self.now.loaded self.now.store.now →
+            result ≡ strings_mapped file address size at }
+        ensures within { IfOk result (StringsWithin self.now.loaded.size) }
+        ensures sized { IfOk result (λ names. names.size ≡ size) }
+        ensures refusal { IfErr result IsOfCheck }
+    {
+        let Some(segment) = self.mapping(address, size) else {
+            return refused(at, Cause::Unmapped);
+        };
+        let header = self.segment(segment);
+        let place = self.place(segment);
+        checked_mapped(&header, self.loaded.size(), place, address, size)
+    }
+
+    /// The index of the first LOAD program header that holds `size` bytes from an address on.
+    fn mapping(&self, address: u64, size: u64) -> Option<u16>
+        ensures held { (file : List ℕ) → Views file self.now.loaded self.now.store.now →
+            mapped_at file address size ≡ option_map (segment_at file) result }
+        ensures below { IfSome result (λ segment. segment < self.now.store.now.segments) }
+        ensures above { IfSome result (λ segment.
+            p_vaddr (segment_row self.now.store.now segment) 0 ≤ address) }
+    {
+        let count = self.segments();
+        let mut segment = 0;
+        'segments: while segment < count {
+            if maps(&self.segment(segment), address, size) {
+                return Some(segment);
+            }
+            segment += 1;
+        }
+        None
+    }
+}

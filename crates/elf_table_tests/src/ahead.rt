@@ -1,0 +1,141 @@
+//! How often a source is read for names and symbols, in order and scattered, and what a fault in bytes
+//! that were read ahead leaves.
+use elf_fakes::Planned;
+use elf_names::{NameIndex, ReadAhead};
+use elf_source::{Counted, SourceFault};
+use elf_table::{Cap, Fault, NameBuf, NameEnd, Names, Table};
+use std::process::Abort;
+
+/// The size of the string tables here: names of seven bytes, each with its NUL.
+const STRINGS: usize = 16_000;
+
+// A string table of names of seven bytes.
+fn strings() -> [u8; STRINGS] {
+    let mut bytes = [b'a'; STRINGS];
+    for i in 0..STRINGS / 8 {
+        bytes[8 * i + 7] = 0;
+    }
+    bytes
+}
+
+// Reads the name at an index of that string table, whose entry is at 7.
+fn read_name(
+    ahead: &mut ReadAhead,
+    src: &mut Counted<Planned<'_>>,
+    off: u64,
+    rt: &impl Abort,
+) -> Result<NameEnd, Fault> {
+    assert!(rt; src.length() == STRINGS as u64);
+    let names = Names::new(0, STRINGS as u64);
+    let index = NameIndex { names, off, at: 7 };
+    let mut name = NameBuf::new();
+    let end = ahead.name(src, index, Cap { bytes: 256 }, &mut name);
+    assert!(rt; end.is_err() || name.bytes() == b"aaaaaaa".as_slice());
+    end
+}
+
+#[test]
+fn names_in_order_take_few_reads(rt: HostRuntime) {
+    let bytes = strings();
+    let mut src = Counted::new(Planned::new(&bytes, 0));
+    let mut ahead = ReadAhead::new();
+    for i in 0..2000 {
+        let end = read_name(&mut ahead, &mut src, 8 * i, &rt);
+        assert!(rt; end == Ok(NameEnd::Whole), "{i}");
+    }
+    // 64 bytes, twice as many up to 2,048, and then 4,096 at once.
+    assert!(rt; src.asked() == STRINGS as u128);
+    assert!(rt; src.into_inner().reads == 9);
+}
+
+#[test]
+fn scattered_names_take_one_small_read_each(rt: HostRuntime) {
+    let bytes = strings();
+    let mut src = Counted::new(Planned::new(&bytes, 0));
+    let mut ahead = ReadAhead::new();
+    for i in 1..151 {
+        let end = read_name(&mut ahead, &mut src, STRINGS as u64 - 104 * i, &rt);
+        assert!(rt; end == Ok(NameEnd::Whole), "{i}");
+    }
+    assert!(rt; src.asked() == 150 * 64);
+    assert!(rt; src.into_inner().reads == 150);
+}
+
+#[test]
+fn a_fault_in_bytes_read_ahead_leaves_nothing_held(rt: HostRuntime) {
+    let bytes = strings();
+    let device = SourceFault::Device;
+    for (failing, at) in [(1, 0), (2, 64), (3, 192), (8, 8128)] {
+        let mut src = Counted::new(Planned::new(&bytes, failing));
+        let mut ahead = ReadAhead::new();
+        for i in 0..2000 {
+            let off = 8 * i;
+            let end = read_name(&mut ahead, &mut src, off, &rt);
+            let fault = Fault::Source { fault: device, at };
+            let wanted = if off == at {
+                Err(fault)
+            } else {
+                Ok(NameEnd::Whole)
+            };
+            assert!(rt; end == wanted, "{failing} {i}");
+        }
+    }
+}
+
+/// How many symbols the tables here have.
+const SYMBOLS: u64 = 500;
+
+// The symbol at an index of a table whose bytes tell it, with what a name leaves of its credit.
+fn read_symbol(
+    ahead: &mut ReadAhead,
+    src: &mut Counted<Planned<'_>>,
+    index: u64,
+    rt: &impl Abort,
+) -> bool {
+    assert!(rt; src.length() == 24 * SYMBOLS && index < SYMBOLS);
+    let names = Names::new(0, 0);
+    let unnamed = NameIndex {
+        names,
+        off: 0,
+        at: 7,
+    };
+    let mut name = NameBuf::new();
+    let end = ahead.name(src, unnamed, Cap { bytes: 256 }, &mut name);
+    let symbol = ahead.symbol(src, &Table::new(0, SYMBOLS, 24), index);
+    end == Ok(NameEnd::Whole) && symbol.is_ok_and(|read| u64::from(read.st_name) == index)
+}
+
+// The bytes of those symbols.
+fn symbols() -> [u8; 12_000] {
+    let mut bytes = [0; 12_000];
+    for i in 0..SYMBOLS as usize {
+        bytes[24 * i] = (i % 256) as u8;
+        bytes[24 * i + 1] = (i / 256) as u8;
+    }
+    bytes
+}
+
+#[test]
+fn symbols_in_order_take_few_reads(rt: HostRuntime) {
+    let bytes = symbols();
+    let mut src = Counted::new(Planned::new(&bytes, 0));
+    let mut ahead = ReadAhead::new();
+    for i in 0..SYMBOLS {
+        assert!(rt; read_symbol(&mut ahead, &mut src, i, &rt), "{i}");
+    }
+    assert!(rt; src.asked() == 12_000);
+    assert!(rt; src.into_inner().reads == 10);
+}
+
+#[test]
+fn scattered_symbols_take_one_small_read_each(rt: HostRuntime) {
+    let bytes = symbols();
+    let mut src = Counted::new(Planned::new(&bytes, 0));
+    let mut ahead = ReadAhead::new();
+    for i in 0..SYMBOLS {
+        let index = i * 77 % SYMBOLS;
+        assert!(rt; read_symbol(&mut ahead, &mut src, index, &rt), "{i}");
+    }
+    assert!(rt; src.asked() == 12_000);
+    assert!(rt; src.into_inner().reads == 500);
+}

@@ -1,0 +1,115 @@
+//! Worked tables of dynamic entries, and how often a source is asked.
+ghost use Rattle.std.specs.Prelude.{◌≡◌};
+ghost use Rattle.elf_table.specs.Tables.{RowsWithin};
+
+use elf_fakes::Planned;
+use elf_fixtures::repeated_tags;
+use elf_note::{DynCursor, DynStrings, dynamic_rows, dynamic_strings};
+use elf_source::{Counted, MemorySource, Source, SourceFault};
+use elf_table::{Fault, Table};
+use std::process::Abort;
+
+/// How many entries a cursor gives, each with its index and offset.
+fn entries_given<S: Source>(
+    cursor: &mut DynCursor,
+    src: &mut Counted<S>,
+    rt: &impl Abort,
+) -> Result<u64, Fault>
+    requires { RowsWithin src.old.seen.size cursor.old.cursor.table }
+    ensures table { cursor.new.cursor.table ≡ cursor.old.cursor.table }
+    ensures size { src.new.seen.size ≡ src.old.seen.size }
+{
+    let mut count: u64 = 0;
+    while let Some(row) = cursor.next(src)? {
+        assert!(rt; row.index == count);
+        assert!(rt; row.at == count.saturating_mul(16));
+        assert!(rt; row.bytes.len() == 16);
+        count = count.saturating_add(1);
+    }
+    Ok(count)
+}
+
+// Goes over a table that is all of a file twice, where the read with the number `failing` fails:
+// both answers, and how often the source was read.
+fn walk_twice(
+    bytes: &[u8],
+    failing: u32,
+    rt: &impl Abort,
+) -> (Result<u64, Fault>, Result<u64, Fault>, u32) {
+    let mut src = Counted::new(Planned::new(bytes, failing));
+    let mut cursor = dynamic_rows(Table::new(0, bytes.len() as u64 / 16, 16));
+    let first = entries_given(&mut cursor, &mut src, rt);
+    let second = entries_given(&mut cursor, &mut src, rt);
+    (first, second, src.into_inner().reads)
+}
+
+#[test]
+fn entries_end_with_the_first_null(rt: HostRuntime) {
+    for (count, given) in [(0, 0), (1, 1), (3, 3), (4, 4), (5, 4)] {
+        let reads = if count == 0 { 0 } else { 1 };
+        let answer = walk_twice(&repeated_tags()[..16 * count], 0, &rt);
+        assert!(rt; answer == (Ok(given), Ok(0), reads), "{count} entries");
+    }
+}
+
+#[test]
+fn entries_are_read_by_pages(rt: HostRuntime) {
+    let null = [0; 4096];
+    assert!(rt; walk_twice(&null, 0, &rt) == (Ok(1), Ok(0), 1));
+    let others = [7; 4112];
+    assert!(rt; walk_twice(&others, 0, &rt) == (Ok(257), Ok(0), 2));
+}
+
+#[test]
+fn a_failed_cursor_over_entries_fails_the_same_for_good(rt: HostRuntime) {
+    let others = [7; 4112];
+    for (failing, at) in [(1, 0), (2, 4096)] {
+        let fault = Fault::Source {
+            fault: SourceFault::Device,
+            at,
+        };
+        let answer = walk_twice(&others, failing, &rt);
+        assert!(rt; answer == (Err(fault), Err(fault), failing), "{failing}");
+    }
+}
+
+// Where so many of these entries say that their string table is, and how many bytes were asked for.
+fn strings_of(count: u64, rt: &impl Abort) -> (Result<DynStrings, Fault>, u128) {
+    assert!(rt; count <= 5);
+    let mut src = Counted::new(MemorySource::new(repeated_tags()));
+    let answer = dynamic_strings(Table::new(0, count, 16), &mut src);
+    (answer, src.asked())
+}
+
+#[test]
+fn the_first_values_before_a_null_tell_where_strings_are(rt: HostRuntime) {
+    let none = DynStrings {
+        address: None,
+        size: None,
+    };
+    let known = DynStrings {
+        address: Some(2),
+        size: None,
+    };
+    assert!(rt; strings_of(0, &rt) == (Ok(none), 0));
+    assert!(rt; strings_of(1, &rt) == (Ok(none), 16));
+    assert!(rt; strings_of(3, &rt) == (Ok(known), 48));
+    assert!(rt; strings_of(5, &rt) == (Ok(known), 80));
+}
+
+#[test]
+fn the_values_of_strings_are_those_of_their_tags(rt: HostRuntime) {
+    let mut src = Counted::new(MemorySource::new(repeated_tags()));
+    let answer = dynamic_strings(Table::new(64, 1, 16), &mut src);
+    let size_alone = DynStrings {
+        address: None,
+        size: Some(5),
+    };
+    assert!(rt; answer == Ok(size_alone));
+    let fault = Fault::Source {
+        fault: SourceFault::Device,
+        at: 16,
+    };
+    let mut src = Counted::new(Planned::new(repeated_tags(), 1));
+    assert!(rt; dynamic_strings(Table::new(16, 2, 16), &mut src) == Err(fault));
+}

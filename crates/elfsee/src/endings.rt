@@ -1,0 +1,50 @@
+//! How the program ends.
+ghost use Rattle.std.specs.Prelude.{◌≡◌};
+ghost use Rattle.elfsee.specs.Answers.{exit_status, error_line, refused_status, refused_line};
+
+use crate::requests::RequestFault;
+use elf_listing::RunFault;
+
+/// An exit status, and a line for standard error, which is empty where there is nothing to say.
+pub type Ending = (u8, &'static str);
+
+/// The words are no request.
+pub const BAD_WORDS: Ending = (2, "elfsee: bad words");
+
+/// The words are no text.
+pub const NOT_UTF8: Ending = (2, "elfsee: words are not UTF-8");
+
+/// There was no memory.
+pub const OUT_OF_MEMORY: Ending = (3, "elfsee: out of memory");
+
+/// The file can't be opened.
+pub const CANNOT_OPEN: Ending = (3, "elfsee: cannot open");
+
+/// The file can't be read.
+pub const READ_FAULT: Ending = (3, "elfsee: read fault");
+
+/// The output can't be written.
+pub const WRITE_FAULT: Ending = (3, "elfsee: write fault");
+
+/// The exit status of a run, and its line on standard error, which is empty for a status of 0 or 1.
+pub fn outcome(answer: &Result<u8, RunFault>) -> Ending
+    ensures status { result.0 ≡ exit_status answer.now }
+    ensures line { result.1.now ≡ error_line answer.now }
+{
+    match answer {
+        Ok(status) => (*status, ""),
+        Err(RunFault::Source { .. }) => READ_FAULT,
+        Err(RunFault::Out(_)) => WRITE_FAULT,
+    }
+}
+
+/// The exit status for words that are no request, and the line on standard error.
+pub fn refused(fault: &RequestFault) -> Ending
+    ensures status { result.0 ≡ refused_status fault.now }
+    ensures line { result.1.now ≡ refused_line fault.now }
+{
+    match fault {
+        RequestFault::Words => BAD_WORDS,
+        RequestFault::Memory => OUT_OF_MEMORY,
+    }
+}
