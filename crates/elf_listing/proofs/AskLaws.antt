@@ -6,8 +6,8 @@ use Rattle.elf_model.specs.Cost.{ceiling}
 use Rattle.elf_model.specs.Listing.{has_tables}
 use Rattle.elf_model.specs.declared.causes.Refusal.{Refusal}
 use Rattle.elf_source.specs.Source.{Seen, Counting, Reads, Limits, OverLimit, counted}
-use Rattle.elf_table.specs.Faults.{RefusalSays}
-use Rattle.elf_table.specs.declared.caps.Caps.{Caps}
+use Rattle.elf_headers.specs.Faults.{RefusalSays}
+use Rattle.elf_headers.specs.declared.caps.Caps.{Caps}
 use Rattle.elf_listing.specs.Reports.{AsksWithin}
 use Rattle.elf_listing.specs.declared.end.End.{End}
 use Rattle.elf_listing.specs.declared.end.End.TheVariants.{Refused}

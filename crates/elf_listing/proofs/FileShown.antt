@@ -12,11 +12,11 @@ use Rattle.elf_model.proofs.CostLemmas.{headers_none, headers_some}
 use Rattle.elf_model.specs.Rows.{segment_row}
 use Rattle.elf_model.specs.declared.causes.Refusal.{Refusal}
 use Rattle.elf_model.proofs.ListingLemmas.{guarded-passes, guarded-fault, load_some}
-use Rattle.elf_table.specs.Load.{Opened, Belongs, LoadedAs}
-use Rattle.elf_table.specs.Faults.{HeaderRead}
-use Rattle.elf_table.specs.Store.{Stored}
-use Rattle.elf_table.specs.declared.fault.Fault.{Fault as TableFault}
-use Rattle.elf_table.specs.declared.fault.Fault.TheVariants.{Refused}
+use Rattle.elf_headers.specs.Load.{Opened, Belongs, LoadedAs}
+use Rattle.elf_headers.specs.Faults.{HeaderRead}
+use Rattle.elf_headers.specs.Store.{Stored}
+use Rattle.elf_headers.specs.declared.fault.Fault.{Fault as TableFault}
+use Rattle.elf_headers.specs.declared.fault.Fault.TheVariants.{Refused}
 use Rattle.elf_listing.specs.Parts.{bit_of, part_items}
 use Rattle.elf_listing.specs.Viewed.{viewed}
 use Rattle.elf_listing.specs.declared.parts.Part.{Part}

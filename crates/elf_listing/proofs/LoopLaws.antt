@@ -5,10 +5,10 @@ use Rattle.elf_model.specs.Cost.{sum_over}
 use Rattle.elf_model.specs.Listing.{Item, each}
 use Rattle.elf_model.proofs.RecordLemmas.{last_cost, sums_grow}
 use Rattle.elf_source.specs.Output.{Written}
-use Rattle.elf_table.specs.Faults.{IsAt}
+use Rattle.elf_headers.specs.Faults.{IsAt}
 use Rattle.elf_table.specs.Cursors.{Reading, Gives, Agrees, unread_bytes, place, Shows as Lends}
 use Rattle.elf_table.specs.Tables.{Rows, size_of}
-use Rattle.elf_table.specs.declared.fault.Fault.{Fault}
+use Rattle.elf_headers.specs.declared.fault.Fault.{Fault}
 use Rattle.elf_table.specs.declared.row.Row.{Row}
 use Rattle.elf_listing.specs.Kinds.{row_size, own_cost, rows_cost, IsRowOf}
 use Rattle.elf_listing.specs.Shows.{Whole, Stopped}

@@ -14,10 +14,10 @@ use Rattle.elf_lines.specs.Pieces.{shown_as}
 use Rattle.elf_note.specs.NoteCursors.{Reading, IsFound, NameIs, Shows as Lends, Stops, notes_from, notes_left, no_notes, cut_at, note_cut}
 use Rattle.elf_note.specs.declared.row.NoteRow.{NoteRow}
 use Rattle.elf_source.specs.Output.{Written}
-use Rattle.elf_table.specs.Faults.{IsOfRead}
+use Rattle.elf_headers.specs.Faults.{IsOfRead}
 use Rattle.elf_table.specs.Windows.{Ahead}
-use Rattle.elf_table.specs.declared.fault.Fault.{Fault}
-use Rattle.elf_table.specs.declared.fault.Fault.TheVariants.{Refused, Source as Unread}
+use Rattle.elf_headers.specs.declared.fault.Fault.{Fault}
+use Rattle.elf_headers.specs.declared.fault.Fault.TheVariants.{Refused, Source as Unread}
 use Rattle.elf_table.specs.declared.names.NameEnd.{NameEnd}
 use Rattle.elf_table.specs.declared.names.NameEnd.TheVariants.{Whole as NameWhole, Cut as NameCut}
 use Rattle.elf_listing.specs.Notes.{IsNote, WrittenBefore, rows_of}

@@ -12,8 +12,8 @@ use Rattle.elf_model.proofs.ListingLemmas.{listings_append}
 use Rattle.elf_source.specs.Source.{Counting, Limits, counted}
 use Rattle.elf_source.specs.Output.{Written, Takes, TakesFront}
 use Rattle.elf_source.proofs.PutsLaws.{Takes-then, TakesFront-then, TakesFront-more, TakesFront-all}
-use Rattle.elf_table.specs.Faults.{RefusalSays}
-use Rattle.elf_table.specs.declared.caps.Caps.{Caps}
+use Rattle.elf_headers.specs.Faults.{RefusalSays}
+use Rattle.elf_headers.specs.declared.caps.Caps.{Caps}
 use Rattle.elf_listing.specs.Reports.{Reports}
 use Rattle.elf_listing.specs.Shows.{Whole, Front, IsNext, Ends}
 use Rattle.elf_listing.specs.declared.end.End.TheVariants.{Listed, Refused}

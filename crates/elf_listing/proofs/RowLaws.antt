@@ -13,10 +13,10 @@ use Rattle.elf_model.specs.declared.causes.Cause.{Cause}
 use Rattle.elf_lines.specs.Pieces.{shown_as}
 use Rattle.elf_source.specs.Output.{Written, Takes, TakesFront}
 use Rattle.elf_source.proofs.PutsLaws.{Takes-nothing}
-use Rattle.elf_table.specs.Faults.{IsOfRead}
+use Rattle.elf_headers.specs.Faults.{IsOfRead}
 use Rattle.elf_table.specs.NamesRead.{NameRead}
-use Rattle.elf_table.specs.declared.fault.Fault.{Fault}
-use Rattle.elf_table.specs.declared.fault.Fault.TheVariants.{Refused, Source}
+use Rattle.elf_headers.specs.declared.fault.Fault.{Fault}
+use Rattle.elf_headers.specs.declared.fault.Fault.TheVariants.{Refused, Source}
 use Rattle.elf_table.specs.declared.names.NameEnd.{NameEnd}
 use Rattle.elf_table.specs.declared.names.NameEnd.TheVariants.{Whole as NameWhole, Cut as NameCut}
 use Rattle.elf_listing.specs.Shows.{Whole, Front, Ends, Stopped, Writes, cut_of}

@@ -18,12 +18,12 @@ use Rattle.elf_model.proofs.StoreLemmas.{rows_cost, segments_cost_rows, by_kind,
 use Rattle.elf_model.proofs.RecordLemmas.{sums_grow}
 use Rattle.elf_record.specs.Ehdr.{IsEhdr}
 use Rattle.elf_record.specs.declared.ehdr.Ehdr.{Ehdr}
-use Rattle.elf_table.specs.Load.{Opened, Belongs, IsOpened, early_of, header_cost, load_cost}
+use Rattle.elf_headers.specs.Load.{Opened, Belongs, IsOpened, early_of, header_cost, load_cost}
 use Rattle.elf_table.specs.Sections.{answered, bytes_of, rows, table_of, checked}
-use Rattle.elf_table.specs.Store.{Stored, HoldsSegments, row, segment_row}
+use Rattle.elf_headers.specs.Store.{Stored, HoldsSegments, row, segment_row}
 use Rattle.elf_table.specs.Tables.{Rows}
 use Rattle.elf_table.specs.Views.{dynamic_of}
-use Rattle.elf_table.specs.declared.fault.Fault.{Fault}
+use Rattle.elf_headers.specs.declared.fault.Fault.{Fault}
 use Rattle.elf_listing.specs.Parts.{asked_cost, segments_listed, tables_listed}
 use Rattle.elf_listing.specs.Viewed.{needs_view, viewed, view_cost}
 use Rattle.elf_listing.specs.declared.parts.Part.TheVariants.{Headers, Symbols, Relocations, SectionNotes, SegmentNotes, SectionDynamic, SegmentDynamic}

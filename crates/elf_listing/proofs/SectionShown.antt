@@ -24,8 +24,8 @@ use Rattle.elf_note.specs.declared.string_values.DynStrings.{DynStrings}
 use Rattle.elf_table.specs.Tables.{Rows, Strings}
 use Rattle.elf_table.specs.Sections.{answered, bytes_of, table_at, strings_at as strings_linked, names_at, rows, strings, section_names, symbols_at, symbols_linked, linked_checks, relocations_at, checked as checked_as}
 use Rattle.elf_table.specs.Views.{dynamic_at as table_of_segment}
-use Rattle.elf_table.specs.declared.fault.Fault.{Fault as TableFault}
-use Rattle.elf_table.specs.declared.fault.Fault.TheVariants.{Refused}
+use Rattle.elf_headers.specs.declared.fault.Fault.{Fault as TableFault}
+use Rattle.elf_headers.specs.declared.fault.Fault.TheVariants.{Refused}
 use Rattle.elf_listing.specs.Parts.{shown_in}
 
 -- the checks of a range, none where it is empty

@@ -4,9 +4,8 @@ use Rattle.elf_model.specs.Lines.{segment_line}
 use Rattle.elf_model.specs.Listing.{Line}
 use Rattle.elf_model.specs.Records.{segment_at}
 use Rattle.elf_model.specs.Rows.{segment_row}
-use Rattle.elf_table.specs.Load.{Opened, Belongs}
-use Rattle.elf_table.specs.Store.{Stored}
-use Rattle.elf_table.specs.Views.{Views}
+use Rattle.elf_headers.specs.Load.{Opened, Belongs, Views}
+use Rattle.elf_headers.specs.Store.{Stored}
 use Rattle.elf_listing.specs.Viewed.{IsViewed}
 
 -- a file whose program headers are loaded is viewed

@@ -5,10 +5,10 @@ use Rattle.elf_source.specs.Output.{Written}
 use Rattle.elf_source.proofs.PutsLaws.{Takes-nothing, Takes-then, TakesFront-then, TakesFront-more}
 use Rattle.elf_source.proofs.ReadsLaws.{Reads-to, Reads-then, Faults-then, OverLimit-then, OverLimit-more}
 use Rattle.elf_names.proofs.SpendsLaws.{Spends-reads, Spends-then, Spends-to}
-use Rattle.elf_table.specs.Faults.{IsAt, Says}
+use Rattle.elf_headers.specs.Faults.{IsAt, Says}
 use Rattle.elf_model.specs.declared.causes.Refusal.{Refusal}
-use Rattle.elf_table.specs.declared.fault.Fault.{Fault}
-use Rattle.elf_table.specs.declared.fault.Fault.TheVariants.{Refused as Refuses, Source as Unread}
+use Rattle.elf_headers.specs.declared.fault.Fault.{Fault}
+use Rattle.elf_headers.specs.declared.fault.Fault.TheVariants.{Refused as Refuses, Source as Unread}
 use Rattle.elf_model.specs.Listing.{Item, lines_of}
 use Rattle.elf_listing.specs.Stops.{stop_of}
 use Rattle.elf_listing.specs.Shows.{Whole, Front, Stopped, Writes, StopSays, IsOfOutput, Costs, Spent}

@@ -16,8 +16,8 @@ use Rattle.elf_table.specs.NamesRead.{NameRead}
 use Rattle.elf_table.specs.Sections.{answered}
 use Rattle.elf_table.specs.Tables.{Strings, strings_in}
 use Rattle.elf_table.specs.Views.{strings_mapped}
-use Rattle.elf_table.specs.declared.fault.Fault.{Fault}
-use Rattle.elf_table.specs.declared.fault.Fault.TheVariants.{Refused}
+use Rattle.elf_headers.specs.declared.fault.Fault.{Fault}
+use Rattle.elf_headers.specs.declared.fault.Fault.TheVariants.{Refused}
 use Rattle.elf_table.specs.declared.names.NameEnd.{NameEnd}
 use Rattle.elf_listing.specs.Shows.{Stopped}
 use Rattle.elf_listing.specs.Stops.{stop_of}

@@ -8,8 +8,8 @@ use Rattle.elf_model.specs.Report.{table_rows}
 use Rattle.elf_model.specs.Rows.{no_name, section_row, segment_row}
 use Rattle.elf_model.specs.TableKinds.{symbols, relocations, section_notes, segment_notes, section_dynamic, segment_dynamic}
 use Rattle.elf_model.specs.declared.causes.Cause.{Cause}
-use Rattle.elf_table.specs.Load.{Opened}
-use Rattle.elf_table.specs.Store.{Stored, row, segment_row as segment_row_in}
+use Rattle.elf_headers.specs.Load.{Opened}
+use Rattle.elf_headers.specs.Store.{Stored, row, segment_row as segment_row_in}
 use Rattle.elf_table.specs.Tables.{Strings, strings_in}
 use Rattle.elf_listing.specs.declared.parts.Part.{Part}
 use Rattle.elf_listing.specs.declared.parts.Part.TheVariants.{Headers, Segments, Symbols, Relocations, SectionNotes, SegmentNotes, SectionDynamic, SegmentDynamic}

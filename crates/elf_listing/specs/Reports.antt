@@ -7,7 +7,7 @@ use Rattle.elf_model.specs.Listing.{has_tables}
 use Rattle.elf_model.specs.declared.causes.Refusal.{Refusal}
 use Rattle.elf_source.specs.Source.{Counting, Keeps, Faults}
 use Rattle.elf_source.specs.Output.{Written, Takes, TakesFront, Fails}
-use Rattle.elf_table.specs.declared.caps.Caps.{Caps}
+use Rattle.elf_headers.specs.declared.caps.Caps.{Caps}
 use Rattle.elf_listing.specs.declared.end.End.{End}
 use Rattle.elf_listing.specs.declared.end.End.TheVariants.{Listed, Refused}
 use Rattle.elf_listing.specs.declared.end.RunFault.{RunFault}

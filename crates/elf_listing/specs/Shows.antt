@@ -11,9 +11,9 @@ use Rattle.elf_source.specs.Output.{Written, Takes, TakesFront, Fails}
 use Rattle.elf_source.specs.declared.source.Source.{Ghosts as Sources}
 use Rattle.elf_source.specs.declared.sink.Sink.{Ghosts as Sinks}
 use Rattle.elf_names.specs.Ahead.{Spends}
-use Rattle.elf_table.specs.Faults.{RefusalSays, Says}
+use Rattle.elf_headers.specs.Faults.{RefusalSays, Says}
 use Rattle.elf_table.specs.NamesRead.{NameRead}
-use Rattle.elf_table.specs.declared.fault.Fault.{Fault as Failure}
+use Rattle.elf_headers.specs.declared.fault.Fault.{Fault as Failure}
 use Rattle.elf_table.specs.declared.names.NameEnd.{NameEnd}
 use Rattle.elf_table.specs.declared.names.NameEnd.TheVariants.{Whole as NameWhole, Cut as NameCut}
 use Rattle.elf_listing.specs.declared.listing.Listing.{Listing}

@@ -1,6 +1,6 @@
 -- Why a listing stops.
-use Rattle.elf_table.specs.declared.fault.Fault.{Fault}
-use Rattle.elf_table.specs.declared.fault.Fault.TheVariants.{Refused as Refuses, Source as Unread}
+use Rattle.elf_headers.specs.declared.fault.Fault.{Fault}
+use Rattle.elf_headers.specs.declared.fault.Fault.TheVariants.{Refused as Refuses, Source as Unread}
 use Rattle.elf_listing.specs.declared.stop.Stop.{Stop}
 use Rattle.elf_listing.specs.declared.stop.Stop.TheVariants.{Refused, Source}
 

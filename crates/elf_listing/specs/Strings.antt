@@ -8,9 +8,9 @@ use Rattle.elf_model.specs.declared.causes.Cause.{Cause}
 use Rattle.elf_model.specs.declared.causes.Refusal.{Refusal}
 use Rattle.elf_table.specs.NamesRead.{NameRead}
 use Rattle.elf_table.specs.Tables.{Strings, StringsWithin, strings_in}
-use Rattle.elf_table.specs.Views.{Views}
-use Rattle.elf_table.specs.declared.fault.Fault.{Fault as Failure}
-use Rattle.elf_table.specs.declared.fault.Fault.TheVariants.{Refused}
+use Rattle.elf_headers.specs.Load.{Views}
+use Rattle.elf_headers.specs.declared.fault.Fault.{Fault as Failure}
+use Rattle.elf_headers.specs.declared.fault.Fault.TheVariants.{Refused}
 use Rattle.elf_table.specs.declared.names.NameEnd.{NameEnd}
 use Rattle.elf_listing.specs.declared.dynamic_row.EntryStrings.{EntryStrings}
 use Rattle.elf_listing.specs.declared.dynamic_row.EntryStrings.TheVariants.{Linked, Mapped}

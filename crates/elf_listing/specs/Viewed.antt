@@ -2,8 +2,8 @@
 use Rattle.std.specs.Prelude.{ℕ, ◌≡◌, ◌*◌, ◌<◌, ◌==◌, ◌&&◌, ◌||◌, Bool, List, Option, Some, if◌then◌else◌}
 use Rattle.elf_model.specs.Cost.{cost_where}
 use Rattle.elf_model.specs.Listing.{has, SEGMENTS, NOTES, DYNAMIC}
-use Rattle.elf_table.specs.Load.{Opened}
-use Rattle.elf_table.specs.Store.{Stored, HoldsSegments}
+use Rattle.elf_headers.specs.Load.{Opened}
+use Rattle.elf_headers.specs.Store.{Stored, HoldsSegments}
 
 -- the parts of a file without sections need its program headers
 abbrev pub needs_view : ℕ → Opened → Bool

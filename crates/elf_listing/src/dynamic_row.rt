@@ -4,10 +4,10 @@ ghost use Rattle.elf_model.specs.Names.{name_bytes};
 ghost use Rattle.elf_model.specs.Records.{d_tag};
 ghost use Rattle.elf_model.specs.Rows.{is_string_tag};
 ghost use Rattle.elf_record.specs.Dyn.{IsDyn};
-ghost use Rattle.elf_table.specs.Faults.{IsOfCheck};
+ghost use Rattle.elf_headers.specs.Faults.{IsOfCheck};
 ghost use Rattle.elf_model.specs.Mapped.{strings_at};
 ghost use Rattle.elf_table.specs.Tables.{StringsWithin};
-ghost use Rattle.elf_table.specs.Views.{Views};
+ghost use Rattle.elf_headers.specs.Load.{Views};
 ghost use Rattle.elf_listing.specs.Kinds.{OfRow};
 ghost use Rattle.elf_listing.specs.Shows.{Fetches, Lists};
 ghost use Rattle.elf_listing.specs.Strings.{AreOf, AreWithin, FoundAs};
@@ -21,18 +21,10 @@ use crate::stop::Stop;
 use elf_lines::dynamic_front;
 use elf_names::NameIndex;
 use elf_note::DynStrings;
+use elf_record::numbers::{DT_NEEDED, DT_RPATH, DT_RUNPATH, DT_SONAME};
 use elf_record::{Cause, Dyn};
 use elf_source::{Sink, Source};
 use elf_table::{Fault, NameEnd, Names, Row, SegmentView};
-
-/// The tag of a needed library's name (gABI 5, Dynamic Section).
-const DT_NEEDED: u64 = 1;
-/// The tag of a shared object's own name.
-const DT_SONAME: u64 = 14;
-/// The tag of a library search path.
-const DT_RPATH: u64 = 15;
-/// The tag of the library search path that stands in its place.
-const DT_RUNPATH: u64 = 29;
 
 /// Where the strings of dynamic entries are looked for.
 #[derive(Clone, Copy)]

@@ -1,7 +1,7 @@
 //! What a listing is written with.
 ghost use Rattle.elf_names.specs.Ahead.{AgreesWith};
 ghost use Rattle.elf_listing.specs.Viewed.{IsViewed};
-ghost use Rattle.elf_table.specs.Load.{IsOpen};
+ghost use Rattle.elf_headers.specs.Load.{IsOpen};
 
 use elf_names::ReadAhead;
 use elf_source::{Counted, Out, Sink, Source};

@@ -2,7 +2,7 @@
 ghost use Rattle.std.specs.Prelude.{◌≡◌, ◌+◌, ◌<◌, ◌≤◌, None, IfErr};
 ghost use Rattle.elf_source.specs.Source.{Reads};
 ghost use Rattle.elf_table.specs.Cursors.{Shows as Lends, unread_bytes};
-ghost use Rattle.elf_table.specs.Faults.{Says};
+ghost use Rattle.elf_headers.specs.Faults.{Says};
 ghost use Rattle.elf_table.specs.Tables.{RowsWithin};
 ghost use Rattle.elf_listing.specs.Kinds.{row_size};
 ghost use Rattle.elf_listing.specs.RowCursors.{AdvancesRows, Begins, reading};

@@ -12,11 +12,9 @@ use crate::rows::Kind;
 use crate::stop::Stop;
 use elf_lines::section_front;
 use elf_record::numbers::{SHT_DYNAMIC, SHT_NOTE, SHT_RELA};
+use elf_record::sizes::DYNAMIC_BYTES;
 use elf_source::{Sink, Source};
 use elf_table::holds_symbols;
-
-/// The size of a dynamic entry in bytes.
-const DYNAMIC_BYTES: u64 = 16;
 
 impl<S: Source, W: Sink> Listing<'_, '_, '_, S, W> {
     /// Shows the row of a section header: its `S` line with its name, or the name's refusal at the

@@ -12,11 +12,9 @@ ghost use Rattle.elf_record.specs.Ehdr.{IsEhdr};
 ghost use Rattle.elf_listing.specs.Parts.{tables_listed};
 ghost use Rattle.elf_listing.specs.Viewed.{IsViewed, view_cost, viewed};
 ghost use Rattle.elf_source.specs.Source.{Reads};
-ghost use Rattle.elf_table.specs.Faults.{HeaderRead, IsOfRead, Says};
-ghost use Rattle.elf_table.specs.Files.{program_headers};
-ghost use Rattle.elf_table.specs.Load.{Belongs, IsOpen};
-ghost use Rattle.elf_table.specs.Store.{HoldsSegments};
-ghost use Rattle.elf_table.specs.Tables.{RowsWithin};
+ghost use Rattle.elf_headers.specs.Faults.{HeaderRead, IsOfRead, Says};
+ghost use Rattle.elf_headers.specs.Load.{Belongs, IsOpen, SegmentsWithin};
+ghost use Rattle.elf_headers.specs.Store.{HoldsSegments};
 ghost use Rattle.elf_listing.specs.Reports.{Reports, FaultSays, AsksWithin, Leaves};
 ghost use Rattle.elf_listing.specs.Shows.{Costs, IsOfOutput, Writes};
 
@@ -153,7 +151,7 @@ fn load_view<S: Source>(
     requires whole { store.old.loaded ≡ loaded.now.header.e_shnum }
     requires none { store.old.segments ≡ 0 }
     requires room { loaded.now.header.e_phnum ≤ store.old.slots }
-    requires within { RowsWithin src.old.seen.size (program_headers loaded.now.header) }
+    requires within { SegmentsWithin src.old.seen.size loaded.now.header }
     ensures slots { store.new.slots ≡ store.old.slots }
     ensures loaded { store.new.loaded ≡ store.old.loaded }
     ensures segments { OnOk result (store.new.segments ≡ viewed parts.0 loaded.now) }

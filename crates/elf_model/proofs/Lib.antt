@@ -18,6 +18,7 @@ pub mod OnLiterals
 pub mod PatchLaws
 pub mod Pigeons
 pub mod RecordLemmas
+pub mod Searches
 pub mod SameLaws
 pub mod SignLaws
 pub mod Slices

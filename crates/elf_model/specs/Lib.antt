@@ -2,6 +2,7 @@ pub mod Bytes
 pub mod Records
 pub mod Numbers
 pub mod Names
+pub mod Searches
 pub mod Notes
 pub mod Dynamic
 pub mod Text

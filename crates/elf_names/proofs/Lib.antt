@@ -1,4 +1,2 @@
 pub mod HeldLaws
-pub mod Searching
-pub mod Shown
 pub mod SpendsLaws

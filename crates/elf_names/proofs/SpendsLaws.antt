@@ -2,9 +2,6 @@
 use Rattle.std.proofs.Common.{ℕ, ◌+◌, ◌≤◌, arith}
 use Rattle.elf_source.specs.Source.{Counting, Reads}
 use Rattle.elf_source.proofs.ReadsLaws.{Reads-none, Reads-then, Reads-to}
-use Rattle.elf_table.specs.Faults.{Says}
-use Rattle.elf_table.specs.declared.fault.Fault.{Fault}
-use Rattle.elf_table.proofs.SaysLaws.{Says-within}
 use Rattle.elf_names.specs.Ahead.{Spends}
 
 -- nothing was read, and no credit was added that isn't counted

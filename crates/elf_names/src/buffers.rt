@@ -1,5 +1,6 @@
 //! The fixed buffers that reading ahead takes.
 use crate::read_ahead::{NAMES_BYTES, SYMBOLS_BYTES};
 
-/// The size in bytes of the fixed buffers of a [`crate::ReadAhead`]: the bytes of names, and of symbols.
+/// The size in bytes of the fixed buffers of a [`crate::ReadAhead`]: the bytes of names, and of
+/// symbols.
 pub const BUFFER_BYTES: usize = NAMES_BYTES + SYMBOLS_BYTES;

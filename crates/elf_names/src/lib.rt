@@ -1,5 +1,5 @@
-//! Names and symbols that the rows of a table refer to, read ahead of the rows that want them. No call
-//! takes memory.
+//! Names and symbols that the rows of a table refer to, read ahead of the rows that want them. No
+//! call takes memory.
 #![tactic(auto)]
 
 mod buffers;

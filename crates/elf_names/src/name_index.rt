@@ -1,8 +1,8 @@
 //! Where a name is.
 use elf_table::Names;
 
-/// An index into a string table, as `st_name` and `sh_name` are, with the entry that holds it (gABI 4,
-/// String Table).
+/// An index into a string table, as `st_name` and `sh_name` are, with the entry that holds it
+/// (gABI 4, String Table).
 #[derive(Clone, Copy, Debug, PartialEq, Eq)]
 pub struct NameIndex {
     /// The string table.

@@ -1,20 +1,21 @@
 //! Names and symbols that rows refer to, read ahead.
-ghost use Rattle.std.specs.Prelude.{◌≡◌, ℕ, ◌+◌, ◌-◌, ◌*◌, ◌^◌, ◌<◌, ◌≤◌, List, [], length, min, Some, IfErr, IfOk};
+ghost use Rattle.std.specs.Prelude.{◌≡◌, ℕ, ◌+◌, ◌-◌, ◌*◌, ◌^◌, ◌<◌, ◌≤◌, List, [], length, min};
+ghost use Rattle.std.specs.Prelude.{Some, IfErr, IfOk};
 ghost use Rattle.elf_model.specs.Bytes.{slice};
 ghost use Rattle.elf_model.specs.Names.{shown, name_bytes};
 ghost use Rattle.elf_record.specs.Sym.{IsSym};
 ghost use Rattle.elf_table.specs.Cursors.{row_at};
-ghost use Rattle.elf_table.specs.Faults.{Says, IsAt, IsOfRead};
+ghost use Rattle.elf_headers.specs.Faults.{Says, IsAt, IsOfRead};
 ghost use Rattle.elf_table.specs.NamesRead.{NameRead, Searched};
 ghost use Rattle.elf_table.specs.Tables.{RowsWithin, StringsWithin, strings_in};
 ghost use Rattle.elf_names.specs.Ahead.{Agrees, Spends};
 
 use crate::name_index::NameIndex;
 use crate::stretch::Stretch;
+use elf_record::sizes::SYMBOL_BYTES;
 use elf_record::{Cause, Refusal, Sym};
 use elf_source::{Counted, Source};
-use elf_table::{Cap, Fault, NameBuf, NameEnd, Table};
-use memchr::memchr;
+use elf_table::{Cap, Fault, NameBuf, NameEnd, Table, find_nul};
 use std::marker::Model;
 
 /// How many bytes of names are held at most.
@@ -23,13 +24,11 @@ pub(crate) const NAMES_BYTES: usize = 4096;
 pub(crate) const SYMBOLS_BYTES: usize = 3264;
 /// How many bytes of a name are asked for where it doesn't follow the last.
 const PIECE: u64 = 64;
-/// The size of a symbol in bytes.
-const SYMBOL_BYTES: u64 = 24;
 
-/// The names and the symbols that the rows of tables refer to, read ahead. Each call adds what it may
-/// ask for to a credit, and asks for what it wants; where names or symbols follow one another it asks
-/// for more at once, up to 4,096 bytes, as far as the credit goes. All calls together ask for no more
-/// than they may.
+/// The names and the symbols that the rows of tables refer to, read ahead. Each call adds what it
+/// may ask for to a credit, and asks for what it wants; where names or symbols follow one another
+/// it asks for more at once, up to 4,096 bytes, as far as the credit goes. All calls together ask
+/// for no more than they may.
 #[derive(Drop)]
 pub struct ReadAhead {
     names: Stretch<NAMES_BYTES>,
@@ -59,17 +58,18 @@ impl ReadAhead {
         }
     }
 
-    /// Reads the name at an index of a string table into `name`: the bytes before its NUL, or its first
-    /// `cap` bytes where it has more (gABI 4, String Table). An empty string table has the empty name at
-    /// index 0. It reads pieces of 64 to 4,096 bytes, up to the first NUL and never past the string
-    /// table's end; `name_bytes` of the cap is added to the credit, and what it asks for is taken from
-    /// it. After a fault `name` holds any bytes, and after one of a read no names are held.
+    /// Reads the name at an index of a string table into `name`: the bytes before its NUL, or its
+    /// first `cap` bytes where it has more (gABI 4, String Table). An empty string table has the
+    /// empty name at index 0. It reads pieces of 64 to 4,096 bytes, up to the first NUL and never
+    /// past the string table's end; `name_bytes` of the cap is added to the credit, and what it
+    /// asks for is taken from it. After a fault `name` holds any bytes, and after one of a read no
+    /// names are held.
     ///
     /// # Errors
-    /// Refused at the entry that holds the index: `NameOutside` where the index is not below the table's
-    /// size, `NameUnended` where no more than `cap` bytes are left and none is a NUL; `Budget`, only
-    /// where a limit is set, at the offset of the piece that it has no room for. Else a fault of the
-    /// source, at the first byte of the name that was not held.
+    /// Refused at the entry that holds the index: `NameOutside` where the index is not below the
+    /// table's size, `NameUnended` where no more than `cap` bytes are left and none is a NUL;
+    /// `Budget`, only where a limit is set, at the offset of the piece that it has no room for.
+    /// Else a fault of the source, at the first byte of the name that was not held.
     pub fn name<S: Source>(
         &mut self,
         src: &mut Counted<S>,
@@ -111,12 +111,12 @@ impl ReadAhead {
     }
 
     /// The symbol at the index `index`, which is below `len()`, of a table with rows of 24 bytes
-    /// (gABI 4, Symbol Table). 24 bytes are added to the credit, and what it asks for, of the table from
-    /// the symbol on, is taken from it.
+    /// (gABI 4, Symbol Table). 24 bytes are added to the credit, and what it asks for, of the table
+    /// from the symbol on, is taken from it.
     ///
     /// # Errors
-    /// A fault of the read, or a refusal for want of budget, at the symbol's offset. Then no symbols are
-    /// held.
+    /// A fault of the read, or a refusal for want of budget, at the symbol's offset. Then no
+    /// symbols are held.
     pub fn symbol<S: Source>(
         &mut self,
         src: &mut Counted<S>,
@@ -144,8 +144,8 @@ impl ReadAhead {
         Ok(Sym::decode(whole(self.symbols.part(at, SYMBOL_BYTES))))
     }
 
-    // Looks through `want` bytes of a name, or fewer up to the first NUL, and adds those before it to
-    // `name`, as far as `cap`. Answers whether there is a NUL.
+    // Looks through `want` bytes of a name, or fewer up to the first NUL, and adds those before it
+    // to `name`, as far as `cap`. Answers whether there is a NUL.
     fn search<S: Source>(
         &mut self,
         src: &mut Counted<S>,
@@ -175,7 +175,7 @@ impl ReadAhead {
             let at = start + done;
             self.names.bring(src, at, 1, end, &mut self.credit)?;
             let piece = self.names.part(at, want - done);
-            if let Some(place) = memchr(0, piece) {
+            if let Some(place) = find_nul(piece) {
                 name.add(&piece[..place], cap);
                 return Ok(true);
             }

@@ -1,7 +1,7 @@
 //! A stretch of a file that is held.
 ghost use Rattle.std.specs.Prelude.{◌≡◌, ℕ, ◌+◌, ◌-◌, ◌^◌, ◌<◌, ◌≤◌, [], length, min, IfErr, OnOk};
 ghost use Rattle.elf_model.specs.Bytes.{slice};
-ghost use Rattle.elf_table.specs.Faults.{Says, IsAt};
+ghost use Rattle.elf_headers.specs.Faults.{Says, IsAt};
 ghost use Rattle.elf_names.specs.Ahead.{Brings, Spends, StaysOf, reach};
 
 use elf_source::{Counted, Source};
@@ -11,10 +11,10 @@ use std::marker::Model;
 /// How many bytes behind a stretch a wanted byte still counts as the next.
 const NEAR: u64 = 64;
 
-/// A stretch of a file: the bytes that the last read gave. Where others are wanted it reads from the
-/// first of them on. A read takes few bytes, and twice those of the read before it, as far as there is
-/// room, where that one served: where bytes were found in the stretch, or those now wanted stand right
-/// behind it.
+/// A stretch of a file: the bytes that the last read gave. Where others are wanted it reads from
+/// the first of them on. A read takes few bytes, and twice those of the read before it, as far as
+/// there is room, where that one served: where bytes were found in the stretch, or those now wanted
+/// stand right behind it.
 #[derive(Drop)]
 pub(crate) struct Stretch<const N: usize> {
     at: u64,
@@ -54,9 +54,9 @@ impl<const N: usize> Stretch<N> {
         }
     }
 
-    /// Holds the `count` bytes from the offset `at` on. Where it doesn't hold them it reads those and
-    /// more, as far as there is room and credit, and none from the offset `end` on. What it asks for
-    /// is taken from `credit`.
+    /// Holds the `count` bytes from the offset `at` on. Where it doesn't hold them it reads those
+    /// and more, as far as there is room and credit, and none from the offset `end` on. What it
+    /// asks for is taken from `credit`.
     ///
     /// # Errors
     /// A fault of the read, or a refusal for want of budget, at `at`. Then nothing is held.

@@ -10,7 +10,7 @@ use Rattle.elf_model.proofs.Spellings.{next-ends, next-tails, next-past, next-fo
 use Rattle.elf_model.proofs.Walks.{walk, walk-ends, walk-broken, walk-found}
 use Rattle.elf_record.specs.NoteHead.{IsNoteHead}
 use Rattle.elf_record.specs.declared.note_head.NoteHead.{NoteHead}
-use Rattle.elf_table.specs.declared.fault.Fault.{Fault}
+use Rattle.elf_headers.specs.declared.fault.Fault.{Fault}
 use Rattle.elf_table.specs.declared.names.NameEnd.{NameEnd}
 use Rattle.elf_table.specs.Windows.{Ahead, left, range_end}
 use Rattle.elf_note.specs.NoteCursors.{rest, notes_left, no_notes, cut_at, NameIs, Tells, note_size}

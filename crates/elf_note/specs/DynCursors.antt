@@ -5,7 +5,7 @@ use Rattle.elf_model.specs.Numbers.{DT_NULL, DT_STRSZ, DT_STRTAB}
 use Rattle.elf_model.specs.Records.{d_tag, d_un}
 use Rattle.elf_table.specs.Cursors.{Reading, Agrees, Fails, Gives, Shows, place}
 use Rattle.elf_table.specs.Tables.{Rows}
-use Rattle.elf_table.specs.declared.fault.Fault.{Fault}
+use Rattle.elf_headers.specs.declared.fault.Fault.{Fault}
 use Rattle.elf_table.specs.declared.row.Row.{Row}
 use Rattle.elf_note.specs.declared.string_values.DynStrings.{DynStrings}
 

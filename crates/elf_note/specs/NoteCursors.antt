@@ -6,11 +6,11 @@ use Rattle.elf_model.specs.Names.{Shown}
 use Rattle.elf_model.specs.Names.Shown.{Whole as ShownWhole, Cut as ShownCut}
 use Rattle.elf_model.specs.Notes.{Note, Walk, walk_from, with_note, descriptor_start, to_next, note_shown}
 use Rattle.elf_model.specs.declared.causes.Cause.TheVariants.{NoteCut}
-use Rattle.elf_table.specs.Faults.{IsOfRead}
+use Rattle.elf_headers.specs.Faults.{IsOfRead}
 use Rattle.elf_table.specs.Tables.{Rows}
 use Rattle.elf_table.specs.Windows.{Ahead, Agrees, AgreesWith, Moves, left}
-use Rattle.elf_table.specs.declared.fault.Fault.{Fault}
-use Rattle.elf_table.specs.declared.fault.Fault.TheVariants.{Refused}
+use Rattle.elf_headers.specs.declared.fault.Fault.{Fault}
+use Rattle.elf_headers.specs.declared.fault.Fault.TheVariants.{Refused}
 use Rattle.elf_table.specs.declared.names.NameEnd.{NameEnd}
 use Rattle.elf_table.specs.declared.names.NameEnd.TheVariants.{Whole, Cut}
 use Rattle.elf_note.specs.declared.note.Found.{Found}

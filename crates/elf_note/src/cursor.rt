@@ -2,9 +2,9 @@
 ghost use Rattle.std.specs.Prelude.{◌≡◌, ℕ, ◌+◌, ◌≤◌, List, [], length, None, Some, Err, IfErr};
 ghost use Rattle.elf_model.specs.Notes.{note_align};
 ghost use Rattle.elf_source.specs.Source.{Reads};
-ghost use Rattle.elf_table.specs.Faults.{Says};
+ghost use Rattle.elf_headers.specs.Faults.{Says};
 ghost use Rattle.elf_table.specs.Tables.{RowsWithin};
-ghost use Rattle.elf_table.specs.declared.fault.Fault.{Fault};
+ghost use Rattle.elf_headers.specs.declared.fault.Fault.{Fault};
 ghost use Rattle.elf_note.specs.NoteCursors.{Advances, Keeps, Shows};
 
 use crate::note::{Found, SHOWN_DESCRIPTOR, next_note};
@@ -139,9 +139,9 @@ impl NoteCursor {
     ghost use denote.Follow.{follows_so};
     ghost use Rattle.std.specs.Borrow.{sem};
     ghost use Rattle.elf_source.specs.Source.{Reads};
-    ghost use Rattle.elf_table.specs.Faults.{Says};
+    ghost use Rattle.elf_headers.specs.Faults.{Says};
     ghost use Rattle.elf_table.specs.Tables.{RowsWithin};
-    ghost use Rattle.elf_table.specs.declared.fault.Fault.{Fault};
+    ghost use Rattle.elf_headers.specs.declared.fault.Fault.{Fault};
     ghost use Rattle.elf_note.specs.NoteCursors.{Keeps, Steps};
     ghost use Rattle.elf_note.specs.contracts.cursor.NoteCursor.{the_row};
 

@@ -8,9 +8,9 @@ ghost use Rattle.elf_model.specs.Records.{d_tag};
 ghost use Rattle.elf_record.specs.Dyn.{IsDyn};
 ghost use Rattle.elf_source.specs.Source.{Reads};
 ghost use Rattle.elf_table.specs.Cursors.{Shows, unread_bytes};
-ghost use Rattle.elf_table.specs.Faults.{Says};
+ghost use Rattle.elf_headers.specs.Faults.{Says};
 ghost use Rattle.elf_table.specs.Tables.{RowsWithin, size_of};
-ghost use Rattle.elf_table.specs.declared.fault.Fault.{Fault};
+ghost use Rattle.elf_headers.specs.declared.fault.Fault.{Fault};
 ghost use Rattle.elf_note.specs.DynCursors.{AdvancesEntries, entries_left};
 
 use elf_record::Dyn;
@@ -105,9 +105,9 @@ impl DynCursor {
     ghost use Rattle.std.specs.Borrow.{sem};
     ghost use Rattle.elf_source.specs.Source.{Reads};
     ghost use Rattle.elf_table.specs.Cursors.{unread_bytes};
-    ghost use Rattle.elf_table.specs.Faults.{Says};
+    ghost use Rattle.elf_headers.specs.Faults.{Says};
     ghost use Rattle.elf_table.specs.Tables.{RowsWithin};
-    ghost use Rattle.elf_table.specs.declared.fault.Fault.{Fault};
+    ghost use Rattle.elf_headers.specs.declared.fault.Fault.{Fault};
     ghost use Rattle.elf_note.specs.DynCursors.{StepsEntries};
     ghost use Rattle.elf_note.specs.contracts.dynamic.DynCursor.{the_row};
 

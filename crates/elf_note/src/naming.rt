@@ -3,8 +3,8 @@ ghost use Rattle.std.specs.Prelude.{◌≡◌, ℕ, ◌+◌, ◌<◌, ◌≤◌,
 ghost use Rattle.elf_model.specs.Bytes.{slice};
 ghost use Rattle.elf_model.specs.Notes.{Note, note_shown};
 ghost use Rattle.elf_source.specs.Source.{Reads};
-ghost use Rattle.elf_table.specs.Faults.{IsOfRead, Says};
-ghost use Rattle.elf_table.specs.Windows.{Agrees, AgreesWith, IsWithin, Moves, left};
+ghost use Rattle.elf_headers.specs.Faults.{IsOfRead, Says};
+ghost use Rattle.elf_table.specs.Windows.{Agrees, AgreesWith, RangeWithin, Moves, left};
 ghost use Rattle.elf_note.specs.NoteCursors.{NameIs};
 
 use elf_source::{Counted, Source};
@@ -24,7 +24,7 @@ pub(crate) fn read_name<S: Source>(
 ) -> Result<NameEnd, Fault>
     requires enough { size ≤ left window.old }
     requires some { 0 < window.old.page }
-    requires within { IsWithin src.old.seen.size window.old }
+    requires within { RangeWithin src.old.seen.size window.old }
     ensures reads { Reads src.old src.new window.old.unread }
     ensures says { IfErr result (Says src.old src.new window.old.unread) }
     ensures fault { IfErr result IsOfRead }

@@ -4,8 +4,8 @@ ghost use Rattle.std.specs.Prelude.{Some, IfErr, OnOk, IfOk};
 ghost use Rattle.elf_model.specs.Bytes.{slice};
 ghost use Rattle.elf_model.specs.Notes.{to_next};
 ghost use Rattle.elf_source.specs.Source.{Reads};
-ghost use Rattle.elf_table.specs.Faults.{IsOfRead, Says};
-ghost use Rattle.elf_table.specs.Windows.{Agrees, AgreesWith, IsWithin, Moves, left};
+ghost use Rattle.elf_headers.specs.Faults.{IsOfRead, Says};
+ghost use Rattle.elf_table.specs.Windows.{Agrees, AgreesWith, RangeWithin, Moves, left};
 ghost use Rattle.elf_note.specs.NoteCursors.{Passes, Stops, Tells, notes_left, note_cut};
 
 use crate::naming::read_name;
@@ -52,7 +52,7 @@ pub(crate) fn next_note<S: Source>(
     requires aligned { 0 < align }
     requires small { align ≤ 8 }
     requires page { 32 ≤ window.old.page }
-    requires within { IsWithin src.old.seen.size window.old }
+    requires within { RangeWithin src.old.seen.size window.old }
     ensures reads { Reads src.old src.new window.old.unread }
     ensures says { IfErr result (Says src.old src.new window.old.unread) }
     ensures stops { IfErr result (Stops window.old.at) }
@@ -108,7 +108,7 @@ fn read_rest<S: Source>(
     requires part { length desc.old ≤ size }
     requires enough { size ≤ left window.old }
     requires ends { start + size < 2 ^ 64 }
-    requires within { IsWithin src.old.seen.size window.old }
+    requires within { RangeWithin src.old.seen.size window.old }
     ensures reads { Reads src.old src.new window.old.unread }
     ensures says { IfErr result (Says src.old src.new window.old.unread) }
     ensures fault { IfErr result IsOfRead }

@@ -4,7 +4,7 @@ ghost use Rattle.elf_model.specs.Numbers.{DT_STRSZ, DT_STRTAB};
 ghost use Rattle.elf_model.specs.Records.{d_tag, d_un};
 ghost use Rattle.elf_record.specs.Dyn.{IsDyn};
 ghost use Rattle.elf_source.specs.Source.{Reads};
-ghost use Rattle.elf_table.specs.Faults.{IsOfRead, Says};
+ghost use Rattle.elf_headers.specs.Faults.{IsOfRead, Says};
 ghost use Rattle.elf_table.specs.Tables.{RowsWithin, size_of};
 ghost use Rattle.elf_note.specs.DynCursors.{AreStrings, first_value, value_here};
 

@@ -2,8 +2,8 @@
 ghost use Rattle.std.specs.Prelude.{◌≡◌, ℕ, ◌≤◌, List, Some, IfErr, OnOk, IfOk};
 ghost use Rattle.elf_model.specs.Notes.{are_zeros};
 ghost use Rattle.elf_source.specs.Source.{Reads};
-ghost use Rattle.elf_table.specs.Faults.{IsOfRead, Says};
-ghost use Rattle.elf_table.specs.Windows.{Agrees, AgreesWith, IsWithin, Moves, left};
+ghost use Rattle.elf_headers.specs.Faults.{IsOfRead, Says};
+ghost use Rattle.elf_table.specs.Windows.{Agrees, AgreesWith, RangeWithin, Moves, left};
 ghost use Rattle.elf_note.specs.NoteCursors.{rest};
 
 use elf_source::{Counted, Source};
@@ -19,7 +19,7 @@ pub(crate) fn ends_in_zeros<S: Source>(
     src: &mut Counted<S>,
 ) -> Result<bool, Fault>
     requires few { left window.old ≤ window.old.page }
-    requires within { IsWithin src.old.seen.size window.old }
+    requires within { RangeWithin src.old.seen.size window.old }
     ensures reads { Reads src.old src.new window.old.unread }
     ensures says { IfErr result (Says src.old src.new window.old.unread) }
     ensures fault { IfErr result IsOfRead }

@@ -2,8 +2,8 @@
 ghost use Rattle.std.specs.Prelude.{◌≡◌, ℕ, ◌+◌, ◌≤◌, List, length, Some, IfErr, OnOk};
 ghost use Rattle.elf_model.specs.Bytes.{slice};
 ghost use Rattle.elf_source.specs.Source.{Reads};
-ghost use Rattle.elf_table.specs.Faults.{IsOfRead, Says};
-ghost use Rattle.elf_table.specs.Windows.{Agrees, AgreesWith, IsWithin, Moves, left};
+ghost use Rattle.elf_headers.specs.Faults.{IsOfRead, Says};
+ghost use Rattle.elf_table.specs.Windows.{Agrees, AgreesWith, RangeWithin, Moves, left};
 
 use elf_source::{Counted, Source};
 use elf_table::{Fault, WINDOW_BYTES, Window};
@@ -19,7 +19,7 @@ pub(crate) fn take<S: Source>(
 ) -> Result<(), Fault>
     requires enough { length out.old ≤ left window.old }
     requires small { length out.old ≤ window.old.page }
-    requires within { IsWithin src.old.seen.size window.old }
+    requires within { RangeWithin src.old.seen.size window.old }
     ensures reads { Reads src.old src.new window.old.unread }
     ensures says { IfErr result (Says src.old src.new window.old.unread) }
     ensures fault { IfErr result IsOfRead }

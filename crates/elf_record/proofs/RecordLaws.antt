@@ -33,7 +33,7 @@ note_head_in_file file at bytes r is stands = let there = parts_in_file file at 
 field_in : (file : List ℕ) (at size : ℕ) (bytes : List ℕ) (k width : ℕ) → bytes ≡ slice file at size → k + width ≤ size → field bytes k width ≡ field file (at + k) width
 field_in file at size bytes k width is inside = ap (λ b. field b k width) is ∙ field-slice file at size k width inside
 
-first_field_in : (file : List ℕ) (at size : ℕ) (bytes : List ℕ) (width : ℕ) → bytes ≡ slice file at size → width ≤ size → field bytes 0 width ≡ field file at width
+pub first_field_in : (file : List ℕ) (at size : ℕ) (bytes : List ℕ) (width : ℕ) → bytes ≡ slice file at size → width ≤ size → field bytes 0 width ≡ field file at width
 first_field_in file at size bytes width is inside =
     let here : at + 0 ≡ at = omega arith in
     field_in file at size bytes 0 width is (omega arith) ∙ ap (λ place. field file place width) here

@@ -12,7 +12,9 @@ mod parts;
 mod phdr;
 mod rela;
 mod shdr;
+pub mod sizes;
 mod sym;
+mod words;
 
 pub use dyn_entry::Dyn;
 pub use ehdr::Ehdr;
@@ -24,3 +26,4 @@ pub use phdr::Phdr;
 pub use rela::Rela;
 pub use shdr::Shdr;
 pub use sym::{Place, Sym};
+pub use words::word;

@@ -34,11 +34,16 @@ pub unsupported :
     (n s l : ℕ) (a : ℤ) (p : ℕ) → n ≢ R_X86_64_NONE → None ≡ kind_of n → Err Unsupported ≡ value n s l a p
 unsupported n s l a p other is = ap (stored_of (terms s l a p)) is ∙ value_is n s l a p other
 
-pub found :
-    (n s l : ℕ) (a : ℤ) (p : ℕ) (type : Kind) (number : ℕ) (in_range : Bool)
-    → n ≢ R_X86_64_NONE → SFits w64 a → Some type ≡ kind_of n
+pub patch_by :
+    (s l : ℕ) (a : ℤ) (p : ℕ) (type : Kind) (number : ℕ) (in_range : Bool) → SFits w64 a
     → number ≡ value_of type (terms s l (cast_signed w64 (cast_unsigned w64 a)) p) → in_range ≡ fits type.range type.width number
-    → patch_in type number in_range ≡ value n s l a p
-found n s l a p type number in_range other small is same ranged =
+    → patch_in type number in_range ≡ patch_of type (terms s l a p)
+patch_by s l a p type number in_range small same ranged =
     ap (patch_in type number) ranged ∙ ap (λ m. patch_in type m (fits type.range type.width m)) (same ∙ ap (λ z. value_of type (terms s l z p)) (to_z-of_z small))
-    ∙ patch_is type (terms s l a p) ∙ ap (stored_of (terms s l a p)) is ∙ value_is n s l a p other
+    ∙ patch_is type (terms s l a p)
+
+pub found :
+    (n s l : ℕ) (a : ℤ) (p : ℕ) (type : Kind) → n ≢ R_X86_64_NONE → SFits w64 a → Some type ≡ kind_of n
+    → patch_of type (terms s l (cast_signed w64 (cast_unsigned w64 a)) p) ≡ value n s l a p
+found n s l a p type other small is =
+    ap (λ z. patch_of type (terms s l z p)) (to_z-of_z small) ∙ (ap (stored_of (terms s l a p)) is ∙ value_is n s l a p other)

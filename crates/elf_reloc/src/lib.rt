@@ -6,4 +6,5 @@ mod relocation_types;
 mod values;
 
 pub use patch::Patch;
+pub use relocation_types::{Formula, Range, RelocationType, relocation_type};
 pub use values::{ValueFault, value};

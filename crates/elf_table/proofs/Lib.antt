@@ -1,11 +1,7 @@
+pub mod MappedLaws
 pub mod NameWindows
-pub mod PagesRead
 pub mod Paging
 pub mod Pieces
-pub mod RowsHeld
-pub mod SaysLaws
+pub mod SameNames
 pub mod SectionLaws
-pub mod Shown
 pub mod Standing
-pub mod ViewLaws
-pub mod Walking

@@ -1,5 +1,5 @@
 -- Where a name's window stands between its pieces.
-use Rattle.std.proofs.Common.{◌≡◌, ℕ, ◌+◌, ◌-◌, ◌≤◌, ◌<◌, List, [], length, drop, Some, ap, sym, ◌∙◌, refl, arith}
+use Rattle.std.proofs.Common.{◌≡◌, ℕ, ◌+◌, ◌≤◌, ◌<◌, List, [], length, drop, Some, ap, sym, ◌∙◌, refl, arith}
 use Rattle.std.proofs.lemmas.List.{drop_all}
 use Rattle.elf_model.specs.Bytes.{slice}
 use Rattle.elf_source.specs.Source.{Counting, Reads}

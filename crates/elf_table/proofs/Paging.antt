@@ -4,7 +4,7 @@ use Rattle.std.proofs.lemmas.Bool.{cases_lt}
 use Rattle.std.proofs.lemmas.List.{drop_all}
 use Rattle.elf_model.specs.Bytes.{slice}
 use Rattle.elf_model.proofs.Slices.{slice-rest}
-use Rattle.elf_table.proofs.Pieces.{slice-two}
+use Rattle.elf_model.proofs.Searches.{slice-two}
 use Rattle.elf_table.specs.Windows.{Ahead, Agrees, Moves, range_end}
 
 -- what was read stands behind what was held

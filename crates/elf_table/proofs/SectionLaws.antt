@@ -6,8 +6,8 @@ use Rattle.elf_model.specs.Tables.{has_symbols}
 use Rattle.elf_model.specs.Records.{sh_offset, sh_size, sh_link, section_at, e_shnum}
 use Rattle.elf_model.specs.declared.causes.Refusal.{Refusal}
 use Rattle.elf_table.specs.Tables.{Rows, Strings}
-use Rattle.elf_table.specs.Sections.{answered, checked, rows, strings, names_at, table_at, strings_at, symbols_at, linked_at, there, linked_checks, symbols_linked, relocations_at}
-use Rattle.elf_table.specs.declared.fault.Fault.{Fault}
+use Rattle.elf_table.specs.Sections.{answered, checked, rows, strings, names_at, table_at, strings_at, symbols_at, linked_symbols_at, there, linked_checks, symbols_linked, relocations_at}
+use Rattle.elf_headers.specs.declared.fault.Fault.{Fault}
 
 -- a refusal, else another
 abbrev or_then : Option Refusal → Option Refusal → Option Refusal
@@ -74,7 +74,7 @@ when_true false x y h = cc
 
 -- a link to a section of symbols
 pub linked_is : (file : List ℕ) (at link count : ℕ) (holds : Bool) (symbols : Result (Rows × Strings) Fault) → link ≡ sh_link file at → count ≡ e_shnum file → link < count
-    → holds ≡ is_symbol_table file (section_at file link) → holds ≡ true → symbols ≡ symbols_at file (section_at file link) → there symbols ≡ linked_at file at
+    → holds ≡ is_symbol_table file (section_at file link) → holds ≡ true → symbols ≡ symbols_at file (section_at file link) → there symbols ≡ linked_symbols_at file at
 linked_is file at link count holds symbols is counted below kind kept gives =
     let same : symbols ≡ symbols_at file (section_at file (sh_link file at)) = gives ∙ ap (λ k. symbols_at file (section_at file k)) is in
     let holds_them : is_symbol_table file (section_at file (sh_link file at)) ≡ true = sym (ap (λ k. is_symbol_table file (section_at file k)) is) ∙ (sym kind ∙ kept) in
@@ -125,7 +125,7 @@ relocations_table-fails file at fault h =
     table_fails (sh_size file at == 0) (table_checks file at 24) (linked_checks file at) (rows (sh_offset file at) 0 24) (rows (sh_offset file at) (sh_size file at / 24) 24)
     (rows (sh_offset file at) 0 24, None) (rows (sh_offset file at) (sh_size file at / 24) 24, symbols_linked file at) fault h
 
-pub relocations_linked-fail : (file : List ℕ) (at : ℕ) (table : Rows) (fault : Fault) → table_at file at 24 ≡ Ok table → ¬ (table.count ≡ 0) → linked_at file at ≡ Err fault → relocations_at file at ≡ Err fault
+pub relocations_linked-fail : (file : List ℕ) (at : ℕ) (table : Rows) (fault : Fault) → table_at file at 24 ≡ Ok table → ¬ (table.count ≡ 0) → linked_symbols_at file at ≡ Err fault → relocations_at file at ≡ Err fault
 relocations_linked-fail file at table fault h k l =
     let to : ℕ = section_at file (sh_link file at) in
     table_passes (sh_size file at == 0) (table_checks file at 24) (linked_checks file at) (sh_offset file at) (sh_size file at / 24) 24 table (strings 0 0)
@@ -133,7 +133,7 @@ relocations_linked-fail file at table fault h k l =
     (refused_linked (has_symbols file at) (sh_size file to == 0) (rows (sh_offset file to) 0 24, strings (sh_offset file to) 0)
     (rows (sh_offset file to) (sh_size file to / 24) 24, names_at file (section_at file (sh_link file to))) (table_checks file to 24 ++ strings_checks file to) (strings 0 0) fault l)
 
-pub relocations_are : (file : List ℕ) (at : ℕ) (table : Rows) (linked : Option (Rows × Strings)) → table_at file at 24 ≡ Ok table → ¬ (table.count ≡ 0) → linked_at file at ≡ Ok linked → relocations_at file at ≡ Ok (table, linked)
+pub relocations_are : (file : List ℕ) (at : ℕ) (table : Rows) (linked : Option (Rows × Strings)) → table_at file at 24 ≡ Ok table → ¬ (table.count ≡ 0) → linked_symbols_at file at ≡ Ok linked → relocations_at file at ≡ Ok (table, linked)
 relocations_are file at table linked h k l =
     let to : ℕ = section_at file (sh_link file at) in
     table_stays (sh_size file at == 0) (table_checks file at 24) (linked_checks file at) (sh_offset file at) (sh_size file at / 24) 24 table

@@ -6,9 +6,9 @@ use Rattle.std.proofs.lemmas.Grind.{common_steps}
 use Rattle.elf_model.specs.Bytes.{slice}
 use Rattle.elf_table.specs.Tables.{Rows, size_of}
 use Rattle.elf_table.specs.Cursors.{Reading, Gives, Stands, page_of, row_at}
-use Rattle.elf_table.specs.Faults.{IsAt}
+use Rattle.elf_headers.specs.Faults.{IsAt}
 use Rattle.elf_table.specs.Windows.{Ahead, Agrees, AgreesWith, Holds, frontier, left, range_end}
-use Rattle.elf_table.specs.declared.fault.Fault.{Fault}
+use Rattle.elf_headers.specs.declared.fault.Fault.{Fault}
 use Rattle.elf_table.proofs.Paging.{Agrees-skip, held-front}
 
 -- a product in two parts

@@ -1,9 +1,9 @@
 -- What a cursor over a table gives, row by row.
-use Rattle.std.specs.Prelude.{ℕ, zero, suc, ◌≡◌, ◌+◌, ◌*◌, ◌/◌, Bool, true, false, List, [], ◌∷◌, length, Option, None, Some, Result, Ok, Err}
+use Rattle.std.specs.Prelude.{ℕ, ◌≡◌, ◌+◌, ◌*◌, ◌/◌, Bool, true, false, List, length, Option, None, Some, Result, Ok, Err}
 use Rattle.elf_model.specs.Bytes.{slice}
 use Rattle.elf_table.specs.Tables.{Rows}
-use Rattle.elf_table.specs.declared.fault.Fault.{Fault}
-use Rattle.elf_table.specs.Faults.{IsAt}
+use Rattle.elf_headers.specs.declared.fault.Fault.{Fault}
+use Rattle.elf_headers.specs.Faults.{IsAt}
 use Rattle.elf_table.specs.declared.row.Row.{Row}
 use Rattle.elf_table.specs.Windows.{Ahead}
 
@@ -48,15 +48,6 @@ unread_bytes c = unless_failed c.failed c.unread
 -- what a cursor holds of the next rows is what the file has there
 abbrev pub Agrees : List ℕ → Reading → Type 0
 Agrees file c = c.held ≡ slice file (place c) (length c.held)
-
--- the rows of one size from an offset on, so many of them
-unfoldable pub rows_from : List ℕ → ℕ → ℕ → ℕ → List (List ℕ)
-rows_from file at entry zero = []
-rows_from file at entry (suc count) = slice file at entry ∷ rows_from file (at + entry) entry count
-
--- the rows of a file that a cursor has not given yet
-abbrev pub rows_left : List ℕ → Reading → List (List ℕ)
-rows_left file c = rows_from file (place c) c.table.entry c.left
 
 -- the last row that a cursor gave, as it shows it
 pub record Shows (c : Reading) (row : Row) : Type 0 where

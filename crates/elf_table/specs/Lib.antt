@@ -1,11 +1,7 @@
 pub mod Cursors
-pub mod Faults
 pub mod Files
-pub mod Load
 pub mod NamesRead
-pub mod Permitted
 pub mod Sections
-pub mod Store
 pub mod Tables
 pub mod Views
 pub mod Windows

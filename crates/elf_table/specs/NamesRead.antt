@@ -1,11 +1,12 @@
 -- What a read of a name answers.
-use Rattle.std.specs.Prelude.{ℕ, ◌≡◌, ◌<◌, ◌≢◌, Bool, List, length, take, slice_index, true, false, None, Some, Result, Ok, Err}
+use Rattle.std.specs.Prelude.{ℕ, ◌≡◌, ◌<◌, ◌≢◌, Bool, List, length, slice_index, true, false, Result, Ok, Err}
 use Rattle.elf_model.specs.Budget.{IsBudget}
-use Rattle.elf_model.specs.Names.{Shown, nul_in}
+use Rattle.elf_model.specs.Names.{Shown}
 use Rattle.elf_model.specs.Names.Shown.{Whole as ShownWhole, Cut as ShownCut}
+use Rattle.elf_model.specs.Searches.{Found}
 use Rattle.elf_model.specs.declared.causes.Cause.{Cause}
-use Rattle.elf_table.specs.declared.fault.Fault.{Fault}
-use Rattle.elf_table.specs.declared.fault.Fault.TheVariants.{Refused, Source}
+use Rattle.elf_headers.specs.declared.fault.Fault.{Fault}
+use Rattle.elf_headers.specs.declared.fault.Fault.TheVariants.{Refused, Source}
 use Rattle.elf_table.specs.declared.names.NameEnd.{NameEnd}
 use Rattle.elf_table.specs.declared.names.NameEnd.TheVariants.{Whole, Cut}
 
@@ -25,10 +26,9 @@ abbrev pub Compared : ℕ → Result Bool Fault → Result Bool Cause → Type 0
 Compared at (Ok equal) answer = answer ≡ Ok equal
 Compared at (Err fault) answer = Refuses at fault answer
 
--- bytes were searched for a NUL: those before it are kept, or all, as far as the cap
+-- bytes were searched for a NUL, and so much of them is kept
 abbrev pub Searched : List ℕ → ℕ → Result Bool Fault → List ℕ → Type 0
-Searched front cap (Ok true) kept = (place : ℕ) × (nul_in front ≡ Some place) × (kept ≡ take cap (take place front))
-Searched front cap (Ok false) kept = (nul_in front ≡ None) × (kept ≡ take cap front)
+Searched front cap (Ok found) kept = Found front cap found kept
 Searched front cap (Err fault) kept = Unit {0}
 
 -- two lists have the same bytes at the places below a number, missing bytes being 0

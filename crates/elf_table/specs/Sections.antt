@@ -1,14 +1,14 @@
 -- What the sections of a loaded file answer for: tables, string tables, symbols with their names.
 use Rattle.std.specs.Prelude.{ℕ, ◌/◌, ◌==◌, true, false, not, if◌then◌else◌, List, [], ◌∷◌, ◌++◌, length, Option, None, Some, Result, Ok, Err}
-use Rattle.elf_model.specs.Checks.{Check, refuse, first_refusal, is_outside, table_checks, table_checks_of, strings_checks, has_section_names}
+use Rattle.elf_model.specs.Checks.{Check, refuse, first_refusal, is_outside, unless_empty, whole_checks_of, table_checks, table_checks_of, strings_checks, has_section_names}
 use Rattle.elf_model.specs.Tables.{has_symbols, symbol_table_checks}
 use Rattle.elf_model.specs.Records.{sh_type, sh_offset, sh_size, sh_link, e_shstrndx, section_at}
 use Rattle.elf_model.specs.Numbers.{SHT_STRTAB}
 use Rattle.elf_model.specs.declared.causes.Refusal.{Refusal}
 use Rattle.elf_model.specs.declared.causes.Cause.TheVariants.{NotStrings, TableOutside}
 use Rattle.elf_table.specs.Tables.{Rows, Strings}
-use Rattle.elf_table.specs.declared.fault.Fault.{Fault}
-use Rattle.elf_table.specs.declared.fault.Fault.TheVariants.{Refused}
+use Rattle.elf_headers.specs.declared.fault.Fault.{Fault}
+use Rattle.elf_headers.specs.declared.fault.Fault.TheVariants.{Refused}
 
 -- a refusal if there is one, else a value
 abbrev pub answered : {A : Type 0} → Option Refusal → A → Result A Fault
@@ -26,6 +26,12 @@ rows at count entry = record { at = at; count = count; entry = entry }
 -- so many bytes of names from an offset on
 abbrev pub strings : ℕ → ℕ → Strings
 strings at size = record { at = at; size = size }
+
+-- so many bytes from an offset on as rows of one size, in a file of so many bytes; none have no checks, and refusals
+-- name a place
+abbrev pub rows_of : ℕ → ℕ → ℕ → ℕ → ℕ → Result Rows Fault
+rows_of file_size offset size place entry =
+    checked (unless_empty size (whole_checks_of file_size offset size place entry)) (rows offset (size / entry) entry)
 
 -- the table of a section whose header stands at an offset of some bytes, in a file of so many bytes;
 -- an empty one has no checks
@@ -45,8 +51,8 @@ abbrev pub names_at : List ℕ → ℕ → Strings
 names_at file at = strings (sh_offset file at) (sh_size file at)
 
 -- a section that is to be a string table, as `table_of` is told of it
-abbrev pub strings_of : List ℕ → ℕ → ℕ → ℕ → Result Strings Fault
-strings_of bytes at file_size place =
+abbrev pub string_table_of : List ℕ → ℕ → ℕ → ℕ → Result Strings Fault
+string_table_of bytes at file_size place =
     checked (refuse (not (sh_type bytes at == SHT_STRTAB)) place NotStrings ∷ refuse (is_outside file_size (sh_offset bytes at) (sh_size bytes at)) place TableOutside ∷ [])
     (strings (sh_offset bytes at) (sh_size bytes at))
 
@@ -81,8 +87,8 @@ there (Ok value) = Ok (Some value)
 there (Err fault) = Err fault
 
 -- the symbols that a section of relocations refers to, if there are any
-abbrev pub linked_at : List ℕ → ℕ → Result (Option (Rows × Strings)) Fault
-linked_at file at = elim (has_symbols file at) [ true ↦ there (symbols_at file (section_at file (sh_link file at))) | false ↦ Ok None ]
+abbrev pub linked_symbols_at : List ℕ → ℕ → Result (Option (Rows × Strings)) Fault
+linked_symbols_at file at = elim (has_symbols file at) [ true ↦ there (symbols_at file (section_at file (sh_link file at))) | false ↦ Ok None ]
 
 -- the symbols of a section of the file with their string table, its checks aside
 abbrev pub symbols_in : List ℕ → ℕ → Rows × Strings

@@ -1,22 +1,16 @@
--- A loaded file in the segment view, and what it tells of its segments.
-use Rattle.std.specs.Prelude.{ℕ, ◌≡◌, ◌+◌, ◌*◌, ◌/◌, List, [], ◌∷◌, length, Result}
+-- What a loaded file in the segment view tells of its segments.
+use Rattle.std.specs.Prelude.{ℕ, ◌≡◌, ◌+◌, ◌*◌, List, [], ◌∷◌, length, Result}
 use Rattle.elf_model.specs.Checks.{refuse, is_outside}
 use Rattle.elf_model.specs.Records.{p_offset, p_filesz, segment_at}
-use Rattle.elf_model.specs.Segments.{segment_dynamic_checks_of, mapped_checks, mapped_place}
+use Rattle.elf_model.specs.Segments.{mapped_checks, mapped_place}
 use Rattle.elf_model.specs.declared.causes.Cause.TheVariants.{TableOutside}
 use Rattle.elf_record.specs.declared.ehdr.Ehdr.{Ehdr}
-use Rattle.elf_table.specs.Load.{Opened, Belongs}
-use Rattle.elf_table.specs.Sections.{checked, rows, strings}
-use Rattle.elf_table.specs.Store.{Stored, HoldsSegments, segment_row}
+use Rattle.elf_headers.specs.Load.{Views}
+use Rattle.elf_table.specs.Sections.{checked, rows_of, strings}
+use Rattle.elf_headers.specs.Store.{segment_row}
 use Rattle.elf_table.specs.Tables.{Rows, Strings}
-use Rattle.elf_table.specs.declared.fault.Fault.{Fault}
+use Rattle.elf_headers.specs.declared.fault.Fault.{Fault}
 use Rattle.elf_table.specs.declared.segment_view.SegmentView.{SegmentView}
-
--- this file was loaded, and the store holds its program headers
-pub record Views (file : List ℕ) (loaded : Opened) (store : Stored) : Type 0 where
-  pub belongs : Belongs file loaded store
-  pub count : store.segments ≡ loaded.header.e_phnum
-  pub rows : HoldsSegments file store
 
 -- an answer for a segment is what the file that is viewed has at its program header
 abbrev pub TellsSegment : {A : Type 0} → SegmentView → ℕ → A → (List ℕ → ℕ → A) → Type 0
@@ -30,8 +24,7 @@ segment_place header i = header.e_phoff + 56 * i
 -- the dynamic entries of a segment whose program header stands at an offset of some bytes, in a file of so many bytes;
 -- the refusals name a place
 abbrev pub dynamic_of : List ℕ → ℕ → ℕ → ℕ → Result Rows Fault
-dynamic_of bytes at file_size place =
-    checked (segment_dynamic_checks_of bytes at file_size place) (rows (p_offset bytes at) (p_filesz bytes at / 16) 16)
+dynamic_of bytes at file_size place = rows_of file_size (p_offset bytes at) (p_filesz bytes at) place 16
 
 -- those of a segment of the file
 abbrev pub dynamic_at : List ℕ → ℕ → Result Rows Fault

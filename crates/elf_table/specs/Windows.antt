@@ -1,8 +1,8 @@
 -- What a window over a range of a file shows.
 use Rattle.std.specs.Prelude.{ℕ, ◌≡◌, ◌+◌, ◌≤◌, ◌<◌, min, List, length, Option, Some, Result, Ok, Err}
 use Rattle.elf_model.specs.Bytes.{slice}
-use Rattle.elf_table.specs.declared.fault.Fault.{Fault}
-use Rattle.elf_table.specs.Faults.{IsAt}
+use Rattle.elf_headers.specs.declared.fault.Fault.{Fault}
+use Rattle.elf_headers.specs.Faults.{IsAt}
 
 -- a window: the offset of the next byte, the bytes that it holds from there on, how many bytes of its range behind
 -- those are not asked for yet, and how many it holds at most
@@ -33,8 +33,8 @@ abbrev pub AgreesWith : Option (List ℕ) → Ahead → Ahead → Type 0
 AgreesWith file old new = (bytes : List ℕ) → file ≡ Some bytes → Agrees bytes old → Agrees bytes new
 
 -- a window that has bytes left ends within a source of this size
-abbrev pub IsWithin : ℕ → Ahead → Type 0
-IsWithin size w = 0 < left w → range_end w ≤ size
+abbrev pub RangeWithin : ℕ → Ahead → Type 0
+RangeWithin size w = 0 < left w → range_end w ≤ size
 
 -- what every call keeps, fault or not: the range ends where it ended, the place goes on, and what was asked for
 -- is no longer unread

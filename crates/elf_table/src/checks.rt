@@ -1,14 +1,14 @@
 //! The checks of one section by its header.
-ghost use Rattle.std.specs.Prelude.{◌≡◌, ℕ, ◌<◌, ◌≤◌, List, IfOk, Err};
+ghost use Rattle.std.specs.Prelude.{◌≡◌, ℕ, ◌<◌, ◌≤◌, List, IfOk, IfErr, Err};
 ghost use Rattle.elf_model.specs.Checks.{is_symbol_table};
 ghost use Rattle.elf_record.specs.Shdr.{IsShdr};
-ghost use Rattle.elf_table.specs.Sections.{table_of, strings_of};
+ghost use Rattle.elf_headers.specs.Faults.{IsOfCheck};
+ghost use Rattle.elf_table.specs.Sections.{rows_of, table_of, string_table_of};
 ghost use Rattle.elf_table.specs.Tables.{RowsWithin, StringsWithin, size_of};
 
-use crate::fault::Fault;
 use crate::names::Names;
-use crate::ranges::ends_outside;
 use crate::table::Table;
+use elf_headers::{Fault, ends_outside};
 use elf_record::numbers::{SHT_DYNSYM, SHT_STRTAB, SHT_SYMTAB};
 use elf_record::{Cause, Refusal, Shdr};
 
@@ -28,25 +28,45 @@ pub(crate) fn checked_table(
     ensures entry { IfOk result (λ table. table.entry ≡ entry) }
     ensures sized { IfOk result (λ table. size_of table ≡ header.now.sh_size) }
 {
-    if header.sh_size == 0 {
-        return Ok(Table::new(header.sh_offset, 0, entry));
-    }
-    if header.sh_entsize != entry {
+    if header.sh_size != 0 && header.sh_entsize != entry {
         return refused(place, Cause::EntrySize);
     }
-    if header.sh_size % entry != 0 {
+    checked_rows(header.sh_offset, header.sh_size, entry, size, place)
+}
+
+/// `bytes` bytes from the offset `offset` on as rows of `entry` bytes, in a file of `size` bytes.
+/// None are not checked. Refusals name `place`.
+pub(crate) fn checked_rows(
+    offset: u64,
+    bytes: u64,
+    entry: u64,
+    size: u64,
+    place: u64,
+) -> Result<Table, Fault>
+    requires some { 0 < entry }
+    requires small { entry ≤ 4096 }
+    ensures value { result ≡ rows_of size offset bytes place entry }
+    ensures within { IfOk result (RowsWithin size) }
+    ensures entry { IfOk result (λ table. table.entry ≡ entry) }
+    ensures sized { IfOk result (λ table. size_of table ≡ bytes) }
+    ensures refusal { IfErr result IsOfCheck }
+{
+    if bytes == 0 {
+        return Ok(Table::new(offset, 0, entry));
+    }
+    if bytes % entry != 0 {
         return refused(place, Cause::SizeNotWhole);
     }
-    if ends_outside(size, header.sh_offset, header.sh_size) {
+    if ends_outside(size, offset, bytes) {
         return refused(place, Cause::TableOutside);
     }
-    Ok(Table::new(header.sh_offset, header.sh_size / entry, entry))
+    Ok(Table::new(offset, bytes / entry, entry))
 }
 
 /// The section as a string table, in a file of `size` bytes. Refusals name `place`.
 pub(crate) fn checked_strings(header: &Shdr, size: u64, place: u64) -> Result<Names, Fault>
     ensures value { (bytes : List ℕ) (at : ℕ) → IsShdr bytes at header.now →
-        result ≡ strings_of bytes at size place }
+        result ≡ string_table_of bytes at size place }
     ensures within { IfOk result (StringsWithin size) }
 {
     if header.sh_type != SHT_STRTAB {

@@ -2,19 +2,19 @@
 ghost use Rattle.std.specs.Prelude.{◌≡◌, ℕ, ◌+◌, ◌<◌, ◌≤◌, List, [], None, Some, Err, IfErr};
 ghost use Rattle.elf_source.specs.Source.{Reads};
 ghost use Rattle.elf_table.specs.Cursors.{Advances, Shows, unread_bytes};
-ghost use Rattle.elf_table.specs.declared.fault.Fault.{Fault};
-ghost use Rattle.elf_table.specs.Faults.{Says};
+ghost use Rattle.elf_headers.specs.declared.fault.Fault.{Fault};
+ghost use Rattle.elf_headers.specs.Faults.{Says};
 ghost use Rattle.elf_table.specs.Tables.{RowsWithin, size_of};
 
-use crate::fault::Fault;
 use crate::row::Row;
 use crate::table::Table;
 use crate::window::{WINDOW_BYTES, Window};
+use elf_headers::Fault;
 use elf_source::{Counted, Source};
 use std::marker::Model;
 
-/// A cursor over the rows of a table. It reads as many whole rows at once as 4,096 bytes hold, never
-/// past the table's end, and lends each row from there.
+/// A cursor over the rows of a table. It reads as many whole rows at once as 4,096 bytes hold,
+/// never past the table's end, and lends each row from there.
 #[derive(Drop)]
 pub struct Cursor {
     table: Table,
@@ -69,12 +69,12 @@ impl Cursor {
         }
     }
 
-    /// Goes to the next row, and answers whether there is one. What it asks for is no longer unread:
-    /// all calls together ask for no more than the table's bytes, each byte at most once.
+    /// Goes to the next row, and answers whether there is one. What it asks for is no longer
+    /// unread: all calls together ask for no more than the table's bytes, each byte at most once.
     ///
     /// # Errors
-    /// A fault of a read, or a refusal for want of budget, at the next row's offset. From then on each
-    /// call answers the same and reads nothing.
+    /// A fault of a read, or a refusal for want of budget, at the next row's offset. From then on
+    /// each call answers the same and reads nothing.
     pub fn advance<S: Source>(&mut self, src: &mut Counted<S>) -> Result<bool, Fault>
         requires { RowsWithin src.old.seen.size self.old.table }
         ensures reads { Reads src.old src.new (unread_bytes self.old) }
@@ -104,8 +104,8 @@ impl Cursor {
         Ok(true)
     }
 
-    /// The row that the last step gave: its index, its file offset and its bytes. After a fault it has
-    /// no bytes.
+    /// The row that the last step gave: its index, its file offset and its bytes. After a fault it
+    /// has no bytes.
     pub fn row(&self) -> Row<'_>
         requires { 0 < self.now.index }
         ensures { Shows self.now result }
@@ -126,10 +126,10 @@ impl Cursor {
     ghost use Rattle.std.specs.Borrow.{sem};
     ghost use Rattle.elf_source.specs.Source.{Reads};
     ghost use Rattle.elf_table.specs.Cursors.{Steps, unread_bytes};
-    ghost use Rattle.elf_table.specs.Faults.{Says};
+    ghost use Rattle.elf_headers.specs.Faults.{Says};
     ghost use Rattle.elf_table.specs.Tables.{RowsWithin};
     ghost use Rattle.elf_table.specs.contracts.cursor.Cursor.{the_row};
-    ghost use Rattle.elf_table.specs.declared.fault.Fault.{Fault};
+    ghost use Rattle.elf_headers.specs.declared.fault.Fault.{Fault};
 
     /// The next row, lent from the cursor's window until the next call, or None past the last row.
     ///

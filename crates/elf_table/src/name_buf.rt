@@ -1,7 +1,7 @@
 //! A buffer for the bytes of a name.
 ghost use Rattle.std.specs.Prelude.{◌≡◌, ◌≤◌, [], ◌++◌, length, take};
 
-use crate::caps::Cap;
+use elf_headers::Cap;
 use std::marker::Model;
 
 /// The size of the buffer in bytes.

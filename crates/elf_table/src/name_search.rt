@@ -1,15 +1,16 @@
 //! The search for the NUL that ends a name.
-ghost use Rattle.std.specs.Prelude.{◌≡◌, ℕ, ◌+◌, ◌<◌, ◌≤◌, List, [], Some, IfErr, OnOk};
+ghost use Rattle.std.specs.Prelude.{◌≡◌, ℕ, ◌+◌, ◌<◌, ◌≤◌, List, [], length};
+ghost use Rattle.std.specs.Prelude.{Some, IfErr, IfSome, OnOk};
 ghost use Rattle.elf_model.specs.Bytes.{slice};
+ghost use Rattle.elf_model.specs.Names.{nul_in};
 ghost use Rattle.elf_source.specs.Source.{Reads};
-ghost use Rattle.elf_table.specs.Faults.{IsOfRead, Says};
+ghost use Rattle.elf_headers.specs.Faults.{IsOfRead, Says};
 ghost use Rattle.elf_table.specs.NamesRead.{Searched};
-ghost use Rattle.elf_table.specs.Windows.{Agrees, AgreesWith, IsWithin, Moves, left};
+ghost use Rattle.elf_table.specs.Windows.{Agrees, AgreesWith, RangeWithin, Moves, left};
 
-use crate::caps::Cap;
-use crate::fault::Fault;
 use crate::name_buf::NameBuf;
 use crate::window::Window;
+use elf_headers::{Cap, Fault};
 use elf_source::{Counted, Source};
 use memchr::memchr;
 
@@ -29,7 +30,7 @@ pub fn search_name<S: Source, const N: usize>(
     requires empty { name.old ≡ [] }
     requires enough { want ≤ left window.old }
     requires some { 0 < window.old.page }
-    requires within { IsWithin src.old.seen.size window.old }
+    requires within { RangeWithin src.old.seen.size window.old }
     ensures reads { Reads src.old src.new window.old.unread }
     ensures says { IfErr result (Says src.old src.new window.old.unread) }
     ensures fault { IfErr result IsOfRead }
@@ -46,7 +47,7 @@ pub fn search_name<S: Source, const N: usize>(
         let front = window.front();
         let count = (front.len() as u64).min(want - done);
         let piece = &front[..count as usize];
-        if let Some(place) = memchr(0, piece) {
+        if let Some(place) = find_nul(piece) {
             name.add(&piece[..place], cap);
             return Ok(true);
         }
@@ -55,4 +56,12 @@ pub fn search_name<S: Source, const N: usize>(
         done += count;
     }
     Ok(false)
+}
+
+/// The place of the first NUL in some bytes, if there is one.
+pub fn find_nul(bytes: &[u8]) -> Option<usize>
+    ensures first { nul_in bytes.now ≡ result }
+    ensures below { IfSome result (λ place. place < length bytes.now) }
+{
+    memchr(0, bytes)
 }

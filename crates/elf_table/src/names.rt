@@ -1,17 +1,17 @@
 //! Names in a string table.
-ghost use Rattle.std.specs.Prelude.{◌≡◌, ◌≢◌, ℕ, ◌+◌, ◌-◌, ◌^◌, ◌<◌, ◌≤◌, List, length, slice_index, Some, IfErr, MatchBool};
+ghost use Rattle.std.specs.Prelude.{◌≡◌, ◌≢◌, ℕ, ◌+◌, ◌-◌, ◌^◌, ◌<◌, ◌≤◌, List, length};
+ghost use Rattle.std.specs.Prelude.{slice_index, Some, IfErr, MatchBool};
 ghost use Rattle.elf_model.specs.Bytes.{slice};
 ghost use Rattle.elf_model.specs.Names.{shown, same, pad64, name_bytes};
 ghost use Rattle.elf_source.specs.Source.{Reads};
-ghost use Rattle.elf_table.specs.Faults.{IsOfRead, Says};
+ghost use Rattle.elf_headers.specs.Faults.{IsOfRead, Says};
 ghost use Rattle.elf_table.specs.NamesRead.{NameRead, Compared, Matched};
 ghost use Rattle.elf_table.specs.Tables.{StringsWithin, strings_in};
 
-use crate::caps::Cap;
-use crate::fault::Fault;
 use crate::name_buf::NameBuf;
 use crate::name_search::search_name;
 use crate::window::{WINDOW_BYTES, Window};
+use elf_headers::{Cap, Fault};
 use elf_record::{Cause, Refusal};
 use elf_source::{Counted, Source};
 use std::marker::Model;
@@ -49,12 +49,12 @@ impl Model for Names {
 }
 
 impl Names {
-    /// The string table of `size` bytes from the file offset `at` on. Its end `at + size` is an offset
-    /// below 2^64.
+    /// The string table of `size` bytes from the file offset `at` on. Its end `at + size` is an
+    /// offset below 2^64.
     ///
-    /// No file is looked at, and the string table has had no check: it may lie past the end of a file.
-    /// The calls that read through it, [`Names::read`] and [`Names::equals`], have the condition that a
-    /// string table with bytes ends at or below the source's length.
+    /// No file is looked at, and the string table has had no check: it may lie past the end of a
+    /// file. The calls that read through it, [`Names::read`] and [`Names::equals`], have the
+    /// condition that a string table with bytes ends at or below the source's length.
     pub fn new(at: u64, size: u64) -> Names
         requires { at + size < 2 ^ 64 }
         ensures { result ≡ record { at = at; size = size } }
@@ -68,10 +68,10 @@ impl Names {
     /// end and at most `cap + 1` bytes. After a fault `name` holds any bytes.
     ///
     /// # Errors
-    /// Refused at `at`, the offset of the entry that holds the index: `NameOutside` where the index is
-    /// not below the table's size, `NameUnended` where no more than `cap` bytes are left and none is a
-    /// NUL; `Budget`, only where a limit is set, at the offset of the piece that it has no room for.
-    /// Else a fault of the source.
+    /// Refused at `at`, the offset of the entry that holds the index: `NameOutside` where the index
+    /// is not below the table's size, `NameUnended` where no more than `cap` bytes are left and
+    /// none is a NUL; `Budget`, only where a limit is set, at the offset of the piece that it has
+    /// no room for. Else a fault of the source.
     pub fn read<S: Source>(
         &self,
         src: &mut Counted<S>,
@@ -122,15 +122,16 @@ impl Names {
         self.size
     }
 
-    /// Whether the name at the index `off` is `wanted`, which has no NUL (gABI 4, String Table). It asks
-    /// once for as many bytes as `wanted` has with its NUL, never past the string table's end; where
-    /// those are 4,097, twice at most. In an empty string table the answer at index 0 is false.
+    /// Whether the name at the index `off` is `wanted`, which has no NUL (gABI 4, String Table). It
+    /// asks once for as many bytes as `wanted` has with its NUL, never past the string table's end;
+    /// where those are 4,097, twice at most. In an empty string table the answer at index 0 is
+    /// false.
     ///
     /// # Errors
-    /// Refused at `at`, the offset of the entry that holds the index: `NameOutside` where the index is
-    /// not below the table's size, `NameUnended` where the table ends before the name and its NUL, with
-    /// all bytes equal so far; `Budget`, only where a limit is set, at the offset of the piece that it
-    /// has no room for. Else a fault of the source.
+    /// Refused at `at`, the offset of the entry that holds the index: `NameOutside` where the index
+    /// is not below the table's size, `NameUnended` where the table ends before the name and its
+    /// NUL, with all bytes equal so far; `Budget`, only where a limit is set, at the offset of the
+    /// piece that it has no room for. Else a fault of the source.
     pub fn equals<S: Source>(
         &self,
         src: &mut Counted<S>,
@@ -171,8 +172,8 @@ fn refused(at: u64, cause: Cause) -> Fault
     Fault::Refused(Refusal { at, cause })
 }
 
-// Reads `want` bytes from `start` on, or fewer up to the first that differs, and answers whether they
-// are those of `wanted` and a NUL. It reads as many at once as one read may ask for.
+// Reads `want` bytes from `start` on, or fewer up to the first that differs, and answers whether
+// they are those of `wanted` and a NUL. It reads as many at once as one read may ask for.
 fn matches<S: Source>(
     src: &mut Counted<S>,
     start: u64,

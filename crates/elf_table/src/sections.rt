@@ -2,22 +2,22 @@
 ghost use Rattle.std.specs.Prelude.{◌≡◌, ℕ, ◌<◌, ◌≤◌, List, None, Ok, IfOk, IfErr, IfSome};
 ghost use Rattle.elf_model.specs.Records.{section_at};
 ghost use Rattle.elf_record.specs.Shdr.{IsShdr};
-ghost use Rattle.elf_table.specs.Load.{Belongs, Passes, section_place};
-ghost use Rattle.elf_table.specs.Faults.{IsOfCheck};
+ghost use Rattle.elf_headers.specs.Load.{Belongs, Passes, section_place};
+ghost use Rattle.elf_headers.specs.Faults.{IsOfCheck};
 ghost use Rattle.elf_table.specs.Files.{Tells, program_headers, table_in, size_in};
 ghost use Rattle.elf_table.specs.Sections.{bytes_of, table_at, strings_at, section_names};
-ghost use Rattle.elf_table.specs.Sections.{symbols_at, linked_at, relocations_at};
-ghost use Rattle.elf_table.specs.Store.{row};
+ghost use Rattle.elf_table.specs.Sections.{symbols_at, linked_symbols_at, relocations_at};
+ghost use Rattle.elf_headers.specs.Store.{row};
 ghost use Rattle.elf_table.specs.Tables.{RowsWithin, StringsWithin, SymbolsWithin, size_of};
 
 use crate::checks::{checked_strings, checked_table, holds_symbols, refused};
-use crate::fault::Fault;
 use crate::file::File;
 use crate::names::Names;
-use crate::ranges::{
-    PROGRAM_HEADER_BYTES, RELOCATION_BYTES, SECTION_HEADER_BYTES, SYMBOL_BYTES, ends_outside,
-};
 use crate::table::Table;
+use elf_headers::{Fault, ends_outside};
+use elf_record::sizes::{
+    PROGRAM_HEADER_BYTES, RELOCATION_BYTES, SECTION_HEADER_BYTES, SYMBOL_BYTES,
+};
 use elf_record::{Cause, Shdr};
 
 impl File<'_> {
@@ -169,7 +169,7 @@ impl File<'_> {
     /// Those of [`File::symbols`] at the linked section.
     pub fn linked(&self, section: u16) -> Result<Option<(Table, Names)>, Fault>
         requires below { section < self.now.store.now.loaded }
-        ensures held { Tells self.now section result linked_at }
+        ensures held { Tells self.now section result linked_symbols_at }
         ensures within { IfOk result (λ linked.
             IfSome linked (SymbolsWithin self.now.loaded.size)) }
         ensures refusal { IfErr result IsOfCheck }

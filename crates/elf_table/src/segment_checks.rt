@@ -2,39 +2,15 @@
 ghost use Rattle.std.specs.Prelude.{◌≡◌, ℕ, ◌≤◌, List, IfOk, IfErr, true};
 ghost use Rattle.elf_model.specs.Segments.{is_mapped_by, mapped_offset};
 ghost use Rattle.elf_record.specs.Phdr.{IsPhdr};
-ghost use Rattle.elf_table.specs.Faults.{IsOfCheck};
-ghost use Rattle.elf_table.specs.Tables.{RowsWithin, StringsWithin, size_of};
-ghost use Rattle.elf_table.specs.Views.{dynamic_of, strings_placed};
+ghost use Rattle.elf_headers.specs.Faults.{IsOfCheck};
+ghost use Rattle.elf_table.specs.Tables.{StringsWithin};
+ghost use Rattle.elf_table.specs.Views.{strings_placed};
 
 use crate::checks::refused;
-use crate::fault::Fault;
 use crate::names::Names;
-use crate::ranges::{DYNAMIC_BYTES, ends_outside};
-use crate::table::Table;
+use elf_headers::Fault;
 use elf_record::numbers::PT_LOAD;
 use elf_record::{Cause, Phdr};
-
-/// The segment as a table of dynamic entries, in a file of `size` bytes. Refusals name `place`.
-pub(crate) fn checked_dynamic(header: &Phdr, size: u64, place: u64) -> Result<Table, Fault>
-    ensures value { (bytes : List ℕ) (at : ℕ) → IsPhdr bytes at header.now →
-        result ≡ dynamic_of bytes at size place }
-    ensures within { IfOk result (RowsWithin size) }
-    ensures entry { IfOk result (λ table. table.entry ≡ 16) }
-    ensures sized { IfOk result (λ table. size_of table ≡ header.now.p_filesz) }
-    ensures refusal { IfErr result IsOfCheck }
-{
-    if header.p_filesz == 0 {
-        return Ok(Table::new(header.p_offset, 0, DYNAMIC_BYTES));
-    }
-    if header.p_filesz % DYNAMIC_BYTES != 0 {
-        return refused(place, Cause::SizeNotWhole);
-    }
-    if ends_outside(size, header.p_offset, header.p_filesz) {
-        return refused(place, Cause::TableOutside);
-    }
-    let count = header.p_filesz / DYNAMIC_BYTES;
-    Ok(Table::new(header.p_offset, count, DYNAMIC_BYTES))
-}
 
 /// Whether the segment is a LOAD segment whose bytes in the file hold the `size` bytes from the
 /// address `address` on (gABI 5, Program Loading). The sums are whole numbers.

@@ -1,8 +1,7 @@
 //! A loaded file in the segment view.
 ghost use Rattle.std.specs.Prelude.{◌≡◌};
 
-use crate::loaded::Loaded;
-use crate::store::HeaderStore;
+use elf_headers::{HeaderStore, Loaded};
 
 /// A loaded file in the segment view: with the store that holds its program headers.
 #[derive(Clone, Copy)]

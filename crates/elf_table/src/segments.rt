@@ -4,19 +4,20 @@ ghost use Rattle.std.specs.Option.{option_map};
 ghost use Rattle.elf_model.specs.Records.{p_vaddr, segment_at};
 ghost use Rattle.elf_model.specs.Segments.{mapped_at};
 ghost use Rattle.elf_record.specs.Phdr.{IsPhdr};
-ghost use Rattle.elf_table.specs.Faults.{IsOfCheck};
-ghost use Rattle.elf_table.specs.Store.{segment_row};
+ghost use Rattle.elf_headers.specs.Faults.{IsOfCheck};
+ghost use Rattle.elf_headers.specs.Load.{Views};
+ghost use Rattle.elf_headers.specs.Store.{segment_row};
 ghost use Rattle.elf_table.specs.Tables.{RowsWithin, StringsWithin, size_of};
-ghost use Rattle.elf_table.specs.Views.{Views, TellsSegment, dynamic_at, dynamic_in, filesz_in};
+ghost use Rattle.elf_table.specs.Views.{TellsSegment, dynamic_at, dynamic_in, filesz_in};
 ghost use Rattle.elf_table.specs.Views.{segment_place, strings_mapped};
 
-use crate::checks::refused;
-use crate::fault::Fault;
+use crate::checks::{checked_rows, refused};
 use crate::names::Names;
-use crate::ranges::PROGRAM_HEADER_BYTES;
-use crate::segment_checks::{checked_dynamic, checked_mapped, maps};
+use crate::segment_checks::{checked_mapped, maps};
 use crate::segment_view::SegmentView;
 use crate::table::Table;
+use elf_headers::Fault;
+use elf_record::sizes::{DYNAMIC_BYTES, PROGRAM_HEADER_BYTES};
 use elf_record::{Cause, Phdr};
 
 impl SegmentView<'_> {
@@ -61,7 +62,13 @@ impl SegmentView<'_> {
         ensures refusal { IfErr result IsOfCheck }
     {
         let header = self.segment(segment);
-        checked_dynamic(&header, self.loaded.size(), self.place(segment))
+        checked_rows(
+            header.p_offset,
+            header.p_filesz,
+            DYNAMIC_BYTES,
+            self.loaded.size(),
+            self.place(segment),
+        )
     }
 
     /// The string table of `size` bytes at an address, which the entry at the file offset `at`

@@ -4,11 +4,10 @@ ghost use Rattle.std.specs.Prelude.{List, Some, IsTrue, IfOk, IfErr};
 ghost use Rattle.elf_record.specs.Sym.{IsSym};
 ghost use Rattle.elf_source.specs.Source.{Reads};
 ghost use Rattle.elf_table.specs.Cursors.{row_at};
-ghost use Rattle.elf_table.specs.Faults.{Says, IsAt};
+ghost use Rattle.elf_headers.specs.Faults.{Says, IsAt};
 ghost use Rattle.elf_table.specs.Tables.{RowsWithin};
 
-use crate::fault::Fault;
-use crate::filling::fill;
+use elf_headers::{Fault, fill};
 use elf_record::Sym;
 use elf_source::{Counted, Source};
 use std::marker::Model;

@@ -1,12 +1,13 @@
 //! A window over a range of a file.
-ghost use Rattle.std.specs.Prelude.{◌≡◌, ℕ, ◌+◌, ◌^◌, ◌<◌, ◌≤◌, List, [], length, min, take, drop, IfErr, OnOk};
+ghost use Rattle.std.specs.Prelude.{◌≡◌, ℕ, ◌+◌, ◌^◌, ◌<◌, ◌≤◌, List, [], length, min, take, drop};
+ghost use Rattle.std.specs.Prelude.{IfErr, OnOk};
 ghost use Rattle.elf_model.specs.Bytes.{slice};
 ghost use Rattle.elf_source.specs.Source.{Reads};
-ghost use Rattle.elf_table.specs.Faults.{Says, IsAt};
-ghost use Rattle.elf_table.specs.Windows.{Agrees, AgreesWith, Brings, IsWithin, Moves, left, frontier, range_end};
+ghost use Rattle.elf_headers.specs.Faults.{Says, IsAt};
+ghost use Rattle.elf_table.specs.Windows.{Agrees, AgreesWith, Brings, RangeWithin, Moves, left};
+ghost use Rattle.elf_table.specs.Windows.{frontier, range_end};
 
-use crate::fault::Fault;
-use crate::filling::fill;
+use elf_headers::{Fault, fill};
 use elf_source::{Counted, Source};
 use std::marker::Model;
 
@@ -97,7 +98,7 @@ impl<const N: usize> Window<N> {
     pub fn bring<S: Source>(&mut self, src: &mut Counted<S>, count: u64) -> Result<(), Fault>
         requires enough { count ≤ left self.old }
         requires small { count ≤ self.old.page }
-        requires within { IsWithin src.old.seen.size self.old }
+        requires within { RangeWithin src.old.seen.size self.old }
         ensures reads { Reads src.old src.new self.old.unread }
         ensures says { IfErr result (Says src.old src.new self.old.unread) }
         ensures moves { Moves self.old self.new src.old.asked src.new.asked }
@@ -132,7 +133,7 @@ impl<const N: usize> Window<N> {
     fn read_page<S: Source>(&mut self, src: &mut Counted<S>) -> Result<(), Fault>
         requires room { length self.old.held < self.old.page }
         requires some { 0 < self.old.unread }
-        requires within { IsWithin src.old.seen.size self.old }
+        requires within { RangeWithin src.old.seen.size self.old }
         ensures reads { Reads src.old src.new self.old.unread }
         ensures says { IfErr result (Says src.old src.new self.old.unread) }
         ensures fault { IfErr result (IsAt (frontier self.old)) }

@@ -3,7 +3,7 @@ use Rattle.std.proofs.Common.{rules, ◌≡◌, ℕ, ap, sym, subst, ◌∙◌, 
 use Rattle.elf_source.specs.Source.{Seen}
 use Rattle.elf_model.specs.Cost.{ceiling}
 use Rattle.elf_model.specs.declared.causes.Refusal.{Refusal}
-use Rattle.elf_table.specs.Faults.{RefusalSays}
+use Rattle.elf_headers.specs.Faults.{RefusalSays}
 use Rattle.elf_listing.specs.declared.stop.Stop.TheVariants.{Refused, Source, Out}
 use Rattle.elf_listing.proofs.AskLaws.{asks_within}
 use Rattle.elf_listing.proofs.ReportLaws.{whole_report, front_report, front_lines, ended_report, ended_fault}

@@ -1,9 +1,9 @@
 use Rattle.std.proofs.Common.{◌≡◌, ℕ, ◌+◌, ◌≤◌, List, Some, length, take, ap, ◌∙◌, arith, length-take, length-take-le}
 use Rattle.elf_model.specs.Bytes.{slice}
+use Rattle.elf_model.proofs.Searches.{search-more, kept-more, found-here}
 use Rattle.elf_source.proofs.ReadsLaws.{Reads-then, Reads-to}
 use Rattle.elf_table.specs.Windows.{Agrees, AgreesWith}
 use Rattle.elf_table.proofs.Paging.{held-front, Moves-then, Moves-skip}
-use Rattle.elf_table.proofs.Pieces.{search-more, kept-more, search-found, kept-found}
 use Rattle.elf_table.proofs.name_search.search_name.Goals as goal
 
 pub returns-in-Some-clause-searched : goal.returns-in-Some-clause-searched
@@ -20,16 +20,13 @@ returns-in-Some-clause-searched g c = λ file h a.
     let piece : take n front ≡ slice file (c.args.window.now.at + l.done) n =
     ap (take n) c.front-front.ensures ∙ held-front file c.bring.new.self n few held ∙ ap (λ (x : ℕ). slice file x n) (stays ∙ i.place) in
     let size : length (take n front) ≡ n = length-take-le n front (omega (arith, ap length c.front-front.ensures)) in
-    let below = c.in-Some.ensures.0.high in
+    let below = c.in-Some.ensures.below in
     let sized = c.args.src.now.seen.sized file h in
     let test = c.loop-done-test.true in
     let enough = c.requires.enough in
-    let ends = c.requires.within (omega arith) in (
-      l.done + c.in-Some.place,
-      search-found file (take n front) c.args.window.now.at l.done n c.args.want c.in-Some.place piece (i.no_nul file h a) c.in-Some.ensures (omega arith) (omega arith),
-      kept-found file (take n front) l.name c.add.new.self c.args.window.now.at l.done n c.args.want c.in-Some.place c.args.cap.bytes piece (i.name file h a)
-          (omega arith) (omega arith) c.add.ensures,
-    )
+    let ends = c.requires.within (omega arith) in
+    found-here file (take n front) l.name c.add.new.self c.args.window.now.at l.done n c.args.want c.in-Some.place c.args.cap.bytes piece (i.no_nul file h a)
+    (i.name file h a) c.in-Some.ensures.first (omega arith) (omega arith) (omega arith) c.add.ensures
 
 pub loop-done-preserved : goal.loop-done-preserved
 loop-done-preserved g c =
@@ -56,6 +53,6 @@ loop-done-preserved g c =
       moves = Moves-skip _ _ _ _ _ n sk.page sk.end sk.at sk.unread moves;
       reads = Reads-to (Reads-then i.reads b.reads) (let account = moves.account in omega arith);
       agrees = λ file h a. sk.agrees file (ag file h a);
-      no_nul = λ file h a. search-more file (take n front) c.args.window.now.at l.done n (piece file h a) (i.no_nul file h a) c.in_default.ensures;
+      no_nul = λ file h a. search-more file (take n front) c.args.window.now.at l.done n (piece file h a) (i.no_nul file h a) c.in_default.ensures.first;
       name = λ file h a. kept-more file (take n front) l.name c.add-in-loop-done.new.self c.args.window.now.at l.done n c.args.cap.bytes (piece file h a) (i.name file h a) added;
     }

@@ -2,7 +2,7 @@
 use Rattle.std.proofs.Common.{◌≡◌, ◌<◌, sym, ap, ◌∙◌, arith, Ok}
 use Rattle.elf_model.specs.Names.Shown.{Whole}
 use Rattle.elf_names.proofs.HeldLaws.{still_ahead}
-use Rattle.elf_table.proofs.SaysLaws.{still_open}
+use Rattle.elf_listing.proofs.OpenLaws.{still_open}
 use Rattle.elf_listing.proofs.ViewedLaws.{still_viewed}
 use Rattle.elf_listing.proofs.SymbolNamed.{read_as, named_zero, named_unlinked, named_beyond, named_there, found_there, refers, refers_nowhere, not_zero, refuses_as}
 use Rattle.elf_listing.proofs.listing.Listing.read_symbol.Goals as goal

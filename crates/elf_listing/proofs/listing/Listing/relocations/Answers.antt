@@ -5,7 +5,7 @@ use Rattle.elf_model.specs.Records.{section_at}
 use Rattle.elf_model.specs.Rows.{relocation_row}
 use Rattle.elf_model.specs.Tables.{relocation_table_checks}
 use Rattle.elf_record.specs.declared.ehdr.Ehdr.{Ehdr}
-use Rattle.elf_table.specs.Store.{row}
+use Rattle.elf_headers.specs.Store.{row}
 use Rattle.elf_listing.proofs.RowLaws.{Writes-as, Stopped-first}
 use Rattle.elf_listing.proofs.SectionCosts.{relocations_within}
 use Rattle.elf_listing.proofs.SectionShown.{no_relocations, relocations_fault, relocations_pass, relocations_are, rows_checked}

@@ -2,7 +2,7 @@
 use Rattle.std.proofs.Common.{◌≡◌, Err, sym, ap, ◌∙◌, arith}
 use Rattle.std.proofs.lemmas.Result.{err_from_is_err_and}
 use Rattle.elf_model.specs.Records.{segment_at}
-use Rattle.elf_table.specs.Store.{segment_row}
+use Rattle.elf_headers.specs.Store.{segment_row}
 use Rattle.elf_listing.proofs.RowLaws.{Writes-as, Stopped-first}
 use Rattle.elf_listing.proofs.SectionCosts.{segment_notes_within}
 use Rattle.elf_listing.proofs.SectionShown.{no_segment_notes, segment_notes_are, notes_fault, notes_pass}

@@ -5,7 +5,7 @@ use Rattle.elf_model.specs.Checks.{is_symbol_table}
 use Rattle.elf_model.specs.Records.{section_at}
 use Rattle.elf_model.specs.Rows.{symbol_row}
 use Rattle.elf_model.specs.Tables.{symbol_table_checks}
-use Rattle.elf_table.specs.Store.{row}
+use Rattle.elf_headers.specs.Store.{row}
 use Rattle.elf_listing.proofs.RowLaws.{Writes-as, Stopped-first}
 use Rattle.elf_listing.proofs.SectionCosts.{symbols_within}
 use Rattle.elf_listing.proofs.SectionShown.{no_symbols, symbols_fault, symbols_pass, symbols_are, rows_checked}

@@ -1,5 +1,5 @@
 use Rattle.std.proofs.Common.{sym, refl, ◌∙◌, arith}
-use Rattle.elf_names.proofs.Shown.{shown-none, shown-past, shown-whole, shown-cut, shown-unended}
+use Rattle.elf_model.proofs.Searches.{shown-none, shown-past, shown-whole, shown-cut, shown-unended}
 use Rattle.elf_names.proofs.read_ahead.ReadAhead.name.Goals as goal
 use Rattle.elf_names.proofs.read_ahead.ReadAhead.name.Goals.{else-size-eq0-via-then-size-eq0+else-index-eq0, else-size-eq0-via-else-size-eq0}
 

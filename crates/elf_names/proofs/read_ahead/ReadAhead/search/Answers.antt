@@ -1,9 +1,9 @@
 -- Each piece is looked through behind those before it.
-use Rattle.std.proofs.Common.{◌≡◌, ℕ, ◌+◌, ◌-◌, ◌<◌, ◌≤◌, List, Some, length, ap, ◌∙◌, arith, length-take}
+use Rattle.std.proofs.Common.{◌≡◌, ℕ, ◌+◌, ◌<◌, List, Some, length, ap, ◌∙◌, arith, length-take}
 use Rattle.elf_model.specs.Bytes.{slice}
-use Rattle.elf_names.specs.Ahead.{Agrees, reach}
+use Rattle.elf_model.proofs.Searches.{search-more, kept-more, found-here}
+use Rattle.elf_names.specs.Ahead.{Agrees}
 use Rattle.elf_names.proofs.HeldLaws.{piece-of_file}
-use Rattle.elf_names.proofs.Searching.{search-more, kept-more, search-found, kept-found}
 use Rattle.elf_names.proofs.SpendsLaws.{Spends-then}
 use Rattle.elf_names.proofs.read_ahead.ReadAhead.search.Goals as goal
 
@@ -25,16 +25,13 @@ returns-in-Some-clause-searched g c = λ file h a.
     let part = c.part-piece.ensures.part in
     let piece : p ≡ slice file at (length p) =
     piece-of_file file p held at _ _ known (omega arith) begins (omega arith) size part in
-    let below = c.in-Some.ensures.0.high in
+    let below = c.in-Some.ensures.below in
     let sized = c.args.src.now.seen.sized file h in
     let inside = c.requires.inside in
     let some : 0 < c.args.index.names.size = omega arith in
-    let within = c.requires.within some in (
-      l.done + c.in-Some.place,
-      search-found file p start l.done (length p) c.args.want c.in-Some.place piece (i.no_nul file h a) c.in-Some.ensures (omega arith) (omega arith),
-      kept-found file p l.name c.add.new.self start l.done (length p) c.args.want c.in-Some.place c.args.cap.bytes piece (i.name file h a)
-          (omega arith) (omega arith) c.add.ensures,
-    )
+    let within = c.requires.within some in
+    found-here file p l.name c.add.new.self start l.done (length p) c.args.want c.in-Some.place c.args.cap.bytes piece (i.no_nul file h a)
+    (i.name file h a) c.in-Some.ensures.first (omega arith) (omega arith) (omega arith) c.add.ensures
 
 pub loop-done-preserved : goal.loop-done-preserved
 loop-done-preserved g c =
@@ -70,6 +67,6 @@ loop-done-preserved g c =
       not_past = omega arith;
       same_symbols = i.same_symbols;
       held = λ file h a. b.agrees file (i.spends.reads.keeps.same_file ∙ h) (i.held file h a);
-      no_nul = λ file h a. search-more file p start l.done (length p) (piece file h a) (i.no_nul file h a) c.in_default.ensures;
+      no_nul = λ file h a. search-more file p start l.done (length p) (piece file h a) (i.no_nul file h a) c.in_default.ensures.first;
       name = λ file h a. kept-more file p l.name c.add-in-loop-done.new.self start l.done (length p) c.args.cap.bytes (piece file h a) (i.name file h a) added;
     }

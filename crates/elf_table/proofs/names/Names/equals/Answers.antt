@@ -1,6 +1,6 @@
 use Rattle.std.proofs.Common.{ap, refl, sym, ◌∙◌, arith}
 use Rattle.elf_table.specs.Tables.{Strings}
-use Rattle.elf_table.proofs.Shown.{same-none, same-past, same-true, same-false, same-unended}
+use Rattle.elf_table.proofs.SameNames.{same-none, same-past, same-true, same-false, same-unended}
 use Rattle.elf_table.proofs.names.Names.equals.Goals as goal
 use Rattle.elf_table.proofs.names.Names.equals.Goals.{else-self-eq0-via-then-self-eq0+else-off-eq0, else-self-eq0-via-else-self-eq0}
 

@@ -1,7 +1,7 @@
 use Rattle.std.proofs.Common.{◌≡◌, ℕ, ◌+◌, ap, refl, sym, ◌∙◌, arith}
+use Rattle.elf_model.proofs.Searches.{shown-none, shown-past, shown-whole, shown-cut, shown-unended}
 use Rattle.elf_table.specs.Tables.{Strings}
 use Rattle.elf_table.specs.Windows.{Ahead}
-use Rattle.elf_table.proofs.Shown.{shown-none, shown-past, shown-whole, shown-cut, shown-unended}
 use Rattle.elf_table.proofs.names.Names.read.Goals as goal
 use Rattle.elf_table.proofs.names.Names.read.Goals.{else-self-eq0-via-then-self-eq0+else-off-eq0, else-self-eq0-via-else-self-eq0}
 

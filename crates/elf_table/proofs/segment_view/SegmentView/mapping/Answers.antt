@@ -1,7 +1,7 @@
 -- Each program header is looked at in turn.
 use Rattle.std.proofs.Common.{sym, ◌∙◌, arith}
 use Rattle.elf_model.specs.Records.{segment_at}
-use Rattle.elf_table.proofs.ViewLaws.{mapped-found, mapped-passed, mapped-none}
+use Rattle.elf_table.proofs.MappedLaws.{mapped-found, mapped-passed, mapped-none}
 use Rattle.elf_table.proofs.segment_view.SegmentView.mapping.Goals as goal
 
 pub returns-then-maps-clause-held : goal.returns-then-maps-clause-held

@@ -1,0 +1,3 @@
+pub mod PagesRead
+pub mod RowsHeld
+pub mod ViewLaws

@@ -1,0 +1,15 @@
+use Rattle.std.proofs.Common.{◌*◌, ℕ, List, ap, sym, ◌∙◌, arith}
+use Rattle.elf_model.specs.Bytes.{slice}
+use Rattle.elf_headers.specs.Store.{Stored}
+use Rattle.elf_headers.proofs.RowsHeld.{row_front}
+use Rattle.elf_headers.proofs.store.HeaderStore.segment_row.Goals as goal
+
+pub returns : goal.returns
+returns c =
+    let i = c.self.inside in
+    let loaded = ap (λ (s : Stored). s.segments) c.self.view_is in
+    let below = c.requires in
+    rw (← c.self.view_is)
+    (c.row_of.ensures
+    ∙ ap (λ (x : List ℕ). slice x (56 * c.args.i) 56) c.deref.ensures.value
+    ∙ sym (row_front i.bytes.items 56 i.segments c.args.i (omega arith)))

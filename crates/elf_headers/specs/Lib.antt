@@ -1,0 +1,4 @@
+pub mod Faults
+pub mod Load
+pub mod Permitted
+pub mod Store

@@ -1,0 +1,47 @@
+-- The store of headers, and what it holds of a file.
+use Rattle.std.specs.Prelude.{ℕ, zero, suc, ◌≡◌, ◌+◌, ◌*◌, ◌<◌, List, [], ◌∷◌, slice_index_or}
+use Rattle.elf_model.specs.Bytes.{slice}
+use Rattle.elf_model.specs.Records.{section_at, segment_at}
+
+-- how many slots a store has, how many section headers are loaded, and the bytes of each of those; the same of the program
+-- headers
+pub record Stored : Type 0 where
+  pub slots : ℕ
+  pub loaded : ℕ
+  pub rows : List (List ℕ)
+  pub segments : ℕ
+  pub segment_rows : List (List ℕ)
+
+-- a store with so many slots and no header
+abbrev pub empty : ℕ → Stored
+empty slots = record { slots = slots; loaded = 0; rows = []; segments = 0; segment_rows = [] }
+
+-- a store with as many slots and no header
+abbrev pub emptied : Stored → Stored
+emptied store = empty store.slots
+
+-- the bytes of the section header of an index
+abbrev pub row : Stored → ℕ → List ℕ
+row store i = slice_index_or store.rows i []
+
+-- the bytes of the program header of an index
+abbrev pub segment_row : Stored → ℕ → List ℕ
+segment_row store i = slice_index_or store.segment_rows i []
+
+-- the rows of one size from an offset on, so many of them
+unfoldable pub rows_from : List ℕ → ℕ → ℕ → ℕ → List (List ℕ)
+rows_from file at entry zero = []
+rows_from file at entry (suc count) = slice file at entry ∷ rows_from file (at + entry) entry count
+
+-- the first rows, so many of them, are a file's consecutive slices of one size from an offset on
+abbrev pub AreRows : List ℕ → ℕ → ℕ → ℕ → List (List ℕ) → Type 0
+AreRows file from entry count rows =
+    (i : ℕ) → i < count → slice_index_or rows i [] ≡ slice file (from + entry * i) entry
+
+-- the loaded rows are the file's section headers
+abbrev pub HoldsSections : List ℕ → Stored → Type 0
+HoldsSections file store = (i : ℕ) → i < store.loaded → row store i ≡ slice file (section_at file i) 64
+
+-- the loaded rows are the file's program headers
+abbrev pub HoldsSegments : List ℕ → Stored → Type 0
+HoldsSegments file store = (i : ℕ) → i < store.segments → segment_row store i ≡ slice file (segment_at file i) 56

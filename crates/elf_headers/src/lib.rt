@@ -1,0 +1,25 @@
+//! The headers of an ELF64 file: the file header, the store of section headers or program headers,
+//! the checks of a load, and reads that name the offset where they fail. No call takes memory but
+//! `HeaderStore::new`.
+#![tactic(auto)]
+
+mod buffers;
+mod caps;
+mod fault;
+mod file_header;
+mod filling;
+mod loaded;
+mod loading;
+mod ranges;
+mod segment_loading;
+mod store;
+
+pub use buffers::BUFFER_BYTES;
+pub use caps::{Cap, Caps};
+pub use fault::Fault;
+pub use file_header::header;
+pub use filling::fill;
+pub use loaded::Loaded;
+pub use loading::load;
+pub use ranges::ends_outside;
+pub use store::HeaderStore;

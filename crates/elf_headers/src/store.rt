@@ -1,0 +1,256 @@
+//! The store of headers: the one thing here that takes memory.
+ghost use Rattle.std.specs.Prelude.{◌≡◌, ℕ, ◌+◌, ◌*◌, ◌^◌, if◌then◌else◌, is_ok, ◌<◌, ◌≤◌};
+ghost use Rattle.std.specs.Prelude.{List, Some, length, take, IfOk, IfErr, OnOk};
+ghost use Rattle.elf_model.specs.Bytes.{slice};
+ghost use Rattle.elf_model.specs.Records.{section_at, segment_at};
+ghost use Rattle.elf_record.specs.Phdr.{IsPhdr};
+ghost use Rattle.elf_record.specs.Shdr.{IsShdr};
+ghost use Rattle.elf_source.specs.Source.{Reads};
+ghost use Rattle.elf_headers.specs.Faults.{Says, IsOfRead};
+ghost use Rattle.elf_headers.specs.Store.{empty, emptied, row, segment_row};
+ghost use Rattle.elf_headers.specs.Store.{AreRows, HoldsSections, HoldsSegments, rows_from};
+
+use crate::fault::Fault;
+use crate::filling::fill;
+use elf_record::{Phdr, Shdr};
+use elf_source::{Counted, READ_BYTES, Source};
+use std::alloc::{AllocError, Global};
+use std::marker::Model;
+
+/// The size of a slot, and of a section header, in bytes.
+const SLOT_BYTES: usize = 64;
+/// The size of a program header in bytes.
+const SEGMENT_BYTES: usize = 56;
+
+/// Room for the section headers of one file, 64 bytes each, or for its program headers, 56 bytes
+/// each, one behind the other. The room is taken once, when the store is made.
+#[derive(Drop)]
+pub struct HeaderStore {
+    bytes: Vec<u8>,
+    slots: u16,
+    loaded: u16,
+    segments: u16,
+}
+
+impl Model for HeaderStore {
+    ghost use Rattle.std.specs.Prelude.{◌≡◌, ◌*◌, ◌≤◌, vec_len};
+    ghost use Rattle.elf_headers.specs.Store.{Stored, rows_from};
+
+    ghost Value = { Stored };
+
+    ghost view = { λ s. record {
+      slots = s.slots;
+      loaded = s.loaded;
+      rows = rows_from s.bytes.items 0 64 s.loaded;
+      segments = s.segments;
+      segment_rows = rows_from s.bytes.items 0 56 s.segments;
+    } };
+
+    ghost invariant = { λ s.
+        (vec_len s.bytes ≡ 64 * s.slots) × (s.loaded ≤ s.slots) × (s.segments ≤ s.slots)
+        × (1 ≤ s.slots) × (s.slots ≤ 65279) };
+}
+
+impl HeaderStore {
+    /// A store of `headers` slots, with no header loaded.
+    ///
+    /// # Errors
+    /// Where memory is refused.
+    pub fn new(alloc: Global, headers: u16) -> Result<HeaderStore, AllocError>
+        requires some { 1 ≤ headers }
+        requires permitted { headers ≤ 65279 }
+        ensures { IfOk result (λ store. store ≡ empty headers) }
+    {
+        let bytes = vec![in alloc; 0u8; SLOT_BYTES * headers as usize]?;
+        Ok(HeaderStore {
+            bytes,
+            slots: headers,
+            loaded: 0,
+            segments: 0,
+        })
+    }
+
+    /// The number of slots, 1 to 65,279. No call changes it.
+    pub fn slots(&self) -> u16
+        ensures value { result ≡ self.now.slots }
+        ensures some { 1 ≤ self.now.slots }
+        ensures permitted { self.now.slots ≤ 65279 }
+    {
+        self.slots
+    }
+
+    /// The size of the slots in bytes, 64 each.
+    pub fn bytes(&self) -> u64
+        ensures { result ≡ 64 * self.now.slots }
+    {
+        64 * u64::from(self.slots)
+    }
+
+    /// The number of section headers that are loaded, at most [`HeaderStore::slots`].
+    pub fn loaded(&self) -> u16
+        ensures value { result ≡ self.now.loaded }
+        ensures within { self.now.loaded ≤ self.now.slots }
+        ensures permitted { self.now.slots ≤ 65279 }
+    {
+        self.loaded
+    }
+
+    /// The section header of an index below [`HeaderStore::loaded`].
+    pub fn section(&self, i: u16) -> Shdr
+        requires { i < self.now.loaded }
+        ensures fields { IsShdr (row self.now i) 0 result }
+        ensures stands { (file : List ℕ) → HoldsSections file self.now →
+            IsShdr file (section_at file i) result }
+    {
+        Shdr::decode(self.row(i))
+    }
+
+    /// The bytes of the section header of an index below [`HeaderStore::loaded`].
+    fn row(&self, i: u16) -> &[u8; 64]
+        requires { i < self.now.loaded }
+        ensures { result.now ≡ row self.now i }
+    {
+        row_of(&self.bytes, i)
+    }
+
+    /// The number of program headers that are loaded, at most [`HeaderStore::slots`].
+    pub fn segments(&self) -> u16
+        ensures value { result ≡ self.now.segments }
+        ensures within { self.now.segments ≤ self.now.slots }
+        ensures permitted { self.now.slots ≤ 65279 }
+    {
+        self.segments
+    }
+
+    /// The program header of an index below [`HeaderStore::segments`].
+    pub fn segment(&self, i: u16) -> Phdr
+        requires { i < self.now.segments }
+        ensures fields { IsPhdr (segment_row self.now i) 0 result }
+        ensures stands { (file : List ℕ) → HoldsSegments file self.now →
+            IsPhdr file (segment_at file i) result }
+    {
+        Phdr::decode(self.segment_row(i))
+    }
+
+    /// The bytes of the program header of an index below [`HeaderStore::segments`].
+    fn segment_row(&self, i: u16) -> &[u8; 56]
+        requires { i < self.now.segments }
+        ensures { result.now ≡ segment_row self.now i }
+    {
+        row_of(&self.bytes, i)
+    }
+
+    /// Loads the section headers of a file, `count` of them from the offset `from` on; at a fault
+    /// none is loaded. No program header stays loaded.
+    pub(crate) fn fill<S: Source>(
+        &mut self,
+        src: &mut Counted<S>,
+        count: u16,
+        from: u64,
+    ) -> Result<(), Fault>
+        requires room { count ≤ self.old.slots }
+        requires within { from + 64 * count ≤ src.old.seen.size }
+        requires fits { from + 64 * count < 2 ^ 64 }
+        ensures slots { self.new.slots ≡ self.old.slots }
+        ensures loaded { self.new.loaded ≡ (if is_ok result then count else 0) }
+        ensures segments { self.new.segments ≡ 0 }
+        ensures reads { Reads src.old src.new (64 * count) }
+        ensures says { IfErr result (Says src.old src.new (64 * count)) }
+        ensures fault { IfErr result IsOfRead }
+        ensures rows { (file : List ℕ) → src.old.seen.file ≡ Some file →
+            OnOk result (AreRows file from 64 count self.new.rows) }
+    {
+        self.forget();
+        read_rows(src, &mut self.bytes, SLOT_BYTES, count, from)?;
+        self.loaded = count;
+        Ok(())
+    }
+
+    /// Loads the program headers of a file, `count` of them from the offset `from` on; at a fault
+    /// none is loaded. No section header stays loaded.
+    pub(crate) fn fill_segments<S: Source>(
+        &mut self,
+        src: &mut Counted<S>,
+        count: u16,
+        from: u64,
+    ) -> Result<(), Fault>
+        requires room { count ≤ self.old.slots }
+        requires within { from + 56 * count ≤ src.old.seen.size }
+        requires fits { from + 56 * count < 2 ^ 64 }
+        ensures slots { self.new.slots ≡ self.old.slots }
+        ensures loaded { self.new.loaded ≡ 0 }
+        ensures segments { self.new.segments ≡ (if is_ok result then count else 0) }
+        ensures reads { Reads src.old src.new (56 * count) }
+        ensures says { IfErr result (Says src.old src.new (56 * count)) }
+        ensures fault { IfErr result IsOfRead }
+        ensures rows { (file : List ℕ) → src.old.seen.file ≡ Some file →
+            OnOk result (AreRows file from 56 count self.new.segment_rows) }
+    {
+        self.forget();
+        read_rows(src, &mut self.bytes, SEGMENT_BYTES, count, from)?;
+        self.segments = count;
+        Ok(())
+    }
+
+    /// Lets go of the headers that are loaded.
+    pub(crate) fn forget(&mut self)
+        ensures { self.new ≡ emptied self.old }
+    {
+        self.loaded = 0;
+        self.segments = 0;
+    }
+}
+
+/// Reads `count` rows of `size` bytes from the offset `from` on to the front of `bytes`.
+fn read_rows<S: Source>(
+    src: &mut Counted<S>,
+    bytes: &mut [u8],
+    size: usize,
+    count: u16,
+    from: u64,
+) -> Result<(), Fault>
+    requires room { size * count ≤ length bytes.old }
+    requires within { from + size * count ≤ src.old.seen.size }
+    requires fits { from + size * count < 2 ^ 64 }
+    ensures reads { Reads src.old src.new (size * count) }
+    ensures says { IfErr result (Says src.old src.new (size * count)) }
+    ensures fault { IfErr result IsOfRead }
+    ensures rows { (file : List ℕ) → src.old.seen.file ≡ Some file →
+        OnOk result (AreRows file from size count (rows_from bytes.new 0 size count)) }
+{
+    read_front(src, bytes, size * count as usize, from)
+}
+
+/// Reads the bytes from the offset `from` on into the first of `bytes`, so many.
+fn read_front<S: Source>(
+    src: &mut Counted<S>,
+    bytes: &mut [u8],
+    size: usize,
+    from: u64,
+) -> Result<(), Fault>
+    requires room { size ≤ length bytes.old }
+    requires within { from + size ≤ src.old.seen.size }
+    requires fits { from + size < 2 ^ 64 }
+    ensures reads { Reads src.old src.new size }
+    ensures says { IfErr result (Says src.old src.new size) }
+    ensures fault { IfErr result IsOfRead }
+    ensures read { (file : List ℕ) → src.old.seen.file ≡ Some file →
+        OnOk result (take size bytes.new ≡ slice file from size) }
+{
+    let mut done = 0;
+    while done < size {
+        let count = READ_BYTES.min(size - done);
+        fill(src, from + done as u64, &mut bytes[done..done + count])?;
+        done += count;
+    }
+    Ok(())
+}
+
+/// The row of an index, of rows of `N` bytes one behind the other.
+fn row_of<const N: usize>(bytes: &[u8], i: u16) -> &[u8; N]
+    requires { N * i + N ≤ length bytes.now }
+    ensures { result.now ≡ slice bytes.now (N * i) N }
+{
+    let first = N * i as usize;
+    bytes[first..first + N].first_chunk().unwrap()
+}

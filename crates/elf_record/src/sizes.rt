@@ -1,0 +1,12 @@
+//! The sizes of the fixed records in a file, in bytes.
+
+/// The size of a section header (gABI 4, Section Header).
+pub const SECTION_HEADER_BYTES: u64 = 64;
+/// The size of a program header (gABI 5, Program Header).
+pub const PROGRAM_HEADER_BYTES: u64 = 56;
+/// The size of a symbol (gABI 4, Symbol Table).
+pub const SYMBOL_BYTES: u64 = 24;
+/// The size of a relocation entry with an addend (gABI 4, Relocation).
+pub const RELOCATION_BYTES: u64 = 24;
+/// The size of a dynamic entry (gABI 5, Dynamic Section).
+pub const DYNAMIC_BYTES: u64 = 16;

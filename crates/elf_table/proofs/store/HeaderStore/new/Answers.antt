@@ -1,7 +1,0 @@
-use Rattle.std.proofs.Common.{refl}
-use Rattle.elf_table.specs.Cursors.{rows_from}
-use Rattle.elf_table.proofs.store.HeaderStore.new.Goals as goal
-
-pub returns : goal.returns
-unfolding rows_from
-returns c = refl
