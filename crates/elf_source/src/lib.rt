@@ -3,6 +3,7 @@
 
 mod counted;
 mod device;
+mod fail_source;
 mod faults;
 mod memory_source;
 mod output;
@@ -11,10 +12,12 @@ mod sink;
 mod slice_sink;
 mod source;
 mod stream_source;
+mod turn_source;
 mod write_sink;
 
 pub use counted::{Counted, READ_BYTES};
 pub use device::Device;
+pub use fail_source::FailSource;
 pub use faults::{AskFault, OutFault, ReaderFault, SinkFault, SourceFault};
 pub use memory_source::MemorySource;
 pub use output::Out;
@@ -23,4 +26,5 @@ pub use sink::Sink;
 pub use slice_sink::SliceSink;
 pub use source::Source;
 pub use stream_source::StreamSource;
+pub use turn_source::TurnSource;
 pub use write_sink::WriteSink;

@@ -1,0 +1,77 @@
+//! A source of which one read fails.
+ghost use Rattle.std.specs.Prelude.{◌≡◌, ℕ, ◌+◌, ◌≤◌, List, Some, None, length, take, drop, Err, IfErr, OnOk, ⊤};
+ghost use Rattle.elf_source.specs.Source.{Keeps, Faults};
+ghost use Rattle.elf_source.specs.Failing.{Failing, seen_failing};
+
+use crate::faults::SourceFault;
+use crate::source::Source;
+use std::marker::Model;
+
+/// A source that passes its reads on to another, but for one that fails. It is honest where the other
+/// is, and has its file and its size. With each place of the failing read in turn it shows what a
+/// caller does where a device fails there, once, and goes on.
+#[derive(Drop)]
+pub struct FailSource<S: Source> {
+    source: S,
+    // How many reads more are passed on before the one that fails; None behind that.
+    due: Option<u64>,
+}
+
+impl<S: Source> Model for FailSource<S> {
+    ghost Value = { Failing };
+
+    ghost view = { λ s. record { source = S.seen s.source; due = s.due } };
+}
+
+impl<S: Source> FailSource<S> {
+    /// Passes `k` reads on to `source`, fails at the next one, and from then on passes all on.
+    pub fn new(source: S, k: u64) -> Self
+        ensures source { result.source ≡ S.seen source }
+        ensures due { result.due ≡ Some k }
+    {
+        FailSource {
+            source,
+            due: Some(k),
+        }
+    }
+}
+
+impl<S: Source> Source for FailSource<S> {
+    ghost seen = { seen_failing };
+
+    ghost one_read = { λ _ _ _ _. ⊤ };
+
+    fn length(&self) -> u64 {
+        self.source.length()
+    }
+
+    /// Fills `out` as the other source does from the offset `at` on, or fails where it is this read's
+    /// turn: then the other source is not asked, and `out` stays.
+    ///
+    /// # Errors
+    /// `Device` where it is this read's turn, and the count of failures rises by one; else those of the
+    /// other source.
+    fn fill(&mut self, at: u64, out: &mut [u8]) -> Result<(), SourceFault>
+        requires { at + length out.old ≤ self.old.source.size }
+        ensures slice { (file : List ℕ) → self.old.source.file ≡ Some file → OnOk result
+            (out.new ≡ take (length out.old) (drop at file)) }
+        ensures faults { IfErr result (Faults (seen_failing self.old) (seen_failing self.new)) }
+        ensures keeps { Keeps (seen_failing self.old) (seen_failing self.new) }
+        ensures fails { self.old.due ≡ Some 0 → (result ≡ Err SourceFault.Device)
+            × (self.new.source ≡ self.old.source) × (self.new.due ≡ None) }
+        ensures counts { (n : ℕ) → self.old.due ≡ Some (n + 1) → (self.new.due ≡ Some n)
+            × S.one_read self.old.source at (length out.old) self.new.source }
+        ensures passes { self.old.due ≡ None → (self.new.due ≡ None)
+            × S.one_read self.old.source at (length out.old) self.new.source }
+    {
+        match self.due {
+            Some(0) => {
+                self.due = None;
+                return Err(SourceFault::Device);
+            }
+            Some(n) => self.due = Some(n - 1),
+            None => {}
+        }
+        self.source.fill(at, out)
+    }
+}
