@@ -1,0 +1,77 @@
+-- What a lookup answers, and what it asks for.
+use Rattle.std.specs.Prelude.{ℕ, ◌≡◌, ◌+◌, ◌*◌, ◌/◌, ◌≤◌, true, false, List, Option, None, Some, Result, Ok, Err}
+use Rattle.elf_model.specs.Budget.{IsBudget}
+use Rattle.elf_model.specs.Hash.{Lookup as Looked, Found as IsFound, Absent as IsAbsent, Refused as IsRefused, same_symbol, symbol_at}
+use Rattle.elf_model.specs.Names.{pad64}
+use Rattle.elf_model.specs.Tables.{linked_at}
+use Rattle.elf_record.specs.Sym.{IsSym}
+use Rattle.elf_record.specs.declared.sym.Sym.{Sym}
+use Rattle.elf_source.specs.Source.{Counting, Faults}
+use Rattle.elf_headers.specs.declared.fault.Fault.{Fault}
+use Rattle.elf_headers.specs.declared.fault.Fault.TheVariants.{Refused, Source}
+use Rattle.elf_hash.specs.declared.lookup.Lookup.{Lookup}
+use Rattle.elf_hash.specs.declared.lookup.Lookup.TheVariants.{Found, Absent}
+
+-- how many steps an answer tells of
+abbrev pub steps_of : Lookup → ℕ
+steps_of (Found section index symbol steps) = steps
+steps_of (Absent steps) = steps
+
+-- how many bytes a symbol asks for whose name is compared with one of so many bytes
+abbrev pub symbol_bytes : ℕ → ℕ
+symbol_bytes length = 24 + pad64 (length + 1)
+
+-- the same with the word behind it in its chain
+abbrev pub step_bytes : ℕ → ℕ
+step_bytes length = 28 + pad64 (length + 1)
+
+-- a walk of so many steps: the bucket's word, and the steps
+abbrev pub walk_bytes : ℕ → ℕ → ℕ
+walk_bytes steps length = 4 + steps * step_bytes length
+
+-- what stands behind the section headers: the two counts, and a walk of so many steps
+abbrev pub behind_bytes : ℕ → ℕ → ℕ
+behind_bytes steps length = 8 + walk_bytes steps length
+
+-- WHAT A LOOKUP NEVER PASSES: the file header, a section header for each slot, the two counts, and a walk of as many steps
+-- as words fit into a file of this size
+abbrev pub find_bytes : ℕ → ℕ → ℕ → ℕ
+find_bytes size slots length = 76 + 64 * slots + size / 4 * step_bytes length
+
+-- an answer is the one that a lookup gives, or not its refusal
+abbrev pub Answers : List ℕ → Looked → Lookup → Type 0
+Answers file looked (Found section index symbol steps) =
+    (at : ℕ) × (looked ≡ record { answer = IsFound section index at; compared = steps }) × IsSym file at symbol
+Answers file looked (Absent steps) = looked ≡ record { answer = IsAbsent; compared = steps }
+
+-- WHAT A LOOKUP FINDS: the answer that it gives, with its steps, the section, the index and the symbol; or its refusal
+abbrev pub Finds : List ℕ → Looked → Result Lookup Fault → Type 0
+Finds file looked (Ok lookup) = Answers file looked lookup
+Finds file looked (Err (Refused refusal)) = looked.answer ≡ IsRefused refusal
+Finds file looked (Err (Source fault at)) = Unit {0}
+
+-- the same of a part of it, which a limit may stop
+abbrev pub Walks : List ℕ → Looked → Result Lookup Fault → Type 0
+Walks file looked (Ok lookup) = Answers file looked lookup
+Walks file looked (Err (Refused refusal)) = (IsBudget refusal → ⊥) → looked.answer ≡ IsRefused refusal
+Walks file looked (Err (Source fault at)) = Unit {0}
+
+-- what a fault says where no limit is set: the source's own names the read that failed, and no refusal is for want of budget
+abbrev pub FaultSays : Counting → Counting → Fault → Type 0
+FaultSays old new (Refused refusal) = IsBudget refusal → ⊥
+FaultSays old new (Source fault at) = Faults old.seen new.seen fault × (at ≡ new.stopped)
+
+-- a symbol's name is compared: the symbol where it is the wanted one, nothing where it is another, or a refusal at the symbol
+abbrev pub Compares : List ℕ → ℕ → List ℕ → ℕ → Result (Option Sym) Fault → Type 0
+Compares file at wanted index (Ok (Some symbol)) =
+    (same_symbol file (linked_at file at) wanted index ≡ Ok true) × IsSym file (symbol_at file (linked_at file at) index) symbol
+Compares file at wanted index (Ok None) = same_symbol file (linked_at file at) wanted index ≡ Ok false
+Compares file at wanted index (Err (Refused refusal)) =
+    (IsBudget refusal → ⊥)
+    → (refusal.at ≡ symbol_at file (linked_at file at) index) × (same_symbol file (linked_at file at) wanted index ≡ Err refusal.cause)
+Compares file at wanted index (Err (Source fault offset)) = Unit {0}
+
+-- what is asked for behind the section headers, and what is found
+pub record Behind (file : List ℕ) (looked : Looked) (old new : Counting) (length : ℕ) (result : Result Lookup Fault) : Type 0 where
+  pub walks : Walks file looked result
+  pub asks : new.asked ≤ old.asked + behind_bytes looked.compared length

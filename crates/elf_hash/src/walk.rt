@@ -1,0 +1,145 @@
+//! The walk along the chain of a name.
+ghost use Rattle.std.specs.Prelude.{◌≡◌, ℕ, ◌+◌, ◌*◌, ◌<◌, ◌≤◌, List, length, Some, IfErr, IfOk};
+ghost use Rattle.elf_hash.specs.Lookups.{Compares, Walks, steps_of, symbol_bytes, walk_bytes};
+ghost use Rattle.elf_hash.specs.Tables.{Counts, IsSection, IsTable, Lies};
+ghost use Rattle.elf_model.specs.Bytes.{field};
+ghost use Rattle.elf_model.specs.Hash.{looked_up};
+ghost use Rattle.elf_source.specs.Source.{Reads};
+ghost use Rattle.elf_headers.specs.Faults.{IsOfRead, Says};
+
+use crate::checks::refused;
+use crate::hash_section::HashSection;
+use crate::hash_table::HashTable;
+use crate::lookup::Lookup;
+use elf_headers::{Fault, fill};
+use elf_record::{Cause, Sym, word};
+use elf_source::{Counted, Source};
+
+/// Reads the two counts of a hash table.
+///
+/// # Errors
+/// `HashShape` at the section's header where there is no bucket, or where the words that the counts
+/// tell of do not fit into the section. Else a fault of a read.
+pub(crate) fn counted<S: Source>(
+    src: &mut Counted<S>,
+    section: &HashSection,
+) -> Result<HashTable, Fault>
+    requires lies { Lies src.old.seen.size section.now }
+    ensures reads { Reads src.old src.new 8 }
+    ensures says { IfErr result (Says src.old src.new 8) }
+    ensures same { IfOk result (λ table. table.section ≡ section.now) }
+    ensures counts { (file : List ℕ) (at : ℕ) → src.old.seen.file ≡ Some file →
+        IsSection file at section.now → Counts file at result }
+{
+    let nbucket = read_word(src, section.at)?;
+    let nchain = read_word(src, section.at + 4)?;
+    if nbucket == 0 || words_end(nbucket, nchain) > section.size {
+        return refused(section.place, Cause::HashShape);
+    }
+    Ok(HashTable {
+        section: *section,
+        nbucket,
+        nchain,
+    })
+}
+
+/// How many bytes a hash table with these counts has.
+fn words_end(nbucket: u32, nchain: u32) -> u64
+    ensures { result ≡ 8 + 4 * nbucket + 4 * nchain }
+{
+    8 + 4 * u64::from(nbucket) + 4 * u64::from(nchain)
+}
+
+/// Goes along the chain of the wanted name, up to the symbol that has it or to the chain's end.
+///
+/// # Errors
+/// `HashIndex` at a word that is not below the number of chains and of symbols. `HashCycle` at the
+/// word of the bucket where as many steps as there are chains gave no answer: the chain goes round.
+/// A refusal of a symbol's name, as [`elf_table::Names::equals`] has it, at the symbol. Else a
+/// fault of a read.
+pub(crate) fn walk<S: Source>(
+    src: &mut Counted<S>,
+    table: &HashTable,
+    wanted: &[u8],
+) -> Result<Lookup, Fault>
+    requires most { length wanted.now ≤ 4096 }
+    requires lies { Lies src.old.seen.size table.now.section }
+    ensures reads { Reads src.old src.new (walk_bytes table.now.nchain (length wanted.now)) }
+    ensures says { IfErr result
+        (Says src.old src.new (walk_bytes table.now.nchain (length wanted.now))) }
+    ensures steps { IfOk result (λ lookup. steps_of lookup ≤ table.now.nchain) }
+    ensures asks { (file : List ℕ) (at : ℕ) → src.old.seen.file ≡ Some file →
+        IsTable file at table.now → src.new.asked ≤
+        src.old.asked + walk_bytes (looked_up file at wanted.now).compared (length wanted.now) }
+    ensures walks { (file : List ℕ) (at : ℕ) → src.old.seen.file ≡ Some file →
+        IsTable file at table.now → Walks file (looked_up file at wanted.now) result }
+{
+    let bucket = table.bucket_at(wanted);
+    let mut at = bucket;
+    let mut index = read_word(src, at)?;
+    let mut steps = 0;
+    while index != 0 {
+        if index >= table.nchain || u64::from(index) >= table.section.symbols.len() {
+            return refused(at, Cause::HashIndex);
+        }
+        if steps == table.nchain {
+            return refused(bucket, Cause::HashCycle);
+        }
+        steps += 1;
+        if let Some(symbol) = named(src, &table.section, index, wanted)? {
+            let section = table.section.link;
+            return Ok(Lookup::Found {
+                section,
+                index,
+                symbol,
+                steps,
+            });
+        }
+        at = table.chain_at(index);
+        index = read_word(src, at)?;
+    }
+    Ok(Lookup::Absent { steps })
+}
+
+/// The symbol of an index, if it has the wanted name: one read of the symbol, and its name is
+/// compared.
+///
+/// # Errors
+/// Those of [`elf_table::Table::symbol`], and those of [`elf_table::Names::equals`] at the symbol.
+fn named<S: Source>(
+    src: &mut Counted<S>,
+    section: &HashSection,
+    index: u32,
+    wanted: &[u8],
+) -> Result<Option<Sym>, Fault>
+    requires most { length wanted.now ≤ 4096 }
+    requires below { index < section.now.symbols.count }
+    requires lies { Lies src.old.seen.size section.now }
+    ensures reads { Reads src.old src.new (symbol_bytes (length wanted.now)) }
+    ensures says { IfErr result (Says src.old src.new (symbol_bytes (length wanted.now))) }
+    ensures compares { (file : List ℕ) (at : ℕ) → src.old.seen.file ≡ Some file →
+        IsSection file at section.now → Compares file at wanted.now index result }
+{
+    let symbol = section.symbols.symbol(src, u64::from(index))?;
+    let place = section.symbols.place(u64::from(index));
+    let off = u64::from(symbol.st_name);
+    let is_wanted = section.names.equals(src, off, place, wanted)?;
+    Ok(if is_wanted { Some(symbol) } else { None })
+}
+
+/// Reads the word at an offset, and only its four bytes.
+///
+/// # Errors
+/// A fault of the read, or a refusal for want of budget, at the offset.
+fn read_word<S: Source>(src: &mut Counted<S>, at: u64) -> Result<u32, Fault>
+    requires { at + 4 ≤ src.old.seen.size }
+    ensures reads { Reads src.old src.new 4 }
+    ensures says { IfErr result (Says src.old src.new 4) }
+    ensures fault { IfErr result IsOfRead }
+    ensures read { (file : List ℕ) → src.old.seen.file ≡ Some file →
+        IfOk result (λ word. word ≡ field file at 4) }
+{
+    let mut bytes = [0; 4];
+    fill(src, at, &mut bytes)?;
+    Ok(word(&bytes))
+}

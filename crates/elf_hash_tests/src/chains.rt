@@ -1,0 +1,152 @@
+//! Names that are longer than a piece, and one chain of all symbols.
+ghost use Rattle.std.specs.Prelude.{◌<◌};
+
+use crate::looking::{Looked, look_in};
+use elf_fakes::Planned;
+use elf_fixtures::bare_header;
+use elf_hash::Lookup;
+use elf_headers::HeaderStore;
+use elf_record::{Ehdr, Shdr, Sym};
+use elf_source::MemorySource;
+use std::process::Abort;
+use std::test::Fail;
+
+/// How many symbols there are, the first of them without a name.
+const SYMBOLS: usize = 41;
+/// How many bytes a name has.
+const NAME: usize = 100;
+/// Where the hash table stands: two counts, one bucket, a chain for each symbol.
+const HASH_AT: usize = 64;
+/// Where the symbols stand.
+const SYMBOLS_AT: usize = HASH_AT + 4 * (3 + SYMBOLS);
+/// Where their names stand, behind a NUL.
+const NAMES_AT: usize = SYMBOLS_AT + 24 * SYMBOLS;
+/// Where the section headers stand.
+const HEADERS_AT: usize = NAMES_AT + 1 + (NAME + 1) * (SYMBOLS - 1);
+/// How many bytes the file has.
+const SIZE: usize = HEADERS_AT + 4 * 64;
+
+/// The name of a symbol: all begin alike.
+fn name(index: usize) -> [u8; NAME]
+    requires { index < 100 }
+{
+    let mut name = [b'n'; NAME];
+    name[NAME - 2] = b'0' + (index / 10) as u8;
+    name[NAME - 1] = b'0' + (index % 10) as u8;
+    name
+}
+
+/// A section header of a type, a range, a link and a size of entries.
+fn section(sh_type: u32, at: usize, size: usize, sh_link: u32, entry: u64) -> [u8; 64] {
+    let mut header = Shdr::decode(&[0; 64]);
+    header.sh_type = sh_type;
+    header.sh_offset = at as u64;
+    header.sh_size = size as u64;
+    header.sh_link = sh_link;
+    header.sh_entsize = entry;
+    header.encode()
+}
+
+/// Puts bytes at a place.
+fn put(rt: &impl Abort, file: &mut [u8; SIZE], at: usize, bytes: &[u8]) {
+    assert!(rt; at <= SIZE && bytes.len() <= SIZE - at);
+    let all = &mut file[..];
+    all[at..at + bytes.len()].copy_from_slice(bytes);
+}
+
+/// A file with one bucket, whose chain goes through all symbols in their order.
+fn one_chain(rt: &impl Abort) -> [u8; SIZE] {
+    let mut file = [0; SIZE];
+    let mut header = Ehdr::decode(bare_header());
+    header.e_shoff = HEADERS_AT as u64;
+    header.e_shentsize = 64;
+    header.e_shnum = 4;
+    put(rt, &mut file, 0, &header.encode());
+    let counts = [1, 0, 0, 0, SYMBOLS as u8, 0, 0, 0, 1];
+    put(rt, &mut file, HASH_AT, &counts);
+    for index in 1..SYMBOLS {
+        let next = if index + 1 < SYMBOLS { index + 1 } else { 0 };
+        put(rt, &mut file, HASH_AT + 4 * (3 + index), &[next as u8]);
+        let place = 1 + (NAME + 1) * (index - 1);
+        let mut symbol = Sym::decode(&[0; 24]);
+        symbol.st_name = place as u32;
+        put(rt, &mut file, SYMBOLS_AT + 24 * index, &symbol.encode());
+        put(rt, &mut file, NAMES_AT + place, &name(index));
+    }
+    let symbols = section(11, SYMBOLS_AT, 24 * SYMBOLS, 3, 24);
+    let hash = section(5, HASH_AT, 4 * (3 + SYMBOLS), 2, 4);
+    let names = section(3, NAMES_AT, HEADERS_AT - NAMES_AT, 0, 0);
+    put(rt, &mut file, HEADERS_AT + 64, &hash);
+    put(rt, &mut file, HEADERS_AT + 128, &symbols);
+    put(rt, &mut file, HEADERS_AT + 192, &names);
+    file
+}
+
+/// How many bytes a lookup asks for that finds a symbol at so many steps: the file header, the
+/// section headers, the counts; and for each step a word, a symbol, and a name with its NUL.
+fn asked_at(steps: u32) -> u128 {
+    64 + 256 + 8 + u128::from(steps) * (4 + 24 + 101)
+}
+
+#[test]
+fn each_symbol_of_a_long_chain_is_found_and_read_once(rt: HostRuntime) -> Result<(), Fail> {
+    let file = one_chain(&rt);
+    let mut store = HeaderStore::new(rt.alloc(), 4)?;
+    for index in 1..SYMBOLS {
+        let wanted = name(index);
+        let Looked { answer, asked, .. } = look_in(
+            &rt,
+            MemorySource::new(&file),
+            &mut store,
+            &wanted,
+        );
+        let Ok(
+            Lookup::Found {
+                index: found,
+                steps,
+                symbol,
+                ..
+            },
+        ) = answer
+        else {
+            return Err("no symbol".into());
+        };
+        assert!(rt; found == index as u32 && steps == index as u32, "{index}");
+        assert!(rt; symbol.st_name == 1 + 101 * (found - 1), "{index}");
+        assert!(rt; asked == asked_at(steps), "{index}");
+    }
+    Ok(())
+}
+
+#[test]
+fn a_name_behind_all_others_is_absent(rt: HostRuntime) -> Result<(), Fail> {
+    let file = one_chain(&rt);
+    let mut store = HeaderStore::new(rt.alloc(), 4)?;
+    let looked = look_in(&rt, MemorySource::new(&file), &mut store, &name(99));
+    assert!(rt; looked.answer == Ok(Lookup::Absent { steps: 40 }));
+    // The word behind the last symbol too.
+    assert!(rt; looked.asked == 64 + 256 + 8 + 40 * (4 + 24 + 101) + 4);
+    assert!(rt; looked.asked <= 76 + 256 + 40 * (28 + 128));
+    // A front of all names, and more than any.
+    let looked = look_in(&rt, MemorySource::new(&file), &mut store, &[b'n'; 98]);
+    assert!(rt; looked.answer == Ok(Lookup::Absent { steps: 40 }));
+    let looked = look_in(&rt, MemorySource::new(&file), &mut store, &[b'n'; 4096]);
+    assert!(rt; looked.answer == Ok(Lookup::Absent { steps: 40 }));
+    assert!(rt; looked.asked <= 76 + 256 + 40 * (28 + 4160));
+    Ok(())
+}
+
+#[test]
+fn a_lookup_reads_word_by_word(rt: HostRuntime) -> Result<(), Fail> {
+    let file = one_chain(&rt);
+    let mut store = HeaderStore::new(rt.alloc(), 4)?;
+    let mut source = Planned::new(&file, 0);
+    let mut src = elf_source::Counted::new(source);
+    let answer = elf_hash::find(&mut src, &mut store, &name(40));
+    assert!(rt; answer.is_ok());
+    source = src.into_inner();
+    // The file header, the section headers, two counts, the bucket's word; a symbol, a name and a
+    // word for each step but the last.
+    assert!(rt; source.reads == 5 + 3 * 40 - 1 && source.largest == 256);
+    Ok(())
+}

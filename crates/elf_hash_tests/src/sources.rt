@@ -1,0 +1,50 @@
+//! Lookups in sources that answer otherwise at each read, and in those that fail.
+use crate::looking::{cost, look_in};
+use elf_fixtures::{hash_with_cycle, hash_with_end, with_bytes};
+use elf_headers::{Fault, HeaderStore};
+use elf_source::{FailSource, MemorySource, SourceFault, TurnSource};
+use std::test::Fail;
+
+#[test]
+fn a_file_that_changes_between_reads_is_asked_for_no_more(rt: HostRuntime) -> Result<(), Fail> {
+    let mut store = HeaderStore::new(rt.alloc(), 4)?;
+    let one = hash_with_cycle();
+    for (place, bytes) in [(0x44, [0xff; 4]), (0x40, [0xff; 4]), (0x48, [2, 0, 0, 0])] {
+        let other = with_bytes(one, place, &bytes);
+        for (first, second) in [(&one[..], &other[..]), (&other[..], &one[..])] {
+            let source = TurnSource::new(first, second).ok_or("two lengths")?;
+            let looked = look_in(&rt, source, &mut store, b"c");
+            // As many steps as there are words in the file.
+            assert!(rt; looked.asked <= 76 + 256 + 106 * 92, "{place}");
+            assert!(rt; store.slots() == 4);
+        }
+    }
+    Ok(())
+}
+
+#[test]
+fn each_read_that_fails_is_told_by_its_offset(rt: HostRuntime) -> Result<(), Fail> {
+    let mut store = HeaderStore::new(rt.alloc(), 4)?;
+    let file = hash_with_end();
+    // The file header, the section headers, the counts, the bucket's word; symbol 1, its name and
+    // its chain's word; symbol 2 and its name.
+    let reads = [0, 0xa8, 0x40, 0x44, 0x48, 0x70, 0xa1, 0x50, 0x88, 0xa3];
+    for (k, at) in reads.into_iter().enumerate() {
+        let source = FailSource::new(MemorySource::new(&file), k as u64);
+        let looked = look_in(&rt, source, &mut store, b"b");
+        let fault = SourceFault::Device;
+        assert!(rt;
+            looked.answer == Err(Fault::Source { fault, at }),
+            "read {k}"
+        );
+        assert!(rt;
+            looked.stopped == at && looked.asked <= cost(2, 1),
+            "read {k}"
+        );
+        let looked = look_in(&rt, MemorySource::new(&file), &mut store, b"b");
+        assert!(rt; looked.answer.is_ok() && store.slots() == 4, "read {k}");
+    }
+    let source = FailSource::new(MemorySource::new(&file), 10);
+    assert!(rt; look_in(&rt, source, &mut store, b"b").answer.is_ok());
+    Ok(())
+}
