@@ -1,0 +1,161 @@
+-- A section window by window.
+use Rattle.std.proofs.Common.{◌≡◌, ℕ, ◌+◌, ◌-◌, ◌*◌, ◌<◌, ◌≤◌, List, [], ◌∷◌, ◌++◌, length, take, drop, min, map, Result, Ok, Err, refl, sym, ap, ◌∙◌, subst, arith, length-drop, length-take-le, length-append, replicate, take-take}
+use Rattle.std.proofs.lemmas.List.{take_all, drop-take, drop-drop, take-append-drop, length-replicate}
+use Rattle.std.proofs.Math.Nat.{mul-le-mul_right}
+use Rattle.std.proofs.Math.Seq.{take-add}
+use Rattle.elf_model.specs.Apply.{Patch, Change, Put, Fails, put, patched, patches_of, and_patches}
+use Rattle.elf_model.specs.ApplyLaws.{AllInside, clipped}
+use Rattle.elf_model.specs.Bytes.{slice}
+use Rattle.elf_model.specs.declared.causes.Refusal.{Refusal}
+use Rattle.elf_model.proofs.PatchLaws.{window_patched, length_kept}
+use Rattle.elf_source.specs.Output.{Written, Takes, TakesFront}
+use Rattle.elf_source.proofs.PutsLaws.{Takes-nothing, Takes-then, TakesFront-then, TakesFront-more}
+use Rattle.elf_source.specs.Source.{Counting, Reads as ReadsMost}
+use Rattle.elf_source.proofs.ReadsLaws.{Faults-then}
+use Rattle.elf_headers.specs.declared.fault.Fault.{Fault}
+use Rattle.elf_headers.specs.declared.fault.Fault.TheVariants.{Refused as Refuses, Source as Unread}
+use Rattle.elf_apply.specs.Passes.{folded, storing, Folds}
+use Rattle.elf_apply.specs.Windows.{Writes, FaultSays, IsUnread, windows, fault_as}
+use Rattle.elf_apply.specs.Costs.{ReadSays}
+use Rattle.elf_apply.specs.declared.fault.ApplyFault.{ApplyFault}
+use Rattle.elf_apply.specs.declared.fault.ApplyFault.TheVariants.{Refused, Source, Out}
+
+-- a pass in a window is the patches' parts, stored one after another
+pub and_is : (patch : Patch) (rest : Result (List Patch) Refusal) (patches : List Patch) → and_patches patch rest ≡ Ok patches → (more : List Patch) × (rest ≡ Ok more) × (patches ≡ patch ∷ more)
+unfolding and_patches
+and_is patch (Ok more) patches h = (more, refl, let same : patch ∷ more ≡ patches = cc in sym same)
+and_is patch (Err refusal) patches h = cc
+
+pub folded_window : (low n : ℕ) (changes : List Change) (patches : List Patch) (window : List ℕ) → patches_of changes ≡ Ok patches
+    → folded (storing low n) window changes ≡ Ok (patched (map (clipped low n) patches) window)
+unfolding folded patches_of patched
+folded_window low n [] patches window h = let none : patches ≡ [] = cc in rw none refl
+folded_window low n (Put patch ∷ changes) patches window h =
+    let p = and_is patch (patches_of changes) patches h in
+    folded_window low n changes p.0 (put (clipped low n patch) window) p.1 ∙ ap (λ ps. Ok (patched (map (clipped low n) ps) window)) (sym p.2)
+folded_window low n (Fails refusal ∷ changes) patches window h = cc
+
+-- a window of a part of the file
+pub slice_in : (file : List ℕ) (at size low n : ℕ) → low + n ≤ size → slice (slice file at size) low n ≡ slice file (at + low) n
+slice_in file at size low n fits =
+    let whole : size ≡ low + (size - low) = omega arith in
+    let small : n ≤ size - low = omega arith in
+    ap (λ k. take n (drop low (take k (drop at file)))) whole
+    ∙ (ap (take n) (drop-take low (size - low) (drop at file))
+    ∙ (take-take n (size - low) (drop low (drop at file)) small ∙ ap (take n) (drop-drop low at file)))
+
+pub length_in : (file : List ℕ) (at size : ℕ) → at + size ≤ length file → length (slice file at size) ≡ size
+length_in file at size fits = length-take-le size (drop at file) (omega (arith, length-drop at file))
+
+-- the window that a pass leaves is the patched section's
+pub window_is : (file : List ℕ) (at size low n : ℕ) (changes : List Change) (patches : List Patch) (read : List ℕ) → at + size ≤ length file → low + n ≤ size → read ≡ slice file (at + low) n
+    → patches_of changes ≡ Ok patches → AllInside size patches → folded (storing low n) read changes ≡ Ok (slice (patched patches (slice file at size)) low n)
+window_is file at size low n changes patches read within fits is h inside =
+    let base : List ℕ = slice file at size in
+    let long : length base ≡ size = length_in file at size within in
+    let same : read ≡ slice base low n = is ∙ sym (slice_in file at size low n fits) in
+    let all : AllInside (length base) patches = rw long inside in
+    folded_window low n changes patches read h ∙ ap Ok (ap (patched (map (clipped low n) patches)) same ∙ sym (window_patched patches base low n all (omega arith)))
+
+pub folds_ok : (value expected : List ℕ) (answer : Result (List ℕ) Refusal) → answer ≡ Ok value → answer ≡ Ok expected → value ≡ expected
+folds_ok value expected answer h e = cc
+
+-- nothing was written yet
+pub front_none : (a : Written) (text : List ℕ) → TakesFront a a text
+front_none a text = record { front = []; rest = text; split = refl; takes = Takes-nothing a }
+
+-- a pass failed: a refusal can't be, and a fault of the source leaves nothing written
+pub pass_failed : (X : Type 0) (a : Written) (fault : Fault) (result : Result X ApplyFault) (text value : List ℕ) (answer : Result (List ℕ) Refusal)
+    → result ≡ Err (fault_as fault) → answer ≡ Ok text → Folds {X = X} (Err fault) value answer → Writes a a result text
+pass_failed X a (Refuses refusal) result text value answer is ok folds = cc
+pass_failed X a (Unread fault at) result text value answer is ok folds =
+    let P : Result X ApplyFault → Type 0 = λ r. Writes a a r text in subst P (sym is) (front_none a text)
+
+-- a read failed
+pub read_failed : (X : Type 0) (a : Written) (fault : Fault) (result : Result X ApplyFault) (text : List ℕ) → result ≡ Err (fault_as fault) → IsUnread fault → Writes a a result text
+read_failed X a (Refuses refusal) result text is unread = absurd unread
+read_failed X a (Unread fault at) result text is unread =
+    let P : Result X ApplyFault → Type 0 = λ r. Writes a a r text in subst P (sym is) (front_none a text)
+
+-- a fault of a read is one of a call that writes
+pub fault_says : (a b : Counting) (out : Written) (fault : Fault) → ReadSays a b fault → FaultSays a b out (fault_as fault)
+fault_says a b out (Refuses refusal) says = says
+fault_says a b out (Unread fault at) says = says
+
+pub says_as : (a b : Counting) (out : Written) (fault : Fault) (other : ApplyFault) → other ≡ fault_as fault → ReadSays a b fault → FaultSays a b out other
+says_as a b out fault other is says = let P : ApplyFault → Type 0 = λ f. FaultSays a b out f in subst P (sym is) (fault_says a b out fault says)
+
+pub FaultSays-then : (a b c : Counting) (n : ℕ) (out : Written) (fault : ApplyFault) → ReadsMost a b n → FaultSays b c out fault → FaultSays a c out fault
+FaultSays-then a b c n out (Refused refusal) reads says = says
+FaultSays-then a b c n out (Source fault at) reads says = (Faults-then a.seen b.seen c.seen fault reads.keeps says.0, says.1)
+FaultSays-then a b c n out (Out fault) reads says = says
+
+-- a front is no longer than all
+pub front_written : (a b : Written) (text : List ℕ) → TakesFront a b text → b.written ≤ a.written + length text
+front_written a b text h =
+    let long = ap length h.split ∙ length-append h.front h.rest in
+    let counts = h.takes.counts in
+    omega (arith, long, counts)
+
+-- one window more
+pub take_more : (text : List ℕ) (done n : ℕ) → take (done + n) text ≡ take done text ++ slice text done n
+take_more text done n = take-add done n text
+
+pub window_more : (a b c : Written) (text : List ℕ) (done n next : ℕ) → next ≡ done + n → Takes a b (take done text) → Takes b c (slice text done n) → Takes a c (take next text)
+window_more a b c text done n next step before this =
+    let P : List ℕ → Type 0 = λ t. Takes a c t in
+    subst P (sym (ap (λ k. take k text) step ∙ take_more text done n)) (Takes-then (take done text) (slice text done n) before this)
+
+-- a window that stopped
+pub front_all : (a c : Written) (text : List ℕ) (k : ℕ) → TakesFront a c (take k text) → TakesFront a c text
+front_all a c text k h =
+    let P : List ℕ → Type 0 = λ t. TakesFront a c t in subst P (take-append-drop k text) (TakesFront-more (take k text) (drop k text) h)
+
+front_then : (a b c : Written) (text : List ℕ) (done n : ℕ) → Takes a b (take done text) → TakesFront b c (slice text done n) → TakesFront a c text
+front_then a b c text done n before this =
+    let P : List ℕ → Type 0 = λ t. TakesFront a c t in
+    front_all a c text (done + n) (subst P (sym (take_more text done n)) (TakesFront-then (take done text) (slice text done n) before this))
+
+pub window_stopped : (X : Type 0) (a b c : Written) (text : List ℕ) (done n : ℕ) (fault : ApplyFault) → Takes a b (take done text) → Writes {X = X} b c (Err fault) (slice text done n) → Writes {X = X} a c (Err fault) text
+window_stopped X a b c text done n (Refused refusal) before this = absurd this
+window_stopped X a b c text done n (Source fault at) before this = front_then a b c text done n before this
+window_stopped X a b c text done n (Out fault) before this = front_then a b c text done n before this
+
+-- all windows
+pub windows_end : (a b : Written) (patches : List Patch) (base : List ℕ) (done size : ℕ) → length base ≡ size → AllInside size patches → size ≤ done → Takes a b (take done (patched patches base)) → Takes a b (patched patches base)
+windows_end a b patches base done size long inside past h =
+    let all : AllInside (length base) patches = rw long inside in
+    let kept : length (patched patches base) ≡ size = length_kept patches base all ∙ long in
+    let P : List ℕ → Type 0 = λ t. Takes a b t in subst P (take_all done (patched patches base) (omega arith)) h
+
+-- a patched section is as long as the section
+pub length_patched : (patches : List Patch) (base : List ℕ) (size : ℕ) → length base ≡ size → AllInside size patches → length (patched patches base) ≡ size
+length_patched patches base size long inside =
+    let all : AllInside (length base) patches = rw long inside in length_kept patches base all ∙ long
+
+-- the account
+pub windows_account : (size done count next walk before after start bound : ℕ) → done < size → count ≡ min (size - done) 64 → next ≡ done + count → after ≤ before + (walk + count)
+    → before + (windows (size - done) * walk + (size - done)) ≤ bound → after + (windows (size - next) * walk + (size - next)) ≤ bound
+windows_account size done count next walk before after start bound below is step asked within =
+    let fewer : windows (size - next) + 1 ≤ windows (size - done) = omega arith in
+    let product : (windows (size - next) + 1) * walk ≤ windows (size - done) * walk = mul-le-mul_right walk fewer in
+    let split : (windows (size - next) + 1) * walk ≡ windows (size - next) * walk + walk = omega arith in
+    omega (arith, product, split)
+
+-- what a pass answered of a window that was read: the patched section's, or none of it was written
+pub window_done : (file : List ℕ) (at size low n m : ℕ) (changes : List Change) (patches : List Patch) (read : List ℕ) → at + size ≤ length file → low + n ≤ size → read ≡ slice file (at + low) n → m ≡ n
+    → patches_of changes ≡ Ok patches → AllInside size patches → folded (storing low m) read changes ≡ Ok (slice (patched patches (slice file at size)) low n)
+window_done file at size low n m changes patches read within fits is same h inside =
+    ap (λ k. folded (storing low k) read changes) same ∙ window_is file at size low n changes patches read within fits is h inside
+
+pub takes_as : (a b : Written) (value text : List ℕ) → value ≡ text → Takes a b value → Takes a b text
+takes_as a b value text e h = let P : List ℕ → Type 0 = λ t. Takes a b t in subst P e h
+
+pub front_as : (a b : Written) (value text : List ℕ) → value ≡ text → TakesFront a b value → TakesFront a b text
+front_as a b value text e h = let P : List ℕ → Type 0 = λ t. TakesFront a b t in subst P e h
+
+pub takes_start : (a : Written) (text : List ℕ) → Takes a a (take 0 text)
+takes_start a text = Takes-nothing a
+
+pub short_take : (n size : ℕ) → n ≤ size → length {A = ℕ} (take n (replicate size 0)) ≡ n
+short_take n size few = let zeros : List ℕ = replicate size 0 in length-take-le n zeros (let long : length zeros ≡ size = length-replicate {A = ℕ} size 0 in omega (arith, long))

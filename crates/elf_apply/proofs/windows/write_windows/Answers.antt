@@ -1,0 +1,53 @@
+use Rattle.std.proofs.Common.{refl, sym, ap, ◌∙◌, ◌+◌, ◌-◌, arith, ◌≡◌}
+use Rattle.elf_source.proofs.ReadsLaws.{Reads-none, Reads-then, Reads-to}
+use Rattle.elf_apply.proofs.OpenLaws.{still_open}
+use Rattle.elf_model.specs.Apply.{patched}
+use Rattle.elf_model.specs.Bytes.{slice}
+use Rattle.elf_apply.specs.Walk.{walk_all}
+use Rattle.elf_apply.proofs.WindowSteps.{window_more, window_stopped, windows_end, windows_account, length_in, takes_start, short_take}
+use Rattle.elf_apply.proofs.windows.write_windows.Goals as goal
+
+pub windows-init : goal.windows-init
+windows-init g c = record {
+  sized = refl;
+  within = omega arith;
+  reads = Reads-none _ _;
+  asked =
+      let whole : c.args.target.now.size - 0 ≡ c.args.target.now.size = omega arith in
+      rw whole (omega arith);
+  wrote = omega (arith, c.args.out.now.fits);
+  text = λ file held patches are inside. takes_start _ (patched patches (slice file c.args.at c.args.target.now.size));
+}
+
+pub returns-in-Err-clause-text : goal.returns-in-Err-clause-text
+returns-in-Err-clause-text g c = λ file held patches are inside.
+    let known = c.windows.invariant in
+    window_stopped (Unit {0}) _ _ _ (patched patches (slice file c.args.at c.args.target.now.size)) c.windows.done _ c.in-Err.fault (known.text file held patches are inside)
+    (c.in-Err.ensures.text file (known.reads.keeps.same_file ∙ held) patches are inside)
+
+pub windows-preserved : goal.windows-preserved
+windows-preserved g c =
+    let known = c.windows.invariant in
+    let count = c.min-count.ensures in
+    let few = short_take c.min-count.result 64 (omega (arith, count)) in
+    let asked = windows_account c.args.target.now.size c.windows.done c.min-count.result _ (walk_all c.args.target.now) c.windows.src.asked _ 0 _ c.windows-test.true count refl
+    (omega (arith, c.write_window.ensures.reads.at_most, few)) known.asked in
+    record {
+      sized = known.sized;
+      within = omega (arith, c.windows-test.true, count);
+      reads = Reads-to (Reads-then known.reads c.write_window.ensures.reads) (omega (arith, asked));
+      asked = asked;
+      wrote = omega (arith, known.wrote, c.in-Ok.ensures.wrote, few);
+      text = λ file held patches are inside.
+          window_more _ _ _ (patched patches (slice file c.args.at c.args.target.now.size)) c.windows.done _ _ (ap (λ n. c.windows.done + n) (sym few)) (known.text file held patches are inside)
+          (c.in-Ok.ensures.text file (known.reads.keeps.same_file ∙ held) patches are inside);
+    }
+
+pub write_window-requires-clause-opened : goal.write_window-requires-clause-opened
+write_window-requires-clause-opened g c = still_open _ _ c.windows.invariant.reads c.requires.opened
+
+pub returns-clause-text : goal.returns-clause-text
+returns-clause-text g c = λ file held patches are inside.
+    let known = c.windows.invariant in
+    windows_end _ _ patches (slice file c.args.at c.args.target.now.size) c.windows.done c.args.target.now.size (length_in file c.args.at c.args.target.now.size (let belongs = c.requires.opened.belongs file held in omega (arith, belongs.size, c.requires.opened.size, c.requires.within))) inside
+    (omega (arith, c.windows-test.false)) (known.text file held patches are inside)

@@ -1,0 +1,60 @@
+-- The section with its relocations applied.
+use Rattle.std.specs.Prelude.{ℕ, ◌≡◌, ◌+◌, ◌-◌, ◌*◌, ◌^◌, ◌/◌, ◌≤◌, min, List, [], length, None, Some, Result, Ok, Err}
+use Rattle.elf_model.specs.Apply.{apply_checks, before_entries, held_bytes}
+use Rattle.elf_model.specs.ApplyCost.{layout_names_cost}
+use Rattle.elf_model.specs.Bytes.{slice}
+use Rattle.elf_model.specs.Checks.{first_refusal}
+use Rattle.elf_model.specs.Placing.{Layout}
+use Rattle.elf_model.specs.Records.{section_at}
+use Rattle.elf_model.specs.declared.causes.Refusal.{Refusal}
+use Rattle.elf_source.specs.Output.{Written, Takes, TakesFront}
+use Rattle.elf_headers.specs.declared.fault.Fault.{Fault}
+use Rattle.elf_headers.specs.declared.fault.Fault.TheVariants.{Refused as Refuses, Source as Unread}
+use Rattle.elf_apply.specs.declared.applying.Applied.{Applied}
+use Rattle.elf_apply.specs.declared.entry.Target.{Target}
+use Rattle.elf_apply.specs.declared.fault.ApplyFault.{ApplyFault}
+use Rattle.elf_apply.specs.declared.fault.ApplyFault.TheVariants.{Refused, Source, Out}
+use Rattle.elf_apply.specs.Walk.{walk_all}
+
+-- where a section's bytes stand, or the first check that fails
+abbrev pub HeldIs : List ℕ → ℕ → Result (ℕ × ℕ) Fault → Type 0
+HeldIs file section (Ok found) = (first_refusal (apply_checks file section) ≡ None) × (slice file found.0 found.1 ≡ held_bytes file (section_at file section))
+HeldIs file section (Err (Refuses refusal)) = first_refusal (apply_checks file section) ≡ Some refusal
+HeldIs file section (Err (Unread fault at)) = Unit {0}
+
+-- the text of an answer: nothing where it is refused
+abbrev pub text_of : Result (List ℕ) Refusal → List ℕ
+text_of (Ok text) = text
+text_of (Err refusal) = []
+
+-- WHAT WAS WRITTEN of an answer: all its bytes, with their number and that of the entries; nothing where it is refused; a front
+-- of them at a fault
+abbrev pub Applies : Written → Written → Result Applied ApplyFault → ℕ → Result (List ℕ) Refusal → Type 0
+Applies old new (Ok done) entries answer =
+    (text : List ℕ) × (answer ≡ Ok text) × Takes old new text × (done.size ≡ length text) × (done.entries ≡ entries)
+Applies old new (Err (Refused refusal)) entries answer = (answer ≡ Err refusal) × (new ≡ old)
+Applies old new (Err (Source fault at)) entries answer = TakesFront old new (text_of answer)
+Applies old new (Err (Out fault)) entries answer = TakesFront old new (text_of answer)
+
+-- HOW MANY BYTES WERE WRITTEN, for every source: as many as the answer says, or no more than so many at a fault
+abbrev pub WroteMost : Written → Written → Result Applied ApplyFault → ℕ → Type 0
+WroteMost old new (Ok done) most = (done.size ≤ most) × (new.written ≡ min (old.written + done.size) (2 ^ 128 - 1))
+WroteMost old new (Err fault) most = new.written ≤ old.written + most
+
+-- a target stands for a section of the file whose bytes stand at an offset, and no check before its entries fails
+pub record Stands (file : List ℕ) (headers : ℕ) (target : Target) (at : ℕ) : Type 0 where
+  pub passed : first_refusal (before_entries file headers target.section) ≡ None
+  pub bytes : slice file at target.size ≡ held_bytes file (section_at file target.section)
+
+-- what so many passes through the entries ask for, and the section
+abbrev pub passes_cost : Target → ℕ → ℕ
+passes_cost target passes = passes * walk_all target + target.size
+
+-- how many bytes may be asked for behind the section headers, for every source: so many passes through as many sections of
+-- entries as there may be headers, each as large as the file, and the file
+abbrev pub behind_ceiling : ℕ → ℕ → Layout → ℕ
+behind_ceiling size headers layout = (1 + (size + 63) / 64) * (headers * (size / 24 * (48 + layout_names_cost layout))) + size
+
+-- how many bytes may be asked for, for every source
+abbrev pub apply_ceiling : ℕ → ℕ → Layout → ℕ
+apply_ceiling size headers layout = 64 + 64 * headers + behind_ceiling size headers layout

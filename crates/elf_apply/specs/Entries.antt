@@ -1,0 +1,67 @@
+-- What a relocation entry stores, as the code has it, in the words of the definitions.
+use Rattle.std.specs.Prelude.{ℕ, ◌≡◌, ◌+◌, ◌≤◌, true, false, List, [], ◌∷◌, length, Option, None, Some, Result, Ok, Err}
+use Rattle.elf_model.specs.Apply.{Target, Patch, Change, Put, Fails, named_value, symbol_checks}
+use Rattle.elf_model.specs.Checks.{first_refusal}
+use Rattle.elf_model.specs.Placing.{symbol_value, linkage_value, place_value}
+use Rattle.elf_model.specs.Values.{Formula, takes_linkage, takes_place}
+use Rattle.elf_model.specs.declared.causes.Cause.{Cause}
+use Rattle.elf_model.specs.declared.causes.Refusal.{Refusal}
+use Rattle.elf_reloc.specs.Types.{patched_bytes}
+use Rattle.elf_headers.specs.declared.fault.Fault.{Fault}
+use Rattle.elf_headers.specs.declared.fault.Fault.TheVariants.{Refused, Source}
+use Rattle.elf_apply.specs.declared.entry.Placed.{Placed}
+use Rattle.elf_apply.specs.declared.entry.Target.{Target as TargetCode}
+
+-- what relocations are applied to
+abbrev pub target_as : List ℕ → TargetCode → Target
+target_as file target = record { file = file; section = target.section; size = target.size; layout = target.layout.now }
+
+-- the bytes that are stored
+abbrev pub patch_as : Placed → Patch
+patch_as placed = record { at = placed.offset; bytes = patched_bytes placed.patch }
+
+-- they lie within so many bytes
+abbrev pub IsInside : ℕ → Placed → Type 0
+IsInside size placed = placed.offset + length (patched_bytes placed.patch) ≤ size
+
+-- what an entry gives: nothing, bytes that are stored, or its fault
+abbrev pub Changes : Result (Option Placed) Fault → List Change → Type 0
+Changes (Ok None) changes = changes ≡ []
+Changes (Ok (Some placed)) changes = changes ≡ Put (patch_as placed) ∷ []
+Changes (Err (Refused refusal)) changes = changes ≡ Fails refusal ∷ []
+Changes (Err (Source fault at)) changes = Unit {0}
+
+-- what an entry of a type gives: bytes that are stored, or its fault
+abbrev pub Does : Result Placed Fault → Change → Type 0
+Does (Ok placed) change = change ≡ Put (patch_as placed)
+Does (Err (Refused refusal)) change = change ≡ Fails refusal
+Does (Err (Source fault at)) change = Unit {0}
+
+-- a value, or the cause of its absence at an offset
+abbrev pub value_or : Option ℕ → ℕ → Cause → Result ℕ Refusal
+value_or (Some value) at cause = Ok value
+value_or None at cause = Err (record { at = at; cause = cause })
+
+-- S, or L where the formula takes it
+unfoldable pub taken_value : Formula → Target → ℕ → ℕ → Result ℕ Refusal
+taken_value formula target at rela =
+    elim (takes_linkage formula) [
+      | true ↦ named_value linkage_value target at rela
+      | false ↦ named_value symbol_value target at rela
+    ]
+
+-- that value, where the symbol's checks pass
+unfoldable pub term_of : Formula → Target → ℕ → ℕ → Result ℕ Refusal
+term_of formula target at rela =
+    elim (first_refusal (symbol_checks target.file at rela)) [
+      | Some refusal ↦ Err refusal
+      | None ↦ taken_value formula target at rela
+    ]
+
+-- P where the formula takes it, else 0
+unfoldable pub taken_place : Formula → Target → ℕ → Result ℕ Refusal
+taken_place formula target rela =
+    elim (takes_place formula) [
+      | true ↦ place_value target.file target.layout target.section rela
+      | false ↦ Ok 0
+    ]

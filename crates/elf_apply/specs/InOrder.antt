@@ -1,0 +1,47 @@
+-- One pass over entries whose offsets never fall: what is held, and how far the section has come.
+use Rattle.std.specs.Prelude.{ℕ, ◌≡◌, ◌+◌, ◌≤◌, List, [], ◌∷◌, length, take, drop, Ok}
+use Rattle.elf_model.specs.Apply.{Patch, Change, patches_of, patched}
+use Rattle.elf_model.specs.ApplyLaws.{AllInside}
+use Rattle.elf_model.specs.Bytes.{slice}
+use Rattle.elf_source.specs.Output.{Written, Takes}
+use Rattle.elf_apply.specs.declared.fault.ApplyFault.{ApplyFault}
+use Rattle.elf_apply.specs.declared.fault.ApplyFault.TheVariants.{Refused, Source, Out}
+
+-- bytes of the section from an offset on, which were read and are not written yet
+pub record Holding : Type 0 where
+  pub low : ℕ
+  pub bytes : List ℕ
+
+-- where they end
+abbrev pub end_of : Holding → ℕ
+end_of h = h.low + length h.bytes
+
+-- what is held is a part of the section as it is now, of which all that stands behind it is as it was
+pub record Midway (base now : List ℕ) (h : Holding) : Type 0 where
+  pub long : length now ≡ length base
+  pub within : h.low + length h.bytes ≤ length base
+  pub held : h.bytes ≡ slice now h.low (length h.bytes)
+  pub rest : drop (h.low + length h.bytes) now ≡ drop (h.low + length h.bytes) base
+
+-- patches whose offsets never fall, the first at or behind an offset
+unfoldable pub Rises : ℕ → List Patch → Type 0
+Rises low [] = Unit {0}
+Rises low (patch ∷ patches) = (low ≤ patch.at) × Rises patch.at patches
+
+-- for the section as it is now: what stands before the bytes that are held was written, and the changes that are left
+-- make the text of it
+pub record UnderWay (base text : List ℕ) (h : Holding) (left : List Change) (old new : Written) : Type 0 where
+  pub now : List ℕ
+  pub midway : Midway base now h
+  pub patches : List Patch
+  pub are : patches_of left ≡ Ok patches
+  pub inside : AllInside (length base) patches
+  pub rises : Rises h.low patches
+  pub ends : patched patches now ≡ text
+  pub takes : Takes old new (take h.low now)
+
+-- a fault that refuses nothing
+abbrev pub IsNoRefusal : ApplyFault → Type 0
+IsNoRefusal (Refused refusal) = ⊥
+IsNoRefusal (Source fault at) = Unit {0}
+IsNoRefusal (Out fault) = Unit {0}

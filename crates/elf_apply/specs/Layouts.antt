@@ -1,0 +1,40 @@
+-- What is put into a layout.
+use Rattle.std.specs.Prelude.{ℕ, ◌≡◌, ◌≢◌, ◌≤◌, ◌<◌, List, [], ◌∷◌, ◌++◌, length, All, Any, Result, Ok, Err}
+use Rattle.elf_model.specs.Placing.{Layout}
+use Rattle.elf_apply.specs.declared.layout.Item.{Item}
+use Rattle.elf_apply.specs.declared.layout.Item.TheVariants.{Section, Define, Entry}
+use Rattle.elf_apply.specs.declared.layout.LayoutFault.{LayoutFault}
+use Rattle.elf_apply.specs.declared.layout.LayoutFault.TheVariants.{Full, Repeat}
+
+-- a name that an item may have: 1 to 255 bytes, none a NUL
+abbrev pub IsName : List ℕ → Type 0
+IsName name = (0 < length name) × (length name ≤ 255) × All (λ byte. byte ≢ 0) name
+
+-- the name of an item, where it has one
+abbrev pub NamesOf : Item → (List ℕ → Type 0) → Type 0
+NamesOf (Section index address) P = Unit {0}
+NamesOf (Define name address) P = P name.now
+NamesOf (Entry name address) P = P name.now
+
+-- one of some items has this index, or name
+abbrev pub HasKey : {K : Type 0} → List (K × ℕ) → K → Type 0
+HasKey items key = Any (λ item. item.0 ≡ key) items
+
+-- none of them has it
+abbrev pub LacksKey : {K : Type 0} → List (K × ℕ) → K → Type 0
+LacksKey items key = All (λ item. item.0 ≢ key) items
+
+-- an item is put behind others, of which there may be so many; one with its index or name is tried before their number
+abbrev pub Adds : {K X : Type 0} → ℕ → K → ℕ → List (K × ℕ) → List (K × ℕ) → Result X LayoutFault → Type 0
+Adds most key address old new (Ok x) = (new ≡ old ++ (key, address) ∷ []) × LacksKey old key × (length old < most)
+Adds most key address old new (Err Full) = (new ≡ old) × LacksKey old key × (length old ≡ most)
+Adds most key address old new (Err Repeat) = (new ≡ old) × HasKey old key
+
+-- an item is put behind those of its sort, and the others stay
+abbrev pub Pushes : {X : Type 0} → Item → Layout → Layout → Result X LayoutFault → Type 0
+Pushes (Section index address) old new result =
+    Adds 64 index address old.sections new.sections result × (new.definitions ≡ old.definitions) × (new.linkage ≡ old.linkage)
+Pushes (Define name address) old new result =
+    Adds 32 name.now address old.definitions new.definitions result × (new.sections ≡ old.sections) × (new.linkage ≡ old.linkage)
+Pushes (Entry name address) old new result =
+    Adds 32 name.now address old.linkage new.linkage result × (new.sections ≡ old.sections) × (new.definitions ≡ old.definitions)

@@ -1,0 +1,132 @@
+-- The walk over the relocation entries for a section: what is left of it, and what a step of it does.
+use Rattle.std.specs.Prelude.{ℕ, ◌≡◌, ◌+◌, ◌-◌, ◌*◌, ◌^◌, ◌<◌, ◌≤◌, true, false, List, [], ◌∷◌, ◌++◌, flat_map, Option, None, Some, Result, Ok, Err, IfSome}
+use Rattle.elf_model.specs.Apply.{Change, Put, Fails, applies_to, entry_changes, places_from, section_changes}
+use Rattle.elf_model.specs.ApplyCost.{layout_names_cost}
+use Rattle.elf_model.specs.Checks.{first_refusal, table_checks_of}
+use Rattle.elf_model.specs.Cost.{sum_over}
+use Rattle.elf_model.specs.Records.{sh_offset, section_at}
+use Rattle.elf_model.specs.Tables.{RELA_SIZE, entry_at, entry_count}
+use Rattle.elf_table.specs.Cursors.{Agrees, unread_bytes, unless_failed}
+use Rattle.elf_headers.specs.Load.{section_place}
+use Rattle.elf_table.specs.Sections.{symbols_linked}
+use Rattle.elf_headers.specs.Store.{row}
+use Rattle.elf_table.specs.Tables.{RowsWithin, SymbolsWithin}
+use Rattle.elf_headers.specs.declared.fault.Fault.{Fault}
+use Rattle.elf_headers.specs.declared.fault.Fault.TheVariants.{Refused, Source}
+use Rattle.elf_apply.specs.Entries.{target_as, patch_as, IsInside}
+use Rattle.elf_apply.specs.declared.entry.Placed.{Placed}
+use Rattle.elf_apply.specs.declared.entry.Target.{Target as TargetCode}
+use Rattle.elf_apply.specs.declared.walk.Entries.{Entries}
+use Rattle.elf_apply.specs.declared.walk.Step.{Step}
+use Rattle.elf_apply.specs.declared.walk.Step.TheVariants.{Stores, Nothing, End}
+
+-- how many sections the target's file has
+abbrev pub sections_of : TargetCode → ℕ
+sections_of target = target.file.store.now.loaded
+
+-- what some entries of a section do, from one on
+unfoldable pub rows_changes : List ℕ → TargetCode → ℕ → ℕ → ℕ → List Change
+rows_changes file target at i n =
+    flat_map (entry_changes (target_as file target) at) (places_from (entry_at file at RELA_SIZE) i n)
+
+-- what some sections do, from one on
+unfoldable pub changes_from : List ℕ → TargetCode → ℕ → ℕ → List Change
+changes_from file target i n = flat_map (section_changes (target_as file target)) (places_from (section_at file) i n)
+
+-- what the entries that are left do
+unfoldable pub changes_left : List ℕ → TargetCode → Entries → List Change
+changes_left file target e =
+    rows_changes file target (section_at file e.current) e.cursor.index e.cursor.left
+    ++ changes_from file target e.next (sections_of target - e.next)
+
+-- what all do
+abbrev pub changes_all : List ℕ → TargetCode → List Change
+changes_all file target = changes_from file target 0 (sections_of target)
+
+-- how many entries for the target the section of an index has, by its header in the store: none unless it holds entries for
+-- the target and passes its own checks
+unfoldable pub entries_in : TargetCode → ℕ → ℕ
+entries_in target i =
+    let bytes = row target.file.store.now i in
+    elim (applies_to bytes target.section 0) [
+      | false ↦ 0
+      | true ↦ elim (first_refusal (table_checks_of bytes 0 target.file.loaded.size (section_place target.file.loaded.header i) RELA_SIZE)) [
+        | Some refusal ↦ 0
+        | None ↦ entry_count bytes 0 RELA_SIZE
+      ]
+    ]
+
+-- how many the sections from one on have
+unfoldable pub entries_from : TargetCode → ℕ → ℕ
+entries_from target i = sum_over (entries_in target) i (sections_of target - i)
+
+-- what an entry asks for beside its own bytes: a symbol and names
+abbrev pub own_cost : TargetCode → ℕ
+own_cost target = 24 + layout_names_cost target.layout.now
+
+-- what the walk may still ask for
+unfoldable pub walk_left : TargetCode → Entries → ℕ
+walk_left target e =
+    (unread_bytes e.cursor + unless_failed e.cursor.failed (e.cursor.left * own_cost target))
+    + entries_from target e.next * (24 + own_cost target)
+
+-- what a whole walk asks for
+unfoldable pub walk_all : TargetCode → ℕ
+walk_all target = entries_from target 0 * (24 + own_cost target)
+
+-- how many steps are left at most
+unfoldable pub steps_left : TargetCode → Entries → ℕ
+steps_left target e = (sections_of target - e.next) * (target.file.loaded.size + 1) + e.cursor.left
+
+-- the walk has not failed, and what it reads lies within a source of this size
+pub record Goes (size : ℕ) (target : TargetCode) (e : Entries) : Type 0 where
+  pub not_failed : e.cursor.failed ≡ None
+  pub entry : e.cursor.table.entry ≡ 24
+  pub within : RowsWithin size e.cursor.table
+  pub linked : IfSome e.linked (SymbolsWithin size)
+  pub next : e.next ≤ sections_of target
+  pub few : e.count ≤ e.next * 2 ^ 64
+
+-- the rows that are left are the file's
+pub record Reads (file : List ℕ) (e : Entries) : Type 0 where
+  pub agrees : Agrees file e.cursor
+  pub links : 0 < e.cursor.left → e.linked ≡ symbols_linked file (section_at file e.current)
+  pub placed : 0 < e.cursor.left → e.cursor.table.at ≡ sh_offset file (section_at file e.current)
+
+-- entries are counted where their section is opened
+abbrev pub Counts : TargetCode → Entries → Entries → Type 0
+Counts target old new = new.count + entries_from target new.next ≡ old.count + entries_from target old.next
+
+-- a step of the walk
+abbrev pub Walked : List ℕ → TargetCode → Entries → Entries → Result Step Fault → Type 0
+Walked file target old new (Ok (Stores placed)) = (changes_left file target old ≡ Put (patch_as placed) ∷ changes_left file target new) × Reads file new
+Walked file target old new (Ok Nothing) = (changes_left file target old ≡ changes_left file target new) × Reads file new
+Walked file target old new (Ok End) = changes_left file target old ≡ []
+Walked file target old new (Err (Refused refusal)) = (rest : List Change) × (changes_left file target old ≡ Fails refusal ∷ rest)
+Walked file target old new (Err (Source fault at)) = Unit {0}
+
+-- the next entry that stores bytes
+abbrev pub Finds : List ℕ → TargetCode → Entries → Entries → Result (Option Placed) Fault → Type 0
+Finds file target old new (Ok (Some placed)) = (changes_left file target old ≡ Put (patch_as placed) ∷ changes_left file target new) × Reads file new
+Finds file target old new (Ok None) = changes_left file target old ≡ []
+Finds file target old new (Err (Refused refusal)) = (rest : List Change) × (changes_left file target old ≡ Fails refusal ∷ rest)
+Finds file target old new (Err (Source fault at)) = Unit {0}
+
+abbrev pub StepInside : ℕ → Step → Type 0
+StepInside size (Stores placed) = IsInside size placed
+StepInside size Nothing = Unit {0}
+StepInside size End = Unit {0}
+
+abbrev pub FoundInside : ℕ → Option Placed → Type 0
+FoundInside size (Some placed) = IsInside size placed
+FoundInside size None = Unit {0}
+
+-- fewer steps are left, or none and the sections are counted
+abbrev pub StepFewer : TargetCode → Entries → Entries → Step → Type 0
+StepFewer target old new (Stores placed) = steps_left target new < steps_left target old
+StepFewer target old new Nothing = steps_left target new < steps_left target old
+StepFewer target old new End = entries_from target new.next ≡ 0
+
+abbrev pub FoundFewer : TargetCode → Entries → Entries → Option Placed → Type 0
+FoundFewer target old new (Some placed) = steps_left target new < steps_left target old
+FoundFewer target old new None = entries_from target new.next ≡ 0

@@ -1,0 +1,191 @@
+//! What a relocation entry stores.
+ghost use Rattle.std.specs.Prelude.{◌≡◌, ◌≤◌, ◌+◌, ◌<◌, ℕ, List, length, None, Some, IfOk, IfErr};
+ghost use Rattle.std.specs.Prelude.{IfSome, Err, nat_lt};
+ghost use Rattle.elf_model.specs.Apply.{change_of, entry_changes};
+ghost use Rattle.elf_model.specs.ApplyCost.{layout_names_cost};
+ghost use Rattle.elf_model.specs.Records.{r_offset, r_sym};
+ghost use Rattle.elf_model.specs.declared.causes.Cause.TheVariants.{Unplaced};
+ghost use Rattle.elf_record.specs.Rela.{IsRela};
+ghost use Rattle.elf_reloc.specs.Types.{IsSized, IsWidth, formula_as, type_as};
+ghost use Rattle.elf_source.specs.Source.{Reads};
+ghost use Rattle.elf_table.specs.Sections.{symbols_linked};
+ghost use Rattle.elf_table.specs.Tables.{SymbolsWithin};
+ghost use Rattle.elf_apply.specs.Costs.{ReadSays, Tells};
+ghost use Rattle.elf_apply.specs.Entries.{Changes, Does, IsInside, target_as, taken_place, term_of};
+ghost use Rattle.elf_apply.specs.Entries.{value_or};
+
+use crate::layout::Layout;
+use crate::lookup::{Symbol, address_in, linkage_value, refused, symbol_value};
+use elf_record::numbers::R_X86_64_NONE;
+use elf_record::{Cause, Rela};
+use elf_reloc::{Formula, Patch, RelocationType, relocation_type};
+use elf_source::{Counted, Source};
+use elf_table::{Fault, File, Names, Table};
+
+/// Symbols with the string table of their names.
+pub(crate) type Linked = Option<(Table, Names)>;
+
+/// What relocations are applied to: a section of a loaded file, of which it holds `size` bytes,
+/// with the addresses that are given.
+#[derive(Clone, Copy)]
+pub(crate) struct Target<'a> {
+    pub(crate) file: File<'a>,
+    pub(crate) layout: &'a Layout,
+    pub(crate) section: u16,
+    pub(crate) size: u64,
+}
+
+/// The bytes that an entry, which stands at the file offset `at`, stores at an offset of the
+/// section.
+#[derive(Clone, Copy)]
+pub(crate) struct Placed {
+    pub(crate) at: u64,
+    pub(crate) offset: u64,
+    pub(crate) patch: Patch,
+}
+
+/// What an entry stores, or nothing: R_X86_64_NONE stores nothing, and nothing of it is checked
+/// (x86-64 psABI, Relocation). The entry stands at the file offset `at`.
+pub(crate) fn entry_change<S: Source>(
+    src: &mut Counted<S>,
+    target: &Target<'_>,
+    entry: &Rela,
+    at: u64,
+    linked: Linked,
+) -> Result<Option<Placed>, Fault>
+    requires unlimited { src.old.most ≡ None }
+    requires within { IfSome linked (SymbolsWithin src.old.seen.size) }
+    ensures reads { Reads src.old src.new (24 + layout_names_cost target.now.layout.now) }
+    ensures says { IfErr result (ReadSays src.old src.new) }
+    ensures inside { IfOk result (λ found. IfSome found (IsInside target.now.size)) }
+    ensures change { (file : List ℕ) (header : ℕ) → src.old.seen.file ≡ Some file →
+        linked ≡ symbols_linked file header → IsRela file at entry.now →
+        Changes result (entry_changes (target_as file target.now) header at) }
+{
+    let kind = entry.kind();
+    if kind == R_X86_64_NONE {
+        return Ok(None);
+    }
+    let Some(found) = relocation_type(kind) else {
+        return refused(at, Cause::Unsupported);
+    };
+    match stored(src, target, entry, at, linked, found) {
+        Ok(placed) => Ok(Some(placed)),
+        Err(fault) => Err(fault),
+    }
+}
+
+/// What an entry of a type stores.
+fn stored<S: Source>(
+    src: &mut Counted<S>,
+    target: &Target<'_>,
+    entry: &Rela,
+    at: u64,
+    linked: Linked,
+    found: RelocationType,
+) -> Result<Placed, Fault>
+    requires unlimited { src.old.most ≡ None }
+    requires within { IfSome linked (SymbolsWithin src.old.seen.size) }
+    requires width { IsWidth found.width }
+    requires sized { IsSized found.range found.width }
+    ensures reads { Reads src.old src.new (24 + layout_names_cost target.now.layout.now) }
+    ensures says { IfErr result (ReadSays src.old src.new) }
+    ensures inside { IfOk result (IsInside target.now.size) }
+    ensures change { (file : List ℕ) (header : ℕ) → src.old.seen.file ≡ Some file →
+        linked ≡ symbols_linked file header → IsRela file at entry.now →
+        Does result (change_of (target_as file target.now) header at (Some (type_as found))) }
+{
+    let offset = entry.r_offset;
+    if ends_past(offset, found.width, target.size) {
+        return refused(at, Cause::PlaceOutside);
+    }
+    let value = match named_value(
+        src,
+        target.layout,
+        entry.symbol(),
+        at,
+        linked,
+        found.formula,
+    ) {
+        Ok(value) => value,
+        Err(fault) => return Err(fault),
+    };
+    let Some(place) = place_value(target, offset, found.formula) else {
+        return refused(at, Cause::Unplaced);
+    };
+    match found.patch(value, value, entry.r_addend, place) {
+        Ok(patch) => Ok(Placed { at, offset, patch }),
+        Err(_) => refused(at, Cause::Overflow),
+    }
+}
+
+/// Whether so many bytes from an offset on end past a size.
+fn ends_past(offset: u64, width: u32, size: u64) -> bool
+    ensures { result ≡ nat_lt size (offset + width) }
+{
+    u128::from(offset) + u128::from(width) > u128::from(size)
+}
+
+/// S, or L where the formula takes it, of the symbol of an index, which the entry at `at` names; 0
+/// of symbol 0, and nothing is read.
+fn named_value<S: Source>(
+    src: &mut Counted<S>,
+    layout: &Layout,
+    symbol: u32,
+    at: u64,
+    linked: Linked,
+    formula: Formula,
+) -> Result<u64, Fault>
+    requires unlimited { src.old.most ≡ None }
+    requires within { IfSome linked (SymbolsWithin src.old.seen.size) }
+    ensures reads { Reads src.old src.new (24 + layout_names_cost layout.now) }
+    ensures says { IfErr result (ReadSays src.old src.new) }
+    ensures unnamed { symbol ≡ 0 → src.new ≡ src.old }
+    ensures value { (file : List ℕ) (section size header : ℕ) → src.old.seen.file ≡ Some file →
+        linked ≡ symbols_linked file header → symbol ≡ r_sym file at → Tells result
+        (term_of (formula_as formula)
+        (record { file = file; section = section; size = size; layout = layout.now }) header at) }
+{
+    if symbol == 0 {
+        return Ok(0);
+    }
+    let Some(found) = linked else {
+        return refused(at, Cause::BadLink);
+    };
+    let (symbols, names) = found;
+    let index = u64::from(symbol);
+    if index >= symbols.len() {
+        return refused(at, Cause::SymbolIndex);
+    }
+    let place = symbols.place(index);
+    let fields = match symbols.symbol(src, index) {
+        Ok(fields) => fields,
+        Err(fault) => return Err(fault),
+    };
+    let named = Symbol {
+        fields,
+        names,
+        at: place,
+    };
+    if formula.takes_linkage() {
+        linkage_value(src, layout, &named, at)
+    } else {
+        symbol_value(src, layout, &named, at)
+    }
+}
+
+/// P, the section's address and an offset modulo 2^64, where the section has an address; 0 where
+/// the formula does not take it.
+fn place_value(target: &Target<'_>, offset: u64, formula: Formula) -> Option<u64>
+    ensures { (file : List ℕ) (at : ℕ) → offset ≡ r_offset file at →
+        taken_place (formula_as formula) (target_as file target.now) at
+        ≡ value_or result at Unplaced }
+{
+    if !formula.takes_place() {
+        return Some(0);
+    }
+    match address_in(target.layout.sections(), target.section) {
+        Some(address) => Some(address.wrapping_add(offset)),
+        None => None,
+    }
+}

@@ -1,0 +1,392 @@
+//! The section with its relocations applied, in one pass over entries whose offsets never fall.
+ghost use Rattle.std.specs.Prelude.{◌≡◌, ◌+◌, ◌-◌, ◌^◌, ◌<◌, ◌≤◌, ℕ, List, [], length, take, drop};
+ghost use Rattle.std.specs.Prelude.{None, Some, Ok, Err, IfErr, OnOk};
+ghost use Rattle.elf_model.specs.Apply.{patches_of, patched, put};
+ghost use Rattle.elf_model.specs.ApplyLaws.{AllInside, clipped};
+ghost use Rattle.elf_model.specs.Bytes.{slice};
+ghost use Rattle.elf_model.specs.declared.causes.Cause.TheVariants.{PlaceOutside};
+ghost use Rattle.elf_reloc.specs.Types.{patched_bytes};
+ghost use Rattle.elf_source.specs.Output.{Puts};
+ghost use Rattle.elf_source.specs.Source.{Reads};
+ghost use Rattle.elf_headers.specs.Load.{IsOpen};
+ghost use Rattle.elf_apply.specs.Costs.{ReadSays};
+ghost use Rattle.elf_apply.specs.Entries.{patch_as};
+ghost use Rattle.elf_apply.specs.InOrder.{IsNoRefusal, Midway, Rises, end_of};
+ghost use Rattle.elf_apply.specs.Walk.{changes_all, walk_all};
+ghost use Rattle.elf_apply.specs.Windows.{FaultSays, IsUnread, Writes, Wrote};
+ghost use Rattle.elf_apply.specs.declared.fault.ApplyFault.TheVariants.{Refused as RefusedOf};
+
+use crate::entry::{Placed, Target};
+use crate::fault::{ApplyFault, fault_of};
+use crate::passes::put_in;
+use crate::walk::Entries;
+use elf_record::{Cause, Refusal};
+use elf_reloc::Patch;
+use elf_source::{Counted, Out, OutFault, Sink, Source};
+use elf_table::{Fault, fill};
+use std::marker::Model;
+
+/// How many bytes are read at once.
+const PAGE: usize = 4096;
+
+/// The bytes of the section from an offset on that were read and are not written yet.
+#[derive(Drop)]
+struct Held {
+    low: u64,
+    from: usize,
+    count: usize,
+    bytes: [u8; PAGE],
+}
+
+impl Model for Held {
+    ghost use Rattle.std.specs.Prelude.{◌+◌, ◌≤◌};
+    ghost use Rattle.elf_model.specs.Bytes.{slice};
+    ghost use Rattle.elf_apply.specs.InOrder.{Holding};
+
+    ghost Value = { Holding };
+
+    ghost view = { λ h. record { low = h.low; bytes = slice h.bytes h.from h.count } };
+
+    ghost invariant = { λ h. h.from + h.count ≤ 4096 };
+}
+
+impl Held {
+    /// Nothing, at the section's begin.
+    fn new() -> Held
+        ensures low { result.low ≡ 0 }
+        ensures bytes { result.bytes ≡ [] }
+    {
+        Held {
+            low: 0,
+            from: 0,
+            count: 0,
+            bytes: [0; PAGE],
+        }
+    }
+
+    /// Where it begins.
+    fn low(&self) -> u64
+        ensures { result ≡ self.now.low }
+    {
+        self.low
+    }
+
+    /// How many bytes there are.
+    fn len(&self) -> usize
+        ensures value { result ≡ length self.now.bytes }
+        ensures few { result ≤ 4096 }
+    {
+        self.count
+    }
+
+    /// Forgets the first bytes.
+    fn skip(&mut self, count: usize)
+        requires few { count ≤ length self.old.bytes }
+        requires fits { self.old.low + count < 2 ^ 64 }
+        ensures low { self.new.low ≡ self.old.low + count }
+        ensures bytes { self.new.bytes ≡ drop count self.old.bytes }
+    {
+        self.low += count as u64;
+        self.from += count;
+        self.count -= count;
+    }
+
+    /// Writes the first bytes, and forgets them.
+    fn release<W: Sink>(&mut self, count: usize, out: &mut Out<W>) -> Result<(), OutFault>
+        requires few { count ≤ length self.old.bytes }
+        requires fits { self.old.low + count < 2 ^ 64 }
+        ensures puts { Puts out.old out.new result (take count self.old.bytes) }
+        ensures low { self.new.low ≡ self.old.low + count }
+        ensures bytes { self.new.bytes ≡ drop count self.old.bytes }
+    {
+        let from = self.from;
+        let answer = out.put(&self.bytes[from..from + count]);
+        self.skip(count);
+        answer
+    }
+
+    /// Goes to an offset with nothing held: what stands before it is written.
+    fn jump(&mut self, end: u64)
+        requires { self.old.bytes ≡ [] }
+        ensures low { self.new.low ≡ end }
+        ensures bytes { self.new.bytes ≡ [] }
+    {
+        self.low = end;
+    }
+
+    /// Reads on where there are not so many bytes, as many as there is room for, to the section's
+    /// end, its size, at most.
+    fn read_on<S: Source>(
+        &mut self,
+        src: &mut Counted<S>,
+        at: u64,
+        size: u64,
+        width: usize,
+    ) -> Result<(), Fault>
+        requires unlimited { src.old.most ≡ None }
+        requires few { width ≤ 8 }
+        requires inside { self.old.low + width ≤ size }
+        requires held { end_of self.old ≤ size }
+        requires within { at + size ≤ src.old.seen.size }
+        requires fits { src.old.seen.size < 2 ^ 64 }
+        ensures says { IfErr result (ReadSays src.old src.new) }
+        ensures unread { IfErr result IsUnread }
+        ensures reads { Reads src.old src.new (size - end_of self.old) }
+        ensures asked_on { OnOk result (src.new.asked + end_of self.old
+            ≤ src.old.asked + end_of self.new) }
+        ensures low { self.new.low ≡ self.old.low }
+        ensures long { OnOk result (width ≤ length self.new.bytes) }
+        ensures held { OnOk result (end_of self.new ≤ size) }
+        ensures bytes { (file : List ℕ) → src.old.seen.file ≡ Some file → (now : List ℕ) →
+            at + size ≤ length file
+            → Midway (slice file at size) now self.old →
+            OnOk result (Midway (slice file at size) now self.new) }
+    {
+        let count = self.count;
+        if count >= width {
+            return Ok(());
+        }
+        let end = self.low + count as u64;
+        let more = (size - end).min((PAGE - count) as u64) as usize;
+        let mut page = moved(&self.bytes, self.from, count);
+        match fill(src, at + end, &mut page[count..count + more]) {
+            Ok(()) => {}
+            Err(fault) => return Err(fault),
+        }
+        self.from = 0;
+        self.count = count + more;
+        self.bytes = page;
+        Ok(())
+    }
+
+    /// Stores the bytes of an entry.
+    fn patch(&mut self, placed: &Placed)
+        requires fits { end_of self.old < 2 ^ 64 }
+        requires patch { placed.now.offset + length (patch_as placed.now).bytes < 2 ^ 64 }
+        ensures low { self.new.low ≡ self.old.low }
+        ensures bytes { self.new.bytes
+            ≡ put (clipped self.old.low (length self.old.bytes)
+            (patch_as placed.now)) self.old.bytes }
+        ensures long { length self.new.bytes ≡ length self.old.bytes }
+    {
+        let low = self.low;
+        let from = self.from;
+        let end = from + self.count;
+        put_in(&mut self.bytes[from..end], low, placed);
+    }
+
+    /// Writes what stands before an offset of the section, whose bytes stand at `at`.
+    fn advance<S: Source, W: Sink>(
+        &mut self,
+        src: &mut Counted<S>,
+        at: u64,
+        end: u64,
+        out: &mut Out<W>,
+    ) -> Result<(), ApplyFault>
+        requires unlimited { src.old.most ≡ None }
+        requires low { self.old.low ≤ end }
+        requires within { at + end ≤ src.old.seen.size }
+        requires held { at + end_of self.old ≤ src.old.seen.size }
+        requires fits { src.old.seen.size < 2 ^ 64 }
+        ensures says { IfErr result (FaultSays src.old src.new out.new) }
+        ensures low { OnOk result (self.new.low ≡ end) }
+        ensures long { OnOk result (length self.new.bytes ≡ end_of self.old - end) }
+        ensures kept { IfErr result IsNoRefusal }
+        ensures reads { Reads src.old src.new (end - end_of self.old) }
+        ensures wrote { Wrote out.old out.new result (end - self.old.low) }
+        ensures text { (file : List ℕ) → src.old.seen.file ≡ Some file →
+            (size : ℕ) (now : List ℕ) → at + size ≤ length file → end ≤ size
+            → Midway (slice file at size) now self.old →
+            Writes out.old out.new result (slice now self.old.low (end - self.old.low)) }
+        ensures still { (file : List ℕ) → src.old.seen.file ≡ Some file →
+            (size : ℕ) (now : List ℕ) → at + size ≤ length file → end ≤ size
+            → Midway (slice file at size) now self.old →
+            OnOk result (Midway (slice file at size) now self.new) }
+    {
+        let ready = (end - self.low()).min(self.len() as u64);
+        match self.release(ready as usize, out) {
+            Ok(()) => {}
+            Err(fault) => return Err(ApplyFault::Out(fault)),
+        }
+        let low = self.low();
+        if low < end {
+            match copy(src, at + low, end - low, out) {
+                Ok(()) => {}
+                Err(fault) => return Err(fault),
+            }
+            self.jump(end);
+        }
+        Ok(())
+    }
+
+    /// Writes what stands before the place of an entry, and stores its bytes.
+    fn store<S: Source, W: Sink>(
+        &mut self,
+        src: &mut Counted<S>,
+        at: u64,
+        size: u64,
+        placed: &Placed,
+        out: &mut Out<W>,
+    ) -> Result<(), ApplyFault>
+        requires unlimited { src.old.most ≡ None }
+        requires inside { placed.now.offset + length (patch_as placed.now).bytes ≤ size }
+        requires held { end_of self.old ≤ size }
+        requires within { at + size ≤ src.old.seen.size }
+        requires fits { src.old.seen.size < 2 ^ 64 }
+        ensures says { IfErr result (FaultSays src.old src.new out.new) }
+        ensures low { OnOk result (self.new.low ≡ placed.now.offset) }
+        ensures never { OnOk result (self.old.low ≤ placed.now.offset) }
+        ensures fallen { placed.now.offset < self.old.low → (result ≡ Err (RefusedOf
+            (record { at = placed.now.at; cause = PlaceOutside })))
+            × (src.new ≡ src.old) × (out.new ≡ out.old) }
+        ensures kept { self.old.low ≤ placed.now.offset → IfErr result IsNoRefusal }
+        ensures held { OnOk result (end_of self.new ≤ size) }
+        ensures reads { Reads src.old src.new (size - end_of self.old) }
+        ensures asked_on { OnOk result (src.new.asked + end_of self.old
+            ≤ src.old.asked + end_of self.new) }
+        ensures wrote { Wrote out.old out.new result (placed.now.offset - self.old.low) }
+        ensures text { (file : List ℕ) → src.old.seen.file ≡ Some file → (now : List ℕ) →
+            at + size ≤ length file → self.old.low ≤ placed.now.offset
+            → Midway (slice file at size) now self.old →
+            Writes out.old out.new result (slice now self.old.low
+            (placed.now.offset - self.old.low)) }
+        ensures still { (file : List ℕ) → src.old.seen.file ≡ Some file → (now : List ℕ) →
+            at + size ≤ length file
+            → Midway (slice file at size) now self.old →
+            OnOk result (Midway (slice file at size) (put (patch_as placed.now) now) self.new) }
+    {
+        if placed.offset < self.low() {
+            return Err(ApplyFault::Refused(Refusal {
+                at: placed.at,
+                cause: Cause::PlaceOutside,
+            }));
+        }
+        match self.advance(src, at, placed.offset, out) {
+            Ok(()) => {}
+            Err(fault) => return Err(fault),
+        }
+        match self.read_on(src, at, size, width_of(placed.patch)) {
+            Ok(()) => {}
+            Err(fault) => return Err(fault_of(fault)),
+        }
+        self.patch(placed);
+        Ok(())
+    }
+}
+
+/// A page that begins with bytes of another.
+fn moved(bytes: &[u8], from: usize, count: usize) -> [u8; PAGE]
+    requires inside { from + count ≤ length bytes.now }
+    requires few { count ≤ 4096 }
+    ensures begins { take count result ≡ slice bytes.now from count }
+    ensures long { length result ≡ 4096 }
+{
+    let mut page = [0; PAGE];
+    page[..count].copy_from_slice(&bytes[from..from + count]);
+    page
+}
+
+/// How many bytes there are.
+fn width_of(patch: Patch) -> usize
+    ensures value { result ≡ length (patched_bytes patch) }
+    ensures few { result ≤ 8 }
+{
+    match patch {
+        Patch::None => 0,
+        Patch::Word8(bytes) => bytes.len(),
+        Patch::Word16(bytes) => bytes.len(),
+        Patch::Word32(bytes) => bytes.len(),
+        Patch::Word64(bytes) => bytes.len(),
+    }
+}
+
+/// Writes bytes of the source as they stand.
+fn copy<S: Source, W: Sink>(
+    src: &mut Counted<S>,
+    at: u64,
+    size: u64,
+    out: &mut Out<W>,
+) -> Result<(), ApplyFault>
+    requires unlimited { src.old.most ≡ None }
+    requires within { at + size ≤ src.old.seen.size }
+    requires fits { src.old.seen.size < 2 ^ 64 }
+    ensures says { IfErr result (FaultSays src.old src.new out.new) }
+    ensures kept { IfErr result IsNoRefusal }
+    ensures reads { Reads src.old src.new size }
+    ensures wrote { Wrote out.old out.new result size }
+    ensures text { (file : List ℕ) → src.old.seen.file ≡ Some file → at + size ≤ length file →
+        Writes out.old out.new result (slice file at size) }
+{
+    let mut done = 0;
+    'pages: while done < size {
+        let mut bytes = [0; PAGE];
+        let count = (size - done).min(PAGE as u64) as usize;
+        match copy_page(src, at + done, &mut bytes[..count], out) {
+            Ok(()) => {}
+            Err(fault) => return Err(fault),
+        }
+        done += count as u64;
+    }
+    Ok(())
+}
+
+/// Writes as many bytes of the source as `page` has, which is left with them.
+fn copy_page<S: Source, W: Sink>(
+    src: &mut Counted<S>,
+    at: u64,
+    page: &mut [u8],
+    out: &mut Out<W>,
+) -> Result<(), ApplyFault>
+    requires unlimited { src.old.most ≡ None }
+    requires few { length page.old ≤ 4096 }
+    requires within { at + length page.old ≤ src.old.seen.size }
+    ensures says { IfErr result (FaultSays src.old src.new out.new) }
+    ensures kept { IfErr result IsNoRefusal }
+    ensures reads { Reads src.old src.new (length page.old) }
+    ensures wrote { Wrote out.old out.new result (length page.old) }
+    ensures text { (file : List ℕ) → src.old.seen.file ≡ Some file →
+        Writes out.old out.new result (slice file at (length page.old)) }
+{
+    match fill(src, at, page) {
+        Ok(()) => {}
+        Err(fault) => return Err(fault_of(fault)),
+    }
+    match out.put(page) {
+        Ok(()) => Ok(()),
+        Err(fault) => Err(ApplyFault::Out(fault)),
+    }
+}
+
+/// Writes the section, whose bytes stand at `at`, where the offsets of the entries never fall.
+pub(crate) fn write_in_order<S: Source, W: Sink>(
+    src: &mut Counted<S>,
+    target: &Target<'_>,
+    at: u64,
+    out: &mut Out<W>,
+) -> Result<(), ApplyFault>
+    requires unlimited { src.old.most ≡ None }
+    requires opened { IsOpen src.old target.now.file.loaded target.now.file.store.now }
+    requires within { at + target.now.size ≤ src.old.seen.size }
+    requires fits { src.old.seen.size < 2 ^ 64 }
+    ensures says { IfErr result (FaultSays src.old src.new out.new) }
+    ensures wrote { Wrote out.old out.new result target.now.size }
+    ensures reads { Reads src.old src.new (walk_all target.now + target.now.size) }
+    ensures text { (file : List ℕ) → src.old.seen.file ≡ Some file → (patches : List _) →
+        patches_of (changes_all file target.now) ≡ Ok patches → AllInside target.now.size patches →
+        Rises 0 patches →
+        Writes out.old out.new result (patched patches (slice file at target.now.size)) }
+{
+    let size = target.size;
+    let mut entries = Entries::new();
+    let mut held = Held::new();
+    'entries: loop {
+        match entries.next(src, target) {
+            Ok(Some(placed)) => match held.store(src, at, size, &placed, out) {
+                Ok(()) => {}
+                Err(fault) => return Err(fault),
+            },
+            Ok(None) => return held.advance(src, at, size, out),
+            Err(fault) => return Err(fault_of(fault)),
+        }
+    }
+}

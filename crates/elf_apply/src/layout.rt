@@ -1,0 +1,174 @@
+//! The addresses that are given for sections, names and procedure linkage table entries.
+ghost use Rattle.std.specs.Prelude.{◌≡◌, ◌≤◌, ◌<◌, ℕ, List, [], length, MatchBool};
+ghost use Rattle.elf_model.specs.Placing.{address_in};
+ghost use Rattle.elf_apply.specs.Layouts.{Adds, IsName, NamesOf, Pushes, HasKey, LacksKey};
+
+use crate::named::{Named, has_name};
+use arrayvec::ArrayVec;
+use std::marker::Model;
+use thiserror::Error;
+
+/// The most sections that a layout gives addresses for.
+const SECTIONS: usize = 64;
+/// The most names that it defines, and the most procedure linkage table entries.
+const NAMES: usize = 32;
+
+/// What a layout gives an address for.
+#[derive(Clone, Copy, Debug, PartialEq, Eq)]
+pub enum Item<'a> {
+    /// A section, by its index.
+    Section {
+        /// The section's index.
+        index: u16,
+        /// The address of its first byte.
+        address: u64,
+    },
+    /// The definition of an undefined or common symbol, by its name of 1 to 255 bytes without a
+    /// NUL.
+    Define {
+        /// The symbol's name.
+        name: &'a [u8],
+        /// The symbol's value.
+        address: u64,
+    },
+    /// A symbol's procedure linkage table entry, by the symbol's name of 1 to 255 bytes without a
+    /// NUL.
+    Entry {
+        /// The symbol's name.
+        name: &'a [u8],
+        /// The address of the entry.
+        address: u64,
+    },
+}
+
+/// Why an item was not put into a layout, which is then as it was.
+#[derive(Clone, Copy, Debug, PartialEq, Eq, Error)]
+pub enum LayoutFault {
+    /// There are as many items of this sort as a layout holds.
+    #[error("the layout is full")]
+    Full,
+    /// There is an item of this sort with this index or name.
+    #[error("the layout has this item already")]
+    Repeat,
+}
+
+/// Addresses for at most 64 sections, 32 definitions and 32 procedure linkage table entries, in the
+/// order in which they were given. It takes no memory: it is fixed arrays of some 18,000 bytes, and
+/// holds copies of the names.
+#[derive(Drop)]
+pub struct Layout {
+    sections: ArrayVec<(u16, u64), SECTIONS>,
+    definitions: ArrayVec<Named, NAMES>,
+    entries: ArrayVec<Named, NAMES>,
+}
+
+impl Model for Layout {
+    ghost use Rattle.elf_model.specs.Placing.{Layout};
+
+    ghost Value = { Layout };
+
+    ghost view = { λ l. record {
+      sections = l.sections.items;
+      definitions = l.definitions.items;
+      linkage = l.entries.items;
+    } };
+}
+
+impl Layout {
+    /// A layout without an item.
+    pub fn new() -> Layout
+        ensures { result ≡ record { sections = []; definitions = []; linkage = [] } }
+    {
+        Layout {
+            sections: ArrayVec::new(),
+            definitions: ArrayVec::new(),
+            entries: ArrayVec::new(),
+        }
+    }
+
+    /// The sections, by their index.
+    pub(crate) fn sections(&self) -> &[(u16, u64)]
+        ensures { result.now ≡ self.now.sections }
+    {
+        self.sections.as_slice()
+    }
+
+    /// The definitions.
+    pub(crate) fn definitions(&self) -> &[Named]
+        ensures { result.now ≡ self.now.definitions }
+    {
+        self.definitions.as_slice()
+    }
+
+    /// The procedure linkage table entries.
+    pub(crate) fn linkage(&self) -> &[Named]
+        ensures { result.now ≡ self.now.linkage }
+    {
+        self.entries.as_slice()
+    }
+
+    /// Puts an item behind those of its sort. A name is copied; it has 1 to 255 bytes, none a NUL.
+    ///
+    /// # Errors
+    /// `Repeat` where there is an item of this sort with this index or name; else `Full` where
+    /// there are 64 sections, 32 definitions or 32 entries. Either leaves the layout as it was.
+    pub fn push(&mut self, item: Item<'_>) -> Result<(), LayoutFault>
+        requires { NamesOf item IsName }
+        ensures { Pushes item.entry self.old self.new result }
+    {
+        match item {
+            Item::Section { index, address } => push_section(&mut self.sections, index, address),
+            Item::Define { name, address } => push_named(&mut self.definitions, name, address),
+            Item::Entry { name, address } => push_named(&mut self.entries, name, address),
+        }
+    }
+}
+
+/// Puts a section behind others.
+fn push_section(
+    items: &mut ArrayVec<(u16, u64), SECTIONS>,
+    index: u16,
+    address: u64,
+) -> Result<(), LayoutFault>
+    ensures { Adds 64 index address items.old.items items.new.items result }
+{
+    if has_section(items.as_slice(), index) {
+        return Err(LayoutFault::Repeat);
+    }
+    if items.is_full() {
+        return Err(LayoutFault::Full);
+    }
+    items.push((index, address));
+    Ok(())
+}
+
+/// Whether one of some sections has this index.
+fn has_section(items: &[(u16, u64)], index: u16) -> bool
+    ensures { MatchBool result (HasKey items.now index) (LacksKey items.now index) }
+{
+    for item in items {
+        if item.0 == index {
+            return true;
+        }
+    }
+    false
+}
+
+/// Puts a name behind others.
+fn push_named(
+    items: &mut ArrayVec<Named, NAMES>,
+    name: &[u8],
+    address: u64,
+) -> Result<(), LayoutFault>
+    requires { length name.now ≤ 255 }
+    ensures { Adds 32 name.now address items.old.items items.new.items result }
+{
+    if has_name(items.as_slice(), name) {
+        return Err(LayoutFault::Repeat);
+    }
+    if items.is_full() {
+        return Err(LayoutFault::Full);
+    }
+    items.push(Named::new(name, address));
+    Ok(())
+}

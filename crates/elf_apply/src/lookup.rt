@@ -1,0 +1,179 @@
+//! The value of a symbol in a layout.
+ghost use Rattle.std.specs.Prelude.{◌≡◌, ◌≤◌, ℕ, List, length, None, Some, Err, IfErr};
+ghost use Rattle.elf_model.specs.ApplyCost.{layout_names_cost};
+ghost use Rattle.elf_model.specs.Placing.{address_in, address_named, linkage_value, named_or};
+ghost use Rattle.elf_model.specs.Placing.{placed_at, symbol_value, undefined_value};
+ghost use Rattle.elf_model.specs.Records.{st_name};
+ghost use Rattle.elf_record.specs.Sym.{IsSym};
+ghost use Rattle.elf_source.specs.Source.{Reads};
+ghost use Rattle.elf_headers.specs.Faults.{IsOfCheck};
+ghost use Rattle.elf_table.specs.Tables.{StringsWithin, strings_in};
+ghost use Rattle.elf_apply.specs.Costs.{Answers, ReadSays, Tells, items_cost};
+
+use crate::layout::Layout;
+use crate::named::Named;
+use elf_record::numbers::{SHN_UNDEF, STB_WEAK};
+use elf_record::{Cause, Place, Refusal, Sym};
+use elf_source::{Counted, Source};
+use elf_table::{Fault, Names};
+
+/// A symbol that stands at an offset of the file, with the string table of its name.
+#[derive(Clone, Copy)]
+pub(crate) struct Symbol {
+    pub(crate) fields: Sym,
+    pub(crate) names: Names,
+    pub(crate) at: u64,
+}
+
+/// The refusal for a cause at a file offset.
+pub(crate) fn refused<T>(at: u64, cause: Cause) -> Result<T, Fault>
+    ensures { result ≡ Err (Fault.Refused (record { at = at; cause = cause })) }
+{
+    Err(Fault::Refused(Refusal { at, cause }))
+}
+
+/// The address that is given for the section of an index, where there is one.
+pub(crate) fn address_in(items: &[(u16, u64)], section: u16) -> Option<u64>
+    ensures { result ≡ address_in items.now section }
+{
+    let mut i = 0;
+    while i < items.len() {
+        if items[i].0 == section {
+            return Some(items[i].1);
+        }
+        i += 1;
+    }
+    None
+}
+
+/// The address of the first item whose name is the symbol's, where there is one. Without items the
+/// name is not looked at; a refusal names the symbol.
+fn address_named<S: Source>(
+    src: &mut Counted<S>,
+    symbol: &Symbol,
+    items: &[Named],
+) -> Result<Option<u64>, Fault>
+    requires unlimited { src.old.most ≡ None }
+    requires within { StringsWithin src.old.seen.size symbol.now.names }
+    ensures reads { Reads src.old src.new (items_cost items.now) }
+    ensures says { IfErr result (ReadSays src.old src.new) }
+    ensures found { (file : List ℕ) → src.old.seen.file ≡ Some file → Answers symbol.now.at result
+        (address_named (strings_in file symbol.now.names) symbol.now.fields.st_name items.now) }
+{
+    let off = u64::from(symbol.fields.st_name);
+    let mut i = 0;
+    while i < items.len() {
+        let item = &items[i];
+        match symbol.names.equals(src, off, symbol.at, item.name()) {
+            Ok(true) => return Ok(Some(item.address())),
+            Ok(false) => {}
+            Err(fault) => return Err(fault),
+        }
+        i += 1;
+    }
+    Ok(None)
+}
+
+/// An offset from an address modulo 2^64; without an address the entry, which stands at `entry`, is
+/// refused.
+fn placed_at(entry: u64, address: Option<u64>, offset: u64) -> Result<u64, Fault>
+    ensures value { Tells result (placed_at entry address offset) }
+    ensures refusal { IfErr result IsOfCheck }
+{
+    match address {
+        Some(address) => Ok(address.wrapping_add(offset)),
+        None => refused(entry, Cause::Unplaced),
+    }
+}
+
+/// The value of an undefined or common symbol without a definition: 0 where it is undefined and
+/// weak (gABI 4, Symbol Binding).
+fn undefined_value(symbol: &Sym, entry: u64) -> Result<u64, Fault>
+    ensures value { (file : List ℕ) (at : ℕ) → IsSym file at symbol.now →
+        Tells result (undefined_value file entry at) }
+    ensures refusal { IfErr result IsOfCheck }
+{
+    if symbol.st_shndx == SHN_UNDEF && symbol.binding() == STB_WEAK {
+        return Ok(0);
+    }
+    refused(entry, Cause::Undefined)
+}
+
+/// The value of an undefined or common symbol: its definition in the layout, or the value that it
+/// has without one.
+fn defined_value<S: Source>(
+    src: &mut Counted<S>,
+    layout: &Layout,
+    symbol: &Symbol,
+    entry: u64,
+) -> Result<u64, Fault>
+    requires unlimited { src.old.most ≡ None }
+    requires within { StringsWithin src.old.seen.size symbol.now.names }
+    ensures reads { Reads src.old src.new (items_cost layout.now.definitions) }
+    ensures says { IfErr result (ReadSays src.old src.new) }
+    ensures value { (file : List ℕ) → src.old.seen.file ≡ Some file →
+        IsSym file symbol.now.at symbol.now.fields →
+        Tells result (named_or symbol.now.at
+        (address_named (strings_in file symbol.now.names)
+        (st_name file symbol.now.at) layout.now.definitions)
+        (undefined_value file entry symbol.now.at)) }
+{
+    match address_named(src, symbol, layout.definitions()) {
+        Ok(Some(address)) => Ok(address),
+        Ok(None) => undefined_value(&symbol.fields, entry),
+        Err(fault) => Err(fault),
+    }
+}
+
+/// S, the value of a symbol (gABI 4, Symbol Values). Refusals that are none of its name are at the
+/// entry that names it.
+pub(crate) fn symbol_value<S: Source>(
+    src: &mut Counted<S>,
+    layout: &Layout,
+    symbol: &Symbol,
+    entry: u64,
+) -> Result<u64, Fault>
+    requires unlimited { src.old.most ≡ None }
+    requires within { StringsWithin src.old.seen.size symbol.now.names }
+    ensures reads { Reads src.old src.new (items_cost layout.now.definitions) }
+    ensures says { IfErr result (ReadSays src.old src.new) }
+    ensures value { (file : List ℕ) → src.old.seen.file ≡ Some file →
+        IsSym file symbol.now.at symbol.now.fields →
+        Tells result (symbol_value file
+        (strings_in file symbol.now.names) layout.now entry symbol.now.at) }
+{
+    match symbol.fields.place() {
+        Place::Absolute => Ok(symbol.fields.st_value),
+        Place::Undefined => defined_value(src, layout, symbol, entry),
+        Place::Common => defined_value(src, layout, symbol, entry),
+        Place::Section(section) => placed_at(
+            entry,
+            address_in(layout.sections(), section),
+            symbol.fields.st_value,
+        ),
+        Place::Reserved(_) => refused(entry, Cause::Unplaced),
+    }
+}
+
+/// L, the address of a symbol's procedure linkage table entry, where the layout has one; else S.
+pub(crate) fn linkage_value<S: Source>(
+    src: &mut Counted<S>,
+    layout: &Layout,
+    symbol: &Symbol,
+    entry: u64,
+) -> Result<u64, Fault>
+    requires unlimited { src.old.most ≡ None }
+    requires within { StringsWithin src.old.seen.size symbol.now.names }
+    ensures reads { Reads src.old src.new (layout_names_cost layout.now) }
+    ensures says { IfErr result (ReadSays src.old src.new) }
+    ensures value { (file : List ℕ) → src.old.seen.file ≡ Some file →
+        IsSym file symbol.now.at symbol.now.fields →
+        Tells result (linkage_value file
+        (strings_in file symbol.now.names) layout.now entry symbol.now.at) }
+{
+    match address_named(src, symbol, layout.linkage()) {
+        Ok(Some(address)) => Ok(address),
+        Ok(None) => symbol_value(src, layout, symbol, entry),
+        Err(fault) => Err(fault),
+    }
+}

@@ -1,0 +1,87 @@
+//! A name with its address.
+ghost use Rattle.std.specs.Prelude.{◌≡◌, ◌≢◌, ◌≤◌, [], length, All, Any, MatchBool};
+ghost use Rattle.elf_apply.specs.Layouts.{HasKey, LacksKey};
+
+use std::marker::Model;
+
+/// The most bytes that a name in a layout has.
+pub const NAME_BYTES: usize = 255;
+
+/// A name, which it holds itself, with the address that is given for it.
+#[derive(Drop)]
+pub(crate) struct Named {
+    bytes: [u8; NAME_BYTES],
+    len: usize,
+    address: u64,
+}
+
+impl Model for Named {
+    ghost use Rattle.std.specs.Prelude.{ℕ, ◌≤◌, List, take};
+
+    ghost Value = { List ℕ × ℕ };
+
+    ghost view = { λ n. (take n.len n.bytes, n.address) };
+
+    ghost invariant = { λ n. n.len ≤ 255 };
+}
+
+impl Default for Named {
+    fn default() -> Named {
+        Named {
+            bytes: [0; NAME_BYTES],
+            len: 0,
+            address: 0,
+        }
+    }
+}
+
+impl Named {
+    /// A name of at most 255 bytes with its address.
+    pub(crate) fn new(name: &[u8], address: u64) -> Named
+        requires { length name.now ≤ 255 }
+        ensures { result ≡ (name.now, address) }
+    {
+        let mut bytes = [0; NAME_BYTES];
+        let len = name.len();
+        bytes[..len].copy_from_slice(name);
+        Named {
+            bytes,
+            len,
+            address,
+        }
+    }
+
+    /// The name.
+    pub(crate) fn name(&self) -> &[u8]
+        ensures value { result.now ≡ self.now.0 }
+        ensures few { length self.now.0 ≤ 255 }
+    {
+        &self.bytes[..self.len]
+    }
+
+    /// Whether it is this name.
+    fn is(&self, name: &[u8]) -> bool
+        ensures { MatchBool result (self.now.0 ≡ name.now) (self.now.0 ≢ name.now) }
+    {
+        self.name() == name
+    }
+
+    /// The address.
+    pub(crate) fn address(&self) -> u64
+        ensures { result ≡ self.now.1 }
+    {
+        self.address
+    }
+}
+
+/// Whether one of some items has this name.
+pub(crate) fn has_name(items: &[Named], name: &[u8]) -> bool
+    ensures { MatchBool result (HasKey items.now name.now) (LacksKey items.now name.now) }
+{
+    for item in items {
+        if item.is(name) {
+            return true;
+        }
+    }
+    false
+}

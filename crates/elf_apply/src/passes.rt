@@ -1,0 +1,114 @@
+//! The passes over the relocation entries for a section.
+ghost use Rattle.std.specs.Prelude.{◌≡◌, ◌+◌, ◌<◌, ◌≤◌, ◌^◌, ◌&&◌, ℕ, List, nat_le, true, length};
+ghost use Rattle.std.specs.Prelude.{None, Some, IfOk, IfErr};
+ghost use Rattle.elf_model.specs.Apply.{put};
+ghost use Rattle.elf_model.specs.ApplyLaws.{clipped};
+ghost use Rattle.elf_source.specs.Source.{Reads};
+ghost use Rattle.elf_headers.specs.Load.{IsOpen};
+ghost use Rattle.elf_apply.specs.Costs.{ReadSays};
+ghost use Rattle.elf_apply.specs.Entries.{patch_as};
+ghost use Rattle.elf_apply.specs.Passes.{Checks, Folds, folded, rising, storing};
+ghost use Rattle.elf_apply.specs.Walk.{changes_all, entries_from, walk_all};
+
+use crate::entry::{Placed, Target};
+use crate::walk::Entries;
+use elf_source::{Counted, Source};
+use elf_table::Fault;
+
+/// What a pass that only checks found.
+#[derive(Clone, Copy)]
+pub(crate) struct Checked {
+    /// Whether the offsets of the entries that store bytes never fall.
+    pub(crate) rises: bool,
+    /// The last of those offsets.
+    pub(crate) low: u64,
+    /// How many entries there are.
+    pub(crate) entries: u128,
+}
+
+/// Checks all entries.
+///
+/// # Errors
+/// The first refusal, or a fault of the source.
+pub(crate) fn check<S: Source>(src: &mut Counted<S>, target: &Target<'_>) -> Result<Checked, Fault>
+    requires unlimited { src.old.most ≡ None }
+    requires opened { IsOpen src.old target.now.file.loaded target.now.file.store.now }
+    ensures reads { Reads src.old src.new (walk_all target.now) }
+    ensures says { IfErr result (ReadSays src.old src.new) }
+    ensures counted { IfOk result (λ found. found.entries ≡ entries_from target.now 0) }
+    ensures checked { (file : List ℕ) → src.old.seen.file ≡ Some file →
+        Checks result (folded rising (true, 0) (changes_all file target.now)) }
+{
+    let mut entries = Entries::new();
+    let mut rises = true;
+    let mut low = 0;
+    'entries: loop {
+        match entries.next(src, target) {
+            Ok(Some(placed)) => {
+                rises = still_rises(rises, low, placed.offset);
+                low = placed.offset;
+            }
+            Ok(None) => {
+                return Ok(Checked {
+                    rises,
+                    low,
+                    entries: entries.count(),
+                });
+            }
+            Err(fault) => return Err(fault),
+        }
+    }
+}
+
+/// Whether offsets never fall, with one more.
+fn still_rises(rises: bool, low: u64, offset: u64) -> bool
+    ensures { result ≡ (rises && nat_le low offset) }
+{
+    rises && low <= offset
+}
+
+/// Stores what the entries store into a window, which begins at an offset of the section.
+///
+/// # Errors
+/// The first refusal, or a fault of the source.
+pub(crate) fn patch_window<S: Source>(
+    src: &mut Counted<S>,
+    target: &Target<'_>,
+    low: u64,
+    window: &mut [u8],
+) -> Result<(), Fault>
+    requires unlimited { src.old.most ≡ None }
+    requires opened { IsOpen src.old target.now.file.loaded target.now.file.store.now }
+    requires within { low + length window.old ≤ target.now.size }
+    requires fits { target.now.size < 2 ^ 64 }
+    ensures reads { Reads src.old src.new (walk_all target.now) }
+    ensures says { IfErr result (ReadSays src.old src.new) }
+    ensures patched { (file : List ℕ) → src.old.seen.file ≡ Some file →
+        Folds result window.new
+        (folded (storing low (length window.old)) window.old (changes_all file target.now)) }
+{
+    let mut entries = Entries::new();
+    'entries: loop {
+        match entries.next(src, target) {
+            Ok(Some(placed)) => put_in(window, low, &placed),
+            Ok(None) => return Ok(()),
+            Err(fault) => return Err(fault),
+        }
+    }
+}
+
+/// Stores the part of some bytes that falls into a window, which begins at an offset.
+pub(crate) fn put_in(window: &mut [u8], low: u64, placed: &Placed)
+    requires window { low + length window.old < 2 ^ 64 }
+    requires patch { placed.now.offset + length (patch_as placed.now).bytes < 2 ^ 64 }
+    ensures { window.new
+        ≡ put (clipped low (length window.old) (patch_as placed.now)) window.old }
+{
+    let bytes = placed.patch.bytes();
+    let first = placed.offset.max(low);
+    let end = (placed.offset + bytes.len() as u64).min(low + window.len() as u64);
+    if first < end {
+        let part = &bytes[(first - placed.offset) as usize..(end - placed.offset) as usize];
+        window[(first - low) as usize..(end - low) as usize].copy_from_slice(part);
+    }
+}

@@ -1,0 +1,183 @@
+//! The walk over the relocation entries for a section.
+ghost use Rattle.std.specs.Prelude.{◌≡◌, ◌≤◌, ◌+◌, ℕ, List, length, None, Some, Ok, IfOk, IfErr};
+ghost use Rattle.std.specs.Prelude.{IfSome};
+ghost use Rattle.elf_model.specs.Apply.{applies_to};
+ghost use Rattle.elf_record.specs.Shdr.{IsShdr};
+ghost use Rattle.elf_source.specs.Source.{Reads as ReadsMost};
+ghost use Rattle.elf_headers.specs.Faults.{IsOfCheck};
+ghost use Rattle.elf_headers.specs.Load.{Belongs, IsOpen};
+ghost use Rattle.elf_apply.specs.Costs.{ReadSays};
+ghost use Rattle.elf_apply.specs.Walk.{Counts, Finds, FoundFewer, FoundInside, Goes, Reads};
+ghost use Rattle.elf_apply.specs.Walk.{StepFewer, StepInside, Walked};
+ghost use Rattle.elf_apply.specs.Walk.{changes_all, changes_left, entries_from, walk_all};
+ghost use Rattle.elf_apply.specs.Walk.{walk_left};
+
+use crate::entry::{Linked, Placed, Target, entry_change};
+use elf_record::numbers::SHT_RELA;
+use elf_record::{Rela, Shdr};
+use elf_source::{Counted, Source};
+use elf_table::{Cursor, Fault, Row, Table};
+
+/// The relocation entries for a section, one after another: the rows of a section of entries, the
+/// sections that are still to be looked at, and how many entries the sections before those have.
+#[derive(Drop)]
+pub(crate) struct Entries {
+    cursor: Cursor,
+    linked: Linked,
+    current: u16,
+    next: u16,
+    count: u128,
+}
+
+/// What a step of the walk gives.
+pub(crate) enum Step {
+    /// An entry that stores bytes.
+    Stores(Placed),
+    /// Nothing: the walk goes on.
+    Nothing,
+    /// There is no entry any more.
+    End,
+}
+
+impl Entries {
+    /// Before the first entry.
+    pub(crate) fn new() -> Entries
+        ensures begins { (size : ℕ) (target : _) → Goes size target result }
+        ensures left { (target : _) → walk_left target result ≡ walk_all target }
+        ensures none { (target : _) →
+            result.count + entries_from target result.next ≡ entries_from target 0 }
+        ensures reads { (file : List ℕ) → Reads file result }
+        ensures changes { (file : List ℕ) (target : _) →
+            changes_left file target result ≡ changes_all file target }
+    {
+        Entries {
+            cursor: Cursor::new(Table::new(0, 0, 24)),
+            linked: None,
+            current: 0,
+            next: 0,
+            count: 0,
+        }
+    }
+
+    /// How many entries the sections have that were opened so far.
+    pub(crate) fn count(&self) -> u128
+        ensures { result ≡ self.now.count }
+    {
+        self.count
+    }
+
+    /// The next entry that stores bytes, or None past the last.
+    ///
+    /// # Errors
+    /// The first refusal, or a fault of the source. Then it is of no use any more.
+    pub(crate) fn next<S: Source>(
+        &mut self,
+        src: &mut Counted<S>,
+        target: &Target<'_>,
+    ) -> Result<Option<Placed>, Fault>
+        requires unlimited { src.old.most ≡ None }
+        requires opened { IsOpen src.old target.now.file.loaded target.now.file.store.now }
+        requires goes { Goes src.old.seen.size target.now self.old }
+        ensures reads { ReadsMost src.old src.new (walk_left target.now self.old) }
+        ensures says { IfErr result (ReadSays src.old src.new) }
+        ensures account { src.new.asked + walk_left target.now self.new
+            ≤ src.old.asked + walk_left target.now self.old }
+        ensures goes { IfOk result (λ found. Goes src.old.seen.size target.now self.new) }
+        ensures fewer { IfOk result (FoundFewer target.now self.old self.new) }
+        ensures counts { IfOk result (λ found. Counts target.now self.old self.new) }
+        ensures inside { IfOk result (FoundInside target.now.size) }
+        ensures finds { (file : List ℕ) → src.old.seen.file ≡ Some file → Reads file self.old →
+            Finds file target.now self.old self.new result }
+    {
+        'steps: loop {
+            match self.step(src, target) {
+                Ok(Step::Stores(placed)) => return Ok(Some(placed)),
+                Ok(Step::Nothing) => {}
+                Ok(Step::End) => return Ok(None),
+                Err(fault) => return Err(fault),
+            }
+        }
+    }
+
+    /// One step: an entry, or a section.
+    fn step<S: Source>(&mut self, src: &mut Counted<S>, target: &Target<'_>) -> Result<Step, Fault>
+        requires unlimited { src.old.most ≡ None }
+        requires opened { IsOpen src.old target.now.file.loaded target.now.file.store.now }
+        requires goes { Goes src.old.seen.size target.now self.old }
+        ensures reads { ReadsMost src.old src.new (walk_left target.now self.old) }
+        ensures says { IfErr result (ReadSays src.old src.new) }
+        ensures account { src.new.asked + walk_left target.now self.new
+            ≤ src.old.asked + walk_left target.now self.old }
+        ensures goes { IfOk result (λ step. Goes src.old.seen.size target.now self.new) }
+        ensures fewer { IfOk result (StepFewer target.now self.old self.new) }
+        ensures counts { IfOk result (λ step. Counts target.now self.old self.new) }
+        ensures inside { IfOk result (StepInside target.now.size) }
+        ensures walked { (file : List ℕ) → src.old.seen.file ≡ Some file → Reads file self.old →
+            Walked file target.now self.old self.new result }
+    {
+        match self.cursor.advance(src) {
+            Ok(true) => {
+                let row = self.cursor.row();
+                let entry = Rela::decode(whole_row(&row));
+                match entry_change(src, target, &entry, row.at, self.linked) {
+                    Ok(Some(placed)) => Ok(Step::Stores(placed)),
+                    Ok(None) => Ok(Step::Nothing),
+                    Err(fault) => Err(fault),
+                }
+            }
+            Ok(false) => self.open(target),
+            Err(fault) => Err(fault),
+        }
+    }
+
+    /// Goes to the next section: its entries, where it has some for the target.
+    fn open(&mut self, target: &Target<'_>) -> Result<Step, Fault>
+        requires goes { Goes target.now.file.loaded.size target.now self.old }
+        requires none { self.old.cursor.left ≡ 0 }
+        ensures goes { IfOk result (λ step. Goes target.now.file.loaded.size target.now self.new) }
+        ensures refusal { IfErr result IsOfCheck }
+        ensures fewer { IfOk result (StepFewer target.now self.old self.new) }
+        ensures counts { IfOk result (λ step. Counts target.now self.old self.new) }
+        ensures inside { IfOk result (StepInside target.now.size) }
+        ensures left { walk_left target.now self.new ≤ walk_left target.now self.old }
+        ensures walked { (file : List ℕ) →
+            Belongs file target.now.file.loaded target.now.file.store.now → Reads file self.old →
+            Walked file target.now self.old self.new result }
+    {
+        let section = self.next;
+        if section >= target.file.sections() {
+            return Ok(Step::End);
+        }
+        self.next += 1;
+        let header = target.file.section(section);
+        if !applies(&header, target.section) {
+            return Ok(Step::Nothing);
+        }
+        match target.file.relocations(section) {
+            Ok(found) => {
+                self.count += u128::from(found.0.len());
+                self.cursor = Cursor::new(found.0);
+                self.linked = found.1;
+                self.current = section;
+                Ok(Step::Nothing)
+            }
+            Err(fault) => Err(fault),
+        }
+    }
+}
+
+/// Whether a section holds relocation entries for another (gABI 4, Relocation).
+fn applies(header: &Shdr, section: u16) -> bool
+    ensures { (bytes : List ℕ) (at : ℕ) → IsShdr bytes at header.now →
+        result ≡ applies_to bytes section at }
+{
+    header.sh_type == SHT_RELA && header.sh_info == u32::from(section)
+}
+
+/// The row's bytes as an array.
+fn whole_row<'a>(row: &'a Row<'_>) -> &'a [u8; 24]
+    requires { length row.now.bytes.now ≡ 24 }
+    ensures { result.now ≡ row.now.bytes.now }
+{
+    row.bytes.first_chunk().unwrap()
+}

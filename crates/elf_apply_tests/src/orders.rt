@@ -1,0 +1,118 @@
+//! Entries whose offsets rise, and fall; and a source that answers otherwise in the second pass.
+
+use crate::applying::applied;
+use elf_apply::{Applied, ApplyFault, Layout, apply};
+use elf_fixtures::{falling_relocations, rising_relocations};
+use elf_record::{Cause, Refusal};
+use elf_source::{Counted, Out, SliceSink, Source, SourceFault};
+use elf_table::HeaderStore;
+use std::test::Fail;
+
+/// A file for some reads, and then another of the same length.
+#[derive(Drop)]
+struct Turning<'a> {
+    first: &'a [u8; 480],
+    second: &'a [u8; 480],
+    turns: u32,
+}
+
+impl<'a> Source for Turning<'a> {
+    ghost use Rattle.std.specs.Prelude.{⊤};
+    ghost use Rattle.elf_source.specs.Source.{unknown};
+
+    ghost seen = { λ s. unknown 480 0 };
+
+    ghost one_read = { λ _ _ _ _. ⊤ };
+
+    fn length(&self) -> u64 {
+        480
+    }
+
+    fn fill(&mut self, at: u64, out: &mut [u8]) -> Result<(), SourceFault> {
+        let start = at as usize;
+        let bytes = if self.turns == 0 {
+            self.second
+        } else {
+            self.first
+        };
+        out.copy_from_slice(&bytes[start..start + out.len()]);
+        self.turns = self.turns.saturating_sub(1);
+        Ok(())
+    }
+}
+
+const WHOLE: Applied = Applied {
+    size: 128,
+    entries: 4,
+};
+
+/// The section with the four entries applied.
+fn wanted() -> [u8; 128] {
+    let mut bytes = [0; 128];
+    bytes[0] = 2;
+    bytes[1] = 1;
+    bytes[62] = 4;
+    bytes[63] = 6;
+    bytes[64] = 5;
+    bytes[126] = 8;
+    bytes[127] = 7;
+    bytes
+}
+
+#[test]
+fn rising_offsets_take_one_pass(rt: HostRuntime) -> Result<(), Fail> {
+    let mut store = HeaderStore::new(rt.alloc(), 3)?;
+    let mut bytes = [9; 128];
+    let (answer, written, asked) = applied(
+        rising_relocations(),
+        &Layout::new(),
+        &mut store,
+        &mut bytes,
+    );
+    assert!(rt; (answer, written) == (Ok(WHOLE), 128));
+    assert!(rt; bytes == wanted());
+    assert!(rt; asked == 64 + 192 + 2 * 4 * 24 + 128, "{asked}");
+    Ok(())
+}
+
+#[test]
+fn falling_offsets_take_windows(rt: HostRuntime) -> Result<(), Fail> {
+    let mut store = HeaderStore::new(rt.alloc(), 3)?;
+    let mut bytes = [9; 128];
+    let file = falling_relocations();
+    let (answer, written, asked) = applied(&file, &Layout::new(), &mut store, &mut bytes);
+    assert!(rt; (answer, written) == (Ok(WHOLE), 128));
+    assert!(rt; bytes == wanted());
+    assert!(rt; asked == 64 + 192 + 3 * 4 * 24 + 128, "{asked}");
+    Ok(())
+}
+
+#[test]
+fn an_entry_that_falls_back_is_refused(rt: HostRuntime) -> Result<(), Fail> {
+    let second = falling_relocations();
+    let mut fell: u8 = 0;
+    for turns in 2..12_u32 {
+        let mut store = HeaderStore::new(rt.alloc(), 3)?;
+        let mut src = Counted::new(Turning {
+            first: rising_relocations(),
+            second: &second,
+            turns,
+        });
+        let mut bytes = [9; 200];
+        let mut out = Out::new(SliceSink::new(&mut bytes));
+        let answer = apply(&mut src, &mut store, 1, &Layout::new(), &mut out);
+        assert!(rt; out.written() <= 128);
+        if let Err(fault) = answer {
+            let last = Refusal {
+                at: 0x108,
+                cause: Cause::PlaceOutside,
+            };
+            assert!(rt; fault == ApplyFault::Refused(last));
+            assert!(rt; out.written() == 126);
+            assert!(rt; turns == 3, "{turns}");
+            fell = fell.saturating_add(1);
+        }
+    }
+    assert!(rt; fell == 1);
+    Ok(())
+}
