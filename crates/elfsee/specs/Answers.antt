@@ -10,9 +10,9 @@ use Rattle.elf_listing.specs.declared.end.End.{End}
 use Rattle.elf_listing.specs.declared.end.End.TheVariants.{Listed, Refused}
 use Rattle.elf_listing.specs.declared.end.RunFault.{RunFault}
 use Rattle.elf_listing.specs.declared.end.RunFault.TheVariants.{Source, Out}
-use Rattle.elf_table.specs.declared.caps.Caps.{Caps}
-use Rattle.elfsee.specs.declared.requests.RequestFault.{RequestFault}
-use Rattle.elfsee.specs.declared.requests.RequestFault.TheVariants.{Words, Memory}
+use Rattle.elf_headers.specs.declared.caps.Caps.{Caps}
+use Rattle.elf_words.specs.declared.requests.RequestFault.{RequestFault}
+use Rattle.elf_words.specs.declared.requests.RequestFault.TheVariants.{Words, BadName, Memory}
 
 -- an answer was written and its status given, or a front of its text was written
 abbrev pub WroteAnswer : Written → Written → Result ℕ RunFault → Answer → Type 0
@@ -64,9 +64,11 @@ error_line (Err (Out fault)) = codes "elfsee: write fault"
 
 -- the same for words that are no request
 abbrev pub refused_status : RequestFault → ℕ
-refused_status Words = 2
+refused_status (Words error) = 2
+refused_status BadName = 2
 refused_status Memory = 3
 
 abbrev pub refused_line : RequestFault → List ℕ
-refused_line Words = codes "elfsee: bad words"
+refused_line (Words error) = []
+refused_line BadName = codes "elfsee: bad name"
 refused_line Memory = codes "elfsee: out of memory"

@@ -3,17 +3,17 @@ ghost use Rattle.std.specs.Prelude.{◌<◌, ◌≤◌};
 
 use crate::answering::run;
 use crate::listing_tests::{HEADER, LISTED};
-use crate::requests::Request;
-use crate::table_fixtures::{BOTH_VIEWS, MAPPED_LIBRARY, NEEDED_LIBRARY, NOTE_SEGMENT, TWO_NOTES};
+use crate::table_fixtures::{BOTH_VIEWS, TWO_NOTES};
 use elf_fakes::Planned;
 use elf_fixtures::{
-    hash_with_cycle, one_call, one_symbol_table, overlapping_relocations, tables_over_headers,
-    with_bytes,
+    hash_with_cycle, library_without_sections, needed_library, note_segment, one_call,
+    one_symbol_table, overlapping_relocations, tables_over_headers, with_bytes,
 };
 use elf_listing::{End, show};
 use elf_record::Parts;
 use elf_source::{Counted, Out, WriteSink};
 use elf_table::{Caps, HeaderStore};
+use elf_words::{Request, Task};
 use std::process::Abort;
 use std::test::Fail;
 
@@ -29,7 +29,11 @@ pub(crate) fn listed(
     parts: Parts,
 ) -> Result<Listed, Fail> {
     let mut store = HeaderStore::new(rt.alloc(), caps.headers())?;
-    let request = Request::Sample { caps, parts };
+    let request = Request {
+        file: None,
+        caps,
+        task: Task::Show(parts),
+    };
     let mut src = Counted::new(Planned::new(file, 0));
     let mut out = Out::new(WriteSink::new(Vec::new(rt.alloc())));
     let status = run(&request, &mut src, &mut store, &mut out)?;
@@ -100,14 +104,14 @@ fn budgets_up_to_the_cost(rt: HostRuntime) -> Result<(), Fail> {
 
 #[test]
 fn every_budget_over_notes(rt: HostRuntime) -> Result<(), Fail> {
-    check_budgets(&rt, &NOTE_SEGMENT, 1, 140, 1)?;
+    check_budgets(&rt, note_segment(), 1, 140, 1)?;
     check_budgets(&rt, &TWO_NOTES, 1, 180, 1)
 }
 
 #[test]
 fn every_budget_over_dynamic_entries(rt: HostRuntime) -> Result<(), Fail> {
-    check_budgets(&rt, &NEEDED_LIBRARY, 3, 496, 1)?;
-    check_budgets(&rt, &MAPPED_LIBRARY, 2, 560, 1)?;
+    check_budgets(&rt, needed_library(), 3, 496, 1)?;
+    check_budgets(&rt, library_without_sections(), 2, 560, 1)?;
     check_budgets(&rt, &BOTH_VIEWS, 4, 608, 1)
 }
 

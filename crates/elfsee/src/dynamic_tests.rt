@@ -1,9 +1,8 @@
 //! Listings of dynamic entries, by sections and by program headers.
 use crate::listing_tests::LISTED;
 use crate::note_tests::check_rows;
-use crate::table_fixtures::{
-    BOTH_VIEWS, MAPPED_LIBRARY, NEEDED_LIBRARY, ONE_LOAD, with_bytes, with_number,
-};
+use crate::table_fixtures::{BOTH_VIEWS, with_number};
+use elf_fixtures::{library_without_sections, needed_library, one_load, with_bytes};
 use elf_record::Parts;
 use std::process::Abort;
 use std::test::Fail;
@@ -13,12 +12,12 @@ const NEEDED: &str = "D     0 NEEDED           0000000000000001 libc.so.6\n";
 #[test]
 fn entries_of_a_section_are_listed(rt: HostRuntime) -> Result<(), Fail> {
     let text = [NEEDED, "D     1 NULL             0000000000000000 \n"];
-    check_rows(&rt, &NEEDED_LIBRARY, (3, 63), Parts::DYNAMIC, &text, 496)
+    check_rows(&rt, needed_library(), (3, 63), Parts::DYNAMIC, &text, 496)
 }
 
 #[test]
 fn without_an_end_all_entries_are_listed(rt: HostRuntime) -> Result<(), Fail> {
-    let file = with_bytes(&NEEDED_LIBRARY, 0x50, &[0x1e]);
+    let file = with_bytes(needed_library(), 0x50, &[0x1e]);
     let text = [
         NEEDED,
         "D     1 FLAGS            0000000000000000 \n",
@@ -32,9 +31,9 @@ fn without_an_end_all_entries_are_listed(rt: HostRuntime) -> Result<(), Fail> {
 fn many_ends() -> [u8; 4352] {
     let mut file = [0; 4352];
     let all = &mut file[..];
-    all[..64].copy_from_slice(&NEEDED_LIBRARY[..64]);
+    all[..64].copy_from_slice(&needed_library()[..64]);
     all[0x28] = 0x40;
-    all[0x80..0xc0].copy_from_slice(&NEEDED_LIBRARY[0xbb..0xfb]);
+    all[0x80..0xc0].copy_from_slice(&needed_library()[0xbb..0xfb]);
     all[0x98..0x9a].copy_from_slice(&[0, 1]);
     all[0xa0..0xa2].copy_from_slice(&[0, 0x10]);
     all[0xc4] = 3;
@@ -58,7 +57,7 @@ fn a_section_of_entries_is_checked(rt: HostRuntime) -> Result<(), Fail> {
         (0xe3, 1, "! 00000000000000bb not-strings\n"),
         (0x11c, 1, "! 00000000000000fb table-outside\n"),
     ] {
-        let file = with_bytes(&NEEDED_LIBRARY, at, &[byte]);
+        let file = with_bytes(needed_library(), at, &[byte]);
         check_rows(&rt, &file, (3, 63), Parts::DYNAMIC, &[text], 496)?;
     }
     Ok(())
@@ -71,7 +70,7 @@ fn check_mapped(
     numbers: &[(usize, u64)],
     text: &[&str],
 ) -> Result<(), Fail> {
-    let mut file = MAPPED_LIBRARY;
+    let mut file = *library_without_sections();
     for (at, number) in numbers {
         assert!(rt; *at <= 243);
         file = with_number(&file, *at, *number);
@@ -101,7 +100,7 @@ fn a_shared_object_without_sections_is_listed_whole(rt: HostRuntime) -> Result<(
         "D     2 STRSZ            000000000000000b \n",
         "D     3 NULL             0000000000000000 \n",
     ];
-    check_rows(&rt, &MAPPED_LIBRARY, (2, 63), LISTED, &text, 560)
+    check_rows(&rt, library_without_sections(), (2, 63), LISTED, &text, 560)
 }
 
 #[test]
@@ -211,7 +210,7 @@ fn a_strings_fault_is_at_its_entry(rt: HostRuntime) -> Result<(), Fail> {
 
 #[test]
 fn without_a_segment_of_entries_nothing_is_listed(rt: HostRuntime) -> Result<(), Fail> {
-    check_rows(&rt, &ONE_LOAD, (1, 63), Parts::DYNAMIC, &[], 120)
+    check_rows(&rt, one_load(), (1, 63), Parts::DYNAMIC, &[], 120)
 }
 
 #[test]

@@ -2,17 +2,17 @@
 ghost use Rattle.std.specs.Prelude.{◌≡◌};
 ghost use Rattle.elfsee.specs.Answers.{exit_status, error_line, refused_status, refused_line};
 
-use crate::requests::RequestFault;
 use elf_listing::RunFault;
+use elf_words::RequestFault;
 
 /// An exit status, and a line for standard error, which is empty where there is nothing to say.
 pub type Ending = (u8, &'static str);
 
-/// The words are no request.
-pub const BAD_WORDS: Ending = (2, "elfsee: bad words");
-
 /// The words are no text.
 pub const NOT_UTF8: Ending = (2, "elfsee: words are not UTF-8");
+
+/// The word is no name that can be looked up.
+pub const BAD_NAME: Ending = (2, "elfsee: bad name");
 
 /// There was no memory.
 pub const OUT_OF_MEMORY: Ending = (3, "elfsee: out of memory");
@@ -38,13 +38,15 @@ pub fn outcome(answer: &Result<u8, RunFault>) -> Ending
     }
 }
 
-/// The exit status for words that are no request, and the line on standard error.
+/// The exit status for words that are no request, and the line on standard error, which is empty for
+/// `Words`: what is told then is in the fault.
 pub fn refused(fault: &RequestFault) -> Ending
     ensures status { result.0 ≡ refused_status fault.now }
     ensures line { result.1.now ≡ refused_line fault.now }
 {
     match fault {
-        RequestFault::Words => BAD_WORDS,
+        RequestFault::Words(_) => (2, ""),
+        RequestFault::BadName => BAD_NAME,
         RequestFault::Memory => OUT_OF_MEMORY,
     }
 }

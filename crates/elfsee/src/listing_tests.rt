@@ -2,7 +2,6 @@
 //! where they are refused.
 
 use crate::answering::run;
-use crate::requests::Request;
 use elf_fakes::Planned;
 use elf_fixtures::{
     hash_with_cycle, named_section, one_call, one_load, one_symbol_table, overlapping_relocations,
@@ -12,6 +11,7 @@ use elf_listing::RunFault;
 use elf_record::Parts;
 use elf_source::{Counted, MemorySource, Out, SliceSink, SourceFault};
 use elf_table::{Caps, HeaderStore};
+use elf_words::{Request, Task};
 use std::process::Abort;
 use std::test::Fail;
 
@@ -49,7 +49,11 @@ fn check_listing(
     let mut buffer = [0; 4096];
     let mut src = Counted::new(MemorySource::new(file));
     let mut out = Out::new(SliceSink::new(&mut buffer));
-    let request = Request::Sample { caps, parts };
+    let request = Request {
+        file: None,
+        caps,
+        task: Task::Show(parts),
+    };
     assert!(rt; run(&request, &mut src, &mut store, &mut out) == Ok(status));
     assert!(rt; src.asked() <= cost);
     check_text(rt, out.into_inner().written(), text);
@@ -189,7 +193,11 @@ fn tables_may_overlap_the_section_headers(rt: HostRuntime) -> Result<(), Fail> {
     let mut src = Counted::new(MemorySource::new(tables_over_headers()));
     let mut out = Out::new(SliceSink::new(&mut buffer));
     let parts = Parts::SYMBOLS;
-    let request = Request::Sample { caps, parts };
+    let request = Request {
+        file: None,
+        caps,
+        task: Task::Show(parts),
+    };
     assert!(rt; run(&request, &mut src, &mut store, &mut out) == Ok(0));
     assert!(rt; src.asked() <= 3552);
     let sink = out.into_inner();
@@ -260,7 +268,11 @@ fn check_cost(
     let mut src = Counted::new(MemorySource::new(file));
     let mut out = Out::new(SliceSink::new(&mut buffer));
     let parts = LISTED;
-    let request = Request::Sample { caps, parts };
+    let request = Request {
+        file: None,
+        caps,
+        task: Task::Show(parts),
+    };
     assert!(rt; run(&request, &mut src, &mut store, &mut out) == Ok(0));
     assert!(rt; src.asked() <= cost);
     Ok(())
@@ -282,11 +294,49 @@ fn a_fault_leaves_the_lines_before_it(rt: HostRuntime) -> Result<(), Fail> {
     let mut src = Counted::new(Planned::new(one_symbol_table(), 4));
     let mut out = Out::new(SliceSink::new(&mut buffer));
     let parts = LISTED;
-    let request = Request::Sample { caps, parts };
+    let request = Request {
+        file: None,
+        caps,
+        task: Task::Show(parts),
+    };
     let answer = run(&request, &mut src, &mut store, &mut out);
     let fault = SourceFault::Device;
     assert!(rt; answer == Err(RunFault::Source { fault, at: 0x70 }));
     check_text(&rt, out.into_inner().written(), &[HEADER, SECTIONS]);
     assert!(rt; src.into_inner().reads == 4);
+    Ok(())
+}
+
+/// What each part lists of the file with one call, in order.
+const CALL: [&str; 7] = [
+    "H REL     62 0000000000000000 0000000000000000 0000000000000098 00000000     0     5     0\n",
+    concat!(
+        "S     0 NULL                       0000000000000000 0000000000000000 0000000000000000 00000000 00000000 \n",
+        "S     1 PROGBITS      AX           0000000000000000 0000000000000040 0000000000000005 00000000 00000000 \n",
+        "S     2 RELA          I            0000000000000000 0000000000000048 0000000000000018 00000003 00000001 \n",
+        "S     3 SYMTAB                     0000000000000000 0000000000000060 0000000000000030 00000004 00000001 \n",
+        "S     4 STRTAB                     0000000000000000 0000000000000090 0000000000000003 00000000 00000000 \n",
+    ),
+    "",
+    concat!(
+        "Y     3          0 0000000000000000 0000000000000000 NOTYPE  LOCAL  DEFAULT   UND   \n",
+        "Y     3          1 0000000000000000 0000000000000000 NOTYPE  GLOBAL DEFAULT   UND   f\n",
+    ),
+    "R     2 0000000000000001 PLT32      00000001 -0000000000000004 f\n",
+    "",
+    "",
+];
+
+#[test]
+fn every_set_of_parts_is_listed(rt: HostRuntime) -> Result<(), Fail> {
+    for bits in 0..128u8 {
+        let mut text = [""; 7];
+        for part in 0..7 {
+            if bits & (1 << part) != 0 {
+                text[part] = CALL[part];
+            }
+        }
+        check_listing(&rt, one_call(), (5, 63), Parts(bits), &text, 0, 672)?;
+    }
     Ok(())
 }

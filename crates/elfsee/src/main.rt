@@ -7,42 +7,38 @@ mod budget_tests;
 #[cfg(test)]
 mod dynamic_tests;
 mod endings;
+mod finding;
 #[cfg(test)]
 mod listing_tests;
 #[cfg(test)]
 mod note_tests;
 mod offset_reader;
-mod requests;
 mod sample;
 #[cfg(test)]
 mod table_fixtures;
 #[cfg(test)]
 mod tests;
-mod words;
 
 ghost use Rattle.std.specs.Prelude.{◌≡◌, ◌⊎◌, codes, IfErr};
 ghost use Rattle.elfsee.specs.Answers.{refused_line, refused_status};
-ghost use Rattle.elfsee.specs.Requests.{headers_of};
-ghost use Rattle.elfsee.specs.declared.requests.RequestFault.{RequestFault};
+ghost use Rattle.elf_words.specs.declared.requests.RequestFault.{RequestFault};
 
 use answering::run;
 use elf_listing::RunFault;
 use elf_source::{Counted, Device, MemorySource, Out, Source, StreamSource, WriteSink};
 use elf_table::HeaderStore;
+use elf_words::{Request, RequestFault, request};
 use endings::{
     CANNOT_OPEN, Ending, NOT_UTF8, OUT_OF_MEMORY, READ_FAULT, WRITE_FAULT, outcome, refused,
 };
 use offset_reader::OffsetReader;
-use requests::Request;
 use sample::sample;
-use std::alloc::Global;
 use std::fs::File;
 use std::io::{BufWriter, ErrorKind, Write};
 use std::os::unix::fs::{FileExt, FileTypeExt};
 use std::process::ExitCode;
 use std::rt::{Env, Files};
 use std::{env, fs, io};
-use words::request;
 
 /// How many bytes of output are kept before they are written.
 const OUTPUT_BYTES: usize = 65_536;
@@ -63,24 +59,24 @@ fn main(rt: HostRuntime) -> ExitCode {
 }
 
 /// Reads the words, makes what memory is needed, opens the file, and carries the request out.
-fn answer<R: Env + Files + Print + AllocGlobal>(rt: &R) -> Result<Ending, Ending>
+fn answer<R: Env + Files + Print + Eprint + AllocGlobal>(rt: &R) -> Result<Ending, Ending>
 where
     R::File: FileExt,
 {
     let words = read_words(rt)?;
-    let request = read_request(rt.alloc(), &words)?;
+    let request = read_request(rt, words.as_slice())?;
     let Ok(store) = HeaderStore::new(rt.alloc(), request.headers()) else {
         return Err(OUT_OF_MEMORY);
     };
     let Ok(output) = BufWriter::with_capacity(rt.alloc(), OUTPUT_BYTES, io::writer(rt)) else {
         return Err(OUT_OF_MEMORY);
     };
-    match &request {
-        Request::Show { file, .. } => {
-            let source = open(rt, file.as_str())?;
+    match request.file {
+        Some(path) => {
+            let source = open(rt, path)?;
             Ok(write_answer(&request, source, store, output))
         }
-        Request::Sample { .. } => {
+        None => {
             let source = MemorySource::new(sample());
             Ok(write_answer(&request, source, store, output))
         }
@@ -101,18 +97,23 @@ fn read_words<R: Env + AllocGlobal>(rt: &R) -> Result<Vec<String>, Ending>
     words.collect(rt.alloc()).map_err(|_| OUT_OF_MEMORY)
 }
 
-/// Reads the request, without memory of its own: a request has no more than four words, and of
-/// others the first five tell that they are none.
-fn read_request(alloc: Global, words: &[String]) -> Result<Request, Ending>
+/// Reads the request, and tells what is wrong with words that are none.
+fn read_request<'a, R: Eprint + AllocGlobal>(
+    rt: &R,
+    words: &'a [String],
+) -> Result<Request<'a>, Ending>
     ensures { IfErr result (λ ending. (fault : RequestFault)
         × (ending.0 ≡ refused_status fault) × (ending.1.now ≡ refused_line fault)) }
 {
-    let mut texts = [""; 5];
-    let count = words.len().min(texts.len());
-    for i in 0..count {
-        texts[i] = words[i].as_str();
+    let fault = match request(rt.alloc(), words) {
+        Ok(request) => return Ok(request),
+        Err(fault) => fault,
+    };
+    if let RequestFault::Words(told) = &fault {
+        // Where standard error can't be written either, the status alone tells.
+        let _ = eprint!(rt; "{told}");
     }
-    request(alloc, &texts[..count]).map_err(|fault| refused(&fault))
+    Err(refused(&fault))
 }
 
 /// Opens a file that can be read at an offset. Folders, pipes and sockets are not opened, so that
@@ -137,12 +138,12 @@ where
 /// Carries a request out and writes what is left of the output. After a fault of the output nothing
 /// more is written.
 fn write_answer<S: Source + Drop, W: Write + Drop>(
-    request: &Request,
+    request: &Request<'_>,
     source: S,
     mut store: HeaderStore,
     output: BufWriter<W>,
 ) -> Ending
-    requires { store.slots ≡ headers_of request.now }
+    requires { store.slots ≡ request.now.caps.headers }
 {
     let mut src = Counted::new(source);
     let mut out = Out::new(WriteSink::new(output));

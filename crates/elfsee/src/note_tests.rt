@@ -1,9 +1,8 @@
 //! Listings of notes, by sections and by program headers.
 use crate::budget_tests::listed;
 use crate::listing_tests::{LISTED, check_text};
-use crate::table_fixtures::{
-    BOTH_VIEWS, NOTE_SEGMENT, ONE_LOAD, TWO_NOTES, notes_in_a_section, with_bytes, with_number,
-};
+use crate::table_fixtures::{BOTH_VIEWS, TWO_NOTES, notes_in_a_section, with_number};
+use elf_fixtures::{note_segment, one_load, with_bytes};
 use elf_record::Parts;
 use elf_table::Caps;
 use std::process::Abort;
@@ -136,7 +135,7 @@ fn notes_outside_the_file_are_refused(rt: HostRuntime) -> Result<(), Fail> {
     let file = with_number(&file, 0xa0, 65);
     check_rows(&rt, &file, (2, 63), Parts::NOTES, &text, 192)?;
     let text = ["! 0000000000000040 table-outside\n"];
-    let file = with_bytes(&NOTE_SEGMENT, 0x60, &[21]);
+    let file = with_bytes(note_segment(), 0x60, &[21]);
     check_rows(&rt, &file, (1, 63), Parts::NOTES, &text, 120)
 }
 
@@ -147,8 +146,8 @@ fn notes_of_a_segment_are_listed(rt: HostRuntime) -> Result<(), Fail> {
         "P     0 NOTE     --- 0000000000000078 0000000000000000 0000000000000000 0000000000000014 0000000000000014 0000000000000004\n",
         "N     0 00000001 00000004 00000004 GNU 2a000000\n",
     ];
-    check_rows(&rt, &NOTE_SEGMENT, (1, 63), Parts::NOTES, &text[2..], 140)?;
-    check_rows(&rt, &NOTE_SEGMENT, (1, 63), LISTED, &text, 140)
+    check_rows(&rt, note_segment(), (1, 63), Parts::NOTES, &text[2..], 140)?;
+    check_rows(&rt, note_segment(), (1, 63), LISTED, &text, 140)
 }
 
 #[test]
@@ -164,13 +163,13 @@ fn without_notes_there_is_nothing_more(rt: HostRuntime) -> Result<(), Fail> {
         "H EXEC    62 0000000000000000 0000000000000040 0000000000000000 00000000     1     0     0\n",
         "P     0 LOAD     R-X 0000000000000000 0000000000400000 0000000000400000 0000000000000078 0000000000000078 0000000000001000\n",
     ];
-    check_rows(&rt, &ONE_LOAD, (1, 63), LISTED, &text, 120)?;
-    check_rows(&rt, &ONE_LOAD, (1, 63), Parts::NOTES, &[], 120)
+    check_rows(&rt, one_load(), (1, 63), LISTED, &text, 120)?;
+    check_rows(&rt, one_load(), (1, 63), Parts::NOTES, &[], 120)
 }
 
 #[test]
 fn without_any_headers_there_is_the_file_header(rt: HostRuntime) -> Result<(), Fail> {
-    let file = with_bytes(&ONE_LOAD, 0x38, &[0]);
+    let file = with_bytes(one_load(), 0x38, &[0]);
     let text =
         "H EXEC    62 0000000000000000 0000000000000040 0000000000000000 00000000     0     0     0\n";
     check_rows(&rt, &file, (1, 63), LISTED, &[text], 64)?;
@@ -189,7 +188,7 @@ fn sections_decide_which_notes_there_are(rt: HostRuntime) -> Result<(), Fail> {
 fn long_name(last: u8) -> [u8; 4236] {
     let mut file = [0x6e; 4236];
     let all = &mut file[..];
-    all[..120].copy_from_slice(&NOTE_SEGMENT[..120]);
+    all[..120].copy_from_slice(&note_segment()[..120]);
     all[0x60..0x62].copy_from_slice(&[0x14, 0x10]);
     all[0x78..0x84].copy_from_slice(&[1, 0x10, 0, 0, 4, 0, 0, 0, 7, 0, 0, 0]);
     all[4228] = last;

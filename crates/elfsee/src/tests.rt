@@ -5,8 +5,6 @@ ghost use Rattle.std.specs.Prelude.{◌≡◌, ◌≤◌, IfOk};
 use crate::answering::run;
 use crate::endings::{outcome, refused};
 use crate::offset_reader::OffsetReader;
-use crate::requests::{Request, RequestFault};
-use crate::words::request;
 use elf_fakes::{Ending, Pieces, Planned};
 use elf_fixtures::{bare_header, with_bytes};
 use elf_listing::{End, FIXED_BYTES, RunFault, show};
@@ -15,6 +13,7 @@ use elf_source::{
     Counted, MemorySource, Out, OutFault, SliceSink, SourceFault, StreamSource, WriteSink,
 };
 use elf_table::{Caps, HeaderStore};
+use elf_words::{Request, RequestFault, Task};
 use std::io;
 use std::io::{Read, Seek, SeekFrom};
 use std::os::unix::fs::FileExt;
@@ -152,7 +151,11 @@ fn check_run(
     let (mut store, caps) = one_slot(rt)?;
     let mut buffer = [0; 256];
     let parts = Parts::HEADER;
-    let asked = Request::Sample { caps, parts };
+    let asked = Request {
+        file: None,
+        caps,
+        task: Task::Show(parts),
+    };
     let mut src = Counted::new(MemorySource::new(bare_header()));
     let mut out = Out::new(SliceSink::new(&mut buffer[..room]));
     assert!(rt; run(&asked, &mut src, &mut store, &mut out) == answer);
@@ -181,43 +184,6 @@ fn a_writer_gets_the_line(rt: HostRuntime) -> Result<(), Fail> {
 }
 
 #[test]
-fn words_name_a_part(rt: HostRuntime) -> Result<(), Fail> {
-    let caps = Caps::new(4096, 256).ok_or("caps")?;
-    for (part, parts) in [
-        ("header", Parts::HEADER),
-        ("sections", Parts::SECTIONS),
-        ("segments", Parts::SEGMENTS),
-        ("symbols", Parts::SYMBOLS),
-        ("relocs", Parts::RELOCS),
-        ("notes", Parts::NOTES),
-        ("dynamic", Parts::DYNAMIC),
-    ] {
-        let sample = request(rt.alloc(), &["sample", "--only", part])?;
-        assert!(rt; sample == Request::Sample { caps, parts });
-        let show = request(rt.alloc(), &["show", "--only", part, "a file"])?;
-        let file = String::from_str(rt.alloc(), "a file")?;
-        assert!(rt; show == Request::Show { caps, parts, file });
-    }
-    Ok(())
-}
-
-#[test]
-fn other_words_are_refused(rt: HostRuntime) -> Result<(), Fail> {
-    for words in [
-        [].as_slice(),
-        &["show"],
-        &["show", "--only", "header"],
-        &["show", "--only", "nothing", "f"],
-        &["sample"],
-        &["sample", "--only", "header", "f"],
-        &["find", "--only", "header"],
-    ] {
-        assert!(rt; request(rt.alloc(), words).err() == Some(RequestFault::Words));
-    }
-    Ok(())
-}
-
-#[test]
 fn endings(rt: HostRuntime) {
     let fault = SourceFault::Ended;
     let read = Err(RunFault::Source { fault, at: 0 });
@@ -226,7 +192,6 @@ fn endings(rt: HostRuntime) {
     assert!(rt; outcome(&Ok(1)) == (1, ""));
     assert!(rt; outcome(&read) == (3, "elfsee: read fault"));
     assert!(rt; outcome(&write) == (3, "elfsee: write fault"));
-    assert!(rt; refused(&RequestFault::Words) == (2, "elfsee: bad words"));
     assert!(rt; refused(&RequestFault::Memory) == (3, "elfsee: out of memory"));
 }
 

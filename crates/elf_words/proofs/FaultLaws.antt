@@ -1,0 +1,59 @@
+-- Why the command line refuses words, and that its definition tells the kinds.
+use Rattle.std.proofs.Common.{◌≡◌, List, true, ap, sym, ◌∙◌, refl, subst, inl, inr}
+use Rattle.clap.specs.Faults.{fault_of, is_simple_and_free}
+use Rattle.clap.specs.Kinds.{HasKind, IsAmong, Kinds}
+use Rattle.clap.specs.Simple.{App, HasMatchesOf, is_simple, subcommand_of, subcommand_rows_of}
+use Rattle.clap.specs.Values.{kind_of}
+use Rattle.clap.specs.Walk.{Row, Text}
+use Rattle.clap.specs.declared.error.Error.{Error}
+use Rattle.clap.specs.declared.parser.matches.ArgMatches.{ArgMatches}
+use Rattle.clap.proofs.OnLiterals.{clap_on_literals}
+use Rattle.std.specs.Prelude.{Option}
+use Rattle.elf_words.specs.Asked.{AsksNothing, IsRefusal, NamesBadly}
+use Rattle.elf_words.specs.CommandLine.{Words, program}
+use Rattle.elf_words.specs.Faults.{IsFaultOf, IsUnasked}
+use Rattle.elf_words.specs.declared.requests.RequestFault.{RequestFault}
+use Rattle.elf_words.specs.declared.requests.RequestFault.TheVariants.{Memory, BadName, Words as Told}
+
+-- the command line is one whose matches and faults are known: no argument has a rule on another
+is_known : (parts : Words) → is_simple_and_free (program parts) ≡ true
+unfolding clap_on_literals
+is_known parts = refl
+
+has_known_matches : (parts : Words) → is_simple (program parts) ≡ true
+unfolding clap_on_literals
+has_known_matches parts = refl
+
+fault_told : (kinds : Kinds) (matches : Option (Text × List Row)) (error : Error) (fault : RequestFault) → IsFaultOf error fault → HasKind kinds error → IsRefusal kinds matches fault
+fault_told kinds matches error Memory is has = tt
+fault_told kinds matches error BadName is has = absurd is
+fault_told kinds matches error (Told told) is (inl memory) = absurd (is.1 memory)
+fault_told kinds matches error (Told told) is (inr among) = inl (subst (λ e. IsAmong (kind_of e) kinds) (sym is.0) among)
+
+-- an error of a command line that is that one
+pub fault_met : (app : App) (parts : Words) (words : List Text) (error : Error) (fault : RequestFault) → app ≡ program parts
+    → (is_simple_and_free app ≡ true → HasKind (fault_of app words) error) → IsFaultOf error fault
+    → IsRefusal (fault_of (program parts) words) (subcommand_of (program parts) words) fault
+fault_met app parts words error fault is kinds told =
+    subst (λ a. IsRefusal (fault_of a words) (subcommand_of a words) fault) is
+    (fault_told (fault_of app words) (subcommand_of app words) error fault told (kinds (ap is_simple_and_free is ∙ is_known parts)))
+
+unasked_told : (kinds : Kinds) (matches : Option (Text × List Row)) (fault : RequestFault) → IsUnasked fault → AsksNothing matches → IsRefusal kinds matches fault
+unasked_told kinds matches Memory is nothing = tt
+unasked_told kinds matches BadName is nothing = absurd is
+unasked_told kinds matches (Told told) is nothing = inr (is, nothing)
+
+-- matches of such a command line that name badly
+pub badly_met : (app : App) (parts : Words) (words : List Text) (m : ArgMatches) → app ≡ program parts
+    → HasMatchesOf app words m → NamesBadly (subcommand_rows_of m) → NamesBadly (subcommand_of (program parts) words)
+badly_met app parts words m is matches badly =
+    subst (λ a. NamesBadly (subcommand_of a words)) is (subst NamesBadly (matches (ap is_simple is ∙ has_known_matches parts)).1 badly)
+
+-- matches of such a command line that ask for nothing
+pub nothing_met : (app : App) (parts : Words) (words : List Text) (m : ArgMatches) (fault : RequestFault) → app ≡ program parts
+    → HasMatchesOf app words m → AsksNothing (subcommand_rows_of m) → IsUnasked fault
+    → IsRefusal (fault_of (program parts) words) (subcommand_of (program parts) words) fault
+nothing_met app parts words m fault is matches nothing unasked =
+    let same = (matches (ap is_simple is ∙ has_known_matches parts)).1 in
+    subst (λ a. IsRefusal (fault_of a words) (subcommand_of a words) fault) is
+    (unasked_told (fault_of app words) (subcommand_of app words) fault unasked (subst AsksNothing same nothing))

@@ -1,0 +1,4 @@
+pub mod FaultLaws
+pub mod ItemLaws
+pub mod NulLaws
+pub mod ReadLaws

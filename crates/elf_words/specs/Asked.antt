@@ -1,0 +1,114 @@
+-- What the words of a command line ask for.
+use Rattle.std.specs.Prelude.{Bool, bytes_eq, ℕ, ⊤, ◌≡◌, ◌<◌, ◌≤◌, ◌^◌, ◌⊎◌, length, List, [], ◌∷◌, codes, map, Option, None, Some}
+use Rattle.std.specs.Borrow.{Bor}
+use Rattle.std.specs.List.{list_any}
+use Rattle.std.specs.Str.Parse.{IsNumeral, digits_value, without_leading_plus}
+use Rattle.clap.specs.Walk.{Row, Text, first_of, one_of, texts}
+use Rattle.clap.specs.Simple.{subcommand_of}
+use Rattle.clap.specs.Faults.{fault_of}
+use Rattle.clap.specs.Kinds.{IsAmong, Kinds}
+use Rattle.clap.specs.Values.{kind_of}
+use Rattle.clap.specs.declared.error.kind.ErrorKind.TheVariants as kind
+use Rattle.elf_model.specs.NameLaws.{IsWanted}
+use Rattle.elf_model.specs.Text.{name_of as name_in_table}
+use Rattle.elf_model.specs.Listing.{HEADER, SECTIONS, SEGMENTS, SYMBOLS, RELOCS, NOTES, DYNAMIC}
+use Rattle.elf_record.specs.declared.parts.Parts.{Parts}
+use Rattle.elf_headers.specs.declared.caps.Caps.{Caps}
+use Rattle.elf_words.specs.CommandLine.{Words, program}
+use Rattle.elf_words.specs.declared.requests.Request.{Request}
+use Rattle.elf_words.specs.declared.requests.RequestFault.{RequestFault}
+use Rattle.elf_words.specs.declared.requests.RequestFault.TheVariants.{Memory, BadName, Words as Told}
+use Rattle.elf_words.specs.declared.requests.Task.{Task}
+use Rattle.elf_words.specs.declared.requests.Wanted.{Wanted}
+use Rattle.elf_words.specs.declared.requests.Task.TheVariants.{Show, Find}
+
+-- the parts that can be asked for, by their names
+abbrev pub part_names : List (ℕ × List ℕ)
+part_names =
+    (HEADER, codes "header") ∷ (SECTIONS, codes "sections") ∷ (SEGMENTS, codes "segments") ∷ (SYMBOLS, codes "symbols")
+    ∷ (RELOCS, codes "relocs") ∷ (NOTES, codes "notes") ∷ (DYNAMIC, codes "dynamic") ∷ []
+
+-- whether a text is the name of a part
+abbrev pub is_part : Text → Bool
+is_part name = list_any (λ part. bytes_eq name part.1) part_names
+
+-- the number that decimal digits spell, before which a plus may stand
+abbrev pub number : Text → ℕ
+number text = digits_value 10 (without_leading_plus text)
+
+-- a text spells a number below 2^64
+abbrev pub SpellsNumber : Text → Type 0
+SpellsNumber text = IsNumeral 10 (without_leading_plus text) × (number text < 2 ^ 64)
+
+-- the number that the value of an option spells, where there is one
+abbrev pub HasNumber : Option Text → Option ℕ → Type 0
+HasNumber None value = value ≡ None
+HasNumber (Some text) value = SpellsNumber text × (value ≡ Some (number text))
+
+-- the caps, by the values of the options
+pub record AreCaps (rows : List Row) (caps : Caps) : Type 0 where
+  pub headers : HasNumber (one_of (codes "headers") rows) (Some caps.headers)
+  pub names : HasNumber (one_of (codes "names") rows) (Some caps.name.bytes)
+  pub budget : HasNumber (one_of (codes "max-read") rows) caps.budget
+
+-- the part with this name, or without a name all seven
+abbrev pub AreParts : Option Text → Parts → Type 0
+AreParts None parts = parts.0 ≡ 127
+AreParts (Some name) parts = name_in_table part_names parts.0 ≡ Some name
+
+-- the file whose path stands among the values, or for `sample` none
+abbrev pub IsOfFile : Text → List Row → Option (Bor Text) → Type 0
+IsOfFile command rows (Some path) = (command ≡ codes "show") × (first_of (codes "FILE") rows ≡ Some path.now)
+IsOfFile command rows None = command ≡ codes "sample"
+
+-- a lookup in the file whose path stands among the values, of the name that stands there too
+abbrev pub IsLookup : Text → List Row → Caps → Option (Bor Text) → Wanted → Type 0
+IsLookup command rows caps None wanted = ⊥
+IsLookup command rows caps (Some path) wanted =
+    (command ≡ codes "find") × HasNumber (one_of (codes "headers") rows) (Some caps.headers)
+    × (first_of (codes "FILE") rows ≡ Some path.now) × (first_of (codes "NAME") rows ≡ Some wanted.bytes.now)
+
+-- a task with its caps and its file, by the values of the options
+abbrev pub IsTask : Text → List Row → Caps → Option (Bor Text) → Task → Type 0
+IsTask command rows caps file (Show parts) =
+    AreCaps rows caps × AreParts (first_of (codes "only") rows) parts × IsOfFile command rows file
+IsTask command rows caps file (Find wanted) = IsLookup command rows caps file wanted
+
+-- a command with the values of its arguments asks for just this
+abbrev pub AsksBy : Option (Text × List Row) → Request → Type 0
+AsksBy None request = ⊥
+AsksBy (Some (command, rows)) request = IsTask command rows request.caps request.file request.task
+
+-- a command asks for a name that can't be looked for
+abbrev pub NamesBadly : Option (Text × List Row) → Type 0
+NamesBadly None = ⊥
+NamesBadly (Some (command, rows)) =
+    (command ≡ codes "find")
+    × ((name : Text) × (first_of (codes "NAME") rows ≡ Some name) × (IsWanted name → length name ≤ 4096 → ⊥))
+
+-- the names of the parts, as the reader of the words has them
+abbrev pub ArePartNames : Words → Type 0
+ArePartNames parts = texts parts.now ≡ map (λ part. part.1) part_names
+
+-- THE REQUEST: what the command line makes of the words is what is asked for
+pub record Asks (words : List Text) (request : Request) : Type 0 where
+  pub parts : Words
+  pub named : ArePartNames parts
+  pub asks : AsksBy (subcommand_of (program parts) words) request
+
+-- nothing is asked for
+abbrev pub AsksNothing : Option (Text × List Row) → Type 0
+AsksNothing matches = (request : Request) → AsksBy matches request → ⊥
+
+-- there was no memory, the name can't be looked for, or the error is of one of these kinds; `Format` is that of values which
+-- the command line let through though they ask for nothing
+abbrev pub IsRefusal : Kinds → Option (Text × List Row) → RequestFault → Type 0
+IsRefusal kinds matches Memory = ⊤
+IsRefusal kinds matches BadName = NamesBadly matches
+IsRefusal kinds matches (Told error) = IsAmong (kind_of error) kinds ⊎ ((kind_of error ≡ kind.Format) × AsksNothing matches)
+
+-- WHY WORDS ARE REFUSED: the command line has a fault for them, they ask for a name that can't be looked for, or for nothing
+pub record Refuses (words : List Text) (fault : RequestFault) : Type 0 where
+  pub parts : Words
+  pub named : ArePartNames parts
+  pub refusal : IsRefusal (fault_of (program parts) words) (subcommand_of (program parts) words) fault

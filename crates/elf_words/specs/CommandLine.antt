@@ -1,0 +1,56 @@
+-- The command line: its commands and their options, as the reader of the words sees them.
+use Rattle.std.specs.Prelude.{List, [], ◌∷◌, codes, pos, true, Some}
+use Rattle.std.specs.Borrow.{Bor}
+use Rattle.clap.specs.Walk.{Rule, Text}
+use Rattle.clap.specs.Simple.{App, new_app, new_rule, with_rule, with_subcommand}
+use Rattle.clap.specs.declared.builder.value_parser.ValueParser.{ValueParser}
+use Rattle.clap.specs.declared.builder.value_parser.ValueParser.TheVariants.{Signed, Unsigned, Names}
+
+-- a `&[&str]`
+abbrev pub Words : Type 0
+Words = Bor (List (Bor Text))
+
+-- an option with one value, which help has a name for
+abbrev pub option : Text → ValueParser → Rule
+option name parser = record (new_rule name) { long = Some name; value_names = 1; parser = Some parser }
+
+abbrev pub headers_option : Rule
+headers_option = record (option (codes "headers") (Signed (pos 1) (pos 65279))) { defaults = codes "4096" ∷ [] }
+
+abbrev pub names_option : Rule
+names_option = record (option (codes "names") (Signed (pos 1) (pos 4096))) { defaults = codes "256" ∷ [] }
+
+abbrev pub max_read_option : Rule
+max_read_option = option (codes "max-read") (Unsigned 0 9223372036854775807)
+
+abbrev pub only_option : Words → Rule
+only_option parts = option (codes "only") (Names parts)
+
+abbrev pub file_argument : Rule
+file_argument = record (new_rule (codes "FILE")) { required = true }
+
+-- a command with the options of a listing
+abbrev pub with_listing_options : Words → App → App
+with_listing_options parts command =
+    with_rule (with_rule (with_rule (with_rule command headers_option) names_option) max_read_option) (only_option parts)
+
+abbrev pub show_command : Words → App
+show_command parts = with_rule (with_listing_options parts (new_app (codes "show"))) file_argument
+
+abbrev pub sample_command : Words → App
+sample_command parts = with_listing_options parts (new_app (codes "sample"))
+
+abbrev pub name_argument : Rule
+name_argument = record (new_rule (codes "NAME")) { required = true }
+
+abbrev pub find_command : App
+find_command = with_rule (with_rule (with_rule (new_app (codes "find")) headers_option) file_argument) name_argument
+
+-- the program, whose words begin behind its name, and which wants a command
+abbrev pub without_command : App
+without_command = let app = new_app (codes "elfsee") in
+    record app { top = record app.top { no_binary_name = true; subcommand_required = true; arg_required_else_help = true } }
+
+abbrev pub program : Words → App
+program parts =
+    with_subcommand (with_subcommand (with_subcommand without_command (show_command parts).top) (sample_command parts).top) find_command.top

@@ -1,0 +1,46 @@
+-- The items of a layout, as words spell them.
+use Rattle.std.specs.Prelude.{ℕ, ◌≡◌, ◌≢◌, ◌≤◌, List, ◌∷◌, ◌++◌, length, All, codes}
+use Rattle.std.specs.Str.Parse.{IsNumeral, digits_value}
+use Rattle.elf_apply.specs.Layouts.{IsName}
+use Rattle.elf_apply.specs.declared.layout.Item.{Item}
+use Rattle.elf_apply.specs.declared.layout.Item.TheVariants.{Section, Define, Entry}
+
+-- `=`
+abbrev pub EQUALS : ℕ
+EQUALS = 61
+
+-- a word is two texts with an `=` between them, the last one in it
+abbrev pub IsParted : List ℕ → List ℕ → List ℕ → Type 0
+IsParted word key text = (word ≡ key ++ EQUALS ∷ text) × All (λ byte. byte ≢ EQUALS) text
+
+-- digits of a radix, at least one and at most so many, and the number that they spell
+abbrev pub IsNumber : ℕ → ℕ → List ℕ → ℕ → Type 0
+IsNumber radix most digits value = IsNumeral radix digits × (length digits ≤ most) × (value ≡ digits_value radix digits)
+
+-- an address: `0x` and 1 to 16 hexadecimal digits, of either case
+abbrev pub IsAddress : List ℕ → ℕ → Type 0
+IsAddress text address = (digits : List ℕ) × (text ≡ codes "0x" ++ digits) × IsNumber 16 16 digits address
+
+-- the index of a section: 1 to 5 decimal digits, from 1 to 65279
+abbrev pub IsIndex : List ℕ → ℕ → Type 0
+IsIndex digits index = IsNumber 10 5 digits index × (1 ≤ index) × (index ≤ 65279)
+
+-- what an item is of: a section, by its index; the definition of a symbol, or the symbol's entry in the procedure linkage
+-- table, by its name
+abbrev pub IsOf : List ℕ → Item → Type 0
+IsOf key (Section index address) = (digits : List ℕ) × (key ≡ codes "at:" ++ digits) × IsIndex digits index
+IsOf key (Define name address) = (key ≡ codes "def:" ++ name.now) × IsName name.now
+IsOf key (Entry name address) = (key ≡ codes "plt:" ++ name.now) × IsName name.now
+
+abbrev pub address_in : Item → ℕ
+address_in (Section index address) = address
+address_in (Define name address) = address
+address_in (Entry name address) = address
+
+-- THE ITEM that a word spells: what it is of, and its address
+pub record Spells (word : List ℕ) (item : Item) : Type 0 where
+  pub key : List ℕ
+  pub text : List ℕ
+  pub parted : IsParted word key text
+  pub is_of : IsOf key item
+  pub address : IsAddress text (address_in item)

@@ -1,0 +1,4 @@
+pub mod Asked
+pub mod CommandLine
+pub mod Faults
+pub mod Items

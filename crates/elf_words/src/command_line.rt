@@ -1,0 +1,193 @@
+//! The commands and options of the command line, with their help.
+
+ghost use Rattle.std.specs.Prelude.{◌≡◌, IfOk, false};
+ghost use Rattle.clap.specs.Words.{app_of, rule_of};
+ghost use Rattle.clap.specs.declared.builder.command.Command.TheViews.{out-Command as fields_of};
+ghost use Rattle.elf_words.specs.CommandLine.{file_argument, find_command, headers_option};
+ghost use Rattle.elf_words.specs.CommandLine.{max_read_option, name_argument, names_option};
+ghost use Rattle.elf_words.specs.CommandLine.{only_option, program, sample_command};
+ghost use Rattle.elf_words.specs.CommandLine.{show_command, with_listing_options, without_command};
+
+use clap::{Arg, Command, value_parser};
+use std::alloc::{AllocError, Global};
+
+const ABOUT: &str = "\
+Lists what is in an ELF64 file: its headers, symbols, relocations, notes and dynamic entries.
+Whatever bytes the file has, elfsee ends, and stays within the memory and the reads it may use.";
+
+const MORE: &str = "\
+Examples:
+  elfsee show /bin/ls
+  elfsee show --only symbols --names 64 /bin/ls
+  elfsee sample --only header
+  elfsee find /lib/libexample.so printf
+
+Options of show and sample, before or behind FILE; find has --headers and -- alone:
+  --headers N   permit so many section headers, and as many program headers:
+                1 to 65279 [default: 4096]
+  --names N     show so many bytes of a name: 1 to 4096 [default: 256]
+  --max-read N  read no more than so many bytes of the file: 0 to 9223372036854775807
+                [default: any number]
+  --only PART   list one part: header, sections, segments, symbols, relocs, notes or dynamic
+                [default: all of them]
+  --            end the options, so that FILE or NAME may begin with a hyphen
+
+Exit status:
+  0  listed, or found
+  1  refused, or out of its reads: the last line is '!', an offset in the file and the cause;
+     or there is no such name: the line 'F absent' with the number of names compared
+  2  the words ask for nothing that there is, or for this help
+  3  a read or write fault, a file that cannot be opened, or want of memory";
+
+/// The command line, with the names of the parts.
+pub fn command_line<'a>(alloc: Global, parts: &'a [&'a str]) -> Result<Command<'a>, AllocError>
+    ensures { IfOk result (λ command. app_of command ≡ program parts.entry) }
+{
+    let show = show(alloc, parts)?;
+    let sample = sample(alloc, parts)?;
+    let find = find(alloc)?;
+    program(alloc)?
+        .subcommand(show)?
+        .subcommand(sample)?
+        .subcommand(find)
+}
+
+/// The program, without its commands.
+fn program<'a>(alloc: Global) -> Result<Command<'a>, AllocError>
+    ensures { IfOk result (λ command. app_of command ≡ without_command) }
+{
+    let program = Command::new(alloc, "elfsee")
+        .subcommand_value_name("show|sample|find")
+        .about(ABOUT)
+        .after_help(MORE)
+        .no_binary_name(true)
+        .subcommand_required(true)
+        .arg_required_else_help(true);
+    program.bin_name("elfsee")
+}
+
+/// The command that lists a file.
+fn show<'a>(alloc: Global, parts: &'a [&'a str]) -> Result<Command<'a>, AllocError>
+    ensures app { IfOk result (λ command. app_of command ≡ show_command parts.entry) }
+    ensures local { IfOk result (λ command. (fields_of command).has_globals ≡ false) }
+{
+    let command = Command::new(alloc, "show")
+        .about("List a file, whole or one part of it")
+        .after_help("Example: elfsee show --only symbols /bin/ls");
+    listing_options(alloc, command, parts)?.arg(file(alloc))
+}
+
+/// The command that lists the sample.
+fn sample<'a>(alloc: Global, parts: &'a [&'a str]) -> Result<Command<'a>, AllocError>
+    ensures app { IfOk result (λ command. app_of command ≡ sample_command parts.entry) }
+    ensures local { IfOk result (λ command. (fields_of command).has_globals ≡ false) }
+{
+    let command = Command::new(alloc, "sample")
+        .about("List a small file that the program carries")
+        .after_help("Example: elfsee sample --only header");
+    listing_options(alloc, command, parts)
+}
+
+/// The command that looks a name up.
+fn find<'a>(alloc: Global) -> Result<Command<'a>, AllocError>
+    ensures app { IfOk result (λ command. app_of command ≡ find_command) }
+    ensures local { IfOk result (λ command. (fields_of command).has_globals ≡ false) }
+{
+    let command = Command::new(alloc, "find")
+        .about("Look a name up by the file's own hash table, as a loader does")
+        .after_help("Example: elfsee find /lib/libexample.so printf");
+    command
+        .arg(headers(alloc))?
+        .arg(file(alloc))?
+        .arg(name(alloc))
+}
+
+/// A command with the options of a listing.
+fn listing_options<'a>(
+    alloc: Global,
+    command: Command<'a>,
+    parts: &'a [&'a str],
+) -> Result<Command<'a>, AllocError>
+    ensures app { IfOk result (λ whole.
+        app_of whole ≡ with_listing_options parts.entry (app_of command.entry)) }
+    ensures local { (fields_of command.entry).has_globals ≡ false →
+        IfOk result (λ whole. (fields_of whole).has_globals ≡ false) }
+{
+    command
+        .arg(headers(alloc))?
+        .arg(names(alloc))?
+        .arg(max_read(alloc))?
+        .arg(only(alloc, parts))
+}
+
+/// The file's path.
+fn file<'a>(alloc: Global) -> Arg<'a>
+    ensures rule { rule_of result ≡ file_argument }
+    ensures local { result.global ≡ false }
+{
+    Arg::new(alloc, "FILE")
+        .required(true)
+        .help("The file to read")
+}
+
+/// The name that is looked up.
+fn name<'a>(alloc: Global) -> Arg<'a>
+    ensures rule { rule_of result ≡ name_argument }
+    ensures local { result.global ≡ false }
+{
+    Arg::new(alloc, "NAME")
+        .required(true)
+        .help("The name to look up: 1 to 4096 bytes")
+}
+
+/// How many headers are permitted.
+fn headers<'a>(alloc: Global) -> Arg<'a>
+    ensures rule { rule_of result ≡ headers_option }
+    ensures local { result.global ≡ false }
+{
+    Arg::new(alloc, "headers")
+        .long("headers")
+        .value_name("N")
+        .value_parser(value_parser!(u16).range(1..=65279))
+        .default_value("4096")
+        .help("Permit so many section headers, and as many program headers: 1 to 65279")
+}
+
+/// How many bytes of a name are shown.
+fn names<'a>(alloc: Global) -> Arg<'a>
+    ensures rule { rule_of result ≡ names_option }
+    ensures local { result.global ≡ false }
+{
+    Arg::new(alloc, "names")
+        .long("names")
+        .value_name("N")
+        .value_parser(value_parser!(u16).range(1..=4096))
+        .default_value("256")
+        .help("Show so many bytes of a name: 1 to 4096")
+}
+
+/// How many bytes may be read.
+fn max_read<'a>(alloc: Global) -> Arg<'a>
+    ensures rule { rule_of result ≡ max_read_option }
+    ensures local { result.global ≡ false }
+{
+    Arg::new(alloc, "max-read")
+        .long("max-read")
+        .value_name("N")
+        .value_parser(value_parser!(u64).range(0..=i64::MAX))
+        .help(
+            "Read no more than so many bytes of the file: 0 to 9223372036854775807 [default: any]",
+        )
+}
+
+/// The one part that is listed.
+fn only<'a>(alloc: Global, parts: &'a [&'a str]) -> Arg<'a>
+    ensures rule { rule_of result ≡ only_option parts.entry }
+    ensures local { result.global ≡ false }
+{
+    Arg::new(alloc, "only")
+        .long("only")
+        .value_name("PART")
+        .value_parser(parts)
+        .help("List one part [default: all]")
+}

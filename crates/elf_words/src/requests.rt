@@ -1,0 +1,89 @@
+//! What can be asked for.
+ghost use Rattle.std.specs.Prelude.{◌≡◌, ◌≤◌, length};
+ghost use Rattle.elf_model.specs.NameLaws.{IsWanted};
+ghost use Rattle.clap.specs.Values.{kind_of};
+ghost use Rattle.clap.specs.declared.error.kind.ErrorKind.TheVariants.{OutOfMemory};
+ghost use Rattle.elf_words.specs.Faults.{IsFaultOf};
+ghost use Rattle.elf_words.specs.declared.requests.RequestFault.TheVariants.{Memory};
+
+use clap::error::ErrorKind;
+use elf_record::Parts;
+use elf_table::Caps;
+use std::alloc::AllocError;
+use thiserror::Error;
+
+/// What is asked for: which file, how much of it may be read and shown, and what is done with it.
+#[derive(Clone, Copy, Debug, PartialEq, Eq)]
+pub struct Request<'a> {
+    /// The file's path, or none for the sample, which is a file that the program carries.
+    pub file: Option<&'a str>,
+    /// How many headers are permitted; and of a listing how many bytes of a name are shown, and how
+    /// many bytes may be read.
+    pub caps: Caps,
+    /// What is done with the file.
+    pub task: Task<'a>,
+}
+
+/// What is done with a file.
+#[derive(Clone, Copy, Debug, PartialEq, Eq)]
+pub enum Task<'a> {
+    /// These parts of it are listed.
+    Show(Parts),
+    /// A name is looked up in it.
+    Find(Wanted<'a>),
+}
+
+/// A name that can be looked for, of 1 to 4,096 bytes, none of them NUL.
+#[derive(Clone, Copy, Debug, PartialEq, Eq)]
+pub struct Wanted<'a> {
+    /// The name's bytes.
+    pub bytes: &'a [u8],
+    pub ghost is_name: { IsWanted bytes.now },
+    pub ghost most: { length bytes.now ≤ 4096 },
+}
+
+impl<'a> Request<'a> {
+    ghost use Rattle.std.specs.Prelude.{◌≤◌};
+
+    /// How many slots the header store needs, 1 to 65,279.
+    pub fn headers(&self) -> u16
+        ensures value { result ≡ self.now.caps.headers }
+        ensures some { 1 ≤ result }
+        ensures few { result ≤ 65279 }
+    {
+        self.caps.headers
+    }
+}
+
+/// Why words are no request.
+#[derive(Debug, Drop, Error)]
+pub enum RequestFault {
+    /// The words ask for nothing that there is, or for help: what is to be told about that.
+    #[error("bad words")]
+    Words(clap::Error),
+    /// The words ask for a name that can't be looked for.
+    #[error("bad name")]
+    BadName,
+    /// There was no memory for the request.
+    #[error("out of memory")]
+    Memory,
+}
+
+impl From<clap::Error> for RequestFault {
+    ghost from_gives = { IsFaultOf };
+
+    fn from(error: clap::Error) -> RequestFault {
+        if error.kind() == ErrorKind::OutOfMemory {
+            return RequestFault::Memory;
+        }
+        RequestFault::Words(error)
+    }
+}
+
+impl From<AllocError> for RequestFault {
+    ghost from_gives = { λ _ fault. fault ≡ Memory };
+
+    fn from(_error: AllocError) -> RequestFault {
+        RequestFault::Memory
+    }
+}
