@@ -1,0 +1,86 @@
+# Completion of elfsee for bash.
+
+# The options that stand behind COMMAND and are not among the words yet.
+_elfsee_options() {
+    local option given
+    case $1 in
+    show | sample) set -- --headers --names --max-read --only ;;
+    find) set -- --headers ;;
+    *) set -- ;;
+    esac
+    for option in "$@" --help; do
+        for given in "${words[@]:1:cword-1}"; do
+            [[ $given == "$option" || $given == "$option="* ]] && continue 2
+        done
+        printf '%s\n' "$option"
+    done
+}
+
+# The words of a command line up to the cursor, where an equals sign parts no word.
+_elfsee_words() {
+    words=("${COMP_WORDS[0]}") cword=0
+    local word joins=
+    for word in "${COMP_WORDS[@]:1:COMP_CWORD}"; do
+        if [[ $word == '=' && $cword -gt 0 ]]; then
+            words[cword]+=$word joins=1
+        elif [[ $joins ]]; then
+            words[cword]+=$word joins=
+        else
+            words[++cword]=$word
+        fi
+    done
+}
+
+# Leaves the last word to the completion of files that bash has itself.
+_elfsee_files() {
+    compopt -o default -o bashdefault
+}
+
+_elfsee() {
+    local words cword current before command='' word ended='' skip='' files=0
+    local parts='header sections segments symbols relocs notes dynamic'
+    COMPREPLY=()
+    _elfsee_words
+    current=${words[cword]} before=${words[cword - 1]}
+    for word in "${words[@]:1:cword-1}"; do
+        if [[ $skip ]]; then
+            skip=
+        elif [[ $ended ]]; then
+            files=$((files + 1))
+        else
+            case $word in
+            --) ended=1 before= ;;
+            --headers | --names | --max-read | --only) skip=1 ;;
+            -*) ;;
+            *) if [[ $command ]]; then files=$((files + 1)); else command=$word; fi ;;
+            esac
+        fi
+    done
+    if [[ -z $ended ]]; then
+        case $before in
+        --only)
+            mapfile -t COMPREPLY < <(compgen -W "$parts" -- "$current")
+            return
+            ;;
+        --headers | --names | --max-read) return ;;
+        esac
+        case $current in
+        --only=*)
+            mapfile -t COMPREPLY < <(compgen -W "$parts" -- "${current#*=}")
+            return
+            ;;
+        --*=*) return ;;
+        -*)
+            mapfile -t COMPREPLY < <(compgen -W "$(_elfsee_options "$command")" -- "$current")
+            return
+            ;;
+        esac
+    fi
+    case $command in
+    '') mapfile -t COMPREPLY < <(compgen -W 'show sample find help' -- "$current") ;;
+    help) [[ $files != 0 ]] || mapfile -t COMPREPLY < <(compgen -W 'show sample find' -- "$current") ;;
+    show | find) [[ $files != 0 ]] || _elfsee_files ;;
+    esac
+}
+
+complete -F _elfsee elfsee

@@ -1,0 +1,53 @@
+# Completion of elfsee for fish.
+
+set -l commands show sample find help
+set -l listing '__fish_seen_subcommand_from show sample'
+set -l parts 'header\t"the file header"
+sections\t"the section headers"
+segments\t"the program headers"
+symbols\t"the symbols"
+relocs\t"the relocation entries"
+notes\t"the notes"
+dynamic\t"the dynamic entries"'
+
+# Whether the file that `show` lists is still to be named.
+function __elfsee_wants_file
+    set -l words (commandline -opc)
+    set -e words[1]
+    set -l plain
+    set -l skip
+    set -l ended
+    for word in $words
+        if set -q skip[1]
+            set -e skip
+        else if set -q ended[1]
+            set -a plain $word
+        else if test "$word" = --
+            set ended 1
+        else if contains -- $word --headers --names --max-read --only
+            set skip 1
+        else if not string match -q -- '-*' $word
+            set -a plain $word
+        end
+    end
+    not set -q skip[1]; and test (count $plain) -eq 1; and contains -- $plain[1] show find
+end
+
+# Whether an option is not given yet, or its value comes next.
+function __elfsee_lacks
+    set -l words (commandline -opc)
+    test "$words[-1]" = $argv[1]; or not string match -q -- "$argv[1]*" $words
+end
+
+complete -c elfsee -f
+complete -c elfsee -n "not __fish_seen_subcommand_from $commands" -a show -d 'list a file, whole or one part of it'
+complete -c elfsee -n "not __fish_seen_subcommand_from $commands" -a sample -d 'list a small file that the program carries'
+complete -c elfsee -n "not __fish_seen_subcommand_from $commands" -a find -d 'look a name up through the hash table of a file'
+complete -c elfsee -n "not __fish_seen_subcommand_from $commands" -a help -d 'tell of the commands and options'
+complete -c elfsee -n '__fish_seen_subcommand_from help; and test (count (commandline -opc)) -eq 2' -a 'show sample find'
+complete -c elfsee -n __elfsee_wants_file -F
+complete -c elfsee -n "__fish_seen_subcommand_from show sample find; and __elfsee_lacks --headers" -l headers -x -d 'permit so many headers of each kind, 1 to 65279 [4096]'
+complete -c elfsee -n "$listing; and __elfsee_lacks --names" -l names -x -d 'show so many bytes of a name, 1 to 4096 [256]'
+complete -c elfsee -n "$listing; and __elfsee_lacks --max-read" -l max-read -x -d 'read no more than so many bytes of the file'
+complete -c elfsee -n "$listing; and __elfsee_lacks --only" -l only -x -a $parts -d 'list one part'
+complete -c elfsee -s h -l help -d 'tell of the commands and options'
