@@ -13,6 +13,7 @@ ghost use Rattle.elf_record.specs.declared.parts.Parts.{Parts};
 ghost use Rattle.elf_headers.specs.declared.caps.Caps.{Caps};
 
 use crate::command_line::command_line;
+use crate::items::layout_of;
 use crate::names::checked_name;
 use crate::requests::{Request, RequestFault, Task};
 use clap::error::ErrorKind;
@@ -47,10 +48,7 @@ pub fn request<'a, S: AsStr>(alloc: Global, words: &'a [S]) -> Result<Request<'a
         Ok(matches) => matches,
         Err(error) => return Err(error.into()),
     };
-    if names_badly(&matches) {
-        return Err(RequestFault::BadName);
-    }
-    match asked(&matches) {
+    match asked(&matches)? {
         Some(request) => Ok(request),
         None => Err(unasked(&mut commands)),
     }
@@ -66,50 +64,31 @@ fn unasked(commands: &mut Command<'_>) -> RequestFault
     }
 }
 
-/// Whether words that the command line let through ask for a name that can't be looked for.
-fn names_badly(matches: &ArgMatches<'_>) -> bool
-    ensures { IsTrue result → NamesBadly (subcommand_rows_of matches.now) }
-{
+/// What words that the command line let through ask for, or None where they ask for nothing.
+fn asked<'a>(matches: &ArgMatches<'a>) -> Result<Option<Request<'a>>, RequestFault> {
     match matches.subcommand() {
-        Some((command, options)) => command == "find" && lacks_name(options),
-        None => false,
+        Some((command, options)) => asked_by(command, options),
+        None => Ok(None),
     }
-}
-
-/// Whether the word for a name is none that can be looked for.
-fn lacks_name(options: &ArgMatches<'_>) -> bool
-    ensures { IsTrue result → (name : Text)
-        × (first_of (codes "NAME") (rows_of (found_of options.now)) ≡ Some name)
-        × (IsWanted name → length name ≤ 4096 → ⊥) }
-{
-    match text_of(options, "NAME") {
-        Some(word) => checked_name(word).is_none(),
-        None => false,
-    }
-}
-
-/// What words that the command line let through ask for.
-fn asked<'a>(matches: &ArgMatches<'a>) -> Option<Request<'a>>
-    ensures some { IfSome result (AsksBy (subcommand_rows_of matches.now)) }
-    ensures none { result ≡ None → AsksNothing (subcommand_rows_of matches.now) }
-{
-    let (command, options) = matches.subcommand()?;
-    asked_by(command, options)
 }
 
 /// What a command with these arguments asks for.
-fn asked_by<'a>(command: &str, options: &ArgMatches<'a>) -> Option<Request<'a>>
-    ensures some { IfSome result
-        (AsksBy (Some (command.now, rows_of (found_of options.now)))) }
-    ensures none { result ≡ None
-        → AsksNothing (Some (command.now, rows_of (found_of options.now))) }
-{
+fn asked_by<'a>(
+    command: &str,
+    options: &ArgMatches<'a>,
+) -> Result<Option<Request<'a>>, RequestFault> {
     match command {
-        "show" => listing(Some(text_of(options, "FILE")?), options),
-        "sample" => listing(None, options),
+        "show" => Ok(listing_of_file(options)),
+        "sample" => Ok(listing(None, options)),
         "find" => lookup(options),
-        _ => None,
+        "apply" => applying(options),
+        _ => Ok(None),
     }
+}
+
+/// A listing of the file whose path is among the arguments.
+fn listing_of_file<'a>(options: &ArgMatches<'a>) -> Option<Request<'a>> {
+    listing(Some(text_of(options, "FILE")?), options)
 }
 
 /// A listing of a file, or of the sample where there is none, with the options that are asked for.
@@ -133,22 +112,41 @@ fn listing<'a>(file: Option<&'a str>, options: &ArgMatches<'a>) -> Option<Reques
 }
 
 /// A lookup in a file, with as many headers as are asked for.
-fn lookup<'a>(options: &ArgMatches<'a>) -> Option<Request<'a>>
-    ensures some { IfSome result
-        (AsksBy (Some (codes "find", rows_of (found_of options.now)))) }
-    ensures none { result ≡ None
-        → AsksNothing (Some (codes "find", rows_of (found_of options.now))) }
-{
+fn lookup<'a>(options: &ArgMatches<'a>) -> Result<Option<Request<'a>>, RequestFault> {
+    let Some((file, caps)) = file_and_headers(options) else {
+        return Ok(None);
+    };
+    let Some(word) = text_of(options, "NAME") else {
+        return Ok(None);
+    };
+    match checked_name(word) {
+        Some(wanted) => {
+            let task = Task::Find(wanted);
+            Ok(Some(Request { file, caps, task }))
+        }
+        None => Err(RequestFault::BadName),
+    }
+}
+
+/// A section applied, with as many headers and in the layout that are asked for.
+fn applying<'a>(options: &ArgMatches<'a>) -> Result<Option<Request<'a>>, RequestFault> {
+    let Some((file, caps)) = file_and_headers(options) else {
+        return Ok(None);
+    };
+    let Some(section) = small_number_of(options, "SECTION") else {
+        return Ok(None);
+    };
+    let layout = layout_of(texts_of(options, "ITEM"))?;
+    let task = Task::Apply { section, layout };
+    Ok(Some(Request { file, caps, task }))
+}
+
+/// The file that is asked for, and the headers that are permitted.
+fn file_and_headers<'a>(options: &ArgMatches<'a>) -> Option<(Option<&'a str>, Caps)> {
     let path = text_of(options, "FILE")?;
-    let word = text_of(options, "NAME")?;
     let headers = small_number_of(options, "headers")?;
     let caps = Caps::new(headers, NAME_BYTES)?;
-    let wanted = checked_name(word)?;
-    Some(Request {
-        file: Some(path),
-        caps,
-        task: Task::Find(wanted),
-    })
+    Some((Some(path), caps))
 }
 
 /// The caps that the options ask for.
@@ -185,6 +183,14 @@ fn text_of<'a>(options: &ArgMatches<'a>, argument: &str) -> Option<&'a str>
         ≡ first_of argument.now (rows_of (found_of options.now)) }
 {
     options.get_str(argument)
+}
+
+/// The values of an argument.
+fn texts_of<'m, 'a>(options: &'m ArgMatches<'a>, argument: &str) -> &'m [&'a str] {
+    match options.get_strs(argument) {
+        Some(texts) => texts,
+        None => &[],
+    }
 }
 
 /// The number below 2^16 that an option has, where it has one.
