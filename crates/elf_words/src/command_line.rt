@@ -3,10 +3,11 @@
 ghost use Rattle.std.specs.Prelude.{◌≡◌, IfOk, false};
 ghost use Rattle.clap.specs.Words.{app_of, rule_of};
 ghost use Rattle.clap.specs.declared.builder.command.Command.TheViews.{out-Command as fields_of};
-ghost use Rattle.elf_words.specs.CommandLine.{file_argument, find_command, headers_option};
-ghost use Rattle.elf_words.specs.CommandLine.{max_read_option, name_argument, names_option};
-ghost use Rattle.elf_words.specs.CommandLine.{only_option, program, sample_command};
-ghost use Rattle.elf_words.specs.CommandLine.{show_command, with_listing_options, without_command};
+ghost use Rattle.elf_words.specs.CommandLine.{apply_command, file_argument, find_command};
+ghost use Rattle.elf_words.specs.CommandLine.{headers_option, item_argument, max_read_option};
+ghost use Rattle.elf_words.specs.CommandLine.{name_argument, names_option, only_option, program};
+ghost use Rattle.elf_words.specs.CommandLine.{sample_command, section_argument, show_command};
+ghost use Rattle.elf_words.specs.CommandLine.{with_listing_options, without_command};
 
 use clap::{Arg, Command, value_parser};
 use std::alloc::{AllocError, Global};
@@ -114,7 +115,10 @@ fn find<'a>(alloc: Global) -> Result<Command<'a>, AllocError>
 }
 
 /// The command that writes a section with its relocations applied.
-fn apply<'a>(alloc: Global) -> Result<Command<'a>, AllocError> {
+fn apply<'a>(alloc: Global) -> Result<Command<'a>, AllocError>
+    ensures app { IfOk result (λ command. app_of command ≡ apply_command) }
+    ensures local { IfOk result (λ command. (fields_of command).has_globals ≡ false) }
+{
     let command = Command::new(alloc, "apply")
         .about("Write a section's bytes with its relocations applied")
         .after_help(ITEMS);
@@ -177,7 +181,10 @@ fn headers<'a>(alloc: Global) -> Arg<'a>
 }
 
 /// The section that is written.
-fn section<'a>(alloc: Global) -> Arg<'a> {
+fn section<'a>(alloc: Global) -> Arg<'a>
+    ensures rule { rule_of result ≡ section_argument }
+    ensures local { result.global ≡ false }
+{
     Arg::new(alloc, "SECTION")
         .required(true)
         .value_parser(value_parser!(u16))
@@ -185,7 +192,10 @@ fn section<'a>(alloc: Global) -> Arg<'a> {
 }
 
 /// The items of the layout.
-fn item<'a>(alloc: Global) -> Arg<'a> {
+fn item<'a>(alloc: Global) -> Arg<'a>
+    ensures rule { rule_of result ≡ item_argument }
+    ensures local { result.global ≡ false }
+{
     Arg::new(alloc, "ITEM")
         .num_args(0..)
         .help("An address: at:INDEX=ADDR, def:NAME=ADDR or plt:NAME=ADDR")
