@@ -1,12 +1,12 @@
 -- What the words for applying come to.
-use Rattle.std.proofs.Common.{◌≡◌, ℕ, ◌<◌, ◌^◌, List, [], ◌∷◌, Option, None, Some, Result, Ok, Err, refl, sym, subst, inl, inr, codes}
+use Rattle.std.proofs.Common.{◌≡◌, ℕ, ◌<◌, ◌^◌, List, Option, None, Some, Ok, Err, refl, sym, subst, codes}
 use Rattle.std.specs.Prelude.{IfSome}
 use Rattle.std.specs.Borrow.{Bor}
 use Rattle.clap.specs.Walk.{Row, Text, one_of}
 use Rattle.elf_headers.specs.declared.caps.Caps.{Caps}
 use Rattle.elf_model.specs.Placing.{Layout}
-use Rattle.elf_words.specs.Asked.{AreFewCaps, AsksBy, AsksNothing, ComesTo, HasFault, HasNumber, IsApplying, IsFileNamed, IsOfFile, IsTask, item_words}
-use Rattle.elf_words.specs.Layouts.{Lays, RefusesItem, no_items}
+use Rattle.elf_words.specs.Asked.{AreFewCaps, AsksNothing, ComesTo, HasFault, HasNumber, IsApplying, IsFileNamed, IsTask, item_words}
+use Rattle.elf_words.specs.Layouts.{Lays, no_items}
 use Rattle.elf_words.specs.declared.requests.Request.{Request}
 use Rattle.elf_words.specs.declared.requests.RequestFault.{RequestFault}
 use Rattle.elf_words.specs.declared.requests.RequestFault.TheVariants.{Memory, BadName, BadItem, LayoutFull, LayoutRepeat, Words as Told}
@@ -66,4 +66,4 @@ applied rows section layout None lays small index task file caps none = record {
 }
 applied rows section layout (Some request) lays small index task file caps none =
     subst (λ t. IsTask (codes "apply") rows request.caps request.file t) (sym task)
-    record { apply = refl; limits = caps; path = file; index = index; small = small; items = lays; }
+    record { apply = refl; limits = caps; path = file; index = index; small = small; items = lays }

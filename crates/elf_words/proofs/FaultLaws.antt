@@ -1,5 +1,5 @@
 -- Why the command line refuses words, and that its definition tells the kinds.
-use Rattle.std.proofs.Common.{◌≡◌, List, [], ◌∷◌, true, ap, sym, ◌∙◌, refl, subst, inl, inr}
+use Rattle.std.proofs.Common.{◌≡◌, List, [], true, ap, sym, ◌∙◌, refl, subst, inl, inr}
 use Rattle.clap.specs.Faults.{fault_of, is_simple_and_free}
 use Rattle.clap.specs.Kinds.{HasKind, IsAmong, Kinds}
 use Rattle.clap.specs.Simple.{App, HasMatchesOf, is_simple, subcommand_of, subcommand_rows_of}
@@ -8,7 +8,7 @@ use Rattle.clap.specs.Walk.{Row, Text}
 use Rattle.clap.specs.declared.error.Error.{Error}
 use Rattle.clap.specs.declared.parser.matches.ArgMatches.{ArgMatches}
 use Rattle.clap.proofs.OnLiterals.{clap_on_literals}
-use Rattle.std.specs.Prelude.{Option, Some, None, Result, Err}
+use Rattle.std.specs.Prelude.{Option, Some, None}
 use Rattle.elf_words.specs.Asked.{AsksNothing, HasFault, IsRefusal}
 use Rattle.elf_words.specs.Layouts.{no_items}
 use Rattle.elf_words.proofs.LayoutLaws.{never_refused}
@@ -72,4 +72,3 @@ faulty kinds matches LayoutFull none has = (none, has)
 faulty kinds matches LayoutRepeat none has = (none, has)
 faulty kinds None (Told told) none has = absurd has
 faulty kinds (Some (command, rows)) (Told told) none has = absurd (never_refused (Told told) (λ word old refuses. refuses) _ no_items has.1)
-

@@ -1,23 +1,16 @@
 -- Words give one layout, or have one fault.
-use Rattle.std.proofs.Common.{◌≡◌, ◌≢◌, ℕ, ◌<◌, ◌^◌, List, [], ◌∷◌, ◌++◌, length, get_or, drop, Option, None, Some, Result, Ok, Err, refl, ap, sym, subst, ◌∙◌, arith, inl, inr, codes}
-use Rattle.std.specs.Prelude.{IfSome}
-use Rattle.std.specs.Borrow.{Bor}
+use Rattle.std.proofs.Common.{◌≡◌, ℕ, List, [], ◌∷◌, ◌++◌, get_or, drop, Ok, Err, ap, sym, subst, ◌∙◌, arith, inl, inr}
 use Rattle.std.specs.Str.Parse.{digits_value}
-use Rattle.clap.specs.Walk.{Row, Text, one_of}
-use Rattle.elf_apply.specs.Layouts.{Adds, HasKey, LacksKey, Pushes}
+use Rattle.clap.specs.Walk.{Text}
+use Rattle.elf_apply.specs.Layouts.{HasKey, LacksKey, Pushes}
 use Rattle.elf_apply.specs.declared.layout.Item.{Item}
 use Rattle.elf_apply.specs.declared.layout.Item.TheVariants.{Section, Define, Entry}
 use Rattle.elf_apply.specs.declared.layout.LayoutFault.TheVariants.{Full, Repeat}
-use Rattle.elf_headers.specs.declared.caps.Caps.{Caps}
 use Rattle.elf_model.specs.Placing.{Layout}
-use Rattle.elf_words.specs.Asked.{AreFewCaps, AsksBy, AsksNothing, ComesTo, HasFault, HasNumber, IsFileNamed, item_words}
 use Rattle.elf_words.specs.Items.{IsAddress, IsOf, Spells, address_in}
-use Rattle.elf_words.specs.Layouts.{Lays, RefusesItem, no_items}
-use Rattle.elf_words.specs.declared.requests.Request.{Request}
+use Rattle.elf_words.specs.Layouts.{Lays, RefusesItem}
 use Rattle.elf_words.specs.declared.requests.RequestFault.{RequestFault}
 use Rattle.elf_words.specs.declared.requests.RequestFault.TheVariants.{Memory, BadName, BadItem, LayoutFull, LayoutRepeat, Words as Told}
-use Rattle.elf_words.specs.declared.requests.Task.{Task}
-use Rattle.elf_words.specs.declared.requests.Task.TheVariants.{Show, Find, Apply}
 use Rattle.elf_words.proofs.ItemLaws.{spelled_so}
 
 -- two items are of one sort, and have one index or name and one address

@@ -42,10 +42,11 @@ Exit status:
   3  a read or write fault, a file that cannot be opened, or want of memory";
 
 const ITEMS: &str = "\
-Items, at most 64 sections, 32 definitions and 32 entries; ADDR is 0x and 1 to 16 hexadecimal digits:
+Items, at most 64 sections, 32 definitions and 32 entries, no index or name of a sort twice:
   at:INDEX=ADDR  the address of section INDEX, 1 to 65279
   def:NAME=ADDR  the address of a symbol that is undefined or common
   plt:NAME=ADDR  the address of a symbol's entry in the procedure linkage table
+NAME has 1 to 255 bytes, and the last '=' ends it; ADDR is 0x and 1 to 16 hexadecimal digits.
 
 Example: elfsee apply example.o 1 at:1=0x401000 def:main=0x401200";
 
@@ -196,9 +197,9 @@ fn item<'a>(alloc: Global) -> Arg<'a>
     ensures rule { rule_of result ≡ item_argument }
     ensures local { result.global ≡ false }
 {
-    Arg::new(alloc, "ITEM")
-        .num_args(0..)
-        .help("An address: at:INDEX=ADDR, def:NAME=ADDR or plt:NAME=ADDR")
+    Arg::new(alloc, "ITEM").num_args(0..).help(
+        "An address: at:INDEX=ADDR, def:NAME=ADDR or plt:NAME=ADDR",
+    )
 }
 
 /// How many bytes of a name are shown.

@@ -30,7 +30,7 @@ returns-in_err-request-clause-refused g c =
     c.in-Ok.matches c.in_ok-commands.ensures c.in-Ok.ensures.ok.2 c.in_err-request.ensures in
     let taken = taken_met _ c.as_slice.result (map g.S.AsStr.text c.args.words.now) c.in_ok-commands.ensures c.in-Ok.ensures.kinds in
     subst (λ r. IfErr r (Refuses (map g.S.AsStr.text c.args.words.now))) (sym (told.1 ∙ ap (λ fault. Err fault) told.2))
-    record { parts = c.as_slice.result; named = search rules; refusal = faulty _ _ c.in_err-request.field-0.0 taken has; }
+    record { parts = c.as_slice.result; named = search rules; refusal = faulty _ _ c.in_err-request.field-0.0 taken has }
 
 pub returns-clause-refused : goal.returns-clause-refused
 returns-clause-refused g c = record {
