@@ -5,6 +5,7 @@ ghost use Rattle.elf_listing.specs.Reports.{Leaves, FaultSays};
 ghost use Rattle.elfsee.specs.Answers.{Answers, AsksAs};
 ghost use Rattle.elfsee.specs.Requests.{AsksFor, Gives, IsUnlimited, task_cost};
 
+use crate::applying::write_applied;
 use crate::finding::look_up;
 use elf_listing::{End, RunFault, show};
 use elf_record::Parts;
@@ -38,9 +39,10 @@ pub fn run<S: Source, W: Sink>(
     // For every source.
     ensures asks { AsksFor request.now.caps request.now.task src.old src.new result }
 {
-    match request.task {
-        Task::Show(parts) => list(src, store, request.caps, parts, out),
+    match &request.task {
+        Task::Show(parts) => list(src, store, request.caps, *parts, out),
         Task::Find(wanted) => look_up(src, store, wanted.bytes, out),
+        Task::Apply { section, layout } => write_applied(src, store, *section, layout, out),
     }
 }
 

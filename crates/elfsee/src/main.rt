@@ -2,6 +2,7 @@
 #![tactic(auto)]
 
 mod answering;
+mod applying;
 #[cfg(test)]
 mod budget_tests;
 #[cfg(test)]
