@@ -13,7 +13,7 @@ use Rattle.elf_words.specs.Asked.{AsksNothing, IsRefusal, NamesBadly}
 use Rattle.elf_words.specs.CommandLine.{Words, program}
 use Rattle.elf_words.specs.Faults.{IsFaultOf, IsUnasked}
 use Rattle.elf_words.specs.declared.requests.RequestFault.{RequestFault}
-use Rattle.elf_words.specs.declared.requests.RequestFault.TheVariants.{Memory, BadName, Words as Told}
+use Rattle.elf_words.specs.declared.requests.RequestFault.TheVariants.{Memory, BadName, BadItem, LayoutFull, LayoutRepeat, Words as Told}
 
 -- the command line is one whose matches and faults are known: no argument has a rule on another
 is_known : (parts : Words) → is_simple_and_free (program parts) ≡ true
@@ -27,6 +27,9 @@ has_known_matches parts = refl
 fault_told : (kinds : Kinds) (matches : Option (Text × List Row)) (error : Error) (fault : RequestFault) → IsFaultOf error fault → HasKind kinds error → IsRefusal kinds matches fault
 fault_told kinds matches error Memory is has = tt
 fault_told kinds matches error BadName is has = absurd is
+fault_told kinds matches error BadItem is has = absurd is
+fault_told kinds matches error LayoutFull is has = absurd is
+fault_told kinds matches error LayoutRepeat is has = absurd is
 fault_told kinds matches error (Told told) is (inl memory) = absurd (is.1 memory)
 fault_told kinds matches error (Told told) is (inr among) = inl (subst (λ e. IsAmong (kind_of e) kinds) (sym is.0) among)
 
@@ -41,6 +44,9 @@ fault_met app parts words error fault is kinds told =
 unasked_told : (kinds : Kinds) (matches : Option (Text × List Row)) (fault : RequestFault) → IsUnasked fault → AsksNothing matches → IsRefusal kinds matches fault
 unasked_told kinds matches Memory is nothing = tt
 unasked_told kinds matches BadName is nothing = absurd is
+unasked_told kinds matches BadItem is nothing = absurd is
+unasked_told kinds matches LayoutFull is nothing = absurd is
+unasked_told kinds matches LayoutRepeat is nothing = absurd is
 unasked_told kinds matches (Told told) is nothing = inr (is, nothing)
 
 -- matches of such a command line that name badly

@@ -17,10 +17,10 @@ use Rattle.elf_headers.specs.declared.caps.Caps.{Caps}
 use Rattle.elf_words.specs.CommandLine.{Words, program}
 use Rattle.elf_words.specs.declared.requests.Request.{Request}
 use Rattle.elf_words.specs.declared.requests.RequestFault.{RequestFault}
-use Rattle.elf_words.specs.declared.requests.RequestFault.TheVariants.{Memory, BadName, Words as Told}
+use Rattle.elf_words.specs.declared.requests.RequestFault.TheVariants.{Memory, BadName, BadItem, LayoutFull, LayoutRepeat, Words as Told}
 use Rattle.elf_words.specs.declared.requests.Task.{Task}
 use Rattle.elf_words.specs.declared.requests.Wanted.{Wanted}
-use Rattle.elf_words.specs.declared.requests.Task.TheVariants.{Show, Find}
+use Rattle.elf_words.specs.declared.requests.Task.TheVariants.{Show, Find, Apply}
 
 -- the parts that can be asked for, by their names
 abbrev pub part_names : List (ℕ × List ℕ)
@@ -73,6 +73,7 @@ abbrev pub IsTask : Text → List Row → Caps → Option (Bor Text) → Task �
 IsTask command rows caps file (Show parts) =
     AreCaps rows caps × AreParts (first_of (codes "only") rows) parts × IsOfFile command rows file
 IsTask command rows caps file (Find wanted) = IsLookup command rows caps file wanted
+IsTask command rows caps file (Apply section layout) = ⊥
 
 -- a command with the values of its arguments asks for just this
 abbrev pub AsksBy : Option (Text × List Row) → Request → Type 0
@@ -105,6 +106,9 @@ AsksNothing matches = (request : Request) → AsksBy matches request → ⊥
 abbrev pub IsRefusal : Kinds → Option (Text × List Row) → RequestFault → Type 0
 IsRefusal kinds matches Memory = ⊤
 IsRefusal kinds matches BadName = NamesBadly matches
+IsRefusal kinds matches BadItem = ⊥
+IsRefusal kinds matches LayoutFull = ⊥
+IsRefusal kinds matches LayoutRepeat = ⊥
 IsRefusal kinds matches (Told error) = IsAmong (kind_of error) kinds ⊎ ((kind_of error ≡ kind.Format) × AsksNothing matches)
 
 -- WHY WORDS ARE REFUSED: the command line has a fault for them, they ask for a name that can't be looked for, or for nothing

@@ -7,13 +7,14 @@ ghost use Rattle.elf_words.specs.Faults.{IsFaultOf};
 ghost use Rattle.elf_words.specs.declared.requests.RequestFault.TheVariants.{Memory};
 
 use clap::error::ErrorKind;
+use elf_apply::Layout;
 use elf_record::Parts;
 use elf_table::Caps;
 use std::alloc::AllocError;
 use thiserror::Error;
 
 /// What is asked for: which file, how much of it may be read and shown, and what is done with it.
-#[derive(Clone, Copy, Debug, PartialEq, Eq)]
+#[derive(Drop)]
 pub struct Request<'a> {
     /// The file's path, or none for the sample, which is a file that the program carries.
     pub file: Option<&'a str>,
@@ -25,12 +26,19 @@ pub struct Request<'a> {
 }
 
 /// What is done with a file.
-#[derive(Clone, Copy, Debug, PartialEq, Eq)]
+#[derive(Drop)]
 pub enum Task<'a> {
     /// These parts of it are listed.
     Show(Parts),
     /// A name is looked up in it.
     Find(Wanted<'a>),
+    /// One of its sections is written, with its relocations applied.
+    Apply {
+        /// The section's index.
+        section: u16,
+        /// The addresses of sections, names and procedure linkage table entries.
+        layout: Layout,
+    },
 }
 
 /// A name that can be looked for, of 1 to 4,096 bytes, none of them NUL.
@@ -64,6 +72,15 @@ pub enum RequestFault {
     /// The words ask for a name that can't be looked for.
     #[error("bad name")]
     BadName,
+    /// One of the words for items of a layout is none.
+    #[error("bad item")]
+    BadItem,
+    /// The words give more items of a sort than a layout holds.
+    #[error("layout-full")]
+    LayoutFull,
+    /// Two of the words give items of the same sort with the same index or name.
+    #[error("layout-repeat")]
+    LayoutRepeat,
     /// There was no memory for the request.
     #[error("out of memory")]
     Memory,
