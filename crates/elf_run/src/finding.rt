@@ -7,8 +7,8 @@ ghost use Rattle.elf_model.specs.Hash.{Lookup as Looked};
 ghost use Rattle.elf_source.specs.Output.{Fails};
 ghost use Rattle.elf_source.specs.Source.{Reads};
 ghost use Rattle.elf_listing.specs.Reports.{FaultSays, Leaves};
-ghost use Rattle.elfsee.specs.Answers.{WroteAnswer};
-ghost use Rattle.elfsee.specs.Lookups.{WroteLines, lookup_answer};
+ghost use Rattle.elf_run.specs.Answers.{WroteAnswer};
+ghost use Rattle.elf_run.specs.Lookups.{WroteLines, lookup_answer};
 
 use elf_hash::{Lookup, find};
 use elf_listing::{RunFault, show_refusal, show_steps, show_symbol};

@@ -1,5 +1,5 @@
 use Rattle.elf_model.specs.Find.{looked}
-use Rattle.elfsee.proofs.finding.look_up.Goals as goal
+use Rattle.elf_run.proofs.finding.look_up.Goals as goal
 
 pub returns-in-Ok-show_lookup-clause-text : goal.returns-in-Ok-show_lookup-clause-text
 returns-in-Ok-show_lookup-clause-text g c = λ file known.

@@ -1,6 +1,6 @@
 use Rattle.std.proofs.lemmas.Result.{err_from_is_err_and}
-use Rattle.elfsee.proofs.AnswerLaws.{listed_answer, refused_answer, stopped_answer}
-use Rattle.elfsee.proofs.answering.list.Goals as goal
+use Rattle.elf_run.proofs.AnswerLaws.{listed_answer, refused_answer, stopped_answer}
+use Rattle.elf_run.proofs.answering.list.Goals as goal
 
 pub returns-in_err-end-clause-text : goal.returns-in_err-end-clause-text
 returns-in_err-end-clause-text g c = λ file held.

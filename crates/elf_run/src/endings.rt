@@ -1,6 +1,6 @@
 //! How the program ends.
 ghost use Rattle.std.specs.Prelude.{◌≡◌};
-ghost use Rattle.elfsee.specs.Answers.{exit_status, error_line, refused_status, refused_line};
+ghost use Rattle.elf_run.specs.Answers.{exit_status, error_line, refused_status, refused_line};
 
 use elf_listing::RunFault;
 use elf_words::RequestFault;
@@ -13,6 +13,15 @@ pub const NOT_UTF8: Ending = (2, "elfsee: words are not UTF-8");
 
 /// The word is no name that can be looked up.
 pub const BAD_NAME: Ending = (2, "elfsee: bad name");
+
+/// The word is no item of a layout.
+pub const BAD_ITEM: Ending = (2, "elfsee: bad item");
+
+/// There are more items of a sort than a layout holds.
+pub const LAYOUT_FULL: Ending = (2, "elfsee: layout-full");
+
+/// There is an item of the same sort with the same index or name.
+pub const LAYOUT_REPEAT: Ending = (2, "elfsee: layout-repeat");
 
 /// There was no memory.
 pub const OUT_OF_MEMORY: Ending = (3, "elfsee: out of memory");
@@ -47,6 +56,9 @@ pub fn refused(fault: &RequestFault) -> Ending
     match fault {
         RequestFault::Words(_) => (2, ""),
         RequestFault::BadName => BAD_NAME,
+        RequestFault::BadItem => BAD_ITEM,
+        RequestFault::LayoutFull => LAYOUT_FULL,
+        RequestFault::LayoutRepeat => LAYOUT_REPEAT,
         RequestFault::Memory => OUT_OF_MEMORY,
     }
 }

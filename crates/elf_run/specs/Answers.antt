@@ -12,7 +12,7 @@ use Rattle.elf_listing.specs.declared.end.RunFault.{RunFault}
 use Rattle.elf_listing.specs.declared.end.RunFault.TheVariants.{Source, Out}
 use Rattle.elf_headers.specs.declared.caps.Caps.{Caps}
 use Rattle.elf_words.specs.declared.requests.RequestFault.{RequestFault}
-use Rattle.elf_words.specs.declared.requests.RequestFault.TheVariants.{Words, BadName, Memory}
+use Rattle.elf_words.specs.declared.requests.RequestFault.TheVariants.{Words, BadName, BadItem, LayoutFull, LayoutRepeat, Memory}
 
 -- an answer was written and its status given, or a front of its text was written
 abbrev pub WroteAnswer : Written → Written → Result ℕ RunFault → Answer → Type 0
@@ -66,9 +66,15 @@ error_line (Err (Out fault)) = codes "elfsee: write fault"
 abbrev pub refused_status : RequestFault → ℕ
 refused_status (Words error) = 2
 refused_status BadName = 2
+refused_status BadItem = 2
+refused_status LayoutFull = 2
+refused_status LayoutRepeat = 2
 refused_status Memory = 3
 
 abbrev pub refused_line : RequestFault → List ℕ
 refused_line (Words error) = []
 refused_line BadName = codes "elfsee: bad name"
+refused_line BadItem = codes "elfsee: bad item"
+refused_line LayoutFull = codes "elfsee: layout-full"
+refused_line LayoutRepeat = codes "elfsee: layout-repeat"
 refused_line Memory = codes "elfsee: out of memory"

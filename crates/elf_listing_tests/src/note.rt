@@ -1,8 +1,8 @@
 //! Listings of notes, by sections and by program headers.
-use crate::budget_tests::listed;
-use crate::listing_tests::{LISTED, check_text};
+use crate::budget::listed;
+use crate::listing::{LISTED, check_text};
 use crate::table_fixtures::{BOTH_VIEWS, TWO_NOTES, notes_in_a_section, with_number};
-use elf_fixtures::{note_segment, one_load, with_bytes};
+use elf_fixtures::{aligned_note, build_note, note_segment, one_load, with_bytes};
 use elf_record::Parts;
 use elf_table::Caps;
 use std::process::Abort;
@@ -32,33 +32,19 @@ pub(crate) fn check_rows(
     Ok(())
 }
 
-/// A note with a name of four bytes, a descriptor of 20, and the type 3.
-#[rattlefmt::skip]
-const BUILD_NOTE: [u8; 36] = [
-    4, 0, 0, 0, 20, 0, 0, 0, 3, 0, 0, 0, 0x47, 0x4e, 0x55, 0,
-    0, 1, 2, 3, 4, 5, 6, 7, 8, 9, 10, 11, 12, 13, 14, 15, 16, 17, 18, 19,
-];
-
-/// Its line.
+/// The line of the note with a build id.
 const BUILD_LINE: &str =
     "N     1 00000003 00000004 00000014 GNU 000102030405060708090a0b0c0d0e0f10111213\n";
 
-/// A note with a name of five bytes, seven zeros behind it, and four bytes more: its descriptor
-/// where notes are aligned to 8 bytes.
-#[rattlefmt::skip]
-const ALIGNED_NOTE: [u8; 28] = [
-    5, 0, 0, 0, 4, 0, 0, 0, 1, 0, 0, 0, 0x41, 0x42, 0x43, 0x44, 0, 0, 0, 0, 0, 0, 0, 0, 1, 2, 3, 4,
-];
-
 #[test]
 fn a_note_fills_its_section(rt: HostRuntime) -> Result<(), Fail> {
-    let file = notes_in_a_section(&BUILD_NOTE, 36, 4);
+    let file = notes_in_a_section(build_note(), 36, 4);
     check_rows(&rt, &file, (2, 63), Parts::NOTES, &[BUILD_LINE], 228)
 }
 
 #[test]
 fn a_notes_name_is_cut(rt: HostRuntime) -> Result<(), Fail> {
-    let file = notes_in_a_section(&BUILD_NOTE, 36, 4);
+    let file = notes_in_a_section(build_note(), 36, 4);
     let text =
         "N     1 00000003 00000004 00000014 GN\\+ 000102030405060708090a0b0c0d0e0f10111213\n";
     check_rows(&rt, &file, (2, 2), Parts::NOTES, &[text], 228)?;
@@ -67,7 +53,7 @@ fn a_notes_name_is_cut(rt: HostRuntime) -> Result<(), Fail> {
 
 #[test]
 fn zeros_behind_a_note_are_the_end(rt: HostRuntime) -> Result<(), Fail> {
-    let file = notes_in_a_section(&BUILD_NOTE, 40, 4);
+    let file = notes_in_a_section(build_note(), 40, 4);
     check_rows(&rt, &file, (2, 63), Parts::NOTES, &[BUILD_LINE], 232)?;
     let text = [BUILD_LINE, "! 00000000000000e4 note-cut\n"];
     let file = with_bytes(&file, 0xe7, &[1]);
@@ -76,7 +62,7 @@ fn zeros_behind_a_note_are_the_end(rt: HostRuntime) -> Result<(), Fail> {
 
 #[test]
 fn a_descriptor_past_the_table_is_cut(rt: HostRuntime) -> Result<(), Fail> {
-    let file = notes_in_a_section(&BUILD_NOTE, 36, 4);
+    let file = notes_in_a_section(build_note(), 36, 4);
     let text = ["! 00000000000000c0 note-cut\n"];
     let far = with_bytes(&file, 0xc4, &[0xff, 0xff, 0xff, 0xff]);
     check_rows(&rt, &far, (2, 63), Parts::NOTES, &text, 228)?;
@@ -86,7 +72,7 @@ fn a_descriptor_past_the_table_is_cut(rt: HostRuntime) -> Result<(), Fail> {
 
 #[test]
 fn a_notes_descriptor_is_aligned_to_eight(rt: HostRuntime) -> Result<(), Fail> {
-    let file = notes_in_a_section(&ALIGNED_NOTE, 28, 8);
+    let file = notes_in_a_section(aligned_note(), 28, 8);
     let text = ["N     1 00000001 00000005 00000004 ABCD 01020304\n"];
     check_rows(&rt, &file, (2, 63), Parts::NOTES, &text, 220)
 }
@@ -98,7 +84,7 @@ fn any_other_alignment_is_four(rt: HostRuntime) -> Result<(), Fail> {
         "! 00000000000000d8 note-cut\n",
     ];
     for align in [4, 0, 16] {
-        let file = notes_in_a_section(&ALIGNED_NOTE, 28, align);
+        let file = notes_in_a_section(aligned_note(), 28, align);
         check_rows(&rt, &file, (2, 63), Parts::NOTES, &text, 220)?;
     }
     Ok(())
@@ -106,7 +92,7 @@ fn any_other_alignment_is_four(rt: HostRuntime) -> Result<(), Fail> {
 
 #[test]
 fn a_long_descriptor_is_cut(rt: HostRuntime) -> Result<(), Fail> {
-    let file = notes_in_a_section(&BUILD_NOTE, 52, 4);
+    let file = notes_in_a_section(build_note(), 52, 4);
     let whole = with_bytes(&file, 0xc4, &[32]);
     let text = [
         "N     1 00000003 00000004 00000020 GNU ",
@@ -123,14 +109,14 @@ fn a_long_descriptor_is_cut(rt: HostRuntime) -> Result<(), Fail> {
 
 #[test]
 fn empty_notes_are_not_checked(rt: HostRuntime) -> Result<(), Fail> {
-    let file = notes_in_a_section(&BUILD_NOTE, 0, 4);
+    let file = notes_in_a_section(build_note(), 0, 4);
     let far = with_number(&file, 0x98, u64::MAX);
     check_rows(&rt, &far, (2, 63), Parts::NOTES, &[], 192)
 }
 
 #[test]
 fn notes_outside_the_file_are_refused(rt: HostRuntime) -> Result<(), Fail> {
-    let file = notes_in_a_section(&BUILD_NOTE, 36, 4);
+    let file = notes_in_a_section(build_note(), 36, 4);
     let text = ["! 0000000000000080 table-outside\n"];
     let file = with_number(&file, 0xa0, 65);
     check_rows(&rt, &file, (2, 63), Parts::NOTES, &text, 192)?;

@@ -13,7 +13,7 @@ use Rattle.elf_listing.specs.Reports.{Reports, AsksWithin}
 use Rattle.elf_listing.specs.declared.end.End.TheVariants.{Listed, Refused}
 use Rattle.elf_listing.specs.declared.end.RunFault.{RunFault}
 use Rattle.elf_headers.specs.declared.caps.Caps.{Caps}
-use Rattle.elfsee.specs.Answers.{Answers, IsUsedUp, EndsAt}
+use Rattle.elf_run.specs.Answers.{Answers, IsUsedUp, EndsAt}
 
 abbrev answer_of : List ℕ → Option Refusal → Answer
 answer_of text fault = record { text = text; status = status_of fault }

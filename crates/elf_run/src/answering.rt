@@ -2,9 +2,10 @@
 ghost use Rattle.std.specs.Prelude.{◌≡◌, ◌+◌, ◌^◌, ◌≤◌, ℕ, List, Some, IfErr};
 ghost use Rattle.elf_model.specs.Cost.{cost};
 ghost use Rattle.elf_listing.specs.Reports.{Leaves, FaultSays};
-ghost use Rattle.elfsee.specs.Answers.{Answers, AsksAs};
-ghost use Rattle.elfsee.specs.Requests.{AsksFor, Gives, IsUnlimited, task_cost};
+ghost use Rattle.elf_run.specs.Answers.{Answers, AsksAs};
+ghost use Rattle.elf_run.specs.Requests.{AsksFor, Gives, IsUnlimited, task_cost};
 
+use crate::applying::write_applied;
 use crate::finding::look_up;
 use elf_listing::{End, RunFault, show};
 use elf_record::Parts;
@@ -13,9 +14,10 @@ use elf_table::{Caps, HeaderStore};
 use elf_words::{Request, Task};
 
 /// Carries out a request on a source: writes its text and answers its status, 0 where the file was
-/// listed or the name was found, and 1 where there is no such name, the file is refused, or the
-/// request's read budget is used up. The store has a slot for each header that the request permits.
-/// A lookup has the condition that no limit is set on the source. Afterwards none is set.
+/// listed, the name was found or the relocations are applied, and 1 where there is no such name, the
+/// file is refused, or the request's read budget is used up. The store has a slot for each header
+/// that the request permits. A lookup and an applied section have the condition that no limit is set
+/// on the source. Afterwards none is set.
 ///
 /// # Errors
 /// A fault of the source or of the output. What went out is a front of the text.
@@ -38,9 +40,10 @@ pub fn run<S: Source, W: Sink>(
     // For every source.
     ensures asks { AsksFor request.now.caps request.now.task src.old src.new result }
 {
-    match request.task {
-        Task::Show(parts) => list(src, store, request.caps, parts, out),
+    match &request.task {
+        Task::Show(parts) => list(src, store, request.caps, *parts, out),
         Task::Find(wanted) => look_up(src, store, wanted.bytes, out),
+        Task::Apply { section, layout } => write_applied(src, store, *section, layout, out),
     }
 }
 

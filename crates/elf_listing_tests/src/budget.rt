@@ -1,8 +1,7 @@
 //! Listings within a read budget, over a source that counts what it is asked for.
 ghost use Rattle.std.specs.Prelude.{◌<◌, ◌≤◌};
 
-use crate::answering::run;
-use crate::listing_tests::{HEADER, LISTED};
+use crate::listing::{HEADER, LISTED};
 use crate::table_fixtures::{BOTH_VIEWS, TWO_NOTES};
 use elf_fakes::Planned;
 use elf_fixtures::{
@@ -11,6 +10,7 @@ use elf_fixtures::{
 };
 use elf_listing::{End, show};
 use elf_record::Parts;
+use elf_run::run;
 use elf_source::{Counted, Out, WriteSink};
 use elf_table::{Caps, HeaderStore};
 use elf_words::{Request, Task};

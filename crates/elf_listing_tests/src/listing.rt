@@ -1,7 +1,6 @@
 //! Whole listings of small files: sections, program headers, symbols and relocation entries, and
 //! where they are refused.
 
-use crate::answering::run;
 use elf_fakes::Planned;
 use elf_fixtures::{
     hash_with_cycle, named_section, one_call, one_load, one_symbol_table, overlapping_relocations,
@@ -9,6 +8,7 @@ use elf_fixtures::{
 };
 use elf_listing::RunFault;
 use elf_record::Parts;
+use elf_run::run;
 use elf_source::{Counted, MemorySource, Out, SliceSink, SourceFault};
 use elf_table::{Caps, HeaderStore};
 use elf_words::{Request, Task};

@@ -1,6 +1,6 @@
 //! Listings of dynamic entries, by sections and by program headers.
-use crate::listing_tests::LISTED;
-use crate::note_tests::check_rows;
+use crate::listing::LISTED;
+use crate::note::check_rows;
 use crate::table_fixtures::{BOTH_VIEWS, with_number};
 use elf_fixtures::{library_without_sections, needed_library, one_load, with_bytes};
 use elf_record::Parts;
