@@ -1,37 +1,22 @@
 //! elfsee lists ELF64 files, safely and in bounded memory.
 #![tactic(auto)]
 
-mod answering;
-mod applying;
-#[cfg(test)]
-mod budget_tests;
-#[cfg(test)]
-mod dynamic_tests;
-mod endings;
-mod finding;
-#[cfg(test)]
-mod listing_tests;
-#[cfg(test)]
-mod note_tests;
 mod offset_reader;
 mod sample;
-#[cfg(test)]
-mod table_fixtures;
 #[cfg(test)]
 mod tests;
 
 ghost use Rattle.std.specs.Prelude.{◌≡◌, ◌⊎◌, codes, IfErr};
-ghost use Rattle.elfsee.specs.Answers.{refused_line, refused_status};
+ghost use Rattle.elf_run.specs.Answers.{refused_line, refused_status};
 ghost use Rattle.elf_words.specs.declared.requests.RequestFault.{RequestFault};
 
-use answering::run;
 use elf_listing::RunFault;
+use elf_run::{
+    CANNOT_OPEN, Ending, NOT_UTF8, OUT_OF_MEMORY, READ_FAULT, WRITE_FAULT, outcome, refused, run,
+};
 use elf_source::{Counted, Device, MemorySource, Out, Source, StreamSource, WriteSink};
 use elf_table::HeaderStore;
 use elf_words::{Request, RequestFault, request};
-use endings::{
-    CANNOT_OPEN, Ending, NOT_UTF8, OUT_OF_MEMORY, READ_FAULT, WRITE_FAULT, outcome, refused,
-};
 use offset_reader::OffsetReader;
 use sample::sample;
 use std::fs::File;
