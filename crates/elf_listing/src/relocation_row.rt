@@ -1,4 +1,5 @@
 //! The row of a relocation entry, shown.
+ghost use Rattle.elf_source.specs.Growth.{Grows};
 ghost use Rattle.std.specs.Prelude.{◌≡◌, ◌+◌, ℕ, List, Some, Err, length, IfSome};
 ghost use Rattle.elf_model.specs.Names.{name_bytes};
 ghost use Rattle.elf_model.specs.Rows.{symbol_named};
@@ -33,6 +34,7 @@ impl<S: Source, W: Sink> Listing<'_, '_, '_, S, W> {
     ) -> Result<(), Stop>
         requires whole { length row.now.bytes.now ≡ 24 }
         requires within { IfSome linked (SymbolsWithin self.old.src.now.seen.size) }
+        ensures grows { Grows self.old.out.now self.new.out.now }
         ensures lists { Lists self.old self.new result (24 + name_bytes self.old.cap.bytes) }
         ensures shows { OfRow self.old self.new result row.now
             (Relocations section machine linked) }

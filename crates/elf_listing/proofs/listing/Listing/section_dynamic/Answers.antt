@@ -8,6 +8,7 @@ use Rattle.elf_listing.proofs.SectionCosts.{section_dynamic_within}
 use Rattle.elf_listing.proofs.SymbolNamed.{not_zero}
 use Rattle.elf_listing.proofs.SectionShown.{no_section_dynamic, empty_section_dynamic, section_dynamic_fault, section_strings_fault, section_dynamic_pass}
 use Rattle.elf_listing.proofs.ShowLaws.{Whole-none, Spent-within}
+use Rattle.elf_source.proofs.GrowthLaws.{grows_not}
 use Rattle.elf_listing.proofs.listing.Listing.section_dynamic.Goals as goal
 
 pub returns-then-header-ne-SHT_DYNAMIC-clause-shows : goal.returns-then-header-ne-SHT_DYNAMIC-clause-shows
@@ -58,3 +59,6 @@ returns-clause-shows g c = λ file held.
     let some : (sh_size file (section_at file c.args.section) == 0) ≡ false = not_zero _ (λ e. c.if-header-eq0.false (stands.sh_size ∙ e)) in
     Writes-as _ _ _ (section_dynamic_pass file c.args.self.now.cap.bytes c.args.section _ _ kind some (sym (c.in_ok-table.ensures.held file belongs)) (sym (c.in_ok-names.ensures.held file belongs)))
     (c.rows.ensures.shows file held (λ some. tt))
+
+pub returns-in_err-names-clause-grows : goal.returns-in_err-names-clause-grows
+returns-in_err-names-clause-grows g c = grows_not _

@@ -10,6 +10,7 @@ use Rattle.elf_listing.proofs.RowLaws.{Writes-as, Stopped-first}
 use Rattle.elf_listing.proofs.SectionCosts.{symbols_within}
 use Rattle.elf_listing.proofs.SectionShown.{no_symbols, symbols_fault, symbols_pass, symbols_are, rows_checked}
 use Rattle.elf_listing.proofs.ShowLaws.{Whole-none, Spent-within}
+use Rattle.elf_source.proofs.GrowthLaws.{grows_not}
 use Rattle.elf_listing.proofs.listing.Listing.symbols.Goals as goal
 
 pub returns-then-not-holds_symbols-clause-shows : goal.returns-then-not-holds_symbols-clause-shows
@@ -46,3 +47,6 @@ returns-clause-shows g c = λ file held.
     let symbols = symbols_pass file c.args.section _ _ (sym (c.in_ok-symbols.ensures.held file belongs)) in
     Writes-as _ _ _ (rows_checked (symbol_table_checks file at) (symbol_row file cap c.args.section at) _ _ _ (symbols_are file cap c.args.section kind) symbols.pass symbols.counted)
     (c.rows.ensures.shows file held (λ some. (symbols.named some, symbols.placed some)))
+
+pub returns-then-not-holds_symbols-clause-grows : goal.returns-then-not-holds_symbols-clause-grows
+returns-then-not-holds_symbols-clause-grows g c = grows_not _
