@@ -10,6 +10,7 @@ use Rattle.elf_apply.proofs.WindowSteps.{length_in}
 use Rattle.elf_apply.proofs.InOrderSteps.{underway_start, underway_first, underway_next, underway_stopped, underway_end, underway_failed, finds_refusal}
 use Rattle.elf_apply.proofs.ReadLaws.{ReadSays-then}
 use Rattle.elf_apply.proofs.WindowSteps.{says_as}
+use Rattle.elf_source.proofs.GrowthLaws.{grows_not, grows_then}
 use Rattle.elf_apply.proofs.in_order.write_in_order.Goals as goal
 
 pub entries-init : goal.entries-init
@@ -18,6 +19,7 @@ entries-init g c = record {
   within = omega (arith, c.new-held.ensures.low, ap length c.new-held.ensures.bytes);
   reads_most = Reads-none _ _;
   asked = omega (arith, c.new-entries.ensures.left c.args.target.now);
+  grows = grows_not _;
   wrote = omega (arith, c.args.out.now.fits, c.new-held.ensures.low);
   still = c.new-entries.ensures.begins _ c.args.target.now;
   reads = λ file held. c.new-entries.ensures.reads file;
@@ -40,6 +42,7 @@ entries-preserved g c =
       within = omega (arith, ends, fits, known.within);
       reads_most = Reads-to (Reads-then (Reads-then known.reads_most c.next.ensures.reads) c.store.ensures.reads) (omega (arith, asked));
       asked = asked;
+      grows = grows_then known.grows c.store.ensures.grows;
       wrote = omega (arith, known.wrote, c.in-Ok.ensures.wrote, c.in-Ok.ensures.low, c.in-Ok.ensures.never);
       still = rw known.reads_most.keeps.same_size at now;
       reads = λ file held.
@@ -96,3 +99,12 @@ pub returns-in-Err-clause-says : goal.returns-in-Err-clause-says
 returns-in-Err-clause-says g c =
     says_as c.args.src.now c.next.new.src c.entries.out c.in-Err.fault _ c.fault_of.ensures
     (ReadSays-then c.args.src.now c.entries.src c.next.new.src _ c.in-Err.fault c.entries.invariant.reads_most c.in-Err.ensures.says)
+
+pub returns-in-Err-store-clause-grows : goal.returns-in-Err-store-clause-grows
+returns-in-Err-store-clause-grows g c = grows_then c.entries.invariant.grows c.store.ensures.grows
+
+pub returns-in-Ok-None-clause-grows : goal.returns-in-Ok-None-clause-grows
+returns-in-Ok-None-clause-grows g c = grows_then c.entries.invariant.grows c.advance.ensures.grows
+
+pub returns-in-Err-clause-grows : goal.returns-in-Err-clause-grows
+returns-in-Err-clause-grows g c = c.entries.invariant.grows

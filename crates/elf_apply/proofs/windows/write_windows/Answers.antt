@@ -5,6 +5,7 @@ use Rattle.elf_model.specs.Apply.{patched}
 use Rattle.elf_model.specs.Bytes.{slice}
 use Rattle.elf_apply.specs.Walk.{walk_all}
 use Rattle.elf_apply.proofs.WindowSteps.{window_more, window_stopped, windows_end, windows_account, length_in, takes_start, short_take}
+use Rattle.elf_source.proofs.GrowthLaws.{grows_not, grows_then}
 use Rattle.elf_apply.proofs.windows.write_windows.Goals as goal
 
 pub windows-init : goal.windows-init
@@ -15,6 +16,7 @@ windows-init g c = record {
   asked =
       let whole : c.args.target.now.size - 0 ≡ c.args.target.now.size = omega arith in
       rw whole (omega arith);
+  grows = grows_not _;
   wrote = omega (arith, c.args.out.now.fits);
   text = λ file held patches are inside. takes_start _ (patched patches (slice file c.args.at c.args.target.now.size));
 }
@@ -37,6 +39,7 @@ windows-preserved g c =
       within = omega (arith, c.windows-test.true, count);
       reads = Reads-to (Reads-then known.reads c.write_window.ensures.reads) (omega (arith, asked));
       asked = asked;
+      grows = grows_then known.grows c.write_window.ensures.grows;
       wrote = omega (arith, known.wrote, c.in-Ok.ensures.wrote, few);
       text = λ file held patches are inside.
           window_more _ _ _ (patched patches (slice file c.args.at c.args.target.now.size)) c.windows.done _ _ (ap (λ n. c.windows.done + n) (sym few)) (known.text file held patches are inside)
@@ -51,3 +54,9 @@ returns-clause-text g c = λ file held patches are inside.
     let known = c.windows.invariant in
     windows_end _ _ patches (slice file c.args.at c.args.target.now.size) c.windows.done c.args.target.now.size (length_in file c.args.at c.args.target.now.size (let belongs = c.requires.opened.belongs file held in omega (arith, belongs.size, c.requires.opened.size, c.requires.within))) inside
     (omega (arith, c.windows-test.false)) (known.text file held patches are inside)
+
+pub returns-in-Err-clause-grows : goal.returns-in-Err-clause-grows
+returns-in-Err-clause-grows g c = grows_then c.windows.invariant.grows c.write_window.ensures.grows
+
+pub returns-clause-grows : goal.returns-clause-grows
+returns-clause-grows g c = c.windows.invariant.grows
