@@ -1,4 +1,5 @@
 //! A request carried out.
+ghost use Rattle.elf_source.specs.Growth.{Grows};
 ghost use Rattle.std.specs.Prelude.{◌≡◌, ◌+◌, ◌^◌, ◌≤◌, ℕ, List, Some, IfErr};
 ghost use Rattle.elf_model.specs.Cost.{cost};
 ghost use Rattle.elf_listing.specs.Reports.{Leaves, FaultSays};
@@ -27,9 +28,10 @@ pub fn run<S: Source, W: Sink>(
     store: &mut HeaderStore,
     out: &mut Out<W>,
 ) -> Result<u8, RunFault>
-    requires store { (store.old.slots ≡ request.now.caps.headers) × (src.old.asked ≤ 2 ^ 127) }
-    requires unlimited { IsUnlimited request.now.task src.old }
+    requires { (store.old.slots ≡ request.now.caps.headers) × (src.old.asked ≤ 2 ^ 127)
+        × IsUnlimited request.now.task src.old }
     ensures slots { store.new.slots ≡ store.old.slots }
+    ensures grows { Grows out.old out.new }
     ensures leaves { Leaves src.old src.new }
     ensures says { IfErr result (FaultSays src.old src.new out.new) }
     ensures text { (file : List ℕ) → src.old.seen.file ≡ Some file →
@@ -57,6 +59,7 @@ fn list<S: Source, W: Sink>(
 ) -> Result<u8, RunFault>
     requires { (store.old.slots ≡ caps.headers) × (src.old.asked ≤ 2 ^ 127) }
     ensures slots { store.new.slots ≡ store.old.slots }
+    ensures grows { Grows out.old out.new }
     ensures leaves { Leaves src.old src.new }
     ensures says { IfErr result (FaultSays src.old src.new out.new) }
     ensures text { (file : List ℕ) → src.old.seen.file ≡ Some file →

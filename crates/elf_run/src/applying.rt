@@ -3,6 +3,7 @@ ghost use Rattle.std.specs.Prelude.{◌≡◌, ◌+◌, ◌≤◌, ℕ, List, No
 ghost use Rattle.elf_apply.specs.Applied.{apply_ceiling};
 ghost use Rattle.elf_model.specs.ApplyCost.{apply_cost_by_order};
 ghost use Rattle.elf_model.specs.FindApplyAnswer.{apply_answer};
+ghost use Rattle.elf_source.specs.Growth.{Grows};
 ghost use Rattle.elf_source.specs.Source.{Reads};
 ghost use Rattle.elf_listing.specs.Reports.{FaultSays, Leaves};
 ghost use Rattle.elf_run.specs.Answers.{WroteAnswer};
@@ -26,6 +27,7 @@ pub(crate) fn write_applied<S: Source, W: Sink>(
 ) -> Result<u8, RunFault>
     requires unlimited { src.old.most ≡ None }
     ensures slots { store.new.slots ≡ store.old.slots }
+    ensures grows { Grows out.old out.new }
     ensures leaves { Leaves src.old src.new }
     ensures says { IfErr result (FaultSays src.old src.new out.new) }
     ensures text { (file : List ℕ) → src.old.seen.file ≡ Some file →

@@ -4,6 +4,7 @@ ghost use Rattle.elf_hash.specs.Lookups.{Answers as Looks, find_bytes};
 ghost use Rattle.elf_model.specs.Find.{find_cost};
 ghost use Rattle.elf_model.specs.FindApplyAnswer.{find_answer};
 ghost use Rattle.elf_model.specs.Hash.{Lookup as Looked};
+ghost use Rattle.elf_source.specs.Growth.{Grows};
 ghost use Rattle.elf_source.specs.Output.{Fails};
 ghost use Rattle.elf_source.specs.Source.{Reads};
 ghost use Rattle.elf_listing.specs.Reports.{FaultSays, Leaves};
@@ -31,6 +32,7 @@ pub(crate) fn look_up<S: Source, W: Sink>(
     requires most { length wanted.now ≤ 4096 }
     requires unlimited { src.old.most ≡ None }
     ensures slots { store.new.slots ≡ store.old.slots }
+    ensures grows { Grows out.old out.new }
     ensures leaves { Leaves src.old src.new }
     ensures says { IfErr result (FaultSays src.old src.new out.new) }
     ensures text { (file : List ℕ) → src.old.seen.file ≡ Some file →
@@ -60,6 +62,7 @@ pub(crate) fn look_up<S: Source, W: Sink>(
 /// A fault of the output, with a front of the lines written.
 #[tactic(auto, using(crate::proofs::FrontLaws::front_then))]
 fn show_lookup<W: Sink>(lookup: &Lookup, wanted: &[u8], out: &mut Out<W>) -> Result<u8, OutFault>
+    ensures grows { Grows out.old out.new }
     ensures fails { IfErr result (Fails out.new) }
     ensures text { (file : List ℕ) (looked : Looked) → Looks file looked lookup.now →
         WroteLines out.old out.new result (lookup_answer file wanted.now looked) }
