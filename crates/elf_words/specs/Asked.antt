@@ -68,8 +68,8 @@ abbrev pub IsFileNamed : List Row → Option (Bor Text) → Type 0
 IsFileNamed rows None = ⊥
 IsFileNamed rows (Some path) = first_of (codes "FILE") rows ≡ Some path.now
 
--- the caps without the options of a listing: the headers stand among the values, and reads have no limit
-pub record AreFewCaps (rows : List Row) (caps : Caps) : Type 0 where
+-- the caps of what is no listing: the headers stand among the values, the rest is fixed, and reads have no limit
+pub record AreHeaderCaps (rows : List Row) (caps : Caps) : Type 0 where
   pub headers : HasNumber (one_of (codes "headers") rows) (Some caps.headers)
   pub names : caps.name.bytes ≡ 256
   pub budget : caps.budget ≡ None
@@ -77,7 +77,7 @@ pub record AreFewCaps (rows : List Row) (caps : Caps) : Type 0 where
 -- a lookup in the file whose path stands among the values, of the name that stands there too
 pub record IsLookup (command : Text) (rows : List Row) (caps : Caps) (file : Option (Bor Text)) (wanted : Wanted) : Type 0 where
   pub find : command ≡ codes "find"
-  pub limits : AreFewCaps rows caps
+  pub limits : AreHeaderCaps rows caps
   pub path : IsFileNamed rows file
   pub word : first_of (codes "NAME") rows ≡ Some wanted.bytes.now
 
@@ -85,10 +85,11 @@ pub record IsLookup (command : Text) (rows : List Row) (caps : Caps) (file : Opt
 abbrev pub item_words : List Row → List Text
 item_words rows = unwrap_or (all_of (codes "ITEM") rows) []
 
--- the section with this index is written, of the file whose path stands among the values, in the layout that the words give
+-- the section with this index, below 2^16, is written, of the file whose path stands among the values, in the layout that the
+-- words give
 pub record IsApplying (command : Text) (rows : List Row) (caps : Caps) (file : Option (Bor Text)) (section : ℕ) (layout : Layout) : Type 0 where
   pub apply : command ≡ codes "apply"
-  pub limits : AreFewCaps rows caps
+  pub limits : AreHeaderCaps rows caps
   pub path : IsFileNamed rows file
   pub index : HasNumber (one_of (codes "SECTION") rows) (Some section)
   pub small : section < 2 ^ 16

@@ -181,7 +181,7 @@ fn check_full(rt: &(impl Abort + AllocGlobal), front: &str, many: u16) -> Result
     words.push(another.as_str())?;
     check_fault(rt, words.as_slice(), "layout-full");
     let _full = words.pop();
-    words.push(counted[0].as_str())?;
+    words.push(counted.first().ok_or("a word")?.as_str())?;
     check_fault(rt, words.as_slice(), "layout-repeat");
     let _repeat = words.pop();
     words.push("at:x=0x1")?;

@@ -1,5 +1,6 @@
 //! Items of a layout, as words spell them.
-ghost use Rattle.std.specs.Prelude.{◌≡◌, ◌≢◌, ◌≤◌, ◌^◌, ◌++◌, ℕ, List, IfErr, IfOk, IfSome, IsNone, length};
+ghost use Rattle.std.specs.Prelude.{◌≡◌, ◌≢◌, ◌≤◌, ◌^◌, ◌++◌, ℕ, List, IfErr, IfOk, IfSome};
+ghost use Rattle.std.specs.Prelude.{IsNone, length};
 ghost use Rattle.std.specs.Str.Parse.{IsNumeral};
 ghost use Rattle.elf_apply.specs.Layouts.{IsName};
 ghost use Rattle.elf_apply.specs.declared.layout.Item.{Item};
@@ -51,8 +52,8 @@ fn put(layout: &mut Layout, word: &str) -> Result<(), RequestFault>
 
 /// The item that a word spells: `at:INDEX=ADDR`, the address of a section; `def:NAME=ADDR`, that of
 /// a symbol; `plt:NAME=ADDR`, that of a symbol's procedure linkage table entry. The last `=` parts
-/// them. INDEX is 1 to 5 decimal digits, from 1 to 65279; NAME 1 to 255 bytes without NUL; ADDR `0x`
-/// and 1 to 16 hexadecimal digits of either case. None for another word.
+/// them. INDEX is 1 to 5 decimal digits, from 1 to 65279; NAME 1 to 255 bytes without NUL; ADDR
+/// `0x` and 1 to 16 hexadecimal digits of either case. None for another word.
 pub fn item(word: &str) -> Option<Item<'_>>
     ensures spelled { IfSome result (Spells word.now) }
     ensures unspelled { IsNone result → (item : Item) → Spells word.now item → ⊥ }

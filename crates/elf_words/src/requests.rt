@@ -19,7 +19,7 @@ pub struct Request<'a> {
     /// The file's path, or none for the sample, which is a file that the program carries.
     pub file: Option<&'a str>,
     /// How many headers are permitted; and of a listing how many bytes of a name are shown, and how
-    /// many bytes may be read.
+    /// many bytes may be read. Of the other tasks these are 256, and no limit.
     pub caps: Caps,
     /// What is done with the file.
     pub task: Task<'a>,
@@ -72,13 +72,14 @@ pub enum RequestFault {
     /// The words ask for a name that can't be looked for.
     #[error("bad name")]
     BadName,
-    /// One of the words for items of a layout is none.
+    /// The first word for an item of a layout that is refused spells none.
     #[error("bad item")]
     BadItem,
-    /// The words give more items of a sort than a layout holds.
+    /// The first word that is refused gives one item more of a sort than a layout holds.
     #[error("layout-full")]
     LayoutFull,
-    /// Two of the words give items of the same sort with the same index or name.
+    /// The first word that is refused gives an item of the same sort with the same index or name as
+    /// an earlier one.
     #[error("layout-repeat")]
     LayoutRepeat,
     /// There was no memory for the request.

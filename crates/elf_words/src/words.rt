@@ -5,7 +5,7 @@ ghost use Rattle.std.specs.Borrow.{Bor};
 ghost use Rattle.clap.specs.Walk.{Text, first_of, one_of, rows_of};
 ghost use Rattle.clap.specs.Words.{found_of, subcommand_rows_of};
 ghost use Rattle.elf_model.specs.Text.{name_of};
-ghost use Rattle.elf_words.specs.Asked.{AreCaps, AreFewCaps, AreParts, Asks, ComesTo};
+ghost use Rattle.elf_words.specs.Asked.{AreCaps, AreHeaderCaps, AreParts, Asks, ComesTo};
 ghost use Rattle.elf_words.specs.Asked.{HasNumber, IsFileNamed, Refuses, is_part, item_words};
 ghost use Rattle.elf_words.specs.Asked.{part_names};
 ghost use Rattle.elf_words.specs.Layouts.{Lays, no_items};
@@ -34,16 +34,16 @@ static PARTS: [&str; 7] = [
 /// All parts of a listing.
 const WHOLE: Parts = Parts(127);
 
-/// A number of name bytes for the caps of a lookup, which shows the wanted name whole.
+/// The name bytes in the caps of what is no listing, which no name is cut to.
 const NAME_BYTES: u16 = 256;
 
 /// Reads the words of a command line, without the program's name.
 ///
 /// # Errors
-/// `Words` for words that ask for nothing that there is, or for help; `BadName` where they ask for a
-/// name that is not of 1 to 4,096 bytes without NUL; `BadItem`, `LayoutRepeat` and `LayoutFull` for
-/// the first word that is no item of a layout, gives an item again, or gives one more of a sort than
-/// a layout holds; `Memory` where there is none for reading them.
+/// `Words` for words that ask for nothing that there is, or for help; `BadName` where they ask for
+/// a name that is not of 1 to 4,096 bytes without NUL; `BadItem`, `LayoutRepeat` and `LayoutFull`
+/// for the first word that is no item of a layout, gives an item again, or gives one more of a sort
+/// than a layout holds; `Memory` where there is none for reading them.
 pub fn request<'a, S: AsStr>(alloc: Global, words: &'a [S]) -> Result<Request<'a>, RequestFault>
     ensures asked { IfOk result (Asks (map S.text words.entry.now)) }
     ensures refused { IfErr result (Refuses (map S.text words.entry.now)) }
@@ -162,10 +162,10 @@ fn in_file<'a>(options: &ArgMatches<'a>, task: Task<'a>) -> Option<Request<'a>>
     ensures file { IfSome result (λ request.
         IsFileNamed (rows_of (found_of options.now)) request.file) }
     ensures caps { IfSome result (λ request.
-        AreFewCaps (rows_of (found_of options.now)) request.caps) }
+        AreHeaderCaps (rows_of (found_of options.now)) request.caps) }
     ensures none { result ≡ None → (file : Option (Bor Text)) (caps : Caps)
         → IsFileNamed (rows_of (found_of options.now)) file
-        → AreFewCaps (rows_of (found_of options.now)) caps → ⊥ }
+        → AreHeaderCaps (rows_of (found_of options.now)) caps → ⊥ }
 {
     let path = text_of(options, "FILE")?;
     let headers = small_number_of(options, "headers")?;
@@ -180,7 +180,8 @@ fn in_file<'a>(options: &ArgMatches<'a>, task: Task<'a>) -> Option<Request<'a>>
 /// The caps that the options ask for.
 fn caps_of(options: &ArgMatches<'_>) -> Option<Caps>
     ensures some { IfSome result (AreCaps (rows_of (found_of options.now))) }
-    ensures none { result ≡ None → (caps : Caps) → AreCaps (rows_of (found_of options.now)) caps → ⊥ }
+    ensures none { result ≡ None → (caps : Caps)
+        → AreCaps (rows_of (found_of options.now)) caps → ⊥ }
 {
     let headers = small_number_of(options, "headers")?;
     let names = small_number_of(options, "names")?;
