@@ -1,11 +1,13 @@
 //! Sections written with their relocations applied: the bytes, the refusals, the statuses, and what is
 //! asked for.
-use crate::requests::{check_answer, check_outputs, check_reads, request};
+use crate::requests::{carry_out, check_answer, check_outputs, check_reads, request};
 use elf_apply::{Item, Layout};
 use elf_fixtures::{
-    falling_relocations, one_call, overlapping_in_other_order, overlapping_relocations,
-    rising_relocations, third_overflows, with_bytes,
+    falling_relocations, one_call, one_symbol_table, overlapping_in_other_order,
+    overlapping_relocations, rising_relocations, third_overflows, with_bytes,
 };
+use elf_source::TurnSource;
+use elf_table::HeaderStore;
 use elf_words::{Request, Task};
 use std::process::Abort;
 use std::test::Fail;
@@ -124,4 +126,18 @@ fn each_read_and_write_of_an_applied_section_fails_in_turn(rt: HostRuntime) -> R
     let offsets = [0, 0x98, 0x48, 0x78, 0x91, 0x48, 0x78, 0x91, 0x40, 0x41];
     let asked = call(&rt, 1, Some(0x1000), Some(0x2000), None)?;
     check_reads(&rt, &asked, one_call(), &offsets, 5)
+}
+
+#[test]
+fn a_file_that_changes_between_reads_is_asked_for_no_more(rt: HostRuntime) -> Result<(), Fail> {
+    let (one, other) = (one_symbol_table(), overlapping_relocations());
+    let asked = unplaced()?;
+    let mut store = HeaderStore::new(rt.alloc(), 3)?;
+    for (first, second) in [(one, other), (other, one)] {
+        let source = TurnSource::new(first, second).ok_or("two lengths")?;
+        let finished = carry_out(&rt, &asked, source, &mut store);
+        // Six passes through three sections of thirteen entries, and the file.
+        assert!(rt; finished.asked <= 64 + 192 + 6 * 39 * 48 + 312);
+    }
+    Ok(())
 }

@@ -22,15 +22,15 @@ pub(crate) fn request(headers: u16, task: Task<'_>) -> Result<Request<'_>, Fail>
 
 /// What was written, how it ended, how many bytes were asked for, and where the last read stopped.
 #[derive(Drop)]
-struct Finished {
-    text: Vec<u8>,
-    answer: Result<u8, RunFault>,
-    asked: u128,
-    stopped: u64,
+pub(crate) struct Finished {
+    pub(crate) text: Vec<u8>,
+    pub(crate) answer: Result<u8, RunFault>,
+    pub(crate) asked: u128,
+    pub(crate) stopped: u64,
 }
 
 /// Carries a request out on what a source gives.
-fn carry_out<S: Source + Drop>(
+pub(crate) fn carry_out<S: Source + Drop>(
     rt: &(impl Abort + AllocGlobal),
     request: &Request<'_>,
     source: S,
