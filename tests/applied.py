@@ -6,8 +6,18 @@ import struct
 SYMBOL_TABLES, STRTAB, RELA, NO_BYTES = (2, 11), 3, 4, (0, 8)
 # Of each type that is applied: its bytes, what stands in its formula, and between what bounds a value fits.
 SIGNED = (-2 ** 31, 2 ** 31)
-TYPES = {0: (0, "", None), 1: (8, "S", None), 2: (4, "SP", SIGNED), 4: (4, "LP", SIGNED), 10: (4, "S", (0, 2 ** 32)),
-         11: (4, "S", SIGNED), 12: (2, "S", (-2 ** 15, 2 ** 16)), 14: (1, "S", (-2 ** 7, 2 ** 8)), 24: (8, "SP", None)}
+TYPES = {
+    0: (0, "", None),
+    1: (8, "S", None),
+    2: (4, "SP", SIGNED),
+    4: (4, "LP", SIGNED),
+    10: (4, "S", (0, 2 ** 32)),
+    11: (4, "S", SIGNED),
+    12: (2, "S", (-2 ** 15, 2 ** 16)),
+    14: (1, "S", (-2 ** 7, 2 ** 8)),
+    24: (8, "SP", None),
+}
+IDENT = ((0, b"\x7fELF", "not-elf"), (4, b"\2", "class"), (5, b"\1", "data"), (6, b"\1", "version"))
 
 
 class Refused(Exception):
@@ -40,7 +50,7 @@ def load(content, most):
     """The section headers of a file, in which so many are permitted."""
     length = len(content)
     refuse_where(length < 64, length, "short")
-    for at, wanted, cause in ((0, b"\x7fELF", "not-elf"), (4, b"\2", "class"), (5, b"\1", "data"), (6, b"\1", "version")):
+    for at, wanted, cause in IDENT:
         refuse_where(content[at:at + len(wanted)] != wanted, at, cause)
     phoff, shoff = struct.unpack_from("<QQ", content, 32)
     phentsize, phnum, shentsize, shnum, names = struct.unpack_from("<5H", content, 54)
@@ -48,7 +58,8 @@ def load(content, most):
             (phnum == 0xffff, 0x38, "extended-numbering"), (names == 0xffff, 0x3e, "extended-numbering"),
             (shnum == 0 and shoff, 0x3c, "extended-numbering"), (shnum > most, 0x3c, "too-many-headers"),
             (phnum > most, 0x38, "too-many-headers"), (shnum and shentsize != 64, 0x3a, "entry-size"),
-            (phnum and phentsize != 56, 0x36, "entry-size"), (shnum and shoff + 64 * shnum > length, 0x28, "table-outside"),
+            (phnum and phentsize != 56, 0x36, "entry-size"),
+            (shnum and shoff + 64 * shnum > length, 0x28, "table-outside"),
             (phnum and phoff + 56 * phnum > length, 0x20, "table-outside"),
             (shnum and names >= shnum, 0x3e, "bad-link")):
         refuse_where(is_so, at, cause)

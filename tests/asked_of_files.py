@@ -21,10 +21,12 @@ int (*const steps[])(int) = { first, other, first };
 long *const places[] = { table, table + 3, (long *)&common[2] };
 int choose(int x) {
     switch (x) { case 0: return first(x); case 1: return other(x); case 2: return steps[x & 1](x);
-    case 3: return (int)table[x]; case 4: return x * 3; case 5: return missing ? missing() : 5; default: return -x; } }
+    case 3: return (int)table[x]; case 4: return x * 3; case 5: return missing ? missing() : 5;
+    default: return -x; } }
 int begin(int x) { return choose(x) + choose(x + 1) + (int)*places[x & 1]; }
 """
-MODES = ("-O0", "-O2 -fno-pic", "-O2 -fPIC", "-Os -ffunction-sections -fdata-sections", "-O2 -g", "-O1 -fno-pic -mcmodel=kernel -mno-red-zone")
+MODES = ("-O0", "-O2 -fno-pic", "-O2 -fPIC", "-Os -ffunction-sections -fdata-sections", "-O2 -g",
+         "-O1 -fno-pic -mcmodel=kernel -mno-red-zone")
 
 
 def headers_of(data):
@@ -101,7 +103,8 @@ def compiled_objects(folder):
         path = os.path.join(folder, "library_%d.so" % count)
         with open(source, "w", encoding="ascii") as file:
             file.write(CODE + "".join("int symbol_%d = %d;\n" % (i, i) for i in range(count)))
-        subprocess.run(["gcc", "-shared", "-fPIC", "-Wl,--hash-style=sysv", "-nostdlib", "-o", path, source], check=True)
+        subprocess.run(["gcc", "-shared", "-fPIC", "-Wl,--hash-style=sysv", "-nostdlib", "-o", path, source],
+                       check=True)
         paths.append(path)
     return paths
 
@@ -115,19 +118,22 @@ def large_object(folder):
     return path
 
 
+def said_by_ar(words):
+    return subprocess.run(["ar", *words], stdout=subprocess.PIPE, stderr=subprocess.DEVNULL, check=False).stdout
+
+
 def members_of_libraries(folder, most):
     """At most so many members of the machine's static libraries, spread over them, taken out with ar."""
     paths = []
     if not shutil.which("ar"):
         return paths
-    libraries = [os.path.join(at, name) for at, _, names in os.walk("/usr/lib") for name in names if name.endswith(".a")]
+    libraries = [os.path.join(at, name) for at, _, names in os.walk("/usr/lib")
+                 for name in names if name.endswith(".a")]
     for library in sorted(libraries):
-        listed = subprocess.run(["ar", "t", library], stdout=subprocess.PIPE, stderr=subprocess.DEVNULL, check=False)
-        names = sorted(set(listed.stdout.decode("utf-8", "replace").split("\n")) - {""})
+        names = sorted(set(said_by_ar(["t", library]).decode("utf-8", "replace").split("\n")) - {""})
         share = max(1, most // max(1, len(libraries)))
         for name in names[::max(1, len(names) // share)][:share]:
-            data = subprocess.run(["ar", "p", library, name], stdout=subprocess.PIPE, stderr=subprocess.DEVNULL,
-                                  check=False).stdout
+            data = said_by_ar(["p", library, name])
             if data[:6] == b"\x7fELF\x02\x01":
                 paths.append(os.path.join(folder, "member_%d.o" % len(paths)))
                 with open(paths[-1], "wb") as file:
