@@ -5,7 +5,7 @@ use Rattle.elf_model.specs.Checks.{Check, first_refusal, table_checks_of}
 use Rattle.elf_model.specs.Records.{sh_offset, sh_size}
 use Rattle.elf_model.specs.declared.causes.Refusal.{Refusal}
 use Rattle.elf_model.specs.Bytes.{slice}
-use Rattle.elf_table.specs.Cursors.{Reading, Gives, Agrees, Advances, place, Shows as Lends}
+use Rattle.elf_table.specs.Cursors.{Reading, GivesRow, HoldsRows, Advances, next_row, ShowsRow}
 use Rattle.elf_table.specs.declared.row.Row.{Row}
 use Rattle.elf_table.specs.Tables.{Rows}
 use Rattle.elf_table.specs.Sections.{answered, rows, table_of, checked}
@@ -38,7 +38,7 @@ entries_counted bytes at size place table h =
     count_by_cases (sh_size bytes at == 0) (table_checks_of bytes at size place 24) (sh_offset bytes at) (sh_size bytes at) table refl (sym h)
 
 -- a step that answered that there is a row gave it
-pub gave : (file : Option (List ℕ)) (old new : Reading) (more : Bool) → more ≡ true → Advances file old new (Ok more) → Gives file old new
+pub gave : (file : Option (List ℕ)) (old new : Reading) (more : Bool) → more ≡ true → Advances file old new (Ok more) → GivesRow file old new
 gave file old new more is steps = rw is at steps
 
 -- the row that a step gave: its index, its bytes and its place
@@ -48,13 +48,13 @@ pub record GivenRow (old : Reading) (row : Row) (file : List ℕ) (size from : �
   pub here : row.at ≡ from + row.index * size
 
 pub given_row : (holds : Option (List ℕ)) (old new : Reading) (row : Row) (file : List ℕ) (table : Rows) (size from : ℕ)
-    → Gives holds old new → Lends new row → holds ≡ Some file → Agrees file old → old.table ≡ table → table.entry ≡ size → table.at ≡ from
+    → GivesRow holds old new → ShowsRow new row → holds ≡ Some file → HoldsRows file old → old.table ≡ table → table.entry ≡ size → table.at ≡ from
     → GivenRow old row file size from
 given_row holds old new row file table size from gives lends held agrees same entry at =
     let index : row.index ≡ old.index = omega (arith, lends.its_index, gives.next_index) in
     let moved : row.at ≡ table.at + row.index * table.entry =
     lends.its_offset ∙ ap (λ (t : Rows). t.at + row.index * t.entry) (gives.same_table ∙ same) in
-    let next : place old ≡ row.at =
+    let next : next_row old ≡ row.at =
     ap (λ (t : Rows). t.at + old.index * t.entry) same ∙ (ap (λ (i : ℕ). table.at + i * table.entry) (sym index) ∙ sym moved) in
     let whole : old.table.entry ≡ size = ap (λ (t : Rows). t.entry) same ∙ entry in
     record {

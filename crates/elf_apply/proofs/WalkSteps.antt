@@ -6,7 +6,7 @@ use Rattle.elf_model.specs.Cost.{sum_over}
 use Rattle.elf_model.specs.Records.{sh_offset, section_at}
 use Rattle.elf_model.specs.Tables.{entry_at, entry_count, relocation_table_checks}
 use Rattle.elf_model.specs.declared.causes.Refusal.{Refusal}
-use Rattle.elf_table.specs.Cursors.{Reading, Gives, unread_bytes, unless_failed}
+use Rattle.elf_table.specs.Cursors.{Reading, GivesRow, unread_bytes, unless_failed}
 use Rattle.elf_headers.specs.Store.{row}
 use Rattle.elf_table.specs.Relocations.{RefersTo, Relocates}
 use Rattle.elf_table.specs.Sections.{table_of}
@@ -285,7 +285,7 @@ module _ (file : List ℕ) (target : TargetCode) (old new : Entries) (at : ℕ) 
   row-fails (Refused refusal) after h = (changes_left file target new, left-row file target old new at next here index less place ∙ ap (λ l. l ++ changes_left file target new) h)
   row-fails (Source fault offset) after h = tt
 
-pub reads-row : (file : List ℕ) (holds : Option (List ℕ)) (old new : Entries) → Gives holds old.cursor new.cursor → holds ≡ Some file → new.linked ≡ old.linked → new.current ≡ old.current → Reads file old → Reads file new
+pub reads-row : (file : List ℕ) (holds : Option (List ℕ)) (old new : Entries) → GivesRow holds old.cursor new.cursor → holds ≡ Some file → new.linked ≡ old.linked → new.current ≡ old.current → Reads file old → Reads file new
 reads-row file holds old new gives held linked here reads = record {
   agrees = gives.agrees file held reads.agrees;
   links = λ some. refers_here file new old.current here (subst (RefersTo file (section_at file old.current)) (sym linked) (reads.links (omega (arith, some, gives.one_less))));

@@ -7,7 +7,7 @@ use Rattle.elf_model.specs.Cost.{sum_over}
 use Rattle.elf_model.specs.Records.{sh_offset, section_at}
 use Rattle.elf_model.specs.Tables.{RELA_SIZE, entry_at, entry_count}
 use Rattle.elf_source.specs.Source.{Counting, Reads as ReadsMost}
-use Rattle.elf_table.specs.Cursors.{Agrees, unread_bytes, unless_failed}
+use Rattle.elf_table.specs.Cursors.{HoldsRows, unread_bytes, unless_failed}
 use Rattle.elf_headers.specs.Load.{section_place}
 use Rattle.elf_table.specs.Relocations.{RefersTo}
 use Rattle.elf_headers.specs.Store.{row}
@@ -95,7 +95,7 @@ pub record Goes (size : ℕ) (target : TargetCode) (e : Entries) : Type 0 where
 
 -- the rows that are left are the file's
 pub record Reads (file : List ℕ) (e : Entries) : Type 0 where
-  pub agrees : Agrees file e.cursor
+  pub agrees : HoldsRows file e.cursor
   pub links : 0 < e.cursor.left → RefersTo file (section_at file e.current) e.linked
   pub placed : 0 < e.cursor.left → e.cursor.table.at ≡ sh_offset file (section_at file e.current)
 
