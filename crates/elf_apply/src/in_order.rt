@@ -325,10 +325,7 @@ fn copy<S: Source, W: Sink>(
     'pages: while done < size {
         let mut bytes = [0; PAGE];
         let count = (size - done).min(PAGE as u64) as usize;
-        match copy_page(src, at + done, &mut bytes[..count], out) {
-            Ok(()) => {}
-            Err(fault) => return Err(fault),
-        }
+        copy_page(src, at + done, &mut bytes[..count], out)?;
         done += count as u64;
     }
     Ok(())

@@ -49,10 +49,7 @@ pub(crate) fn write_windows<S: Source, W: Sink>(
     'windows: while done < size {
         let mut bytes = [0; WINDOW];
         let count = (size - done).min(WINDOW as u64) as usize;
-        match write_window(src, target, at, done, &mut bytes[..count], out) {
-            Ok(()) => {}
-            Err(fault) => return Err(fault),
-        }
+        write_window(src, target, at, done, &mut bytes[..count], out)?;
         done += count as u64;
     }
     Ok(())

@@ -4,7 +4,7 @@ ghost use Rattle.std.specs.Prelude.{◌≡◌, ◌+◌, ℕ, List, Some, Err, le
 ghost use Rattle.elf_model.specs.Names.{name_bytes};
 ghost use Rattle.elf_model.specs.Rows.{symbol_named};
 ghost use Rattle.elf_table.specs.NamesRead.{NameRead};
-ghost use Rattle.elf_table.specs.Sections.{symbols_linked};
+ghost use Rattle.elf_table.specs.Relocations.{RefersTo};
 ghost use Rattle.elf_table.specs.Tables.{SymbolsWithin};
 ghost use Rattle.elf_listing.specs.Kinds.{OfRow};
 ghost use Rattle.elf_listing.specs.Shows.{Fetches, Lists};
@@ -54,7 +54,7 @@ impl<S: Source, W: Sink> Listing<'_, '_, '_, S, W> {
             (24 + name_bytes self.old.cap.bytes) }
         ensures unnamed { symbol ≡ 0 → self.new.src.now ≡ self.old.src.now }
         ensures read { (file : List ℕ) (header : ℕ) → self.old.src.now.seen.file ≡ Some file →
-            linked ≡ symbols_linked file header →
+            RefersTo file header linked →
             let named = symbol_named file self.old.cap.bytes header at symbol in
             NameRead named.0 result self.new.name named.1 }
     {

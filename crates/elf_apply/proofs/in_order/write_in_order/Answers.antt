@@ -1,6 +1,6 @@
 use Rattle.std.proofs.Common.{refl, sym, ap, ◌∙◌, subst, ◌+◌, ◌-◌, ◌≤◌, arith, length, List, ℕ, ◌≡◌, Err}
 use Rattle.elf_source.proofs.ReadsLaws.{Reads-none, Reads-then, Reads-to}
-use Rattle.elf_apply.proofs.OpenLaws.{still_open}
+use Rattle.elf_headers.proofs.OpenLaws.{still_open}
 use Rattle.elf_model.specs.Apply.{patched, patches_of}
 use Rattle.elf_model.specs.ApplyLaws.{AllInside}
 use Rattle.elf_model.specs.Bytes.{slice}
@@ -36,11 +36,11 @@ entries-preserved g c =
     let now = c.in-Ok-Some.ensures.goes in
     let fits = rw c.in-Ok-Some.field-0-is at c.in-Ok-Some.ensures.inside in
     let ends = c.in-Ok.ensures.held in
-    let asked : c.store.new.src.asked + (walk_left c.args.target.now c.next.new.self + (c.args.target.now.size - (c.store.new.self.low + length c.store.new.self.bytes))) ≤ c.args.src.now.asked + (walk_all c.args.target.now + c.args.target.now.size) = omega (arith, known.asked, c.next.ensures.account, c.in-Ok.ensures.asked_on, ends, fits, known.within) in
+    let asked : c.store.new.src.asked + (walk_left c.args.target.now c.next.new.self + (c.args.target.now.size - (c.store.new.self.low + length c.store.new.self.bytes))) ≤ c.args.src.now.asked + (walk_all c.args.target.now + c.args.target.now.size) = omega (arith, known.asked, c.next.ensures.asks.account, c.in-Ok.ensures.asked_on, ends, fits, known.within) in
     record {
       sized = refl;
       within = omega (arith, ends, fits, known.within);
-      reads_most = Reads-to (Reads-then (Reads-then known.reads_most c.next.ensures.reads) c.store.ensures.reads) (omega (arith, asked));
+      reads_most = Reads-to (Reads-then (Reads-then known.reads_most c.next.ensures.asks.reads) c.store.ensures.reads) (omega (arith, asked));
       asked = asked;
       grows = grows_then known.grows c.store.ensures.grows;
       wrote = omega (arith, known.wrote, c.in-Ok.ensures.wrote, c.in-Ok.ensures.low, c.in-Ok.ensures.never);
@@ -50,7 +50,7 @@ entries-preserved g c =
       left = λ file held patches are inside rises.
           let finds = rw c.in-Ok-Some.field-0-is at c.in-Ok-Some.ensures.finds file (known.reads_most.keeps.same_file ∙ held) (known.reads file held) in
           let way = known.left file held patches are inside rises in
-          let later = c.next.ensures.reads.keeps.same_file ∙ (known.reads_most.keeps.same_file ∙ held) in
+          let later = c.next.ensures.asks.reads.keeps.same_file ∙ (known.reads_most.keeps.same_file ∙ held) in
           let base : List ℕ = slice file c.args.at c.args.target.now.size in
           let long : c.args.at + c.args.target.now.size ≤ length file = (let belongs = c.requires.opened.belongs file held in omega (arith, belongs.size, c.requires.opened.size, c.requires.within)) in
           let first = underway_first base (patched patches base) c.entries.held _ _ _ way (patch_as c.in-Ok-Some.placed) _ finds.0 in
@@ -65,7 +65,7 @@ returns-in-Err-store-clause-text g c = λ file held patches are inside rises.
     let fits = rw c.in-Ok-Some.field-0-is at c.in-Ok-Some.ensures.inside in
     let finds = rw c.in-Ok-Some.field-0-is at c.in-Ok-Some.ensures.finds file (known.reads_most.keeps.same_file ∙ held) (known.reads file held) in
     let way = known.left file held patches are inside rises in
-    let later = c.next.ensures.reads.keeps.same_file ∙ (known.reads_most.keeps.same_file ∙ held) in
+    let later = c.next.ensures.asks.reads.keeps.same_file ∙ (known.reads_most.keeps.same_file ∙ held) in
     let base : List ℕ = slice file c.args.at c.args.target.now.size in
     let long : c.args.at + c.args.target.now.size ≤ length file = (let belongs = c.requires.opened.belongs file held in omega (arith, belongs.size, c.requires.opened.size, c.requires.within)) in
     let first = underway_first base (patched patches base) c.entries.held _ _ _ way (patch_as c.in-Ok-Some.placed) _ finds.0 in
@@ -77,7 +77,7 @@ returns-in-Ok-None-clause-text g c = λ file held patches are inside rises.
     let known = c.entries.invariant in
     let finds = rw c.in-Ok-None.field-0-is at c.in-Ok-None.ensures.finds file (known.reads_most.keeps.same_file ∙ held) (known.reads file held) in
     let way = known.left file held patches are inside rises in
-    let later = c.next.ensures.reads.keeps.same_file ∙ (known.reads_most.keeps.same_file ∙ held) in
+    let later = c.next.ensures.asks.reads.keeps.same_file ∙ (known.reads_most.keeps.same_file ∙ held) in
     let base : List ℕ = slice file c.args.at c.args.target.now.size in
     let long : c.args.at + c.args.target.now.size ≤ length file = (let belongs = c.requires.opened.belongs file held in omega (arith, belongs.size, c.requires.opened.size, c.requires.within)) in
     underway_end base (patched patches base) c.entries.held _ _ _ way (Unit {0}) c.args.target.now.size c.advance.new.out c.advance.result finds

@@ -4,7 +4,7 @@ use Rattle.std.proofs.lemmas.Result.{err_from_is_err_and}
 use Rattle.elf_source.proofs.ReadsLaws.{Reads-then}
 use Rattle.elf_names.proofs.HeldLaws.{still_held}
 use Rattle.elf_names.proofs.SpendsLaws.{Spends-none, Spends-reads, Spends-then, Spends-to}
-use Rattle.elf_listing.proofs.OpenLaws.{still_open}
+use Rattle.elf_headers.proofs.OpenLaws.{still_open}
 use Rattle.elf_listing.proofs.ViewedLaws.{still_viewed}
 use Rattle.elf_listing.specs.Kinds.{own_cost, row_items}
 use Rattle.elf_listing.specs.RowCursors.{reading, rows_listed}

@@ -6,7 +6,7 @@ use Rattle.elf_model.specs.TableKinds.{segment_dynamic}
 use Rattle.elf_headers.specs.Store.{segment_row}
 use Rattle.elf_table.specs.Tables.{size_of}
 use Rattle.elf_headers.specs.Load.{Views}
-use Rattle.elf_listing.proofs.OpenLaws.{still_open}
+use Rattle.elf_headers.proofs.OpenLaws.{still_open}
 use Rattle.elf_names.proofs.HeldLaws.{still_held}
 use Rattle.elf_listing.proofs.RowLaws.{Writes-as, Stopped-first, Stopped-unread-first}
 use Rattle.elf_listing.proofs.SectionCosts.{segment_dynamic_within}

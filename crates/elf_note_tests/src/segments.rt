@@ -3,14 +3,19 @@
 ghost use Rattle.std.specs.Prelude.{◌≡◌};
 
 use crate::answers::refused;
-use crate::loads::open;
 use elf_fakes::Planned;
 use elf_fixtures::{library_without_sections, one_symbol_table, with_bytes};
 use elf_record::Cause;
 use elf_source::{Counted, MemorySource, Source, SourceFault};
-use elf_table::{Fault, HeaderStore, Names, SegmentView, Table, header, load};
+use elf_table::{Fault, HeaderStore, Loaded, Names, SegmentView, Table, header, load};
 use std::process::Abort;
 use std::test::Fail;
+
+/// Reads the header and loads the section headers.
+fn open<S: Source>(src: &mut Counted<S>, store: &mut HeaderStore) -> Result<Loaded, Fault> {
+    let header = header(src)?;
+    load(src, store, &header)
+}
 
 /// Loads the program headers of a file without sections, which has to pass the load checks, and
 /// says whether that went well, and how many there are.
