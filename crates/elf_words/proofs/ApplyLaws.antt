@@ -40,7 +40,7 @@ only_applying : (rows : List Row) (caps : Caps) (file : Option (Bor Text)) (task
 only_applying rows caps None (Show parts) (are, parts_are, is) = cc
 only_applying rows caps (Some path) (Show parts) (are, parts_are, is) = let e = is.0 in cc
 only_applying rows caps file (Find wanted) is = let e = is.find in cc
-only_applying rows caps file (Apply section layout) is = (section, layout, is)
+only_applying rows caps file (Apply section layout) is = (section, layout.now, is)
 
 -- there is no section with the index that is given
 pub no_section : (rows : List Row) (layout : Layout) → Lays no_items (item_words rows) (Ok layout)
@@ -53,7 +53,7 @@ no_section rows layout lays none = record {
 }
 
 -- what an applying comes to, by whether there are a file and caps
-pub applied : (rows : List Row) (section : ℕ) (layout : Layout) (r : Option Request) → Lays no_items (item_words rows) (Ok layout) → section < 2 ^ 16
+pub applied : (rows : List Row) (section : ℕ) (layout : Bor Layout) (r : Option Request) → Lays no_items (item_words rows) (Ok layout.now) → section < 2 ^ 16
     → HasNumber (one_of (codes "SECTION") rows) (Some section) → IfSome r (λ request. request.task ≡ Apply section layout)
     → IfSome r (λ request. IsFileNamed rows request.file) → IfSome r (λ request. AreHeaderCaps rows request.caps)
     → (r ≡ None → (file : Option (Bor Text)) (caps : Caps) → IsFileNamed rows file → AreHeaderCaps rows caps → ⊥)
@@ -62,7 +62,7 @@ applied rows section layout None lays small index task file caps none = record {
   nothing = λ request asks.
       let is = only_applying rows request.caps request.file request.task asks in
       none refl request.file request.caps is.2.path is.2.limits;
-  faultless = faultless rows layout lays;
+  faultless = faultless rows layout.now lays;
 }
 applied rows section layout (Some request) lays small index task file caps none =
     subst (λ t. IsTask (codes "apply") rows request.caps request.file t) (sym task)

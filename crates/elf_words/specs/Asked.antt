@@ -100,7 +100,7 @@ abbrev pub IsTask : Text → List Row → Caps → Option (Bor Text) → Task �
 IsTask command rows caps file (Show parts) =
     AreCaps rows caps × AreParts (first_of (codes "only") rows) parts × IsOfFile command rows file
 IsTask command rows caps file (Find wanted) = IsLookup command rows caps file wanted
-IsTask command rows caps file (Apply section layout) = IsApplying command rows caps file section layout
+IsTask command rows caps file (Apply section layout) = IsApplying command rows caps file section layout.now
 
 -- a command with the values of its arguments asks for just this
 abbrev pub AsksBy : Option (Text × List Row) → Request → Type 0

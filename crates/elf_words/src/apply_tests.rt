@@ -1,5 +1,5 @@
 //! Words that ask for a section to be written, and the layouts that they give.
-use crate::items::layout_of;
+use crate::items::lay;
 use crate::tests::check_refused;
 use crate::{RequestFault, Task, request};
 use clap::error::ErrorKind;
@@ -17,21 +17,21 @@ fn asked(
     index: u16,
 ) -> Result<Layout, Fail> {
     let caps = Caps::new(headers, 256).ok_or("caps")?;
-    let asked = request(rt.alloc(), words)?;
+    let mut layout = Layout::new();
+    let asked = request(rt.alloc(), words, &mut layout)?;
     assert!(rt; asked.file == Some("f") && asked.caps == caps);
     match asked.task {
-        Task::Apply { section, layout } => {
-            assert!(rt; section == index);
-            Ok(layout)
-        }
-        _ => Err("an applying".into()),
+        Task::Apply { section, .. } => assert!(rt; section == index),
+        _ => return Err("an applying".into()),
     }
+    Ok(layout)
 }
 
 /// Checks that the words for items are refused, by their first that is.
 fn check_fault(rt: &(impl Abort + AllocGlobal), items: &[&str], fault: &str) {
-    let told = match layout_of(items) {
-        Ok(_) => "none",
+    let mut layout = Layout::new();
+    let told = match lay(&mut layout, items) {
+        Ok(()) => "none",
         Err(RequestFault::BadItem) => "bad-item",
         Err(RequestFault::LayoutFull) => "layout-full",
         Err(RequestFault::LayoutRepeat) => "layout-repeat",
@@ -138,11 +138,26 @@ fn other_items_are_refused(rt: HostRuntime) {
 #[test]
 fn the_command_refuses_items(rt: HostRuntime) {
     let words = ["apply", "f", "1", "at:1=0x10", "at:1=0x20"];
-    assert!(&rt; matches!(request(rt.alloc(), &words), Err(RequestFault::LayoutRepeat)));
+    assert!(&rt;
+        matches!(
+            request(rt.alloc(), &words, &mut Layout::new()),
+            Err(RequestFault::LayoutRepeat)
+        )
+    );
     let words = ["apply", "f", "1", ""];
-    assert!(&rt; matches!(request(rt.alloc(), &words), Err(RequestFault::BadItem)));
+    assert!(&rt;
+        matches!(
+            request(rt.alloc(), &words, &mut Layout::new()),
+            Err(RequestFault::BadItem)
+        )
+    );
     let words = ["apply", "f", "1", "--", "--headers=5"];
-    assert!(&rt; matches!(request(rt.alloc(), &words), Err(RequestFault::BadItem)));
+    assert!(&rt;
+        matches!(
+            request(rt.alloc(), &words, &mut Layout::new()),
+            Err(RequestFault::BadItem)
+        )
+    );
     let words = ["apply", "f", "x", "at:1=0x10", "at:1=0x20"];
     check_refused(&rt, &words, ErrorKind::ValueValidation);
 }

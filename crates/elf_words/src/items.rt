@@ -1,6 +1,6 @@
 //! Items of a layout, as words spell them.
 ghost use Rattle.std.specs.Prelude.{◌≡◌, ◌≢◌, ◌≤◌, ◌^◌, ◌++◌, ℕ, List, IfErr, IfOk, IfSome};
-ghost use Rattle.std.specs.Prelude.{IsNone, length};
+ghost use Rattle.std.specs.Prelude.{IsNone, length, Ok, Err};
 ghost use Rattle.std.specs.Str.Parse.{IsNumeral};
 ghost use Rattle.elf_apply.specs.Layouts.{IsName};
 ghost use Rattle.elf_apply.specs.declared.layout.Item.{Item};
@@ -19,20 +19,22 @@ const NAME_BYTES: usize = 255;
 /// The largest index of a section.
 const LAST_INDEX: u64 = 65_279;
 
-/// The layout that words give, from the first to the last.
+/// Lays out the items that words give, from the first to the last, and no other items.
 ///
 /// # Errors
 /// `BadItem` for a word that spells no item; `LayoutRepeat` for an item of the same sort with the
 /// same index or name as an earlier one; else `LayoutFull` where there are 64 sections, 32
-/// definitions or 32 entries before it. The first such word decides.
-pub fn layout_of(words: &[&str]) -> Result<Layout, RequestFault>
-    ensures { Lays no_items (texts words.now) result }
+/// definitions or 32 entries before it. The first such word decides; the layout is left with the
+/// items before it.
+pub fn lay(layout: &mut Layout, words: &[&str]) -> Result<(), RequestFault>
+    ensures laid { IfOk result (λ _. Lays no_items (texts words.now) (Ok layout.new)) }
+    ensures refused { IfErr result (λ fault. Lays no_items (texts words.now) (Err fault)) }
 {
-    let mut layout = Layout::new();
+    *layout = Layout::new();
     for word in words {
-        put(&mut layout, word)?;
+        put(layout, word)?;
     }
-    Ok(layout)
+    Ok(())
 }
 
 /// Puts the item that a word spells into a layout, which a refused one leaves as it was.

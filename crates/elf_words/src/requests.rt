@@ -14,7 +14,7 @@ use std::alloc::AllocError;
 use thiserror::Error;
 
 /// What is asked for: which file, how much of it may be read and shown, and what is done with it.
-#[derive(Drop)]
+#[derive(Clone, Copy)]
 pub struct Request<'a> {
     /// The file's path, or none for the sample, which is a file that the program carries.
     pub file: Option<&'a str>,
@@ -26,7 +26,7 @@ pub struct Request<'a> {
 }
 
 /// What is done with a file.
-#[derive(Drop)]
+#[derive(Clone, Copy)]
 pub enum Task<'a> {
     /// These parts of it are listed.
     Show(Parts),
@@ -37,7 +37,7 @@ pub enum Task<'a> {
         /// The section's index.
         section: u16,
         /// The addresses of sections, names and procedure linkage table entries.
-        layout: Layout,
+        layout: &'a Layout,
     },
 }
 

@@ -1,6 +1,7 @@
 //! Words, and what they ask for.
 use crate::{RequestFault, Task, checked_name, request};
 use clap::error::ErrorKind;
+use elf_apply::Layout;
 use elf_record::Parts;
 use elf_table::Caps;
 use std::process::Abort;
@@ -17,7 +18,7 @@ fn check(
     caps: Caps,
     parts: Parts,
 ) -> Result<(), Fail> {
-    let asked = request(rt.alloc(), words)?;
+    let asked = request(rt.alloc(), words, &mut Layout::new())?;
     assert!(rt; asked.file == file && asked.caps == caps);
     match asked.task {
         Task::Show(shown) => assert!(rt; shown == parts),
@@ -28,7 +29,7 @@ fn check(
 
 /// Checks that words are refused, and with an error of which kind.
 pub(crate) fn check_refused(rt: &(impl Abort + AllocGlobal), words: &[&str], kind: ErrorKind) {
-    match request(rt.alloc(), words) {
+    match request(rt.alloc(), words, &mut Layout::new()) {
         Err(RequestFault::Words(error)) => {
             assert!(rt; error.kind() == kind);
         }
@@ -137,7 +138,7 @@ fn other_words_are_refused(rt: HostRuntime) {
 
 /// Checks what help says.
 fn check_help(rt: &(impl Abort + AllocGlobal), words: &[&str], parts: &[&str]) -> Result<(), Fail> {
-    match request(rt.alloc(), words) {
+    match request(rt.alloc(), words, &mut Layout::new()) {
         Err(RequestFault::Words(error)) => {
             assert!(rt; error.kind() == ErrorKind::DisplayHelp);
             let text = format!(in rt.alloc(); "{error}")?;
@@ -199,7 +200,7 @@ fn a_name_is_looked_up(rt: HostRuntime) -> Result<(), Fail> {
         ["find", "f", "main", "--headers", "7"],
         ["find", "--headers=7", "f", "--", "main"],
     ] {
-        let asked = request(rt.alloc(), words.as_slice())?;
+        let asked = request(rt.alloc(), words.as_slice(), &mut Layout::new())?;
         assert!(&rt; asked.file == Some("f") && asked.caps == caps);
         match asked.task {
             Task::Find(wanted) => assert!(&rt; wanted.bytes == b"main".as_slice()),
@@ -212,9 +213,19 @@ fn a_name_is_looked_up(rt: HostRuntime) -> Result<(), Fail> {
 #[test]
 fn a_bad_name_is_told_as_such(rt: HostRuntime) {
     let words = ["find", "f", ""];
-    assert!(&rt; matches!(request(rt.alloc(), &words), Err(RequestFault::BadName)));
+    assert!(&rt;
+        matches!(
+            request(rt.alloc(), &words, &mut Layout::new()),
+            Err(RequestFault::BadName)
+        )
+    );
     let words = ["find", "f", "a\0b"];
-    assert!(&rt; matches!(request(rt.alloc(), &words), Err(RequestFault::BadName)));
+    assert!(&rt;
+        matches!(
+            request(rt.alloc(), &words, &mut Layout::new()),
+            Err(RequestFault::BadName)
+        )
+    );
     check_refused(&rt, &["find", "f"], ErrorKind::MissingRequiredArgument);
     check_refused(&rt, &["find", "f", "", "x"], ErrorKind::UnknownArgument);
     check_refused(

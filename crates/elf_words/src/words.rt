@@ -1,5 +1,5 @@
 //! The words of a command line.
-ghost use Rattle.std.specs.Prelude.{◌≡◌, ◌<◌, ◌^◌, ℕ, IfErr, IfOk, IfSome, None, Ok};
+ghost use Rattle.std.specs.Prelude.{◌≡◌, ◌<◌, ◌^◌, ℕ, IfErr, IfOk, IfSome, None, Ok, Err};
 ghost use Rattle.std.specs.Prelude.{Option, Some, codes, false, map, option_map};
 ghost use Rattle.std.specs.Borrow.{Bor};
 ghost use Rattle.clap.specs.Walk.{Text, first_of, one_of, rows_of};
@@ -15,7 +15,7 @@ ghost use Rattle.elf_record.specs.declared.parts.Parts.{Parts};
 ghost use Rattle.elf_headers.specs.declared.caps.Caps.{Caps};
 
 use crate::command_line::command_line;
-use crate::items::layout_of;
+use crate::items::lay;
 use crate::names::checked_name;
 use crate::requests::{Request, RequestFault, Task};
 use clap::error::ErrorKind;
@@ -44,7 +44,11 @@ const NAME_BYTES: u16 = 256;
 /// a name that is not of 1 to 4,096 bytes without NUL; `BadItem`, `LayoutRepeat` and `LayoutFull`
 /// for the first word that is no item of a layout, gives an item again, or gives one more of a sort
 /// than a layout holds; `Memory` where there is none for reading them.
-pub fn request<'a, S: AsStr>(alloc: Global, words: &'a [S]) -> Result<Request<'a>, RequestFault>
+pub fn request<'a, S: AsStr>(
+    alloc: Global,
+    words: &'a [S],
+    layout: &'a mut Layout,
+) -> Result<Request<'a>, RequestFault>
     ensures asked { IfOk result (Asks (map S.text words.entry.now)) }
     ensures refused { IfErr result (Refuses (map S.text words.entry.now)) }
 {
@@ -53,7 +57,7 @@ pub fn request<'a, S: AsStr>(alloc: Global, words: &'a [S]) -> Result<Request<'a
         Ok(matches) => matches,
         Err(error) => return Err(error.into()),
     };
-    match asked(&matches)? {
+    match asked(&matches, layout)? {
         Some(request) => Ok(request),
         None => Err(unasked(&mut commands)),
     }
@@ -70,11 +74,14 @@ fn unasked(commands: &mut Command<'_>) -> RequestFault
 }
 
 /// What words that the command line let through ask for, or None where they ask for nothing.
-fn asked<'a>(matches: &ArgMatches<'a>) -> Result<Option<Request<'a>>, RequestFault>
+fn asked<'a>(
+    matches: &ArgMatches<'a>,
+    layout: &'a mut Layout,
+) -> Result<Option<Request<'a>>, RequestFault>
     ensures { ComesTo (subcommand_rows_of matches.now) result }
 {
     match matches.subcommand() {
-        Some((command, options)) => asked_by(command, options),
+        Some((command, options)) => asked_by(command, options, layout),
         None => Ok(None),
     }
 }
@@ -83,6 +90,7 @@ fn asked<'a>(matches: &ArgMatches<'a>) -> Result<Option<Request<'a>>, RequestFau
 fn asked_by<'a>(
     command: &str,
     options: &ArgMatches<'a>,
+    layout: &'a mut Layout,
 ) -> Result<Option<Request<'a>>, RequestFault>
     ensures { ComesTo (Some (command.now, rows_of (found_of options.now))) result }
 {
@@ -90,7 +98,7 @@ fn asked_by<'a>(
         "show" => Ok(listing_of_file(options)),
         "sample" => Ok(listing(None, options)),
         "find" => lookup(options),
-        "apply" => applying(options),
+        "apply" => applying(options, layout),
         _ => Ok(None),
     }
 }
@@ -136,10 +144,13 @@ fn lookup<'a>(options: &ArgMatches<'a>) -> Result<Option<Request<'a>>, RequestFa
 }
 
 /// A section applied, with as many headers and in the layout that are asked for.
-fn applying<'a>(options: &ArgMatches<'a>) -> Result<Option<Request<'a>>, RequestFault>
+fn applying<'a>(
+    options: &ArgMatches<'a>,
+    layout: &'a mut Layout,
+) -> Result<Option<Request<'a>>, RequestFault>
     ensures { ComesTo (Some (codes "apply", rows_of (found_of options.now))) result }
 {
-    let layout = layout_asked(options)?;
+    let layout = layout_asked(options, layout)?;
     let Some(section) = small_number_of(options, "SECTION") else {
         return Ok(None);
     };
@@ -147,12 +158,29 @@ fn applying<'a>(options: &ArgMatches<'a>) -> Result<Option<Request<'a>>, Request
 }
 
 /// The layout that is asked for, which has no item where no word gives one.
-fn layout_asked(options: &ArgMatches<'_>) -> Result<Layout, RequestFault>
-    ensures { Lays no_items (item_words (rows_of (found_of options.now))) result }
+fn layout_asked<'a>(
+    options: &ArgMatches<'_>,
+    layout: &'a mut Layout,
+) -> Result<&'a Layout, RequestFault>
+    ensures laid { IfOk result (λ layout.
+        Lays no_items (item_words (rows_of (found_of options.now))) (Ok layout.now)) }
+    ensures refused { IfErr result (λ fault.
+        Lays no_items (item_words (rows_of (found_of options.now))) (Err fault)) }
+{
+    lay_asked(options, layout)?;
+    Ok(layout)
+}
+
+/// Lays out the items that are asked for, and no other items.
+fn lay_asked(options: &ArgMatches<'_>, layout: &mut Layout) -> Result<(), RequestFault>
+    ensures laid { IfOk result (λ _.
+        Lays no_items (item_words (rows_of (found_of options.now))) (Ok layout.new)) }
+    ensures refused { IfErr result (λ fault.
+        Lays no_items (item_words (rows_of (found_of options.now))) (Err fault)) }
 {
     match options.get_strs("ITEM") {
-        Some(words) => layout_of(words),
-        None => Ok(Layout::new()),
+        Some(words) => lay(layout, words),
+        None => lay(layout, &[]),
     }
 }
 

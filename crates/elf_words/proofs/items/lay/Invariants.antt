@@ -3,7 +3,7 @@ use Rattle.elf_model.specs.Placing.{Layout}
 use Rattle.elf_words.specs.Layouts.{Lays, no_items}
 use Rattle.elf_words.specs.declared.requests.RequestFault.{RequestFault}
 use Rattle.clap.specs.Walk.{texts}
-use Rattle.elf_words.proofs.items.layout_of.Given as goal
+use Rattle.elf_words.proofs.items.lay.Given as goal
 
 -- what the rest of the words gives behind the layout so far, all of them give
 abbrev pub invariant-loop-word : goal.invariant-loop-word
