@@ -24,16 +24,16 @@ IsUnlimited (Apply section layout) src = src.most ≡ None
 abbrev pub Gives : List ℕ → Caps → Task → Counting → Counting → Written → Written → Result ℕ RunFault → Type 0
 Gives file caps (Show parts) before after old new result = Answers file caps parts.0 before after old new result
 Gives file caps (Find wanted) before after old new result = WroteAnswer old new result (find_answer file caps.headers wanted.bytes.now)
-Gives file caps (Apply section layout) before after old new result = WroteAnswer old new result (apply_answer file caps.headers section layout)
+Gives file caps (Apply section layout) before after old new result = WroteAnswer old new result (apply_answer file caps.headers section layout.now)
 
 -- what a task costs
 abbrev pub task_cost : List ℕ → Caps → Task → ℕ
 task_cost file caps (Show parts) = cost file caps.headers caps.name.bytes parts.0
 task_cost file caps (Find wanted) = find_cost file caps.headers wanted.bytes.now
-task_cost file caps (Apply section layout) = apply_cost_by_order file caps.headers section layout
+task_cost file caps (Apply section layout) = apply_cost_by_order file caps.headers section layout.now
 
 -- WHAT IS ASKED FOR, for every source
 abbrev pub AsksFor : Caps → Task → Counting → Counting → Result ℕ RunFault → Type 0
 AsksFor caps (Show parts) old new result = AsksAs caps parts.0 old new result
 AsksFor caps (Find wanted) old new result = Reads old new (find_bytes old.seen.size caps.headers (length wanted.bytes.now))
-AsksFor caps (Apply section layout) old new result = Reads old new (apply_ceiling old.seen.size caps.headers layout)
+AsksFor caps (Apply section layout) old new result = Reads old new (apply_ceiling old.seen.size caps.headers layout.now)

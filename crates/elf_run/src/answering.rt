@@ -42,10 +42,10 @@ pub fn run<S: Source, W: Sink>(
     // For every source.
     ensures asks { AsksFor request.now.caps request.now.task src.old src.new result }
 {
-    match &request.task {
-        Task::Show(parts) => list(src, store, request.caps, *parts, out),
+    match request.task {
+        Task::Show(parts) => list(src, store, request.caps, parts, out),
         Task::Find(wanted) => look_up(src, store, wanted.bytes, out),
-        Task::Apply { section, layout } => write_applied(src, store, *section, layout, out),
+        Task::Apply { section, layout } => write_applied(src, store, section, layout, out),
     }
 }
 

@@ -12,21 +12,24 @@ use elf_words::{Request, Task};
 use std::process::Abort;
 use std::test::Fail;
 
-/// Section 1 applied in a layout without an item, in a file of three sections.
-fn unplaced() -> Result<Request<'static>, Fail> {
-    let layout = Layout::new();
-    request(3, Task::Apply { section: 1, layout })
+/// Section 1 applied in a layout, in a file of three sections.
+fn first_applied(layout: &Layout) -> Result<Request<'_>, Fail> {
+    let section = 1;
+    request(3, Task::Apply { section, layout })
 }
 
-/// A section of the file with the call applied, in a layout with an address of section 1, of the entry
-/// for `f` and of its definition, or without one.
-fn call(
+/// A section of the file with the call applied in a layout.
+fn call_applied(section: u16, layout: &Layout) -> Result<Request<'_>, Fail> {
+    request(5, Task::Apply { section, layout })
+}
+
+/// A layout with an address of section 1, of the entry for `f` and of its definition, or without one.
+fn laid_out(
     rt: &impl Abort,
-    section: u16,
     place: Option<u64>,
     entry: Option<u64>,
     definition: Option<u64>,
-) -> Result<Request<'static>, Fail> {
+) -> Layout {
     let mut layout = Layout::new();
     if let Some(address) = place {
         let item = Item::Section { index: 1, address };
@@ -44,7 +47,7 @@ fn call(
             .push(Item::Define { name, address })
             .expect(rt, "a definition");
     }
-    request(5, Task::Apply { section, layout })
+    layout
 }
 
 #[test]
@@ -54,28 +57,33 @@ fn a_call_is_applied(rt: HostRuntime) -> Result<(), Fail> {
         (None, Some(0x3000), [0xe8, 0xfb, 0x1f, 0, 0]),
         (Some(0x2000), Some(0x3000), [0xe8, 0xfb, 0x0f, 0, 0]),
     ] {
-        let asked = call(&rt, 1, Some(0x1000), entry, definition)?;
+        let layout = laid_out(&rt, Some(0x1000), entry, definition);
+        let asked = call_applied(1, &layout)?;
         check_answer(&rt, &asked, one_call(), &text, 0, 613)?;
     }
     let weak = with_bytes(one_call(), 0x7c, &[0x20]);
-    let asked = call(&rt, 1, Some(0x1000), None, None)?;
+    let layout = laid_out(&rt, Some(0x1000), None, None);
+    let asked = call_applied(1, &layout)?;
     check_answer(&rt, &asked, &weak, &[0xe8, 0xfb, 0xef, 0xff, 0xff], 0, 485)
 }
 
 #[test]
 fn a_call_may_be_refused(rt: HostRuntime) -> Result<(), Fail> {
     let undefined = b"! 0000000000000048 undefined\n";
-    let asked = call(&rt, 1, Some(0x1000), None, None)?;
+    let layout = laid_out(&rt, Some(0x1000), None, None);
+    let asked = call_applied(1, &layout)?;
     check_answer(&rt, &asked, one_call(), undefined, 1, 485)?;
     let nowhere = b"! 0000000000000048 unplaced\n";
-    let asked = call(&rt, 1, None, Some(0x2000), None)?;
+    let layout = laid_out(&rt, None, Some(0x2000), None);
+    let asked = call_applied(1, &layout)?;
     check_answer(&rt, &asked, one_call(), nowhere, 1, 613)?;
     let outside = b"! 0000000000000048 place-outside\n";
     let file = with_bytes(one_call(), 0x48, &[2]);
     check_answer(&rt, &asked, &file, outside, 1, 613)?;
     for section in [0, 5, 0xffff] {
         let no_section = b"! 000000000000003c bad-link\n";
-        let asked = call(&rt, section, None, None, None)?;
+        let layout = laid_out(&rt, None, None, None);
+        let asked = call_applied(section, &layout)?;
         check_answer(&rt, &asked, one_call(), no_section, 1, 384)?;
     }
     Ok(())
@@ -83,7 +91,8 @@ fn a_call_may_be_refused(rt: HostRuntime) -> Result<(), Fail> {
 
 #[test]
 fn entries_are_applied_in_their_order(rt: HostRuntime) -> Result<(), Fail> {
-    let asked = unplaced()?;
+    let layout = Layout::new();
+    let asked = first_applied(&layout)?;
     let text = [0x44, 0x33, 0xff, 0xff, 0, 0, 0, 0];
     check_answer(&rt, &asked, overlapping_relocations(), &text, 0, 456)?;
     let text = [0x44, 0x33, 0x22, 0x11, 0, 0, 0, 0];
@@ -98,7 +107,8 @@ fn entries_are_applied_in_their_order(rt: HostRuntime) -> Result<(), Fail> {
 
 #[test]
 fn nothing_is_written_before_an_overflow(rt: HostRuntime) -> Result<(), Fail> {
-    let asked = unplaced()?;
+    let layout = Layout::new();
+    let asked = first_applied(&layout)?;
     let overflow = b"! 0000000000000078 overflow\n";
     check_answer(&rt, &asked, third_overflows(), overflow, 1, 552)?;
     // Two of the four entries: at 0, and at 126 with a value that has no room in two bytes.
@@ -114,7 +124,8 @@ fn each_read_and_write_of_an_applied_section_fails_in_turn(rt: HostRuntime) -> R
     // The file header, the section headers, and the entries, which are checked; then they are read
     // again, and the section.
     let offsets = [0, 0x78, 0x48, 0x48, 0x40];
-    let asked = unplaced()?;
+    let layout = Layout::new();
+    let asked = first_applied(&layout)?;
     check_reads(&rt, &asked, overlapping_relocations(), &offsets, 3)?;
     check_outputs(&rt, &asked, overlapping_relocations())?;
     check_outputs(&rt, &asked, third_overflows())?;
@@ -124,14 +135,16 @@ fn each_read_and_write_of_an_applied_section_fails_in_turn(rt: HostRuntime) -> R
     // An entry's symbol and its name too, and the section in two pieces: what stands before the
     // entry, and the rest.
     let offsets = [0, 0x98, 0x48, 0x78, 0x91, 0x48, 0x78, 0x91, 0x40, 0x41];
-    let asked = call(&rt, 1, Some(0x1000), Some(0x2000), None)?;
+    let layout = laid_out(&rt, Some(0x1000), Some(0x2000), None);
+    let asked = call_applied(1, &layout)?;
     check_reads(&rt, &asked, one_call(), &offsets, 5)
 }
 
 #[test]
 fn a_file_that_changes_between_reads_is_asked_for_no_more(rt: HostRuntime) -> Result<(), Fail> {
     let (one, other) = (one_symbol_table(), overlapping_relocations());
-    let asked = unplaced()?;
+    let layout = Layout::new();
+    let asked = first_applied(&layout)?;
     let mut store = HeaderStore::new(rt.alloc(), 3)?;
     for (first, second) in [(one, other), (other, one)] {
         let source = TurnSource::new(first, second).ok_or("two lengths")?;

@@ -10,6 +10,7 @@ ghost use Rattle.std.specs.Prelude.{◌≡◌, ◌⊎◌, codes, IfErr};
 ghost use Rattle.elf_run.specs.Answers.{refused_line, refused_status};
 ghost use Rattle.elf_words.specs.declared.requests.RequestFault.{RequestFault};
 
+use elf_apply::Layout;
 use elf_listing::RunFault;
 use elf_run::{
     CANNOT_OPEN, Ending, NOT_UTF8, OUT_OF_MEMORY, READ_FAULT, WRITE_FAULT, outcome, refused, run,
@@ -50,7 +51,8 @@ where
     R::File: FileExt,
 {
     let words = read_words(rt)?;
-    let request = read_request(rt, words.as_slice())?;
+    let mut layout = Layout::new();
+    let request = read_request(rt, words.as_slice(), &mut layout)?;
     let Ok(store) = HeaderStore::new(rt.alloc(), request.headers()) else {
         return Err(OUT_OF_MEMORY);
     };
@@ -87,11 +89,12 @@ fn read_words<R: Env + AllocGlobal>(rt: &R) -> Result<Vec<String>, Ending>
 fn read_request<'a, R: Eprint + AllocGlobal>(
     rt: &R,
     words: &'a [String],
+    layout: &'a mut Layout,
 ) -> Result<Request<'a>, Ending>
     ensures { IfErr result (λ ending. (fault : RequestFault)
         × (ending.0 ≡ refused_status fault) × (ending.1.now ≡ refused_line fault)) }
 {
-    let fault = match request(rt.alloc(), words) {
+    let fault = match request(rt.alloc(), words, layout) {
         Ok(request) => return Ok(request),
         Err(fault) => fault,
     };

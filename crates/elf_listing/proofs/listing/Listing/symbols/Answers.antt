@@ -51,5 +51,6 @@ returns-clause-shows g c = λ file held.
     let symbols = symbols-pass file at _ (sym (c.in_ok-symbols.ensures.held file belongs)) in
     Writes-as _ _ _ (rows_checked (symbol_table_checks file at) (symbol_row file cap c.args.section at) _ _ _ (symbols_are file cap c.args.section kind) symbols.0 symbols.1.counted)
     (c.rows.ensures.shows file held (λ some. (ap (λ (n : Strings). slice file n.at n.size) (symbols.1.named some), symbols.1.placed)))
+
 pub returns-then-not-holds_symbols-clause-grows : goal.returns-then-not-holds_symbols-clause-grows
 returns-then-not-holds_symbols-clause-grows g c = grows_not _
