@@ -18,7 +18,8 @@ fn check(
     caps: Caps,
     parts: Parts,
 ) -> Result<(), Fail> {
-    let asked = request(rt.alloc(), words, &mut Layout::new())?;
+    let mut layout = Layout::new();
+    let asked = request(rt.alloc(), words, &mut layout)?;
     assert!(rt; asked.file == file && asked.caps == caps);
     match asked.task {
         Task::Show(shown) => assert!(rt; shown == parts),
@@ -200,7 +201,8 @@ fn a_name_is_looked_up(rt: HostRuntime) -> Result<(), Fail> {
         ["find", "f", "main", "--headers", "7"],
         ["find", "--headers=7", "f", "--", "main"],
     ] {
-        let asked = request(rt.alloc(), words.as_slice(), &mut Layout::new())?;
+        let mut layout = Layout::new();
+        let asked = request(rt.alloc(), words.as_slice(), &mut layout)?;
         assert!(&rt; asked.file == Some("f") && asked.caps == caps);
         match asked.task {
             Task::Find(wanted) => assert!(&rt; wanted.bytes == b"main".as_slice()),
