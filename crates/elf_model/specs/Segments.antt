@@ -19,7 +19,7 @@ segment_dynamic_checks_of bytes at file_size place =
 abbrev pub segment_dynamic_checks : List ℕ → ℕ → List Check
 segment_dynamic_checks file at = segment_dynamic_checks_of file at (length file) at
 
--- a LOAD segment has z bytes from the address v on among those that it has in the file, p_filesz of them; sums are whole
+-- a LOAD segment holds z bytes from the address v on, and they are in the file; sums are whole numbers
 abbrev pub is_mapped_by : List ℕ → ℕ → ℕ → ℕ → Bool
 is_mapped_by bytes at v z =
     p_type bytes at == PT_LOAD
