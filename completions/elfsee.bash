@@ -5,7 +5,7 @@ _elfsee_options() {
     local option given
     case $1 in
     show | sample) set -- --headers --names --max-read --only ;;
-    find) set -- --headers ;;
+    find | apply) set -- --headers ;;
     *) set -- ;;
     esac
     for option in "$@" --help; do
@@ -16,12 +16,12 @@ _elfsee_options() {
     done
 }
 
-# The words of a command line up to the cursor, where an equals sign parts no word.
+# The words of a command line up to the cursor, where no equals sign and no colon parts a word.
 _elfsee_words() {
     words=("${COMP_WORDS[0]}") cword=0
     local word joins=
     for word in "${COMP_WORDS[@]:1:COMP_CWORD}"; do
-        if [[ $word == '=' && $cword -gt 0 ]]; then
+        if [[ $word == [:=]* && $cword -gt 0 ]]; then
             words[cword]+=$word joins=1
         elif [[ $joins ]]; then
             words[cword]+=$word joins=
@@ -29,6 +29,13 @@ _elfsee_words() {
             words[++cword]=$word
         fi
     done
+}
+
+# Completes the last word as an item of `apply`, whose colon parts words for the line's editor.
+_elfsee_items() {
+    [[ $current == *:* ]] && return
+    mapfile -t COMPREPLY < <(compgen -W 'at: def: plt:' -- "$current")
+    compopt -o nospace
 }
 
 # Leaves the last word to the completion of files that bash has itself.
@@ -77,9 +84,16 @@ _elfsee() {
         esac
     fi
     case $command in
-    '') mapfile -t COMPREPLY < <(compgen -W 'show sample find help' -- "$current") ;;
-    help) [[ $files != 0 ]] || mapfile -t COMPREPLY < <(compgen -W 'show sample find' -- "$current") ;;
+    '') mapfile -t COMPREPLY < <(compgen -W 'show sample find apply help' -- "$current") ;;
+    help) [[ $files != 0 ]] || mapfile -t COMPREPLY < <(compgen -W 'show sample find apply' -- "$current") ;;
     show | find) [[ $files != 0 ]] || _elfsee_files ;;
+    apply)
+        case $files in
+        0) _elfsee_files ;;
+        1) ;;
+        *) _elfsee_items ;;
+        esac
+        ;;
     esac
 }
 

@@ -1,6 +1,6 @@
 # Completion of elfsee for fish.
 
-set -l commands show sample find help
+set -l commands show sample find apply help
 set -l listing '__fish_seen_subcommand_from show sample'
 set -l parts 'header\t"the file header"
 sections\t"the section headers"
@@ -10,8 +10,9 @@ relocs\t"the relocation entries"
 notes\t"the notes"
 dynamic\t"the dynamic entries"'
 
-# Whether the file that `show` lists is still to be named.
-function __elfsee_wants_file
+# The words behind the program's name that are no options, and an empty line where the value of an
+# option comes next.
+function __elfsee_plain_words
     set -l words (commandline -opc)
     set -e words[1]
     set -l plain
@@ -30,7 +31,20 @@ function __elfsee_wants_file
             set -a plain $word
         end
     end
-    not set -q skip[1]; and test (count $plain) -eq 1; and contains -- $plain[1] show find
+    set -q skip[1]; and set plain ''
+    printf '%s\n' $plain
+end
+
+# Whether the file is still to be named.
+function __elfsee_wants_file
+    set -l plain (__elfsee_plain_words)
+    test (count $plain) -eq 1; and contains -- $plain[1] show find apply
+end
+
+# Whether items of a layout may follow.
+function __elfsee_wants_item
+    set -l plain (__elfsee_plain_words)
+    test (count $plain) -ge 3; and test $plain[1] = apply
 end
 
 # Whether an option is not given yet, or its value comes next.
@@ -43,10 +57,14 @@ complete -c elfsee -f
 complete -c elfsee -n "not __fish_seen_subcommand_from $commands" -a show -d 'list a file, whole or one part of it'
 complete -c elfsee -n "not __fish_seen_subcommand_from $commands" -a sample -d 'list a small file that the program carries'
 complete -c elfsee -n "not __fish_seen_subcommand_from $commands" -a find -d 'look a name up through the hash table of a file'
+complete -c elfsee -n "not __fish_seen_subcommand_from $commands" -a apply -d 'write a section with its relocations applied'
 complete -c elfsee -n "not __fish_seen_subcommand_from $commands" -a help -d 'tell of the commands and options'
-complete -c elfsee -n '__fish_seen_subcommand_from help; and test (count (commandline -opc)) -eq 2' -a 'show sample find'
+complete -c elfsee -n '__fish_seen_subcommand_from help; and test (count (commandline -opc)) -eq 2' -a 'show sample find apply'
 complete -c elfsee -n __elfsee_wants_file -F
-complete -c elfsee -n "__fish_seen_subcommand_from show sample find; and __elfsee_lacks --headers" -l headers -x -d 'permit so many headers of each kind, 1 to 65279 [4096]'
+complete -c elfsee -n __elfsee_wants_item -a at: -d 'the address of a section, at:INDEX=ADDR'
+complete -c elfsee -n __elfsee_wants_item -a def: -d 'the address of an undefined or common symbol, def:NAME=ADDR'
+complete -c elfsee -n __elfsee_wants_item -a plt: -d 'the address of an entry in the procedure linkage table, plt:NAME=ADDR'
+complete -c elfsee -n "__fish_seen_subcommand_from show sample find apply; and __elfsee_lacks --headers" -l headers -x -d 'permit so many headers of each kind, 1 to 65279 [4096]'
 complete -c elfsee -n "$listing; and __elfsee_lacks --names" -l names -x -d 'show so many bytes of a name, 1 to 4096 [256]'
 complete -c elfsee -n "$listing; and __elfsee_lacks --max-read" -l max-read -x -d 'read no more than so many bytes of the file'
 complete -c elfsee -n "$listing; and __elfsee_lacks --only" -l only -x -a $parts -d 'list one part'

@@ -8,4 +8,5 @@ pub mod ExamplesLayouts
 pub mod ExamplesLookups
 pub mod ExamplesNames
 pub mod ExamplesNotes
+pub mod ExamplesPlaces
 pub mod ExamplesValues

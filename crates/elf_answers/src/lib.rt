@@ -13,4 +13,5 @@ mod layout_rows;
 mod lookup_rows;
 mod name_rows;
 mod note_rows;
+mod place_rows;
 mod value_rows;

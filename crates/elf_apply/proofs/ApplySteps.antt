@@ -29,7 +29,7 @@ use Rattle.elf_apply.specs.declared.applying.Applied.{Applied}
 use Rattle.elf_apply.specs.declared.entry.Target.{Target as TargetCode}
 use Rattle.elf_apply.specs.declared.fault.ApplyFault.{ApplyFault}
 use Rattle.elf_apply.specs.declared.fault.ApplyFault.TheVariants.{Refused, Source, Out}
-use Rattle.elf_apply.proofs.LookupSteps.{differs}
+use Rattle.std.proofs.lemmas.Bool.{ne_eqb}
 use Rattle.elf_apply.proofs.WindowSteps.{front_none}
 
 -- the check of a section's range, unless it has no bytes
@@ -40,13 +40,13 @@ last_checks at none out = elim none [ true ↦ None | false ↦ elim out [ true 
 module _ (file : List ℕ) (section : ℕ) where
   pub checks_type : (type : ℕ) → type ≡ e_type file → (type ≡ 1 → ⊥) → first_refusal (apply_checks file section) ≡ Some (record { at = 0x10; cause = NotRel })
   unfolding apply_checks
-  checks_type type t other = let wrong : (e_type file == 1) ≡ false = ap (λ k. k == 1) (sym t) ∙ differs type 1 other in rw (wrong, apply_checks) refl
+  checks_type type t other = let wrong : (e_type file == 1) ≡ false = ap (λ k. k == 1) (sym t) ∙ ne_eqb type 1 other in rw (wrong, apply_checks) refl
 
   pub checks_machine : (type machine : ℕ) → type ≡ e_type file → type ≡ 1 → machine ≡ e_machine file → (machine ≡ 62 → ⊥) → first_refusal (apply_checks file section) ≡ Some (record { at = 0x12; cause = NotRel })
   unfolding apply_checks
   checks_machine type machine t is m other =
       let right : e_type file ≡ 1 = sym t ∙ is in
-      let wrong : (e_machine file == 62) ≡ false = ap (λ k. k == 62) (sym m) ∙ differs machine 62 other in rw (right, apply_checks) (rw (wrong, apply_checks) refl)
+      let wrong : (e_machine file == 62) ≡ false = ap (λ k. k == 62) (sym m) ∙ ne_eqb machine 62 other in rw (right, apply_checks) (rw (wrong, apply_checks) refl)
 
   checks_rest : (type machine count : ℕ) (bad : Bool) (answer : Option Refusal) → type ≡ e_type file → type ≡ 1 → machine ≡ e_machine file → machine ≡ 62 → count ≡ e_shnum file → (section == 0 || not (nat_lt section count)) ≡ bad
       → (elim bad as (λ _. Option Refusal) [ true ↦ Some (record { at = 0x3c; cause = BadLink }) | false ↦ elim (has_no_bytes file (section_at file section)) [ true ↦ None | false ↦ elim (is_section_outside file (section_at file section)) [ true ↦ Some (record { at = section_at file section; cause = TableOutside }) | false ↦ None ] ] ]) ≡ answer

@@ -22,7 +22,7 @@ use Rattle.elf_apply.specs.Costs.{Tells}
 use Rattle.elf_apply.specs.Entries.{Changes, Does, term_of, taken_value, taken_place}
 use Rattle.elf_reloc.specs.Types.{terms}
 use Rattle.elf_apply.specs.declared.entry.Placed.{Placed}
-use Rattle.elf_apply.proofs.Refers.{Refers}
+use Rattle.elf_table.specs.Relocations.{AreSymbols}
 
 module _ (t : Target) (header rela : ℕ) (formula : Formula) where
   term_is :
@@ -91,13 +91,13 @@ module _ (t : Target) (header rela : ℕ) (formula : Formula) where
 
     -- the symbol that was found
     pub term_found :
-        (takes : Bool) (index place : ℕ) (symbols : Rows) (names : Strings) → Refers t.file header symbols names → (symbol == 0) ≡ false → symbol < symbols.count → index ≡ symbol → place ≡ row_at symbols index → takes_linkage formula ≡ takes
+        (takes : Bool) (index place : ℕ) (symbols : Rows) (names : Strings) → (has_symbols t.file header ≡ true) × AreSymbols t.file (linked_at t.file header) (symbols, names) → (symbol == 0) ≡ false → symbol < symbols.count → index ≡ symbol → place ≡ row_at symbols index → takes_linkage formula ≡ takes
         → term_of formula t header rela ≡ the_value takes (slice t.file names.at names.size) place
     term_found takes index place symbols names to some below same here tk =
-        let steps : index * symbols.entry ≡ 24 * symbol = rw (to.sized, same) (omega arith) in
-        let at : symbol_at t.file (linked_at t.file header) symbol ≡ place = omega (arith, steps, to.placed, here) in
-        term_there takes some to.has (omega (arith, below, to.counted)) tk
-        ∙ (ap (the_value takes (strings_of t.file (linked_at t.file header))) at ∙ ap (λ table. the_value takes table place) (sym (to.named (omega (arith, below)))))
+        let steps : index * symbols.entry ≡ 24 * symbol = rw (to.1.sized, same) (omega arith) in
+        let at : symbol_at t.file (linked_at t.file header) symbol ≡ place = omega (arith, steps, to.1.placed, here) in
+        term_there takes some to.0 (omega (arith, below, to.1.counted)) tk
+        ∙ (ap (the_value takes (strings_of t.file (linked_at t.file header))) at ∙ ap (λ table. the_value takes table place) (ap (λ (n : Strings). slice t.file n.at n.size) (sym (to.1.named (omega (arith, below))))))
 
 -- P
 module _ (t : Target) (rela : ℕ) (formula : Formula) where

@@ -3,11 +3,9 @@ pub mod CostSteps
 pub mod EntrySteps
 pub mod InOrderSteps
 pub mod LookupSteps
-pub mod OpenLaws
 pub mod Opened
 pub mod PassSteps
 pub mod ReadLaws
-pub mod Refers
 pub mod RisingSteps
 pub mod SymbolSteps
 pub mod WalkSteps

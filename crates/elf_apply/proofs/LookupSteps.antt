@@ -1,13 +1,16 @@
 -- The lookups in a layout, item by item.
-use Rattle.std.proofs.Common.{◌≡◌, ℕ, suc, ◌+◌, ◌<◌, ◌≤◌, ◌==◌, Bool, true, false, List, [], ◌∷◌, length, drop, get_or, Option, None, Some, Result, Ok, Err, refl, sym, ap, ◌∙◌, subst, add-one, drop-cons, eq-eqb}
+use Rattle.std.proofs.Common.{◌≡◌, ℕ, suc, ◌+◌, ◌<◌, ◌≤◌, ◌==◌, ◌≢◌, Bool, MatchBool, is_some, true, false, List, [], ◌∷◌, length, drop, get_or, Option, None, Some, Result, Ok, Err, refl, sym, ap, ◌∙◌, subst, arith, inl, inr, add-one, drop-cons, eq-eqb}
 use Rattle.std.proofs.lemmas.List.{drop_all}
+use Rattle.std.proofs.lemmas.List.Elements.{All-cons}
 use Rattle.std.proofs.lemmas.List.Sums.{sum_by-cons, sum_by-append}
-use Rattle.std.proofs.lemmas.Bool.{eqb-true}
+use Rattle.std.proofs.lemmas.Bool.{ne_eqb}
+use Rattle.std.proofs.lemmas.Bool.Decides.{eqb_tells}
 use Rattle.elf_model.specs.Names.{same, pad64}
 use Rattle.elf_model.specs.ApplyCost.{layout_names_cost}
 use Rattle.elf_model.specs.Placing.{Layout, address_in, address_named}
 use Rattle.elf_model.specs.declared.causes.Cause.{Cause}
 use Rattle.elf_apply.specs.Costs.{Answers, items_cost}
+use Rattle.elf_apply.specs.Layouts.{HasKey, LacksKey}
 use Rattle.elf_table.specs.NamesRead.{Compared}
 use Rattle.elf_headers.specs.declared.fault.Fault.{Fault}
 use Rattle.elf_headers.specs.declared.fault.Fault.TheVariants.{Refused, Source}
@@ -43,13 +46,6 @@ pub named_none : (table : List ℕ) (index : ℕ) → address_named table index 
 unfolding address_named
 named_none table index = refl
 
-nonequal : (b : Bool) → (b ≡ true → ⊥) → b ≡ false
-nonequal true h = absurd (h refl)
-nonequal false h = refl
-
-pub differs : (a b : ℕ) → (a ≡ b → ⊥) → (a == b) ≡ false
-differs a b h = nonequal (a == b) (λ e. h (eqb-true a b e))
-
 -- the step of a search
 pub address_hit : (items : List (ℕ × ℕ)) (i section : ℕ) (d item : ℕ × ℕ) → i < length items → item ≡ get_or items i d → item.0 ≡ section
     → address_in (drop i items) section ≡ Some item.1
@@ -57,11 +53,25 @@ address_hit items i section d item below is e = ap (λ l. address_in l section) 
 
 pub address_miss : (items : List (ℕ × ℕ)) (i section : ℕ) (d item : ℕ × ℕ) → i < length items → item ≡ get_or items i d → (item.0 ≡ section → ⊥)
     → address_in (drop i items) section ≡ address_in (drop (i + 1) items) section
-address_miss items i section d item below is e = ap (λ l. address_in l section) (drop-at items i d item below is) ∙ address_in-miss (drop (i + 1) items) item section (differs item.0 section e)
+address_miss items i section d item below is e = ap (λ l. address_in l section) (drop-at items i d item below is) ∙ address_in-miss (drop (i + 1) items) item section (ne_eqb item.0 section e)
 
 pub address_none : (items : List (ℕ × ℕ)) (i section : ℕ) → length items ≤ i → address_in (drop i items) section ≡ None
 unfolding address_in
 address_none items i section past = rw (drop-all items i past) refl
+
+-- an address is found where one of the items has the index
+has_more : (section : ℕ) (item : ℕ × ℕ) (items : List (ℕ × ℕ)) → (item.0 ≡ section → ⊥) → (found : Bool) → MatchBool found (HasKey items section) (LacksKey items section) → MatchBool found (HasKey (item ∷ items) section) (LacksKey (item ∷ items) section)
+has_more section item items other true has = (suc has.0, has.1, omega (arith, has.2), has.3, has.4)
+has_more section item items other false lacks = All-cons (λ (x : ℕ × ℕ). x.0 ≢ section) item items other lacks
+
+pub has_address : (items : List (ℕ × ℕ)) (section : ℕ) (found : Bool) → found ≡ is_some (address_in items section) → MatchBool found (HasKey items section) (LacksKey items section)
+unfolding address_in
+has_address [] section found is = rw is (λ k d below. absurd (omega (arith, below)))
+has_address (item ∷ items) section found is =
+    elim (eqb_tells item.0 section) [
+      | inl same ↦ let yes : found ≡ true = is ∙ ap is_some (address_in-hit items item section same.1) in rw yes (0, item, omega arith, refl, same.1)
+      | inr other ↦ has_more section item items other.1 found (has_address items section found (is ∙ ap is_some (address_in-miss items item section other.0)))
+    ]
 
 -- a comparison with an item of a search
 pub step_hit : (table : List ℕ) (index at i : ℕ) (items : List (List ℕ × ℕ)) (item : List ℕ × ℕ) (name : List ℕ) (equal : Bool) → i < length items → item ≡ get_or items i item → name ≡ item.0 → equal ≡ true

@@ -1,6 +1,6 @@
 -- The value of a symbol, by where it is defined.
 use Rattle.std.proofs.Common.{◌≡◌, ℕ, ◌<◌, ◌≤◌, ◌==◌, ◌||◌, nat_lt, Bool, true, false, if◌then◌else◌, List, Option, None, Some, Result, Ok, Err, refl, sym, ap, ◌∙◌, subst, arith, ◌≢◌}
-use Rattle.std.proofs.lemmas.Bool.{lt-ltb, le-ltb}
+use Rattle.std.proofs.lemmas.Bool.{lt-ltb, le-ltb, ne_eqb}
 use Rattle.elf_model.specs.Numbers.{SHN_UNDEF, SHN_LORESERVE, SHN_ABS, SHN_COMMON}
 use Rattle.elf_model.specs.Records.{st_name, st_shndx, st_value}
 use Rattle.elf_model.specs.Placing.{Layout, address_in, address_named, symbol_value, linkage_value, undefined_value, placed_at, named_or, refusal_at}
@@ -12,7 +12,6 @@ use Rattle.elf_headers.specs.declared.fault.Fault.{Fault}
 use Rattle.elf_headers.specs.declared.fault.Fault.TheVariants.{Refused, Source}
 use Rattle.std.specs.Prelude.{IfErr}
 use Rattle.elf_apply.specs.Costs.{Answers, Tells, ReadSays}
-use Rattle.elf_apply.proofs.LookupSteps.{differs}
 use Rattle.elf_apply.proofs.ReadLaws.{checked_says}
 
 pub tells_as : {X : Type 0} (result : Result X Fault) (a b : Result X Refusal) → a ≡ b → Tells result b → Tells result a
@@ -79,7 +78,7 @@ module _ (file strings : List ℕ) (layout : Layout) (rela at index : ℕ) (is :
       (section value : ℕ) → value ≡ st_value file at → (index ≡ section) × (0 < index) × (index < SHN_LORESERVE)
       → symbol_value file strings layout rela at ≡ placed_at rela (address_in layout.sections section) value
   value_placed section value v h =
-      value_else true (differs index SHN_ABS (λ e. high e h.2)) (not_common index (differs index SHN_UNDEF (λ e. low e h.1)) (differs index SHN_COMMON (λ e. common e h.2))) (lt-ltb index SHN_LORESERVE h.2)
+      value_else true (ne_eqb index SHN_ABS (λ e. high e h.2)) (not_common index (ne_eqb index SHN_UNDEF (λ e. low e h.1)) (ne_eqb index SHN_COMMON (λ e. common e h.2))) (lt-ltb index SHN_LORESERVE h.2)
       ∙ (ap (λ k. placed_at rela (address_in layout.sections k) (st_value file at)) (sym is ∙ h.0) ∙ ap (placed_at rela (address_in layout.sections section)) (sym v))
     where
       high : index ≡ SHN_ABS → index < SHN_LORESERVE → ⊥
@@ -95,7 +94,7 @@ module _ (file strings : List ℕ) (layout : Layout) (rela at index : ℕ) (is :
       (reserved : ℕ) → (index ≡ reserved) × (SHN_LORESERVE ≤ index) × (index ≢ SHN_ABS) × (index ≢ SHN_COMMON)
       → symbol_value file strings layout rela at ≡ placed_at rela None (st_value file at)
   value_reserved reserved h =
-      value_else false (differs index SHN_ABS h.2) (not_common index (differs index SHN_UNDEF (λ e. low e h.1)) (differs index SHN_COMMON h.3)) (le-ltb index SHN_LORESERVE h.1)
+      value_else false (ne_eqb index SHN_ABS h.2) (not_common index (ne_eqb index SHN_UNDEF (λ e. low e h.1)) (ne_eqb index SHN_COMMON h.3)) (le-ltb index SHN_LORESERVE h.1)
     where
       low : index ≡ SHN_UNDEF → SHN_LORESERVE ≤ index → ⊥
       low e l = omega (arith, e, l)

@@ -6,18 +6,19 @@ use Rattle.elf_model.specs.Cost.{sum_over}
 use Rattle.elf_model.specs.Records.{sh_offset, section_at}
 use Rattle.elf_model.specs.Tables.{entry_at, entry_count, relocation_table_checks}
 use Rattle.elf_model.specs.declared.causes.Refusal.{Refusal}
-use Rattle.elf_table.specs.Cursors.{Reading, Gives, unread_bytes, unless_failed}
+use Rattle.elf_table.specs.Cursors.{Reading, GivesRow, unread_bytes, unless_failed}
 use Rattle.elf_headers.specs.Store.{row}
-use Rattle.elf_table.specs.Sections.{table_of, relocations_at, symbols_linked}
+use Rattle.elf_table.specs.Relocations.{RefersTo, Relocates}
+use Rattle.elf_table.specs.Sections.{table_of}
 use Rattle.elf_table.specs.Tables.{Rows, RowsWithin}
-use Rattle.elf_apply.proofs.Opened.{fails_first, relocations_pass, entries_counted}
+use Rattle.elf_apply.proofs.Opened.{entries_counted}
 use Rattle.elf_source.specs.Source.{Counting, Reads as ReadsMost}
 use Rattle.elf_source.proofs.ReadsLaws.{Reads-to}
 use Rattle.elf_headers.specs.Load.{section_place}
 use Rattle.elf_headers.specs.declared.fault.Fault.{Fault}
 use Rattle.elf_headers.specs.declared.fault.Fault.TheVariants.{Refused, Source}
 use Rattle.elf_apply.specs.Entries.{target_as, patch_as, Changes}
-use Rattle.elf_apply.specs.Walk.{changes_from, rows_changes, changes_left, changes_all, own_cost, entries_in, entries_from, sections_of, walk_left, walk_all, steps_left, Walked, Reads}
+use Rattle.elf_apply.specs.Walk.{changes_from, rows_changes, changes_left, changes_all, own_cost, entries_in, entries_from, sections_of, walk_left, walk_all, steps_left, Walked, Reads, AsksOf}
 use Rattle.elf_apply.specs.declared.entry.Placed.{Placed}
 use Rattle.elf_apply.specs.declared.entry.Target.{Target as TargetCode}
 use Rattle.elf_apply.specs.declared.walk.Entries.{Entries}
@@ -218,25 +219,28 @@ steps-row target old new less same =
     let product : (sections_of target - new.next) * (target.file.loaded.size + 1) ≡ (sections_of target - old.next) * (target.file.loaded.size + 1) = rw same refl in
     omega (arith, product, less)
 
+-- what the walk holds refers to the symbols of its section
+refers_here : (file : List ℕ) (new : Entries) (section : ℕ) → new.current ≡ section → RefersTo file (section_at file section) new.linked → RefersTo file (section_at file new.current) new.linked
+refers_here file new section here h = let P : ℕ → Type 0 = λ k. RefersTo file (section_at file k) new.linked in subst P (sym here) h
+
 -- a section was opened, or refused
 pub opened-fault : (file : List ℕ) (target : TargetCode) (old new : Entries) (fault : Fault) → old.cursor.left ≡ 0 → old.next < sections_of target → applies_to file target.section (section_at file old.next) ≡ true
-    → relocations_at file (section_at file old.next) ≡ Err fault → Walked file target old new (Err fault)
+    → Relocates file (section_at file old.next) (Err fault) → Walked file target old new (Err fault)
 opened-fault file target old new (Refused refusal) none below applies h =
-    left-refused file target old refusal none below (section_fault (target_as file target) (section_at file old.next) refusal applies (fails_first file (section_at file old.next) refusal h))
-opened-fault file target old new (Source fault at) none below applies h = tt
+    left-refused file target old refusal none below (section_fault (target_as file target) (section_at file old.next) refusal applies h)
+opened-fault file target old new (Source fault at) none below applies h = absurd h
 
 pub opened-rows : (file : List ℕ) (target : TargetCode) (old new : Entries) (table : Rows) → new.cursor.table ≡ table → new.cursor.index ≡ 0 → new.cursor.left ≡ table.count → new.cursor.held ≡ [] → new.next ≡ old.next + 1 → new.current ≡ old.next
     → old.cursor.left ≡ 0 → old.next < sections_of target → applies_to file target.section (section_at file old.next) ≡ true
-    → relocations_at file (section_at file old.next) ≡ Ok (table, new.linked) → (changes_left file target old ≡ changes_left file target new) × Reads file new
-opened-rows file target old new table same first counted held step here none below applies h =
-    let p = relocations_pass file old.next table new.linked h in (
-      left-opened file target old new none step here first (counted ∙ p.counted) below (section_rows file target (section_at file old.next) applies p.pass),
-      record {
-        agrees = rw held refl;
-        links = λ some. p.refers (omega (arith, some, counted)) ∙ ap (λ k. symbols_linked file (section_at file k)) (sym here);
-        placed = λ some. ap (λ (t : Rows). t.at) same ∙ (p.placed (omega (arith, some, counted)) ∙ ap (λ k. sh_offset file (section_at file k)) (sym here));
-      },
-    )
+    → Relocates file (section_at file old.next) (Ok (table, new.linked)) → (changes_left file target old ≡ changes_left file target new) × Reads file new
+opened-rows file target old new table same first counted held step here none below applies h = (
+  left-opened file target old new none step here first (counted ∙ h.counted) below (section_rows file target (section_at file old.next) applies h.pass),
+  record {
+    agrees = rw held refl;
+    links = λ some. refers_here file new old.next here (h.refers (omega (arith, some, counted)));
+    placed = λ some. ap (λ (t : Rows). t.at) same ∙ (h.placed ∙ ap (λ k. sh_offset file (section_at file k)) (sym here));
+  },
+)
 
 -- a row was read, and then its symbol and names
 pub cost-row : (target : TargetCode) (old new : Entries) (before middle after : ℕ) → new.next ≡ old.next → old.cursor.failed ≡ None → new.cursor.failed ≡ None → new.cursor.left + 1 ≡ old.cursor.left
@@ -265,6 +269,9 @@ cost-failed target old new before after fault same f account =
 pub reads-left : {a b : Counting} {n : ℕ} (left left' : ℕ) → ReadsMost a b n → b.asked + left' ≤ a.asked + left → ReadsMost a b left
 reads-left left left' reads account = Reads-to reads (omega (arith, account))
 
+pub asks-of : {a b : Counting} {n : ℕ} (target : TargetCode) (old new : Entries) → ReadsMost a b n → b.asked + walk_left target new ≤ a.asked + walk_left target old → AsksOf a b target old new
+asks-of target old new reads account = record { reads = reads-left (walk_left target old) (walk_left target new) reads account; account = account }
+
 -- what a row gives is the first of what is left
 module _ (file : List ℕ) (target : TargetCode) (old new : Entries) (at : ℕ) (next : new.next ≡ old.next) (here : new.current ≡ old.current) (index : new.cursor.index ≡ old.cursor.index + 1) (less : new.cursor.left + 1 ≡ old.cursor.left)
     (place : at ≡ sh_offset file (section_at file old.current) + old.cursor.index * 24) where
@@ -278,10 +285,10 @@ module _ (file : List ℕ) (target : TargetCode) (old new : Entries) (at : ℕ) 
   row-fails (Refused refusal) after h = (changes_left file target new, left-row file target old new at next here index less place ∙ ap (λ l. l ++ changes_left file target new) h)
   row-fails (Source fault offset) after h = tt
 
-pub reads-row : (file : List ℕ) (holds : Option (List ℕ)) (old new : Entries) → Gives holds old.cursor new.cursor → holds ≡ Some file → new.linked ≡ old.linked → new.current ≡ old.current → Reads file old → Reads file new
+pub reads-row : (file : List ℕ) (holds : Option (List ℕ)) (old new : Entries) → GivesRow holds old.cursor new.cursor → holds ≡ Some file → new.linked ≡ old.linked → new.current ≡ old.current → Reads file old → Reads file new
 reads-row file holds old new gives held linked here reads = record {
   agrees = gives.agrees file held reads.agrees;
-  links = λ some. linked ∙ (reads.links (omega (arith, some, gives.one_less)) ∙ ap (λ k. symbols_linked file (section_at file k)) (sym here));
+  links = λ some. refers_here file new old.current here (subst (RefersTo file (section_at file old.current)) (sym linked) (reads.links (omega (arith, some, gives.one_less))));
   placed = λ some. ap (λ (t : Rows). t.at) gives.same_table ∙ (reads.placed (omega (arith, some, gives.one_less)) ∙ ap (λ k. sh_offset file (section_at file k)) (sym here));
 }
 

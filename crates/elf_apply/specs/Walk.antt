@@ -6,9 +6,10 @@ use Rattle.elf_model.specs.Checks.{first_refusal, table_checks_of}
 use Rattle.elf_model.specs.Cost.{sum_over}
 use Rattle.elf_model.specs.Records.{sh_offset, section_at}
 use Rattle.elf_model.specs.Tables.{RELA_SIZE, entry_at, entry_count}
-use Rattle.elf_table.specs.Cursors.{Agrees, unread_bytes, unless_failed}
+use Rattle.elf_source.specs.Source.{Counting, Reads as ReadsMost}
+use Rattle.elf_table.specs.Cursors.{HoldsRows, unread_bytes, unless_failed}
 use Rattle.elf_headers.specs.Load.{section_place}
-use Rattle.elf_table.specs.Sections.{symbols_linked}
+use Rattle.elf_table.specs.Relocations.{RefersTo}
 use Rattle.elf_headers.specs.Store.{row}
 use Rattle.elf_table.specs.Tables.{RowsWithin, SymbolsWithin}
 use Rattle.elf_headers.specs.declared.fault.Fault.{Fault}
@@ -74,6 +75,11 @@ walk_left target e =
 unfoldable pub walk_all : TargetCode → ℕ
 walk_all target = entries_from target 0 * (24 + own_cost target)
 
+-- what was asked for is no longer left to the walk
+pub record AsksOf (before after : Counting) (target : TargetCode) (old new : Entries) : Type 0 where
+  pub reads : ReadsMost before after (walk_left target old)
+  pub account : after.asked + walk_left target new ≤ before.asked + walk_left target old
+
 -- how many steps are left at most
 unfoldable pub steps_left : TargetCode → Entries → ℕ
 steps_left target e = (sections_of target - e.next) * (target.file.loaded.size + 1) + e.cursor.left
@@ -89,8 +95,8 @@ pub record Goes (size : ℕ) (target : TargetCode) (e : Entries) : Type 0 where
 
 -- the rows that are left are the file's
 pub record Reads (file : List ℕ) (e : Entries) : Type 0 where
-  pub agrees : Agrees file e.cursor
-  pub links : 0 < e.cursor.left → e.linked ≡ symbols_linked file (section_at file e.current)
+  pub agrees : HoldsRows file e.cursor
+  pub links : 0 < e.cursor.left → RefersTo file (section_at file e.current) e.linked
   pub placed : 0 < e.cursor.left → e.cursor.table.at ≡ sh_offset file (section_at file e.current)
 
 -- entries are counted where their section is opened

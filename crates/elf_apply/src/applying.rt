@@ -8,6 +8,7 @@ ghost use Rattle.elf_model.specs.Bytes.{slice};
 ghost use Rattle.elf_model.specs.Checks.{first_refusal, header_checks, is_outside};
 ghost use Rattle.elf_model.specs.Records.{e_shnum};
 ghost use Rattle.elf_record.specs.Shdr.{IsShdr};
+ghost use Rattle.elf_source.specs.Growth.{Grows};
 ghost use Rattle.elf_source.specs.Source.{Reads};
 ghost use Rattle.elf_headers.specs.Faults.{IsOfCheck};
 ghost use Rattle.elf_headers.specs.Load.{Belongs, IsOpen};
@@ -107,6 +108,7 @@ fn write_section<S: Source, W: Sink>(
     ensures once { rises ≡ true →
         src.new.asked ≤ src.old.asked + (walk_all target.now + target.now.size) }
     ensures says { IfErr result (FaultSays src.old src.new out.new) }
+    ensures grows { Grows out.old out.new }
     ensures wrote { Wrote out.old out.new result target.now.size }
     ensures text { (file : List ℕ) → src.old.seen.file ≡ Some file → (patches : List _) →
         patches_of (changes_all file target.now) ≡ Ok patches →
@@ -137,6 +139,7 @@ fn apply_target<S: Source, W: Sink>(
         offsets_never_fall file target.now.section ≡ true →
         src.new.asked ≤ src.old.asked + passes_cost target.now 2 }
     ensures says { IfErr result (FaultSays src.old src.new out.new) }
+    ensures grows { Grows out.old out.new }
     ensures wrote { WroteMost out.old out.new result target.now.size }
     ensures text { (file : List ℕ) → src.old.seen.file ≡ Some file → (headers : ℕ) →
         Stands file headers target.now at →
@@ -173,6 +176,7 @@ fn apply_loaded<S: Source, W: Sink>(
     ensures reads { Reads src.old src.new
         (behind_ceiling src.old.seen.size store.now.slots layout.now) }
     ensures says { IfErr result (FaultSays src.old src.new out.new) }
+    ensures grows { Grows out.old out.new }
     ensures wrote { WroteMost out.old out.new result src.old.seen.size }
     ensures cost { (file : List ℕ) → src.old.seen.file ≡ Some file →
         first_refusal (header_checks file) ≡ None →
@@ -232,6 +236,7 @@ pub fn apply<S: Source, W: Sink>(
     // For every source.
     ensures reads { Reads src.old src.new
         (apply_ceiling src.old.seen.size store.old.slots layout.now) }
+    ensures grows { Grows out.old out.new }
     ensures wrote { WroteMost out.old out.new result src.old.seen.size }
 {
     let header = match header(src) {

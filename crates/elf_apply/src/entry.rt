@@ -8,7 +8,7 @@ ghost use Rattle.elf_model.specs.declared.causes.Cause.TheVariants.{Unplaced};
 ghost use Rattle.elf_record.specs.Rela.{IsRela};
 ghost use Rattle.elf_reloc.specs.Types.{IsSized, IsWidth, formula_as, type_as};
 ghost use Rattle.elf_source.specs.Source.{Reads};
-ghost use Rattle.elf_table.specs.Sections.{symbols_linked};
+ghost use Rattle.elf_table.specs.Relocations.{RefersTo};
 ghost use Rattle.elf_table.specs.Tables.{SymbolsWithin};
 ghost use Rattle.elf_apply.specs.Costs.{ReadSays, Tells};
 ghost use Rattle.elf_apply.specs.Entries.{Changes, Does, IsInside, target_as, taken_place, term_of};
@@ -59,7 +59,7 @@ pub(crate) fn entry_change<S: Source>(
     ensures says { IfErr result (ReadSays src.old src.new) }
     ensures inside { IfOk result (λ found. IfSome found (IsInside target.now.size)) }
     ensures change { (file : List ℕ) (header : ℕ) → src.old.seen.file ≡ Some file →
-        linked ≡ symbols_linked file header → IsRela file at entry.now →
+        RefersTo file header linked → IsRela file at entry.now →
         Changes result (entry_changes (target_as file target.now) header at) }
 {
     let kind = entry.kind();
@@ -92,7 +92,7 @@ fn stored<S: Source>(
     ensures says { IfErr result (ReadSays src.old src.new) }
     ensures inside { IfOk result (IsInside target.now.size) }
     ensures change { (file : List ℕ) (header : ℕ) → src.old.seen.file ≡ Some file →
-        linked ≡ symbols_linked file header → IsRela file at entry.now →
+        RefersTo file header linked → IsRela file at entry.now →
         Does result (change_of (target_as file target.now) header at (Some (type_as found))) }
 {
     let offset = entry.r_offset;
@@ -142,7 +142,7 @@ fn named_value<S: Source>(
     ensures says { IfErr result (ReadSays src.old src.new) }
     ensures unnamed { symbol ≡ 0 → src.new ≡ src.old }
     ensures value { (file : List ℕ) (section size header : ℕ) → src.old.seen.file ≡ Some file →
-        linked ≡ symbols_linked file header → symbol ≡ r_sym file at → Tells result
+        RefersTo file header linked → symbol ≡ r_sym file at → Tells result
         (term_of (formula_as formula)
         (record { file = file; section = section; size = size; layout = layout.now }) header at) }
 {

@@ -7,6 +7,7 @@ ghost use Rattle.elf_model.specs.Bytes.{slice};
 ghost use Rattle.elf_model.specs.declared.causes.Cause.TheVariants.{PlaceOutside};
 ghost use Rattle.elf_reloc.specs.Types.{patched_bytes};
 ghost use Rattle.elf_source.specs.Output.{Puts};
+ghost use Rattle.elf_source.specs.Growth.{Grows};
 ghost use Rattle.elf_source.specs.Source.{Reads};
 ghost use Rattle.elf_headers.specs.Load.{IsOpen};
 ghost use Rattle.elf_apply.specs.Costs.{ReadSays};
@@ -193,6 +194,7 @@ impl Held {
         ensures long { OnOk result (length self.new.bytes ≡ end_of self.old - end) }
         ensures kept { IfErr result IsNoRefusal }
         ensures reads { Reads src.old src.new (end - end_of self.old) }
+        ensures grows { Grows out.old out.new }
         ensures wrote { Wrote out.old out.new result (end - self.old.low) }
         ensures text { (file : List ℕ) → src.old.seen.file ≡ Some file →
             (size : ℕ) (now : List ℕ) → at + size ≤ length file → end ≤ size
@@ -244,6 +246,7 @@ impl Held {
         ensures reads { Reads src.old src.new (size - end_of self.old) }
         ensures asked_on { OnOk result (src.new.asked + end_of self.old
             ≤ src.old.asked + end_of self.new) }
+        ensures grows { Grows out.old out.new }
         ensures wrote { Wrote out.old out.new result (placed.now.offset - self.old.low) }
         ensures text { (file : List ℕ) → src.old.seen.file ≡ Some file → (now : List ℕ) →
             at + size ≤ length file → self.old.low ≤ placed.now.offset
@@ -313,6 +316,7 @@ fn copy<S: Source, W: Sink>(
     ensures says { IfErr result (FaultSays src.old src.new out.new) }
     ensures kept { IfErr result IsNoRefusal }
     ensures reads { Reads src.old src.new size }
+    ensures grows { Grows out.old out.new }
     ensures wrote { Wrote out.old out.new result size }
     ensures text { (file : List ℕ) → src.old.seen.file ≡ Some file → at + size ≤ length file →
         Writes out.old out.new result (slice file at size) }
@@ -321,10 +325,7 @@ fn copy<S: Source, W: Sink>(
     'pages: while done < size {
         let mut bytes = [0; PAGE];
         let count = (size - done).min(PAGE as u64) as usize;
-        match copy_page(src, at + done, &mut bytes[..count], out) {
-            Ok(()) => {}
-            Err(fault) => return Err(fault),
-        }
+        copy_page(src, at + done, &mut bytes[..count], out)?;
         done += count as u64;
     }
     Ok(())
@@ -343,6 +344,7 @@ fn copy_page<S: Source, W: Sink>(
     ensures says { IfErr result (FaultSays src.old src.new out.new) }
     ensures kept { IfErr result IsNoRefusal }
     ensures reads { Reads src.old src.new (length page.old) }
+    ensures grows { Grows out.old out.new }
     ensures wrote { Wrote out.old out.new result (length page.old) }
     ensures text { (file : List ℕ) → src.old.seen.file ≡ Some file →
         Writes out.old out.new result (slice file at (length page.old)) }
@@ -369,6 +371,7 @@ pub(crate) fn write_in_order<S: Source, W: Sink>(
     requires within { at + target.now.size ≤ src.old.seen.size }
     requires fits { src.old.seen.size < 2 ^ 64 }
     ensures says { IfErr result (FaultSays src.old src.new out.new) }
+    ensures grows { Grows out.old out.new }
     ensures wrote { Wrote out.old out.new result target.now.size }
     ensures reads { Reads src.old src.new (walk_all target.now + target.now.size) }
     ensures text { (file : List ℕ) → src.old.seen.file ≡ Some file → (patches : List _) →

@@ -3,6 +3,7 @@ ghost use Rattle.std.specs.Prelude.{◌≡◌, ◌≤◌, ◌<◌, ℕ, List, []
 ghost use Rattle.elf_model.specs.Placing.{address_in};
 ghost use Rattle.elf_apply.specs.Layouts.{Adds, IsName, NamesOf, Pushes, HasKey, LacksKey};
 
+use crate::lookup::address_in;
 use crate::named::{Named, has_name};
 use arrayvec::ArrayVec;
 use std::marker::Model;
@@ -146,12 +147,7 @@ fn push_section(
 fn has_section(items: &[(u16, u64)], index: u16) -> bool
     ensures { MatchBool result (HasKey items.now index) (LacksKey items.now index) }
 {
-    for item in items {
-        if item.0 == index {
-            return true;
-        }
-    }
-    false
+    address_in(items, index).is_some()
 }
 
 /// Puts a name behind others.

@@ -26,7 +26,9 @@ impl Model for Named {
 }
 
 impl Default for Named {
-    fn default() -> Named {
+    fn default() -> Named
+        ensures { result ≡ ([], 0) }
+    {
         Named {
             bytes: [0; NAME_BYTES],
             len: 0,

@@ -3,11 +3,10 @@ ghost use Rattle.std.specs.Prelude.{◌≡◌, ◌≤◌, ◌+◌, ℕ, List, le
 ghost use Rattle.std.specs.Prelude.{IfSome};
 ghost use Rattle.elf_model.specs.Apply.{applies_to};
 ghost use Rattle.elf_record.specs.Shdr.{IsShdr};
-ghost use Rattle.elf_source.specs.Source.{Reads as ReadsMost};
 ghost use Rattle.elf_headers.specs.Faults.{IsOfCheck};
 ghost use Rattle.elf_headers.specs.Load.{Belongs, IsOpen};
 ghost use Rattle.elf_apply.specs.Costs.{ReadSays};
-ghost use Rattle.elf_apply.specs.Walk.{Counts, Finds, FoundFewer, FoundInside, Goes, Reads};
+ghost use Rattle.elf_apply.specs.Walk.{AsksOf, Counts, Finds, FoundFewer, FoundInside, Goes, Reads};
 ghost use Rattle.elf_apply.specs.Walk.{StepFewer, StepInside, Walked};
 ghost use Rattle.elf_apply.specs.Walk.{changes_all, changes_left, entries_from, walk_all};
 ghost use Rattle.elf_apply.specs.Walk.{walk_left};
@@ -78,10 +77,8 @@ impl Entries {
         requires unlimited { src.old.most ≡ None }
         requires opened { IsOpen src.old target.now.file.loaded target.now.file.store.now }
         requires goes { Goes src.old.seen.size target.now self.old }
-        ensures reads { ReadsMost src.old src.new (walk_left target.now self.old) }
+        ensures asks { AsksOf src.old src.new target.now self.old self.new }
         ensures says { IfErr result (ReadSays src.old src.new) }
-        ensures account { src.new.asked + walk_left target.now self.new
-            ≤ src.old.asked + walk_left target.now self.old }
         ensures goes { IfOk result (λ found. Goes src.old.seen.size target.now self.new) }
         ensures fewer { IfOk result (FoundFewer target.now self.old self.new) }
         ensures counts { IfOk result (λ found. Counts target.now self.old self.new) }
@@ -104,10 +101,8 @@ impl Entries {
         requires unlimited { src.old.most ≡ None }
         requires opened { IsOpen src.old target.now.file.loaded target.now.file.store.now }
         requires goes { Goes src.old.seen.size target.now self.old }
-        ensures reads { ReadsMost src.old src.new (walk_left target.now self.old) }
+        ensures asks { AsksOf src.old src.new target.now self.old self.new }
         ensures says { IfErr result (ReadSays src.old src.new) }
-        ensures account { src.new.asked + walk_left target.now self.new
-            ≤ src.old.asked + walk_left target.now self.old }
         ensures goes { IfOk result (λ step. Goes src.old.seen.size target.now self.new) }
         ensures fewer { IfOk result (StepFewer target.now self.old self.new) }
         ensures counts { IfOk result (λ step. Counts target.now self.old self.new) }

@@ -4,6 +4,7 @@ ghost use Rattle.std.specs.Prelude.{IfErr};
 ghost use Rattle.elf_model.specs.Apply.{patches_of, patched};
 ghost use Rattle.elf_model.specs.ApplyLaws.{AllInside};
 ghost use Rattle.elf_model.specs.Bytes.{slice};
+ghost use Rattle.elf_source.specs.Growth.{Grows};
 ghost use Rattle.elf_source.specs.Source.{Reads};
 ghost use Rattle.elf_headers.specs.Load.{IsOpen};
 ghost use Rattle.elf_apply.specs.Walk.{changes_all, walk_all};
@@ -36,6 +37,7 @@ pub(crate) fn write_windows<S: Source, W: Sink>(
     ensures reads { Reads src.old src.new
         (windows target.now.size * walk_all target.now + target.now.size) }
     ensures says { IfErr result (FaultSays src.old src.new out.new) }
+    ensures grows { Grows out.old out.new }
     ensures wrote { Wrote out.old out.new result target.now.size }
     ensures text { (file : List ℕ) → src.old.seen.file ≡ Some file → (patches : List _) →
         patches_of (changes_all file target.now) ≡ Ok patches →
@@ -47,10 +49,7 @@ pub(crate) fn write_windows<S: Source, W: Sink>(
     'windows: while done < size {
         let mut bytes = [0; WINDOW];
         let count = (size - done).min(WINDOW as u64) as usize;
-        match write_window(src, target, at, done, &mut bytes[..count], out) {
-            Ok(()) => {}
-            Err(fault) => return Err(fault),
-        }
+        write_window(src, target, at, done, &mut bytes[..count], out)?;
         done += count as u64;
     }
     Ok(())
@@ -74,6 +73,7 @@ fn write_window<S: Source, W: Sink>(
     requires fits { at + target.now.size < 2 ^ 64 }
     ensures reads { Reads src.old src.new (walk_all target.now + length window.old) }
     ensures says { IfErr result (FaultSays src.old src.new out.new) }
+    ensures grows { Grows out.old out.new }
     ensures wrote { Wrote out.old out.new result (length window.old) }
     ensures text { (file : List ℕ) → src.old.seen.file ≡ Some file → (patches : List _) →
         patches_of (changes_all file target.now) ≡ Ok patches →

@@ -1,3 +1,4 @@
+pub mod OpenLaws
 pub mod PagesRead
 pub mod RowsHeld
 pub mod ViewLaws

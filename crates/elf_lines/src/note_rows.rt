@@ -1,4 +1,5 @@
 //! The lines of notes.
+ghost use Rattle.elf_source.specs.Growth.{Grows};
 ghost use Rattle.std.specs.Prelude.{◌≡◌, ◌+◌, ◌*◌, ◌≤◌, ◌++◌, [], if◌then◌else◌, ℕ, List, length, IfErr};
 ghost use Rattle.arrayvec.specs.ArrayVec.{array_vec_len};
 ghost use Rattle.elf_model.specs.LineFronts.{note_front};
@@ -49,6 +50,7 @@ pub fn show_note<W: Sink>(
     out: &mut Out<W>,
 ) -> Result<(), OutFault>
     requires { length first_bytes.now ≤ 32 }
+    ensures grows { Grows out.old out.new }
     ensures fails { IfErr result (Fails out.new) }
     ensures puts { (descriptor : List ℕ) → IsDescriptor first_bytes.now head.now.descsz descriptor →
         let front = note_front index head.now.kind head.now.namesz head.now.descsz in

@@ -1,4 +1,5 @@
 //! The lines of symbols.
+ghost use Rattle.elf_source.specs.Growth.{Grows};
 ghost use Rattle.std.specs.Prelude.{◌≡◌, ◌≤◌, ℕ, List, length, IfErr, IfSome, option_copied};
 ghost use Rattle.elf_model.specs.Text.{name_of};
 ghost use Rattle.elf_model.specs.NameTables.{symbol_types, bindings, visibilities, places};
@@ -74,6 +75,7 @@ pub fn show_symbol<W: Sink>(
         let front = symbol_front file at section index in
         Puts out.old out.new result (named_line front (Whole name.now)) }
     ensures fails { IfErr result (Fails out.new) }
+    ensures grows { Grows out.old out.new }
 {
     show_named(symbol_front(section, index, symbol), name, false, out)
 }

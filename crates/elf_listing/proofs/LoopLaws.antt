@@ -6,7 +6,7 @@ use Rattle.elf_model.specs.Listing.{Item, each}
 use Rattle.elf_model.proofs.RecordLemmas.{last_cost, sums_grow}
 use Rattle.elf_source.specs.Output.{Written}
 use Rattle.elf_headers.specs.Faults.{IsAt}
-use Rattle.elf_table.specs.Cursors.{Reading, Gives, Agrees, unread_bytes, place, Shows as Lends}
+use Rattle.elf_table.specs.Cursors.{Reading, GivesRow, HoldsRows, unread_bytes, next_row, ShowsRow}
 use Rattle.elf_table.specs.Tables.{Rows, size_of}
 use Rattle.elf_headers.specs.declared.fault.Fault.{Fault}
 use Rattle.elf_table.specs.declared.row.Row.{Row}
@@ -39,7 +39,7 @@ rows_stopped row i count a b c stop below before this =
     rw more.1 (Stopped-more a c stop (each row 0 (i + 1)) more.0 shown)
 
 -- a cursor that holds nothing agrees with every file
-pub agrees_none : (file : List ℕ) (c : Reading) → c.held ≡ [] → Agrees file c
+pub agrees_none : (file : List ℕ) (c : Reading) → c.held ≡ [] → HoldsRows file c
 agrees_none file c none = rw none refl
 
 -- what a new cursor may ask for is its table
@@ -60,16 +60,16 @@ account_row old new before after own bound less step within =
     let product = ap (λ (n : ℕ). n * own) less in omega arith
 
 -- the index of the row that a step gave
-pub given_index : {holds : Option (List ℕ)} {old new : Reading} {row : Row} → Gives holds old new → Lends new row → row.index ≡ old.index
+pub given_index : {holds : Option (List ℕ)} {old new : Reading} {row : Row} → GivesRow holds old new → ShowsRow new row → row.index ≡ old.index
 given_index gives lends = omega (arith, lends.its_index, gives.next_index)
 
 -- the row that a step gave
 pub given_row : {holds : Option (List ℕ)} {old new : Reading} {row : Row} (file : List ℕ) (kind : Kind) (table : Rows)
-    → Gives holds old new → Lends new row → holds ≡ Some file → Agrees file old → old.table ≡ table → table.entry ≡ row_size kind
+    → GivesRow holds old new → ShowsRow new row → holds ≡ Some file → HoldsRows file old → old.table ≡ table → table.entry ≡ row_size kind
     → IsRowOf file table.at kind row
 given_row {old = old} {new = new} {row = row} file kind table gives lends held agrees same entry =
     let index : row.index ≡ old.index = omega (arith, lends.its_index, gives.next_index) in
-    let moved : row.at ≡ place old =
+    let moved : row.at ≡ next_row old =
     lends.its_offset ∙ ap (λ (t : Rows). t.at + row.index * t.entry) gives.same_table ∙ ap (λ (i : ℕ). old.table.at + i * old.table.entry) index in
     let whole : old.table.entry ≡ row_size kind = ap (λ (t : Rows). t.entry) same ∙ entry in
     let from_ : old.table.at ≡ table.at = ap (λ (t : Rows). t.at) same in

@@ -11,7 +11,7 @@ use Rattle.elf_model.specs.declared.causes.Cause.TheVariants.{NoteCut}
 use Rattle.elf_model.proofs.NoteLaws.{walked-is}
 use Rattle.elf_record.specs.declared.note_head.NoteHead.{NoteHead}
 use Rattle.elf_lines.specs.Pieces.{shown_as}
-use Rattle.elf_note.specs.NoteCursors.{Reading, IsFound, NameIs, Shows as Lends, Stops, notes_from, notes_left, no_notes, cut_at, note_cut}
+use Rattle.elf_note.specs.NoteCursors.{Reading, IsFound, NameIs, ShowsNote, Stops, notes_from, notes_left, no_notes, cut_at, note_cut}
 use Rattle.elf_note.specs.declared.row.NoteRow.{NoteRow}
 use Rattle.elf_source.specs.Output.{Written}
 use Rattle.elf_headers.specs.Faults.{IsOfRead}
@@ -86,7 +86,7 @@ pub before_none : {a b : Written} (cap index : ℕ) (all : List Item) (left : Wa
 before_none cap index all left none before = before_end all (rows_of cap index left) (ap (rows_of cap index) none ∙ none_left cap index) before
 
 -- a note as a row of a cursor shows it
-pub note_of : (align cap at : ℕ) (note : Note) (c : Reading) (row : NoteRow) (name : List ℕ) → Lends c row → IsFound align cap at note c.found name c.descriptor → IsNote cap note row name
+pub note_of : (align cap at : ℕ) (note : Note) (c : Reading) (row : NoteRow) (name : List ℕ) → ShowsNote c row → IsFound align cap at note c.found name c.descriptor → IsNote cap note row name
 note_of align cap at note c row name lends found = record {
   named = rw lends.its_end found.shown_name;
   kind = ap (λ (x : NoteHead). x.kind) lends.its_head ∙ found.kind;

@@ -15,7 +15,7 @@ use Rattle.elf_source.proofs.PutsLaws.{Takes-then, TakesFront-then, TakesFront-m
 use Rattle.elf_headers.specs.Faults.{RefusalSays}
 use Rattle.elf_headers.specs.declared.caps.Caps.{Caps}
 use Rattle.elf_listing.specs.Reports.{Reports}
-use Rattle.elf_listing.specs.Shows.{Whole, Front, IsNext, Ends}
+use Rattle.elf_listing.specs.Shows.{Whole, Front, IsNext, EndsRefused}
 use Rattle.elf_listing.specs.declared.end.End.TheVariants.{Listed, Refused}
 use Rattle.elf_listing.specs.declared.end.RunFault.{RunFault}
 use Rattle.elf_listing.proofs.EachLaws.{lines_front}
@@ -95,7 +95,7 @@ budget_below : (budget asked most n : ℕ) → asked ≤ 2 ^ 127 → most ≡ co
 budget_below budget asked most n small is fits above = omega (arith, is, small, fits, above)
 
 -- a listing that ended in a refusal, and what was put of its line
-ended : {a b : Written} (refusal : Refusal) (all : List Item) (ends : Ends a b refusal all) → IsNext refusal ends.front.rest
+ended : {a b : Written} (refusal : Refusal) (all : List Item) (ends : EndsRefused a b refusal all) → IsNext refusal ends.front.rest
     → (lines_of all ≡ lines_of ends.front.front) × (fault_of all ≡ Some refusal)
 ended refusal all ends next =
     let front = ends.front.front in
@@ -106,7 +106,7 @@ ended refusal all ends next =
 -- the text of a listing that ended in a refusal
 ended_listed : {a b : Written} (file : List ℕ) (caps : Caps) (parts : ℕ) (refusal : Refusal) (before limited after : Counting) → before.asked ≤ 2 ^ 127
     → Limits before limited caps.budget → before.seen.size ≡ length file → RefusalSays limited after (cost file caps.headers caps.name.bytes parts) refusal
-    → (ends : Ends a b refusal (items file caps.headers caps.name.bytes parts))
+    → (ends : EndsRefused a b refusal (items file caps.headers caps.name.bytes parts))
     → IsBudgeted caps.budget file caps.headers caps.name.bytes parts (lines_of ends.front.front ++ refusal_line refusal) (Some refusal)
 ended_listed file caps parts refusal before limited after small limits sized says ends = by_cause (is_budget refusal.cause)
   where
@@ -150,7 +150,7 @@ ended_listed file caps parts refusal before limited after small limits sized say
 
 pub ended_report : {a b c : Written} (file : List ℕ) (caps : Caps) (parts : ℕ) (refusal : Refusal) (before limited after : Counting) → before.asked ≤ 2 ^ 127
     → Limits before limited caps.budget → before.seen.size ≡ length file → RefusalSays limited after (cost file caps.headers caps.name.bytes parts) refusal
-    → Ends a b refusal (items file caps.headers caps.name.bytes parts) → Takes b c (refusal_line refusal) → Reports file caps parts a c (Ok (Refused refusal))
+    → EndsRefused a b refusal (items file caps.headers caps.name.bytes parts) → Takes b c (refusal_line refusal) → Reports file caps parts a c (Ok (Refused refusal))
 ended_report file caps parts refusal before limited after small limits sized says ends line = record {
   text = lines_of ends.front.front ++ refusal_line refusal;
   fault = Some refusal;
@@ -160,7 +160,7 @@ ended_report file caps parts refusal before limited after small limits sized say
 
 pub ended_fault : {a b c : Written} (file : List ℕ) (caps : Caps) (parts : ℕ) (refusal : Refusal) (fault : RunFault) (before limited after : Counting) → before.asked ≤ 2 ^ 127
     → Limits before limited caps.budget → before.seen.size ≡ length file → RefusalSays limited after (cost file caps.headers caps.name.bytes parts) refusal
-    → Ends a b refusal (items file caps.headers caps.name.bytes parts) → TakesFront b c (refusal_line refusal) → Reports file caps parts a c (Err fault)
+    → EndsRefused a b refusal (items file caps.headers caps.name.bytes parts) → TakesFront b c (refusal_line refusal) → Reports file caps parts a c (Err fault)
 ended_fault file caps parts refusal fault before limited after small limits sized says ends line = record {
   text = lines_of ends.front.front ++ refusal_line refusal;
   fault = Some refusal;

@@ -19,7 +19,7 @@ use Rattle.elf_headers.specs.declared.fault.Fault.{Fault}
 use Rattle.elf_headers.specs.declared.fault.Fault.TheVariants.{Refused, Source}
 use Rattle.elf_table.specs.declared.names.NameEnd.{NameEnd}
 use Rattle.elf_table.specs.declared.names.NameEnd.TheVariants.{Whole as NameWhole, Cut as NameCut}
-use Rattle.elf_listing.specs.Shows.{Whole, Front, Ends, Stopped, Writes, cut_of}
+use Rattle.elf_listing.specs.Shows.{Whole, Front, EndsRefused, Stopped, Writes, cut_of}
 use Rattle.elf_listing.specs.Stops.{stop_of}
 use Rattle.elf_listing.specs.declared.stop.Stop.{Stop}
 
@@ -39,7 +39,7 @@ pub Front-none : (a : Written) (all : List Item) → Front a a all
 Front-none a all = record { front = []; rest = all; split = refl; takes = Takes-nothing a; no_fault = refl }
 
 -- a refusal stands in the place of all items
-pub Ends-first : (a : Written) (refusal : Refusal) (all : List Item) → ((IsBudget refusal → ⊥) → all ≡ FaultItem refusal ∷ []) → Ends a a refusal all
+pub Ends-first : (a : Written) (refusal : Refusal) (all : List Item) → ((IsBudget refusal → ⊥) → all ≡ FaultItem refusal ∷ []) → EndsRefused a a refusal all
 unfolding Front-none
 Ends-first a refusal all is = record { front = Front-none a all; next = λ other. record { behind = []; is_next = is other } }
 

@@ -1,6 +1,6 @@
 -- The items of one section, by what the store and the checks of a loaded file answer.
 use Rattle.std.proofs.Common.{◌≡◌, ℕ, ◌/◌, ◌<◌, ◌==◌, ◌&&◌, not, Bool, true, false, if◌then◌else◌, List, [], ◌∷◌, ◌++◌, length, Option, None, Some, Result, Ok, Err, refl, sym, ap, ◌∙◌, arith}
-use Rattle.std.proofs.lemmas.Bool.{eqb-true}
+use Rattle.std.proofs.lemmas.Bool.{eqb-true, ne_eqb}
 use Rattle.elf_model.specs.Bytes.{slice}
 use Rattle.elf_model.specs.Checks.{Check, first_refusal, is_symbol_table, table_checks, strings_checks, range_checks_of, unless_empty}
 use Rattle.elf_model.specs.LineFronts.{section_front}
@@ -22,7 +22,8 @@ use Rattle.elf_model.specs.declared.causes.Refusal.{Refusal}
 use Rattle.elf_note.specs.DynCursors.{AreStrings}
 use Rattle.elf_note.specs.declared.string_values.DynStrings.{DynStrings}
 use Rattle.elf_table.specs.Tables.{Rows, Strings}
-use Rattle.elf_table.specs.Sections.{answered, bytes_of, table_at, strings_at as strings_linked, names_at, rows, strings, section_names, symbols_at, symbols_linked, linked_checks, relocations_at, checked as checked_as}
+use Rattle.elf_table.specs.Sections.{bytes_of, table_at, strings_at as strings_linked, names_at, rows, section_names, checked as checked_as}
+use Rattle.elf_table.proofs.RelocationLaws.{refused_first, passed_first}
 use Rattle.elf_table.specs.Views.{dynamic_at as table_of_segment}
 use Rattle.elf_headers.specs.declared.fault.Fault.{Fault as TableFault}
 use Rattle.elf_headers.specs.declared.fault.Fault.TheVariants.{Refused}
@@ -31,14 +32,6 @@ use Rattle.elf_listing.specs.Parts.{shown_in}
 -- the checks of a range, none where it is empty
 abbrev pub range_checks_in : ℕ → ℕ → ℕ → ℕ → List Check
 range_checks_in file_size offset size place = unless_empty size (range_checks_of file_size offset size place)
-
--- a number is another
-other_number : (n m : ℕ) → (n ≡ m → ⊥) → (n == m) ≡ false
-other_number n m h = by_cases (n == m) (λ e. h (eqb-true n m e))
-  where
-    by_cases : (b : Bool) → (b ≡ true → ⊥) → b ≡ false
-    by_cases true k = absurd (k refl)
-    by_cases false k = refl
 
 -- the rows of a section's symbols, and of its relocation entries
 abbrev pub symbols_of : List ℕ → ℕ → ℕ → List Item
@@ -86,78 +79,14 @@ pub symbols_are : (file : List ℕ) (cap section : ℕ) → is_symbol_table file
 unfolding table_rows symbols
 symbols_are file cap section h = rw (h, table_rows) refl
 
-refused_first : {A : Type 0} (first : Option Refusal) (value : A) (refusal : Refusal) → answered first value ≡ Err (Refused refusal) → first ≡ Some refusal
-refused_first None value refusal h = cc
-refused_first (Some other) value refusal h = cc
-
-passed_first : {A : Type 0} (first : Option Refusal) (value result : A) → answered first value ≡ Ok result → (first ≡ None) × (value ≡ result)
-passed_first None value result h = (refl, cc)
-passed_first (Some other) value result h = cc
-
--- the first fault of a table that may be empty
-fails_by_cases : {A : Type 0} (empty : Bool) (none some : A) (checks : List Check) (refusal : Refusal)
-    → (elim empty as (λ _. Result A TableFault) [ true ↦ Ok none | false ↦ checked_as checks some ]) ≡ Err (Refused refusal)
-    → first_refusal (if empty then [] else checks) ≡ Some refusal
-fails_by_cases true none some checks refusal h = cc
-fails_by_cases false none some checks refusal h = refused_first (first_refusal checks) some refusal h
-
 pub symbols_fault : (file : List ℕ) (cap section : ℕ) (refusal : Refusal) → is_symbol_table file (section_at file section) ≡ true
-    → symbols_at file (section_at file section) ≡ Err (Refused refusal) → symbols_of file cap section ≡ Fault refusal ∷ []
-symbols_fault file cap section refusal kind h =
-    let at : ℕ = section_at file section in
-    let first : first_refusal (symbol_table_checks file at) ≡ Some refusal =
-    fails_by_cases (sh_size file at == 0) (rows (sh_offset file at) 0 24, strings (sh_offset file at) 0)
-    (rows (sh_offset file at) (sh_size file at / 24) 24, names_at file (section_at file (sh_link file at)))
-    (table_checks file at 24 ++ strings_checks file at) refusal h in
-    symbols_are file cap section kind ∙ guarded-fault (symbol_table_checks file at) _ refusal first
-
--- what the checks of a table of symbols leave, where they pass
-pub record SymbolsOf (file : List ℕ) (section : ℕ) (table : Rows) (names : Strings) : Type 0 where
-  pub pass : first_refusal (symbol_table_checks file (section_at file section)) ≡ None
-  pub counted : table.count ≡ entry_count file (section_at file section) 24
-  pub named : 0 < table.count → slice file names.at names.size ≡ strings_of file (section_at file section)
-  pub placed : 0 < table.count → table.at ≡ sh_offset file (section_at file section)
-
-passes_by_cases : {B : Type 0} (empty : Bool) (offset size : ℕ) (none some : B) (checks : List Check) (table : Rows) (names : B) → empty ≡ (size == 0)
-    → (elim empty as (λ _. Result (Rows × B) TableFault) [ true ↦ Ok (rows offset 0 24, none) | false ↦ checked_as checks (rows offset (size / 24) 24, some) ]) ≡ Ok (table, names)
-    → (first_refusal (if empty then [] else checks) ≡ None) × (table.count ≡ size / 24) × (0 < table.count → (names ≡ some) × (table.at ≡ offset))
-passes_by_cases {B = B} true offset size none some checks table names e h =
-    let P : Type 0 = Rows × B in
-    let empty_table : P = (rows offset 0 24, none) in
-    let result : P = (table, names) in
-    let same : empty_table ≡ result = cc in
-    let both : rows offset 0 24 ≡ table = ap (λ (both : P). both.0) same in
-    let zero : size ≡ 0 = eqb-true size 0 (sym e) in
-    let no_row : table.count ≡ 0 = ap (λ (r : Rows). r.count) (sym both) in
-    (refl, no_row ∙ ap (λ n. n / 24) (sym zero), λ many. absurd (impossible no_row many))
-  where
-    impossible : table.count ≡ 0 → 0 < table.count → ⊥
-    impossible a b = omega (arith, a, b)
-passes_by_cases {B = B} false offset size none some checks table names e h =
-    let P : Type 0 = Rows × B in
-    let value : P = (rows offset (size / 24) 24, some) in
-    let result : P = (table, names) in
-    let p = passed_first (first_refusal checks) value result h in
-    let t : rows offset (size / 24) 24 ≡ table = ap (λ (both : P). both.0) p.1 in
-    let s : some ≡ names = ap (λ (both : P). both.1) p.1 in
-    (p.0, ap (λ (r : Rows). r.count) (sym t), λ many. (sym s, ap (λ (r : Rows). r.at) (sym t)))
-
-pub symbols_pass : (file : List ℕ) (section : ℕ) (table : Rows) (names : Strings) → symbols_at file (section_at file section) ≡ Ok (table, names)
-    → SymbolsOf file section table names
-symbols_pass file section table names h =
-    let at : ℕ = section_at file section in
-    let p = passes_by_cases (sh_size file at == 0) (sh_offset file at) (sh_size file at) (strings (sh_offset file at) 0) (names_at file (section_at file (sh_link file at))) (table_checks file at 24 ++ strings_checks file at) table names refl h in
-    record {
-      pass = p.0;
-      counted = p.1;
-      named = λ some. ap (λ (s : Strings). slice file s.at s.size) ((p.2 some).0);
-      placed = λ some. (p.2 some).1;
-    }
+    → first_refusal (symbol_table_checks file (section_at file section)) ≡ Some refusal → symbols_of file cap section ≡ Fault refusal ∷ []
+symbols_fault file cap section refusal kind first = symbols_are file cap section kind ∙ guarded-fault (symbol_table_checks file (section_at file section)) _ refusal first
 
 -- a section of another type has no rows of relocation entries
 pub no_relocations : (file : List ℕ) (cap section : ℕ) → (sh_type file (section_at file section) ≡ SHT_RELA → ⊥) → relocations_of file cap section ≡ []
 unfolding table_rows relocations
-no_relocations file cap section h = rw (other_number (sh_type file (section_at file section)) SHT_RELA h, table_rows) refl
+no_relocations file cap section h = rw (ne_eqb (sh_type file (section_at file section)) SHT_RELA h, table_rows) refl
 
 -- one of that type has them behind its checks
 pub relocations_are : (file : List ℕ) (cap section : ℕ) → sh_type file (section_at file section) ≡ SHT_RELA
@@ -166,32 +95,8 @@ unfolding table_rows relocations
 relocations_are file cap section h = rw (h, table_rows) refl
 
 pub relocations_fault : (file : List ℕ) (cap section : ℕ) (refusal : Refusal) → sh_type file (section_at file section) ≡ SHT_RELA
-    → relocations_at file (section_at file section) ≡ Err (Refused refusal) → relocations_of file cap section ≡ Fault refusal ∷ []
-relocations_fault file cap section refusal kind h =
-    let at : ℕ = section_at file section in
-    let first : first_refusal (relocation_table_checks file at) ≡ Some refusal =
-    fails_by_cases (sh_size file at == 0) (rows (sh_offset file at) 0 24, None)
-    (rows (sh_offset file at) (sh_size file at / 24) 24, symbols_linked file at) (table_checks file at 24 ++ linked_checks file at) refusal h in
-    relocations_are file cap section kind ∙ guarded-fault (relocation_table_checks file at) _ refusal first
-
--- what the checks of a table of relocation entries leave, where they pass
-pub record RelocationsOf (file : List ℕ) (section : ℕ) (table : Rows) (linked : Option (Rows × Strings)) : Type 0 where
-  pub pass : first_refusal (relocation_table_checks file (section_at file section)) ≡ None
-  pub counted : table.count ≡ entry_count file (section_at file section) 24
-  pub refers : 0 < table.count → linked ≡ symbols_linked file (section_at file section)
-  pub placed : 0 < table.count → table.at ≡ sh_offset file (section_at file section)
-
-pub relocations_pass : (file : List ℕ) (section : ℕ) (table : Rows) (linked : Option (Rows × Strings)) → relocations_at file (section_at file section) ≡ Ok (table, linked)
-    → RelocationsOf file section table linked
-relocations_pass file section table linked h =
-    let at : ℕ = section_at file section in
-    let p = passes_by_cases (sh_size file at == 0) (sh_offset file at) (sh_size file at) None (symbols_linked file at) (table_checks file at 24 ++ linked_checks file at) table linked refl h in
-    record {
-      pass = p.0;
-      counted = p.1;
-      refers = λ some. (p.2 some).0;
-      placed = λ some. (p.2 some).1;
-    }
+    → first_refusal (relocation_table_checks file (section_at file section)) ≡ Some refusal → relocations_of file cap section ≡ Fault refusal ∷ []
+relocations_fault file cap section refusal kind first = relocations_are file cap section kind ∙ guarded-fault (relocation_table_checks file (section_at file section)) _ refusal first
 
 -- rows behind checks that pass
 pub rows_checked : (checks : List Check) (row : ℕ → List Item) (count entries : ℕ) (items : List Item)
@@ -201,7 +106,7 @@ rows_checked checks row count entries items are pass same = are ∙ (guarded-pas
 -- a section of another type has no notes
 pub no_section_notes : (file : List ℕ) (most section : ℕ) → (sh_type file (section_at file section) ≡ SHT_NOTE → ⊥) → table_rows section_notes file most section (section_at file section) ≡ []
 unfolding table_rows section_notes
-no_section_notes file most section h = rw (other_number (sh_type file (section_at file section)) SHT_NOTE h, table_rows) refl
+no_section_notes file most section h = rw (ne_eqb (sh_type file (section_at file section)) SHT_NOTE h, table_rows) refl
 
 -- the notes of a range of bytes
 abbrev pub range_notes : List ℕ → ℕ → ℕ → ℕ → ℕ → ℕ → List Item
@@ -217,7 +122,7 @@ section_notes_are file most section h = rw (h, table_rows) refl
 
 pub no_segment_notes : (file : List ℕ) (most segment : ℕ) → (p_type file (segment_at file segment) ≡ PT_NOTE → ⊥) → table_rows segment_notes file most segment (segment_at file segment) ≡ []
 unfolding table_rows segment_notes
-no_segment_notes file most segment h = rw (other_number (p_type file (segment_at file segment)) PT_NOTE h, table_rows) refl
+no_segment_notes file most segment h = rw (ne_eqb (p_type file (segment_at file segment)) PT_NOTE h, table_rows) refl
 
 pub segment_notes_are : (file : List ℕ) (most segment : ℕ) → p_type file (segment_at file segment) ≡ PT_NOTE
     → table_rows segment_notes file most segment (segment_at file segment)
@@ -261,7 +166,7 @@ notes_pass file most index offset size align place table items are h =
 -- a section of another type has no dynamic entries
 pub no_section_dynamic : (file : List ℕ) (most section : ℕ) → (sh_type file (section_at file section) ≡ SHT_DYNAMIC → ⊥) → table_rows section_dynamic file most section (section_at file section) ≡ []
 unfolding table_rows section_dynamic
-no_section_dynamic file most section h = rw (other_number (sh_type file (section_at file section)) SHT_DYNAMIC h, table_rows) refl
+no_section_dynamic file most section h = rw (ne_eqb (sh_type file (section_at file section)) SHT_DYNAMIC h, table_rows) refl
 
 -- the dynamic entries that are listed, of so many at an offset, where the strings of an entry are told
 abbrev pub entries_at : List ℕ → ℕ → ℕ → ℕ → (ℕ → Result (List ℕ) Refusal) → List Item
@@ -337,7 +242,7 @@ section_dynamic_pass file most section table names kind some h k =
 -- a segment of another type has no dynamic entries
 pub no_segment_dynamic : (file : List ℕ) (most segment : ℕ) → (p_type file (segment_at file segment) ≡ PT_DYNAMIC → ⊥) → table_rows segment_dynamic file most segment (segment_at file segment) ≡ []
 unfolding table_rows segment_dynamic
-no_segment_dynamic file most segment h = rw (other_number (p_type file (segment_at file segment)) PT_DYNAMIC h, table_rows) refl
+no_segment_dynamic file most segment h = rw (ne_eqb (p_type file (segment_at file segment)) PT_DYNAMIC h, table_rows) refl
 
 -- one of that type has them behind its checks
 segment_dynamic_are : (file : List ℕ) (most segment : ℕ) → p_type file (segment_at file segment) ≡ PT_DYNAMIC

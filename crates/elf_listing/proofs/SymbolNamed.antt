@@ -1,15 +1,15 @@
 -- The symbol that a relocation entry names, by what the file's sections answer.
-use Rattle.std.proofs.Common.{◌≡◌, ℕ, ◌+◌, ◌*◌, ◌/◌, ◌<◌, ◌≤◌, ◌==◌, nat_lt, Bool, true, false, List, Option, None, Some, Result, Err, refl, sym, ap, ◌∙◌, subst, arith}
-use Rattle.std.proofs.lemmas.Bool.{lt-ltb, le-ltb, eqb-true}
+use Rattle.std.proofs.Common.{◌≡◌, ℕ, ◌+◌, ◌*◌, ◌<◌, ◌≤◌, ◌==◌, nat_lt, true, false, List, Result, Err, refl, sym, ap, ◌∙◌, subst, arith}
+use Rattle.std.proofs.lemmas.Bool.{lt-ltb, le-ltb}
 use Rattle.elf_model.specs.Bytes.{slice}
 use Rattle.elf_model.specs.Names.{Shown, shown}
-use Rattle.elf_model.specs.Records.{sh_offset, sh_size, sh_link, section_at, st_name}
+use Rattle.elf_model.specs.Records.{sh_offset, st_name}
 use Rattle.elf_model.specs.Rows.{no_name, symbol_named}
 use Rattle.elf_model.specs.Tables.{linked_at, entry_at, entry_count, has_symbols, strings_of}
 use Rattle.elf_model.specs.declared.causes.Cause.{Cause}
 use Rattle.elf_model.specs.declared.causes.Cause.TheVariants.{BadLink, SymbolIndex}
 use Rattle.elf_table.specs.Tables.{Rows, Strings}
-use Rattle.elf_table.specs.Sections.{rows, strings, names_at, symbols_in, symbols_linked}
+use Rattle.elf_table.specs.Relocations.{AreSymbols}
 use Rattle.elf_table.specs.Cursors.{row_at}
 use Rattle.elf_table.specs.NamesRead.{NameRead}
 use Rattle.elf_headers.specs.declared.fault.Fault.{Fault}
@@ -31,66 +31,14 @@ pub named_beyond : (file : List ℕ) (cap header entry symbol : ℕ) → (symbol
     → symbol_named file cap header entry symbol ≡ (entry, Err SymbolIndex)
 unfolding symbol_named
 named_beyond file cap header entry symbol some has beyond =
-    let high : nat_lt symbol (entry_count file (linked_at file header) 24) ≡ false = le-ltb symbol (entry_count file (linked_at file header) 24) beyond in rw (some, has, high) refl
+    let high : nat_lt symbol (entry_count file (linked_at file header) 24) ≡ false = le-ltb symbol (entry_count file (linked_at file header) 24) beyond in rw some (rw has (rw some (rw high refl)))
 
 pub named_there : (file : List ℕ) (cap header entry symbol : ℕ) → (symbol == 0) ≡ false → has_symbols file header ≡ true → symbol < entry_count file (linked_at file header) 24
     → symbol_named file cap header entry symbol
     ≡ (entry_at file (linked_at file header) 24 symbol, shown (strings_of file (linked_at file header)) (st_name file (entry_at file (linked_at file header) 24 symbol)) cap)
 unfolding symbol_named
 named_there file cap header entry symbol some has below =
-    let low : nat_lt symbol (entry_count file (linked_at file header) 24) ≡ true = lt-ltb symbol (entry_count file (linked_at file header) 24) below in rw (some, has, low) refl
-
-none_by : (has : Bool) (x : Rows × Strings) → None ≡ (elim has as (λ _. Option (Rows × Strings)) [ true ↦ Some x | false ↦ None ]) → has ≡ false
-none_by true x h = cc
-none_by false x h = refl
-
-some_by : (has : Bool) (x s : Rows × Strings) → Some s ≡ (elim has as (λ _. Option (Rows × Strings)) [ true ↦ Some x | false ↦ None ]) → (has ≡ true) × (s ≡ x)
-some_by true x s h = (refl, cc)
-some_by false x s h = cc
-
-in_by : (empty : Bool) (offset size : ℕ) (named : Strings) (s : Rows × Strings) → empty ≡ (size == 0)
-    → s ≡ (elim empty as (λ _. Rows × Strings) [ true ↦ (rows offset 0 24, strings offset 0) | false ↦ (rows offset (size / 24) 24, named) ])
-    → (s.0.count ≡ size / 24) × (s.0.entry ≡ 24) × (s.0.at ≡ offset) × (0 < s.0.count → s.1 ≡ named)
-in_by true offset size named s e h =
-    let zero : size ≡ 0 = eqb-true size 0 (sym e) in
-    let none : s.0.count ≡ 0 = ap (λ (x : Rows × Strings). x.0.count) h in
-    (none ∙ ap (λ n. n / 24) (sym zero), ap (λ (x : Rows × Strings). x.0.entry) h, ap (λ (x : Rows × Strings). x.0.at) h, λ some. absurd (impossible none some))
-  where
-    impossible : s.0.count ≡ 0 → 0 < s.0.count → ⊥
-    impossible a b = omega (arith, a, b)
-in_by false offset size named s e h =
-    (ap (λ (x : Rows × Strings). x.0.count) h, ap (λ (x : Rows × Strings). x.0.entry) h, ap (λ (x : Rows × Strings). x.0.at) h, λ some. ap (λ (x : Rows × Strings). x.1) h)
-
--- what the symbols are that a section of relocations refers to
-pub record Refers (file : List ℕ) (header : ℕ) (symbols : Rows) (names : Strings) : Type 0 where
-  pub has : has_symbols file header ≡ true
-  pub counted : symbols.count ≡ entry_count file (linked_at file header) 24
-  pub sized : symbols.entry ≡ 24
-  pub placed : symbols.at ≡ sh_offset file (linked_at file header)
-  pub named : 0 < symbols.count → slice file names.at names.size ≡ strings_of file (linked_at file header)
-
-pub refers : (file : List ℕ) (header : ℕ) (symbols : Rows) (names : Strings) → Some (symbols, names) ≡ symbols_linked file header → Refers file header symbols names
-refers file header symbols names h =
-    let table : ℕ = linked_at file header in
-    let p = some_by (has_symbols file header) (symbols_in file table) (symbols, names) h in
-    let q = in_by (sh_size file table == 0) (sh_offset file table) (sh_size file table) (names_at file (section_at file (sh_link file table))) (symbols, names) refl p.1 in
-    record {
-      has = p.0;
-      counted = q.0;
-      sized = q.1;
-      placed = q.2;
-      named = λ some. ap (λ (s : Strings). slice file s.at s.size) (q.3 some);
-    }
-
-pub refers_nowhere : (file : List ℕ) (header : ℕ) → None ≡ symbols_linked file header → has_symbols file header ≡ false
-refers_nowhere file header h = none_by (has_symbols file header) (symbols_in file (linked_at file header)) h
-
-nonzero : (b : Bool) → (b ≡ true → ⊥) → b ≡ false
-nonzero true h = absurd (h refl)
-nonzero false h = refl
-
-pub not_zero : (n : ℕ) → (n ≡ 0 → ⊥) → (n == 0) ≡ false
-not_zero n h = nonzero (n == 0) (λ e. h (eqb-true n 0 e))
+    let low : nat_lt symbol (entry_count file (linked_at file header) 24) ≡ true = lt-ltb symbol (entry_count file (linked_at file header) 24) below in rw some (rw has (rw some (rw low refl)))
 
 -- a refusal at an offset
 pub refuses_as : {X : Type 0} (p : ℕ × Result Shown Cause) (entry : ℕ) (cause : Cause) → p ≡ (entry, Err cause) → X → (entry ≡ p.0) × (p.1 ≡ Err cause)
@@ -100,7 +48,7 @@ abbrev the_pair : ℕ → Result Shown Cause → ℕ × Result Shown Cause
 the_pair at name = (at, name)
 
 -- the place of a symbol, and its name in the string table that was found
-pub found_there : (file : List ℕ) (cap header symbol index place off : ℕ) (symbols : Rows) (names : Strings) → Refers file header symbols names → 0 < symbols.count
+pub found_there : (file : List ℕ) (cap header symbol index place off : ℕ) (symbols : Rows) (names : Strings) → AreSymbols file (linked_at file header) (symbols, names) → 0 < symbols.count
     → index ≡ symbol → place ≡ row_at symbols index → off ≡ st_name file (row_at symbols index)
     → the_pair (entry_at file (linked_at file header) 24 symbol) (shown (strings_of file (linked_at file header)) (st_name file (entry_at file (linked_at file header) 24 symbol)) cap)
     ≡ the_pair place (shown (slice file names.at names.size) off cap)
@@ -110,5 +58,5 @@ found_there file cap header symbol index place off symbols names to some same he
     let row : row_at symbols index ≡ offset + 24 * symbol = omega (arith, steps, to.placed) in
     let strings : List ℕ = strings_of file (linked_at file header) in
     ap (λ p. the_pair p (shown strings (st_name file p) cap)) (sym (here ∙ row))
-    ∙ (ap (λ table. the_pair place (shown table (st_name file place) cap)) (sym (to.named some))
+    ∙ (ap (λ table. the_pair place (shown table (st_name file place) cap)) (ap (λ (n : Strings). slice file n.at n.size) (sym (to.named some)))
     ∙ ap (λ n. the_pair place (shown (slice file names.at names.size) n cap)) (sym (named ∙ ap (st_name file) (sym here))))

@@ -9,7 +9,7 @@ use Rattle.elf_model.specs.Listing.{Item, each}
 use Rattle.elf_model.specs.Rows.{segment_row, symbol_row, relocation_row, dynamic_row}
 use Rattle.elf_source.specs.declared.source.Source.{Ghosts as Sources}
 use Rattle.elf_source.specs.declared.sink.Sink.{Ghosts as Sinks}
-use Rattle.elf_table.specs.Sections.{symbols_linked}
+use Rattle.elf_table.specs.Relocations.{RefersTo}
 use Rattle.elf_table.specs.Tables.{Rows, RowsWithin, StringsWithin, SymbolsWithin, strings_in}
 use Rattle.elf_table.specs.declared.row.Row.{Row}
 use Rattle.elf_listing.specs.RowCursors.{rows_listed}
@@ -59,7 +59,7 @@ KindOf file table_at Segments = table_at ≡ e_phoff file
 KindOf file table_at (Symbols section names) =
     (strings_in file names ≡ strings_of file (section_at file section)) × (table_at ≡ sh_offset file (section_at file section))
 KindOf file table_at (Relocations section machine linked) =
-    (machine ≡ e_machine file) × (linked ≡ symbols_linked file (section_at file section)) × (table_at ≡ sh_offset file (section_at file section))
+    (machine ≡ e_machine file) × RefersTo file (section_at file section) linked × (table_at ≡ sh_offset file (section_at file section))
 KindOf file table_at (Dynamic strings) = AreOf file strings
 
 -- an index of a kind's rows fits the column's type

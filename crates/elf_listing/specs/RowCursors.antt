@@ -2,7 +2,7 @@
 use Rattle.std.specs.Prelude.{ℕ, suc, ◌≡◌, Bool, true, false, List, [], Option, None, Some, Result, Ok, Err}
 use Rattle.elf_model.specs.Dynamic.{dynamic_count}
 use Rattle.elf_note.specs.DynCursors.{entries_left}
-use Rattle.elf_table.specs.Cursors.{Reading, Agrees, Gives, Fails}
+use Rattle.elf_table.specs.Cursors.{Reading, HoldsRows, GivesRow, FailsRows}
 use Rattle.elf_table.specs.Tables.{Rows, size_of}
 use Rattle.elf_headers.specs.declared.fault.Fault.{Fault}
 use Rattle.elf_listing.specs.declared.row_cursor.RowCursor.{RowCursor}
@@ -37,19 +37,19 @@ pub record Begins (kind : Kind) (table : Rows) (cursor : RowCursor) : Type 0 whe
   pub failed : (reading cursor).failed ≡ None
   pub rows : (file : List ℕ) → rows_left file cursor ≡ rows_listed kind file table
 
--- a step that gives the next row
-pub record GivesRow (file : Option (List ℕ)) (old new : RowCursor) : Type 0 where
-  pub gives : Gives file (reading old) (reading new)
-  pub one_less : (bytes : List ℕ) → file ≡ Some bytes → Agrees bytes (reading old) → rows_left bytes old ≡ suc (rows_left bytes new)
+-- a step that gives the next row that is listed
+pub record GivesListed (file : Option (List ℕ)) (old new : RowCursor) : Type 0 where
+  pub gives : GivesRow file (reading old) (reading new)
+  pub one_less : (bytes : List ℕ) → file ≡ Some bytes → HoldsRows bytes (reading old) → rows_left bytes old ≡ suc (rows_left bytes new)
 
--- a step behind the last row
-pub record EndsRows (old new : RowCursor) : Type 0 where
+-- a step behind the last of them
+pub record EndsListed (old new : RowCursor) : Type 0 where
   pub unchanged : new ≡ old
   pub not_failed : (reading old).failed ≡ None
   pub none_left : (bytes : List ℕ) → rows_left bytes old ≡ 0
 
 -- a step of a cursor, where it answers whether it gave a row
 abbrev pub AdvancesRows : Option (List ℕ) → RowCursor → RowCursor → Result Bool Fault → Type 0
-AdvancesRows file old new (Ok true) = GivesRow file old new
-AdvancesRows file old new (Ok false) = EndsRows old new
-AdvancesRows file old new (Err fault) = Fails (reading old) (reading new) fault
+AdvancesRows file old new (Ok true) = GivesListed file old new
+AdvancesRows file old new (Ok false) = EndsListed old new
+AdvancesRows file old new (Err fault) = FailsRows (reading old) (reading new) fault

@@ -39,13 +39,13 @@ pub record IsNext (refusal : Refusal) (items : List Item) : Type 0 where
   pub is_next : items ≡ Fault refusal ∷ behind
 
 -- the lines before the first fault were written, and this is the fault; where it is for want of budget, the lines of a front
-pub record Ends (old new : Written) (refusal : Refusal) (items : List Item) : Type 0 where
+pub record EndsRefused (old new : Written) (refusal : Refusal) (items : List Item) : Type 0 where
   pub front : Front old new items
   pub next : (IsBudget refusal → ⊥) → IsNext refusal front.rest
 
 -- what was written where a listing stops
 abbrev pub Stopped : Written → Written → Stop → List Item → Type 0
-Stopped old new (Refused refusal) items = Ends old new refusal items
+Stopped old new (Refused refusal) items = EndsRefused old new refusal items
 Stopped old new (Source fault at) items = Front old new items
 Stopped old new (Out fault) items = TakesFront old new (lines_of items)
 

@@ -1,4 +1,5 @@
 //! The row of a dynamic entry, shown.
+ghost use Rattle.elf_source.specs.Growth.{Grows};
 ghost use Rattle.std.specs.Prelude.{◌≡◌, ℕ, List, Some, length, IfOk, IfErr};
 ghost use Rattle.elf_model.specs.Names.{name_bytes};
 ghost use Rattle.elf_model.specs.Records.{d_tag};
@@ -50,6 +51,7 @@ impl<S: Source, W: Sink> Listing<'_, '_, '_, S, W> {
     ) -> Result<(), Stop>
         requires whole { length row.now.bytes.now ≡ 16 }
         requires within { AreWithin self.old.src.now.seen.size strings.now }
+        ensures grows { Grows self.old.out.now self.new.out.now }
         ensures lists { Lists self.old self.new result (name_bytes self.old.cap.bytes) }
         ensures shows { OfRow self.old self.new result row.now (Dynamic strings.now) }
     {

@@ -1,4 +1,5 @@
 //! What is listed of each header, one header after another.
+ghost use Rattle.elf_source.specs.Growth.{Grows};
 ghost use Rattle.std.specs.Prelude.{◌≡◌, ◌<◌};
 ghost use Rattle.elf_listing.specs.Parts.{header_cost, header_count};
 ghost use Rattle.elf_listing.specs.Parts.{header_items, part_cost, part_items};
@@ -12,6 +13,7 @@ use elf_source::{Sink, Source};
 impl<S: Source, W: Sink> Listing<'_, '_, '_, S, W> {
     /// Shows a part of each header in the order of the headers, up to the first that is refused.
     pub(crate) fn headers(&mut self, part: Part) -> Result<(), Stop>
+        ensures grows { Grows self.old.out.now self.new.out.now }
         ensures lists { let f = self.old.file in Lists self.old self.new result
             (part_cost part f.loaded f.store.now self.old.cap.bytes) }
         ensures shows { let count = header_count part self.old.file.store.now in
@@ -41,6 +43,7 @@ impl<S: Source, W: Sink> Listing<'_, '_, '_, S, W> {
     /// Shows a part of one header.
     fn header(&mut self, part: Part, index: u16) -> Result<(), Stop>
         requires { index < header_count part self.old.file.store.now }
+        ensures grows { Grows self.old.out.now self.new.out.now }
         ensures lists { let f = self.old.file in Lists self.old self.new result
             (header_cost part f.loaded f.store.now self.old.cap.bytes index) }
         ensures shows { Shows self.old self.new result

@@ -1,4 +1,5 @@
 //! The parts of a listing behind the file header, one after another.
+ghost use Rattle.elf_source.specs.Growth.{Grows};
 ghost use Rattle.std.specs.Prelude.{◌≡◌, ◌+◌, ◌++◌};
 ghost use Rattle.elf_model.specs.Listing.{where_asked, each, SEGMENTS};
 ghost use Rattle.elf_model.specs.Records.{e_phnum};
@@ -43,6 +44,7 @@ impl<S: Source, W: Sink> Listing<'_, '_, '_, S, W> {
     /// refusal.
     pub(crate) fn tables(&mut self, parts: Parts) -> Result<(), Stop>
         requires { self.old.file.store.now.segments ≡ viewed parts.0 self.old.file.loaded }
+        ensures grows { Grows self.old.out.now self.new.out.now }
         ensures lists { let f = self.old.file in Lists self.old self.new result
             (tables_listed parts.0 f.loaded f.store.now self.old.cap.bytes) }
         ensures shows { Shows self.old self.new result
@@ -57,6 +59,7 @@ impl<S: Source, W: Sink> Listing<'_, '_, '_, S, W> {
 
     /// Shows two parts, one behind the other.
     fn pair(&mut self, parts: Parts, first: Part, second: Part) -> Result<(), Stop>
+        ensures grows { Grows self.old.out.now self.new.out.now }
         ensures lists { let f = self.old.file in let cap = self.old.cap.bytes in
             Lists self.old self.new result
             (asked_cost parts.0 first f.loaded f.store.now cap
@@ -74,6 +77,7 @@ impl<S: Source, W: Sink> Listing<'_, '_, '_, S, W> {
 
     /// Shows a part of each header, where the parts have it.
     fn part(&mut self, parts: Parts, part: Part) -> Result<(), Stop>
+        ensures grows { Grows self.old.out.now self.new.out.now }
         ensures lists { let f = self.old.file in Lists self.old self.new result
             (asked_cost parts.0 part f.loaded f.store.now self.old.cap.bytes) }
         ensures shows { let count = header_count part self.old.file.store.now in
@@ -90,6 +94,7 @@ impl<S: Source, W: Sink> Listing<'_, '_, '_, S, W> {
     /// Header). Those of a file without sections are in the store.
     fn segments(&mut self, parts: Parts) -> Result<(), Stop>
         requires { self.old.file.store.now.segments ≡ viewed parts.0 self.old.file.loaded }
+        ensures grows { Grows self.old.out.now self.new.out.now }
         ensures lists { Lists self.old self.new result
             (segments_listed parts.0 self.old.file.loaded) }
         ensures shows { Shows self.old self.new result

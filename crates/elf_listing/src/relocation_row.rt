@@ -1,9 +1,10 @@
 //! The row of a relocation entry, shown.
+ghost use Rattle.elf_source.specs.Growth.{Grows};
 ghost use Rattle.std.specs.Prelude.{◌≡◌, ◌+◌, ℕ, List, Some, Err, length, IfSome};
 ghost use Rattle.elf_model.specs.Names.{name_bytes};
 ghost use Rattle.elf_model.specs.Rows.{symbol_named};
 ghost use Rattle.elf_table.specs.NamesRead.{NameRead};
-ghost use Rattle.elf_table.specs.Sections.{symbols_linked};
+ghost use Rattle.elf_table.specs.Relocations.{RefersTo};
 ghost use Rattle.elf_table.specs.Tables.{SymbolsWithin};
 ghost use Rattle.elf_listing.specs.Kinds.{OfRow};
 ghost use Rattle.elf_listing.specs.Shows.{Fetches, Lists};
@@ -33,6 +34,7 @@ impl<S: Source, W: Sink> Listing<'_, '_, '_, S, W> {
     ) -> Result<(), Stop>
         requires whole { length row.now.bytes.now ≡ 24 }
         requires within { IfSome linked (SymbolsWithin self.old.src.now.seen.size) }
+        ensures grows { Grows self.old.out.now self.new.out.now }
         ensures lists { Lists self.old self.new result (24 + name_bytes self.old.cap.bytes) }
         ensures shows { OfRow self.old self.new result row.now
             (Relocations section machine linked) }
@@ -52,7 +54,7 @@ impl<S: Source, W: Sink> Listing<'_, '_, '_, S, W> {
             (24 + name_bytes self.old.cap.bytes) }
         ensures unnamed { symbol ≡ 0 → self.new.src.now ≡ self.old.src.now }
         ensures read { (file : List ℕ) (header : ℕ) → self.old.src.now.seen.file ≡ Some file →
-            linked ≡ symbols_linked file header →
+            RefersTo file header linked →
             let named = symbol_named file self.old.cap.bytes header at symbol in
             NameRead named.0 result self.new.name named.1 }
     {

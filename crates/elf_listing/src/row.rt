@@ -1,4 +1,5 @@
 //! The row of a table, shown.
+ghost use Rattle.elf_source.specs.Growth.{Grows};
 ghost use Rattle.std.specs.Prelude.{◌≡◌, ◌^◌, ◌<◌, length};
 ghost use Rattle.elf_model.specs.Names.{name_bytes};
 ghost use Rattle.elf_table.specs.Tables.{StringsWithin};
@@ -19,6 +20,7 @@ impl<S: Source, W: Sink> Listing<'_, '_, '_, S, W> {
     pub(crate) fn segment_row(&mut self, row: &Row<'_>) -> Result<(), Stop>
         requires whole { length row.now.bytes.now ≡ 56 }
         requires few { row.now.index < 2 ^ 16 }
+        ensures grows { Grows self.old.out.now self.new.out.now }
         ensures lists { Lists self.old self.new result 0 }
         ensures shows { OfRow self.old self.new result row.now Segments }
     {
@@ -37,6 +39,7 @@ impl<S: Source, W: Sink> Listing<'_, '_, '_, S, W> {
     ) -> Result<(), Stop>
         requires whole { length row.now.bytes.now ≡ 24 }
         requires within { StringsWithin self.old.src.now.seen.size names.now }
+        ensures grows { Grows self.old.out.now self.new.out.now }
         ensures lists { Lists self.old self.new result (name_bytes self.old.cap.bytes) }
         ensures shows { OfRow self.old self.new result row.now (Symbols section names.now) }
     {
@@ -52,6 +55,7 @@ impl<S: Source, W: Sink> Listing<'_, '_, '_, S, W> {
 
     /// Writes a line that ends in the name that was read.
     pub(crate) fn named_line(&mut self, front: Line, end: NameEnd) -> Result<(), Stop>
+        ensures grows { Grows self.old.out.now self.new.out.now }
         ensures lists { Lists self.old self.new result 0 }
         ensures shows { OfName self.old self.new result front.items end }
     {

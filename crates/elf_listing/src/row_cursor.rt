@@ -1,7 +1,7 @@
 //! A cursor over the rows of a table that are listed.
 ghost use Rattle.std.specs.Prelude.{◌≡◌, ◌+◌, ◌<◌, ◌≤◌, None, IfErr};
 ghost use Rattle.elf_source.specs.Source.{Reads};
-ghost use Rattle.elf_table.specs.Cursors.{Shows as Lends, unread_bytes};
+ghost use Rattle.elf_table.specs.Cursors.{ShowsRow, unread_bytes};
 ghost use Rattle.elf_headers.specs.Faults.{Says};
 ghost use Rattle.elf_table.specs.Tables.{RowsWithin};
 ghost use Rattle.elf_listing.specs.Kinds.{row_size};
@@ -55,7 +55,7 @@ impl RowCursor {
     /// The row that the last step gave.
     pub(crate) fn row(&self) -> Row<'_>
         requires { 0 < (reading self.now).index }
-        ensures { Lends (reading self.now) result }
+        ensures { ShowsRow (reading self.now) result }
     {
         match self {
             RowCursor::All(cursor) => cursor.row(),

@@ -1,4 +1,5 @@
 //! The rows of a table, shown one after another.
+ghost use Rattle.elf_source.specs.Growth.{Grows};
 ghost use Rattle.std.specs.Prelude.{◌≡◌, length};
 ghost use Rattle.elf_listing.specs.Kinds.{row_size, own_cost, rows_cost, KindWithin};
 ghost use Rattle.elf_listing.specs.Kinds.{IndexFits, IsTableOf, OfRow, OfRows};
@@ -44,6 +45,7 @@ impl<S: Source, W: Sink> Listing<'_, '_, '_, S, W> {
     /// refused.
     pub(crate) fn rows(&mut self, table: Table, kind: &Kind<'_>) -> Result<(), Stop>
         requires { IsTableOf self.old.src.now.seen.size kind.now table }
+        ensures grows { Grows self.old.out.now self.new.out.now }
         ensures lists { Lists self.old self.new result
             (rows_cost kind.now table self.old.cap.bytes) }
         ensures shows { OfRows self.old self.new result table kind.now }
@@ -60,6 +62,7 @@ impl<S: Source, W: Sink> Listing<'_, '_, '_, S, W> {
         requires whole { length row.now.bytes.now ≡ row_size kind.now }
         requires within { KindWithin self.old.src.now.seen.size kind.now }
         requires fits { IndexFits kind.now row.now.index }
+        ensures grows { Grows self.old.out.now self.new.out.now }
         ensures lists { Lists self.old self.new result (own_cost kind.now self.old.cap.bytes) }
         ensures shows { OfRow self.old self.new result row.now kind.now }
     {

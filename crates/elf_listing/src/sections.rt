@@ -1,4 +1,5 @@
 //! What is listed of a section.
+ghost use Rattle.elf_source.specs.Growth.{Grows};
 ghost use Rattle.std.specs.Prelude.{◌<◌};
 ghost use Rattle.elf_listing.specs.Parts.{header_cost, header_items};
 ghost use Rattle.elf_listing.specs.Shows.{Lists, Shows};
@@ -21,6 +22,7 @@ impl<S: Source, W: Sink> Listing<'_, '_, '_, S, W> {
     /// section header (gABI 4, Section Header).
     pub(crate) fn section_row(&mut self, section: u16) -> Result<(), Stop>
         requires { section < self.old.file.store.now.loaded }
+        ensures grows { Grows self.old.out.now self.new.out.now }
         ensures lists { let f = self.old.file in Lists self.old self.new result
             (header_cost Headers f.loaded f.store.now self.old.cap.bytes section) }
         ensures shows { Shows self.old self.new result
@@ -38,6 +40,7 @@ impl<S: Source, W: Sink> Listing<'_, '_, '_, S, W> {
     /// refusal of its table, of its string table or of a name (gABI 4, Symbol Table).
     pub(crate) fn symbols(&mut self, section: u16) -> Result<(), Stop>
         requires { section < self.old.file.store.now.loaded }
+        ensures grows { Grows self.old.out.now self.new.out.now }
         ensures lists { let f = self.old.file in Lists self.old self.new result
             (header_cost Symbols f.loaded f.store.now self.old.cap.bytes section) }
         ensures shows { Shows self.old self.new result
@@ -56,6 +59,7 @@ impl<S: Source, W: Sink> Listing<'_, '_, '_, S, W> {
     /// Relocation).
     pub(crate) fn relocations(&mut self, section: u16) -> Result<(), Stop>
         requires { section < self.old.file.store.now.loaded }
+        ensures grows { Grows self.old.out.now self.new.out.now }
         ensures lists { let f = self.old.file in Lists self.old self.new result
             (header_cost Relocations f.loaded f.store.now self.old.cap.bytes section) }
         ensures shows { Shows self.old self.new result
@@ -81,6 +85,7 @@ impl<S: Source, W: Sink> Listing<'_, '_, '_, S, W> {
     /// table or of what stands in the place of a note (gABI 5, Note Section).
     pub(crate) fn section_notes(&mut self, section: u16) -> Result<(), Stop>
         requires { section < self.old.file.store.now.loaded }
+        ensures grows { Grows self.old.out.now self.new.out.now }
         ensures lists { let f = self.old.file in Lists self.old self.new result
             (header_cost SectionNotes f.loaded f.store.now self.old.cap.bytes section) }
         ensures shows { Shows self.old self.new result
@@ -100,6 +105,7 @@ impl<S: Source, W: Sink> Listing<'_, '_, '_, S, W> {
     /// (gABI 5, Dynamic Section).
     pub(crate) fn section_dynamic(&mut self, section: u16) -> Result<(), Stop>
         requires { section < self.old.file.store.now.loaded }
+        ensures grows { Grows self.old.out.now self.new.out.now }
         ensures lists { let f = self.old.file in Lists self.old self.new result
             (header_cost SectionDynamic f.loaded f.store.now self.old.cap.bytes section) }
         ensures shows { Shows self.old self.new result

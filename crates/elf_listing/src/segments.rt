@@ -1,4 +1,5 @@
 //! What is listed of a program header of a file without sections.
+ghost use Rattle.elf_source.specs.Growth.{Grows};
 ghost use Rattle.std.specs.Prelude.{◌≡◌, ◌<◌};
 ghost use Rattle.elf_listing.specs.Parts.{header_cost, header_items};
 ghost use Rattle.elf_listing.specs.Shows.{Lists, Shows};
@@ -32,6 +33,7 @@ impl<'f, S: Source, W: Sink> Listing<'_, '_, 'f, S, W> {
     /// Header).
     pub(crate) fn segment_header(&mut self, segment: u16) -> Result<(), Stop>
         requires { segment < self.old.file.store.now.segments }
+        ensures grows { Grows self.old.out.now self.new.out.now }
         ensures lists { let f = self.old.file in Lists self.old self.new result
             (header_cost Segments f.loaded f.store.now self.old.cap.bytes segment) }
         ensures shows { Shows self.old self.new result
@@ -46,6 +48,7 @@ impl<'f, S: Source, W: Sink> Listing<'_, '_, 'f, S, W> {
     /// Section).
     pub(crate) fn segment_notes(&mut self, segment: u16) -> Result<(), Stop>
         requires { segment < self.old.file.store.now.segments }
+        ensures grows { Grows self.old.out.now self.new.out.now }
         ensures lists { let f = self.old.file in Lists self.old self.new result
             (header_cost SegmentNotes f.loaded f.store.now self.old.cap.bytes segment) }
         ensures shows { Shows self.old self.new result
@@ -65,6 +68,7 @@ impl<'f, S: Source, W: Sink> Listing<'_, '_, 'f, S, W> {
     /// and the size, and once more to be shown (gABI 5, Dynamic Section).
     pub(crate) fn segment_dynamic(&mut self, segment: u16) -> Result<(), Stop>
         requires { segment < self.old.file.store.now.segments }
+        ensures grows { Grows self.old.out.now self.new.out.now }
         ensures lists { let f = self.old.file in Lists self.old self.new result
             (header_cost SegmentDynamic f.loaded f.store.now self.old.cap.bytes segment) }
         ensures shows { Shows self.old self.new result

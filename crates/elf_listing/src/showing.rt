@@ -1,4 +1,5 @@
 //! The call that writes a listing.
+ghost use Rattle.elf_source.specs.Growth.{Grows};
 ghost use Rattle.std.specs.Prelude.{◌≡◌, ◌+◌, ◌-◌, ◌^◌, ◌≤◌, ◌||◌, [], ◌∷◌, false, ℕ, List};
 ghost use Rattle.std.specs.Prelude.{Some, None, Ok, IfErr, OnOk};
 ghost use Rattle.elf_model.specs.Checks.{first_refusal, length_checks};
@@ -50,6 +51,7 @@ pub fn show<S: Source, W: Sink>(
 ) -> Result<End, RunFault>
     requires { (store.old.slots ≡ caps.headers) × (src.old.asked ≤ 2 ^ 127) }
     ensures slots { store.new.slots ≡ store.old.slots }
+    ensures grows { Grows out.old out.new }
     ensures leaves { Leaves src.old src.new }
     ensures says { IfErr result (FaultSays src.old src.new out.new) }
     ensures text { (file : List ℕ) → src.old.seen.file ≡ Some file →
@@ -82,6 +84,7 @@ fn list<S: Source, W: Sink>(
     out: &mut Out<W>,
 ) -> Result<(), Stop>
     ensures slots { store.new.slots ≡ store.old.slots }
+    ensures grows { Grows out.old out.new }
     ensures ceiling { Costs src.old src.new out.new result
         (ceiling src.old.seen.size store.old.slots cap.bytes) }
     ensures unread { (refusal : Refuses) →
@@ -99,6 +102,7 @@ fn list<S: Source, W: Sink>(
 
 /// Lists the file header, where the parts have it: its `H` line (gABI 4, ELF Header).
 fn list_header<W: Sink>(header: &Ehdr, parts: Parts, out: &mut Out<W>) -> Result<(), Stop>
+    ensures grows { Grows out.old out.new }
     ensures fails { IfErr result (IsOfOutput out.new) }
     ensures text { (file : List ℕ) → IsEhdr file 0 header.now → Writes out.old out.new result
         (where_asked parts.0 HEADER (LineItem (header_line file) ∷ [])) }
@@ -123,6 +127,7 @@ fn list_loaded<S: Source, W: Sink>(
     requires header { (file : List ℕ) → src.old.seen.file ≡ Some file →
         HeaderRead file (Ok header.now) }
     ensures slots { store.new.slots ≡ store.old.slots }
+    ensures grows { Grows out.old out.new }
     ensures below { Costs src.old src.new out.new result
         (ceiling src.old.seen.size store.old.slots cap.bytes - 64) }
     ensures alone { has_tables parts.0 ≡ false → src.new ≡ src.old }
@@ -190,6 +195,7 @@ fn list_tables<S: Source, W: Sink>(
     requires whole { store.now.loaded ≡ loaded.header.e_shnum }
     requires counted { store.now.segments ≡ viewed parts.0 loaded }
     requires viewed { IsViewed src.old.seen.file loaded store.now }
+    ensures grows { Grows out.old out.new }
     ensures costs { Costs src.old src.new out.new result
         (tables_listed parts.0 loaded store.now cap.bytes) }
     ensures text { (file : List ℕ) → src.old.seen.file ≡ Some file →

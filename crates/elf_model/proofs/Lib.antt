@@ -1,3 +1,4 @@
+pub mod AppliedLaws
 pub mod ApplySteps
 pub mod ChangeLaws
 pub mod ChangeSteps

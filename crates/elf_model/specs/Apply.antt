@@ -2,14 +2,14 @@
 -- offset `at` of the file, a relocation entry at an offset `rela`.
 use Rattle.std.specs.Prelude.{ℕ, zero, suc, ◌+◌, ◌==◌, ◌&&◌, ◌||◌, nat_lt, not, Bool, true, false, if◌then◌else◌, List, [], ◌∷◌, ◌++◌, length, take, drop, flat_map, Option, None, Some, Result, Ok, Err}
 use Rattle.elf_model.specs.Checks.{Check, refuse, first_refusal, header_checks, load_checks, range_checks}
-use Rattle.elf_model.specs.Hash.{symbol_count, symbol_at}
+use Rattle.elf_model.specs.Hash.{symbol_at}
 use Rattle.elf_model.specs.NameTables.{EM_X86_64}
 use Rattle.elf_model.specs.Numbers.{SHT_NULL, SHT_NOBITS, SHT_RELA}
 use Rattle.elf_model.specs.Placing.{Layout, symbol_value, linkage_value, place_value}
 use Rattle.elf_model.specs.Records.{e_type, e_machine, e_shnum, sh_type, sh_info, r_offset, r_sym, r_type, r_addend, twos_complement, section_at}
-use Rattle.elf_model.specs.Tables.{RELA_SIZE, section_bytes, linked_at, strings_of, entry_count, entry_at, has_symbols, relocation_table_checks}
+use Rattle.elf_model.specs.Tables.{RELA_SIZE, section_bytes, linked_at, strings_of, entry_count, entry_at, relocation_table_checks, symbol_checks_of}
 use Rattle.elf_model.specs.Values.{Terms, takes_linkage, takes_place, Kind, kind_of, R_X86_64_NONE, overflows, low_bytes}
-use Rattle.elf_model.specs.declared.causes.Cause.TheVariants.{NotRel, BadLink, Unsupported, Overflow, PlaceOutside, SymbolIndex}
+use Rattle.elf_model.specs.declared.causes.Cause.TheVariants.{NotRel, BadLink, Unsupported, Overflow, PlaceOutside}
 use Rattle.elf_model.specs.declared.causes.Refusal.{Refusal}
 
 -- a section holds no bytes in the file (gABI 4, Section Types)
@@ -39,11 +39,7 @@ named_value value target at rela =
 
 -- the symbol that an entry names is one of the linked table's, or symbol 0
 abbrev pub symbol_checks : List ℕ → ℕ → ℕ → List Check
-symbol_checks file at rela =
-    let named = not (r_sym file rela == 0) in
-    refuse (named && not (has_symbols file at)) rela BadLink
-    ∷ refuse (named && not (nat_lt (r_sym file rela) (symbol_count file (linked_at file at)))) rela SymbolIndex
-    ∷ []
+symbol_checks file at rela = symbol_checks_of file at rela (r_sym file rela)
 
 -- where a value is taken it is there
 abbrev pub value_checks : Bool → Result ℕ Refusal → List Check

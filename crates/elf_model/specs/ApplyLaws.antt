@@ -1,7 +1,8 @@
 -- Laws of patches: what an entry stores, what a part of a patched section holds, and which parts later patches leave alone.
 use Rattle.std.specs.Prelude.{ℕ, ◌+◌, ◌-◌, ◌≤◌, ◌≡◌, ◌&&◌, nat_lt, nat_le, if◌then◌else◌, min, List, [], ◌∷◌, length, get_or, take, drop, map, All, Ok}
-use Rattle.elf_model.specs.Apply.{Patch, Put, Target, terms_of, entry_changes, changes_of, patches_of, patched}
+use Rattle.elf_model.specs.Apply.{Patch, Put, Target, terms_of, entry_changes, changes_of, patches_of, patched, held_size, applied}
 use Rattle.elf_model.specs.Bytes.{slice}
+use Rattle.elf_model.specs.Placing.{Layout}
 use Rattle.elf_model.specs.Records.{r_offset, r_type}
 use Rattle.elf_model.specs.Values.{value}
 
@@ -76,3 +77,9 @@ EntryStoresValue =
 abbrev pub ChangesInside : Type 0
 ChangesInside =
     (target : Target) (patches : List Patch) → patches_of (changes_of target) ≡ Ok patches → AllInside target.size patches
+
+-- a section with its relocations applied has as many bytes as it holds in the file
+abbrev pub AppliedKeepsLength : Type 0
+AppliedKeepsLength =
+    (file : List ℕ) (headers section : ℕ) (layout : Layout) (text : List ℕ)
+    → applied file headers section layout ≡ Ok text → length text ≡ held_size file section

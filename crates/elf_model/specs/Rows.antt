@@ -1,16 +1,17 @@
 -- The rows of a listing. Each is a line, or the fault of its entry.
-use Rattle.std.specs.Prelude.{ℕ, ◌+◌, ◌==◌, ◌||◌, nat_lt, not, Bool, true, false, if◌then◌else◌, List, [], ◌∷◌, ◌++◌, length, Option, None, Some, Result, Ok, Err}
+use Rattle.std.specs.Prelude.{ℕ, ◌+◌, ◌==◌, ◌||◌, Bool, true, false, if◌then◌else◌, List, [], ◌∷◌, ◌++◌, length, Option, None, Some, Result, Ok, Err}
 use Rattle.elf_model.specs.Records.{e_machine, e_shstrndx, sh_name, section_at, segment_at, st_name, r_sym, d_tag, d_un}
 use Rattle.elf_model.specs.Numbers.{DT_NEEDED, DT_SONAME, DT_RPATH, DT_RUNPATH}
 use Rattle.elf_model.specs.Names.{Shown, shown}
 use Rattle.elf_model.specs.Names.Shown.{Whole}
 use Rattle.elf_model.specs.Notes.{Note, Walk, note_shown}
-use Rattle.elf_model.specs.Tables.{SYMBOL_SIZE, RELA_SIZE, section_bytes, strings_of, linked_at, entry_count, entry_at, has_symbols}
+use Rattle.elf_model.specs.Tables.{SYMBOL_SIZE, RELA_SIZE, section_bytes, strings_of, linked_at, entry_at, symbol_checks_of}
+use Rattle.elf_model.specs.Checks.{first_refusal}
 use Rattle.elf_model.specs.LineFronts.{section_front, symbol_front, relocation_front, note_front, dynamic_front}
 use Rattle.elf_model.specs.Lines.{named_line, note_line, segment_line}
 use Rattle.elf_model.specs.Listing.{Item, Line, Fault}
 use Rattle.elf_model.specs.declared.causes.Cause.{Cause}
-use Rattle.elf_model.specs.declared.causes.Cause.TheVariants.{BadLink, SymbolIndex, NoteCut}
+use Rattle.elf_model.specs.declared.causes.Cause.TheVariants.{NoteCut}
 use Rattle.elf_model.specs.declared.causes.Refusal.{Refusal}
 
 -- a row that is refused, at an offset
@@ -55,9 +56,10 @@ symbol_named file cap header_at rela_at symbol =
     let table_at = linked_at file header_at in
     let symbol_at = entry_at file table_at SYMBOL_SIZE symbol in
     if symbol == 0 then (rela_at, no_name)
-    else if not (has_symbols file header_at) then (rela_at, Err BadLink)
-    else if not (nat_lt symbol (entry_count file table_at SYMBOL_SIZE)) then (rela_at, Err SymbolIndex)
-    else (symbol_at, shown (strings_of file table_at) (st_name file symbol_at) cap)
+    else elim (first_refusal (symbol_checks_of file header_at rela_at symbol)) [
+      | Some refusal ↦ (refusal.at, Err refusal.cause)
+      | None ↦ (symbol_at, shown (strings_of file table_at) (st_name file symbol_at) cap)
+    ]
 
 -- the row of a relocation entry with the name of its symbol
 unfoldable pub relocation_row : List ℕ → ℕ → ℕ → ℕ → ℕ → List Item

@@ -1,13 +1,13 @@
 -- The segments of a file: which of them is a table of dynamic entries, and where the addresses that its entries give
 -- stand in the file (gABI 5, Program Header, Program Loading). A program header stands at an offset of some bytes: of the
 -- file, or of its own bytes alone, at 0.
-use Rattle.std.specs.Prelude.{ℕ, zero, suc, ◌+◌, ◌-◌, ◌%◌, ◌==◌, ◌&&◌, nat_lt, not, Bool, true, if◌then◌else◌, List, [], ◌∷◌, length, Option, None, Some}
+use Rattle.std.specs.Prelude.{ℕ, zero, suc, ◌+◌, ◌-◌, ◌==◌, ◌&&◌, nat_lt, not, Bool, true, if◌then◌else◌, List, [], ◌∷◌, length, Option, None, Some}
 use Rattle.elf_model.specs.Bytes.{slice}
 use Rattle.elf_model.specs.Records.{e_phnum, p_type, p_offset, p_vaddr, p_filesz, segment_at}
 use Rattle.elf_model.specs.Numbers.{PT_LOAD}
 use Rattle.elf_model.specs.Checks.{Check, refuse, is_outside, unless_empty, whole_checks_of}
 use Rattle.elf_model.specs.Tables.{DYNAMIC_SIZE}
-use Rattle.elf_model.specs.declared.causes.Cause.TheVariants.{SizeNotWhole, TableOutside, Unmapped}
+use Rattle.elf_model.specs.declared.causes.Cause.TheVariants.{TableOutside, Unmapped}
 
 -- a segment that is a table of dynamic entries: its program header stands at an offset of some bytes, in a file of so many
 -- bytes; the refusals name a place. One of size 0 has no checks

@@ -1,8 +1,9 @@
 -- The tables of a file: where their entries stand, what they link to, and their checks.
-use Rattle.std.specs.Prelude.{ℕ, ◌+◌, ◌*◌, ◌/◌, ◌&&◌, nat_lt, if◌then◌else◌, Bool, List, [], ◌++◌}
+use Rattle.std.specs.Prelude.{ℕ, ◌+◌, ◌*◌, ◌/◌, ◌==◌, ◌&&◌, nat_lt, not, if◌then◌else◌, Bool, List, [], ◌∷◌, ◌++◌}
 use Rattle.elf_model.specs.Bytes.{slice}
 use Rattle.elf_model.specs.Records.{e_shnum, sh_offset, sh_size, sh_link, section_at}
-use Rattle.elf_model.specs.Checks.{Check, unless_empty, table_checks, strings_checks, is_symbol_table}
+use Rattle.elf_model.specs.Checks.{Check, refuse, unless_empty, table_checks, strings_checks, is_symbol_table}
+use Rattle.elf_model.specs.declared.causes.Cause.TheVariants.{BadLink, SymbolIndex}
 
 -- the size of a symbol, of a relocation entry with an addend, and of a dynamic entry, in bytes
 abbrev pub SYMBOL_SIZE : ℕ
@@ -42,12 +43,22 @@ symbol_table_checks file at = unless_empty (sh_size file at) (table_checks file 
 abbrev pub has_symbols : List ℕ → ℕ → Bool
 has_symbols file at = nat_lt (sh_link file at) (e_shnum file) && is_symbol_table file (linked_at file at)
 
--- a table of relocation entries: its own checks, then those of the symbol table that it links to, if it has one
+-- the symbol table that a section links to, if it has one
+abbrev pub linked_table_checks : List ℕ → ℕ → List Check
+linked_table_checks file at = if has_symbols file at then symbol_table_checks file (linked_at file at) else []
+
+-- a table of relocation entries: its own checks, then those of the symbol table that it links to
 abbrev pub relocation_table_checks : List ℕ → ℕ → List Check
-relocation_table_checks file at =
-    unless_empty (sh_size file at)
-    (table_checks file at RELA_SIZE
-    ++ (if has_symbols file at then symbol_table_checks file (linked_at file at) else []))
+relocation_table_checks file at = unless_empty (sh_size file at) (table_checks file at RELA_SIZE ++ linked_table_checks file at)
+
+-- the symbol of an index that a relocation entry at an offset names, for the section whose header stands at an offset:
+-- symbol 0, or one of the linked table's
+abbrev pub symbol_checks_of : List ℕ → ℕ → ℕ → ℕ → List Check
+symbol_checks_of file header_at rela_at symbol =
+    let named = not (symbol == 0) in
+    refuse (named && not (has_symbols file header_at)) rela_at BadLink
+    ∷ refuse (named && not (nat_lt symbol (entry_count file (linked_at file header_at) SYMBOL_SIZE))) rela_at SymbolIndex
+    ∷ []
 
 -- a table of dynamic entries: its own checks, then its string table's
 abbrev pub dynamic_table_checks : List ℕ → ℕ → List Check

@@ -1,5 +1,6 @@
 //! Laws of relocations applied to a section, each proved of the definitions.
 ghost use Rattle.elf_model.specs.ApplyLaws.{LengthKept, BytePatched, WindowPatched, FinalBelow, KeptAbove, EntryStoresValue, ChangesInside};
+ghost use Rattle.elf_model.specs.ApplyLaws.{AppliedKeepsLength};
 
 /// Patches within a section leave its length.
 pub fn length_kept()
@@ -34,4 +35,9 @@ pub fn entry_stores_value()
 /// What the relocation entries store lies in the section.
 pub fn changes_inside()
     ensures { ChangesInside }
+{}
+
+/// A section with its relocations applied has as many bytes as it holds in the file.
+pub fn applied_keeps_length()
+    ensures { AppliedKeepsLength }
 {}

@@ -1,13 +1,13 @@
 -- What is left of the dynamic entries of a table after a step.
 use Rattle.std.proofs.lemmas.Bool.Decides.{nat_tests}
-use Rattle.std.proofs.Common.{◌≡◌, ◌≢◌, ◌==◌, ℕ, zero, suc, ◌+◌, ◌*◌, Bool, true, false, List, Option, None, Some, Ok, inr, refl, ap, sym, ◌∙◌, arith}
+use Rattle.std.proofs.Common.{◌≡◌, ◌≢◌, ◌==◌, ℕ, suc, ◌+◌, ◌*◌, Bool, true, false, List, Option, None, Some, Ok, inr, refl, ap, sym, ◌∙◌, arith}
 use Rattle.elf_model.specs.Bytes.{slice, field}
 use Rattle.elf_model.specs.Dynamic.{dynamic_count, dynamic_value}
 use Rattle.elf_model.specs.Numbers.{DT_NULL}
 use Rattle.elf_model.specs.Records.{d_tag, d_un}
 use Rattle.elf_model.proofs.DynamicLaws.{count-zero, count-null, count-more, value-none, value-here, value-more}
 use Rattle.elf_model.proofs.Slices.{field-slice}
-use Rattle.elf_table.specs.Cursors.{Reading, Gives, Advances, place}
+use Rattle.elf_table.specs.Cursors.{Reading, GivesRow, Advances, next_row}
 use Rattle.elf_table.specs.Tables.{Rows}
 use Rattle.elf_note.specs.DynCursors.{Entries, AdvancesEntries, GivesEntry, EndsEntries, entries_left, first_value, value_here}
 
@@ -22,32 +22,32 @@ pub left-ended : (file : List ℕ) (d : Entries) → d.ended ≡ true → entrie
 left-ended file d e = rw e refl
 
 -- else those are left that the table has
-left-more : (file : List ℕ) (d : Entries) → d.ended ≡ false → entries_left file d ≡ dynamic_count file (place d.cursor) d.cursor.left
+left-more : (file : List ℕ) (d : Entries) → d.ended ≡ false → entries_left file d ≡ dynamic_count file (next_row d.cursor) d.cursor.left
 left-more file d e = rw e refl
 
 -- behind the last row none is left
 left-none : (file : List ℕ) (d : Entries) → d.ended ≡ false → d.cursor.left ≡ 0 → entries_left file d ≡ 0
-left-none file d e z = left-more file d e ∙ ap (dynamic_count file (place d.cursor)) z ∙ count-zero file (place d.cursor)
+left-none file d e z = left-more file d e ∙ ap (dynamic_count file (next_row d.cursor)) z ∙ count-zero file (next_row d.cursor)
 
 -- the next entry stands behind the one that a step gives
-pub next-place : (file : Option (List ℕ)) (old new : Reading) → Gives file old new → old.table.entry ≡ 16 → place new ≡ place old + 16
+pub next-place : (file : Option (List ℕ)) (old new : Reading) → GivesRow file old new → old.table.entry ≡ 16 → next_row new ≡ next_row old + 16
 next-place file old new g e =
     let next = g.next_index in
     let moved : old.table.at + new.index * 16 ≡ old.table.at + old.index * 16 + 16 = omega arith in
     ap (λ (t : Rows). t.at + new.index * t.entry) g.same_table ∙ ap (λ (x : ℕ). old.table.at + new.index * x) e ∙ moved
     ∙ ap (λ (x : ℕ). old.table.at + old.index * x + 16) (sym e)
 
-one-less : (file : List ℕ) (old new : Entries) → old.ended ≡ false → new.ended ≡ (d_tag file (place old.cursor) == DT_NULL)
-    → new.cursor.left + 1 ≡ old.cursor.left → place new.cursor ≡ place old.cursor + 16 → entries_left file old ≡ suc (entries_left file new)
+one-less : (file : List ℕ) (old new : Entries) → old.ended ≡ false → new.ended ≡ (d_tag file (next_row old.cursor) == DT_NULL)
+    → new.cursor.left + 1 ≡ old.cursor.left → next_row new.cursor ≡ next_row old.cursor + 16 → entries_left file old ≡ suc (entries_left file new)
 one-less file old new e n l p =
     let more : old.cursor.left ≡ suc new.cursor.left = omega arith in
-    left-more file old e ∙ ap (dynamic_count file (place old.cursor)) more ∙ go (d_tag file (place old.cursor) == DT_NULL) refl
+    left-more file old e ∙ ap (dynamic_count file (next_row old.cursor)) more ∙ go (d_tag file (next_row old.cursor) == DT_NULL) refl
   where
-    go : (b : Bool) → (d_tag file (place old.cursor) == DT_NULL) ≡ b
-        → dynamic_count file (place old.cursor) (suc new.cursor.left) ≡ suc (entries_left file new)
-    go true t = count-null file (place old.cursor) new.cursor.left (is-same (d_tag file (place old.cursor)) DT_NULL t) ∙ ap suc (sym (left-ended file new (n ∙ t)))
+    go : (b : Bool) → (d_tag file (next_row old.cursor) == DT_NULL) ≡ b
+        → dynamic_count file (next_row old.cursor) (suc new.cursor.left) ≡ suc (entries_left file new)
+    go true t = count-null file (next_row old.cursor) new.cursor.left (is-same (d_tag file (next_row old.cursor)) DT_NULL t) ∙ ap suc (sym (left-ended file new (n ∙ t)))
     go false t =
-        count-more file (place old.cursor) new.cursor.left (is-other (d_tag file (place old.cursor)) DT_NULL t)
+        count-more file (next_row old.cursor) new.cursor.left (is-other (d_tag file (next_row old.cursor)) DT_NULL t)
         ∙ ap suc (ap (λ (x : ℕ). dynamic_count file x new.cursor.left) (sym p) ∙ sym (left-more file new (n ∙ t)))
 
 -- a step over a row gives its entry
@@ -59,10 +59,10 @@ gives-entry file old new true t s size e n = record {
   not_ended = e;
   ends_with = n;
   one_less = λ bytes h a.
-      let row : new.cursor.row ≡ slice bytes (place old.cursor) 16 = s.exact bytes h a ∙ ap (slice bytes (place old.cursor)) size in
-      let here : place old.cursor + 0 ≡ place old.cursor = omega arith in
-      let tag : d_tag new.cursor.row 0 ≡ d_tag bytes (place old.cursor) =
-      ap (λ (x : List ℕ). field x 0 8) row ∙ field-slice bytes (place old.cursor) 16 0 8 (omega arith) ∙ ap (λ (x : ℕ). field bytes x 8) here in
+      let row : new.cursor.row ≡ slice bytes (next_row old.cursor) 16 = s.exact bytes h a ∙ ap (slice bytes (next_row old.cursor)) size in
+      let here : next_row old.cursor + 0 ≡ next_row old.cursor = omega arith in
+      let tag : d_tag new.cursor.row 0 ≡ d_tag bytes (next_row old.cursor) =
+      ap (λ (x : List ℕ). field x 0 8) row ∙ field-slice bytes (next_row old.cursor) 16 0 8 (omega arith) ∙ ap (λ (x : ℕ). field bytes x 8) here in
       one-less bytes old new e (n ∙ ap (λ (x : ℕ). x == DT_NULL) tag) s.one_less (next-place file old.cursor new.cursor s size);
 }
 
@@ -93,20 +93,20 @@ value-suc file at n tag = go (d_tag file at == tag) refl
 
 -- a value that is looked for in the entry that a step gives, and then in those that are left
 pub value-step : (file : List ℕ) (old new : Entries) (tag : ℕ) (found : Option ℕ) → entries_left file old ≡ suc (entries_left file new)
-    → place new.cursor ≡ place old.cursor + 16
-    → first_value (first_value found (value_here file (place old.cursor) tag)) (dynamic_value file (place new.cursor) (entries_left file new) tag)
-    ≡ first_value found (dynamic_value file (place old.cursor) (entries_left file old) tag)
+    → next_row new.cursor ≡ next_row old.cursor + 16
+    → first_value (first_value found (value_here file (next_row old.cursor) tag)) (dynamic_value file (next_row new.cursor) (entries_left file new) tag)
+    ≡ first_value found (dynamic_value file (next_row old.cursor) (entries_left file old) tag)
 value-step file old new tag (Some value) less next = refl
 value-step file old new tag None less next =
-    ap (λ (x : ℕ). first_value (value_here file (place old.cursor) tag) (dynamic_value file x (entries_left file new) tag)) next
-    ∙ value-suc file (place old.cursor) (entries_left file new) tag
-    ∙ ap (λ (n : ℕ). dynamic_value file (place old.cursor) n tag) (sym less)
+    ap (λ (x : ℕ). first_value (value_here file (next_row old.cursor) tag) (dynamic_value file x (entries_left file new) tag)) next
+    ∙ value-suc file (next_row old.cursor) (entries_left file new) tag
+    ∙ ap (λ (n : ℕ). dynamic_value file (next_row old.cursor) n tag) (sym less)
 
 -- where no entry is left, a value is what was found
 pub value-end : (file : List ℕ) (d : Entries) (tag : ℕ) (found : Option ℕ) → entries_left file d ≡ 0
-    → first_value found (dynamic_value file (place d.cursor) (entries_left file d) tag) ≡ found
+    → first_value found (dynamic_value file (next_row d.cursor) (entries_left file d) tag) ≡ found
 value-end file d tag (Some value) z = refl
-value-end file d tag None z = ap (λ (n : ℕ). dynamic_value file (place d.cursor) n tag) z ∙ value-none file (place d.cursor) tag
+value-end file d tag None z = ap (λ (n : ℕ). dynamic_value file (next_row d.cursor) n tag) z ∙ value-none file (next_row d.cursor) tag
 
 -- a step that answered an entry gave it
 pub given : (file : Option (List ℕ)) (old new : Entries) (b : Bool) → b ≡ true → AdvancesEntries file old new (Ok b) → GivesEntry file old new

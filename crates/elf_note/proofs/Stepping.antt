@@ -12,18 +12,18 @@ use Rattle.elf_record.specs.NoteHead.{IsNoteHead}
 use Rattle.elf_record.specs.declared.note_head.NoteHead.{NoteHead}
 use Rattle.elf_headers.specs.declared.fault.Fault.{Fault}
 use Rattle.elf_table.specs.declared.names.NameEnd.{NameEnd}
-use Rattle.elf_table.specs.Windows.{Ahead, left, range_end}
+use Rattle.elf_table.specs.Windows.{Ahead, bytes_left, range_end}
 use Rattle.elf_note.specs.NoteCursors.{rest, notes_left, no_notes, cut_at, NameIs, Tells, note_size}
 
-short : (file : List ℕ) (w : Ahead) → left w < 12 → length (rest file w) < 12
-short file w few = omega (arith, length-take (left w) (drop w.at file))
+short : (file : List ℕ) (w : Ahead) → bytes_left w < 12 → length (rest file w) < 12
+short file w few = omega (arith, length-take (bytes_left w) (drop w.at file))
 
 -- zeros alone are left
-pub left-zeros : (a : ℕ) (file : List ℕ) (w : Ahead) → left w < 12 → are_zeros (rest file w) ≡ true → notes_left a file w ≡ no_notes
+pub left-zeros : (a : ℕ) (file : List ℕ) (w : Ahead) → bytes_left w < 12 → are_zeros (rest file w) ≡ true → notes_left a file w ≡ no_notes
 left-zeros a file w few z = walk-ends a w.at (rest file w) (next-ends a (rest file w) (short file w few) z)
 
 -- too few bytes are left, and not all are zero
-pub left-few : (a : ℕ) (file : List ℕ) (w : Ahead) → left w < 12 → are_zeros (rest file w) ≡ false → notes_left a file w ≡ cut_at w.at
+pub left-few : (a : ℕ) (file : List ℕ) (w : Ahead) → bytes_left w < 12 → are_zeros (rest file w) ≡ false → notes_left a file w ≡ cut_at w.at
 left-few a file w few z = walk-broken a w.at (rest file w) (next-tails a (rest file w) (short file w few) z)
 
 -- the head of what is left is the note's
@@ -43,11 +43,11 @@ end-is : (a : ℕ) (bytes : List ℕ) (head : NoteHead) → Heads bytes head →
 end-is a bytes head e = rw (e.name, e.descriptor) refl
 
 -- the note that the head says does not fit
-pub left-short : (a : ℕ) (file : List ℕ) (w : Ahead) (head : NoteHead) → IsNoteHead file w.at head → range_end w ≤ length file → 12 ≤ left w
-    → left w < descriptor_start a head.namesz head.descsz + head.descsz → notes_left a file w ≡ cut_at w.at
+pub left-short : (a : ℕ) (file : List ℕ) (w : Ahead) (head : NoteHead) → IsNoteHead file w.at head → range_end w ≤ length file → 12 ≤ bytes_left w
+    → bytes_left w < descriptor_start a head.namesz head.descsz + head.descsz → notes_left a file w ≡ cut_at w.at
 left-short a file w head s ends h few =
-    let long : length (rest file w) ≡ left w = slice-size file w.at (left w) (omega arith) in
-    let e = end-is a (rest file w) head (heads file w.at (left w) head h s) in
+    let long : length (rest file w) ≡ bytes_left w = slice-size file w.at (bytes_left w) (omega arith) in
+    let e = end-is a (rest file w) head (heads file w.at (bytes_left w) head h s) in
     walk-broken a w.at (rest file w) (next-past a (rest file w) (omega arith) (omega arith))
 
 -- a size within what is left, in its parts
@@ -55,18 +55,18 @@ pub size-parts : (s t n : ℕ) → s ≤ n → min (s + t) n ≡ s + min t (n - 
 size-parts s t n few = omega arith
 
 -- a note stands there
-pub left-found : (a : ℕ) (file : List ℕ) (old new : Ahead) (head : NoteHead) → IsNoteHead file old.at head → range_end old ≤ length file → 12 ≤ left old
-    → descriptor_start a head.namesz head.descsz + head.descsz ≤ left old → range_end new ≡ range_end old
-    → new.at ≡ old.at + note_size a head.namesz head.descsz (left old)
+pub left-found : (a : ℕ) (file : List ℕ) (old new : Ahead) (head : NoteHead) → IsNoteHead file old.at head → range_end old ≤ length file → 12 ≤ bytes_left old
+    → descriptor_start a head.namesz head.descsz + head.descsz ≤ bytes_left old → range_end new ≡ range_end old
+    → new.at ≡ old.at + note_size a head.namesz head.descsz (bytes_left old)
     → notes_left a file old ≡ with_note (first_note a (rest file old)) (notes_left a file new)
 left-found a file old new head s ends h fits same moved =
-    let long : length (rest file old) ≡ left old = slice-size file old.at (left old) (omega arith) in
-    let e = end-is a (rest file old) head (heads file old.at (left old) head h s) in
-    let size : ℕ = note_size a head.namesz head.descsz (left old) in
+    let long : length (rest file old) ≡ bytes_left old = slice-size file old.at (bytes_left old) (omega arith) in
+    let e = end-is a (rest file old) head (heads file old.at (bytes_left old) head h s) in
+    let size : ℕ = note_size a head.namesz head.descsz (bytes_left old) in
     let its : min (first_end a (rest file old) + to_next a (first_end a (rest file old))) (length (rest file old)) ≡ size = rw (e, long) refl in
     let next = next-found a (rest file old) (omega arith) (omega arith) ∙ ap (OneNote (first_note a (rest file old))) its in
     let behind : drop size (rest file old) ≡ rest file new =
-    slice-rest file old.at (left old) size (omega arith) ∙ ap (λ (x : ℕ). slice file x (left old - size)) (sym moved) ∙ ap (slice file new.at) (omega arith) in
+    slice-rest file old.at (bytes_left old) size (omega arith) ∙ ap (λ (x : ℕ). slice file x (bytes_left old - size)) (sym moved) ∙ ap (slice file new.at) (omega arith) in
     walk-found a old.at (rest file old) (first_note a (rest file old)) size next
     ∙ ap (λ (x : List ℕ). with_note (first_note a (rest file old)) (walk a (old.at + size) x)) behind
     ∙ ap (λ (x : ℕ). with_note (first_note a (rest file old)) (walk a x (rest file new))) (sym moved)
@@ -84,22 +84,22 @@ first-bytes file at size shown e = go (cases_lt size 32)
         take-take 32 size (drop at file) more ∙ ap (slice file at) most
 
 pub found-tells : (file : List ℕ) (a cap : ℕ) (old new : Ahead) (head : NoteHead) (name_end : NameEnd) (name desc : List ℕ) (place desc_at shown : ℕ)
-    → place ≡ old.at → IsNoteHead file old.at head → range_end old ≤ length file → 12 ≤ left old
-    → descriptor_start a head.namesz head.descsz + head.descsz ≤ left old → range_end new ≡ range_end old
-    → new.at ≡ old.at + note_size a head.namesz head.descsz (left old)
+    → place ≡ old.at → IsNoteHead file old.at head → range_end old ≤ length file → 12 ≤ bytes_left old
+    → descriptor_start a head.namesz head.descsz + head.descsz ≤ bytes_left old → range_end new ≡ range_end old
+    → new.at ≡ old.at + note_size a head.namesz head.descsz (bytes_left old)
     → ((note : Note) → note.name ≡ slice file (old.at + 12) head.namesz → length note.name ≡ head.namesz → NameIs name_end name (note_shown cap note))
     → desc_at ≡ old.at + descriptor_start a head.namesz head.descsz → shown ≡ min head.descsz 32 → take shown desc ≡ slice file desc_at shown
     → Tells a cap old.at name desc (notes_left a file old) (notes_left a file new) (Ok (Some (record { at = place; head = head; name_end = name_end; desc_at = desc_at; shown = shown })))
 found-tells file a cap old new head name_end name desc place desc_at shown here s ends h fits same moved named da sh db =
     let bytes : List ℕ = rest file old in
-    let long : length bytes ≡ left old = slice-size file old.at (left old) (omega arith) in
-    let e = heads file old.at (left old) head h s in
+    let long : length bytes ≡ bytes_left old = slice-size file old.at (bytes_left old) (omega arith) in
+    let e = heads file old.at (bytes_left old) head h s in
     let start : ℕ = descriptor_start a head.namesz head.descsz in
     let n1 : slice bytes 12 (n_namesz bytes 0) ≡ slice file (old.at + 12) head.namesz =
-    ap (slice bytes 12) e.name ∙ slice-slice file old.at (left old) 12 head.namesz (omega arith) in
+    ap (slice bytes 12) e.name ∙ slice-slice file old.at (bytes_left old) 12 head.namesz (omega arith) in
     let nl : length (slice bytes 12 (n_namesz bytes 0)) ≡ head.namesz = ap length n1 ∙ slice-size file (old.at + 12) head.namesz (omega arith) in
     let d1 : slice bytes (descriptor_start a (n_namesz bytes 0) (n_descsz bytes 0)) (n_descsz bytes 0) ≡ slice file (old.at + start) head.descsz =
-    (rw (e.name, e.descriptor) refl) ∙ slice-slice file old.at (left old) start head.descsz (omega arith) in
+    (rw (e.name, e.descriptor) refl) ∙ slice-slice file old.at (bytes_left old) start head.descsz (omega arith) in
     let dl : length (first_note a bytes).descriptor ≡ head.descsz = ap length d1 ∙ slice-size file (old.at + start) head.descsz (omega arith) in (
       first_note a bytes,
       left-found a file old new head s ends h fits same moved,

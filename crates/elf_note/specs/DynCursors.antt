@@ -3,7 +3,7 @@ use Rattle.std.specs.Prelude.{ℕ, suc, ◌≡◌, ◌==◌, Bool, true, false, 
 use Rattle.elf_model.specs.Dynamic.{dynamic_count, listed_value}
 use Rattle.elf_model.specs.Numbers.{DT_NULL, DT_STRSZ, DT_STRTAB}
 use Rattle.elf_model.specs.Records.{d_tag, d_un}
-use Rattle.elf_table.specs.Cursors.{Reading, Agrees, Fails, Gives, Shows, place}
+use Rattle.elf_table.specs.Cursors.{Reading, HoldsRows, FailsRows, GivesRow, ShowsRow, next_row}
 use Rattle.elf_table.specs.Tables.{Rows}
 use Rattle.elf_headers.specs.declared.fault.Fault.{Fault}
 use Rattle.elf_table.specs.declared.row.Row.{Row}
@@ -16,14 +16,14 @@ pub record Entries : Type 0 where
 
 -- how many entries of a file a cursor still gives: those up to and with the first DT_NULL, or all
 abbrev pub entries_left : List ℕ → Entries → ℕ
-entries_left file d = if d.ended then 0 else dynamic_count file (place d.cursor) d.cursor.left
+entries_left file d = if d.ended then 0 else dynamic_count file (next_row d.cursor) d.cursor.left
 
 -- a step that gives the next entry; it is the last where its tag is DT_NULL
 pub record GivesEntry (file : Option (List ℕ)) (old new : Entries) : Type 0 where
-  pub gives : Gives file old.cursor new.cursor
+  pub gives : GivesRow file old.cursor new.cursor
   pub not_ended : old.ended ≡ false
   pub ends_with : new.ended ≡ (d_tag new.cursor.row 0 == DT_NULL)
-  pub one_less : (bytes : List ℕ) → file ≡ Some bytes → Agrees bytes old.cursor → entries_left bytes old ≡ suc (entries_left bytes new)
+  pub one_less : (bytes : List ℕ) → file ≡ Some bytes → HoldsRows bytes old.cursor → entries_left bytes old ≡ suc (entries_left bytes new)
 
 -- a step behind the last entry
 pub record EndsEntries (old new : Entries) : Type 0 where
@@ -34,7 +34,7 @@ pub record EndsEntries (old new : Entries) : Type 0 where
 
 -- a step that fails, as that of a cursor over rows does
 pub record FailsEntries (old new : Entries) (fault : Fault) : Type 0 where
-  pub fails : Fails old.cursor new.cursor fault
+  pub fails : FailsRows old.cursor new.cursor fault
   pub same_end : new.ended ≡ old.ended
 
 -- a step of a cursor, where it answers whether it gave an entry
@@ -45,7 +45,7 @@ AdvancesEntries file old new (Err fault) = FailsEntries old new fault
 
 -- a step of a cursor, where it answers the entry's row
 abbrev pub StepsEntries : Option (List ℕ) → Entries → Entries → Result (Option Row) Fault → Type 0
-StepsEntries file old new (Ok (Some row)) = GivesEntry file old new × Shows new.cursor row
+StepsEntries file old new (Ok (Some row)) = GivesEntry file old new × ShowsRow new.cursor row
 StepsEntries file old new (Ok None) = EndsEntries old new
 StepsEntries file old new (Err fault) = FailsEntries old new fault
 

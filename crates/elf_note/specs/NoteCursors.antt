@@ -8,7 +8,7 @@ use Rattle.elf_model.specs.Notes.{Note, Walk, walk_from, with_note, descriptor_s
 use Rattle.elf_model.specs.declared.causes.Cause.TheVariants.{NoteCut}
 use Rattle.elf_headers.specs.Faults.{IsOfRead}
 use Rattle.elf_table.specs.Tables.{Rows}
-use Rattle.elf_table.specs.Windows.{Ahead, Agrees, AgreesWith, Moves, left}
+use Rattle.elf_table.specs.Windows.{Ahead, HoldsBytes, StillHolds, MovesOn, bytes_left}
 use Rattle.elf_headers.specs.declared.fault.Fault.{Fault}
 use Rattle.elf_headers.specs.declared.fault.Fault.TheVariants.{Refused}
 use Rattle.elf_table.specs.declared.names.NameEnd.{NameEnd}
@@ -28,7 +28,7 @@ pub record Reading : Type 0 where
 
 -- the bytes of a file that are left
 abbrev pub rest : List ℕ → Ahead → List ℕ
-rest file w = slice file w.at (left w)
+rest file w = slice file w.at (bytes_left w)
 
 -- the notes of some bytes from an offset on, up to the offset where they are cut, if they are
 abbrev pub notes_from : ℕ → ℕ → List ℕ → Walk
@@ -92,8 +92,8 @@ Passes before after None = after ≡ 0
 
 -- where a step leaves a cursor: behind a note, at the end, or failed
 abbrev pub Leaves : Reading → Reading → Result Bool Fault → Type 0
-Leaves old new (Ok true) = (old.failed ≡ None) × (new.failed ≡ None) × (left new.ahead + 12 ≤ left old.ahead)
-Leaves old new (Ok false) = (old.failed ≡ None) × (new.failed ≡ None) × (left new.ahead ≡ 0)
+Leaves old new (Ok true) = (old.failed ≡ None) × (new.failed ≡ None) × (bytes_left new.ahead + 12 ≤ bytes_left old.ahead)
+Leaves old new (Ok false) = (old.failed ≡ None) × (new.failed ≡ None) × (bytes_left new.ahead ≡ 0)
 Leaves old new (Err fault) = (new.failed ≡ Some fault) × (old.failed ≡ None → Stops old.ahead.at fault)
 
 -- what a step of a cursor says of a file's notes: those that were left are the one that it shows now and those that are
@@ -108,16 +108,16 @@ StepTells file cap old new name (Err fault) = old.failed ≡ None → fault ≡ 
 pub record Keeps (old new : Reading) (before after : ℕ) : Type 0 where
   pub same_table : new.table ≡ old.table
   pub same_align : new.align ≡ old.align
-  pub moves : Moves old.ahead new.ahead before after
+  pub moves : MovesOn old.ahead new.ahead before after
 
 -- a step of a cursor, where it answers whether it gave a note
 pub record Advances (file : Option (List ℕ)) (cap : ℕ) (old new : Reading) (name : List ℕ) (result : Result Bool Fault) : Type 0 where
   pub leaves : Leaves old new result
-  pub agrees : AgreesWith file old.ahead new.ahead
-  pub tells : (bytes : List ℕ) → file ≡ Some bytes → Agrees bytes old.ahead → StepTells bytes cap old new name result
+  pub agrees : StillHolds file old.ahead new.ahead
+  pub tells : (bytes : List ℕ) → file ≡ Some bytes → HoldsBytes bytes old.ahead → StepTells bytes cap old new name result
 
 -- the note that a cursor holds, as it shows it
-pub record Shows (c : Reading) (row : NoteRow) : Type 0 where
+pub record ShowsNote (c : Reading) (row : NoteRow) : Type 0 where
   pub its_place : row.at ≡ c.found.at
   pub its_head : row.head ≡ c.found.head
   pub its_name : row.name_at ≡ c.found.at + 12
@@ -127,6 +127,6 @@ pub record Shows (c : Reading) (row : NoteRow) : Type 0 where
 
 -- the same, where it answers the note
 abbrev pub Steps : Option (List ℕ) → ℕ → Reading → Reading → List ℕ → Result (Option NoteRow) Fault → Type 0
-Steps file cap old new name (Ok (Some row)) = Advances file cap old new name (Ok true) × Shows new row
+Steps file cap old new name (Ok (Some row)) = Advances file cap old new name (Ok true) × ShowsNote new row
 Steps file cap old new name (Ok None) = Advances file cap old new name (Ok false)
 Steps file cap old new name (Err fault) = Advances file cap old new name (Err fault)

@@ -5,7 +5,7 @@ ghost use Rattle.elf_source.specs.Source.{Reads};
 ghost use Rattle.elf_headers.specs.Faults.{Says};
 ghost use Rattle.elf_table.specs.Tables.{RowsWithin};
 ghost use Rattle.elf_headers.specs.declared.fault.Fault.{Fault};
-ghost use Rattle.elf_note.specs.NoteCursors.{Advances, Keeps, Shows};
+ghost use Rattle.elf_note.specs.NoteCursors.{Advances, Keeps, ShowsNote};
 
 use crate::note::{Found, SHOWN_DESCRIPTOR, next_note};
 use crate::row::NoteRow;
@@ -112,7 +112,7 @@ impl NoteCursor {
 
     /// The note that the last step gave; before the first step one without meaning.
     pub fn row(&self) -> NoteRow<'_>
-        ensures shows { Shows self.now result }
+        ensures shows { ShowsNote self.now result }
         ensures few { length result.desc.now ≤ 32 }
     {
         let Found {

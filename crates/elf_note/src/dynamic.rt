@@ -7,7 +7,7 @@ ghost use Rattle.elf_model.specs.Numbers.{DT_NULL};
 ghost use Rattle.elf_model.specs.Records.{d_tag};
 ghost use Rattle.elf_record.specs.Dyn.{IsDyn};
 ghost use Rattle.elf_source.specs.Source.{Reads};
-ghost use Rattle.elf_table.specs.Cursors.{Shows, unread_bytes};
+ghost use Rattle.elf_table.specs.Cursors.{ShowsRow, unread_bytes};
 ghost use Rattle.elf_headers.specs.Faults.{Says};
 ghost use Rattle.elf_table.specs.Tables.{RowsWithin, size_of};
 ghost use Rattle.elf_headers.specs.declared.fault.Fault.{Fault};
@@ -92,7 +92,7 @@ impl DynCursor {
     /// After a fault it has no bytes.
     pub fn row(&self) -> Row<'_>
         requires { 0 < self.now.cursor.index }
-        ensures { Shows self.now.cursor result }
+        ensures { ShowsRow self.now.cursor result }
     {
         self.cursor.row()
     }

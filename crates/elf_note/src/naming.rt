@@ -4,7 +4,7 @@ ghost use Rattle.elf_model.specs.Bytes.{slice};
 ghost use Rattle.elf_model.specs.Notes.{Note, note_shown};
 ghost use Rattle.elf_source.specs.Source.{Reads};
 ghost use Rattle.elf_headers.specs.Faults.{IsOfRead, Says};
-ghost use Rattle.elf_table.specs.Windows.{Agrees, AgreesWith, RangeWithin, Moves, left};
+ghost use Rattle.elf_table.specs.Windows.{HoldsBytes, StillHolds, RangeWithin, MovesOn, bytes_left};
 ghost use Rattle.elf_note.specs.NoteCursors.{NameIs};
 
 use elf_source::{Counted, Source};
@@ -22,16 +22,16 @@ pub(crate) fn read_name<S: Source>(
     cap: Cap,
     name: &mut NameBuf,
 ) -> Result<NameEnd, Fault>
-    requires enough { size ≤ left window.old }
+    requires enough { size ≤ bytes_left window.old }
     requires some { 0 < window.old.page }
     requires within { RangeWithin src.old.seen.size window.old }
     ensures reads { Reads src.old src.new window.old.unread }
     ensures says { IfErr result (Says src.old src.new window.old.unread) }
     ensures fault { IfErr result IsOfRead }
-    ensures moves { Moves window.old window.new src.old.asked src.new.asked }
+    ensures moves { MovesOn window.old window.new src.old.asked src.new.asked }
     ensures at { OnOk result (window.new.at ≡ window.old.at + size) }
-    ensures agrees { AgreesWith src.old.seen.file window.old window.new }
-    ensures read { (file : List ℕ) → src.old.seen.file ≡ Some file → Agrees file window.old →
+    ensures agrees { StillHolds src.old.seen.file window.old window.new }
+    ensures read { (file : List ℕ) → src.old.seen.file ≡ Some file → HoldsBytes file window.old →
         (note : Note) → note.name ≡ slice file window.old.at size → length note.name ≡ size →
         IfOk result (λ end. NameIs end name.new (note_shown cap.bytes note)) }
 {

@@ -5,7 +5,7 @@ ghost use Rattle.elf_model.specs.Bytes.{slice};
 ghost use Rattle.elf_model.specs.Notes.{to_next};
 ghost use Rattle.elf_source.specs.Source.{Reads};
 ghost use Rattle.elf_headers.specs.Faults.{IsOfRead, Says};
-ghost use Rattle.elf_table.specs.Windows.{Agrees, AgreesWith, RangeWithin, Moves, left};
+ghost use Rattle.elf_table.specs.Windows.{HoldsBytes, StillHolds, RangeWithin, MovesOn, bytes_left};
 ghost use Rattle.elf_note.specs.NoteCursors.{Passes, Stops, Tells, notes_left, note_cut};
 
 use crate::naming::read_name;
@@ -56,10 +56,10 @@ pub(crate) fn next_note<S: Source>(
     ensures reads { Reads src.old src.new window.old.unread }
     ensures says { IfErr result (Says src.old src.new window.old.unread) }
     ensures stops { IfErr result (Stops window.old.at) }
-    ensures moves { Moves window.old window.new src.old.asked src.new.asked }
-    ensures passes { IfOk result (Passes (left window.old) (left window.new)) }
-    ensures agrees { AgreesWith src.old.seen.file window.old window.new }
-    ensures tells { (file : List ℕ) → src.old.seen.file ≡ Some file → Agrees file window.old →
+    ensures moves { MovesOn window.old window.new src.old.asked src.new.asked }
+    ensures passes { IfOk result (Passes (bytes_left window.old) (bytes_left window.new)) }
+    ensures agrees { StillHolds src.old.seen.file window.old window.new }
+    ensures tells { (file : List ℕ) → src.old.seen.file ≡ Some file → HoldsBytes file window.old →
         Tells align cap.bytes window.old.at name.new desc.new
         (notes_left align file window.old) (notes_left align file window.new) result }
 {
@@ -106,17 +106,17 @@ fn read_rest<S: Source>(
     requires few { length desc.old ≤ 32 }
     requires page { 32 ≤ window.old.page }
     requires part { length desc.old ≤ size }
-    requires enough { size ≤ left window.old }
+    requires enough { size ≤ bytes_left window.old }
     requires ends { start + size < 2 ^ 64 }
     requires within { RangeWithin src.old.seen.size window.old }
     ensures reads { Reads src.old src.new window.old.unread }
     ensures says { IfErr result (Says src.old src.new window.old.unread) }
     ensures fault { IfErr result IsOfRead }
-    ensures moves { Moves window.old window.new src.old.asked src.new.asked }
-    ensures at { OnOk result (window.new.at
-        ≡ window.old.at + size + min (to_next align (start + size)) (left window.old - size)) }
-    ensures agrees { AgreesWith src.old.seen.file window.old window.new }
-    ensures read { (file : List ℕ) → src.old.seen.file ≡ Some file → Agrees file window.old →
+    ensures moves { MovesOn window.old window.new src.old.asked src.new.asked }
+    ensures at { OnOk result (window.new.at ≡ window.old.at + size
+        + min (to_next align (start + size)) (bytes_left window.old - size)) }
+    ensures agrees { StillHolds src.old.seen.file window.old window.new }
+    ensures read { (file : List ℕ) → src.old.seen.file ≡ Some file → HoldsBytes file window.old →
         OnOk result (desc.new ≡ slice file window.old.at (length desc.old)) }
 {
     take(window, src, desc)?;

@@ -3,7 +3,7 @@ ghost use Rattle.std.specs.Prelude.{◌≡◌, ℕ, ◌≤◌, List, Some, IfErr
 ghost use Rattle.elf_model.specs.Notes.{are_zeros};
 ghost use Rattle.elf_source.specs.Source.{Reads};
 ghost use Rattle.elf_headers.specs.Faults.{IsOfRead, Says};
-ghost use Rattle.elf_table.specs.Windows.{Agrees, AgreesWith, RangeWithin, Moves, left};
+ghost use Rattle.elf_table.specs.Windows.{HoldsBytes, StillHolds, RangeWithin, MovesOn, bytes_left};
 ghost use Rattle.elf_note.specs.NoteCursors.{rest};
 
 use elf_source::{Counted, Source};
@@ -18,15 +18,15 @@ pub(crate) fn ends_in_zeros<S: Source>(
     window: &mut Window<WINDOW_BYTES>,
     src: &mut Counted<S>,
 ) -> Result<bool, Fault>
-    requires few { left window.old ≤ window.old.page }
+    requires few { bytes_left window.old ≤ window.old.page }
     requires within { RangeWithin src.old.seen.size window.old }
     ensures reads { Reads src.old src.new window.old.unread }
     ensures says { IfErr result (Says src.old src.new window.old.unread) }
     ensures fault { IfErr result IsOfRead }
-    ensures moves { Moves window.old window.new src.old.asked src.new.asked }
-    ensures passed { OnOk result (left window.new ≡ 0) }
-    ensures agrees { AgreesWith src.old.seen.file window.old window.new }
-    ensures zeros { (file : List ℕ) → src.old.seen.file ≡ Some file → Agrees file window.old →
+    ensures moves { MovesOn window.old window.new src.old.asked src.new.asked }
+    ensures passed { OnOk result (bytes_left window.new ≡ 0) }
+    ensures agrees { StillHolds src.old.seen.file window.old window.new }
+    ensures zeros { (file : List ℕ) → src.old.seen.file ≡ Some file → HoldsBytes file window.old →
         IfOk result (λ zeros. zeros ≡ are_zeros (rest file window.old)) }
 {
     let left = window.left();

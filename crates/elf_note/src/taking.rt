@@ -3,7 +3,7 @@ ghost use Rattle.std.specs.Prelude.{◌≡◌, ℕ, ◌+◌, ◌≤◌, List, le
 ghost use Rattle.elf_model.specs.Bytes.{slice};
 ghost use Rattle.elf_source.specs.Source.{Reads};
 ghost use Rattle.elf_headers.specs.Faults.{IsOfRead, Says};
-ghost use Rattle.elf_table.specs.Windows.{Agrees, AgreesWith, RangeWithin, Moves, left};
+ghost use Rattle.elf_table.specs.Windows.{HoldsBytes, StillHolds, RangeWithin, MovesOn, bytes_left};
 
 use elf_source::{Counted, Source};
 use elf_table::{Fault, WINDOW_BYTES, Window};
@@ -17,16 +17,16 @@ pub(crate) fn take<S: Source>(
     src: &mut Counted<S>,
     out: &mut [u8],
 ) -> Result<(), Fault>
-    requires enough { length out.old ≤ left window.old }
+    requires enough { length out.old ≤ bytes_left window.old }
     requires small { length out.old ≤ window.old.page }
     requires within { RangeWithin src.old.seen.size window.old }
     ensures reads { Reads src.old src.new window.old.unread }
     ensures says { IfErr result (Says src.old src.new window.old.unread) }
     ensures fault { IfErr result IsOfRead }
-    ensures moves { Moves window.old window.new src.old.asked src.new.asked }
+    ensures moves { MovesOn window.old window.new src.old.asked src.new.asked }
     ensures at { OnOk result (window.new.at ≡ window.old.at + length out.old) }
-    ensures agrees { AgreesWith src.old.seen.file window.old window.new }
-    ensures taken { (file : List ℕ) → src.old.seen.file ≡ Some file → Agrees file window.old →
+    ensures agrees { StillHolds src.old.seen.file window.old window.new }
+    ensures taken { (file : List ℕ) → src.old.seen.file ≡ Some file → HoldsBytes file window.old →
         OnOk result (out.new ≡ slice file window.old.at (length out.old)) }
 {
     window.bring(src, out.len() as u64)?;

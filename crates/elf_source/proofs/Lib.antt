@@ -1,4 +1,5 @@
 mod FilledLaws
+pub mod GrowthLaws
 mod Known
 pub mod ReadsLaws
 pub mod PutsLaws

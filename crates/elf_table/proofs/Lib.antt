@@ -2,6 +2,7 @@ pub mod MappedLaws
 pub mod NameWindows
 pub mod Paging
 pub mod Pieces
+pub mod RelocationLaws
 pub mod SameNames
 pub mod SectionLaws
 pub mod Standing

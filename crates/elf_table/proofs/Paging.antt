@@ -5,7 +5,7 @@ use Rattle.std.proofs.lemmas.List.{drop_all}
 use Rattle.elf_model.specs.Bytes.{slice}
 use Rattle.elf_model.proofs.Slices.{slice-rest}
 use Rattle.elf_model.proofs.Searches.{slice-two}
-use Rattle.elf_table.specs.Windows.{Ahead, Agrees, Moves, range_end}
+use Rattle.elf_table.specs.Windows.{Ahead, HoldsBytes, MovesOn, range_end}
 
 -- what was read stands behind what was held
 pub joined : (file window held out : List ℕ) (at n size : ℕ) → window ≡ held ++ out → length held ≡ n → held ≡ slice file at n
@@ -26,7 +26,7 @@ drop-slice file at size count = go (cases_lt size count)
     go (inr enough) = slice-rest file at size count enough
 
 -- what is left of what was held
-pub Agrees-skip : (file : List ℕ) (old new : Ahead) (count : ℕ) → new.at ≡ old.at + count → new.held ≡ drop count old.held → Agrees file old → Agrees file new
+pub Agrees-skip : (file : List ℕ) (old new : Ahead) (count : ℕ) → new.at ≡ old.at + count → new.held ≡ drop count old.held → HoldsBytes file old → HoldsBytes file new
 Agrees-skip file old new count a h e =
     let gone : length new.held ≡ length old.held - count = ap length h ∙ length-drop count old.held in
     let part : drop count (slice file old.at (length old.held)) ≡ slice file (old.at + count) (length old.held - count) = drop-slice file old.at (length old.held) count in
@@ -49,11 +49,11 @@ Agrees-passed file bytes at from held count passed whole m e = go (cases_lt held
         (sym (slice-rest bytes from held count inside)) e)
 
 -- a front of what is held
-pub held-front : (file : List ℕ) (w : Ahead) (n : ℕ) → n ≤ length w.held → Agrees file w → take n w.held ≡ slice file w.at n
+pub held-front : (file : List ℕ) (w : Ahead) (n : ℕ) → n ≤ length w.held → HoldsBytes file w → take n w.held ≡ slice file w.at n
 held-front file w n few e = ap (take n) e ∙ take-take n (length w.held) (drop w.at file) few
 
 -- one call after the other
-pub Moves-then : (a b c : Ahead) (first second third : ℕ) → Moves a b first second → Moves b c second third → Moves a c first third
+pub Moves-then : (a b c : Ahead) (first second third : ℕ) → MovesOn a b first second → MovesOn b c second third → MovesOn a c first third
 Moves-then a b c first second third p q = record {
   same_page = q.same_page ∙ p.same_page;
   same_end = q.same_end ∙ p.same_end;
@@ -63,7 +63,7 @@ Moves-then a b c first second third p q = record {
 
 -- bytes are passed over without a read
 pub Moves-skip : (a b c : Ahead) (first second n : ℕ) → c.page ≡ b.page → range_end c ≡ range_end b → c.at ≡ b.at + n → c.unread ≤ b.unread
-    → Moves a b first second → Moves a c first second
+    → MovesOn a b first second → MovesOn a c first second
 Moves-skip a b c first second n page end at unread p = record {
   same_page = page ∙ p.same_page;
   same_end = end ∙ p.same_end;

@@ -5,9 +5,9 @@ use Rattle.std.proofs.lemmas.Bool.{cases_lt}
 use Rattle.std.proofs.lemmas.Grind.{common_steps}
 use Rattle.elf_model.specs.Bytes.{slice}
 use Rattle.elf_table.specs.Tables.{Rows, size_of}
-use Rattle.elf_table.specs.Cursors.{Reading, Gives, Stands, page_of, row_at}
+use Rattle.elf_table.specs.Cursors.{Reading, GivesRow, Stands, page_of, row_at}
 use Rattle.elf_headers.specs.Faults.{IsAt}
-use Rattle.elf_table.specs.Windows.{Ahead, Agrees, AgreesWith, Holds, frontier, left, range_end}
+use Rattle.elf_table.specs.Windows.{Ahead, HoldsBytes, StillHolds, Holds, frontier, bytes_left, range_end}
 use Rattle.elf_headers.specs.declared.fault.Fault.{Fault}
 use Rattle.elf_table.proofs.Paging.{Agrees-skip, held-front}
 
@@ -57,7 +57,7 @@ some_rows entry some small = grind (arith, common_steps)
 
 -- the bytes that are left are those of the rows that are left
 left_rows : (table : Rows) (index : ℕ) (w : Ahead) → index ≤ table.count → Stands table index 0 w → range_end w ≡ table.at + size_of table
-    → left w ≡ (table.count - index) * table.entry
+    → bytes_left w ≡ (table.count - index) * table.entry
 left_rows table index w below s ends =
     let p = s.its_place in
     let split = mul-split index (table.count - index) table.count table.entry (omega arith) in
@@ -101,12 +101,12 @@ reading table index shown failed w = record {
 -- a window that passed over a row and holds the next gives it
 pub Gives-next : (file : Option (List ℕ)) (table : Rows) (index shown entry : ℕ) (failed : Option Fault) (old passed new : Ahead) → entry ≡ table.entry → failed ≡ None
     → index < table.count → passed.at ≡ old.at + shown → passed.held ≡ drop shown old.held → Stands table index 0 passed → Holds passed new entry
-    → AgreesWith file passed new → Gives file (reading table index shown failed old) (reading table (index + 1) entry failed new)
+    → StillHolds file passed new → GivesRow file (reading table index shown failed old) (reading table (index + 1) entry failed new)
 Gives-next file table index shown entry failed old passed new e nf below at held s h agrees =
     let place : new.at ≡ row_at table index = h.stays ∙ let p = s.its_place in omega arith in
     let stands : passed.at ≡ row_at table index = let p = s.its_place in omega arith in
     let next : row_at table (index + 1) ≡ new.at + entry = let one = mul-split index 1 (index + 1) table.entry refl in omega arith in
-    let ag : (bytes : List ℕ) → file ≡ Some bytes → drop shown old.held ≡ slice bytes (row_at table index) (length (drop shown old.held)) → Agrees bytes new =
+    let ag : (bytes : List ℕ) → file ≡ Some bytes → drop shown old.held ≡ slice bytes (row_at table index) (length (drop shown old.held)) → HoldsBytes bytes new =
     λ bytes same a. agrees bytes same (held ∙ a ∙ ap (λ (x : ℕ). slice bytes x (length (drop shown old.held))) (sym stands) ∙ ap (λ (x : List ℕ). slice bytes passed.at (length x)) (sym held)) in
     record {
       same_table = refl;

@@ -23,8 +23,8 @@ abbrev pub row_at : Rows → ℕ → ℕ
 row_at table index = table.at + index * table.entry
 
 -- the file offset of the next row
-abbrev pub place : Reading → ℕ
-place c = row_at c.table c.index
+abbrev pub next_row : Reading → ℕ
+next_row c = row_at c.table c.index
 
 -- how many bytes a cursor reads at once: whole rows
 abbrev pub page_of : ℕ → ℕ
@@ -46,46 +46,46 @@ abbrev pub unread_bytes : Reading → ℕ
 unread_bytes c = unless_failed c.failed c.unread
 
 -- what a cursor holds of the next rows is what the file has there
-abbrev pub Agrees : List ℕ → Reading → Type 0
-Agrees file c = c.held ≡ slice file (place c) (length c.held)
+abbrev pub HoldsRows : List ℕ → Reading → Type 0
+HoldsRows file c = c.held ≡ slice file (next_row c) (length c.held)
 
 -- the last row that a cursor gave, as it shows it
-pub record Shows (c : Reading) (row : Row) : Type 0 where
+pub record ShowsRow (c : Reading) (row : Row) : Type 0 where
   pub its_index : row.index + 1 ≡ c.index
   pub its_offset : row.at ≡ row_at c.table row.index
   pub its_bytes : row.bytes.now ≡ c.row
 
 -- a step that gives the next row: where the source has a file it is the file's
-pub record Gives (file : Option (List ℕ)) (old new : Reading) : Type 0 where
+pub record GivesRow (file : Option (List ℕ)) (old new : Reading) : Type 0 where
   pub same_table : new.table ≡ old.table
   pub not_failed : old.failed ≡ None
   pub still_not_failed : new.failed ≡ None
   pub next_index : new.index ≡ old.index + 1
   pub one_less : new.left + 1 ≡ old.left
   pub whole : length new.row ≡ old.table.entry
-  pub agrees : (bytes : List ℕ) → file ≡ Some bytes → Agrees bytes old → Agrees bytes new
-  pub exact : (bytes : List ℕ) → file ≡ Some bytes → Agrees bytes old → new.row ≡ slice bytes (place old) old.table.entry
+  pub agrees : (bytes : List ℕ) → file ≡ Some bytes → HoldsRows bytes old → HoldsRows bytes new
+  pub exact : (bytes : List ℕ) → file ≡ Some bytes → HoldsRows bytes old → new.row ≡ slice bytes (next_row old) old.table.entry
 
 -- a step past the last row
-pub record Ends (old new : Reading) : Type 0 where
+pub record EndsRows (old new : Reading) : Type 0 where
   pub unchanged : new ≡ old
   pub not_failed : old.failed ≡ None
   pub none_left : old.left ≡ 0
 
 -- a step that fails, at the next row if it is the first that does
-pub record Fails (old new : Reading) (fault : Fault) : Type 0 where
+pub record FailsRows (old new : Reading) (fault : Fault) : Type 0 where
   pub same_table : new.table ≡ old.table
   pub failed : new.failed ≡ Some fault
-  pub at_next : old.failed ≡ None → IsAt (place old) fault
+  pub at_next : old.failed ≡ None → IsAt (next_row old) fault
 
 -- a step of a cursor, where it answers whether it gave a row
 abbrev pub Advances : Option (List ℕ) → Reading → Reading → Result Bool Fault → Type 0
-Advances file old new (Ok true) = Gives file old new
-Advances file old new (Ok false) = Ends old new
-Advances file old new (Err fault) = Fails old new fault
+Advances file old new (Ok true) = GivesRow file old new
+Advances file old new (Ok false) = EndsRows old new
+Advances file old new (Err fault) = FailsRows old new fault
 
 -- a step of a cursor, where it answers the row
 abbrev pub Steps : Option (List ℕ) → Reading → Reading → Result (Option Row) Fault → Type 0
-Steps file old new (Ok (Some row)) = Gives file old new × Shows new row
-Steps file old new (Ok None) = Ends old new
-Steps file old new (Err fault) = Fails old new fault
+Steps file old new (Ok (Some row)) = GivesRow file old new × ShowsRow new row
+Steps file old new (Ok None) = EndsRows old new
+Steps file old new (Err fault) = FailsRows old new fault

@@ -1,7 +1,6 @@
 -- What the sections of a loaded file answer for: tables, string tables, symbols with their names.
-use Rattle.std.specs.Prelude.{ℕ, ◌/◌, ◌==◌, true, false, not, if◌then◌else◌, List, [], ◌∷◌, ◌++◌, length, Option, None, Some, Result, Ok, Err}
+use Rattle.std.specs.Prelude.{ℕ, ◌/◌, ◌==◌, true, false, not, List, [], ◌∷◌, ◌++◌, length, Option, None, Some, Result, Ok, Err}
 use Rattle.elf_model.specs.Checks.{Check, refuse, first_refusal, is_outside, unless_empty, whole_checks_of, table_checks, table_checks_of, strings_checks, has_section_names}
-use Rattle.elf_model.specs.Tables.{has_symbols, symbol_table_checks}
 use Rattle.elf_model.specs.Records.{sh_type, sh_offset, sh_size, sh_link, e_shstrndx, section_at}
 use Rattle.elf_model.specs.Numbers.{SHT_STRTAB}
 use Rattle.elf_model.specs.declared.causes.Refusal.{Refusal}
@@ -79,38 +78,4 @@ symbols_at file at =
       | true ↦ Ok (rows (sh_offset file at) 0 24, strings (sh_offset file at) 0)
       | false ↦ checked (table_checks file at 24 ++ strings_checks file at)
           (rows (sh_offset file at) (sh_size file at / 24) 24, names_at file (section_at file (sh_link file at)))
-    ]
-
--- an answer that is there
-abbrev pub there : {A : Type 0} → Result A Fault → Result (Option A) Fault
-there (Ok value) = Ok (Some value)
-there (Err fault) = Err fault
-
--- the symbols that a section of relocations refers to, if there are any
-abbrev pub linked_symbols_at : List ℕ → ℕ → Result (Option (Rows × Strings)) Fault
-linked_symbols_at file at = elim (has_symbols file at) [ true ↦ there (symbols_at file (section_at file (sh_link file at))) | false ↦ Ok None ]
-
--- the symbols of a section of the file with their string table, its checks aside
-abbrev pub symbols_in : List ℕ → ℕ → Rows × Strings
-symbols_in file at =
-    elim (sh_size file at == 0) [
-      | true ↦ (rows (sh_offset file at) 0 24, strings (sh_offset file at) 0)
-      | false ↦ (rows (sh_offset file at) (sh_size file at / 24) 24, names_at file (section_at file (sh_link file at)))
-    ]
-
--- the symbols that a section of relocations refers to, if there are any, their checks aside
-abbrev pub symbols_linked : List ℕ → ℕ → Option (Rows × Strings)
-symbols_linked file at = elim (has_symbols file at) [ true ↦ Some (symbols_in file (section_at file (sh_link file at))) | false ↦ None ]
-
--- the checks of the symbols that a section of relocations refers to
-abbrev pub linked_checks : List ℕ → ℕ → List Check
-linked_checks file at = if has_symbols file at then symbol_table_checks file (section_at file (sh_link file at)) else []
-
--- the relocation entries of a section of the file, and the symbols that they refer to; no entries have no checks
-abbrev pub relocations_at : List ℕ → ℕ → Result (Rows × Option (Rows × Strings)) Fault
-relocations_at file at =
-    elim (sh_size file at == 0) [
-      | true ↦ Ok (rows (sh_offset file at) 0 24, None)
-      | false ↦ checked (table_checks file at 24 ++ linked_checks file at)
-          (rows (sh_offset file at) (sh_size file at / 24) 24, symbols_linked file at)
     ]

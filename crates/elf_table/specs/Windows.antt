@@ -13,8 +13,8 @@ pub record Ahead : Type 0 where
   pub page : ℕ
 
 -- how many bytes of the range are left
-abbrev pub left : Ahead → ℕ
-left w = length w.held + w.unread
+abbrev pub bytes_left : Ahead → ℕ
+bytes_left w = length w.held + w.unread
 
 -- the offset of the first byte that was never asked for: no byte below it is asked for again
 abbrev pub frontier : Ahead → ℕ
@@ -25,20 +25,20 @@ abbrev pub range_end : Ahead → ℕ
 range_end w = frontier w + w.unread
 
 -- what a window holds is what the file has there
-abbrev pub Agrees : List ℕ → Ahead → Type 0
-Agrees file w = w.held ≡ slice file w.at (length w.held)
+abbrev pub HoldsBytes : List ℕ → Ahead → Type 0
+HoldsBytes file w = w.held ≡ slice file w.at (length w.held)
 
 -- what agreed with the source's file before a call agrees with it afterwards
-abbrev pub AgreesWith : Option (List ℕ) → Ahead → Ahead → Type 0
-AgreesWith file old new = (bytes : List ℕ) → file ≡ Some bytes → Agrees bytes old → Agrees bytes new
+abbrev pub StillHolds : Option (List ℕ) → Ahead → Ahead → Type 0
+StillHolds file old new = (bytes : List ℕ) → file ≡ Some bytes → HoldsBytes bytes old → HoldsBytes bytes new
 
 -- a window that has bytes left ends within a source of this size
 abbrev pub RangeWithin : ℕ → Ahead → Type 0
-RangeWithin size w = 0 < left w → range_end w ≤ size
+RangeWithin size w = 0 < bytes_left w → range_end w ≤ size
 
 -- what every call keeps, fault or not: the range ends where it ended, the place goes on, and what was asked for
 -- is no longer unread
-pub record Moves (old new : Ahead) (before after : ℕ) : Type 0 where
+pub record MovesOn (old new : Ahead) (before after : ℕ) : Type 0 where
   pub same_page : new.page ≡ old.page
   pub same_end : range_end new ≡ range_end old
   pub onward : old.at ≤ new.at
@@ -49,7 +49,7 @@ pub record Holds (old new : Ahead) (count : ℕ) : Type 0 where
   pub stays : new.at ≡ old.at
   pub long : count ≤ length new.held
   pub unchanged : count ≤ length old.held → new ≡ old
-  pub whole : length old.held < count → length new.held ≡ min old.page (left old)
+  pub whole : length old.held < count → length new.held ≡ min old.page (bytes_left old)
 
 -- a window was to hold so many bytes. A fault is of a read of bytes that it did not hold, at the first of them
 abbrev pub Brings : {X : Type 0} → Ahead → Ahead → ℕ → Result X Fault → Type 0

@@ -1,7 +1,7 @@
 //! A cursor over the rows of a table.
 ghost use Rattle.std.specs.Prelude.{◌≡◌, ℕ, ◌+◌, ◌<◌, ◌≤◌, List, [], None, Some, Err, IfErr};
 ghost use Rattle.elf_source.specs.Source.{Reads};
-ghost use Rattle.elf_table.specs.Cursors.{Advances, Shows, unread_bytes};
+ghost use Rattle.elf_table.specs.Cursors.{Advances, ShowsRow, unread_bytes};
 ghost use Rattle.elf_headers.specs.declared.fault.Fault.{Fault};
 ghost use Rattle.elf_headers.specs.Faults.{Says};
 ghost use Rattle.elf_table.specs.Tables.{RowsWithin, size_of};
@@ -108,7 +108,7 @@ impl Cursor {
     /// has no bytes.
     pub fn row(&self) -> Row<'_>
         requires { 0 < self.now.index }
-        ensures { Shows self.now result }
+        ensures { ShowsRow self.now result }
     {
         let index = self.index - 1;
         Row {

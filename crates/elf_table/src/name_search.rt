@@ -6,7 +6,7 @@ ghost use Rattle.elf_model.specs.Names.{nul_in};
 ghost use Rattle.elf_source.specs.Source.{Reads};
 ghost use Rattle.elf_headers.specs.Faults.{IsOfRead, Says};
 ghost use Rattle.elf_table.specs.NamesRead.{Searched};
-ghost use Rattle.elf_table.specs.Windows.{Agrees, AgreesWith, RangeWithin, Moves, left};
+ghost use Rattle.elf_table.specs.Windows.{HoldsBytes, StillHolds, RangeWithin, MovesOn, bytes_left};
 
 use crate::name_buf::NameBuf;
 use crate::window::Window;
@@ -28,17 +28,17 @@ pub fn search_name<S: Source, const N: usize>(
     name: &mut NameBuf,
 ) -> Result<bool, Fault>
     requires empty { name.old ≡ [] }
-    requires enough { want ≤ left window.old }
+    requires enough { want ≤ bytes_left window.old }
     requires some { 0 < window.old.page }
     requires within { RangeWithin src.old.seen.size window.old }
     ensures reads { Reads src.old src.new window.old.unread }
     ensures says { IfErr result (Says src.old src.new window.old.unread) }
     ensures fault { IfErr result IsOfRead }
-    ensures moves { Moves window.old window.new src.old.asked src.new.asked }
+    ensures moves { MovesOn window.old window.new src.old.asked src.new.asked }
     ensures inside { OnOk result (window.new.at ≤ window.old.at + want) }
-    ensures agrees { AgreesWith src.old.seen.file window.old window.new }
+    ensures agrees { StillHolds src.old.seen.file window.old window.new }
     ensures searched { (file : List ℕ) → src.old.seen.file ≡ Some file →
-        Agrees file window.old →
+        HoldsBytes file window.old →
         Searched (slice file window.old.at want) cap.bytes result name.new }
 {
     let mut done: u64 = 0;

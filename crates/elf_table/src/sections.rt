@@ -6,7 +6,8 @@ ghost use Rattle.elf_headers.specs.Load.{Belongs, Passes, section_place};
 ghost use Rattle.elf_headers.specs.Faults.{IsOfCheck};
 ghost use Rattle.elf_table.specs.Files.{Tells, program_headers, table_in, size_in};
 ghost use Rattle.elf_table.specs.Sections.{bytes_of, table_at, strings_at, section_names};
-ghost use Rattle.elf_table.specs.Sections.{symbols_at, linked_symbols_at, relocations_at};
+ghost use Rattle.elf_table.specs.Sections.{symbols_at};
+ghost use Rattle.elf_table.specs.Relocations.{Links, Relocates};
 ghost use Rattle.elf_headers.specs.Store.{row};
 ghost use Rattle.elf_table.specs.Tables.{RowsWithin, StringsWithin, SymbolsWithin, size_of};
 
@@ -169,7 +170,8 @@ impl File<'_> {
     /// Those of [`File::symbols`] at the linked section.
     pub fn linked(&self, section: u16) -> Result<Option<(Table, Names)>, Fault>
         requires below { section < self.now.store.now.loaded }
-        ensures held { Tells self.now section result linked_symbols_at }
+        ensures held { (file : List ℕ) → Belongs file self.now.loaded self.now.store.now →
+            Links file (section_at file section) result }
         ensures within { IfOk result (λ linked.
             IfSome linked (SymbolsWithin self.now.loaded.size)) }
         ensures refusal { IfErr result IsOfCheck }
@@ -194,7 +196,8 @@ impl File<'_> {
     /// The first check that fails: those of [`File::table`], then those of [`File::linked`].
     pub fn relocations(&self, section: u16) -> Result<(Table, Option<(Table, Names)>), Fault>
         requires below { section < self.now.store.now.loaded }
-        ensures held { Tells self.now section result relocations_at }
+        ensures held { (file : List ℕ) → Belongs file self.now.loaded self.now.store.now →
+            Relocates file (section_at file section) result }
         ensures table { IfOk result (λ found. Ok found.0 ≡ table_in self.now section 24) }
         ensures entry { IfOk result (λ found. found.0.entry ≡ 24) }
         ensures within { IfOk result (λ found. RowsWithin self.now.loaded.size found.0) }

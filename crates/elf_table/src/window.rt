@@ -4,7 +4,8 @@ ghost use Rattle.std.specs.Prelude.{IfErr, OnOk};
 ghost use Rattle.elf_model.specs.Bytes.{slice};
 ghost use Rattle.elf_source.specs.Source.{Reads};
 ghost use Rattle.elf_headers.specs.Faults.{Says, IsAt};
-ghost use Rattle.elf_table.specs.Windows.{Agrees, AgreesWith, Brings, RangeWithin, Moves, left};
+ghost use Rattle.elf_table.specs.Windows.{HoldsBytes, StillHolds, Brings, RangeWithin, MovesOn};
+ghost use Rattle.elf_table.specs.Windows.{bytes_left};
 ghost use Rattle.elf_table.specs.Windows.{frontier, range_end};
 
 use elf_headers::{Fault, fill};
@@ -67,15 +68,15 @@ impl<const N: usize> Window<N> {
     /// The offset of the next byte.
     pub fn at(&self) -> u64
         ensures value { result ≡ self.now.at }
-        ensures ends { self.now.at + left self.now < 2 ^ 64 }
+        ensures ends { self.now.at + bytes_left self.now < 2 ^ 64 }
     {
         self.at
     }
 
     /// How many bytes are left.
     pub fn left(&self) -> u64
-        ensures value { result ≡ left self.now }
-        ensures ends { self.now.at + left self.now < 2 ^ 64 }
+        ensures value { result ≡ bytes_left self.now }
+        ensures ends { self.now.at + bytes_left self.now < 2 ^ 64 }
     {
         self.held + self.unread
     }
@@ -96,14 +97,14 @@ impl<const N: usize> Window<N> {
     /// A fault of a read at the first byte that was not asked for yet. The place is then behind the
     /// bytes that were to be read.
     pub fn bring<S: Source>(&mut self, src: &mut Counted<S>, count: u64) -> Result<(), Fault>
-        requires enough { count ≤ left self.old }
+        requires enough { count ≤ bytes_left self.old }
         requires small { count ≤ self.old.page }
         requires within { RangeWithin src.old.seen.size self.old }
         ensures reads { Reads src.old src.new self.old.unread }
         ensures says { IfErr result (Says src.old src.new self.old.unread) }
-        ensures moves { Moves self.old self.new src.old.asked src.new.asked }
+        ensures moves { MovesOn self.old self.new src.old.asked src.new.asked }
         ensures brings { Brings self.old self.new count result }
-        ensures agrees { AgreesWith src.old.seen.file self.old self.new }
+        ensures agrees { StillHolds src.old.seen.file self.old self.new }
     {
         if self.held >= count {
             return Ok(());
@@ -113,14 +114,14 @@ impl<const N: usize> Window<N> {
 
     /// Passes over `count` bytes; what isn't held of them is never read.
     pub fn skip(&mut self, count: u64)
-        requires { count ≤ left self.old }
+        requires { count ≤ bytes_left self.old }
         ensures page { self.new.page ≡ self.old.page }
         ensures at { self.new.at ≡ self.old.at + count }
-        ensures left { left self.new + count ≡ left self.old }
+        ensures left { bytes_left self.new + count ≡ bytes_left self.old }
         ensures unread { self.new.unread ≤ self.old.unread }
         ensures held { self.new.held ≡ drop count self.old.held }
         ensures end { range_end self.new ≡ range_end self.old }
-        ensures agrees { (file : List ℕ) → Agrees file self.old → Agrees file self.new }
+        ensures agrees { (file : List ℕ) → HoldsBytes file self.old → HoldsBytes file self.new }
     {
         let held = count.min(self.held);
         self.at += count;
@@ -137,10 +138,11 @@ impl<const N: usize> Window<N> {
         ensures reads { Reads src.old src.new self.old.unread }
         ensures says { IfErr result (Says src.old src.new self.old.unread) }
         ensures fault { IfErr result (IsAt (frontier self.old)) }
-        ensures moves { Moves self.old self.new src.old.asked src.new.asked }
+        ensures moves { MovesOn self.old self.new src.old.asked src.new.asked }
         ensures stays { OnOk result (self.new.at ≡ self.old.at) }
-        ensures whole { OnOk result (length self.new.held ≡ min self.old.page (left self.old)) }
-        ensures agrees { AgreesWith src.old.seen.file self.old self.new }
+        ensures whole { OnOk result
+            (length self.new.held ≡ min self.old.page (bytes_left self.old)) }
+        ensures agrees { StillHolds src.old.seen.file self.old self.new }
     {
         gather(&mut self.bytes, self.from as usize, self.held as usize);
         self.from = 0;

@@ -1,5 +1,5 @@
-//! Tests of loads, tables, names, relocation entries, the segment view, notes and dynamic entries, in
-//! a crate of their own: a crate with tests is proved twice.
+//! Tests of loads, tables, names and relocation entries, in a crate of their own: a crate with tests
+//! is proved twice.
 #![tactic(auto)]
 
 #[cfg(test)]
@@ -7,20 +7,14 @@ mod ahead;
 #[cfg(test)]
 mod answers;
 #[cfg(test)]
-mod dynamic;
-#[cfg(test)]
 mod limits;
 #[cfg(test)]
 mod loads;
 #[cfg(test)]
 mod names;
 #[cfg(test)]
-mod notes;
-#[cfg(test)]
 mod readers;
 #[cfg(test)]
 mod relocations;
-#[cfg(test)]
-mod segments;
 #[cfg(test)]
 mod tables;

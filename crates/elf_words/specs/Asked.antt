@@ -1,9 +1,9 @@
 -- What the words of a command line ask for.
-use Rattle.std.specs.Prelude.{Bool, bytes_eq, ℕ, ⊤, ◌≡◌, ◌<◌, ◌≤◌, ◌^◌, ◌⊎◌, length, List, [], ◌∷◌, codes, map, Option, None, Some}
+use Rattle.std.specs.Prelude.{Bool, bytes_eq, ℕ, ⊤, ◌≡◌, ◌<◌, ◌≤◌, ◌^◌, ◌⊎◌, length, unwrap_or, Result, Ok, Err, List, [], ◌∷◌, codes, map, Option, None, Some}
 use Rattle.std.specs.Borrow.{Bor}
 use Rattle.std.specs.List.{list_any}
 use Rattle.std.specs.Str.Parse.{IsNumeral, digits_value, without_leading_plus}
-use Rattle.clap.specs.Walk.{Row, Text, first_of, one_of, texts}
+use Rattle.clap.specs.Walk.{Row, Text, all_of, first_of, one_of, texts}
 use Rattle.clap.specs.Simple.{subcommand_of}
 use Rattle.clap.specs.Faults.{fault_of}
 use Rattle.clap.specs.Kinds.{IsAmong, Kinds}
@@ -15,12 +15,14 @@ use Rattle.elf_model.specs.Listing.{HEADER, SECTIONS, SEGMENTS, SYMBOLS, RELOCS,
 use Rattle.elf_record.specs.declared.parts.Parts.{Parts}
 use Rattle.elf_headers.specs.declared.caps.Caps.{Caps}
 use Rattle.elf_words.specs.CommandLine.{Words, program}
+use Rattle.elf_model.specs.Placing.{Layout}
+use Rattle.elf_words.specs.Layouts.{Lays, no_items}
 use Rattle.elf_words.specs.declared.requests.Request.{Request}
 use Rattle.elf_words.specs.declared.requests.RequestFault.{RequestFault}
 use Rattle.elf_words.specs.declared.requests.RequestFault.TheVariants.{Memory, BadName, Words as Told}
 use Rattle.elf_words.specs.declared.requests.Task.{Task}
 use Rattle.elf_words.specs.declared.requests.Wanted.{Wanted}
-use Rattle.elf_words.specs.declared.requests.Task.TheVariants.{Show, Find}
+use Rattle.elf_words.specs.declared.requests.Task.TheVariants.{Show, Find, Apply}
 
 -- the parts that can be asked for, by their names
 abbrev pub part_names : List (ℕ × List ℕ)
@@ -61,54 +63,97 @@ abbrev pub IsOfFile : Text → List Row → Option (Bor Text) → Type 0
 IsOfFile command rows (Some path) = (command ≡ codes "show") × (first_of (codes "FILE") rows ≡ Some path.now)
 IsOfFile command rows None = command ≡ codes "sample"
 
+-- the file whose path stands among the values
+abbrev pub IsFileNamed : List Row → Option (Bor Text) → Type 0
+IsFileNamed rows None = ⊥
+IsFileNamed rows (Some path) = first_of (codes "FILE") rows ≡ Some path.now
+
+-- the caps of what is no listing: the headers stand among the values, the rest is fixed, and reads have no limit
+pub record AreHeaderCaps (rows : List Row) (caps : Caps) : Type 0 where
+  pub headers : HasNumber (one_of (codes "headers") rows) (Some caps.headers)
+  pub names : caps.name.bytes ≡ 256
+  pub budget : caps.budget ≡ None
+
 -- a lookup in the file whose path stands among the values, of the name that stands there too
-abbrev pub IsLookup : Text → List Row → Caps → Option (Bor Text) → Wanted → Type 0
-IsLookup command rows caps None wanted = ⊥
-IsLookup command rows caps (Some path) wanted =
-    (command ≡ codes "find") × HasNumber (one_of (codes "headers") rows) (Some caps.headers)
-    × (first_of (codes "FILE") rows ≡ Some path.now) × (first_of (codes "NAME") rows ≡ Some wanted.bytes.now)
+pub record IsLookup (command : Text) (rows : List Row) (caps : Caps) (file : Option (Bor Text)) (wanted : Wanted) : Type 0 where
+  pub find : command ≡ codes "find"
+  pub limits : AreHeaderCaps rows caps
+  pub path : IsFileNamed rows file
+  pub word : first_of (codes "NAME") rows ≡ Some wanted.bytes.now
+
+-- the words for the items of a layout
+abbrev pub item_words : List Row → List Text
+item_words rows = unwrap_or (all_of (codes "ITEM") rows) []
+
+-- the section with this index, below 2^16, is written, of the file whose path stands among the values, in the layout that the
+-- words give
+pub record IsApplying (command : Text) (rows : List Row) (caps : Caps) (file : Option (Bor Text)) (section : ℕ) (layout : Layout) : Type 0 where
+  pub apply : command ≡ codes "apply"
+  pub limits : AreHeaderCaps rows caps
+  pub path : IsFileNamed rows file
+  pub index : HasNumber (one_of (codes "SECTION") rows) (Some section)
+  pub small : section < 2 ^ 16
+  pub items : Lays no_items (item_words rows) (Ok layout)
 
 -- a task with its caps and its file, by the values of the options
 abbrev pub IsTask : Text → List Row → Caps → Option (Bor Text) → Task → Type 0
 IsTask command rows caps file (Show parts) =
     AreCaps rows caps × AreParts (first_of (codes "only") rows) parts × IsOfFile command rows file
 IsTask command rows caps file (Find wanted) = IsLookup command rows caps file wanted
+IsTask command rows caps file (Apply section layout) = IsApplying command rows caps file section layout.now
 
 -- a command with the values of its arguments asks for just this
 abbrev pub AsksBy : Option (Text × List Row) → Request → Type 0
 AsksBy None request = ⊥
 AsksBy (Some (command, rows)) request = IsTask command rows request.caps request.file request.task
 
--- a command asks for a name that can't be looked for
-abbrev pub NamesBadly : Option (Text × List Row) → Type 0
-NamesBadly None = ⊥
-NamesBadly (Some (command, rows)) =
+-- a lookup of a name that can't be looked for: it has not 1 to 4,096 bytes, or a NUL
+abbrev pub NamesBadly : Text → List Row → Type 0
+NamesBadly command rows =
     (command ≡ codes "find")
     × ((name : Text) × (first_of (codes "NAME") rows ≡ Some name) × (IsWanted name → length name ≤ 4096 → ⊥))
+
+-- a section to be written, in a layout of which the first word that is refused has this fault
+abbrev pub LaysBadly : Text → List Row → RequestFault → Type 0
+LaysBadly command rows fault = (command ≡ codes "apply") × Lays no_items (item_words rows) (Err fault)
+
+-- a command with the values of its arguments asks for something, and has this fault in its words for it
+abbrev pub HasFault : Option (Text × List Row) → RequestFault → Type 0
+HasFault None fault = ⊥
+HasFault (Some (command, rows)) BadName = NamesBadly command rows
+HasFault (Some (command, rows)) fault = LaysBadly command rows fault
 
 -- the names of the parts, as the reader of the words has them
 abbrev pub ArePartNames : Words → Type 0
 ArePartNames parts = texts parts.now ≡ map (λ part. part.1) part_names
 
--- THE REQUEST: what the command line makes of the words is what is asked for
+-- THE REQUEST: the command line takes the words, and what it makes of them is what is asked for
 pub record Asks (words : List Text) (request : Request) : Type 0 where
   pub parts : Words
   pub named : ArePartNames parts
+  pub taken : fault_of (program parts) words ≡ []
   pub asks : AsksBy (subcommand_of (program parts) words) request
 
--- nothing is asked for
-abbrev pub AsksNothing : Option (Text × List Row) → Type 0
-AsksNothing matches = (request : Request) → AsksBy matches request → ⊥
+-- nothing is asked for, not even with a fault in the words for it
+pub record AsksNothing (matches : Option (Text × List Row)) : Type 0 where
+  pub nothing : (request : Request) → AsksBy matches request → ⊥
+  pub faultless : (fault : RequestFault) → HasFault matches fault → ⊥
 
--- there was no memory, the name can't be looked for, or the error is of one of these kinds; `Format` is that of values which
--- the command line let through though they ask for nothing
+-- there was no memory; or the command line refuses the words, with one of these kinds; or it takes them, and they have a
+-- fault, or ask for nothing, which is told by the kind `Format`
 abbrev pub IsRefusal : Kinds → Option (Text × List Row) → RequestFault → Type 0
 IsRefusal kinds matches Memory = ⊤
-IsRefusal kinds matches BadName = NamesBadly matches
-IsRefusal kinds matches (Told error) = IsAmong (kind_of error) kinds ⊎ ((kind_of error ≡ kind.Format) × AsksNothing matches)
+IsRefusal kinds matches (Told error) = IsAmong (kind_of error) kinds ⊎ ((kind_of error ≡ kind.Format) × (kinds ≡ []) × AsksNothing matches)
+IsRefusal kinds matches fault = (kinds ≡ []) × HasFault matches fault
 
--- WHY WORDS ARE REFUSED: the command line has a fault for them, they ask for a name that can't be looked for, or for nothing
+-- WHY WORDS ARE REFUSED: the command line has a fault for them, or what they ask for has one, or they ask for nothing
 pub record Refuses (words : List Text) (fault : RequestFault) : Type 0 where
   pub parts : Words
   pub named : ArePartNames parts
   pub refusal : IsRefusal (fault_of (program parts) words) (subcommand_of (program parts) words) fault
+
+-- what a command with the values of its arguments comes to: a request, nothing, or a fault
+abbrev pub ComesTo : Option (Text × List Row) → Result (Option Request) RequestFault → Type 0
+ComesTo matches (Ok (Some request)) = AsksBy matches request
+ComesTo matches (Ok None) = AsksNothing matches
+ComesTo matches (Err fault) = HasFault matches fault

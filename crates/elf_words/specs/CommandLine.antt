@@ -3,6 +3,7 @@ use Rattle.std.specs.Prelude.{List, [], ◌∷◌, codes, pos, true, Some}
 use Rattle.std.specs.Borrow.{Bor}
 use Rattle.clap.specs.Walk.{Rule, Text}
 use Rattle.clap.specs.Simple.{App, new_app, new_rule, with_rule, with_subcommand}
+use Rattle.clap.specs.Lexer.{usize_max}
 use Rattle.clap.specs.declared.builder.value_parser.ValueParser.{ValueParser}
 use Rattle.clap.specs.declared.builder.value_parser.ValueParser.TheVariants.{Signed, Unsigned, Names}
 
@@ -46,6 +47,17 @@ name_argument = record (new_rule (codes "NAME")) { required = true }
 abbrev pub find_command : App
 find_command = with_rule (with_rule (with_rule (new_app (codes "find")) headers_option) file_argument) name_argument
 
+abbrev pub section_argument : Rule
+section_argument = record (new_rule (codes "SECTION")) { required = true; parser = Some (Signed (pos 0) (pos 65535)) }
+
+-- any number of words
+abbrev pub item_argument : Rule
+item_argument = record (new_rule (codes "ITEM")) { range = Some (record { start_inclusive = 0; end_inclusive = usize_max }) }
+
+abbrev pub apply_command : App
+apply_command =
+    with_rule (with_rule (with_rule (with_rule (new_app (codes "apply")) headers_option) file_argument) section_argument) item_argument
+
 -- the program, whose words begin behind its name, and which wants a command
 abbrev pub without_command : App
 without_command = let app = new_app (codes "elfsee") in
@@ -53,4 +65,6 @@ without_command = let app = new_app (codes "elfsee") in
 
 abbrev pub program : Words → App
 program parts =
-    with_subcommand (with_subcommand (with_subcommand without_command (show_command parts).top) (sample_command parts).top) find_command.top
+    with_subcommand
+    (with_subcommand (with_subcommand (with_subcommand without_command (show_command parts).top) (sample_command parts).top) find_command.top)
+    apply_command.top

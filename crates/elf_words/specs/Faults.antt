@@ -4,16 +4,16 @@ use Rattle.clap.specs.Values.{kind_of}
 use Rattle.clap.specs.declared.error.Error.{Error}
 use Rattle.clap.specs.declared.error.kind.ErrorKind.TheVariants.{Format, OutOfMemory}
 use Rattle.elf_words.specs.declared.requests.RequestFault.{RequestFault}
-use Rattle.elf_words.specs.declared.requests.RequestFault.TheVariants.{Words, Memory, BadName}
+use Rattle.elf_words.specs.declared.requests.RequestFault.TheVariants.{Words, Memory}
 
 -- the fault that an error of the command line's reader is: want of memory is never told as bad words
 abbrev pub IsFaultOf : Error → RequestFault → Type 0
 IsFaultOf error Memory = kind_of error ≡ OutOfMemory
-IsFaultOf error BadName = ⊥
 IsFaultOf error (Words told) = (told ≡ error) × (kind_of error ≡ OutOfMemory → ⊥)
+IsFaultOf error _ = ⊥
 
 -- no memory, or an error of the kind `Format`
 abbrev pub IsUnasked : RequestFault → Type 0
 IsUnasked Memory = ⊤
-IsUnasked BadName = ⊥
 IsUnasked (Words error) = kind_of error ≡ Format
+IsUnasked _ = ⊥

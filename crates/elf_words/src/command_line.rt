@@ -3,16 +3,17 @@
 ghost use Rattle.std.specs.Prelude.{◌≡◌, IfOk, false};
 ghost use Rattle.clap.specs.Words.{app_of, rule_of};
 ghost use Rattle.clap.specs.declared.builder.command.Command.TheViews.{out-Command as fields_of};
-ghost use Rattle.elf_words.specs.CommandLine.{file_argument, find_command, headers_option};
-ghost use Rattle.elf_words.specs.CommandLine.{max_read_option, name_argument, names_option};
-ghost use Rattle.elf_words.specs.CommandLine.{only_option, program, sample_command};
-ghost use Rattle.elf_words.specs.CommandLine.{show_command, with_listing_options, without_command};
+ghost use Rattle.elf_words.specs.CommandLine.{apply_command, file_argument, find_command};
+ghost use Rattle.elf_words.specs.CommandLine.{headers_option, item_argument, max_read_option};
+ghost use Rattle.elf_words.specs.CommandLine.{name_argument, names_option, only_option, program};
+ghost use Rattle.elf_words.specs.CommandLine.{sample_command, section_argument, show_command};
+ghost use Rattle.elf_words.specs.CommandLine.{with_listing_options, without_command};
 
 use clap::{Arg, Command, value_parser};
 use std::alloc::{AllocError, Global};
 
 const ABOUT: &str = "\
-Lists what is in an ELF64 file: its headers, symbols, relocations, notes and dynamic entries.
+Lists what is in an ELF64 file, looks names up in it, and applies its relocations.
 Whatever bytes the file has, elfsee ends, and stays within the memory and the reads it may use.";
 
 const MORE: &str = "\
@@ -21,8 +22,9 @@ Examples:
   elfsee show --only symbols --names 64 /bin/ls
   elfsee sample --only header
   elfsee find /lib/libexample.so printf
+  elfsee apply example.o 1 at:1=0x401000 def:main=0x401200
 
-Options of show and sample, before or behind FILE; find has --headers and -- alone:
+Options of show and sample, before or behind FILE; find and apply have --headers and -- alone:
   --headers N   permit so many section headers, and as many program headers:
                 1 to 65279 [default: 4096]
   --names N     show so many bytes of a name: 1 to 4096 [default: 256]
@@ -33,11 +35,20 @@ Options of show and sample, before or behind FILE; find has --headers and -- alo
   --            end the options, so that FILE or NAME may begin with a hyphen
 
 Exit status:
-  0  listed, or found
+  0  listed, found or applied
   1  refused, or out of its reads: the last line is '!', an offset in the file and the cause;
      or there is no such name: the line 'F absent' with the number of names compared
   2  the words ask for nothing that there is, or for this help
   3  a read or write fault, a file that cannot be opened, or want of memory";
+
+const ITEMS: &str = "\
+Items, at most 64 sections, 32 definitions and 32 entries, no index or name of a sort twice:
+  at:INDEX=ADDR  the address of section INDEX, 1 to 65279
+  def:NAME=ADDR  the address of a symbol that is undefined or common
+  plt:NAME=ADDR  the address of a symbol's entry in the procedure linkage table
+NAME has 1 to 255 bytes, and the last '=' ends it; ADDR is 0x and 1 to 16 hexadecimal digits.
+
+Example: elfsee apply example.o 1 at:1=0x401000 def:main=0x401200";
 
 /// The command line, with the names of the parts.
 pub fn command_line<'a>(alloc: Global, parts: &'a [&'a str]) -> Result<Command<'a>, AllocError>
@@ -46,10 +57,12 @@ pub fn command_line<'a>(alloc: Global, parts: &'a [&'a str]) -> Result<Command<'
     let show = show(alloc, parts)?;
     let sample = sample(alloc, parts)?;
     let find = find(alloc)?;
+    let apply = apply(alloc)?;
     program(alloc)?
         .subcommand(show)?
         .subcommand(sample)?
-        .subcommand(find)
+        .subcommand(find)?
+        .subcommand(apply)
 }
 
 /// The program, without its commands.
@@ -57,7 +70,7 @@ fn program<'a>(alloc: Global) -> Result<Command<'a>, AllocError>
     ensures { IfOk result (λ command. app_of command ≡ without_command) }
 {
     let program = Command::new(alloc, "elfsee")
-        .subcommand_value_name("show|sample|find")
+        .subcommand_value_name("show|sample|find|apply")
         .about(ABOUT)
         .after_help(MORE)
         .no_binary_name(true)
@@ -100,6 +113,21 @@ fn find<'a>(alloc: Global) -> Result<Command<'a>, AllocError>
         .arg(headers(alloc))?
         .arg(file(alloc))?
         .arg(name(alloc))
+}
+
+/// The command that writes a section with its relocations applied.
+fn apply<'a>(alloc: Global) -> Result<Command<'a>, AllocError>
+    ensures app { IfOk result (λ command. app_of command ≡ apply_command) }
+    ensures local { IfOk result (λ command. (fields_of command).has_globals ≡ false) }
+{
+    let command = Command::new(alloc, "apply")
+        .about("Write a section's bytes with its relocations applied")
+        .after_help(ITEMS);
+    command
+        .arg(headers(alloc))?
+        .arg(file(alloc))?
+        .arg(section(alloc))?
+        .arg(item(alloc))
 }
 
 /// A command with the options of a listing.
@@ -151,6 +179,27 @@ fn headers<'a>(alloc: Global) -> Arg<'a>
         .value_parser(value_parser!(u16).range(1..=65279))
         .default_value("4096")
         .help("Permit so many section headers, and as many program headers: 1 to 65279")
+}
+
+/// The section that is written.
+fn section<'a>(alloc: Global) -> Arg<'a>
+    ensures rule { rule_of result ≡ section_argument }
+    ensures local { result.global ≡ false }
+{
+    Arg::new(alloc, "SECTION")
+        .required(true)
+        .value_parser(value_parser!(u16))
+        .help("The index of the section to write: 0 to 65535")
+}
+
+/// The items of the layout.
+fn item<'a>(alloc: Global) -> Arg<'a>
+    ensures rule { rule_of result ≡ item_argument }
+    ensures local { result.global ≡ false }
+{
+    Arg::new(alloc, "ITEM").num_args(0..).help(
+        "An address: at:INDEX=ADDR, def:NAME=ADDR or plt:NAME=ADDR",
+    )
 }
 
 /// How many bytes of a name are shown.

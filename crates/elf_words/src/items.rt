@@ -1,13 +1,17 @@
 //! Items of a layout, as words spell them.
-ghost use Rattle.std.specs.Prelude.{◌≡◌, ◌≢◌, ◌≤◌, ◌^◌, ◌++◌, ℕ, List, IfSome, IsNone, length};
+ghost use Rattle.std.specs.Prelude.{◌≡◌, ◌≢◌, ◌≤◌, ◌^◌, ◌++◌, ℕ, List, IfErr, IfOk, IfSome};
+ghost use Rattle.std.specs.Prelude.{IsNone, length, Ok, Err};
 ghost use Rattle.std.specs.Str.Parse.{IsNumeral};
 ghost use Rattle.elf_apply.specs.Layouts.{IsName};
 ghost use Rattle.elf_apply.specs.declared.layout.Item.{Item};
 ghost use Rattle.elf_words.specs.Items.{IsAddress, IsIndex, IsNumber, IsOf, IsParted};
 ghost use Rattle.elf_words.specs.Items.{Spells, address_in};
+ghost use Rattle.elf_words.specs.Layouts.{Lays, Puts, RefusesItem, no_items};
+ghost use Rattle.clap.specs.Walk.{texts};
 
 use crate::names::has_nul;
-use elf_apply::Item;
+use crate::requests::RequestFault;
+use elf_apply::{Item, Layout, LayoutFault};
 
 /// The most bytes of a name in a layout.
 const NAME_BYTES: usize = 255;
@@ -15,10 +19,43 @@ const NAME_BYTES: usize = 255;
 /// The largest index of a section.
 const LAST_INDEX: u64 = 65_279;
 
+/// Lays out the items that words give, from the first to the last, and no other items.
+///
+/// # Errors
+/// `BadItem` for a word that spells no item; `LayoutRepeat` for an item of the same sort with the
+/// same index or name as an earlier one; else `LayoutFull` where there are 64 sections, 32
+/// definitions or 32 entries before it. The first such word decides; the layout is left with the
+/// items before it.
+pub fn lay(layout: &mut Layout, words: &[&str]) -> Result<(), RequestFault>
+    ensures laid { IfOk result (λ _. Lays no_items (texts words.now) (Ok layout.new)) }
+    ensures refused { IfErr result (λ fault. Lays no_items (texts words.now) (Err fault)) }
+{
+    *layout = Layout::new();
+    for word in words {
+        put(layout, word)?;
+    }
+    Ok(())
+}
+
+/// Puts the item that a word spells into a layout, which a refused one leaves as it was.
+fn put(layout: &mut Layout, word: &str) -> Result<(), RequestFault>
+    ensures put { IfOk result (λ _. Puts word.now layout.old layout.new) }
+    ensures refused { IfErr result (RefusesItem word.now layout.old) }
+{
+    let Some(item) = item(word) else {
+        return Err(RequestFault::BadItem);
+    };
+    match layout.push(item) {
+        Ok(()) => Ok(()),
+        Err(LayoutFault::Full) => Err(RequestFault::LayoutFull),
+        Err(LayoutFault::Repeat) => Err(RequestFault::LayoutRepeat),
+    }
+}
+
 /// The item that a word spells: `at:INDEX=ADDR`, the address of a section; `def:NAME=ADDR`, that of
 /// a symbol; `plt:NAME=ADDR`, that of a symbol's procedure linkage table entry. The last `=` parts
-/// them. INDEX is 1 to 5 decimal digits, from 1 to 65279; NAME 1 to 255 bytes without NUL; ADDR `0x`
-/// and 1 to 16 hexadecimal digits of either case. None for another word.
+/// them. INDEX is 1 to 5 decimal digits, from 1 to 65279; NAME 1 to 255 bytes without NUL; ADDR
+/// `0x` and 1 to 16 hexadecimal digits of either case. None for another word.
 pub fn item(word: &str) -> Option<Item<'_>>
     ensures spelled { IfSome result (Spells word.now) }
     ensures unspelled { IsNone result → (item : Item) → Spells word.now item → ⊥ }

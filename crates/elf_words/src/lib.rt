@@ -1,6 +1,8 @@
 //! What can be asked for on a command line, and the words that ask for it.
 #![tactic(auto)]
 
+#[cfg(test)]
+mod apply_tests;
 mod command_line;
 #[cfg(test)]
 mod item_tests;

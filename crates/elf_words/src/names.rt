@@ -9,7 +9,8 @@ use memchr::memchr;
 /// The most bytes of a name that is looked for.
 const MOST_BYTES: usize = 4_096;
 
-/// A name that can be looked for: a word of 1 to 4,096 bytes, none of them NUL. None for another word.
+/// A name that can be looked for: a word of 1 to 4,096 bytes, none of them NUL. None for another
+/// word.
 pub fn checked_name(word: &str) -> Option<Wanted<'_>>
     ensures named { IfSome result (λ name. name.bytes.now ≡ word.now) }
     ensures unnamed { IsNone result → IsWanted word.now → length word.now ≤ 4096 → ⊥ }

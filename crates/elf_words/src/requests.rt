@@ -7,30 +7,38 @@ ghost use Rattle.elf_words.specs.Faults.{IsFaultOf};
 ghost use Rattle.elf_words.specs.declared.requests.RequestFault.TheVariants.{Memory};
 
 use clap::error::ErrorKind;
+use elf_apply::Layout;
 use elf_record::Parts;
 use elf_table::Caps;
 use std::alloc::AllocError;
 use thiserror::Error;
 
 /// What is asked for: which file, how much of it may be read and shown, and what is done with it.
-#[derive(Clone, Copy, Debug, PartialEq, Eq)]
+#[derive(Clone, Copy)]
 pub struct Request<'a> {
     /// The file's path, or none for the sample, which is a file that the program carries.
     pub file: Option<&'a str>,
     /// How many headers are permitted; and of a listing how many bytes of a name are shown, and how
-    /// many bytes may be read.
+    /// many bytes may be read. Of the other tasks these are 256, and no limit.
     pub caps: Caps,
     /// What is done with the file.
     pub task: Task<'a>,
 }
 
 /// What is done with a file.
-#[derive(Clone, Copy, Debug, PartialEq, Eq)]
+#[derive(Clone, Copy)]
 pub enum Task<'a> {
     /// These parts of it are listed.
     Show(Parts),
     /// A name is looked up in it.
     Find(Wanted<'a>),
+    /// One of its sections is written, with its relocations applied.
+    Apply {
+        /// The section's index.
+        section: u16,
+        /// The addresses of sections, names and procedure linkage table entries.
+        layout: &'a Layout,
+    },
 }
 
 /// A name that can be looked for, of 1 to 4,096 bytes, none of them NUL.
@@ -64,6 +72,16 @@ pub enum RequestFault {
     /// The words ask for a name that can't be looked for.
     #[error("bad name")]
     BadName,
+    /// The first word for an item of a layout that is refused spells none.
+    #[error("bad item")]
+    BadItem,
+    /// The first word that is refused gives one item more of a sort than a layout holds.
+    #[error("layout-full")]
+    LayoutFull,
+    /// The first word that is refused gives an item of the same sort with the same index or name as
+    /// an earlier one.
+    #[error("layout-repeat")]
+    LayoutRepeat,
     /// There was no memory for the request.
     #[error("out of memory")]
     Memory,

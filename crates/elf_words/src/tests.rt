@@ -1,6 +1,7 @@
 //! Words, and what they ask for.
-use crate::{Request, RequestFault, Task, checked_name, request};
+use crate::{RequestFault, Task, checked_name, request};
 use clap::error::ErrorKind;
+use elf_apply::Layout;
 use elf_record::Parts;
 use elf_table::Caps;
 use std::process::Abort;
@@ -17,15 +18,19 @@ fn check(
     caps: Caps,
     parts: Parts,
 ) -> Result<(), Fail> {
-    let task = Task::Show(parts);
-    let asked = request(rt.alloc(), words)?;
-    assert!(rt; asked == Request { file, caps, task });
+    let mut layout = Layout::new();
+    let asked = request(rt.alloc(), words, &mut layout)?;
+    assert!(rt; asked.file == file && asked.caps == caps);
+    match asked.task {
+        Task::Show(shown) => assert!(rt; shown == parts),
+        _ => assert!(rt; false, "a listing"),
+    }
     Ok(())
 }
 
 /// Checks that words are refused, and with an error of which kind.
-fn check_refused(rt: &(impl Abort + AllocGlobal), words: &[&str], kind: ErrorKind) {
-    match request(rt.alloc(), words) {
+pub(crate) fn check_refused(rt: &(impl Abort + AllocGlobal), words: &[&str], kind: ErrorKind) {
+    match request(rt.alloc(), words, &mut Layout::new()) {
         Err(RequestFault::Words(error)) => {
             assert!(rt; error.kind() == kind);
         }
@@ -132,10 +137,105 @@ fn other_words_are_refused(rt: HostRuntime) {
     check_refused(&rt, &["sample", "--only"], ErrorKind::InvalidValue);
 }
 
+/// Checks what help says.
+fn check_help(rt: &(impl Abort + AllocGlobal), words: &[&str], parts: &[&str]) -> Result<(), Fail> {
+    match request(rt.alloc(), words, &mut Layout::new()) {
+        Err(RequestFault::Words(error)) => {
+            assert!(rt; error.kind() == ErrorKind::DisplayHelp);
+            let text = format!(in rt.alloc(); "{error}")?;
+            for part in parts {
+                assert!(rt; text.contains(*part), "{part} in\n{text}");
+            }
+        }
+        _ => assert!(rt; false, "help"),
+    }
+    Ok(())
+}
+
+#[test]
+fn help_has_usage_and_an_example(rt: HostRuntime) -> Result<(), Fail> {
+    check_help(
+        &rt,
+        &["--help"],
+        &["Usage: elfsee", "Examples:", "Exit status:"],
+    )?;
+    check_help(
+        &rt,
+        &["show", "--help"],
+        &["Usage: elfsee show ", "Example: "],
+    )?;
+    check_help(
+        &rt,
+        &["sample", "-h"],
+        &["Usage: elfsee sample ", "Example: "],
+    )?;
+    check_help(
+        &rt,
+        &["find", "--help"],
+        &["Usage: elfsee find ", "Example: "],
+    )?;
+    check_help(
+        &rt,
+        &["find", "f", "-h"],
+        &["Usage: elfsee find ", "<NAME>"],
+    )?;
+    check_help(&rt, &["apply", "--help"], &["Usage: elfsee apply "])?;
+    let items = ["at:INDEX=ADDR", "def:NAME=ADDR", "plt:NAME=ADDR"];
+    check_help(&rt, &["apply", "--help"], &items)?;
+    let example = ["Example: elfsee apply example.o 1 at:1=0x401000"];
+    check_help(&rt, &["apply", "-h"], &example)
+}
+
 #[test]
 fn an_option_given_twice_is_refused(rt: HostRuntime) {
     let words = ["sample", "--names=5", "--names=5"];
     check_refused(&rt, &words, ErrorKind::ArgumentConflict);
+}
+
+#[test]
+fn a_name_is_looked_up(rt: HostRuntime) -> Result<(), Fail> {
+    let caps = Caps::new(7, 256).ok_or("caps")?;
+    for words in [
+        ["find", "--headers", "7", "f", "main"],
+        ["find", "f", "--headers", "7", "main"],
+        ["find", "f", "main", "--headers", "7"],
+        ["find", "--headers=7", "f", "--", "main"],
+    ] {
+        let mut layout = Layout::new();
+        let asked = request(rt.alloc(), words.as_slice(), &mut layout)?;
+        assert!(&rt; asked.file == Some("f") && asked.caps == caps);
+        match asked.task {
+            Task::Find(wanted) => assert!(&rt; wanted.bytes == b"main".as_slice()),
+            _ => assert!(&rt; false, "a lookup"),
+        }
+    }
+    Ok(())
+}
+
+#[test]
+fn a_bad_name_is_told_as_such(rt: HostRuntime) {
+    let words = ["find", "f", ""];
+    assert!(&rt;
+        matches!(
+            request(rt.alloc(), &words, &mut Layout::new()),
+            Err(RequestFault::BadName)
+        )
+    );
+    let words = ["find", "f", "a\0b"];
+    assert!(&rt;
+        matches!(
+            request(rt.alloc(), &words, &mut Layout::new()),
+            Err(RequestFault::BadName)
+        )
+    );
+    check_refused(&rt, &["find", "f"], ErrorKind::MissingRequiredArgument);
+    check_refused(&rt, &["find", "f", "", "x"], ErrorKind::UnknownArgument);
+    check_refused(
+        &rt,
+        &["find", "--names=5", "f", ""],
+        ErrorKind::UnknownArgument,
+    );
+    check_refused(&rt, &["show", "f", ""], ErrorKind::UnknownArgument);
 }
 
 #[test]

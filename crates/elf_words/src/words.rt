@@ -1,22 +1,26 @@
 //! The words of a command line.
-ghost use Rattle.std.specs.Prelude.{◌≡◌, ◌<◌, ◌≤◌, ◌^◌, ℕ, IfErr, IfOk, IfSome, IsTrue, None};
-ghost use Rattle.std.specs.Prelude.{Option, Some, codes, false, length, map, option_map};
+ghost use Rattle.std.specs.Prelude.{◌≡◌, ◌<◌, ◌^◌, ℕ, IfErr, IfOk, IfSome, None, Ok, Err};
+ghost use Rattle.std.specs.Prelude.{Option, Some, codes, false, map, option_map};
+ghost use Rattle.std.specs.Borrow.{Bor};
 ghost use Rattle.clap.specs.Walk.{Text, first_of, one_of, rows_of};
 ghost use Rattle.clap.specs.Words.{found_of, subcommand_rows_of};
 ghost use Rattle.elf_model.specs.Text.{name_of};
-ghost use Rattle.elf_words.specs.Asked.{AreCaps, AreParts, Asks, AsksBy, AsksNothing};
-ghost use Rattle.elf_words.specs.Asked.{HasNumber, NamesBadly, Refuses, is_part, part_names};
+ghost use Rattle.elf_words.specs.Asked.{AreCaps, AreHeaderCaps, AreParts, Asks, ComesTo};
+ghost use Rattle.elf_words.specs.Asked.{HasNumber, IsFileNamed, Refuses, is_part, item_words};
+ghost use Rattle.elf_words.specs.Asked.{part_names};
+ghost use Rattle.elf_words.specs.Layouts.{Lays, no_items};
 ghost use Rattle.elf_words.specs.Faults.{IsUnasked};
 ghost use Rattle.elf_words.specs.declared.requests.Task.TheVariants.{Show};
-ghost use Rattle.elf_model.specs.NameLaws.{IsWanted};
 ghost use Rattle.elf_record.specs.declared.parts.Parts.{Parts};
 ghost use Rattle.elf_headers.specs.declared.caps.Caps.{Caps};
 
 use crate::command_line::command_line;
+use crate::items::lay;
 use crate::names::checked_name;
 use crate::requests::{Request, RequestFault, Task};
 use clap::error::ErrorKind;
 use clap::{ArgMatches, Command};
+use elf_apply::Layout;
 use elf_record::Parts;
 use elf_table::Caps;
 use std::alloc::{AllocError, Global};
@@ -30,15 +34,21 @@ static PARTS: [&str; 7] = [
 /// All parts of a listing.
 const WHOLE: Parts = Parts(127);
 
-/// A number of name bytes for the caps of a lookup, which shows the wanted name whole.
+/// The name bytes in the caps of what is no listing, which no name is cut to.
 const NAME_BYTES: u16 = 256;
 
 /// Reads the words of a command line, without the program's name.
 ///
 /// # Errors
-/// `Words` for words that ask for nothing that there is, or for help; `BadName` where they ask for a
-/// name that is not of 1 to 4,096 bytes without NUL; `Memory` where there is none for reading them.
-pub fn request<'a, S: AsStr>(alloc: Global, words: &'a [S]) -> Result<Request<'a>, RequestFault>
+/// `Words` for words that ask for nothing that there is, or for help; `BadName` where they ask for
+/// a name that is not of 1 to 4,096 bytes without NUL; `BadItem`, `LayoutRepeat` and `LayoutFull`
+/// for the first word that is no item of a layout, gives an item again, or gives one more of a sort
+/// than a layout holds; `Memory` where there is none for reading them.
+pub fn request<'a, S: AsStr>(
+    alloc: Global,
+    words: &'a [S],
+    layout: &'a mut Layout,
+) -> Result<Request<'a>, RequestFault>
     ensures asked { IfOk result (Asks (map S.text words.entry.now)) }
     ensures refused { IfErr result (Refuses (map S.text words.entry.now)) }
 {
@@ -47,10 +57,7 @@ pub fn request<'a, S: AsStr>(alloc: Global, words: &'a [S]) -> Result<Request<'a
         Ok(matches) => matches,
         Err(error) => return Err(error.into()),
     };
-    if names_badly(&matches) {
-        return Err(RequestFault::BadName);
-    }
-    match asked(&matches) {
+    match asked(&matches, layout)? {
         Some(request) => Ok(request),
         None => Err(unasked(&mut commands)),
     }
@@ -66,50 +73,41 @@ fn unasked(commands: &mut Command<'_>) -> RequestFault
     }
 }
 
-/// Whether words that the command line let through ask for a name that can't be looked for.
-fn names_badly(matches: &ArgMatches<'_>) -> bool
-    ensures { IsTrue result → NamesBadly (subcommand_rows_of matches.now) }
+/// What words that the command line let through ask for, or None where they ask for nothing.
+fn asked<'a>(
+    matches: &ArgMatches<'a>,
+    layout: &'a mut Layout,
+) -> Result<Option<Request<'a>>, RequestFault>
+    ensures { ComesTo (subcommand_rows_of matches.now) result }
 {
     match matches.subcommand() {
-        Some((command, options)) => command == "find" && lacks_name(options),
-        None => false,
+        Some((command, options)) => asked_by(command, options, layout),
+        None => Ok(None),
     }
-}
-
-/// Whether the word for a name is none that can be looked for.
-fn lacks_name(options: &ArgMatches<'_>) -> bool
-    ensures { IsTrue result → (name : Text)
-        × (first_of (codes "NAME") (rows_of (found_of options.now)) ≡ Some name)
-        × (IsWanted name → length name ≤ 4096 → ⊥) }
-{
-    match text_of(options, "NAME") {
-        Some(word) => checked_name(word).is_none(),
-        None => false,
-    }
-}
-
-/// What words that the command line let through ask for.
-fn asked<'a>(matches: &ArgMatches<'a>) -> Option<Request<'a>>
-    ensures some { IfSome result (AsksBy (subcommand_rows_of matches.now)) }
-    ensures none { result ≡ None → AsksNothing (subcommand_rows_of matches.now) }
-{
-    let (command, options) = matches.subcommand()?;
-    asked_by(command, options)
 }
 
 /// What a command with these arguments asks for.
-fn asked_by<'a>(command: &str, options: &ArgMatches<'a>) -> Option<Request<'a>>
-    ensures some { IfSome result
-        (AsksBy (Some (command.now, rows_of (found_of options.now)))) }
-    ensures none { result ≡ None
-        → AsksNothing (Some (command.now, rows_of (found_of options.now))) }
+fn asked_by<'a>(
+    command: &str,
+    options: &ArgMatches<'a>,
+    layout: &'a mut Layout,
+) -> Result<Option<Request<'a>>, RequestFault>
+    ensures { ComesTo (Some (command.now, rows_of (found_of options.now))) result }
 {
     match command {
-        "show" => listing(Some(text_of(options, "FILE")?), options),
-        "sample" => listing(None, options),
+        "show" => Ok(listing_of_file(options)),
+        "sample" => Ok(listing(None, options)),
         "find" => lookup(options),
-        _ => None,
+        "apply" => applying(options, layout),
+        _ => Ok(None),
     }
+}
+
+/// A listing of the file whose path is among the arguments.
+fn listing_of_file<'a>(options: &ArgMatches<'a>) -> Option<Request<'a>>
+    ensures { ComesTo (Some (codes "show", rows_of (found_of options.now))) (Ok result) }
+{
+    listing(Some(text_of(options, "FILE")?), options)
 }
 
 /// A listing of a file, or of the sample where there is none, with the options that are asked for.
@@ -133,28 +131,85 @@ fn listing<'a>(file: Option<&'a str>, options: &ArgMatches<'a>) -> Option<Reques
 }
 
 /// A lookup in a file, with as many headers as are asked for.
-fn lookup<'a>(options: &ArgMatches<'a>) -> Option<Request<'a>>
-    ensures some { IfSome result
-        (AsksBy (Some (codes "find", rows_of (found_of options.now)))) }
-    ensures none { result ≡ None
-        → AsksNothing (Some (codes "find", rows_of (found_of options.now))) }
+fn lookup<'a>(options: &ArgMatches<'a>) -> Result<Option<Request<'a>>, RequestFault>
+    ensures { ComesTo (Some (codes "find", rows_of (found_of options.now))) result }
+{
+    let Some(word) = text_of(options, "NAME") else {
+        return Ok(None);
+    };
+    let Some(wanted) = checked_name(word) else {
+        return Err(RequestFault::BadName);
+    };
+    Ok(in_file(options, Task::Find(wanted)))
+}
+
+/// A section applied, with as many headers and in the layout that are asked for.
+fn applying<'a>(
+    options: &ArgMatches<'a>,
+    layout: &'a mut Layout,
+) -> Result<Option<Request<'a>>, RequestFault>
+    ensures { ComesTo (Some (codes "apply", rows_of (found_of options.now))) result }
+{
+    let layout = layout_asked(options, layout)?;
+    let Some(section) = small_number_of(options, "SECTION") else {
+        return Ok(None);
+    };
+    Ok(in_file(options, Task::Apply { section, layout }))
+}
+
+/// The layout that is asked for, which has no item where no word gives one.
+fn layout_asked<'a>(
+    options: &ArgMatches<'_>,
+    layout: &'a mut Layout,
+) -> Result<&'a Layout, RequestFault>
+    ensures laid { IfOk result (λ layout.
+        Lays no_items (item_words (rows_of (found_of options.now))) (Ok layout.now)) }
+    ensures refused { IfErr result (λ fault.
+        Lays no_items (item_words (rows_of (found_of options.now))) (Err fault)) }
+{
+    lay_asked(options, layout)?;
+    Ok(layout)
+}
+
+/// Lays out the items that are asked for, and no other items.
+fn lay_asked(options: &ArgMatches<'_>, layout: &mut Layout) -> Result<(), RequestFault>
+    ensures laid { IfOk result (λ _.
+        Lays no_items (item_words (rows_of (found_of options.now))) (Ok layout.new)) }
+    ensures refused { IfErr result (λ fault.
+        Lays no_items (item_words (rows_of (found_of options.now))) (Err fault)) }
+{
+    match options.get_strs("ITEM") {
+        Some(words) => lay(layout, words),
+        None => lay(layout, &[]),
+    }
+}
+
+/// What is done with the file that is asked for, with as many headers as are asked for.
+fn in_file<'a>(options: &ArgMatches<'a>, task: Task<'a>) -> Option<Request<'a>>
+    ensures task { IfSome result (λ request. request.task ≡ task.entry) }
+    ensures file { IfSome result (λ request.
+        IsFileNamed (rows_of (found_of options.now)) request.file) }
+    ensures caps { IfSome result (λ request.
+        AreHeaderCaps (rows_of (found_of options.now)) request.caps) }
+    ensures none { result ≡ None → (file : Option (Bor Text)) (caps : Caps)
+        → IsFileNamed (rows_of (found_of options.now)) file
+        → AreHeaderCaps (rows_of (found_of options.now)) caps → ⊥ }
 {
     let path = text_of(options, "FILE")?;
-    let word = text_of(options, "NAME")?;
     let headers = small_number_of(options, "headers")?;
     let caps = Caps::new(headers, NAME_BYTES)?;
-    let wanted = checked_name(word)?;
     Some(Request {
         file: Some(path),
         caps,
-        task: Task::Find(wanted),
+        task,
     })
 }
 
 /// The caps that the options ask for.
 fn caps_of(options: &ArgMatches<'_>) -> Option<Caps>
     ensures some { IfSome result (AreCaps (rows_of (found_of options.now))) }
-    ensures none { result ≡ None → (caps : Caps) → AreCaps (rows_of (found_of options.now)) caps → ⊥ }
+    ensures none { result ≡ None → (caps : Caps)
+        → AreCaps (rows_of (found_of options.now)) caps → ⊥ }
 {
     let headers = small_number_of(options, "headers")?;
     let names = small_number_of(options, "names")?;

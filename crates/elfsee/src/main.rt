@@ -1,36 +1,23 @@
 //! elfsee lists ELF64 files, safely and in bounded memory.
 #![tactic(auto)]
 
-mod answering;
-#[cfg(test)]
-mod budget_tests;
-#[cfg(test)]
-mod dynamic_tests;
-mod endings;
-mod finding;
-#[cfg(test)]
-mod listing_tests;
-#[cfg(test)]
-mod note_tests;
 mod offset_reader;
 mod sample;
-#[cfg(test)]
-mod table_fixtures;
 #[cfg(test)]
 mod tests;
 
 ghost use Rattle.std.specs.Prelude.{◌≡◌, ◌⊎◌, codes, IfErr};
-ghost use Rattle.elfsee.specs.Answers.{refused_line, refused_status};
+ghost use Rattle.elf_run.specs.Answers.{refused_line, refused_status};
 ghost use Rattle.elf_words.specs.declared.requests.RequestFault.{RequestFault};
 
-use answering::run;
+use elf_apply::Layout;
 use elf_listing::RunFault;
+use elf_run::{
+    CANNOT_OPEN, Ending, NOT_UTF8, OUT_OF_MEMORY, READ_FAULT, WRITE_FAULT, outcome, refused, run,
+};
 use elf_source::{Counted, Device, MemorySource, Out, Source, StreamSource, WriteSink};
 use elf_table::HeaderStore;
 use elf_words::{Request, RequestFault, request};
-use endings::{
-    CANNOT_OPEN, Ending, NOT_UTF8, OUT_OF_MEMORY, READ_FAULT, WRITE_FAULT, outcome, refused,
-};
 use offset_reader::OffsetReader;
 use sample::sample;
 use std::fs::File;
@@ -64,7 +51,8 @@ where
     R::File: FileExt,
 {
     let words = read_words(rt)?;
-    let request = read_request(rt, words.as_slice())?;
+    let mut layout = Layout::new();
+    let request = read_request(rt, words.as_slice(), &mut layout)?;
     let Ok(store) = HeaderStore::new(rt.alloc(), request.headers()) else {
         return Err(OUT_OF_MEMORY);
     };
@@ -101,11 +89,12 @@ fn read_words<R: Env + AllocGlobal>(rt: &R) -> Result<Vec<String>, Ending>
 fn read_request<'a, R: Eprint + AllocGlobal>(
     rt: &R,
     words: &'a [String],
+    layout: &'a mut Layout,
 ) -> Result<Request<'a>, Ending>
     ensures { IfErr result (λ ending. (fault : RequestFault)
         × (ending.0 ≡ refused_status fault) × (ending.1.now ≡ refused_line fault)) }
 {
-    let fault = match request(rt.alloc(), words) {
+    let fault = match request(rt.alloc(), words, layout) {
         Ok(request) => return Ok(request),
         Err(fault) => fault,
     };

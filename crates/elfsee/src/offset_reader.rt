@@ -1,4 +1,6 @@
 //! A file that is read at offsets.
+ghost use Rattle.std.specs.Prelude.{◌≡◌};
+
 use std::io;
 use std::io::{ErrorKind, Read, Seek, SeekFrom};
 use std::os::unix::fs::FileExt;
@@ -13,7 +15,9 @@ pub struct OffsetReader<F> {
 
 impl<F> OffsetReader<F> {
     /// A reader of `file`, at its first byte.
-    pub fn new(file: F) -> Self {
+    pub fn new(file: F) -> Self
+        ensures { (result.file ≡ file) × (result.at ≡ 0) }
+    {
         OffsetReader { file, at: 0 }
     }
 }

@@ -3,7 +3,7 @@ use Rattle.elf_model.specs.Apply.{patched}
 use Rattle.elf_model.specs.Bytes.{slice}
 use Rattle.elf_model.specs.ApplyCost.{entries_for}
 use Rattle.elf_source.proofs.ReadsLaws.{Reads-then, Reads-to}
-use Rattle.elf_apply.proofs.OpenLaws.{still_open}
+use Rattle.elf_headers.proofs.OpenLaws.{still_open}
 use Rattle.elf_apply.specs.Passes.{rising}
 use Rattle.elf_apply.specs.Walk.{walk_all}
 use Rattle.elf_apply.proofs.ApplySteps.{check_failed, text_is, all_inside, writes_failed, folded_ok}

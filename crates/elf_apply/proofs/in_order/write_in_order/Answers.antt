@@ -1,6 +1,6 @@
 use Rattle.std.proofs.Common.{refl, sym, ap, ◌∙◌, subst, ◌+◌, ◌-◌, ◌≤◌, arith, length, List, ℕ, ◌≡◌, Err}
 use Rattle.elf_source.proofs.ReadsLaws.{Reads-none, Reads-then, Reads-to}
-use Rattle.elf_apply.proofs.OpenLaws.{still_open}
+use Rattle.elf_headers.proofs.OpenLaws.{still_open}
 use Rattle.elf_model.specs.Apply.{patched, patches_of}
 use Rattle.elf_model.specs.ApplyLaws.{AllInside}
 use Rattle.elf_model.specs.Bytes.{slice}
@@ -10,6 +10,7 @@ use Rattle.elf_apply.proofs.WindowSteps.{length_in}
 use Rattle.elf_apply.proofs.InOrderSteps.{underway_start, underway_first, underway_next, underway_stopped, underway_end, underway_failed, finds_refusal}
 use Rattle.elf_apply.proofs.ReadLaws.{ReadSays-then}
 use Rattle.elf_apply.proofs.WindowSteps.{says_as}
+use Rattle.elf_source.proofs.GrowthLaws.{grows_not, grows_then}
 use Rattle.elf_apply.proofs.in_order.write_in_order.Goals as goal
 
 pub entries-init : goal.entries-init
@@ -18,6 +19,7 @@ entries-init g c = record {
   within = omega (arith, c.new-held.ensures.low, ap length c.new-held.ensures.bytes);
   reads_most = Reads-none _ _;
   asked = omega (arith, c.new-entries.ensures.left c.args.target.now);
+  grows = grows_not _;
   wrote = omega (arith, c.args.out.now.fits, c.new-held.ensures.low);
   still = c.new-entries.ensures.begins _ c.args.target.now;
   reads = λ file held. c.new-entries.ensures.reads file;
@@ -34,12 +36,13 @@ entries-preserved g c =
     let now = c.in-Ok-Some.ensures.goes in
     let fits = rw c.in-Ok-Some.field-0-is at c.in-Ok-Some.ensures.inside in
     let ends = c.in-Ok.ensures.held in
-    let asked : c.store.new.src.asked + (walk_left c.args.target.now c.next.new.self + (c.args.target.now.size - (c.store.new.self.low + length c.store.new.self.bytes))) ≤ c.args.src.now.asked + (walk_all c.args.target.now + c.args.target.now.size) = omega (arith, known.asked, c.next.ensures.account, c.in-Ok.ensures.asked_on, ends, fits, known.within) in
+    let asked : c.store.new.src.asked + (walk_left c.args.target.now c.next.new.self + (c.args.target.now.size - (c.store.new.self.low + length c.store.new.self.bytes))) ≤ c.args.src.now.asked + (walk_all c.args.target.now + c.args.target.now.size) = omega (arith, known.asked, c.next.ensures.asks.account, c.in-Ok.ensures.asked_on, ends, fits, known.within) in
     record {
       sized = refl;
       within = omega (arith, ends, fits, known.within);
-      reads_most = Reads-to (Reads-then (Reads-then known.reads_most c.next.ensures.reads) c.store.ensures.reads) (omega (arith, asked));
+      reads_most = Reads-to (Reads-then (Reads-then known.reads_most c.next.ensures.asks.reads) c.store.ensures.reads) (omega (arith, asked));
       asked = asked;
+      grows = grows_then known.grows c.store.ensures.grows;
       wrote = omega (arith, known.wrote, c.in-Ok.ensures.wrote, c.in-Ok.ensures.low, c.in-Ok.ensures.never);
       still = rw known.reads_most.keeps.same_size at now;
       reads = λ file held.
@@ -47,7 +50,7 @@ entries-preserved g c =
       left = λ file held patches are inside rises.
           let finds = rw c.in-Ok-Some.field-0-is at c.in-Ok-Some.ensures.finds file (known.reads_most.keeps.same_file ∙ held) (known.reads file held) in
           let way = known.left file held patches are inside rises in
-          let later = c.next.ensures.reads.keeps.same_file ∙ (known.reads_most.keeps.same_file ∙ held) in
+          let later = c.next.ensures.asks.reads.keeps.same_file ∙ (known.reads_most.keeps.same_file ∙ held) in
           let base : List ℕ = slice file c.args.at c.args.target.now.size in
           let long : c.args.at + c.args.target.now.size ≤ length file = (let belongs = c.requires.opened.belongs file held in omega (arith, belongs.size, c.requires.opened.size, c.requires.within)) in
           let first = underway_first base (patched patches base) c.entries.held _ _ _ way (patch_as c.in-Ok-Some.placed) _ finds.0 in
@@ -62,7 +65,7 @@ returns-in-Err-store-clause-text g c = λ file held patches are inside rises.
     let fits = rw c.in-Ok-Some.field-0-is at c.in-Ok-Some.ensures.inside in
     let finds = rw c.in-Ok-Some.field-0-is at c.in-Ok-Some.ensures.finds file (known.reads_most.keeps.same_file ∙ held) (known.reads file held) in
     let way = known.left file held patches are inside rises in
-    let later = c.next.ensures.reads.keeps.same_file ∙ (known.reads_most.keeps.same_file ∙ held) in
+    let later = c.next.ensures.asks.reads.keeps.same_file ∙ (known.reads_most.keeps.same_file ∙ held) in
     let base : List ℕ = slice file c.args.at c.args.target.now.size in
     let long : c.args.at + c.args.target.now.size ≤ length file = (let belongs = c.requires.opened.belongs file held in omega (arith, belongs.size, c.requires.opened.size, c.requires.within)) in
     let first = underway_first base (patched patches base) c.entries.held _ _ _ way (patch_as c.in-Ok-Some.placed) _ finds.0 in
@@ -74,7 +77,7 @@ returns-in-Ok-None-clause-text g c = λ file held patches are inside rises.
     let known = c.entries.invariant in
     let finds = rw c.in-Ok-None.field-0-is at c.in-Ok-None.ensures.finds file (known.reads_most.keeps.same_file ∙ held) (known.reads file held) in
     let way = known.left file held patches are inside rises in
-    let later = c.next.ensures.reads.keeps.same_file ∙ (known.reads_most.keeps.same_file ∙ held) in
+    let later = c.next.ensures.asks.reads.keeps.same_file ∙ (known.reads_most.keeps.same_file ∙ held) in
     let base : List ℕ = slice file c.args.at c.args.target.now.size in
     let long : c.args.at + c.args.target.now.size ≤ length file = (let belongs = c.requires.opened.belongs file held in omega (arith, belongs.size, c.requires.opened.size, c.requires.within)) in
     underway_end base (patched patches base) c.entries.held _ _ _ way (Unit {0}) c.args.target.now.size c.advance.new.out c.advance.result finds
@@ -96,3 +99,12 @@ pub returns-in-Err-clause-says : goal.returns-in-Err-clause-says
 returns-in-Err-clause-says g c =
     says_as c.args.src.now c.next.new.src c.entries.out c.in-Err.fault _ c.fault_of.ensures
     (ReadSays-then c.args.src.now c.entries.src c.next.new.src _ c.in-Err.fault c.entries.invariant.reads_most c.in-Err.ensures.says)
+
+pub returns-in-Err-store-clause-grows : goal.returns-in-Err-store-clause-grows
+returns-in-Err-store-clause-grows g c = grows_then c.entries.invariant.grows c.store.ensures.grows
+
+pub returns-in-Ok-None-clause-grows : goal.returns-in-Ok-None-clause-grows
+returns-in-Ok-None-clause-grows g c = grows_then c.entries.invariant.grows c.advance.ensures.grows
+
+pub returns-in-Err-clause-grows : goal.returns-in-Err-clause-grows
+returns-in-Err-clause-grows g c = c.entries.invariant.grows

@@ -3,6 +3,7 @@ use Rattle.std.proofs.Common.{◌≡◌, ℕ, ◌+◌, ◌-◌, ◌^◌, ◌≤�
 use Rattle.elf_model.specs.Apply.{Patch, patches_of, patched}
 use Rattle.elf_model.specs.ApplyLaws.{AllInside}
 use Rattle.elf_model.specs.Bytes.{slice}
+use Rattle.elf_source.specs.Growth.{Grows}
 use Rattle.elf_source.specs.Source.{Reads as ReadsMost}
 use Rattle.elf_apply.specs.InOrder.{Rises, UnderWay, end_of}
 use Rattle.elf_apply.specs.Walk.{Goes, Reads, changes_left, changes_all, walk_left, walk_all, steps_left}
@@ -14,6 +15,7 @@ invariant-entries g l = record {
   within : end_of l.held ≤ l.size;
   reads_most : ReadsMost l.fn.src l.src (walk_all l.target + l.size);
   asked : l.src.asked + (walk_left l.target l.entries + (l.size - end_of l.held)) ≤ l.fn.src.asked + (walk_all l.target + l.size);
+  grows : Grows l.fn.out l.out;
   wrote : l.out.written ≡ min (l.fn.out.written + l.held.low) (2 ^ 128 - 1);
   still : Goes l.fn.src.seen.size l.target l.entries;
   reads : (file : List ℕ) → l.fn.src.seen.file ≡ Some file → Reads file l.entries;

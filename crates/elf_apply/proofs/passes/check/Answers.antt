@@ -1,6 +1,6 @@
 use Rattle.std.proofs.Common.{◌≡◌, ◌+◌, ap, ◌∙◌, arith, true}
 use Rattle.elf_source.proofs.ReadsLaws.{Reads-none, Reads-then}
-use Rattle.elf_apply.proofs.OpenLaws.{still_open}
+use Rattle.elf_headers.proofs.OpenLaws.{still_open}
 use Rattle.elf_apply.proofs.WalkSteps.{reads-left}
 use Rattle.elf_apply.specs.Walk.{walk_left, entries_from}
 use Rattle.elf_apply.specs.Passes.{folded, rising}
@@ -26,9 +26,9 @@ entries-preserved g c =
     let counted = c.in-Ok-Some.ensures.counts in
     let counts : c.next.new.self.count + entries_from c.args.target.now c.next.new.self.next ≡ entries_from c.args.target.now 0 = omega (arith, known.counts, counted) in
     record {
-      most = reads-left _ (walk_left c.args.target.now c.next.new.self) (Reads-then known.most c.next.ensures.reads) (omega (arith, known.asked, c.next.ensures.account));
+      most = reads-left _ (walk_left c.args.target.now c.next.new.self) (Reads-then known.most c.next.ensures.asks.reads) (omega (arith, known.asked, c.next.ensures.asks.account));
       counts = counts;
-      asked = omega (arith, known.asked, c.next.ensures.account);
+      asked = omega (arith, known.asked, c.next.ensures.asks.account);
       still = rw known.most.keeps.same_size at now;
       reads = λ file held.
           let finds = rw c.in-Ok-Some.field-0-is at c.in-Ok-Some.ensures.finds file (known.most.keeps.same_file ∙ held) (known.reads file held) in finds.1;

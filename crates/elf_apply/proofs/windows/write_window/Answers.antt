@@ -1,5 +1,5 @@
 use Rattle.std.proofs.Common.{ap, ◌∙◌, ◌+◌, ◌≤◌, arith, length, Err}
-use Rattle.elf_apply.proofs.OpenLaws.{still_open}
+use Rattle.elf_headers.proofs.OpenLaws.{still_open}
 use Rattle.elf_apply.specs.Walk.{changes_all}
 use Rattle.elf_apply.proofs.ReadLaws.{unlimited, unread, ReadSays-then}
 use Rattle.elf_apply.proofs.WindowSteps.{window_done, folds_ok, pass_failed, takes_as, front_as, read_failed, front_written, says_as}

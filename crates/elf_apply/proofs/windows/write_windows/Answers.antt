@@ -1,10 +1,12 @@
 use Rattle.std.proofs.Common.{refl, sym, ap, ◌∙◌, ◌+◌, ◌-◌, arith, ◌≡◌}
+use Rattle.std.proofs.lemmas.Result.{err_from_is_err_and}
 use Rattle.elf_source.proofs.ReadsLaws.{Reads-none, Reads-then, Reads-to}
-use Rattle.elf_apply.proofs.OpenLaws.{still_open}
+use Rattle.elf_headers.proofs.OpenLaws.{still_open}
 use Rattle.elf_model.specs.Apply.{patched}
 use Rattle.elf_model.specs.Bytes.{slice}
 use Rattle.elf_apply.specs.Walk.{walk_all}
 use Rattle.elf_apply.proofs.WindowSteps.{window_more, window_stopped, windows_end, windows_account, length_in, takes_start, short_take}
+use Rattle.elf_source.proofs.GrowthLaws.{grows_not, grows_then}
 use Rattle.elf_apply.proofs.windows.write_windows.Goals as goal
 
 pub windows-init : goal.windows-init
@@ -15,15 +17,17 @@ windows-init g c = record {
   asked =
       let whole : c.args.target.now.size - 0 ≡ c.args.target.now.size = omega arith in
       rw whole (omega arith);
+  grows = grows_not _;
   wrote = omega (arith, c.args.out.now.fits);
   text = λ file held patches are inside. takes_start _ (patched patches (slice file c.args.at c.args.target.now.size));
 }
 
-pub returns-in-Err-clause-text : goal.returns-in-Err-clause-text
-returns-in-Err-clause-text g c = λ file held patches are inside.
+pub returns-in_err-write_window-clause-text : goal.returns-in_err-write_window-clause-text
+returns-in_err-write_window-clause-text g c = λ file held patches are inside.
     let known = c.windows.invariant in
-    window_stopped (Unit {0}) _ _ _ (patched patches (slice file c.args.at c.args.target.now.size)) c.windows.done _ c.in-Err.fault (known.text file held patches are inside)
-    (c.in-Err.ensures.text file (known.reads.keeps.same_file ∙ held) patches are inside)
+    let p = err_from_is_err_and c.from_residual.result c.from_residual.ensures.1 in
+    rw (p.1, p.2) (window_stopped (Unit {0}) _ _ _ (patched patches (slice file c.args.at c.args.target.now.size)) c.windows.done _ c.in_err-write_window.field-0.0 (known.text file held patches are inside)
+    (c.in_err-write_window.ensures.text file (known.reads.keeps.same_file ∙ held) patches are inside))
 
 pub windows-preserved : goal.windows-preserved
 windows-preserved g c =
@@ -37,10 +41,11 @@ windows-preserved g c =
       within = omega (arith, c.windows-test.true, count);
       reads = Reads-to (Reads-then known.reads c.write_window.ensures.reads) (omega (arith, asked));
       asked = asked;
-      wrote = omega (arith, known.wrote, c.in-Ok.ensures.wrote, few);
+      grows = grows_then known.grows c.write_window.ensures.grows;
+      wrote = omega (arith, known.wrote, c.in_ok-write_window.ensures.wrote, few);
       text = λ file held patches are inside.
           window_more _ _ _ (patched patches (slice file c.args.at c.args.target.now.size)) c.windows.done _ _ (ap (λ n. c.windows.done + n) (sym few)) (known.text file held patches are inside)
-          (c.in-Ok.ensures.text file (known.reads.keeps.same_file ∙ held) patches are inside);
+          (c.in_ok-write_window.ensures.text file (known.reads.keeps.same_file ∙ held) patches are inside);
     }
 
 pub write_window-requires-clause-opened : goal.write_window-requires-clause-opened
@@ -51,3 +56,9 @@ returns-clause-text g c = λ file held patches are inside.
     let known = c.windows.invariant in
     windows_end _ _ patches (slice file c.args.at c.args.target.now.size) c.windows.done c.args.target.now.size (length_in file c.args.at c.args.target.now.size (let belongs = c.requires.opened.belongs file held in omega (arith, belongs.size, c.requires.opened.size, c.requires.within))) inside
     (omega (arith, c.windows-test.false)) (known.text file held patches are inside)
+
+pub returns-in_err-write_window-clause-grows : goal.returns-in_err-write_window-clause-grows
+returns-in_err-write_window-clause-grows g c = grows_then c.windows.invariant.grows c.write_window.ensures.grows
+
+pub returns-clause-grows : goal.returns-clause-grows
+returns-clause-grows g c = c.windows.invariant.grows

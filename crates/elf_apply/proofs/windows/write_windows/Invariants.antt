@@ -3,6 +3,7 @@ use Rattle.std.proofs.Common.{◌≡◌, ℕ, ◌+◌, ◌-◌, ◌*◌, ◌^◌
 use Rattle.elf_model.specs.Apply.{patches_of, patched}
 use Rattle.elf_model.specs.ApplyLaws.{AllInside}
 use Rattle.elf_model.specs.Bytes.{slice}
+use Rattle.elf_source.specs.Growth.{Grows}
 use Rattle.elf_source.specs.Source.{Reads}
 use Rattle.elf_source.specs.Output.{Takes}
 use Rattle.elf_apply.specs.Walk.{changes_all, walk_all}
@@ -15,6 +16,7 @@ invariant-windows g l = record {
   within : l.done ≤ l.size;
   reads : Reads l.fn.src l.src (windows l.size * walk_all l.target + l.size);
   asked : l.src.asked + (windows (l.size - l.done) * walk_all l.target + (l.size - l.done)) ≤ l.fn.src.asked + (windows l.size * walk_all l.target + l.size);
+  grows : Grows l.fn.out l.out;
   wrote : l.out.written ≡ min (l.fn.out.written + l.done) (2 ^ 128 - 1);
   text : (file : List ℕ) → l.fn.src.seen.file ≡ Some file → (patches : List _) → patches_of (changes_all file l.target) ≡ Ok patches → AllInside l.target.size patches
       → Takes l.fn.out l.out (take l.done (patched patches (slice file l.at l.target.size)));

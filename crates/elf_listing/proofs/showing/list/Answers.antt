@@ -7,6 +7,7 @@ use Rattle.elf_listing.proofs.FileShown.{header_part, items_are, header_alone}
 use Rattle.elf_listing.proofs.RowLaws.{Stopped-first, Writes-as}
 use Rattle.elf_listing.proofs.SectionCosts.{slots_below, header_most, cost_is}
 use Rattle.elf_listing.proofs.ShowLaws.{Writes-then, Stopped-more, Costs-then, Costs-fault, Costs-out}
+use Rattle.elf_source.proofs.GrowthLaws.{grows_then}
 use Rattle.elf_listing.proofs.showing.list.Goals as goal
 
 pub returns-in_err-header-clause-ceiling : goal.returns-in_err-header-clause-ceiling
@@ -71,3 +72,6 @@ returns-clause-text g c = λ file held.
     Writes-as _ _ _ (items_are file c.args.store.now.slots c.args.cap.bytes c.args.parts.0 read.0)
     (Writes-then _ _ _ _ (header_part file c.args.parts.0) (load_items file c.args.store.now.slots c.args.cap.bytes c.args.parts.0) first
     (c.list_loaded.ensures.text file (c.header.ensures.reads.keeps.same_file ∙ held)))
+
+pub returns-clause-grows : goal.returns-clause-grows
+returns-clause-grows g c = grows_then c.in_ok-list_header.ensures.grows c.list_loaded.ensures.grows

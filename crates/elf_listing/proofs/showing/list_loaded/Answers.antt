@@ -10,6 +10,7 @@ use Rattle.elf_listing.proofs.FileShown.{load_alone, load_passed}
 use Rattle.elf_listing.proofs.RowLaws.{Stopped-first, Stopped-unread-first, Writes-as}
 use Rattle.elf_listing.proofs.SectionCosts.{load_below, load_within, load_most, loaded_within, loaded_below, view_within, view_below, few_headers, viewed_all}
 use Rattle.elf_listing.proofs.ShowLaws.{Whole-none, Costs-then, Costs-fault, Costs-later}
+use Rattle.elf_source.proofs.GrowthLaws.{grows_not}
 use Rattle.elf_listing.proofs.showing.list_loaded.Goals as goal
 
 pub returns-then-not-intersects-clause-text : goal.returns-then-not-intersects-clause-text
@@ -129,3 +130,6 @@ returns-clause-text g c = λ file held.
     let reads = Reads-then c.load.ensures.reads c.load_view.ensures.reads in
     Writes-as _ _ _ (load_passed file c.args.store.now.slots _ c.args.cap.bytes c.args.parts.0 belongs.passes c.load.ensures.slots tables)
     (c.list_tables.ensures.text file (reads.keeps.same_file ∙ held))
+
+pub returns-in_err-load_view-clause-grows : goal.returns-in_err-load_view-clause-grows
+returns-in_err-load_view-clause-grows g c = grows_not _

@@ -7,6 +7,7 @@ use Rattle.elf_headers.specs.Faults.{RefusalSays}
 use Rattle.elf_listing.specs.declared.stop.Stop.TheVariants.{Refused, Source, Out}
 use Rattle.elf_listing.proofs.AskLaws.{asks_within}
 use Rattle.elf_listing.proofs.ReportLaws.{whole_report, front_report, front_lines, ended_report, ended_fault}
+use Rattle.elf_source.proofs.GrowthLaws.{grows_all, grows_front, grows_then}
 use Rattle.elf_listing.proofs.showing.show.Goals as goal
 
 pub returns-in-Ok-clause-text : goal.returns-in-Ok-clause-text
@@ -76,3 +77,9 @@ pub returns-in-Err-Out-clause-asks : goal.returns-in-Err-Out-clause-asks
 returns-in-Err-Out-clause-asks g c =
     asks_within c.args.caps c.args.parts.0 c.args.src.now c.limit.new.self c.list-end.new.src c.limit-2.new.self 0 _ c.requires.1 c.limit.ensures
     (rw (c.requires.0) at c.list-end.ensures.ceiling.0) c.limit-2.ensures c.list-end.ensures.unread c.list-end.ensures.alone (λ refusal is. cc)
+
+pub returns-in-Ok-show_refusal-clause-grows : goal.returns-in-Ok-show_refusal-clause-grows
+returns-in-Ok-show_refusal-clause-grows g c = grows_then c.list-end.ensures.grows (grows_all c.in-Ok-show_refusal.ensures.puts.0)
+
+pub returns-in-Err-clause-grows : goal.returns-in-Err-clause-grows
+returns-in-Err-clause-grows g c = grows_then c.list-end.ensures.grows (grows_front c.in-Err.ensures.puts.0)

@@ -3,19 +3,19 @@ use Rattle.std.proofs.lemmas.List.{take_at}
 use Rattle.elf_model.specs.Bytes.{slice}
 use Rattle.elf_model.specs.Notes.{to_next}
 use Rattle.elf_record.specs.NoteHead.{IsNoteHead}
-use Rattle.elf_table.specs.Windows.{left, range_end}
+use Rattle.elf_table.specs.Windows.{bytes_left, range_end}
 use Rattle.elf_note.proofs.Stepping.{left-zeros, left-few, left-short, moved-by, found-tells}
 use Rattle.elf_note.proofs.note.next_note.Goals as goal
 
 pub returns-then-branch-clause-tells : goal.returns-then-branch-clause-tells
 returns-then-branch-clause-tells g c = λ file h a.
-    let few : left c.args.window.now < 12 = search rules in
+    let few : bytes_left c.args.window.now < 12 = search rules in
     let z = c.in_ok-ends_in_zeros.ensures.zeros file h a in
     left-zeros c.args.align file c.args.window.now few (sym z ∙ c.if-branch.true)
 
 pub returns-then-left-clause-tells : goal.returns-then-left-clause-tells
 returns-then-left-clause-tells g c = λ file h a f.
-    let few : left c.args.window.now < 12 = search rules in
+    let few : bytes_left c.args.window.now < 12 = search rules in
     let z = c.in_ok-ends_in_zeros.ensures.zeros file h a in
     left-few c.args.align file c.args.window.now few (sym z ∙ c.if-branch.false)
 
@@ -23,7 +23,7 @@ pub returns-then-left-from-clause-tells : goal.returns-then-left-from-clause-tel
 returns-then-left-from-clause-tells g c = λ file h a f.
     let w = c.args.window.now in
     let head = c.decode-head.result in
-    let many : 12 ≤ left w = search rules in
+    let many : 12 ≤ bytes_left w = search rules in
     let within = c.requires.within in
     let sized = c.args.src.now.seen.sized file h in
     let some = within (omega arith) in
@@ -36,7 +36,7 @@ returns-then-left-from-clause-tells g c = λ file h a f.
     let f1 = c.from.ensures in
     let f2 = c.from-2.ensures in
     let test = c.if-left-from.true in
-    let few : left w < 12 + head.namesz + c.gap_between-gap.result + head.descsz = omega arith in
+    let few : bytes_left w < 12 + head.namesz + c.gap_between-gap.result + head.descsz = omega arith in
     left-short c.args.align file w head stands ends many (rw gap at few)
 
 pub returns-clause-agrees : goal.returns-clause-agrees
@@ -54,7 +54,7 @@ returns-clause-tells g c = λ file h a.
     let h2 = c.in_ok-name_end.ensures.reads.keeps.same_file ∙ h1 in
     let a1 = c.in_ok-take.ensures.agrees file h a in
     let a2 = c.skip.ensures.agrees file (c.in_ok-name_end.ensures.agrees file h1 a1) in
-    let many : 12 ≤ left w = search rules in
+    let many : 12 ≤ bytes_left w = search rules in
     let within = c.requires.within in
     let sized = c.args.src.now.seen.sized file h in
     let some = within (omega arith) in
@@ -63,7 +63,7 @@ returns-clause-tells g c = λ file h a.
     let gap = c.gap_between-gap.ensures.value in
     let ta : c.take.new.window.at ≡ w.at + 12 = c.in_ok-take.ensures.at in
     let te : range_end c.take.new.window ≡ range_end w = c.in_ok-take.ensures.moves.same_end in
-    let lf : c.left-2.result ≡ left c.take.new.window = c.left-2.ensures.value in
+    let lf : c.left-2.result ≡ bytes_left c.take.new.window = c.left-2.ensures.value in
     let f1 : c.from.result ≡ head.namesz = c.from.ensures in
     let f2 : c.from-2.result ≡ head.descsz = c.from-2.ensures in
     let f3 : c.from-3.result ≡ head.namesz = c.from-3.ensures in
@@ -77,19 +77,19 @@ returns-clause-tells g c = λ file h a.
     let at0 : c.at-at.result ≡ w.at = c.at-at.ensures.value in
     let sh : c.min-shown.result ≡ min c.from-4.result 32 = c.min-shown.ensures in
     let re : range_end c.read_rest.new.window ≡ range_end c.skip.new.self = c.in_ok-read_rest.ensures.moves.same_end in
-    let fit : 12 + head.namesz + gp + head.descsz ≤ left w = omega arith in
+    let fit : 12 + head.namesz + gp + head.descsz ≤ bytes_left w = omega arith in
     let place : c.at-desc_at.result ≡ w.at + (12 + head.namesz + gp) = omega arith in
     let start : c.at-desc_at.result - c.at-at.result ≡ 12 + head.namesz + gp = omega arith in
-    let behind : left c.skip.new.self + (12 + head.namesz + gp) ≡ left w = omega arith in
-    let ra : c.read_rest.new.window.at ≡ c.skip.new.self.at + head.descsz + min (to_next c.args.align (c.at-desc_at.result - c.at-at.result + head.descsz)) (left c.skip.new.self - head.descsz) =
+    let behind : bytes_left c.skip.new.self + (12 + head.namesz + gp) ≡ bytes_left w = omega arith in
+    let ra : c.read_rest.new.window.at ≡ c.skip.new.self.at + head.descsz + min (to_next c.args.align (c.at-desc_at.result - c.at-at.result + head.descsz)) (bytes_left c.skip.new.self - head.descsz) =
     c.in_ok-read_rest.ensures.at in
     let size : length c.read_rest.new.desc ≡ c.min-shown.result = search (rules, c.read_rest.auto.desc) in
     let rest : c.read_rest.new.desc ≡ slice file c.at-desc_at.result c.min-shown.result =
     c.in_ok-read_rest.ensures.read file h2 a2 ∙ ap (slice file c.skip.new.self.at) (sym c.read_rest.auto.desc ∙ size) ∙ ap (λ (x : ℕ). slice file x c.min-shown.result) (sym da) in
     found-tells file c.args.align c.args.cap.bytes w c.read_rest.new.window head c.in_ok-name_end.name_end c.read_name.new.name _ c.at-at.result c.at-desc_at.result c.min-shown.result
     at0 stands ends many (rw gap at fit) (re ∙ se ∙ ne ∙ te)
-    (moved-by c.args.align w.at head.namesz head.descsz (left w) (left c.skip.new.self) c.at-desc_at.result (c.at-desc_at.result - c.at-at.result) c.read_rest.new.window.at
+    (moved-by c.args.align w.at head.namesz head.descsz (bytes_left w) (bytes_left c.skip.new.self) c.at-desc_at.result (c.at-desc_at.result - c.at-at.result) c.read_rest.new.window.at
     (rw gap at place) (rw gap at start) (rw gap at fit) (rw gap at behind)
-    (ra ∙ ap (λ (x : ℕ). x + head.descsz + min (to_next c.args.align (c.at-desc_at.result - c.at-at.result + head.descsz)) (left c.skip.new.self - head.descsz)) (sym da)))
+    (ra ∙ ap (λ (x : ℕ). x + head.descsz + min (to_next c.args.align (c.at-desc_at.result - c.at-at.result + head.descsz)) (bytes_left c.skip.new.self - head.descsz)) (sym da)))
     (λ note n l. c.in_ok-name_end.ensures.read file h1 a1 note (n ∙ ap (λ (x : ℕ). slice file x head.namesz) (sym ta) ∙ ap (slice file c.take.new.window.at) (sym f3)) (l ∙ sym f3))
     (rw gap at place) (sh ∙ ap (λ (x : ℕ). min x 32) f4) (take_at c.read_rest.new.desc _ c.min-shown.result size ∙ rest)

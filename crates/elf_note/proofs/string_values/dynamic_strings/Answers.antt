@@ -4,7 +4,7 @@ use Rattle.elf_model.specs.Dynamic.{dynamic_value}
 use Rattle.elf_model.specs.Numbers.{DT_STRSZ, DT_STRTAB}
 use Rattle.elf_record.specs.Dyn.{IsDyn}
 use Rattle.elf_source.proofs.ReadsLaws.{Reads-then, Reads-to}
-use Rattle.elf_table.specs.Cursors.{place}
+use Rattle.elf_table.specs.Cursors.{next_row}
 use Rattle.elf_table.specs.Tables.{Rows}
 use Rattle.elf_note.specs.DynCursors.{entries_left, first_value}
 use Rattle.elf_note.proofs.EntriesLeft.{given, ended, next-place, value-step, value-end}
@@ -17,9 +17,9 @@ entries-preserved g c =
     let a = c.in_ok-advance.ensures in
     let new = c.advance.new.self in
     let s = given l.src.seen.file l.cursor new c.in_ok-advance.field-0 c.if-branch.true a.steps in
-    let at : ℕ = place l.cursor.cursor in
+    let at : ℕ = next_row l.cursor.cursor in
     let size : l.cursor.cursor.table.entry ≡ 16 = ap (λ (t : Rows). t.entry) i.same_table ∙ c.requires.rows in
-    let next : place new.cursor ≡ at + 16 = next-place l.src.seen.file l.cursor.cursor new.cursor s.gives size in
+    let next : next_row new.cursor ≡ at + 16 = next-place l.src.seen.file l.cursor.cursor new.cursor s.gives size in
     let stands : (file : List ℕ) → c.args.src.now.seen.file ≡ Some file → IsDyn file at c.entry_in-entry.result =
     λ file h. c.entry_in-entry.ensures file at
     (c.row.ensures.its_bytes ∙ s.gives.exact file (i.reads.keeps.same_file ∙ h) (i.agrees file h) ∙ ap (slice file at) size) in
@@ -30,10 +30,10 @@ entries-preserved g c =
       account = let x = a.account in let y = i.account in omega arith;
       agrees = λ file h. s.gives.agrees file (i.reads.keeps.same_file ∙ h) (i.agrees file h);
       address = λ file h.
-          ap (λ (x : Option ℕ). first_value x (dynamic_value file (place new.cursor) (entries_left file new) DT_STRTAB)) (c.first_of-address.ensures file at (stands file h))
+          ap (λ (x : Option ℕ). first_value x (dynamic_value file (next_row new.cursor) (entries_left file new) DT_STRTAB)) (c.first_of-address.ensures file at (stands file h))
           ∙ value-step file l.cursor new DT_STRTAB l.address (s.one_less file (i.reads.keeps.same_file ∙ h) (i.agrees file h)) next ∙ i.address file h;
       size = λ file h.
-          ap (λ (x : Option ℕ). first_value x (dynamic_value file (place new.cursor) (entries_left file new) DT_STRSZ)) (c.first_of-size.ensures file at (stands file h))
+          ap (λ (x : Option ℕ). first_value x (dynamic_value file (next_row new.cursor) (entries_left file new) DT_STRSZ)) (c.first_of-size.ensures file at (stands file h))
           ∙ value-step file l.cursor new DT_STRSZ l.size (s.one_less file (i.reads.keeps.same_file ∙ h) (i.agrees file h)) next ∙ i.size file h;
     }
 

@@ -2,7 +2,7 @@ use Rattle.std.proofs.Common.{◌≡◌, ℕ, ◌+◌, ◌≤◌, List, Some, le
 use Rattle.elf_model.specs.Bytes.{slice}
 use Rattle.elf_model.proofs.Searches.{search-more, kept-more, found-here}
 use Rattle.elf_source.proofs.ReadsLaws.{Reads-then, Reads-to}
-use Rattle.elf_table.specs.Windows.{Agrees, AgreesWith}
+use Rattle.elf_table.specs.Windows.{HoldsBytes, StillHolds}
 use Rattle.elf_table.proofs.Paging.{held-front, Moves-then, Moves-skip}
 use Rattle.elf_table.proofs.name_search.search_name.Goals as goal
 
@@ -14,7 +14,7 @@ returns-in-Some-clause-searched g c = λ file h a.
     let n = c.min-count.result in
     let count = c.min-count.ensures in
     let front = c.front-front.result.now in
-    let held : Agrees file c.bring.new.self = b.agrees file (i.reads.keeps.same_file ∙ h) (i.agrees file h a) in
+    let held : HoldsBytes file c.bring.new.self = b.agrees file (i.reads.keeps.same_file ∙ h) (i.agrees file h a) in
     let few : n ≤ length c.bring.new.self.held = omega (arith, ap length c.front-front.ensures) in
     let stays = b.brings.stays in
     let piece : take n front ≡ slice file (c.args.window.now.at + l.done) n =
@@ -42,9 +42,9 @@ loop-done-preserved g c =
     let added = c.add-in-loop-done.ensures in
     let sk = c.skip.ensures in
     let moves = Moves-then _ _ _ _ _ _ i.moves b.moves in
-    let ag : AgreesWith c.args.src.now.seen.file c.args.window.now c.bring.new.self =
+    let ag : StillHolds c.args.src.now.seen.file c.args.window.now c.bring.new.self =
     λ file h a. b.agrees file (i.reads.keeps.same_file ∙ h) (i.agrees file h a) in
-    let piece : (file : List ℕ) → c.args.src.now.seen.file ≡ Some file → Agrees file c.args.window.now → take n front ≡ slice file (c.args.window.now.at + l.done) n =
+    let piece : (file : List ℕ) → c.args.src.now.seen.file ≡ Some file → HoldsBytes file c.args.window.now → take n front ≡ slice file (c.args.window.now.at + l.done) n =
     λ file h a. ap (take n) c.front-front.ensures ∙ held-front file c.bring.new.self n few (ag file h a) ∙ ap (λ (x : ℕ). slice file x n) (stays ∙ i.place) in
     record {
       in_range = omega arith;

@@ -2,7 +2,7 @@ use Rattle.std.proofs.Common.{◌≡◌, ℕ, ◌+◌, ◌-◌, ◌≤◌, List,
 use Rattle.elf_model.specs.Bytes.{slice}
 use Rattle.elf_model.specs.Names.{nul_in}
 use Rattle.elf_source.specs.Source.{Reads}
-use Rattle.elf_table.specs.Windows.{Agrees, AgreesWith, Moves}
+use Rattle.elf_table.specs.Windows.{HoldsBytes, StillHolds, MovesOn}
 use Rattle.elf_table.proofs.name_search.search_name.Given as goal
 
 abbrev pub invariant-loop-done : goal.invariant-loop-done
@@ -10,11 +10,11 @@ invariant-loop-done g l = record {
   in_range : l.done ≤ l.want;
   few : length l.name ≤ l.cap.bytes;
   place : l.window.at ≡ l.fn.window.at + l.done;
-  moves : Moves l.fn.window l.window l.fn.src.asked l.src.asked;
+  moves : MovesOn l.fn.window l.window l.fn.src.asked l.src.asked;
   reads : Reads l.fn.src l.src l.fn.window.unread;
-  agrees : AgreesWith l.fn.src.seen.file l.fn.window l.window;
-  no_nul : (file : List ℕ) → l.fn.src.seen.file ≡ Some file → Agrees file l.fn.window → nul_in (slice file l.fn.window.at l.done) ≡ None;
-  name : (file : List ℕ) → l.fn.src.seen.file ≡ Some file → Agrees file l.fn.window → l.name ≡ take l.cap.bytes (slice file l.fn.window.at l.done);
+  agrees : StillHolds l.fn.src.seen.file l.fn.window l.window;
+  no_nul : (file : List ℕ) → l.fn.src.seen.file ≡ Some file → HoldsBytes file l.fn.window → nul_in (slice file l.fn.window.at l.done) ≡ None;
+  name : (file : List ℕ) → l.fn.src.seen.file ≡ Some file → HoldsBytes file l.fn.window → l.name ≡ take l.cap.bytes (slice file l.fn.window.at l.done);
 }
 
 abbrev pub decreases-loop-done : goal.decreases-loop-done

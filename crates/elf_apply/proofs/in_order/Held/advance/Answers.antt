@@ -3,6 +3,7 @@ use Rattle.elf_source.proofs.PutsLaws.{Takes-then}
 use Rattle.elf_model.specs.Bytes.{slice}
 use Rattle.elf_apply.proofs.InOrderSteps.{midway_skip, midway_jump, front_part, slice_split, all_gone, gone_text, writes_then, writes_as, front_more}
 use Rattle.elf_apply.proofs.WindowSteps.{takes_as, length_in}
+use Rattle.elf_source.proofs.GrowthLaws.{grows_put, grows_then}
 use Rattle.elf_apply.proofs.in_order.Held.advance.Goals as goal
 
 pub returns-in-Err-clause-text : goal.returns-in-Err-clause-text
@@ -43,3 +44,9 @@ returns-in-Ok-copy-clause-still g c = λ file held size now long within midway.
 pub returns-else-low-end-clause-still : goal.returns-else-low-end-clause-still
 returns-else-low-end-clause-still g c = λ file held size now long within midway.
     midway_skip (slice file c.args.at size) now c.args.self.now c.release.new.self c.min-ready.result (omega (arith, c.min-ready.ensures, c.len.ensures.value)) c.release.ensures.low c.release.ensures.bytes midway
+
+pub returns-in-Err-copy-clause-grows : goal.returns-in-Err-copy-clause-grows
+returns-in-Err-copy-clause-grows g c = grows_then (grows_put _ _ c.release.ensures.puts) c.copy.ensures.grows
+
+pub returns-in-Ok-copy-clause-grows : goal.returns-in-Ok-copy-clause-grows
+returns-in-Ok-copy-clause-grows g c = grows_then (grows_put _ _ c.release.ensures.puts) c.copy.ensures.grows

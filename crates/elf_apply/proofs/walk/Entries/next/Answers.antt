@@ -1,4 +1,4 @@
-use Rattle.elf_apply.proofs.OpenLaws.{still_open}
+use Rattle.elf_headers.proofs.OpenLaws.{still_open}
 use Rattle.elf_apply.proofs.walk.Entries.next.Goals as goal
 
 pub step-requires-clause-opened : goal.step-requires-clause-opened

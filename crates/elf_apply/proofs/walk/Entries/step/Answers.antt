@@ -2,8 +2,7 @@ use Rattle.std.proofs.Common.{◌≡◌, ◌+◌, ◌*◌, refl, ap, ◌∙◌, 
 use Rattle.elf_model.specs.Records.{section_at, sh_offset}
 use Rattle.elf_apply.proofs.Opened.{gave, given_row}
 use Rattle.elf_source.proofs.ReadsLaws.{Reads-then}
-use Rattle.elf_apply.specs.Walk.{walk_left}
-use Rattle.elf_apply.proofs.WalkSteps.{reads-left, cost-row, cost-failed, steps-row, row-stores, row-nothing, row-fails, reads-row, same-walked}
+use Rattle.elf_apply.proofs.WalkSteps.{asks-of, cost-row, cost-failed, steps-row, row-stores, row-nothing, row-fails, reads-row, same-walked}
 use Rattle.elf_apply.specs.declared.walk.Entries.{Entries}
 use Rattle.elf_apply.proofs.walk.Entries.step.Goals as goal
 
@@ -16,24 +15,6 @@ pub returns-in-Ok-None-clause-fewer : goal.returns-in-Ok-None-clause-fewer
 returns-in-Ok-None-clause-fewer g c =
     let gives = gave _ _ _ _ c.in-Ok-true.field-0-test c.in-Ok-true.ensures.steps in
     steps-row c.args.target.now c.args.self.now _ gives.one_less refl
-
-pub returns-in-Ok-Some-clause-account : goal.returns-in-Ok-Some-clause-account
-returns-in-Ok-Some-clause-account g c =
-    let gives = gave _ _ _ _ c.in-Ok-true.field-0-test c.in-Ok-true.ensures.steps in
-    cost-row c.args.target.now c.args.self.now _ _ _ _ refl gives.not_failed gives.still_not_failed gives.one_less c.in-Ok-true.ensures.account c.entry_change.ensures.reads.at_most
-
-pub returns-in-Ok-None-clause-account : goal.returns-in-Ok-None-clause-account
-returns-in-Ok-None-clause-account g c =
-    let gives = gave _ _ _ _ c.in-Ok-true.field-0-test c.in-Ok-true.ensures.steps in
-    cost-row c.args.target.now c.args.self.now _ _ _ _ refl gives.not_failed gives.still_not_failed gives.one_less c.in-Ok-true.ensures.account c.entry_change.ensures.reads.at_most
-
-pub returns-in-Err-entry_change-clause-account : goal.returns-in-Err-entry_change-clause-account
-returns-in-Err-entry_change-clause-account g c =
-    let gives = gave _ _ _ _ c.in-Ok-true.field-0-test c.in-Ok-true.ensures.steps in
-    cost-row c.args.target.now c.args.self.now _ _ _ _ refl gives.not_failed gives.still_not_failed gives.one_less c.in-Ok-true.ensures.account c.entry_change.ensures.reads.at_most
-
-pub returns-in-Err-clause-account : goal.returns-in-Err-clause-account
-returns-in-Err-clause-account g c = cost-failed c.args.target.now c.args.self.now _ _ _ c.in-Err.fault refl c.in-Err.ensures.steps.failed c.in-Err.ensures.account
 
 pub returns-in-Ok-Some-clause-walked : goal.returns-in-Ok-Some-clause-walked
 returns-in-Ok-Some-clause-walked g c = λ file held reads.
@@ -69,28 +50,28 @@ returns-in-Ok-false-clause-walked g c = λ file held reads.
     let ends = rw c.in-Ok-false.field-0-test at c.in-Ok-false.ensures.steps in
     same-walked file c.args.target.now c.args.self.now c.open.new.self c.advance.new.self c.open.result ends.unchanged (c.open.ensures.walked file (c.requires.opened.belongs file held)) reads
 
-pub returns-in-Ok-Some-clause-reads : goal.returns-in-Ok-Some-clause-reads
-returns-in-Ok-Some-clause-reads g c =
+pub returns-in-Ok-Some-clause-asks : goal.returns-in-Ok-Some-clause-asks
+returns-in-Ok-Some-clause-asks g c =
     let gives = gave _ _ _ _ c.in-Ok-true.field-0-test c.in-Ok-true.ensures.steps in
     let now : Entries = record { cursor = c.advance.new.self; linked = c.args.self.now.linked; current = c.args.self.now.current; next = c.args.self.now.next; count = c.args.self.now.count } in
-    reads-left _ (walk_left c.args.target.now now) (Reads-then c.in-Ok-true.ensures.reads c.entry_change.ensures.reads)
+    asks-of c.args.target.now c.args.self.now now (Reads-then c.in-Ok-true.ensures.reads c.entry_change.ensures.reads)
     (cost-row c.args.target.now c.args.self.now now _ _ _ refl gives.not_failed gives.still_not_failed gives.one_less c.in-Ok-true.ensures.account c.entry_change.ensures.reads.at_most)
 
-pub returns-in-Ok-None-clause-reads : goal.returns-in-Ok-None-clause-reads
-returns-in-Ok-None-clause-reads g c =
+pub returns-in-Ok-None-clause-asks : goal.returns-in-Ok-None-clause-asks
+returns-in-Ok-None-clause-asks g c =
     let gives = gave _ _ _ _ c.in-Ok-true.field-0-test c.in-Ok-true.ensures.steps in
     let now : Entries = record { cursor = c.advance.new.self; linked = c.args.self.now.linked; current = c.args.self.now.current; next = c.args.self.now.next; count = c.args.self.now.count } in
-    reads-left _ (walk_left c.args.target.now now) (Reads-then c.in-Ok-true.ensures.reads c.entry_change.ensures.reads)
+    asks-of c.args.target.now c.args.self.now now (Reads-then c.in-Ok-true.ensures.reads c.entry_change.ensures.reads)
     (cost-row c.args.target.now c.args.self.now now _ _ _ refl gives.not_failed gives.still_not_failed gives.one_less c.in-Ok-true.ensures.account c.entry_change.ensures.reads.at_most)
 
-pub returns-in-Err-entry_change-clause-reads : goal.returns-in-Err-entry_change-clause-reads
-returns-in-Err-entry_change-clause-reads g c =
+pub returns-in-Err-entry_change-clause-asks : goal.returns-in-Err-entry_change-clause-asks
+returns-in-Err-entry_change-clause-asks g c =
     let gives = gave _ _ _ _ c.in-Ok-true.field-0-test c.in-Ok-true.ensures.steps in
     let now : Entries = record { cursor = c.advance.new.self; linked = c.args.self.now.linked; current = c.args.self.now.current; next = c.args.self.now.next; count = c.args.self.now.count } in
-    reads-left _ (walk_left c.args.target.now now) (Reads-then c.in-Ok-true.ensures.reads c.entry_change.ensures.reads)
+    asks-of c.args.target.now c.args.self.now now (Reads-then c.in-Ok-true.ensures.reads c.entry_change.ensures.reads)
     (cost-row c.args.target.now c.args.self.now now _ _ _ refl gives.not_failed gives.still_not_failed gives.one_less c.in-Ok-true.ensures.account c.entry_change.ensures.reads.at_most)
 
-pub returns-in-Err-clause-reads : goal.returns-in-Err-clause-reads
-returns-in-Err-clause-reads g c =
+pub returns-in-Err-clause-asks : goal.returns-in-Err-clause-asks
+returns-in-Err-clause-asks g c =
     let now : Entries = record { cursor = c.advance.new.self; linked = c.args.self.now.linked; current = c.args.self.now.current; next = c.args.self.now.next; count = c.args.self.now.count } in
-    reads-left _ (walk_left c.args.target.now now) c.in-Err.ensures.reads (cost-failed c.args.target.now c.args.self.now now _ _ c.in-Err.fault refl c.in-Err.ensures.steps.failed c.in-Err.ensures.account)
+    asks-of c.args.target.now c.args.self.now now c.in-Err.ensures.reads (cost-failed c.args.target.now c.args.self.now now _ _ c.in-Err.fault refl c.in-Err.ensures.steps.failed c.in-Err.ensures.account)

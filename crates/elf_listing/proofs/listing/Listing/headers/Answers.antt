@@ -6,6 +6,7 @@ use Rattle.elf_names.proofs.SpendsLaws.{Spends-none, Spends-then, Spends-to}
 use Rattle.elf_listing.specs.Parts.{header_cost, header_count, header_items}
 use Rattle.elf_listing.proofs.LoopLaws.{rows_none, rows_more, rows_stopped, sum_step, sum_within}
 use Rattle.elf_listing.proofs.ShowLaws.{StopSays-then}
+use Rattle.elf_source.proofs.GrowthLaws.{grows_not, grows_then}
 use Rattle.elf_listing.proofs.listing.Listing.headers.Goals as goal
 
 pub headers-init : goal.headers-init
@@ -14,6 +15,7 @@ headers-init g c = record {
   below = omega arith;
   keeps = record { same_src = refl; same_out = refl; same_file = refl; same_cap = refl };
   spends = Spends-none _ _ _ _ (omega arith);
+  grows = grows_not _;
   text = λ file held. rows_none _ _ _ refl;
 }
 
@@ -68,6 +70,7 @@ headers-preserved g c =
         same_cap = lists.0.same_cap ∙ known.keeps.same_cap;
       };
       spends = Spends-to (Spends-then known.spends asks) (omega (arith, step, known.spends.account, asks.account));
+      grows = grows_then known.grows c.in_ok-header.ensures.grows;
       text = λ file held.
           let row = λ (i : ℕ). header_items c.args.part c.args.self.now.cap.bytes i file in
           let shown = rw known.keeps.same_cap at (c.in_ok-header.ensures.shows file (known.spends.reads.keeps.same_file ∙ held)) in
@@ -79,3 +82,9 @@ returns-clause-shows g c = λ file held.
     let known = c.headers.invariant in
     let all : c.headers.index ≡ header_count c.args.part c.args.self.now.file.store.now = omega (arith, c.headers-test.false, known.counted, known.below) in
     rw all at (known.text file held)
+
+pub returns-in_err-header-clause-grows : goal.returns-in_err-header-clause-grows
+returns-in_err-header-clause-grows g c = grows_then c.headers.invariant.grows c.in_err-header.ensures.grows
+
+pub returns-clause-grows : goal.returns-clause-grows
+returns-clause-grows g c = c.headers.invariant.grows

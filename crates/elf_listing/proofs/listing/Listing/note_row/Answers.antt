@@ -19,3 +19,9 @@ returns-clause-shows g c = λ cap note is.
     ∙ ap (shown_as c.is_cut-is_cut.result) (sym c.bytes-name.ensures.value) in
     let puts = c.in_ok-show_note.ensures.puts note.descriptor (record { first_is = is.first_bytes; size_is = is.descsz }) in
     rw (note_is cap c.args.index _ _ _ _ note is.kind is.namesz is.descsz shown) (Whole-line _ puts.0)
+
+pub returns-in_err-show_note-clause-grows : goal.returns-in_err-show_note-clause-grows
+returns-in_err-show_note-clause-grows g c = c.in_err-show_note.ensures.grows
+
+pub returns-clause-grows : goal.returns-clause-grows
+returns-clause-grows g c = c.in_ok-show_note.ensures.grows

@@ -5,10 +5,11 @@ use Rattle.elf_model.specs.Bytes.{slice}
 use Rattle.elf_model.specs.Notes.{note_align}
 use Rattle.elf_names.proofs.HeldLaws.{still_held}
 use Rattle.elf_names.proofs.SpendsLaws.{Spends-none, Spends-reads, Spends-then, Spends-to}
-use Rattle.elf_listing.proofs.OpenLaws.{still_open}
+use Rattle.elf_headers.proofs.OpenLaws.{still_open}
 use Rattle.elf_listing.proofs.ViewedLaws.{still_viewed}
 use Rattle.elf_listing.specs.Notes.{rows_of}
 use Rattle.elf_listing.proofs.NotesShown.{all_left, before_all, before_more, before_stopped, before_fault, before_none, note_left, note_of, table_rows}
+use Rattle.elf_source.proofs.GrowthLaws.{grows_not, grows_then}
 use Rattle.elf_listing.proofs.listing.Listing.notes.Goals as goal
 
 pub notes-init : goal.notes-init
@@ -23,6 +24,7 @@ notes-init g c =
       spends = Spends-none _ _ _ _ (omega arith);
       asked = omega (arith, unread);
       agrees = λ file held. rw n.ahead refl;
+      grows = grows_not _;
       text = λ file held.
           let align = note_align c.args.align in
           let cap = c.args.self.now.cap.bytes in
@@ -74,6 +76,7 @@ notes-preserved g c =
       spends = Spends-to (Spends-then known.spends (Spends-then (Spends-reads credit reads) asks)) (omega (arith, known.asked, account, most));
       asked = omega (arith, known.asked, account, most);
       agrees = λ file held. step.agrees file (known.spends.reads.keeps.same_file ∙ held) (known.agrees file held);
+      grows = grows_then known.grows c.in_ok-note_row.ensures.grows;
       text = λ file held.
           let now = known.spends.reads.keeps.same_file ∙ held in
           let tells = rw (known.same_align, known.keeps.same_cap) at (step.tells file now (known.agrees file held)) in
@@ -96,3 +99,12 @@ invariant_of-self g c = record {
   viewed = still_viewed _ _ c.advance.ensures.reads c.notes.self.viewed;
   held = still_held _ c.advance.ensures.reads c.notes.self.held;
 }
+
+pub returns-in_err-advance-clause-grows : goal.returns-in_err-advance-clause-grows
+returns-in_err-advance-clause-grows g c = c.notes.invariant.grows
+
+pub returns-in_err-note_row-clause-grows : goal.returns-in_err-note_row-clause-grows
+returns-in_err-note_row-clause-grows g c = grows_then c.notes.invariant.grows c.in_err-note_row.ensures.grows
+
+pub returns-clause-grows : goal.returns-clause-grows
+returns-clause-grows g c = c.notes.invariant.grows

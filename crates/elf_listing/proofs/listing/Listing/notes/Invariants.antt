@@ -5,7 +5,8 @@ use Rattle.elf_model.specs.Notes.{note_align, walked}
 use Rattle.elf_model.specs.Rows.{walk_rows}
 use Rattle.elf_names.specs.Ahead.{Spends}
 use Rattle.elf_note.specs.NoteCursors.{notes_left}
-use Rattle.elf_table.specs.Windows.{Agrees, left}
+use Rattle.elf_table.specs.Windows.{HoldsBytes, bytes_left}
+use Rattle.elf_source.specs.Growth.{Grows}
 use Rattle.elf_listing.specs.Notes.{WrittenBefore, rows_of}
 use Rattle.elf_listing.specs.Shows.{SameFile}
 use Rattle.elf_listing.proofs.listing.Listing.notes.Given as goal
@@ -21,7 +22,8 @@ invariant-notes g l =
       keeps : SameFile l.fn.self l.self;
       spends : Spends l.fn.self.src.now l.self.src.now l.fn.self.ahead.credit l.self.ahead.credit l.fn.table.count;
       asked : l.self.src.now.asked + l.self.ahead.credit + l.cursor.ahead.unread ≤ l.fn.self.src.now.asked + (l.fn.self.ahead.credit + l.fn.table.count);
-      agrees : (file : List ℕ) → l.fn.self.src.now.seen.file ≡ Some file → Agrees file l.cursor.ahead;
+      agrees : (file : List ℕ) → l.fn.self.src.now.seen.file ≡ Some file → HoldsBytes file l.cursor.ahead;
+      grows : Grows l.fn.self.out.now l.self.out.now;
       text : (file : List ℕ) → l.fn.self.src.now.seen.file ≡ Some file
           → WrittenBefore l.fn.self.out.now l.self.out.now
           (walk_rows cap l.fn.index l.fn.table.at (walked align (slice file l.fn.table.at l.fn.table.count)))
@@ -29,4 +31,4 @@ invariant-notes g l =
     }
 
 abbrev pub decreases-notes : goal.decreases-notes
-decreases-notes g l = left l.cursor.ahead
+decreases-notes g l = bytes_left l.cursor.ahead

@@ -2,6 +2,7 @@
 use Rattle.std.proofs.Common.{rules}
 use Rattle.std.proofs.lemmas.Result.{err_from_is_err_and}
 use Rattle.elf_listing.proofs.ShowLaws.{Writes-then, Stopped-more}
+use Rattle.elf_source.proofs.GrowthLaws.{grows_then}
 use Rattle.elf_listing.proofs.listing.Listing.pair.Goals as goal
 
 pub returns-in_err-part-clause-shows : goal.returns-in_err-part-clause-shows
@@ -14,3 +15,6 @@ returns-clause-shows g c = λ file held.
     let first = c.in_ok-part.ensures.shows file held in
     let second = rw (c.in_ok-part.ensures.lists.0.same_cap, c.in_ok-part.ensures.lists.0.same_file) at (c.part-2.ensures.shows file (search rules)) in
     Writes-then _ _ _ _ _ _ first second
+
+pub returns-clause-grows : goal.returns-clause-grows
+returns-clause-grows g c = grows_then c.in_ok-part.ensures.grows c.part-2.ensures.grows

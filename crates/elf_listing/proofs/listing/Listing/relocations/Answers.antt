@@ -1,14 +1,15 @@
 -- The table's checks and those of the symbols that it refers to stand before its rows.
-use Rattle.std.proofs.Common.{Err, sym, ap, ◌∙◌}
+use Rattle.std.proofs.Common.{sym, ap, ◌∙◌, subst}
 use Rattle.std.proofs.lemmas.Result.{err_from_is_err_and}
 use Rattle.elf_model.specs.Records.{section_at}
 use Rattle.elf_model.specs.Rows.{relocation_row}
 use Rattle.elf_model.specs.Tables.{relocation_table_checks}
 use Rattle.elf_record.specs.declared.ehdr.Ehdr.{Ehdr}
+use Rattle.elf_table.specs.Relocations.{RefusedBy}
 use Rattle.elf_headers.specs.Store.{row}
 use Rattle.elf_listing.proofs.RowLaws.{Writes-as, Stopped-first}
 use Rattle.elf_listing.proofs.SectionCosts.{relocations_within}
-use Rattle.elf_listing.proofs.SectionShown.{no_relocations, relocations_fault, relocations_pass, relocations_are, rows_checked}
+use Rattle.elf_listing.proofs.SectionShown.{no_relocations, relocations_fault, relocations_are, rows_checked}
 use Rattle.elf_listing.proofs.ShowLaws.{Whole-none, Spent-within}
 use Rattle.elf_listing.proofs.listing.Listing.relocations.Goals as goal
 
@@ -24,7 +25,7 @@ returns-in_err-found-clause-shows g c = λ file held.
     let belongs = c.args.self.now.loaded.belongs file held in
     let kind = sym (c.section.ensures.stands file belongs).sh_type ∙ c.if-section-ne-SHT_RELA.false in
     rw (p.1, p.2) (Stopped-first _ _ _ (λ refusal is other.
-    relocations_fault file c.args.self.now.cap.bytes c.args.section refusal kind (sym (c.in_err-found.ensures.held file belongs) ∙ ap (λ fault. Err fault) is)))
+    relocations_fault file c.args.self.now.cap.bytes c.args.section refusal kind (subst (RefusedBy (relocation_table_checks file (section_at file c.args.section))) is (c.in_err-found.ensures.held file belongs))))
 
 pub returns-clause-lists : goal.returns-clause-lists
 returns-clause-lists g c =
@@ -40,7 +41,7 @@ returns-clause-shows g c = λ file held.
     let kind = sym (c.section.ensures.stands file belongs).sh_type ∙ c.if-section-ne-SHT_RELA.false in
     let at = section_at file c.args.section in
     let cap = c.args.self.now.cap.bytes in
-    let found = relocations_pass file c.args.section _ _ (sym (c.in_ok-found.ensures.held file belongs)) in
+    let found = c.in_ok-found.ensures.held file belongs in
     let machine = ap (λ (header : Ehdr). header.e_machine) c.header-machine.ensures.value ∙ belongs.header.e_machine in
     Writes-as _ _ _ (rows_checked (relocation_table_checks file at) (relocation_row file cap c.args.section at) _ _ _ (relocations_are file cap c.args.section kind) found.pass found.counted)
-    (c.rows.ensures.shows file held (λ some. (machine, found.refers some, found.placed some)))
+    (c.rows.ensures.shows file held (λ some. (machine, found.refers some, found.placed)))

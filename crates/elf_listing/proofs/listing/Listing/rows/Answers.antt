@@ -4,12 +4,13 @@ use Rattle.std.proofs.lemmas.Result.{err_from_is_err_and}
 use Rattle.elf_source.proofs.ReadsLaws.{Reads-then}
 use Rattle.elf_names.proofs.HeldLaws.{still_held}
 use Rattle.elf_names.proofs.SpendsLaws.{Spends-none, Spends-reads, Spends-then, Spends-to}
-use Rattle.elf_listing.proofs.OpenLaws.{still_open}
+use Rattle.elf_headers.proofs.OpenLaws.{still_open}
 use Rattle.elf_listing.proofs.ViewedLaws.{still_viewed}
 use Rattle.elf_listing.specs.Kinds.{own_cost, row_items}
 use Rattle.elf_listing.specs.RowCursors.{reading, rows_listed}
 use Rattle.elf_listing.proofs.LoopLaws.{rows_none, rows_more, rows_unread, rows_stopped, account_begins, account_step, account_row, agrees_none, given_index, given_row}
 use Rattle.elf_listing.proofs.ShowLaws.{StopSays-then}
+use Rattle.elf_source.proofs.GrowthLaws.{grows_not, grows_then}
 use Rattle.elf_listing.proofs.listing.Listing.rows.Goals as goal
 
 pub rows-init : goal.rows-init
@@ -24,6 +25,7 @@ rows-init g c =
       asked = omega (arith, account_begins (reading c.new-cursor.result) c.args.table c.args.kind.now c.args.self.now.cap.bytes c.requires.entry n.failed n.unread n.left);
       agrees = λ file held. agrees_none file (reading c.new-cursor.result) n.held;
       listed = λ file held. omega (arith, n.index, n.rows file);
+      grows = grows_not _;
       text = λ file held of_kind. rows_none _ _ _ n.index;
     }
 
@@ -103,6 +105,7 @@ rows-preserved g c =
       listed = λ file held.
           let less = step.one_less file (known.spends.reads.keeps.same_file ∙ held) (known.agrees file held) in
           omega (arith, known.listed file held, less, gives.next_index);
+      grows = grows_then known.grows c.in_ok-row.ensures.grows;
       text = λ file held of_kind.
           let now = known.spends.reads.keeps.same_file ∙ held in
           let some : 0 < c.args.table.count = omega (arith, known.counted, gives.one_less) in
@@ -124,3 +127,12 @@ invariant_of-self g c = record {
   viewed = still_viewed _ _ c.advance.ensures.reads c.rows.self.viewed;
   held = still_held _ c.advance.ensures.reads c.rows.self.held;
 }
+
+pub returns-in_err-advance-clause-grows : goal.returns-in_err-advance-clause-grows
+returns-in_err-advance-clause-grows g c = c.rows.invariant.grows
+
+pub returns-in_err-row-clause-grows : goal.returns-in_err-row-clause-grows
+returns-in_err-row-clause-grows g c = grows_then c.rows.invariant.grows c.in_err-row.ensures.grows
+
+pub returns-clause-grows : goal.returns-clause-grows
+returns-clause-grows g c = c.rows.invariant.grows

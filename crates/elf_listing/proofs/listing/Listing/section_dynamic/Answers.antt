@@ -1,13 +1,14 @@
 -- The table's checks and its string table's stand before its entries.
 use Rattle.std.proofs.Common.{◌≡◌, ◌==◌, false, Err, sym, ap, ◌∙◌}
+use Rattle.std.proofs.lemmas.Bool.{ne_eqb}
 use Rattle.std.proofs.lemmas.Result.{err_from_is_err_and}
 use Rattle.elf_model.specs.Records.{section_at, sh_size}
 use Rattle.elf_headers.specs.Store.{row}
 use Rattle.elf_listing.proofs.RowLaws.{Writes-as, Stopped-first}
 use Rattle.elf_listing.proofs.SectionCosts.{section_dynamic_within}
-use Rattle.elf_listing.proofs.SymbolNamed.{not_zero}
 use Rattle.elf_listing.proofs.SectionShown.{no_section_dynamic, empty_section_dynamic, section_dynamic_fault, section_strings_fault, section_dynamic_pass}
 use Rattle.elf_listing.proofs.ShowLaws.{Whole-none, Spent-within}
+use Rattle.elf_source.proofs.GrowthLaws.{grows_not}
 use Rattle.elf_listing.proofs.listing.Listing.section_dynamic.Goals as goal
 
 pub returns-then-header-ne-SHT_DYNAMIC-clause-shows : goal.returns-then-header-ne-SHT_DYNAMIC-clause-shows
@@ -27,7 +28,7 @@ returns-in_err-table-clause-shows g c = λ file held.
     let belongs = c.args.self.now.loaded.belongs file held in
     let stands = c.section-header.ensures.stands file belongs in
     let kind = sym stands.sh_type ∙ c.if-header-ne-SHT_DYNAMIC.false in
-    let some : (sh_size file (section_at file c.args.section) == 0) ≡ false = not_zero _ (λ e. c.if-header-eq0.false (stands.sh_size ∙ e)) in
+    let some : (sh_size file (section_at file c.args.section) == 0) ≡ false = ne_eqb _ 0 (λ e. c.if-header-eq0.false (stands.sh_size ∙ e)) in
     rw (p.1, p.2) (Stopped-first _ _ _ (λ refusal is other.
     section_dynamic_fault file c.args.self.now.cap.bytes c.args.section refusal kind some (sym (c.in_err-table.ensures.held file belongs) ∙ ap (λ fault. Err fault) is)))
 
@@ -37,7 +38,7 @@ returns-in_err-names-clause-shows g c = λ file held.
     let belongs = c.args.self.now.loaded.belongs file held in
     let stands = c.section-header.ensures.stands file belongs in
     let kind = sym stands.sh_type ∙ c.if-header-ne-SHT_DYNAMIC.false in
-    let some : (sh_size file (section_at file c.args.section) == 0) ≡ false = not_zero _ (λ e. c.if-header-eq0.false (stands.sh_size ∙ e)) in
+    let some : (sh_size file (section_at file c.args.section) == 0) ≡ false = ne_eqb _ 0 (λ e. c.if-header-eq0.false (stands.sh_size ∙ e)) in
     rw (p.1, p.2) (Stopped-first _ _ _ (λ refusal is other.
     section_strings_fault file c.args.self.now.cap.bytes c.args.section _ refusal kind some (sym (c.in_ok-table.ensures.held file belongs))
     (sym (c.in_err-names.ensures.held file belongs) ∙ ap (λ fault. Err fault) is)))
@@ -55,6 +56,9 @@ returns-clause-shows g c = λ file held.
     let belongs = c.args.self.now.loaded.belongs file held in
     let stands = c.section-header.ensures.stands file belongs in
     let kind = sym stands.sh_type ∙ c.if-header-ne-SHT_DYNAMIC.false in
-    let some : (sh_size file (section_at file c.args.section) == 0) ≡ false = not_zero _ (λ e. c.if-header-eq0.false (stands.sh_size ∙ e)) in
+    let some : (sh_size file (section_at file c.args.section) == 0) ≡ false = ne_eqb _ 0 (λ e. c.if-header-eq0.false (stands.sh_size ∙ e)) in
     Writes-as _ _ _ (section_dynamic_pass file c.args.self.now.cap.bytes c.args.section _ _ kind some (sym (c.in_ok-table.ensures.held file belongs)) (sym (c.in_ok-names.ensures.held file belongs)))
     (c.rows.ensures.shows file held (λ some. tt))
+
+pub returns-in_err-names-clause-grows : goal.returns-in_err-names-clause-grows
+returns-in_err-names-clause-grows g c = grows_not _

@@ -6,7 +6,7 @@ use Rattle.elf_model.specs.TableKinds.{segment_dynamic}
 use Rattle.elf_headers.specs.Store.{segment_row}
 use Rattle.elf_table.specs.Tables.{size_of}
 use Rattle.elf_headers.specs.Load.{Views}
-use Rattle.elf_listing.proofs.OpenLaws.{still_open}
+use Rattle.elf_headers.proofs.OpenLaws.{still_open}
 use Rattle.elf_names.proofs.HeldLaws.{still_held}
 use Rattle.elf_listing.proofs.RowLaws.{Writes-as, Stopped-first, Stopped-unread-first}
 use Rattle.elf_listing.proofs.SectionCosts.{segment_dynamic_within}
@@ -14,6 +14,7 @@ use Rattle.elf_listing.proofs.SectionShown.{no_segment_dynamic, segment_dynamic_
 use Rattle.elf_listing.proofs.SegmentShown.{views}
 use Rattle.elf_listing.proofs.ShowLaws.{Whole-none, Spent-behind, Spent-fault}
 use Rattle.elf_listing.proofs.ViewedLaws.{still_viewed}
+use Rattle.elf_source.proofs.GrowthLaws.{grows_not}
 use Rattle.elf_listing.proofs.listing.Listing.segment_dynamic.Goals as goal
 
 pub returns-then-segment-ne-PT_DYNAMIC-clause-shows : goal.returns-then-segment-ne-PT_DYNAMIC-clause-shows
@@ -89,3 +90,6 @@ returns-clause-shows g c = λ file held.
     let kind = sym stands.p_type ∙ c.if-segment-ne-PT_DYNAMIC.false in
     Writes-as _ _ _ (segment_dynamic_pass file c.args.self.now.cap.bytes c.args.segment _ _ kind (sym (c.in_ok-table.ensures.held file view)) (c.in_ok-told.ensures.values file held))
     (c.rows.ensures.shows file (c.dynamic_strings.ensures.reads.keeps.same_file ∙ held) (λ some. view))
+
+pub returns-in_err-told-clause-grows : goal.returns-in_err-told-clause-grows
+returns-in_err-told-clause-grows g c = grows_not _

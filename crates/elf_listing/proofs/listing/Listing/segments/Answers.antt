@@ -1,8 +1,9 @@
 -- The program headers of a file without sections are in the store, and those ask for nothing.
 use Rattle.std.proofs.Common.{rules, ◌≡◌, ◌==◌, true, false, [], sym, ap, ◌∙◌, arith}
 use Rattle.elf_model.specs.Listing.{each, has, SEGMENTS}
-use Rattle.elf_model.specs.Records.{e_phnum}
+use Rattle.elf_model.specs.Records.{e_phnum, e_phoff}
 use Rattle.elf_model.specs.Rows.{segment_row}
+use Rattle.elf_table.specs.Tables.{Rows}
 use Rattle.elf_listing.specs.Parts.{segments_listed}
 use Rattle.elf_listing.proofs.FileShown.{viewed_segments}
 use Rattle.elf_listing.proofs.RowLaws.{Writes-as}
@@ -27,3 +28,12 @@ returns-then-sections-eq0-clause-shows g c = λ file held.
     let all : f.store.now.segments ≡ e_phnum file = c.requires ∙ (viewed_segments c.args.parts.0 f.loaded none asked ∙ belongs.header.e_phnum) in
     Writes-as _ _ _ (ap (λ b. elim b [ true ↦ each (segment_row file) 0 (e_phnum file) | false ↦ [] ]) asked ∙ ap (each (segment_row file) 0) (sym all))
     (c.headers.ensures.shows file held)
+
+pub returns-clause-shows : goal.returns-clause-shows
+returns-clause-shows g c = λ file held.
+    let belongs = c.args.self.now.loaded.belongs file held in
+    let asked : has c.args.parts.0 SEGMENTS ≡ true = search rules in
+    let at : c.segments-table.result.at ≡ e_phoff file = ap (λ (rows : Rows). rows.at) c.segments-table.ensures.value ∙ belongs.header.e_phoff in
+    let all : c.segments-table.result.count ≡ e_phnum file = ap (λ (rows : Rows). rows.count) c.segments-table.ensures.value ∙ belongs.header.e_phnum in
+    Writes-as _ _ _ (ap (λ b. elim b [ true ↦ each (segment_row file) 0 (e_phnum file) | false ↦ [] ]) asked ∙ ap (each (segment_row file) 0) (sym all))
+    (c.rows.ensures.shows file held (λ some. at))

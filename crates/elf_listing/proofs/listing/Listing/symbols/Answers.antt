@@ -5,11 +5,16 @@ use Rattle.elf_model.specs.Checks.{is_symbol_table}
 use Rattle.elf_model.specs.Records.{section_at}
 use Rattle.elf_model.specs.Rows.{symbol_row}
 use Rattle.elf_model.specs.Tables.{symbol_table_checks}
+use Rattle.elf_model.specs.Bytes.{slice}
+use Rattle.elf_table.specs.Tables.{Strings}
+use Rattle.elf_table.proofs.RelocationLaws.{symbols-fail, symbols-pass}
+use Rattle.elf_headers.specs.declared.fault.Fault.TheVariants.{Refused}
 use Rattle.elf_headers.specs.Store.{row}
 use Rattle.elf_listing.proofs.RowLaws.{Writes-as, Stopped-first}
 use Rattle.elf_listing.proofs.SectionCosts.{symbols_within}
-use Rattle.elf_listing.proofs.SectionShown.{no_symbols, symbols_fault, symbols_pass, symbols_are, rows_checked}
+use Rattle.elf_listing.proofs.SectionShown.{no_symbols, symbols_fault, symbols_are, rows_checked}
 use Rattle.elf_listing.proofs.ShowLaws.{Whole-none, Spent-within}
+use Rattle.elf_source.proofs.GrowthLaws.{grows_not}
 use Rattle.elf_listing.proofs.listing.Listing.symbols.Goals as goal
 
 pub returns-then-not-holds_symbols-clause-shows : goal.returns-then-not-holds_symbols-clause-shows
@@ -26,7 +31,7 @@ returns-in_err-symbols-clause-shows g c = λ file held.
     let at = section_at file c.args.section in
     let kind : is_symbol_table file at ≡ true = let is = c.holds_symbols.ensures file at (c.section.ensures.stands file belongs) in cc in
     rw (p.1, p.2) (Stopped-first _ _ _ (λ refusal is other.
-    symbols_fault file c.args.self.now.cap.bytes c.args.section refusal kind (sym (c.in_err-symbols.ensures.held file belongs) ∙ ap (λ fault. Err fault) is)))
+    symbols_fault file c.args.self.now.cap.bytes c.args.section refusal kind (symbols-fail file at (Refused refusal) (sym (c.in_err-symbols.ensures.held file belongs) ∙ ap (λ fault. Err fault) is))))
 
 pub returns-clause-lists : goal.returns-clause-lists
 returns-clause-lists g c =
@@ -43,6 +48,9 @@ returns-clause-shows g c = λ file held.
     let at = section_at file c.args.section in
     let cap = c.args.self.now.cap.bytes in
     let kind : is_symbol_table file at ≡ true = let is = c.holds_symbols.ensures file at (c.section.ensures.stands file belongs) in cc in
-    let symbols = symbols_pass file c.args.section _ _ (sym (c.in_ok-symbols.ensures.held file belongs)) in
-    Writes-as _ _ _ (rows_checked (symbol_table_checks file at) (symbol_row file cap c.args.section at) _ _ _ (symbols_are file cap c.args.section kind) symbols.pass symbols.counted)
-    (c.rows.ensures.shows file held (λ some. (symbols.named some, symbols.placed some)))
+    let symbols = symbols-pass file at _ (sym (c.in_ok-symbols.ensures.held file belongs)) in
+    Writes-as _ _ _ (rows_checked (symbol_table_checks file at) (symbol_row file cap c.args.section at) _ _ _ (symbols_are file cap c.args.section kind) symbols.0 symbols.1.counted)
+    (c.rows.ensures.shows file held (λ some. (ap (λ (n : Strings). slice file n.at n.size) (symbols.1.named some), symbols.1.placed)))
+
+pub returns-then-not-holds_symbols-clause-grows : goal.returns-then-not-holds_symbols-clause-grows
+returns-then-not-holds_symbols-clause-grows g c = grows_not _

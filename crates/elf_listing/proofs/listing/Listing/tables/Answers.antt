@@ -4,6 +4,7 @@ use Rattle.std.proofs.lemmas.Result.{err_from_is_err_and}
 use Rattle.elf_listing.proofs.FileShown.{tables_are}
 use Rattle.elf_listing.proofs.RowLaws.{Writes-as}
 use Rattle.elf_listing.proofs.ShowLaws.{Whole-then, Writes-then, Stopped-then, Stopped-more}
+use Rattle.elf_source.proofs.GrowthLaws.{grows_then}
 use Rattle.elf_listing.proofs.listing.Listing.tables.Goals as goal
 
 pub returns-in_err-part-clause-shows : goal.returns-in_err-part-clause-shows
@@ -61,3 +62,17 @@ returns-clause-shows g c = λ file held.
     let fifth = rw (c.in_ok-pair-2.ensures.lists.0.same_cap ∙ cap', c.in_ok-pair-2.ensures.lists.0.same_file ∙ same') at (c.pair-3.ensures.shows file (search rules)) in
     Writes-as _ _ _ (tables_are file c.args.self.now.cap.bytes c.args.parts.0 f.loaded f.store.now (c.args.self.now.loaded.belongs file held) c.requires)
     (Writes-then _ _ _ _ _ _ (Whole-then (Whole-then (Whole-then first second) third) fourth) fifth)
+
+pub returns-in_err-segments-clause-grows : goal.returns-in_err-segments-clause-grows
+returns-in_err-segments-clause-grows g c = grows_then c.in_ok-part.ensures.grows c.in_err-segments.ensures.grows
+
+pub returns-in_err-pair-clause-grows : goal.returns-in_err-pair-clause-grows
+returns-in_err-pair-clause-grows g c = grows_then c.in_ok-part.ensures.grows (grows_then c.in_ok-segments.ensures.grows c.in_err-pair.ensures.grows)
+
+pub returns-in_err-pair-2-clause-grows : goal.returns-in_err-pair-2-clause-grows
+returns-in_err-pair-2-clause-grows g c =
+    grows_then c.in_ok-part.ensures.grows (grows_then c.in_ok-segments.ensures.grows (grows_then c.in_ok-pair.ensures.grows c.in_err-pair-2.ensures.grows))
+
+pub returns-clause-grows : goal.returns-clause-grows
+returns-clause-grows g c =
+    grows_then c.in_ok-part.ensures.grows (grows_then c.in_ok-segments.ensures.grows (grows_then c.in_ok-pair.ensures.grows (grows_then c.in_ok-pair-2.ensures.grows c.pair-3.ensures.grows)))

@@ -1,0 +1,135 @@
+//! Requests carried out on files in memory, and where each read fails or the output ends early.
+
+use elf_listing::RunFault;
+use elf_run::{outcome, run};
+use elf_source::{
+    Counted, FailSource, MemorySource, Out, OutFault, SliceSink, Source, SourceFault, WriteSink,
+};
+use elf_table::{Caps, HeaderStore};
+use elf_words::{Request, Task};
+use std::process::Abort;
+use std::test::Fail;
+
+/// A request with so many headers permitted.
+pub(crate) fn request(headers: u16, task: Task<'_>) -> Result<Request<'_>, Fail> {
+    let caps = Caps::new(headers, 256).ok_or("caps")?;
+    Ok(Request {
+        file: None,
+        caps,
+        task,
+    })
+}
+
+/// What was written, how it ended, how many bytes were asked for, and where the last read stopped.
+#[derive(Drop)]
+pub(crate) struct Finished {
+    pub(crate) text: Vec<u8>,
+    pub(crate) answer: Result<u8, RunFault>,
+    pub(crate) asked: u128,
+    pub(crate) stopped: u64,
+}
+
+/// Carries a request out on what a source gives.
+pub(crate) fn carry_out<S: Source + Drop>(
+    rt: &(impl Abort + AllocGlobal),
+    request: &Request<'_>,
+    source: S,
+    store: &mut HeaderStore,
+) -> Finished {
+    assert!(rt; store.slots() == request.headers());
+    let mut src = Counted::new(source);
+    let mut out = Out::new(WriteSink::new(Vec::new(rt.alloc())));
+    let answer = run(request, &mut src, store, &mut out);
+    Finished {
+        text: out.into_inner().into_inner(),
+        answer,
+        asked: src.asked(),
+        stopped: src.stopped(),
+    }
+}
+
+/// Carries a request out on a file, and checks its text, its status, and that no more bytes were asked
+/// for than it costs.
+pub(crate) fn check_answer(
+    rt: &(impl Abort + AllocGlobal),
+    request: &Request<'_>,
+    file: &[u8],
+    text: &[u8],
+    status: u8,
+    cost: u128,
+) -> Result<(), Fail> {
+    let mut store = HeaderStore::new(rt.alloc(), request.headers())?;
+    let Finished {
+        text: written,
+        answer,
+        asked,
+        ..
+    } = carry_out(rt, request, MemorySource::new(file), &mut store);
+    assert!(rt; outcome(&answer) == (status, ""), "status {status}");
+    assert!(rt; written.as_slice() == text, "status {status}");
+    assert!(rt; asked <= cost, "{asked} bytes");
+    Ok(())
+}
+
+/// Carries a request out with its first read failing, then its second, and so on until none fails:
+/// these are the offsets of its reads. What went out is a front of the answer, and nothing where one of
+/// the first `unwritten` reads failed. Afterwards the same store gives the whole answer.
+pub(crate) fn check_reads(
+    rt: &(impl Abort + AllocGlobal),
+    request: &Request<'_>,
+    file: &[u8],
+    offsets: &[u64],
+    unwritten: usize,
+) -> Result<(), Fail> {
+    let mut store = HeaderStore::new(rt.alloc(), request.headers())?;
+    let whole = carry_out(rt, request, MemorySource::new(file), &mut store);
+    for (k, at) in offsets.iter().enumerate() {
+        let source = FailSource::new(MemorySource::new(file), k as u64);
+        let failed = carry_out(rt, request, source, &mut store);
+        let (fault, at) = (SourceFault::Device, *at);
+        assert!(rt;
+            failed.answer == Err(RunFault::Source { fault, at }),
+            "read {k}"
+        );
+        assert!(rt; failed.stopped == at, "read {k}");
+        assert!(rt; outcome(&failed.answer) == (3, "elfsee: read fault"));
+        assert!(rt; whole.text.starts_with(&failed.text), "read {k}");
+        assert!(rt; failed.text.is_empty() || k >= unwritten, "read {k}");
+        let again = carry_out(rt, request, MemorySource::new(file), &mut store);
+        assert!(rt; again.text == whole.text && again.answer == whole.answer);
+    }
+    let source = FailSource::new(MemorySource::new(file), offsets.len() as u64);
+    let unfailed = carry_out(rt, request, source, &mut store);
+    assert!(rt; unfailed.text == whole.text && unfailed.answer == whole.answer);
+    Ok(())
+}
+
+/// Carries a request out into a slice of no byte, then of one, and so on up to its text less the last
+/// byte. The slice is filled with the front of the text, and the fault tells how much that is.
+pub(crate) fn check_outputs(
+    rt: &(impl Abort + AllocGlobal),
+    request: &Request<'_>,
+    file: &[u8],
+) -> Result<(), Fail> {
+    let mut store = HeaderStore::new(rt.alloc(), request.headers())?;
+    let whole = carry_out(rt, request, MemorySource::new(file), &mut store).text;
+    let mut buffer = [0; 256];
+    assert!(rt; whole.len() <= 256);
+    for room in 0..whole.len() {
+        let mut src = Counted::new(MemorySource::new(file));
+        let mut out = Out::new(SliceSink::new(&mut buffer[..room]));
+        assert!(rt; store.slots() == request.headers());
+        let answer = run(request, &mut src, &mut store, &mut out);
+        let written = room as u128;
+        assert!(rt;
+            answer == Err(RunFault::Out(OutFault { written })),
+            "{room} bytes"
+        );
+        assert!(rt; outcome(&answer) == (3, "elfsee: write fault"));
+        assert!(rt;
+            out.into_inner().written() == &whole[..room],
+            "{room} bytes"
+        );
+    }
+    Ok(())
+}

@@ -1,0 +1,69 @@
+-- What the words for applying come to.
+use Rattle.std.proofs.Common.{◌≡◌, ℕ, ◌<◌, ◌^◌, List, Option, None, Some, Ok, Err, refl, sym, subst, codes}
+use Rattle.std.specs.Prelude.{IfSome}
+use Rattle.std.specs.Borrow.{Bor}
+use Rattle.clap.specs.Walk.{Row, Text, one_of}
+use Rattle.elf_headers.specs.declared.caps.Caps.{Caps}
+use Rattle.elf_model.specs.Placing.{Layout}
+use Rattle.elf_words.specs.Asked.{AreHeaderCaps, AsksNothing, ComesTo, HasFault, HasNumber, IsApplying, IsFileNamed, IsTask, item_words}
+use Rattle.elf_words.specs.Layouts.{Lays, no_items}
+use Rattle.elf_words.specs.declared.requests.Request.{Request}
+use Rattle.elf_words.specs.declared.requests.RequestFault.{RequestFault}
+use Rattle.elf_words.specs.declared.requests.RequestFault.TheVariants.{Memory, BadName, BadItem, LayoutFull, LayoutRepeat, Words as Told}
+use Rattle.elf_words.specs.declared.requests.Task.{Task}
+use Rattle.elf_words.specs.declared.requests.Task.TheVariants.{Show, Find, Apply}
+use Rattle.elf_words.proofs.LayoutLaws.{never_refused}
+use Rattle.elf_words.proofs.OnceLaws.{laid}
+
+-- words of which one is refused
+pub refused : (rows : List Row) (fault : RequestFault) → Lays no_items (item_words rows) (Err fault) → HasFault (Some (codes "apply", rows)) fault
+refused rows BadName lays = absurd (never_refused BadName (λ word old refuses. refuses) (item_words rows) no_items lays)
+refused rows BadItem lays = (refl, lays)
+refused rows LayoutFull lays = (refl, lays)
+refused rows LayoutRepeat lays = (refl, lays)
+refused rows Memory lays = (refl, lays)
+refused rows (Told told) lays = (refl, lays)
+
+-- words that give a layout have no fault
+faultless : (rows : List Row) (layout : Layout) → Lays no_items (item_words rows) (Ok layout) → (fault : RequestFault)
+    → HasFault (Some (codes "apply", rows)) fault → ⊥
+faultless rows layout lays BadName (is, name) = cc
+faultless rows layout lays BadItem has = laid (item_words rows) no_items layout BadItem lays has.1
+faultless rows layout lays LayoutFull has = laid (item_words rows) no_items layout LayoutFull lays has.1
+faultless rows layout lays LayoutRepeat has = laid (item_words rows) no_items layout LayoutRepeat lays has.1
+faultless rows layout lays Memory has = laid (item_words rows) no_items layout Memory lays has.1
+faultless rows layout lays (Told told) has = laid (item_words rows) no_items layout (Told told) lays has.1
+
+-- only an applying is asked for by `apply`
+only_applying : (rows : List Row) (caps : Caps) (file : Option (Bor Text)) (task : Task) → IsTask (codes "apply") rows caps file task
+    → (section : ℕ) × (layout : Layout) × IsApplying (codes "apply") rows caps file section layout
+only_applying rows caps None (Show parts) (are, parts_are, is) = cc
+only_applying rows caps (Some path) (Show parts) (are, parts_are, is) = let e = is.0 in cc
+only_applying rows caps file (Find wanted) is = let e = is.find in cc
+only_applying rows caps file (Apply section layout) is = (section, layout.now, is)
+
+-- there is no section with the index that is given
+pub no_section : (rows : List Row) (layout : Layout) → Lays no_items (item_words rows) (Ok layout)
+    → ((value : ℕ) → value < 2 ^ 16 → HasNumber (one_of (codes "SECTION") rows) (Some value) → ⊥) → AsksNothing (Some (codes "apply", rows))
+no_section rows layout lays none = record {
+  nothing = λ request asks.
+      let is = only_applying rows request.caps request.file request.task asks in
+      none is.0 is.2.small is.2.index;
+  faultless = faultless rows layout lays;
+}
+
+-- what an applying comes to, by whether there are a file and caps
+pub applied : (rows : List Row) (section : ℕ) (layout : Bor Layout) (r : Option Request) → Lays no_items (item_words rows) (Ok layout.now) → section < 2 ^ 16
+    → HasNumber (one_of (codes "SECTION") rows) (Some section) → IfSome r (λ request. request.task ≡ Apply section layout)
+    → IfSome r (λ request. IsFileNamed rows request.file) → IfSome r (λ request. AreHeaderCaps rows request.caps)
+    → (r ≡ None → (file : Option (Bor Text)) (caps : Caps) → IsFileNamed rows file → AreHeaderCaps rows caps → ⊥)
+    → ComesTo (Some (codes "apply", rows)) (Ok r)
+applied rows section layout None lays small index task file caps none = record {
+  nothing = λ request asks.
+      let is = only_applying rows request.caps request.file request.task asks in
+      none refl request.file request.caps is.2.path is.2.limits;
+  faultless = faultless rows layout.now lays;
+}
+applied rows section layout (Some request) lays small index task file caps none =
+    subst (λ t. IsTask (codes "apply") rows request.caps request.file t) (sym task)
+    record { apply = refl; limits = caps; path = file; index = index; small = small; items = lays }
