@@ -12,11 +12,11 @@ ghost use Rattle.elf_source.specs.Growth.{Grows};
 ghost use Rattle.elf_source.specs.Source.{Reads};
 ghost use Rattle.elf_headers.specs.Faults.{IsOfCheck};
 ghost use Rattle.elf_headers.specs.Load.{Belongs, IsOpen};
-ghost use Rattle.elf_apply.specs.Applied.{Applies, HeldIs, Stands, WroteMost};
+ghost use Rattle.elf_apply.specs.Applied.{Applies, HeldIs, StandsFor, WroteMost};
 ghost use Rattle.elf_apply.specs.Applied.{apply_ceiling, behind_ceiling, passes_cost};
 ghost use Rattle.elf_apply.specs.InOrder.{Rises};
 ghost use Rattle.elf_apply.specs.Walk.{changes_all, walk_all};
-ghost use Rattle.elf_apply.specs.Windows.{FaultSays, Writes, Wrote, windows};
+ghost use Rattle.elf_apply.specs.Windows.{ApplyFaultSays, WritesBytes, WroteBytes, windows};
 
 use crate::entry::Target;
 use crate::fault::{ApplyFault, fault_of};
@@ -107,13 +107,13 @@ fn write_section<S: Source, W: Sink>(
         (windows target.now.size * walk_all target.now + target.now.size) }
     ensures once { rises ≡ true →
         src.new.asked ≤ src.old.asked + (walk_all target.now + target.now.size) }
-    ensures says { IfErr result (FaultSays src.old src.new out.new) }
+    ensures says { IfErr result (ApplyFaultSays src.old src.new out.new) }
     ensures grows { Grows out.old out.new }
-    ensures wrote { Wrote out.old out.new result target.now.size }
+    ensures wrote { WroteBytes out.old out.new result target.now.size }
     ensures text { (file : List ℕ) → src.old.seen.file ≡ Some file → (patches : List _) →
         patches_of (changes_all file target.now) ≡ Ok patches →
         AllInside target.now.size patches → (rises ≡ true → Rises 0 patches) →
-        Writes out.old out.new result (patched patches (slice file at target.now.size)) }
+        WritesBytes out.old out.new result (patched patches (slice file at target.now.size)) }
 {
     if rises && target.size > 0 {
         return write_in_order(src, target, at, out);
@@ -135,14 +135,14 @@ fn apply_target<S: Source, W: Sink>(
     ensures reads { Reads src.old src.new
         (passes_cost target.now (1 + windows target.now.size)) }
     ensures once { (file : List ℕ) → src.old.seen.file ≡ Some file → (headers : ℕ) →
-        Stands file headers target.now at →
+        StandsFor file headers target.now at →
         offsets_never_fall file target.now.section ≡ true →
         src.new.asked ≤ src.old.asked + passes_cost target.now 2 }
-    ensures says { IfErr result (FaultSays src.old src.new out.new) }
+    ensures says { IfErr result (ApplyFaultSays src.old src.new out.new) }
     ensures grows { Grows out.old out.new }
     ensures wrote { WroteMost out.old out.new result target.now.size }
     ensures text { (file : List ℕ) → src.old.seen.file ≡ Some file → (headers : ℕ) →
-        Stands file headers target.now at →
+        StandsFor file headers target.now at →
         Applies out.old out.new result (length (entries_for file target.now.section))
         (applied file headers target.now.section target.now.layout.now) }
 {
@@ -175,7 +175,7 @@ fn apply_loaded<S: Source, W: Sink>(
     requires fits { src.old.seen.size < 2 ^ 64 }
     ensures reads { Reads src.old src.new
         (behind_ceiling src.old.seen.size store.now.slots layout.now) }
-    ensures says { IfErr result (FaultSays src.old src.new out.new) }
+    ensures says { IfErr result (ApplyFaultSays src.old src.new out.new) }
     ensures grows { Grows out.old out.new }
     ensures wrote { WroteMost out.old out.new result src.old.seen.size }
     ensures cost { (file : List ℕ) → src.old.seen.file ≡ Some file →
@@ -227,7 +227,7 @@ pub fn apply<S: Source, W: Sink>(
     // No limit is set.
     requires unlimited { src.old.most ≡ None }
     ensures slots { store.new.slots ≡ store.old.slots }
-    ensures says { IfErr result (FaultSays src.old src.new out.new) }
+    ensures says { IfErr result (ApplyFaultSays src.old src.new out.new) }
     ensures text { (file : List ℕ) → src.old.seen.file ≡ Some file →
         Applies out.old out.new result (length (entries_for file section))
         (applied file store.old.slots section layout.now) }

@@ -10,11 +10,11 @@ ghost use Rattle.elf_source.specs.Output.{Puts};
 ghost use Rattle.elf_source.specs.Growth.{Grows};
 ghost use Rattle.elf_source.specs.Source.{Reads};
 ghost use Rattle.elf_headers.specs.Load.{IsOpen};
-ghost use Rattle.elf_apply.specs.Costs.{ReadSays};
+ghost use Rattle.elf_headers.specs.Faults.{ReadSays};
 ghost use Rattle.elf_apply.specs.Entries.{patch_as};
 ghost use Rattle.elf_apply.specs.InOrder.{IsNoRefusal, Midway, Rises, end_of};
 ghost use Rattle.elf_apply.specs.Walk.{changes_all, walk_all};
-ghost use Rattle.elf_apply.specs.Windows.{FaultSays, IsUnread, Writes, Wrote};
+ghost use Rattle.elf_apply.specs.Windows.{ApplyFaultSays, IsUnread, WritesBytes, WroteBytes};
 ghost use Rattle.elf_apply.specs.declared.fault.ApplyFault.TheVariants.{Refused as RefusedOf};
 
 use crate::entry::{Placed, Target};
@@ -189,17 +189,17 @@ impl Held {
         requires within { at + end ≤ src.old.seen.size }
         requires held { at + end_of self.old ≤ src.old.seen.size }
         requires fits { src.old.seen.size < 2 ^ 64 }
-        ensures says { IfErr result (FaultSays src.old src.new out.new) }
+        ensures says { IfErr result (ApplyFaultSays src.old src.new out.new) }
         ensures low { OnOk result (self.new.low ≡ end) }
         ensures long { OnOk result (length self.new.bytes ≡ end_of self.old - end) }
         ensures kept { IfErr result IsNoRefusal }
         ensures reads { Reads src.old src.new (end - end_of self.old) }
         ensures grows { Grows out.old out.new }
-        ensures wrote { Wrote out.old out.new result (end - self.old.low) }
+        ensures wrote { WroteBytes out.old out.new result (end - self.old.low) }
         ensures text { (file : List ℕ) → src.old.seen.file ≡ Some file →
             (size : ℕ) (now : List ℕ) → at + size ≤ length file → end ≤ size
             → Midway (slice file at size) now self.old →
-            Writes out.old out.new result (slice now self.old.low (end - self.old.low)) }
+            WritesBytes out.old out.new result (slice now self.old.low (end - self.old.low)) }
         ensures still { (file : List ℕ) → src.old.seen.file ≡ Some file →
             (size : ℕ) (now : List ℕ) → at + size ≤ length file → end ≤ size
             → Midway (slice file at size) now self.old →
@@ -235,7 +235,7 @@ impl Held {
         requires held { end_of self.old ≤ size }
         requires within { at + size ≤ src.old.seen.size }
         requires fits { src.old.seen.size < 2 ^ 64 }
-        ensures says { IfErr result (FaultSays src.old src.new out.new) }
+        ensures says { IfErr result (ApplyFaultSays src.old src.new out.new) }
         ensures low { OnOk result (self.new.low ≡ placed.now.offset) }
         ensures never { OnOk result (self.old.low ≤ placed.now.offset) }
         ensures fallen { placed.now.offset < self.old.low → (result ≡ Err (RefusedOf
@@ -247,11 +247,11 @@ impl Held {
         ensures asked_on { OnOk result (src.new.asked + end_of self.old
             ≤ src.old.asked + end_of self.new) }
         ensures grows { Grows out.old out.new }
-        ensures wrote { Wrote out.old out.new result (placed.now.offset - self.old.low) }
+        ensures wrote { WroteBytes out.old out.new result (placed.now.offset - self.old.low) }
         ensures text { (file : List ℕ) → src.old.seen.file ≡ Some file → (now : List ℕ) →
             at + size ≤ length file → self.old.low ≤ placed.now.offset
             → Midway (slice file at size) now self.old →
-            Writes out.old out.new result (slice now self.old.low
+            WritesBytes out.old out.new result (slice now self.old.low
             (placed.now.offset - self.old.low)) }
         ensures still { (file : List ℕ) → src.old.seen.file ≡ Some file → (now : List ℕ) →
             at + size ≤ length file
@@ -313,13 +313,13 @@ fn copy<S: Source, W: Sink>(
     requires unlimited { src.old.most ≡ None }
     requires within { at + size ≤ src.old.seen.size }
     requires fits { src.old.seen.size < 2 ^ 64 }
-    ensures says { IfErr result (FaultSays src.old src.new out.new) }
+    ensures says { IfErr result (ApplyFaultSays src.old src.new out.new) }
     ensures kept { IfErr result IsNoRefusal }
     ensures reads { Reads src.old src.new size }
     ensures grows { Grows out.old out.new }
-    ensures wrote { Wrote out.old out.new result size }
+    ensures wrote { WroteBytes out.old out.new result size }
     ensures text { (file : List ℕ) → src.old.seen.file ≡ Some file → at + size ≤ length file →
-        Writes out.old out.new result (slice file at size) }
+        WritesBytes out.old out.new result (slice file at size) }
 {
     let mut done = 0;
     'pages: while done < size {
@@ -341,13 +341,13 @@ fn copy_page<S: Source, W: Sink>(
     requires unlimited { src.old.most ≡ None }
     requires few { length page.old ≤ 4096 }
     requires within { at + length page.old ≤ src.old.seen.size }
-    ensures says { IfErr result (FaultSays src.old src.new out.new) }
+    ensures says { IfErr result (ApplyFaultSays src.old src.new out.new) }
     ensures kept { IfErr result IsNoRefusal }
     ensures reads { Reads src.old src.new (length page.old) }
     ensures grows { Grows out.old out.new }
-    ensures wrote { Wrote out.old out.new result (length page.old) }
+    ensures wrote { WroteBytes out.old out.new result (length page.old) }
     ensures text { (file : List ℕ) → src.old.seen.file ≡ Some file →
-        Writes out.old out.new result (slice file at (length page.old)) }
+        WritesBytes out.old out.new result (slice file at (length page.old)) }
 {
     match fill(src, at, page) {
         Ok(()) => {}
@@ -370,14 +370,14 @@ pub(crate) fn write_in_order<S: Source, W: Sink>(
     requires opened { IsOpen src.old target.now.file.loaded target.now.file.store.now }
     requires within { at + target.now.size ≤ src.old.seen.size }
     requires fits { src.old.seen.size < 2 ^ 64 }
-    ensures says { IfErr result (FaultSays src.old src.new out.new) }
+    ensures says { IfErr result (ApplyFaultSays src.old src.new out.new) }
     ensures grows { Grows out.old out.new }
-    ensures wrote { Wrote out.old out.new result target.now.size }
+    ensures wrote { WroteBytes out.old out.new result target.now.size }
     ensures reads { Reads src.old src.new (walk_all target.now + target.now.size) }
     ensures text { (file : List ℕ) → src.old.seen.file ≡ Some file → (patches : List _) →
         patches_of (changes_all file target.now) ≡ Ok patches → AllInside target.now.size patches →
         Rises 0 patches →
-        Writes out.old out.new result (patched patches (slice file at target.now.size)) }
+        WritesBytes out.old out.new result (patched patches (slice file at target.now.size)) }
 {
     let size = target.size;
     let mut entries = Entries::new();

@@ -14,13 +14,13 @@ use Rattle.elf_model.proofs.LookupSteps.{find_cost-early, find_cost-loaded, look
 use Rattle.elf_record.specs.Ehdr.{IsEhdr}
 use Rattle.elf_record.specs.declared.ehdr.Ehdr.{Ehdr}
 use Rattle.elf_source.specs.Source.{Counting}
-use Rattle.elf_headers.specs.Faults.{HeaderRead, Says}
-use Rattle.elf_headers.specs.Load.{LoadedAs, early_of, header_cost, load_cost}
+use Rattle.elf_headers.specs.Faults.{HeaderRead, Says, ReadSays}
+use Rattle.elf_headers.specs.Load.{LoadedAs, early_of, file_header_cost, load_cost}
 use Rattle.elf_headers.specs.Store.{Stored}
 use Rattle.elf_headers.specs.declared.fault.Fault.{Fault}
 use Rattle.elf_headers.specs.declared.fault.Fault.TheVariants.{Refused, Source}
-use Rattle.elf_hash.specs.Lookups.{Behind, FaultSays, Finds, Walks, behind_bytes, step_bytes, walk_bytes}
-use Rattle.elf_hash.specs.Tables.{Checked, Counts}
+use Rattle.elf_hash.specs.Lookups.{Behind, Finds, Walks, behind_bytes, step_bytes, walk_bytes}
+use Rattle.elf_hash.specs.Tables.{Checked, HasCounts}
 use Rattle.elf_hash.specs.declared.lookup.Lookup.{Lookup}
 
 -- nothing is there
@@ -66,7 +66,7 @@ module _ (file : List ℕ) (headers : ℕ) (wanted : List ℕ) (passed : Passed 
 
   pub behind_counts :
       (new : Counting) (section : ℕ) (fault : Fault) → first_hash file ≡ Some section
-      → first_refusal (hash_checks file (section_at file section)) ≡ None → Counts file (section_at file section) (Err fault)
+      → first_refusal (hash_checks file (section_at file section)) ≡ None → HasCounts file (section_at file section) (Err fault)
       → new.asked ≤ old.asked + 8 → Behind file (looked file headers wanted) old new (length wanted) (Err fault)
   behind_counts new section (Refused refusal) some checks counts asks = record {
     walks = λ other. refused_there section refusal some (first_refusal-none (hash_checks file (section_at file section)) (shape_checks file (section_at file section)) checks ∙ counts other);
@@ -95,18 +95,18 @@ module _ (file : List ℕ) (headers : ℕ) (wanted : List ℕ) (passed : Passed 
       }
 
 -- without a limit no refusal is for want of budget
-pub says_never : (old new : Counting) (n : ℕ) (fault : Fault) → old.most ≡ None → Says old new n fault → FaultSays old new fault
+pub says_never : (old new : Counting) (n : ℕ) (fault : Fault) → old.most ≡ None → Says old new n fault → ReadSays old new fault
 says_never old new n (Refused refusal) unlimited says = λ budget. let set = (says budget).1.is_set in cc
 says_never old new n (Source fault at) unlimited says = says
 
 -- a refusal of the file header, of the load, and of what stands behind
-pub finds_header : (file : List ℕ) (headers : ℕ) (wanted : List ℕ) (old new : Counting) (fault : Fault) → FaultSays old new fault
+pub finds_header : (file : List ℕ) (headers : ℕ) (wanted : List ℕ) (old new : Counting) (fault : Fault) → ReadSays old new fault
     → HeaderRead file (Err fault) → Finds file (looked file headers wanted) (Err fault)
 finds_header file headers wanted old new (Refused refusal) says read =
     ap (λ (l : Looked). l.answer) (looked-refused file headers wanted refusal (first_refusal-some (header_checks file) (load_checks file headers) refusal (read says)))
 finds_header file headers wanted old new (Source fault at) says read = tt
 
-pub finds_load : (file : List ℕ) (headers : ℕ) (wanted : List ℕ) (old new : Counting) (fault : Fault) (store : Stored) → FaultSays old new fault
+pub finds_load : (file : List ℕ) (headers : ℕ) (wanted : List ℕ) (old new : Counting) (fault : Fault) (store : Stored) → ReadSays old new fault
     → first_refusal (header_checks file) ≡ None → store.slots ≡ headers → LoadedAs file (Err fault) store → Finds file (looked file headers wanted) (Err fault)
 finds_load file headers wanted old new (Refused refusal) store says passed slots loads =
     let fails = ap (λ (n : ℕ). first_refusal (load_checks file n)) (sym slots) ∙ loads says in
@@ -114,7 +114,7 @@ finds_load file headers wanted old new (Refused refusal) store says passed slots
 finds_load file headers wanted old new (Source fault at) store says passed slots loads = tt
 
 -- what the file header asks for
-pub header_most : (size : ℕ) → header_cost size ≤ 64
+pub header_most : (size : ℕ) → file_header_cost size ≤ 64
 header_most size = cost_where-le (is_none (first_refusal (length_checks size))) 64
 
 -- and the section headers

@@ -20,6 +20,12 @@ abbrev pub Says : Counting → Counting → ℕ → Fault → Type 0
 Says old new n (Refused refusal) = RefusalSays old new n refusal
 Says old new n (Source fault at) = Faults old.seen new.seen fault × (at ≡ new.stopped)
 
+-- what a fault says of the source where no limit is set: the source's own names the read that stopped, and no refusal is
+-- for want of budget
+abbrev pub ReadSays : Counting → Counting → Fault → Type 0
+ReadSays old new (Refused refusal) = IsBudget refusal → ⊥
+ReadSays old new (Source fault at) = Faults old.seen new.seen fault × (at ≡ new.stopped)
+
 -- a fault of a read at an offset: the source's, or a refusal for want of budget
 abbrev pub IsAt : ℕ → Fault → Type 0
 IsAt at (Refused refusal) = refusal ≡ record { at = at; cause = Budget }

@@ -7,7 +7,7 @@ ghost use Rattle.elf_record.specs.Phdr.{IsPhdr};
 ghost use Rattle.elf_record.specs.Shdr.{IsShdr};
 ghost use Rattle.elf_source.specs.Source.{Reads};
 ghost use Rattle.elf_headers.specs.Faults.{Says, IsOfRead};
-ghost use Rattle.elf_headers.specs.Store.{empty, emptied, row, segment_row};
+ghost use Rattle.elf_headers.specs.Store.{empty, emptied, row, segment_bytes};
 ghost use Rattle.elf_headers.specs.Store.{AreRows, HoldsSections, HoldsSegments, rows_from};
 
 use crate::fault::Fault;
@@ -95,6 +95,15 @@ impl HeaderStore {
         self.loaded
     }
 
+    /// The number of program headers that are loaded, at most [`HeaderStore::slots`].
+    pub fn segments(&self) -> u16
+        ensures value { result ≡ self.now.segments }
+        ensures within { self.now.segments ≤ self.now.slots }
+        ensures permitted { self.now.slots ≤ 65279 }
+    {
+        self.segments
+    }
+
     /// The section header of an index below [`HeaderStore::loaded`].
     pub fn section(&self, i: u16) -> Shdr
         requires { i < self.now.loaded }
@@ -105,6 +114,16 @@ impl HeaderStore {
         Shdr::decode(self.row(i))
     }
 
+    /// The program header of an index below [`HeaderStore::segments`].
+    pub fn segment(&self, i: u16) -> Phdr
+        requires { i < self.now.segments }
+        ensures fields { IsPhdr (segment_bytes self.now i) 0 result }
+        ensures stands { (file : List ℕ) → HoldsSegments file self.now →
+            IsPhdr file (segment_at file i) result }
+    {
+        Phdr::decode(self.segment_row(i))
+    }
+
     /// The bytes of the section header of an index below [`HeaderStore::loaded`].
     fn row(&self, i: u16) -> &[u8; 64]
         requires { i < self.now.loaded }
@@ -113,29 +132,10 @@ impl HeaderStore {
         row_of(&self.bytes, i)
     }
 
-    /// The number of program headers that are loaded, at most [`HeaderStore::slots`].
-    pub fn segments(&self) -> u16
-        ensures value { result ≡ self.now.segments }
-        ensures within { self.now.segments ≤ self.now.slots }
-        ensures permitted { self.now.slots ≤ 65279 }
-    {
-        self.segments
-    }
-
-    /// The program header of an index below [`HeaderStore::segments`].
-    pub fn segment(&self, i: u16) -> Phdr
-        requires { i < self.now.segments }
-        ensures fields { IsPhdr (segment_row self.now i) 0 result }
-        ensures stands { (file : List ℕ) → HoldsSegments file self.now →
-            IsPhdr file (segment_at file i) result }
-    {
-        Phdr::decode(self.segment_row(i))
-    }
-
     /// The bytes of the program header of an index below [`HeaderStore::segments`].
     fn segment_row(&self, i: u16) -> &[u8; 56]
         requires { i < self.now.segments }
-        ensures { result.now ≡ segment_row self.now i }
+        ensures { result.now ≡ segment_bytes self.now i }
     {
         row_of(&self.bytes, i)
     }

@@ -4,7 +4,7 @@ ghost use Rattle.std.specs.Prelude.{◌≡◌, ◌+◌, ◌*◌, ◌≤◌, ◌+
 ghost use Rattle.arrayvec.specs.ArrayVec.{array_vec_len};
 ghost use Rattle.elf_model.specs.LineFronts.{note_front};
 ghost use Rattle.elf_model.specs.Lines.{cut_mark, hex_bytes, note_line, note_tail};
-ghost use Rattle.elf_source.specs.Output.{Fails, Puts};
+ghost use Rattle.elf_source.specs.Output.{OutFails, Puts};
 ghost use Rattle.elf_lines.specs.Notes.{IsDescriptor};
 ghost use Rattle.elf_lines.specs.Pieces.{shown_as};
 
@@ -51,7 +51,7 @@ pub fn show_note<W: Sink>(
 ) -> Result<(), OutFault>
     requires { length first_bytes.now ≤ 32 }
     ensures grows { Grows out.old out.new }
-    ensures fails { IfErr result (Fails out.new) }
+    ensures fails { IfErr result (OutFails out.new) }
     ensures puts { (descriptor : List ℕ) → IsDescriptor first_bytes.now head.now.descsz descriptor →
         let front = note_front index head.now.kind head.now.namesz head.now.descsz in
         Puts out.old out.new result (note_line front (shown_as is_cut name.now) descriptor) }

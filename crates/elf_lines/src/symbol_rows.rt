@@ -7,7 +7,7 @@ ghost use Rattle.elf_model.specs.LineFronts.{symbol_front};
 ghost use Rattle.elf_model.specs.Lines.{named_line};
 ghost use Rattle.elf_model.specs.Names.Shown.{Whole};
 ghost use Rattle.elf_record.specs.Sym.{IsSym};
-ghost use Rattle.elf_source.specs.Output.{Fails, Puts};
+ghost use Rattle.elf_source.specs.Output.{OutFails, Puts};
 
 use crate::columns::{Line, put, put_decimal, put_hex, put_name_or_decimal};
 use crate::named::show_named;
@@ -74,7 +74,7 @@ pub fn show_symbol<W: Sink>(
     ensures puts { (file : List ℕ) (at : ℕ) → IsSym file at symbol.now →
         let front = symbol_front file at section index in
         Puts out.old out.new result (named_line front (Whole name.now)) }
-    ensures fails { IfErr result (Fails out.new) }
+    ensures fails { IfErr result (OutFails out.new) }
     ensures grows { Grows out.old out.new }
 {
     show_named(symbol_front(section, index, symbol), name, false, out)

@@ -18,9 +18,9 @@ use Rattle.elf_model.proofs.StoreLemmas.{rows_cost, segments_cost_rows, by_kind,
 use Rattle.elf_model.proofs.RecordLemmas.{sums_grow}
 use Rattle.elf_record.specs.Ehdr.{IsEhdr}
 use Rattle.elf_record.specs.declared.ehdr.Ehdr.{Ehdr}
-use Rattle.elf_headers.specs.Load.{Opened, Belongs, IsOpened, early_of, header_cost, load_cost}
+use Rattle.elf_headers.specs.Load.{Opened, Belongs, IsOpened, early_of, file_header_cost, load_cost}
 use Rattle.elf_table.specs.Sections.{answered, bytes_of, rows, table_of, checked}
-use Rattle.elf_headers.specs.Store.{Stored, HoldsSegments, row, segment_row}
+use Rattle.elf_headers.specs.Store.{Stored, HoldsSegments, row, segment_bytes}
 use Rattle.elf_table.specs.Tables.{Rows}
 use Rattle.elf_table.specs.Views.{dynamic_of}
 use Rattle.elf_headers.specs.declared.fault.Fault.{Fault}
@@ -128,9 +128,9 @@ sections_among loaded store most parts = let sum = by_kind section_kinds (row st
 -- and those of all segments
 segments_among : (loaded : Opened) (store : Stored) (most parts : ℕ)
     → asked_cost parts SegmentNotes loaded store most + asked_cost parts SegmentDynamic loaded store most
-    ≤ sum_over (λ i. kinds_cost segment_kinds (segment_row store i) 0 loaded.size most parts) 0 store.segments
+    ≤ sum_over (λ i. kinds_cost segment_kinds (segment_bytes store i) 0 loaded.size most parts) 0 store.segments
 unfolding kind_by_kind segment_notes segment_dynamic
-segments_among loaded store most parts = let sum = by_kind segment_kinds (segment_row store) (λ i. 0) loaded.size most parts store.segments in omega arith
+segments_among loaded store most parts = let sum = by_kind segment_kinds (segment_bytes store) (λ i. 0) loaded.size most parts store.segments in omega arith
 
 -- the names of all sections
 names_listed : (asked named : Bool) (n count : ℕ) → cost_where asked (sum_over (λ i. cost_where named n) 0 count) ≤ cost_where (asked && named) (count * n)
@@ -157,7 +157,7 @@ listed_parts : (loaded : Opened) (store : Stored) (most parts : ℕ)
     → tables_listed parts loaded store most
     ≤ cost_where (has parts SECTIONS && not (loaded.header.e_shstrndx == 0)) (store.loaded * name_bytes most) + segments_listed parts loaded
     + sum_over (λ i. kinds_cost section_kinds (row store i) 0 loaded.size most parts) 0 store.loaded
-    + sum_over (λ i. kinds_cost segment_kinds (segment_row store i) 0 loaded.size most parts) 0 store.segments
+    + sum_over (λ i. kinds_cost segment_kinds (segment_bytes store i) 0 loaded.size most parts) 0 store.segments
 listed_parts loaded store most parts =
     let names : asked_cost parts Headers loaded store most ≤ cost_where (has parts SECTIONS && not (loaded.header.e_shstrndx == 0)) (store.loaded * name_bytes most) =
     names_listed (has parts SECTIONS) (not (loaded.header.e_shstrndx == 0)) (name_bytes most) store.loaded in
@@ -174,29 +174,29 @@ viewed_few parts loaded store view = by_cases (needs_view parts loaded) view
     by_cases false h = omega arith
 
 few_segments : (file : List ℕ) (loaded : Opened) (store : Stored) (most parts : ℕ) → Belongs file loaded store → HoldsSegments file store → store.segments ≡ viewed parts loaded
-    → sum_over (λ i. kinds_cost segment_kinds (segment_row store i) 0 loaded.size most parts) 0 store.segments
+    → sum_over (λ i. kinds_cost segment_kinds (segment_bytes store i) 0 loaded.size most parts) 0 store.segments
     ≤ sum_over (λ i. kinds_cost segment_kinds file (segment_at file i) (length file) most parts) 0 (e_phnum file)
 few_segments file loaded store most parts belongs held view = by_cases (needs_view parts loaded) view
   where
     by_cases : (needs : Bool) → store.segments ≡ (if needs then loaded.header.e_phnum else 0)
-        → sum_over (λ i. kinds_cost segment_kinds (segment_row store i) 0 loaded.size most parts) 0 store.segments
+        → sum_over (λ i. kinds_cost segment_kinds (segment_bytes store i) 0 loaded.size most parts) 0 store.segments
         ≤ sum_over (λ i. kinds_cost segment_kinds file (segment_at file i) (length file) most parts) 0 (e_phnum file)
     by_cases true h =
         let count : store.segments ≡ e_phnum file = h ∙ belongs.header.e_phnum in
-        let tables = segments_cost_rows file (segment_row store) most parts (λ i below. held i (omega (arith, count))) in
-        let all : sum_over (λ i. kinds_cost segment_kinds (segment_row store i) 0 loaded.size most parts) 0 store.segments
+        let tables = segments_cost_rows file (segment_bytes store) most parts (λ i below. held i (omega (arith, count))) in
+        let all : sum_over (λ i. kinds_cost segment_kinds (segment_bytes store i) 0 loaded.size most parts) 0 store.segments
         ≡ sum_over (λ i. kinds_cost segment_kinds file (segment_at file i) (length file) most parts) 0 (e_phnum file) =
-        ap (λ n. sum_over (λ i. kinds_cost segment_kinds (segment_row store i) 0 n most parts) 0 store.segments) belongs.size
-        ∙ (ap (sum_over (λ i. kinds_cost segment_kinds (segment_row store i) 0 (length file) most parts) 0) count ∙ tables) in
+        ap (λ n. sum_over (λ i. kinds_cost segment_kinds (segment_bytes store i) 0 n most parts) 0 store.segments) belongs.size
+        ∙ (ap (sum_over (λ i. kinds_cost segment_kinds (segment_bytes store i) 0 (length file) most parts) 0) count ∙ tables) in
         omega (arith, all)
     by_cases false h =
-        let none = sum_of_none (λ i. kinds_cost segment_kinds (segment_row store i) 0 loaded.size most parts) store.segments h in
+        let none = sum_of_none (λ i. kinds_cost segment_kinds (segment_bytes store i) 0 loaded.size most parts) store.segments h in
         omega (arith, none)
 
 -- the tables of the headers in the store are those of the file
 tables_within : (file : List ℕ) (loaded : Opened) (store : Stored) (most parts : ℕ) → Belongs file loaded store → HoldsSegments file store → store.segments ≡ viewed parts loaded
     → sum_over (λ i. kinds_cost section_kinds (row store i) 0 loaded.size most parts) 0 store.loaded
-    + sum_over (λ i. kinds_cost segment_kinds (segment_row store i) 0 loaded.size most parts) 0 store.segments
+    + sum_over (λ i. kinds_cost segment_kinds (segment_bytes store i) 0 loaded.size most parts) 0 store.segments
     ≤ tables_cost file most parts
 unfolding tables_cost
 tables_within file loaded store most parts belongs held view = by_cases (e_shnum file == 0) refl
@@ -206,7 +206,7 @@ tables_within file loaded store most parts belongs held view = by_cases (e_shnum
 
     by_cases : (none : Bool) → (e_shnum file == 0) ≡ none
         → sum_over (λ i. kinds_cost section_kinds (row store i) 0 loaded.size most parts) 0 store.loaded
-        + sum_over (λ i. kinds_cost segment_kinds (segment_row store i) 0 loaded.size most parts) 0 store.segments
+        + sum_over (λ i. kinds_cost segment_kinds (segment_bytes store i) 0 loaded.size most parts) 0 store.segments
         ≤ tables_cost file most parts
     by_cases true h =
         let zero = sum_of_none (λ i. kinds_cost section_kinds (row store i) 0 loaded.size most parts) store.loaded (count ∙ eqb-true (e_shnum file) 0 h) in
@@ -215,7 +215,7 @@ tables_within file loaded store most parts belongs held view = by_cases (e_shnum
         omega (arith, zero, same, sum)
     by_cases false h =
         let sectioned : (loaded.header.e_shnum == 0) ≡ false = ap (λ n. n == 0) belongs.header.e_shnum ∙ h in
-        let zero = sum_of_none (λ i. kinds_cost segment_kinds (segment_row store i) 0 loaded.size most parts) store.segments (view ∙ viewed_none parts loaded sectioned) in
+        let zero = sum_of_none (λ i. kinds_cost segment_kinds (segment_bytes store i) 0 loaded.size most parts) store.segments (view ∙ viewed_none parts loaded sectioned) in
         let tables = rows_cost file (row store) most parts (λ i below. belongs.rows i (omega (arith, count))) in
         let all : sum_over (λ i. kinds_cost section_kinds (row store i) 0 loaded.size most parts) 0 store.loaded
         ≡ sum_over (λ i. kinds_cost section_kinds file (section_at file i) (length file) most parts) 0 (e_shnum file) =
@@ -257,11 +257,11 @@ listed_below loaded store most parts count few some view = by_cases (loaded.head
         let once = segments_once (loaded.header.e_shnum == 0) (has parts SEGMENTS) (has parts NOTES) (has parts DYNAMIC) (56 * loaded.header.e_phnum) in
         let asked = cost_where-le (has parts SEGMENTS || (loaded.header.e_shnum == 0 && (has parts NOTES || has parts DYNAMIC))) (56 * loaded.header.e_phnum) in
         let within = viewed_few parts loaded store view in
-        let more = sums_grow (λ i. kinds_cost segment_kinds (segment_row store i) 0 loaded.size most parts) 0 store.segments loaded.header.e_phnum within in
-        let all = any_segments (segment_row store) loaded.size store.slots most parts loaded.header.e_phnum some in
+        let more = sums_grow (λ i. kinds_cost segment_kinds (segment_bytes store i) 0 loaded.size most parts) 0 store.segments loaded.header.e_phnum within in
+        let all = any_segments (segment_bytes store) loaded.size store.slots most parts loaded.header.e_phnum some in
         omega (arith, zero, none, names, unnamed, listed, once, asked, more, all)
     by_cases false h =
-        let zero = sum_of_none (λ i. kinds_cost segment_kinds (segment_row store i) 0 loaded.size most parts) store.segments (view ∙ viewed_none parts loaded h) in
+        let zero = sum_of_none (λ i. kinds_cost segment_kinds (segment_bytes store i) 0 loaded.size most parts) store.segments (view ∙ viewed_none parts loaded h) in
         let names = cost_where-le (has parts SECTIONS && not (loaded.header.e_shstrndx == 0)) (store.loaded * name_bytes most) in
         let listed = listed_parts loaded store most parts in
         let once = segments_once (loaded.header.e_shnum == 0) (has parts SEGMENTS) (has parts NOTES) (has parts DYNAMIC) (56 * loaded.header.e_phnum) in
@@ -394,7 +394,7 @@ view_below loaded size slots cap parts few some = by_cases (loaded.header.e_shnu
         omega (arith, none, few, slots_below size slots cap)
 
 -- the file header asks for 64 bytes at most
-pub header_most : (size : ℕ) → header_cost size ≤ 64
+pub header_most : (size : ℕ) → file_header_cost size ≤ 64
 header_most size = cost_where-le (is_none (first_refusal (length_checks size))) 64
 
 pub cost_is : (file : List ℕ) (headers cap parts : ℕ) → cost file headers cap parts ≡ 64 + behind_header file headers cap parts

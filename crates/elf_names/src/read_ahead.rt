@@ -37,9 +37,9 @@ pub struct ReadAhead {
 }
 
 impl Model for ReadAhead {
-    ghost use Rattle.elf_names.specs.Ahead.{Ahead};
+    ghost use Rattle.elf_names.specs.Ahead.{HeldAhead};
 
-    ghost Value = { Ahead };
+    ghost Value = { HeldAhead };
 
     ghost view = { λ r. record { names = r.names; symbols = r.symbols; credit = r.credit } };
 }

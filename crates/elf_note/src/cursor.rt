@@ -5,7 +5,7 @@ ghost use Rattle.elf_source.specs.Source.{Reads};
 ghost use Rattle.elf_headers.specs.Faults.{Says};
 ghost use Rattle.elf_table.specs.Tables.{RowsWithin};
 ghost use Rattle.elf_headers.specs.declared.fault.Fault.{Fault};
-ghost use Rattle.elf_note.specs.NoteCursors.{Advances, Keeps, ShowsNote};
+ghost use Rattle.elf_note.specs.NoteCursors.{AdvancesNote, KeepsNotes, ShowsNote};
 
 use crate::note::{Found, SHOWN_DESCRIPTOR, next_note};
 use crate::row::NoteRow;
@@ -30,9 +30,9 @@ pub struct NoteCursor {
 impl Model for NoteCursor {
     ghost use Rattle.std.specs.Prelude.{◌≡◌, ◌+◌, ◌^◌, ◌<◌, ◌≤◌, take};
     ghost use Rattle.elf_table.specs.Windows.{range_end};
-    ghost use Rattle.elf_note.specs.NoteCursors.{Reading};
+    ghost use Rattle.elf_note.specs.NoteCursors.{NoteReading};
 
-    ghost Value = { Reading };
+    ghost Value = { NoteReading };
 
     ghost view = { λ c. record {
       table = c.table;
@@ -88,8 +88,8 @@ impl NoteCursor {
         ensures reads { Reads src.old src.new self.old.ahead.unread }
         ensures says { self.old.failed ≡ None →
             IfErr result (Says src.old src.new self.old.ahead.unread) }
-        ensures keeps { Keeps self.old self.new src.old.asked src.new.asked }
-        ensures steps { Advances src.old.seen.file cap.bytes self.old self.new name.new result }
+        ensures keeps { KeepsNotes self.old self.new src.old.asked src.new.asked }
+        ensures steps { AdvancesNote src.old.seen.file cap.bytes self.old self.new name.new result }
         ensures again { (fault : Fault) → self.old.failed ≡ Some fault →
             (result ≡ Err fault) × (src.new ≡ src.old) × (self.new ≡ self.old) }
     {
@@ -142,7 +142,7 @@ impl NoteCursor {
     ghost use Rattle.elf_headers.specs.Faults.{Says};
     ghost use Rattle.elf_table.specs.Tables.{RowsWithin};
     ghost use Rattle.elf_headers.specs.declared.fault.Fault.{Fault};
-    ghost use Rattle.elf_note.specs.NoteCursors.{Keeps, Steps};
+    ghost use Rattle.elf_note.specs.NoteCursors.{KeepsNotes, StepsNote};
     ghost use Rattle.elf_note.specs.contracts.cursor.NoteCursor.{the_row};
 
     /// The next note, lent from the cursor until the next call, or None at the table's end. Its
@@ -163,8 +163,8 @@ impl NoteCursor {
         ensures again { (fault : Fault) → self.old.failed ≡ Some fault →
             (result ≡ Err fault) × (src.new ≡ src.old) }
         ensures* after { sem 𝓛 (follows_so the_row the_row self.entry.ghost_name none (λ _ _. ⊤)
-            (λ new. Keeps self.old new src.old.asked src.new.asked
-            × Steps src.old.seen.file cap.bytes self.old new name.new result)) }
+            (λ new. KeepsNotes self.old new src.old.asked src.new.asked
+            × StepsNote src.old.seen.file cap.bytes self.old new name.new result)) }
     {
         if !self.advance(src, cap, name)? {
             return Ok(None);

@@ -6,7 +6,7 @@ ghost use Rattle.elf_model.specs.Notes.{to_next};
 ghost use Rattle.elf_source.specs.Source.{Reads};
 ghost use Rattle.elf_headers.specs.Faults.{IsOfRead, Says};
 ghost use Rattle.elf_table.specs.Windows.{HoldsBytes, StillHolds, RangeWithin, MovesOn, bytes_left};
-ghost use Rattle.elf_note.specs.NoteCursors.{Passes, Stops, Tells, notes_left, note_cut};
+ghost use Rattle.elf_note.specs.NoteCursors.{PassesNote, StopsNote, TellsNote, notes_left, note_cut};
 
 use crate::naming::read_name;
 use crate::sizes::{gap_between, padding};
@@ -55,12 +55,12 @@ pub(crate) fn next_note<S: Source>(
     requires within { RangeWithin src.old.seen.size window.old }
     ensures reads { Reads src.old src.new window.old.unread }
     ensures says { IfErr result (Says src.old src.new window.old.unread) }
-    ensures stops { IfErr result (Stops window.old.at) }
+    ensures stops { IfErr result (StopsNote window.old.at) }
     ensures moves { MovesOn window.old window.new src.old.asked src.new.asked }
-    ensures passes { IfOk result (Passes (bytes_left window.old) (bytes_left window.new)) }
+    ensures passes { IfOk result (PassesNote (bytes_left window.old) (bytes_left window.new)) }
     ensures agrees { StillHolds src.old.seen.file window.old window.new }
     ensures tells { (file : List ℕ) → src.old.seen.file ≡ Some file → HoldsBytes file window.old →
-        Tells align cap.bytes window.old.at name.new desc.new
+        TellsNote align cap.bytes window.old.at name.new desc.new
         (notes_left align file window.old) (notes_left align file window.new) result }
 {
     let at = window.at();

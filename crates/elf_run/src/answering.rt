@@ -4,7 +4,7 @@ ghost use Rattle.std.specs.Prelude.{◌≡◌, ◌+◌, ◌^◌, ◌≤◌, ℕ,
 ghost use Rattle.elf_model.specs.Cost.{cost};
 ghost use Rattle.elf_listing.specs.Reports.{Leaves, FaultSays};
 ghost use Rattle.elf_run.specs.Answers.{Answers, AsksAs};
-ghost use Rattle.elf_run.specs.Requests.{AsksFor, Gives, IsUnlimited, task_cost};
+ghost use Rattle.elf_run.specs.Requests.{AsksFor, GivesAnswer, IsUnlimited, task_cost};
 
 use crate::applying::write_applied;
 use crate::finding::look_up;
@@ -35,7 +35,7 @@ pub fn run<S: Source, W: Sink>(
     ensures leaves { Leaves src.old src.new }
     ensures says { IfErr result (FaultSays src.old src.new out.new) }
     ensures text { (file : List ℕ) → src.old.seen.file ≡ Some file →
-        Gives file request.now.caps request.now.task src.old src.new out.old out.new result }
+        GivesAnswer file request.now.caps request.now.task src.old src.new out.old out.new result }
     ensures cost { (file : List ℕ) → src.old.seen.file ≡ Some file →
         src.new.asked
         ≤ src.old.asked + task_cost file request.now.caps request.now.task }

@@ -16,9 +16,9 @@ pub struct SliceSink<'a> {
 
 impl<'a> Model for SliceSink<'a> {
     ghost use Rattle.std.specs.Prelude.{◌≡◌, ◌-◌, ◌≤◌, IsTrue, length, take};
-    ghost use Rattle.elf_source.specs.Output.{Filled};
+    ghost use Rattle.elf_source.specs.Output.{FrontSlice};
 
-    ghost Value = { Filled };
+    ghost Value = { FrontSlice };
 
     ghost view = { λ s. record {
       written = take s.len s.buffer.now;

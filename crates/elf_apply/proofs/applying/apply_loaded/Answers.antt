@@ -2,7 +2,7 @@ use Rattle.std.proofs.Common.{◌+◌, ◌-◌, ◌*◌, ℕ, length, arith, ap,
 use Rattle.elf_model.specs.Records.{e_shnum}
 use Rattle.elf_model.specs.ApplyCost.{entries_for, window_passes, cost_with}
 use Rattle.elf_source.proofs.ReadsLaws.{Reads-to}
-use Rattle.elf_apply.specs.Applied.{Stands}
+use Rattle.elf_apply.specs.Applied.{StandsFor}
 use Rattle.elf_apply.specs.Walk.{walk_all}
 use Rattle.elf_apply.specs.Windows.{windows}
 use Rattle.elf_apply.specs.declared.entry.Target.{Target}
@@ -41,7 +41,7 @@ returns-clause-cost g c = λ file held passed.
     let belongs = c.requires.opened.belongs file held in
     let found = c.in-Ok.ensures.held file belongs in
     let long = length_in file c.in-Ok.found.0 c.in-Ok.found.1 (omega (arith, c.in-Ok.ensures.within, belongs.size)) in
-    let stands : Stands file c.args.store.now.slots now c.in-Ok.found.0 =
+    let stands : StandsFor file c.args.store.now.slots now c.in-Ok.found.0 =
     record { passed = before_request file c.args.store.now.slots c.args.section c.args.layout.now (length (entries_for file c.args.section)) passed belongs.passes ∙ found.0; bytes = found.1 } in
     let early = loaded_early file c.args.store.now.slots passed belongs.passes in
     let before : ℕ = c.args.src.now.asked in
@@ -58,6 +58,6 @@ returns-clause-text g c = λ file held passed.
     let now : Target = record { file = record { loaded = c.args.loaded; store = c.args.store; whole = c.file-1.given.0 }; layout = c.args.layout; section = c.args.section; size = c.in-Ok.found.1 } in
     let belongs = c.requires.opened.belongs file held in
     let found = c.in-Ok.ensures.held file belongs in
-    let stands : Stands file c.args.store.now.slots now c.in-Ok.found.0 =
+    let stands : StandsFor file c.args.store.now.slots now c.in-Ok.found.0 =
     record { passed = before_request file c.args.store.now.slots c.args.section c.args.layout.now (length (entries_for file c.args.section)) passed belongs.passes ∙ found.0; bytes = found.1 } in
     c.apply_target.ensures.text file held c.args.store.now.slots stands
