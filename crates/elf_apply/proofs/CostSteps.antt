@@ -27,6 +27,7 @@ use Rattle.elf_apply.specs.Applied.{StandsFor, passes_cost}
 use Rattle.elf_apply.specs.Walk.{entry_count_in, entries_from, sections_of, walk_all, beside_entry_cost}
 use Rattle.elf_apply.specs.Windows.{windows}
 use Rattle.elf_apply.specs.declared.entry.Target.{Target}
+use Rattle.elf_headers.proofs.LoadLaws.{early_is}
 
 -- how many entries a section has, by its header at an offset of some bytes
 abbrev entries_at : List ℕ → ℕ → ℕ → ℕ → ℕ → ℕ
@@ -122,11 +123,6 @@ module _ (file : List ℕ) (headers section : ℕ) (layout : Layout) (passes : �
       by_early (Some refusal) e = let is = cost_with-early file headers section layout passes refusal e in omega (arith, is)
       by_early None e = let is = cost_loaded e in omega (arith, is)
 
--- the checks before the section headers are read, by the decoded header
-early_is : (file : List ℕ) (header : Ehdr) (size slots : ℕ) → IsEhdr file 0 header → size ≡ length file → first_refusal (early_of header size slots) ≡ first_refusal (early_checks file slots)
-early_is file header size slots is same =
-    rw (same, is.e_phnum, is.e_shstrndx, is.e_shnum, is.e_shoff, is.e_shentsize, is.e_phentsize, is.e_phoff) refl
-
 pub load_within : (file : List ℕ) (header : Ehdr) (size slots section : ℕ) (layout : Layout) (passes : ℕ) → IsEhdr file 0 header → size ≡ length file → first_refusal (header_checks file) ≡ None
     → 64 + load_cost header size slots ≤ cost_with file slots section layout passes
 load_within file header size slots section layout passes is same passed = by_cases (first_refusal (early_of header size slots)) refl
@@ -204,17 +200,6 @@ checked_below walk size before after h =
 pub passes_sum : (walk size before middle after : ℕ) → middle ≤ before + walk → after ≤ middle + (windows size * walk + size) → after ≤ before + ((1 + windows size) * walk + size)
 passes_sum walk size before middle after h k =
     let one : (1 + windows size) * walk ≡ walk + windows size * walk = omega arith in omega (arith, one, h, k)
-
-where_most : (condition : Bool) (n : ℕ) → cost_where condition n ≤ n
-where_most true n = omega arith
-where_most false n = omega arith
-
--- the file header is 64 bytes, or not read
-pub header_most : (size : ℕ) → file_header_cost size ≤ 64
-header_most size = where_most (is_none (first_refusal (length_checks size))) 64
-
-pub load_most : (header : Ehdr) (size slots : ℕ) → load_cost header size slots ≤ 64 * header.e_shnum
-load_most header size slots = where_most (is_none (first_refusal (early_of header size slots))) (64 * header.e_shnum)
 
 -- a bound by the order of the entries
 pub order_within :

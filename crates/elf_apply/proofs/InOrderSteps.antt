@@ -20,13 +20,8 @@ use Rattle.elf_apply.specs.declared.entry.Target.{Target as TargetCode}
 use Rattle.elf_apply.specs.declared.walk.Entries.{Entries}
 use Rattle.elf_apply.specs.declared.fault.ApplyFault.{ApplyFault}
 use Rattle.elf_apply.specs.declared.fault.ApplyFault.TheVariants.{Refused, Source, Out}
-use Rattle.elf_apply.proofs.WindowSteps.{and_is, slice_in, length_in, window_more, window_stopped, take_more}
-
--- parts of a list
-pub slice_drop : (now : List ℕ) (low n k : ℕ) → k ≤ n → drop k (slice now low n) ≡ slice now (low + k) (n - k)
-slice_drop now low n k few =
-    let whole : n ≡ k + (n - k) = omega arith in
-    ap (λ j. drop k (take j (drop low now))) whole ∙ (drop-take k (n - k) (drop low now) ∙ ap (take (n - k)) (drop-drop k low now))
+use Rattle.elf_apply.proofs.WindowSteps.{and_is, window_more, window_stopped, take_more}
+use Rattle.elf_model.proofs.Slices.{slice-size, slice-slice, slice-rest}
 
 pub slice_split : (now : List ℕ) (low n k m : ℕ) → n ≡ k + m → slice now low n ≡ slice now low k ++ slice now (low + k) m
 slice_split now low n k m e =
@@ -50,7 +45,7 @@ midway_skip base now h after k few low bytes midway =
     record {
       long = midway.long;
       within = omega (arith, end, within);
-      held = bytes ∙ (ap (drop k) midway.held ∙ (slice_drop now h.low (length h.bytes) k few ∙ (ap (λ n. slice now (h.low + k) n) (sym long) ∙ ap (λ i. slice now i (length after.bytes)) (sym low))));
+      held = bytes ∙ (ap (drop k) midway.held ∙ (slice-rest now h.low (length h.bytes) k few ∙ (ap (λ n. slice now (h.low + k) n) (sym long) ∙ ap (λ i. slice now i (length after.bytes)) (sym low))));
       rest = ap (λ i. drop i now) end ∙ (midway.rest ∙ ap (λ i. drop i base) (sym end));
     }
 
@@ -74,7 +69,7 @@ midway_jump base now h after none nothing le within midway =
 
 pub copied : (file : List ℕ) (at size : ℕ) (now : List ℕ) (h : Holding) (m : ℕ) → h.bytes ≡ [] → h.low + m ≤ size → Midway (slice file at size) now h → slice now h.low m ≡ slice file (at + h.low) m
 copied file at size now h m none fits midway =
-    ap (take m) (none_rest (slice file at size) now h none midway) ∙ slice_in file at size h.low m fits
+    ap (take m) (none_rest (slice file at size) now h none midway) ∙ slice-slice file at size h.low m fits
 
 -- more is read
 pub midway_read : (file : List ℕ) (at size : ℕ) (now : List ℕ) (h after : Holding) (m : ℕ) (read : List ℕ) → at + size ≤ length file → h.low + length h.bytes + m ≤ size
@@ -82,10 +77,10 @@ pub midway_read : (file : List ℕ) (at size : ℕ) (now : List ℕ) (h after : 
 midway_read file at size now h after m read long fits low bytes is midway =
     let base : List ℕ = slice file at size in
     let n : ℕ = length h.bytes in
-    let size_long : length base ≡ size = length_in file at size long in
-    let read_long : length read ≡ m = ap length is ∙ length_in file (at + (h.low + n)) m (omega (arith, fits, long)) in
+    let size_long : length base ≡ size = slice-size file at size long in
+    let read_long : length read ≡ m = ap length is ∙ slice-size file (at + (h.low + n)) m (omega (arith, fits, long)) in
     let all_long : length after.bytes ≡ n + m = ap length bytes ∙ (length-append h.bytes read ∙ ap (λ k. n + k) read_long) in
-    let behind : read ≡ slice now (h.low + n) m = is ∙ (sym (slice_in file at size (h.low + n) m fits) ∙ ap (take m) (sym midway.rest)) in
+    let behind : read ≡ slice now (h.low + n) m = is ∙ (sym (slice-slice file at size (h.low + n) m fits) ∙ ap (take m) (sym midway.rest)) in
     let end : h.low + n ≤ after.low + length after.bytes = omega (arith, low, all_long) in
     record {
       long = midway.long;

@@ -13,11 +13,6 @@ use Rattle.elf_apply.specs.Costs.{ValueOrCause}
 no_limit : (a b : Counting) (n : ℕ) → a.most ≡ None → OverLimit a b n → ⊥
 no_limit a b n none over = let p = over.is_set in cc
 
--- without a limit nothing is refused for want of budget
-pub unlimited : (a b : Counting) (n : ℕ) (fault : Fault) → a.most ≡ None → Says a b n fault → ReadSays a b fault
-unlimited a b n (Refused refusal) none says = λ budget. let over = says budget in no_limit a b n none over.1
-unlimited a b n (Source fault at) none says = says
-
 -- a fault after other reads
 pub ReadSays-then : (a b c : Counting) (n : ℕ) (fault : Fault) → Reads a b n → ReadSays b c fault → ReadSays a c fault
 ReadSays-then a b c n (Refused refusal) reads says = says

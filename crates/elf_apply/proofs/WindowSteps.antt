@@ -19,6 +19,7 @@ use Rattle.elf_apply.specs.Windows.{WritesBytes, ApplyFaultSays, IsUnread, windo
 use Rattle.elf_headers.specs.Faults.{ReadSays}
 use Rattle.elf_apply.specs.declared.fault.ApplyFault.{ApplyFault}
 use Rattle.elf_apply.specs.declared.fault.ApplyFault.TheVariants.{Refused, Source, Out}
+use Rattle.elf_model.proofs.Slices.{slice-size, slice-slice}
 
 -- a pass in a window is the patches' parts, stored one after another
 pub and_is : (patch : Patch) (rest : Result (List Patch) Refusal) (patches : List Patch) → and_patches patch rest ≡ Ok patches → (more : List Patch) × (rest ≡ Ok more) × (patches ≡ patch ∷ more)
@@ -35,25 +36,13 @@ folded_window low n (Put patch ∷ changes) patches window h =
     folded_window low n changes p.0 (put (clipped low n patch) window) p.1 ∙ ap (λ ps. Ok (patched (map (clipped low n) ps) window)) (sym p.2)
 folded_window low n (Fails refusal ∷ changes) patches window h = cc
 
--- a window of a part of the file
-pub slice_in : (file : List ℕ) (at size low n : ℕ) → low + n ≤ size → slice (slice file at size) low n ≡ slice file (at + low) n
-slice_in file at size low n fits =
-    let whole : size ≡ low + (size - low) = omega arith in
-    let small : n ≤ size - low = omega arith in
-    ap (λ k. take n (drop low (take k (drop at file)))) whole
-    ∙ (ap (take n) (drop-take low (size - low) (drop at file))
-    ∙ (take-take n (size - low) (drop low (drop at file)) small ∙ ap (take n) (drop-drop low at file)))
-
-pub length_in : (file : List ℕ) (at size : ℕ) → at + size ≤ length file → length (slice file at size) ≡ size
-length_in file at size fits = length-take-le size (drop at file) (omega (arith, length-drop at file))
-
 -- the window that a pass leaves is the patched section's
 pub window_is : (file : List ℕ) (at size low n : ℕ) (changes : List Change) (patches : List Patch) (read : List ℕ) → at + size ≤ length file → low + n ≤ size → read ≡ slice file (at + low) n
     → patches_of changes ≡ Ok patches → AllInside size patches → folded (storing low n) read changes ≡ Ok (slice (patched patches (slice file at size)) low n)
 window_is file at size low n changes patches read within fits is h inside =
     let base : List ℕ = slice file at size in
-    let long : length base ≡ size = length_in file at size within in
-    let same : read ≡ slice base low n = is ∙ sym (slice_in file at size low n fits) in
+    let long : length base ≡ size = slice-size file at size within in
+    let same : read ≡ slice base low n = is ∙ sym (slice-slice file at size low n fits) in
     let all : AllInside (length base) patches = rw long inside in
     folded_window low n changes patches read h ∙ ap Ok (ap (patched (map (clipped low n) patches)) same ∙ sym (window_patched patches base low n all (omega arith)))
 

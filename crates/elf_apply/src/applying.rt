@@ -19,7 +19,7 @@ ghost use Rattle.elf_apply.specs.Walk.{changes_all, walk_all};
 ghost use Rattle.elf_apply.specs.Windows.{ApplyFaultSays, WritesBytes, WroteBytes, windows};
 
 use crate::entry::Target;
-use crate::fault::{ApplyFault, fault_of};
+use crate::fault::ApplyFault;
 use crate::in_order::write_in_order;
 use crate::layout::Layout;
 use crate::lookup::refused;
@@ -146,17 +146,12 @@ fn apply_target<S: Source, W: Sink>(
         Applies out.old out.new result (length (entries_for file target.now.section))
         (applied file headers target.now.section target.now.layout.now) }
 {
-    let checked = match check(src, target) {
-        Ok(checked) => checked,
-        Err(fault) => return Err(fault_of(fault)),
-    };
-    match write_section(src, target, at, checked.rises, out) {
-        Ok(()) => Ok(Applied {
-            size: target.size,
-            entries: checked.entries,
-        }),
-        Err(fault) => Err(fault),
-    }
+    let checked = check(src, target)?;
+    write_section(src, target, at, checked.rises, out)?;
+    Ok(Applied {
+        size: target.size,
+        entries: checked.entries,
+    })
 }
 
 /// Writes a section of a loaded file with its relocations applied.
@@ -188,17 +183,14 @@ fn apply_loaded<S: Source, W: Sink>(
         (applied file store.now.slots section layout.now) }
 {
     let file = File { loaded, store };
-    let (at, size) = match held(&file, section) {
-        Ok(found) => found,
-        Err(fault) => return Err(fault_of(fault)),
-    };
+    let found = held(&file, section)?;
     let target = Target {
         file,
         layout,
         section,
-        size,
+        size: found.1,
     };
-    apply_target(src, &target, at, out)
+    apply_target(src, &target, found.0, out)
 }
 
 /// Writes the bytes of a section of a relocatable file for x86-64 with its relocations applied:
@@ -239,13 +231,7 @@ pub fn apply<S: Source, W: Sink>(
     ensures grows { Grows out.old out.new }
     ensures wrote { WroteMost out.old out.new result src.old.seen.size }
 {
-    let header = match header(src) {
-        Ok(header) => header,
-        Err(fault) => return Err(fault_of(fault)),
-    };
-    let loaded = match load(src, store, &header) {
-        Ok(loaded) => loaded,
-        Err(fault) => return Err(fault_of(fault)),
-    };
+    let header = header(src)?;
+    let loaded = load(src, store, &header)?;
     apply_loaded(src, store, loaded, section, layout, out)
 }

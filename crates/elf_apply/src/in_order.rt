@@ -18,7 +18,7 @@ ghost use Rattle.elf_apply.specs.Windows.{ApplyFaultSays, IsUnread, WritesBytes,
 ghost use Rattle.elf_apply.specs.declared.fault.ApplyFault.TheVariants.{Refused as RefusedOf};
 
 use crate::entry::{Placed, Target};
-use crate::fault::{ApplyFault, fault_of};
+use crate::fault::ApplyFault;
 use crate::passes::put_in;
 use crate::walk::Entries;
 use elf_record::{Cause, Refusal};
@@ -150,10 +150,7 @@ impl Held {
         let end = self.low + count as u64;
         let more = (size - end).min((PAGE - count) as u64) as usize;
         let mut page = moved(&self.bytes, self.from, count);
-        match fill(src, at + end, &mut page[count..count + more]) {
-            Ok(()) => {}
-            Err(fault) => return Err(fault),
-        }
+        fill(src, at + end, &mut page[count..count + more])?;
         self.from = 0;
         self.count = count + more;
         self.bytes = page;
@@ -206,16 +203,10 @@ impl Held {
             OnOk result (Midway (slice file at size) now self.new) }
     {
         let ready = (end - self.low()).min(self.len() as u64);
-        match self.release(ready as usize, out) {
-            Ok(()) => {}
-            Err(fault) => return Err(ApplyFault::Out(fault)),
-        }
+        self.release(ready as usize, out)?;
         let low = self.low();
         if low < end {
-            match copy(src, at + low, end - low, out) {
-                Ok(()) => {}
-                Err(fault) => return Err(fault),
-            }
+            copy(src, at + low, end - low, out)?;
             self.jump(end);
         }
         Ok(())
@@ -264,14 +255,8 @@ impl Held {
                 cause: Cause::PlaceOutside,
             }));
         }
-        match self.advance(src, at, placed.offset, out) {
-            Ok(()) => {}
-            Err(fault) => return Err(fault),
-        }
-        match self.read_on(src, at, size, width_of(placed.patch)) {
-            Ok(()) => {}
-            Err(fault) => return Err(fault_of(fault)),
-        }
+        self.advance(src, at, placed.offset, out)?;
+        self.read_on(src, at, size, width_of(placed.patch))?;
         self.patch(placed);
         Ok(())
     }
@@ -349,14 +334,9 @@ fn copy_page<S: Source, W: Sink>(
     ensures text { (file : List ℕ) → src.old.seen.file ≡ Some file →
         WritesBytes out.old out.new result (slice file at (length page.old)) }
 {
-    match fill(src, at, page) {
-        Ok(()) => {}
-        Err(fault) => return Err(fault_of(fault)),
-    }
-    match out.put(page) {
-        Ok(()) => Ok(()),
-        Err(fault) => Err(ApplyFault::Out(fault)),
-    }
+    fill(src, at, page)?;
+    out.put(page)?;
+    Ok(())
 }
 
 /// Writes the section, whose bytes stand at `at`, where the offsets of the entries never fall.
@@ -383,13 +363,9 @@ pub(crate) fn write_in_order<S: Source, W: Sink>(
     let mut entries = Entries::new();
     let mut held = Held::new();
     'entries: loop {
-        match entries.next(src, target) {
-            Ok(Some(placed)) => match held.store(src, at, size, &placed, out) {
-                Ok(()) => {}
-                Err(fault) => return Err(fault),
-            },
-            Ok(None) => return held.advance(src, at, size, out),
-            Err(fault) => return Err(fault_of(fault)),
+        match entries.next(src, target)? {
+            Some(placed) => held.store(src, at, size, &placed, out)?,
+            None => return held.advance(src, at, size, out),
         }
     }
 }

@@ -11,7 +11,7 @@ ghost use Rattle.elf_apply.specs.Walk.{changes_all, walk_all};
 ghost use Rattle.elf_apply.specs.Windows.{ApplyFaultSays, WritesBytes, WroteBytes, windows};
 
 use crate::entry::Target;
-use crate::fault::{ApplyFault, fault_of};
+use crate::fault::ApplyFault;
 use crate::passes::patch_window;
 use elf_source::{Counted, Out, Sink, Source};
 use elf_table::fill;
@@ -81,16 +81,8 @@ fn write_window<S: Source, W: Sink>(
         WritesBytes out.old out.new result
         (slice (patched patches (slice file at target.now.size)) low (length window.old)) }
 {
-    match fill(src, at + low, window) {
-        Ok(()) => {}
-        Err(fault) => return Err(fault_of(fault)),
-    }
-    match patch_window(src, target, low, window) {
-        Ok(()) => {}
-        Err(fault) => return Err(fault_of(fault)),
-    }
-    match out.put(window) {
-        Ok(()) => Ok(()),
-        Err(fault) => Err(ApplyFault::Out(fault)),
-    }
+    fill(src, at + low, window)?;
+    patch_window(src, target, low, window)?;
+    out.put(window)?;
+    Ok(())
 }

@@ -12,7 +12,7 @@ use Rattle.elf_model.specs.Numbers.{SHT_RELA, SHT_DYNAMIC, SHT_NOTE, PT_NOTE, PT
 use Rattle.elf_model.specs.Records.{e_shnum, e_phnum, e_shstrndx, sh_type, sh_offset, sh_size, p_type, p_offset, p_filesz, section_at, segment_at}
 use Rattle.elf_model.specs.declared.causes.Cause.TheVariants.{ExtendedNumbering, SizeNotWhole, TableOutside, TooManyHeaders}
 use Rattle.elf_model.specs.declared.causes.Refusal.{Refusal}
-use Rattle.elf_model.proofs.CheckSteps.{first_refusal-none, first_refusal-some}
+use Rattle.elf_model.proofs.CheckSteps.{first_refusal-none, first_refusal-some, passes_front}
 use Rattle.elf_model.proofs.CostLemmas.{cost_where-le, sum_over-le, tables_by, headers_none}
 use Rattle.elf_model.proofs.StoreLemmas.{rows_cost, segments_cost_rows, by_kind, any_rows, any_segments, sections_counted, places_decide_nothing}
 use Rattle.elf_model.proofs.RecordLemmas.{sums_grow}
@@ -28,6 +28,7 @@ use Rattle.elf_listing.specs.Parts.{asked_cost, segments_listed, tables_listed}
 use Rattle.elf_listing.specs.Viewed.{needs_view, viewed, view_cost}
 use Rattle.elf_listing.specs.declared.parts.Part.TheVariants.{Headers, Symbols, Relocations, SectionNotes, SegmentNotes, SectionDynamic, SegmentDynamic}
 use Rattle.elf_listing.proofs.FileShown.{viewed_none}
+use Rattle.elf_headers.proofs.LoadLaws.{early_is}
 
 -- as many equal costs
 pub sum_of_equal : (amount count : ℕ) → sum_over (λ i. amount) 0 count ≤ count * amount
@@ -273,22 +274,9 @@ pub slots_below : (size headers cap : ℕ) → 64 + 64 * headers ≤ ceiling siz
 slots_below size headers cap =
     let all = any_rows (λ i. []) size headers cap 0 headers 0 (omega arith) (omega arith) in omega arith
 
--- the checks before the section headers are read, by the file header's fields
-pub early_is : (file : List ℕ) (header : Ehdr) (size headers : ℕ) → IsEhdr file 0 header → size ≡ length file → first_refusal (early_of header size headers) ≡ first_refusal (early_checks file headers)
-early_is file header size headers is same =
-    rw (same, is.e_phnum, is.e_shstrndx, is.e_shnum, is.e_shoff, is.e_shentsize, is.e_phentsize, is.e_phoff) refl
-
 pub loadable : (file : List ℕ) (headers : ℕ) → first_refusal (header_checks file) ≡ None → first_refusal (early_checks file headers) ≡ None → is_loadable file headers ≡ true
 unfolding is_loadable
 loadable file headers passed early = rw (first_refusal-none (header_checks file) (early_checks file headers) passed ∙ early) refl
-
--- where two lists of checks pass, the first does
-passes_front : (front rest : List Check) → first_refusal (front ++ rest) ≡ None → first_refusal front ≡ None
-passes_front front rest h = by_cases (first_refusal front) (λ refusal fails. first_refusal-some front rest refusal fails)
-  where
-    by_cases : (first : Option Refusal) → ((refusal : Refusal) → first ≡ Some refusal → first_refusal (front ++ rest) ≡ Some refusal) → first ≡ None
-    by_cases None fails = refl
-    by_cases (Some refusal) fails = let refused = fails refusal refl in cc
 
 headers_within : (file : List ℕ) (cap parts : ℕ) → 64 * e_shnum file ≤ sections_cost file cap parts
 unfolding sections_cost
@@ -304,10 +292,6 @@ load_within file header size slots cap parts is same passed tables = by_cases (f
         let early : first_refusal (early_checks file slots) ≡ None = sym (none ∙ early_is file header size slots is same) in
         rw (tables, loadable file slots passed early) (omega (arith, headers_within file cap parts, is.e_shnum))
     by_cases (Some refusal) some = omega arith
-
--- what a load asks for at most
-pub load_most : (header : Ehdr) (size slots : ℕ) → load_cost header size slots ≤ 64 * header.e_shnum
-load_most header size slots = cost_where-le (is_none (first_refusal (early_of header size slots))) (64 * header.e_shnum)
 
 -- where checks pass the fourth does
 fourth_passes : (p q r s : Bool) (w x y z : Refusal) (rest : List Check)
@@ -392,10 +376,6 @@ view_below loaded size slots cap parts few some = by_cases (loaded.header.e_shnu
     by_cases false h =
         let none : view_cost parts loaded ≡ 0 = rw h refl in
         omega (arith, none, few, slots_below size slots cap)
-
--- the file header asks for 64 bytes at most
-pub header_most : (size : ℕ) → file_header_cost size ≤ 64
-header_most size = cost_where-le (is_none (first_refusal (length_checks size))) 64
 
 pub cost_is : (file : List ℕ) (headers cap parts : ℕ) → cost file headers cap parts ≡ 64 + behind_header file headers cap parts
 unfolding cost
