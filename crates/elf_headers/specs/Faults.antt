@@ -6,7 +6,7 @@ use Rattle.elf_model.specs.declared.causes.Cause.TheVariants.{Budget}
 use Rattle.elf_model.specs.declared.causes.Refusal.{Refusal}
 use Rattle.elf_record.specs.Ehdr.{IsEhdr}
 use Rattle.elf_record.specs.declared.ehdr.Ehdr.{Ehdr}
-use Rattle.elf_source.specs.Source.{Counting, Faults, OverLimit}
+use Rattle.elf_source.specs.Source.{Seen, Counting, Faults, OverLimit}
 use Rattle.elf_headers.specs.declared.fault.Fault.{Fault}
 use Rattle.elf_headers.specs.declared.fault.Fault.TheVariants.{Refused, Source}
 
@@ -30,6 +30,12 @@ ReadSays old new (Source fault at) = Faults old.seen new.seen fault × (at ≡ n
 abbrev pub IsAt : ℕ → Fault → Type 0
 IsAt at (Refused refusal) = refusal ≡ record { at = at; cause = Budget }
 IsAt at (Source fault offset) = offset ≡ at
+
+-- the source was read once, or not at all for want of budget
+abbrev pub FillsOnce : {X : Type 0} → (Seen → ℕ → ℕ → Seen → Type 0) → Seen → Seen → ℕ → ℕ → Result X Fault → Type 0
+FillsOnce one_read old new at n (Ok x) = one_read old at n new
+FillsOnce one_read old new at n (Err (Refused refusal)) = new ≡ old
+FillsOnce one_read old new at n (Err (Source fault offset)) = one_read old at n new
 
 -- a fault of a read at some offset
 abbrev pub IsOfRead : Fault → Type 0

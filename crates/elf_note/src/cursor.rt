@@ -1,9 +1,11 @@
 //! A cursor over the notes of a table.
 ghost use Rattle.std.specs.Prelude.{◌≡◌, ℕ, ◌+◌, ◌≤◌, List, [], length, None, Some, Err, IfErr};
 ghost use Rattle.elf_model.specs.Notes.{note_align};
+ghost use Rattle.elf_source.specs.Onward.{ReadsOnward};
 ghost use Rattle.elf_source.specs.Source.{Reads};
 ghost use Rattle.elf_headers.specs.Faults.{Says};
 ghost use Rattle.elf_table.specs.Tables.{RowsWithin};
+ghost use Rattle.elf_table.specs.Windows.{frontier};
 ghost use Rattle.elf_headers.specs.declared.fault.Fault.{Fault};
 ghost use Rattle.elf_note.specs.NoteCursors.{AdvancesNote, KeepsNotes, ShowsNote};
 
@@ -89,6 +91,8 @@ impl NoteCursor {
         ensures says { self.old.failed ≡ None →
             IfErr result (Says src.old src.new self.old.ahead.unread) }
         ensures keeps { KeepsNotes self.old self.new src.old.asked src.new.asked }
+        ensures onward { ReadsOnward S.one_read src.old.seen src.new.seen
+            (frontier self.old.ahead) (frontier self.new.ahead) }
         ensures steps { AdvancesNote src.old.seen.file cap.bytes self.old self.new name.new result }
         ensures again { (fault : Fault) → self.old.failed ≡ Some fault →
             (result ≡ Err fault) × (src.new ≡ src.old) × (self.new ≡ self.old) }
@@ -141,6 +145,8 @@ impl NoteCursor {
     ghost use Rattle.elf_source.specs.Source.{Reads};
     ghost use Rattle.elf_headers.specs.Faults.{Says};
     ghost use Rattle.elf_table.specs.Tables.{RowsWithin};
+    ghost use Rattle.elf_table.specs.Windows.{frontier};
+    ghost use Rattle.elf_source.specs.Onward.{ReadsOnward};
     ghost use Rattle.elf_headers.specs.declared.fault.Fault.{Fault};
     ghost use Rattle.elf_note.specs.NoteCursors.{KeepsNotes, StepsNote};
     ghost use Rattle.elf_note.specs.contracts.cursor.NoteCursor.{the_row};
@@ -164,7 +170,9 @@ impl NoteCursor {
             (result ≡ Err fault) × (src.new ≡ src.old) }
         ensures* after { sem 𝓛 (follows_so the_row the_row self.entry.ghost_name none (λ _ _. ⊤)
             (λ new. KeepsNotes self.old new src.old.asked src.new.asked
-            × StepsNote src.old.seen.file cap.bytes self.old new name.new result)) }
+            × StepsNote src.old.seen.file cap.bytes self.old new name.new result
+            × ReadsOnward S.one_read src.old.seen src.new.seen
+            (frontier self.old.ahead) (frontier new.ahead))) }
     {
         if !self.advance(src, cap, name)? {
             return Ok(None);

@@ -3,10 +3,11 @@ ghost use Rattle.std.specs.Prelude.{◌≡◌, ℕ, ◌+◌, ◌<◌, ◌≤◌,
 ghost use Rattle.std.specs.Prelude.{Some, IfErr, IfSome, OnOk};
 ghost use Rattle.elf_model.specs.Bytes.{slice};
 ghost use Rattle.elf_model.specs.Names.{nul_in};
+ghost use Rattle.elf_source.specs.Onward.{ReadsOnward};
 ghost use Rattle.elf_source.specs.Source.{Reads};
 ghost use Rattle.elf_headers.specs.Faults.{IsOfRead, Says};
 ghost use Rattle.elf_table.specs.NamesRead.{Searched};
-ghost use Rattle.elf_table.specs.Windows.{HoldsBytes, StillHolds, RangeWithin, MovesOn, bytes_left};
+ghost use Rattle.elf_table.specs.Windows.{HoldsBytes, StillHolds, RangeWithin, MovesOn, bytes_left, frontier};
 
 use crate::name_buf::NameBuf;
 use crate::window::Window;
@@ -35,6 +36,8 @@ pub fn search_name<S: Source, const N: usize>(
     ensures says { IfErr result (Says src.old src.new window.old.unread) }
     ensures fault { IfErr result IsOfRead }
     ensures moves { MovesOn window.old window.new src.old.asked src.new.asked }
+    ensures onward { ReadsOnward S.one_read src.old.seen src.new.seen
+        (frontier window.old) (frontier window.new) }
     ensures inside { OnOk result (window.new.at ≤ window.old.at + want) }
     ensures agrees { StillHolds src.old.seen.file window.old window.new }
     ensures searched { (file : List ℕ) → src.old.seen.file ≡ Some file →

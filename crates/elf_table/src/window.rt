@@ -2,6 +2,7 @@
 ghost use Rattle.std.specs.Prelude.{◌≡◌, ℕ, ◌+◌, ◌^◌, ◌<◌, ◌≤◌, List, [], length, min, take, drop};
 ghost use Rattle.std.specs.Prelude.{IfErr, OnOk};
 ghost use Rattle.elf_model.specs.Bytes.{slice};
+ghost use Rattle.elf_source.specs.Onward.{ReadsOnward};
 ghost use Rattle.elf_source.specs.Source.{Reads};
 ghost use Rattle.elf_headers.specs.Faults.{Says, IsAt};
 ghost use Rattle.elf_table.specs.Windows.{HoldsBytes, StillHolds, Brings, RangeWithin, MovesOn};
@@ -103,6 +104,8 @@ impl<const N: usize> Window<N> {
         ensures reads { Reads src.old src.new self.old.unread }
         ensures says { IfErr result (Says src.old src.new self.old.unread) }
         ensures moves { MovesOn self.old self.new src.old.asked src.new.asked }
+        ensures onward { ReadsOnward S.one_read src.old.seen src.new.seen
+            (frontier self.old) (frontier self.new) }
         ensures brings { Brings self.old self.new count result }
         ensures agrees { StillHolds src.old.seen.file self.old self.new }
     {
@@ -139,6 +142,8 @@ impl<const N: usize> Window<N> {
         ensures says { IfErr result (Says src.old src.new self.old.unread) }
         ensures fault { IfErr result (IsAt (frontier self.old)) }
         ensures moves { MovesOn self.old self.new src.old.asked src.new.asked }
+        ensures onward { ReadsOnward S.one_read src.old.seen src.new.seen
+            (frontier self.old) (frontier self.new) }
         ensures stays { OnOk result (self.new.at ≡ self.old.at) }
         ensures whole { OnOk result
             (length self.new.held ≡ min self.old.page (bytes_left self.old)) }
