@@ -38,7 +38,7 @@ behind_bytes steps length = 8 + walk_bytes steps length
 abbrev pub find_bytes : ℕ → ℕ → ℕ → ℕ
 find_bytes size slots length = 76 + 64 * slots + size / 4 * step_bytes length
 
--- an answer is the one that a lookup gives, or not its refusal
+-- an answer is the one that a lookup gives, with its number of steps, and the symbol is the one at its place
 abbrev pub AnswersLookup : List ℕ → Looked → Lookup → Type 0
 AnswersLookup file looked (Found section index symbol steps) =
     (at : ℕ) × (looked ≡ record { answer = IsFound section index at; compared = steps }) × IsSym file at symbol

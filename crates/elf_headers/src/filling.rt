@@ -8,7 +8,8 @@ use crate::fault::Fault;
 use elf_record::{Cause, Refusal};
 use elf_source::{AskFault, Counted, Source};
 
-/// Fills `out`, at most 4,096 bytes, with the bytes from the offset `at` on.
+/// Fills `out`, at most 4,096 bytes, with the bytes from the offset `at` on, none of them past the
+/// source's length: one read.
 ///
 /// # Errors
 /// A refusal for want of budget, or the source's fault; both name `at`. Then `out` holds any bytes.

@@ -52,7 +52,8 @@ impl Model for HeaderStore {
 }
 
 impl HeaderStore {
-    /// A store of `headers` slots, with no header loaded.
+    /// A store of `headers` slots, 1 to 65,279, with no header loaded. Its 64 bytes for each slot are
+    /// taken from `alloc` here, and no other call takes any.
     ///
     /// # Errors
     /// Where memory is refused.
@@ -86,7 +87,8 @@ impl HeaderStore {
         64 * u64::from(self.slots)
     }
 
-    /// The number of section headers that are loaded, at most [`HeaderStore::slots`].
+    /// The number of section headers that are loaded, at most [`HeaderStore::slots`]; 0 while program
+    /// headers are.
     pub fn loaded(&self) -> u16
         ensures value { result ≡ self.now.loaded }
         ensures within { self.now.loaded ≤ self.now.slots }
@@ -95,7 +97,8 @@ impl HeaderStore {
         self.loaded
     }
 
-    /// The number of program headers that are loaded, at most [`HeaderStore::slots`].
+    /// The number of program headers that are loaded, at most [`HeaderStore::slots`]; 0 while section
+    /// headers are.
     pub fn segments(&self) -> u16
         ensures value { result ≡ self.now.segments }
         ensures within { self.now.segments ≤ self.now.slots }
@@ -104,7 +107,7 @@ impl HeaderStore {
         self.segments
     }
 
-    /// The section header of an index below [`HeaderStore::loaded`].
+    /// The section header of an index below [`HeaderStore::loaded`] (gABI 4, Section Header).
     pub fn section(&self, i: u16) -> Shdr
         requires { i < self.now.loaded }
         ensures fields { IsShdr (row self.now i) 0 result }
@@ -114,7 +117,7 @@ impl HeaderStore {
         Shdr::decode(self.row(i))
     }
 
-    /// The program header of an index below [`HeaderStore::segments`].
+    /// The program header of an index below [`HeaderStore::segments`] (gABI 5, Program Header).
     pub fn segment(&self, i: u16) -> Phdr
         requires { i < self.now.segments }
         ensures fields { IsPhdr (segment_bytes self.now i) 0 result }

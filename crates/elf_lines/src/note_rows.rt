@@ -17,8 +17,9 @@ use hex::encode_to_slice;
 /// How many bytes of a note's descriptor are shown.
 const SHOWN_DESCRIPTOR: u32 = 32;
 
-/// The line of a note up to the name: the index of its section or program header, type, and the
-/// sizes of its name and its descriptor. The space before the name is the last byte.
+/// The `N` line of a note up to the name: the index of its section or program header, type, and the
+/// sizes of its name and its descriptor in bytes (gABI 5, Note Section). The space before the name is
+/// the last byte.
 #[tactic(auto, unfolding(elf_model::specs::LineFronts::note_front))]
 pub fn note_front(index: u16, head: &NoteHead) -> Line
     ensures { result.items ≡ note_front index head.now.kind head.now.namesz head.now.descsz }
@@ -36,8 +37,8 @@ pub fn note_front(index: u16, head: &NoteHead) -> Line
     line
 }
 
-/// Writes the line of a note, with its name and the first bytes of its descriptor: 32 of them, or
-/// all where it has fewer.
+/// Writes the `N` line of a note, with its name, which `is_cut` where it has more bytes than these,
+/// and the first bytes of its descriptor: 32 of them, or all where it has fewer.
 ///
 /// # Errors
 /// A fault of the output, with a front of the line written.

@@ -15,8 +15,8 @@ use elf_record::numbers::{
 };
 use itoa::Buffer;
 
-/// The line of a relocation entry up to the name: the index of its section, offset, type on this
-/// machine, symbol and addend. The space before the name is the last byte.
+/// The `R` line of a relocation entry up to the name: the index of its section, offset, type on this
+/// machine, symbol and addend (gABI 4, Relocation). The space before the name is the last byte.
 #[tactic(auto, unfolding(elf_model::specs::LineFronts::relocation_front))]
 pub fn relocation_front(section: u16, machine: u16, entry: &Rela) -> Line
     ensures { (file : List ℕ) (at : ℕ) → IsRela file at entry.now →

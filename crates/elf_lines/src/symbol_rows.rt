@@ -19,8 +19,9 @@ use elf_record::numbers::{
 };
 use elf_source::{Out, OutFault, Sink};
 
-/// The line of a symbol up to the name: the index of its section, its own index, value, size, type,
-/// binding, visibility and place. The space before the name is the last byte.
+/// The `Y` line of a symbol up to the name: the index of its section, its own index, value, size,
+/// type, binding, visibility and place (gABI 4, Symbol Table). The space before the name is the last
+/// byte.
 #[tactic(auto, unfolding(elf_model::specs::LineFronts::symbol_front))]
 pub fn symbol_front(section: u16, index: u64, symbol: &Sym) -> Line
     ensures { (file : List ℕ) (at : ℕ) → IsSym file at symbol.now →
@@ -60,7 +61,7 @@ pub fn symbol_front(section: u16, index: u64, symbol: &Sym) -> Line
     line
 }
 
-/// Writes the line of a symbol with its name, whole, as it is given.
+/// Writes the `Y` line of a symbol with its name, whole, as it is given.
 ///
 /// # Errors
 /// A fault of the output, with a front of the line written.

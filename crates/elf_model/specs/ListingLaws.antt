@@ -21,7 +21,8 @@ HeaderFaultIsListedAlone =
     (file : List ℕ) → (headers cap parts : ℕ) → (refusal : Refusal) → first_refusal (header_checks file) ≡ Some refusal
     → (report file headers cap parts ≡ refusal_line refusal) × (report_fault file headers cap parts ≡ Some refusal)
 
--- where a load check fails, the listing of all parts is the file header's line and that fault's line
+-- where a load check fails, the listing is the file header's line and that fault's line, under any parts with the file
+-- header's and another
 abbrev pub LoadFaultIsListedSecond : Type 0
 LoadFaultIsListedSecond =
     (file : List ℕ) → (headers cap parts : ℕ) → (refusal : Refusal)

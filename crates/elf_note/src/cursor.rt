@@ -72,14 +72,16 @@ impl NoteCursor {
         }
     }
 
-    /// Goes to the next note with its padding, and answers whether there is one. Its name, as it is
-    /// shown with at most `cap` bytes, is then in `name`. What it asks for is no longer unread: all
-    /// calls together ask for no more than the table's bytes, each byte at most once.
+    /// Goes to the next note with its padding, and answers whether there is one. A table with bytes
+    /// ends within the source's length. The note's name, as it is shown with at most `cap` bytes, is
+    /// then in `name`. What it asks for is no longer unread: all calls together ask for no more than
+    /// the table's bytes, each byte at most once.
     ///
     /// # Errors
     /// Refused with `NoteCut` at the file offset where no note stands; else a fault of a read, or a
-    /// refusal for want of budget. Then nothing of the next note is given. From then on each call
-    /// answers the same fault and reads nothing.
+    /// refusal for want of budget, at the offset that was asked for. Then nothing of the next note is
+    /// given, and `name` holds any bytes. From then on each call answers the same fault and reads
+    /// nothing.
     pub fn advance<S: Source>(
         &mut self,
         src: &mut Counted<S>,

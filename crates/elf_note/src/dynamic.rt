@@ -40,7 +40,7 @@ impl Model for DynCursor {
         × (d.ended ≡ true → d.cursor.failed ≡ None) };
 }
 
-/// A cursor before the first entry of `table`, whose rows have 16 bytes.
+/// A cursor before the first entry of `table`, whose rows have 16 bytes (gABI 5, Dynamic Section).
 pub fn dynamic_rows(table: Table) -> DynCursor
     requires { table.entry ≡ 16 }
     ensures table { result.cursor.table ≡ table }

@@ -70,8 +70,9 @@ impl Cursor {
         }
     }
 
-    /// Goes to the next row, and answers whether there is one. What it asks for is no longer
-    /// unread: all calls together ask for no more than the table's bytes, each byte at most once.
+    /// Goes to the next row, and answers whether there is one. A table with rows ends within the
+    /// source's length. What it asks for is no longer unread: all calls together ask for no more than
+    /// the table's bytes, each byte at most once.
     ///
     /// # Errors
     /// A fault of a read, or a refusal for want of budget, at the next row's offset. From then on

@@ -15,9 +15,10 @@ use elf_headers::{Cap, Fault};
 use elf_source::{Counted, Source};
 use memchr::memchr;
 
-/// Goes over the next `want` bytes of a window, or fewer up to the first NUL, and adds those before
-/// it to `name`, which is empty, as far as `cap`. Answers whether there is a NUL. The window then
-/// stands somewhere in those bytes, or behind them.
+/// Goes over the next `want` bytes of a window, no more than are left, or fewer up to the first NUL,
+/// and adds those before it to `name`, which is empty, as far as `cap`. Answers whether there is a
+/// NUL. The window then stands somewhere in those bytes, or behind them; its page is not empty, and
+/// its range ends within the source's length. After a fault `name` holds any bytes.
 ///
 /// # Errors
 /// A fault of a read, or a refusal for want of budget, at the first byte that was not asked for.

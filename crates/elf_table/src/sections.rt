@@ -68,8 +68,8 @@ impl File<'_> {
         Ok(Table::new(offset, size, 1))
     }
 
-    /// The section as a table of rows of `entry` bytes. One of size 0 is not checked. No bytes are
-    /// read.
+    /// The section as a table of rows of `entry` bytes, 1 to 4,096. One of size 0 is not checked. No
+    /// bytes are read.
     ///
     /// # Errors
     /// The first check that fails, at the section's header: `EntrySize` where sh_entsize is another

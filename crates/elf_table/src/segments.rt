@@ -38,7 +38,8 @@ impl SegmentView<'_> {
         self.store.segment(segment)
     }
 
-    /// The file offset of the program header of an index below e_phnum, in bytes.
+    /// The file offset of the program header of an index below e_phnum, in bytes (gABI 5, Program
+    /// Header).
     pub fn place(&self, segment: u16) -> u64
         requires { segment < self.now.loaded.header.e_phnum }
         ensures value { result ≡ segment_place self.now.loaded.header segment }

@@ -91,12 +91,13 @@ impl<const N: usize> Window<N> {
         &bytes[self.from as usize..end as usize]
     }
 
-    /// Holds at least `count` bytes: those that it holds, where they are enough, and else a page,
-    /// or all bytes that are left.
+    /// Holds at least `count` bytes, which are no more than a page and than all that are left: those
+    /// that it holds, where they are enough, and else a page, or all bytes that are left. A range with
+    /// bytes left ends within the source's length.
     ///
     /// # Errors
-    /// A fault of a read at the first byte that was not asked for yet. The place is then behind the
-    /// bytes that were to be read.
+    /// A fault of a read, or a refusal for want of budget, at the first byte that was not asked for
+    /// yet. Nothing is held then, and the place is behind the bytes that were to be read.
     pub fn bring<S: Source>(&mut self, src: &mut Counted<S>, count: u64) -> Result<(), Fault>
         requires enough { count ≤ bytes_left self.old }
         requires small { count ≤ self.old.page }
@@ -115,7 +116,7 @@ impl<const N: usize> Window<N> {
         self.read_page(src)
     }
 
-    /// Passes over `count` bytes; what isn't held of them is never read.
+    /// Passes over `count` bytes, no more than are left; what isn't held of them is never read.
     pub fn skip(&mut self, count: u64)
         requires { count ≤ bytes_left self.old }
         ensures page { self.new.page ≡ self.old.page }
