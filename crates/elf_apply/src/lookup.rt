@@ -57,7 +57,8 @@ fn address_named<S: Source>(
     requires within { StringsWithin src.old.seen.size symbol.now.names }
     ensures reads { Reads src.old src.new (items_cost items.now) }
     ensures says { IfErr result (ReadSays src.old src.new) }
-    ensures found { (file : List ℕ) → src.old.seen.file ≡ Some file → ValueOrCause symbol.now.at result
+    ensures found { (file : List ℕ) → src.old.seen.file ≡ Some file →
+        ValueOrCause symbol.now.at result
         (address_named (strings_in file symbol.now.names) symbol.now.fields.st_name items.now) }
 {
     let off = u64::from(symbol.fields.st_name);

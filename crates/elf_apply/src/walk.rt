@@ -82,8 +82,8 @@ impl Entries {
         ensures fewer { IfOk result (FoundFewer target.now self.old self.new) }
         ensures counts { IfOk result (λ found. CountsEntries target.now self.old self.new) }
         ensures inside { IfOk result (FoundInside target.now.size) }
-        ensures finds { (file : List ℕ) → src.old.seen.file ≡ Some file → ReadsEntries file self.old →
-            FindsEntry file target.now self.old self.new result }
+        ensures finds { (file : List ℕ) → src.old.seen.file ≡ Some file →
+            ReadsEntries file self.old → FindsEntry file target.now self.old self.new result }
     {
         'steps: loop {
             match self.step(src, target) {
@@ -106,8 +106,8 @@ impl Entries {
         ensures fewer { IfOk result (StepFewer target.now self.old self.new) }
         ensures counts { IfOk result (λ step. CountsEntries target.now self.old self.new) }
         ensures inside { IfOk result (StepInside target.now.size) }
-        ensures walked { (file : List ℕ) → src.old.seen.file ≡ Some file → ReadsEntries file self.old →
-            Walked file target.now self.old self.new result }
+        ensures walked { (file : List ℕ) → src.old.seen.file ≡ Some file →
+            ReadsEntries file self.old → Walked file target.now self.old self.new result }
     {
         match self.cursor.advance(src) {
             Ok(true) => {
@@ -135,8 +135,8 @@ impl Entries {
         ensures inside { IfOk result (StepInside target.now.size) }
         ensures left { walk_left target.now self.new ≤ walk_left target.now self.old }
         ensures walked { (file : List ℕ) →
-            Belongs file target.now.file.loaded target.now.file.store.now → ReadsEntries file self.old →
-            Walked file target.now self.old self.new result }
+            Belongs file target.now.file.loaded target.now.file.store.now →
+            ReadsEntries file self.old → Walked file target.now self.old self.new result }
     {
         let section = self.next;
         if section >= target.file.sections() {

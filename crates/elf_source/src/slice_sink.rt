@@ -73,7 +73,8 @@ impl<'a> Sink for SliceSink<'a> {
         requires { 0 < length bytes.now }
         ensures some { IfOk result (λ count. 0 < count) }
         ensures within { IfOk result (λ count. count ≤ length bytes.now) }
-        ensures bytes { WriteAppends (Some self.old.written) (Some self.new.written) result bytes.now }
+        ensures bytes { WriteAppends
+            (Some self.old.written) (Some self.new.written) result bytes.now }
         ensures fails { self.new.failed ≡ is_err result }
         ensures for_good { IsTrue self.old.failed → IsErr result }
         ensures full { IsErr result ↔ (self.old.free ≡ 0) }
