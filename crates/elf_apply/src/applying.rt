@@ -25,6 +25,7 @@ use crate::layout::Layout;
 use crate::lookup::refused;
 use crate::passes::check;
 use crate::windows::write_windows;
+use elf_headers::ends_outside;
 use elf_record::numbers::{EM_X86_64, ET_REL, SHT_NOBITS, SHT_NULL};
 use elf_record::{Cause, Shdr};
 use elf_source::{Counted, Out, Sink, Source};
@@ -62,7 +63,7 @@ fn held(file: &File<'_>, section: u16) -> Result<(u64, u64), Fault>
         return Ok((0, 0));
     }
     let size = file.loaded.size();
-    if ends_outside(size, &found) {
+    if ends_outside(size, found.sh_offset, found.sh_size) {
         return refused(file.place(section), Cause::TableOutside);
     }
     Ok((found.sh_offset, found.sh_size))
@@ -81,13 +82,6 @@ fn has_no_bytes(header: &Shdr) -> bool
         result ≡ has_no_bytes bytes at }
 {
     header.sh_type == SHT_NOBITS || header.sh_type == SHT_NULL
-}
-
-/// Whether a section ends past the end of a file of `size` bytes.
-fn ends_outside(size: u64, header: &Shdr) -> bool
-    ensures { result ≡ is_outside size header.now.sh_offset header.now.sh_size }
-{
-    u128::from(header.sh_offset) + u128::from(header.sh_size) > u128::from(size)
 }
 
 /// Writes the section, whose bytes stand at the file offset `at`: in one pass where the offsets of
