@@ -137,10 +137,12 @@ UndefinedBeforeUnplaced =
     × RefusesToApply (with_bytes 0x50 (little 4 10) one_call) placed_layout 0x48 Undefined
     × RefusesToApply (with_bytes 0x50 (little 4 10) (with_symbol 6 (little 2 2))) placed_layout 0x48 Unplaced
 
--- the text and the status of `apply`: relocations applied, and refused
+-- the text and the status of `apply`: relocations applied, and refused, also a file with more headers than are permitted
 abbrev pub AppliedIsWritten : Type 0
 AppliedIsWritten =
     (apply_answer overlapping_relocations 3 1 empty_layout
     ≡ record { text = 0x44 ∷ 0x33 ∷ 0xff ∷ 0xff ∷ zeros 4; status = 0 })
     × (apply_answer third_overflows 3 1 empty_layout
     ≡ record { text = codes "! 0000000000000078 overflow\n"; status = 1 })
+    × (apply_answer overlapping_relocations 2 1 empty_layout
+    ≡ record { text = codes "! 000000000000003c too-many-headers\n"; status = 1 })

@@ -41,10 +41,15 @@ TypesTakeTheirTerms =
 abbrev pub high_layout : Layout
 high_layout = record { sections = (1, 2 ^ 63) ∷ []; definitions = (codes "f", 2 ^ 63) ∷ []; linkage = [] }
 
--- an address has 64 bits: as the symbol's section, as its definition, as its own value, and as the place
+-- an address has 64 bits: as the symbol's section, as its definition, as its own value, and as the place; one that would
+-- be 2^64 or more is taken modulo 2^64, of a symbol and of a place
 abbrev pub AddressesAreWhole : Type 0
 AddressesAreWhole =
     WritesSection (eight_relocated 1 6 (little 2 1 ++ little 8 0x10)) high_layout ((0x0c ∷ []) ++ zeros 6 ++ (0x80 ∷ []))
+    × WritesSection (eight_relocated 1 6 (little 2 1 ++ little 8 (2 ^ 63 + 0x10))) high_layout ((0x0c ∷ []) ++ zeros 7)
+    × WritesSection (relocated (zeros 8) (relocation 4 2 0x5000))
+    (record { sections = (1, 2 ^ 64 - 2) ∷ []; definitions = []; linkage = [] })
+    (zeros 4 ++ (0xfe ∷ 0x4f ∷ 0 ∷ 0 ∷ []))
     × WritesSection (eight_relocated 1 6 (little 2 0)) high_layout ((0xfc ∷ []) ++ replicate 6 0xff ++ (0x7f ∷ []))
     × WritesSection (eight_relocated 1 6 (little 2 0xfff1 ++ little 8 (2 ^ 63))) high_layout ((0xfc ∷ []) ++ replicate 6 0xff ++ (0x7f ∷ []))
     × WritesSection (relocated (zeros 8) (relocation 0 24 0x5000)) high_layout ((0 ∷ 0x50 ∷ []) ++ zeros 5 ++ (0x80 ∷ []))

@@ -143,13 +143,16 @@ AddressesMayBeZero =
     × WritesSection one_call (layout_of 0 [] ((codes "f", 0x2000) ∷ [])) (0xe8 ∷ 0xfb ∷ 0x1f ∷ 0 ∷ 0 ∷ [])
     × WritesSection (with_symbol 6 (little 2 1 ++ little 8 0x2000)) (layout_of 0 [] []) (0xe8 ∷ 0xfb ∷ 0x1f ∷ 0 ∷ 0 ∷ [])
 
--- of two items with one index or one name the first stands
+-- of two items with one index or one name the first stands; two indices are one only where all their bits are the same
 abbrev pub FirstItemStands : Type 0
 FirstItemStands =
     WritesSection one_call (layout_of 0x1000 ((codes "f", 0x3000) ∷ (codes "f", 0x9000) ∷ []) []) (0xe8 ∷ 0xfb ∷ 0x1f ∷ 0 ∷ 0 ∷ [])
     × WritesSection one_call (layout_of 0x1000 [] ((codes "f", 0x2000) ∷ (codes "f", 0x9000) ∷ [])) (0xe8 ∷ 0xfb ∷ 0x0f ∷ 0 ∷ 0 ∷ [])
     × WritesSection one_call
     (record { sections = (1, 0x1000) ∷ (1, 0x9000) ∷ []; definitions = []; linkage = (codes "f", 0x2000) ∷ [] })
+    (0xe8 ∷ 0xfb ∷ 0x0f ∷ 0 ∷ 0 ∷ [])
+    × WritesSection one_call
+    (record { sections = (0x101, 0x9000) ∷ (1, 0x1000) ∷ []; definitions = []; linkage = (codes "f", 0x2000) ∷ [] })
     (0xe8 ∷ 0xfb ∷ 0x0f ∷ 0 ∷ 0 ∷ [])
 
 -- a name that another item's is not equal to may still be one that cannot be compared: here the table ends behind `f`

@@ -26,4 +26,5 @@ DynamicValues =
     × (dynamic_value repeated_tags 0 5 10 ≡ Some 5)
     × (listed_value repeated_tags 0 5 0 ≡ Some 4)
     × (listed_value repeated_tags 64 1 10 ≡ Some 5)
+    × (dynamic_value (tagged 0x100000005 7 ++ tagged 5 8) 0 2 5 ≡ Some 8)
     × (listed_value [] 0 0 5 ≡ None)

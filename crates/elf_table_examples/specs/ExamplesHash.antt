@@ -34,6 +34,12 @@ RefusesLookup file wanted at cause = (looked file 4 wanted).answer ≡ Refused (
 abbrev pub ComparesNames : List ℕ → List ℕ → ℕ → Type 0
 ComparesNames file wanted compared = (looked file 4 wanted).compared ≡ compared
 
+-- the symbols in section 1, their strings in section 2, the hash table in section 3, which is the last
+abbrev pub hash_comes_last : List ℕ
+hash_comes_last =
+    let headers = section_header 11 0 0x58 0x48 2 1 0 24 ++ section_header 3 0 0xa0 5 0 0 0 0 ++ section_header 5 0 0x40 0x18 1 0 0 4 in
+    with_bytes 0xe8 headers hash_with_cycle
+
 -- a name that stands first in its chain
 abbrev pub FirstIsFound : Type 0
 FirstIsFound =
@@ -57,19 +63,24 @@ EndIsAbsent =
     FindsNothing hash_with_end (codes "c") 2
     × FindsNothing (hash_file (1 ∷ 3 ∷ 0 ∷ 0 ∷ 2 ∷ 1 ∷ [])) (codes "a") 0
 
--- words that are no index, in a chain and in a bucket
+-- words that are no index, in a chain and in a bucket; a chain's word stands at the symbol's index, whichever step comes to it
 abbrev pub WrongWordIsRefused : Type 0
 WrongWordIsRefused =
     RefusesLookup (hash_file (1 ∷ 3 ∷ 1 ∷ 0 ∷ 9 ∷ 0 ∷ [])) (codes "c") 0x50 HashIndex
     × ComparesNames (hash_file (1 ∷ 3 ∷ 1 ∷ 0 ∷ 9 ∷ 0 ∷ [])) (codes "c") 1
     × RefusesLookup (hash_file (1 ∷ 3 ∷ 3 ∷ 0 ∷ 2 ∷ 1 ∷ [])) (codes "c") 0x48 HashIndex
+    × RefusesLookup (hash_file (1 ∷ 3 ∷ 2 ∷ 0 ∷ 1 ∷ 9 ∷ [])) (codes "c") 0x54 HashIndex
+    × RefusesLookup (hash_file (1 ∷ 3 ∷ 2 ∷ 0 ∷ 9 ∷ 1 ∷ [])) (codes "c") 0x50 HashIndex
+    × ComparesNames (hash_file (1 ∷ 3 ∷ 2 ∷ 0 ∷ 9 ∷ 1 ∷ [])) (codes "c") 2
 
--- counts that do not fit the section
+-- counts that do not fit the section, also where four times a count fits modulo 2^32
 abbrev pub WrongCountsAreRefused : Type 0
 WrongCountsAreRefused =
     RefusesLookup (hash_file (0 ∷ 3 ∷ 1 ∷ 0 ∷ 2 ∷ 1 ∷ [])) (codes "c") 0xe8 HashShape
     × RefusesLookup (hash_file (0xffffffff ∷ 3 ∷ 1 ∷ 0 ∷ 2 ∷ 1 ∷ [])) (codes "c") 0xe8 HashShape
+    × RefusesLookup (hash_file (0x40000001 ∷ 3 ∷ 1 ∷ 0 ∷ 2 ∷ 1 ∷ [])) (codes "c") 0xe8 HashShape
     × RefusesLookup (hash_file (1 ∷ 4 ∷ 1 ∷ 0 ∷ 2 ∷ 1 ∷ [])) (codes "c") 0xe8 HashShape
+    × RefusesLookup (hash_file (1 ∷ 0x40000003 ∷ 1 ∷ 0 ∷ 2 ∷ 1 ∷ [])) (codes "c") 0xe8 HashShape
     × RefusesLookup (with_hash_header 32 (little 8 23)) (codes "a") 0xe8 HashShape
     × RefusesLookup (with_bytes 0x108 (little 8 23) (hash_file (2 ∷ 2 ∷ 0 ∷ 1 ∷ 0 ∷ 0 ∷ []))) (codes "a") 0xe8 HashShape
 
@@ -104,6 +115,7 @@ NameFaultsAreRefused =
     RefusesLookup (with_bytes 0x70 (little 4 5) hash_with_cycle) (codes "c") 0x70 NameOutside
     × ComparesNames (with_bytes 0x70 (little 4 5) hash_with_cycle) (codes "c") 1
     × RefusesLookup (with_bytes 0xa4 (little 1 99) hash_with_cycle) (codes "bc") 0x88 NameUnended
+    × ComparesNames (with_bytes 0xa4 (little 1 99) hash_with_cycle) (codes "bc") 2
 
 -- under a symbol table of no bytes neither it nor its strings are checked, and no word but 0 is an index
 abbrev pub EmptySymbolTable : Type 0

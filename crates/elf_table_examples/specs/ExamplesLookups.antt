@@ -6,8 +6,8 @@ use Rattle.elf_model.specs.FindApplyAnswer.{find_answer}
 use Rattle.elf_model.specs.Fixtures.{zeros, with_bytes, section_header, one_symbol_table}
 use Rattle.elf_model.specs.FixturesHash.{hash_file, hash_with_cycle, with_hash_header, with_symbols_header, with_strings_header}
 use Rattle.elf_model.specs.Hash.{sysv_hash, Refused}
-use Rattle.elf_table_examples.specs.ExamplesHash.{FindsSymbol, FindsNothing, RefusesLookup, ComparesNames}
-use Rattle.elf_model.specs.declared.causes.Cause.TheVariants.{BadClass, TooManyHeaders, TableOutside, BadLink, NotStrings, NoHash, HashShape, HashIndex, HashCycle}
+use Rattle.elf_table_examples.specs.ExamplesHash.{hash_comes_last, FindsSymbol, FindsNothing, RefusesLookup, ComparesNames}
+use Rattle.elf_model.specs.declared.causes.Cause.TheVariants.{BadClass, TooManyHeaders, TableOutside, BadLink, EntrySize, NotStrings, NoHash, HashShape, HashIndex, HashCycle}
 
 -- names whose hash has each of its top four bits set on the way, and bytes above 127
 abbrev pub LongerHashes : Type 0
@@ -49,10 +49,11 @@ NoChains =
 abbrev pub EmptyHashIsChecked : Type 0
 EmptyHashIsChecked = RefusesLookup (with_hash_header 24 (little 8 0x1000 ++ zeros 8)) (codes "a") 0xe8 TableOutside
 
--- the file header and the load checks come before the hash table
+-- the file header and then the load checks come before the hash table
 abbrev pub LookupsCheckTheFile : Type 0
 LookupsCheckTheFile =
     RefusesLookup (with_bytes 4 (little 1 1) hash_with_cycle) (codes "a") 4 BadClass
+    × RefusesLookup (with_bytes 4 (little 1 1) (with_bytes 0x3e (little 2 4) hash_with_cycle)) (codes "a") 4 BadClass
     × ((looked hash_with_cycle 3 (codes "a")).answer ≡ Refused (record { at = 0x3c; cause = TooManyHeaders }))
     × RefusesLookup (with_bytes 0x3e (little 2 4) hash_with_cycle) (codes "a") 0x3e BadLink
     × RefusesLookup (with_bytes 0x3e (little 2 1) hash_with_cycle) (codes "a") 0xe8 NotStrings
@@ -87,9 +88,12 @@ WantedNameIsWritten =
       status = 0;
     })
 
--- a hash table of another kind, of type 0x6ffffff6, is none
+-- a hash table of another kind, of type 0x6ffffff6, is none; nor is a section whose type has other bits
 abbrev pub OtherHashIsNone : Type 0
-OtherHashIsNone = RefusesLookup (with_hash_header 4 (little 4 0x6ffffff6)) (codes "a") 0x28 NoHash
+OtherHashIsNone =
+    RefusesLookup (with_hash_header 4 (little 4 0x6ffffff6)) (codes "a") 0x28 NoHash
+    × RefusesLookup (with_hash_header 4 (little 4 0x105)) (codes "a") 0x28 NoHash
+    × RefusesLookup (with_hash_header 4 (little 4 0x10005)) (codes "a") 0x28 NoHash
 
 -- a symbol that is not defined is found too, and a local one
 abbrev pub UndefinedIsFound : Type 0
@@ -101,12 +105,21 @@ UndefinedIsFound =
 abbrev pub HashPastTheLastSection : Type 0
 HashPastTheLastSection = RefusesLookup (one_symbol_table ++ section_header 5 0 0x40 0x18 1 0 0 4) (codes "main") 0x28 NoHash
 
--- three buckets: the hash is taken modulo their number, which is no power of 2
+-- the last section may be the hash table; what is refused of it is refused at its header
+abbrev pub HashInTheLastSection : Type 0
+HashInTheLastSection =
+    FindsSymbol hash_comes_last (codes "b") 1 2 0x88 2
+    × RefusesLookup (with_bytes 0x190 (little 4 0) hash_comes_last) (codes "a") 0x168 BadLink
+    × RefusesLookup (with_bytes 0x40 (little 4 0) hash_comes_last) (codes "a") 0x168 HashShape
+    × RefusesLookup (with_bytes 0x120 (little 8 25) hash_comes_last) (codes "a") 0xe8 EntrySize
+
+-- three buckets: the hash, all of it, is taken modulo their number, which is no power of 2
 abbrev pub ThreeBuckets : Type 0
 ThreeBuckets =
     RefusesLookup (hash_file (3 ∷ 1 ∷ 9 ∷ 9 ∷ 9 ∷ 0 ∷ [])) (codes "a") 0x4c HashIndex
     × RefusesLookup (hash_file (3 ∷ 1 ∷ 9 ∷ 9 ∷ 9 ∷ 0 ∷ [])) (codes "b") 0x50 HashIndex
     × RefusesLookup (hash_file (3 ∷ 1 ∷ 9 ∷ 9 ∷ 9 ∷ 0 ∷ [])) (codes "c") 0x48 HashIndex
+    × RefusesLookup (hash_file (3 ∷ 1 ∷ 9 ∷ 9 ∷ 9 ∷ 0 ∷ [])) (codes "printf") 0x50 HashIndex
 
 -- a hash table's section with room for its counts and no more: its link comes before its counts
 abbrev pub HashLinkBeforeCounts : Type 0

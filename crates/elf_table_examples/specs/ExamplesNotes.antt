@@ -1,5 +1,5 @@
 -- Worked examples of note tables.
-use Rattle.std.specs.Prelude.{◌≡◌, ℕ, List, [], ◌∷◌, ◌++◌, codes, None, Some}
+use Rattle.std.specs.Prelude.{◌≡◌, ℕ, List, [], ◌∷◌, ◌++◌, codes, replicate, None, Some}
 use Rattle.elf_model.specs.Notes.{Note, Walk, walked, note_rows, note_shown, note_align}
 use Rattle.elf_model.specs.Names.Shown.{Whole, Cut}
 use Rattle.elf_model.specs.Fixtures.{zeros}
@@ -53,6 +53,7 @@ NoteOfZeros =
     × (walked 4 (zeros 23) ≡ uncut (note 0 [] [] ∷ []))
     × (walked 4 (zeros 24) ≡ uncut (note 0 [] [] ∷ note 0 [] [] ∷ []))
     × (walked 8 (zeros 28) ≡ uncut (note 0 [] [] ∷ note 0 [] [] ∷ []))
+    × (walked 4 (zeros 480) ≡ uncut (replicate 40 (note 0 [] [])))
 
 -- a descriptor or a name that would end past the table's end
 abbrev pub NotePastEnd : Type 0
@@ -113,5 +114,12 @@ abbrev pub LaterNotesStand : Type 0
 LaterNotesStand =
     let first = note 1 (codes "ABCD" ++ zeros 1) (1 ∷ 2 ∷ 3 ∷ 4 ∷ []) in
     let second = note 2 (codes "GNU" ++ zeros 1) (5 ∷ []) in
-    note_rows 8 0 (first ∷ second ∷ [])
-    ≡ record { at = 0; note = first; descriptor_at = 24 } ∷ record { at = 32; note = second; descriptor_at = 48 } ∷ []
+    let third = note 3 (codes "abcde") [] in
+    let last = note 4 [] [] in
+    (note_rows 8 0 (first ∷ second ∷ [])
+    ≡ record { at = 0; note = first; descriptor_at = 24 } ∷ record { at = 32; note = second; descriptor_at = 48 } ∷ [])
+    × (note_rows 4 0 (third ∷ third ∷ last ∷ [])
+    ≡ record { at = 0; note = third; descriptor_at = 17 }
+    ∷ record { at = 20; note = third; descriptor_at = 37 }
+    ∷ record { at = 40; note = last; descriptor_at = 52 }
+    ∷ [])

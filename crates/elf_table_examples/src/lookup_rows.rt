@@ -1,5 +1,5 @@
 //! More worked lookups, each a theorem about the definitions that the prover computes.
-ghost use Rattle.elf_table_examples.specs.ExamplesLookups.{LongerHashes, MoreChainsThanSymbols, CycleInTheSecondBucket, WordsHaveFourBytes, NoChains, EmptyHashIsChecked, LookupsCheckTheFile, RefusalsCompareNothing, WantedNameIsWritten, OtherHashIsNone, UndefinedIsFound, HashPastTheLastSection, ThreeBuckets, HashLinkBeforeCounts, HashEntriesAreNotChecked, LinkedSymbolsCount};
+ghost use Rattle.elf_table_examples.specs.ExamplesLookups.{LongerHashes, MoreChainsThanSymbols, CycleInTheSecondBucket, WordsHaveFourBytes, NoChains, EmptyHashIsChecked, LookupsCheckTheFile, RefusalsCompareNothing, WantedNameIsWritten, OtherHashIsNone, UndefinedIsFound, HashPastTheLastSection, ThreeBuckets, HashInTheLastSection, HashLinkBeforeCounts, HashEntriesAreNotChecked, LinkedSymbolsCount};
 
 /// The hashes of longer names.
 #[tactic(auto, unfolding(elf_model::proofs::OnLiterals::on_literals, crate::proofs::OnExamples::on_examples))]
@@ -71,6 +71,12 @@ pub fn undefined_is_found()
 #[tactic(auto, unfolding(elf_model::proofs::OnLiterals::on_literals, crate::proofs::OnExamples::on_examples))]
 pub fn hash_past_the_last_section()
     ensures { HashPastTheLastSection }
+{}
+
+/// A hash table in the last section.
+#[tactic(auto, unfolding(elf_model::proofs::OnLiterals::on_literals, crate::proofs::OnExamples::on_examples))]
+pub fn hash_in_the_last_section()
+    ensures { HashInTheLastSection }
 {}
 
 /// A number of buckets that is no power of 2.
