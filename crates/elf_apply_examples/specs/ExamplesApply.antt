@@ -144,5 +144,6 @@ AppliedIsWritten =
     ≡ record { text = 0x44 ∷ 0x33 ∷ 0xff ∷ 0xff ∷ zeros 4; status = 0 })
     × (apply_answer third_overflows 3 1 empty_layout
     ≡ record { text = codes "! 0000000000000078 overflow\n"; status = 1 })
+    × (apply_answer one_call 5 4 empty_layout ≡ record { text = 0 ∷ 102 ∷ 0 ∷ []; status = 0 })
     × (apply_answer overlapping_relocations 2 1 empty_layout
     ≡ record { text = codes "! 000000000000003c too-many-headers\n"; status = 1 })

@@ -27,4 +27,5 @@ DynamicValues =
     × (listed_value repeated_tags 0 5 0 ≡ Some 4)
     × (listed_value repeated_tags 64 1 10 ≡ Some 5)
     × (dynamic_value (tagged 0x100000005 7 ++ tagged 5 8) 0 2 5 ≡ Some 8)
+    × (listed_value (zeros 16 ++ tagged 1 1 ++ tagged 5 7 ++ tagged 0 0) 16 3 5 ≡ Some 7)
     × (listed_value [] 0 0 5 ≡ None)

@@ -113,6 +113,8 @@ HashLinksInOrder =
 abbrev pub NameFaultsAreRefused : Type 0
 NameFaultsAreRefused =
     RefusesLookup (with_bytes 0x70 (little 4 5) hash_with_cycle) (codes "c") 0x70 NameOutside
+    × RefusesLookup (with_bytes 0x70 (little 4 0x101) hash_with_cycle) (codes "a") 0x70 NameOutside
+    × RefusesLookup (with_bytes 0x70 (little 4 0x10001) hash_with_cycle) (codes "a") 0x70 NameOutside
     × ComparesNames (with_bytes 0x70 (little 4 5) hash_with_cycle) (codes "c") 1
     × RefusesLookup (with_bytes 0xa4 (little 1 99) hash_with_cycle) (codes "bc") 0x88 NameUnended
     × ComparesNames (with_bytes 0xa4 (little 1 99) hash_with_cycle) (codes "bc") 2

@@ -1,10 +1,11 @@
 -- Worked examples of lookups: longer hashes, tables with other counts, and what comes before a walk.
-use Rattle.std.specs.Prelude.{◌≡◌, ◌+◌, ◌++◌, [], ◌∷◌, codes, replicate}
+use Rattle.std.specs.Prelude.{◌≡◌, ℕ, ◌+◌, List, ◌++◌, [], ◌∷◌, codes, flat_map, replicate}
 use Rattle.elf_model.specs.Bytes.{little}
 use Rattle.elf_model.specs.Find.{looked, find_cost}
 use Rattle.elf_model.specs.FindApplyAnswer.{find_answer}
-use Rattle.elf_model.specs.Fixtures.{zeros, with_bytes, section_header, one_symbol_table}
-use Rattle.elf_model.specs.FixturesHash.{hash_file, hash_with_cycle, with_hash_header, with_symbols_header, with_strings_header}
+use Rattle.elf_model.specs.Fixtures.{zeros, with_bytes, section_header, symbol, one_symbol_table}
+use Rattle.elf_model.specs.FixturesHash.{words, hash_file, hash_with_cycle, with_hash_header, with_symbols_header, with_strings_header}
+use Rattle.elf_model.specs.FixturesTables.{numbers_from}
 use Rattle.elf_model.specs.Hash.{sysv_hash, Refused}
 use Rattle.elf_table_examples.specs.ExamplesHash.{hash_comes_last, FindsSymbol, FindsNothing, RefusesLookup, ComparesNames}
 use Rattle.elf_model.specs.declared.causes.Cause.TheVariants.{BadClass, TooManyHeaders, TableOutside, BadLink, EntrySize, NotStrings, NoHash, HashShape, HashIndex, HashCycle}
@@ -17,6 +18,22 @@ LongerHashes =
     × (sysv_hash (0xff ∷ 0xff ∷ []) ≡ 0x10ef)
     × (sysv_hash (replicate 7 0xff) ≡ 0xff)
     × (sysv_hash (replicate 8 0x80) ≡ 0x08888000)
+
+-- one bucket, whose chain goes from symbol 19 down to symbol 1 and ends; the words stand at 0x1a8, the symbols at 0x204,
+-- the first of which is `a` and all others are `b`
+abbrev pub long_chain : List ℕ
+long_chain =
+    with_bytes 0x100 (little 8 0x1a8 ++ little 8 0x5c) (with_symbols_header 24 (little 8 0x204 ++ little 8 0x1e0))
+    ++ words (1 ∷ 20 ∷ 19 ∷ 0 ∷ numbers_from 0 19)
+    ++ symbol 0 0 0 0 0 ++ symbol 1 0x12 0xfff1 0x10 0 ++ flat_map (λ i. symbol 3 0x12 0xfff1 0x20 0) (numbers_from 0 18)
+
+-- a chain is walked to its end, or for as many names as there are chains
+abbrev pub LongChainsAreWalked : Type 0
+LongChainsAreWalked =
+    FindsSymbol long_chain (codes "a") 2 1 0x21c 19
+    × FindsNothing long_chain (codes "c") 19
+    × RefusesLookup (with_bytes 0x1b8 (little 4 19) long_chain) (codes "c") 0x1b0 HashCycle
+    × ComparesNames (with_bytes 0x1b8 (little 4 19) long_chain) (codes "c") 20
 
 -- four chains and three symbols: a word below the chains alone is no index
 abbrev pub MoreChainsThanSymbols : Type 0

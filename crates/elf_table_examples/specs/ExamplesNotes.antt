@@ -92,10 +92,11 @@ NoteNames =
     × (note_shown 2 (note 1 (codes "abc" ++ 0 ∷ codes "de") []) ≡ Cut (codes "ab"))
     × (note_shown 1 (note 1 [] []) ≡ Whole [])
 
--- a name of no bytes, a name without a NUL, a descriptor of 33 bytes, and padding of any values
+-- a type of four bytes, a name of no bytes, a name without a NUL, a descriptor of 33 bytes, and padding of any values
 abbrev pub NoteShapes : Type 0
 NoteShapes =
-    (walked 4 (note_head 0 4 7 ++ (1 ∷ 2 ∷ 3 ∷ 4 ∷ [])) ≡ uncut (note 7 [] (1 ∷ 2 ∷ 3 ∷ 4 ∷ []) ∷ []))
+    (walked 4 (note_head 0 0 0x01020304) ≡ uncut (note 0x01020304 [] [] ∷ []))
+    × (walked 4 (note_head 0 4 7 ++ (1 ∷ 2 ∷ 3 ∷ 4 ∷ [])) ≡ uncut (note 7 [] (1 ∷ 2 ∷ 3 ∷ 4 ∷ []) ∷ []))
     × (walked 4 (note_head 3 33 7 ++ codes "abc" ++ (5 ∷ []) ++ counting ++ zeros 13 ++ (9 ∷ 9 ∷ 9 ∷ []) ++ zeros 12)
     ≡ uncut (note 7 (codes "abc") (counting ++ zeros 13) ∷ note 0 [] [] ∷ []))
     × (walked 4 (note_head 3 33 7 ++ codes "abc" ++ (5 ∷ []) ++ counting ++ zeros 13)

@@ -1,10 +1,16 @@
 //! More worked lookups, each a theorem about the definitions that the prover computes.
-ghost use Rattle.elf_table_examples.specs.ExamplesLookups.{LongerHashes, MoreChainsThanSymbols, CycleInTheSecondBucket, WordsHaveFourBytes, NoChains, EmptyHashIsChecked, LookupsCheckTheFile, RefusalsCompareNothing, WantedNameIsWritten, OtherHashIsNone, UndefinedIsFound, HashPastTheLastSection, ThreeBuckets, HashInTheLastSection, HashLinkBeforeCounts, HashEntriesAreNotChecked, LinkedSymbolsCount};
+ghost use Rattle.elf_table_examples.specs.ExamplesLookups.{LongerHashes, LongChainsAreWalked, MoreChainsThanSymbols, CycleInTheSecondBucket, WordsHaveFourBytes, NoChains, EmptyHashIsChecked, LookupsCheckTheFile, RefusalsCompareNothing, WantedNameIsWritten, OtherHashIsNone, UndefinedIsFound, HashPastTheLastSection, ThreeBuckets, HashInTheLastSection, HashLinkBeforeCounts, HashEntriesAreNotChecked, LinkedSymbolsCount};
 
 /// The hashes of longer names.
 #[tactic(auto, unfolding(elf_model::proofs::OnLiterals::on_literals, crate::proofs::OnExamples::on_examples))]
 pub fn longer_hashes()
     ensures { LongerHashes }
+{}
+
+/// A chain of nineteen symbols.
+#[tactic(auto, unfolding(elf_model::proofs::OnLiterals::on_literals, crate::proofs::OnExamples::on_examples))]
+pub fn long_chains_are_walked()
+    ensures { LongChainsAreWalked }
 {}
 
 /// A table with more chains than symbols.
