@@ -14,17 +14,16 @@ use Rattle.elf_model.proofs.ApplySteps.{applied-refused, applied-fault, applied-
 use Rattle.elf_model.proofs.ChangeLaws.{changes_inside}
 use Rattle.elf_source.specs.Output.{Written, TakesFront}
 use Rattle.elf_source.specs.Source.{Counting}
-use Rattle.elf_headers.specs.Faults.{HeaderRead}
+use Rattle.elf_headers.specs.Faults.{HeaderRead, ReadSays}
 use Rattle.elf_headers.specs.Load.{Belongs, LoadedAs}
 use Rattle.elf_headers.specs.Store.{Stored}
 use Rattle.elf_headers.specs.declared.fault.Fault.{Fault}
 use Rattle.elf_headers.specs.declared.fault.Fault.TheVariants.{Refused as Refuses, Source as Unread}
-use Rattle.elf_apply.specs.Applied.{HeldIs, Applies, Stands, text_of}
-use Rattle.elf_apply.specs.Costs.{ReadSays}
+use Rattle.elf_apply.specs.Applied.{HeldIs, Applies, StandsFor, text_of}
 use Rattle.elf_apply.specs.Entries.{target_as}
 use Rattle.elf_apply.specs.Passes.{Checks, folded, rising}
 use Rattle.elf_apply.specs.Walk.{changes_all, changes_from, sections_of}
-use Rattle.elf_apply.specs.Windows.{Writes, fault_as}
+use Rattle.elf_apply.specs.Windows.{WritesBytes, fault_as}
 use Rattle.elf_apply.specs.declared.applying.Applied.{Applied}
 use Rattle.elf_apply.specs.declared.entry.Target.{Target as TargetCode}
 use Rattle.elf_apply.specs.declared.fault.ApplyFault.{ApplyFault}
@@ -126,7 +125,7 @@ folded_err step value refusal (Fails other ∷ changes) h = let e : other ≡ re
 -- the changes are those of the definition
 pub changes_same :
     (file : List ℕ) (headers : ℕ) (target : TargetCode) (at : ℕ) → Belongs file target.file.loaded target.file.store.now
-    → length (slice file at target.size) ≡ target.size → Stands file headers target at
+    → length (slice file at target.size) ≡ target.size → StandsFor file headers target at
     → changes_all file target ≡ changes_of (target_of file target.section target.layout.now)
 unfolding changes_of changes_from
 changes_same file headers target at belongs long stands =
@@ -135,7 +134,7 @@ changes_same file headers target at belongs long stands =
     ap (λ n. flat_map (section_changes (target_as file target)) (places_from (section_at file) 0 n)) count
     ∙ ap (λ k. flat_map (section_changes (record { file = file; section = target.section; size = k; layout = target.layout.now })) (places_from (section_at file) 0 (e_shnum file))) same
 
-module _ (file : List ℕ) (headers : ℕ) (target : TargetCode) (at : ℕ) (belongs : Belongs file target.file.loaded target.file.store.now) (long : length (slice file at target.size) ≡ target.size) (stands : Stands file headers target at) (entries : ℕ) where
+module _ (file : List ℕ) (headers : ℕ) (target : TargetCode) (at : ℕ) (belongs : Belongs file target.file.loaded target.file.store.now) (long : length (slice file at target.size) ≡ target.size) (stands : StandsFor file headers target at) (entries : ℕ) where
   abbrev the_answer : Result (List ℕ) Refusal
   the_answer = applied file headers target.section target.layout.now
 
@@ -160,7 +159,7 @@ module _ (file : List ℕ) (headers : ℕ) (target : TargetCode) (at : ℕ) (bel
       let within = changes_inside (target_of file target.section target.layout.now) patches (sym (of_definition patches_of) ∙ h) in
       let P : ℕ → Type 0 = λ n. AllInside n patches in subst P (sym (sym long ∙ ap length stands.bytes)) within
 
-pub writes_failed : (X : Type 0) (a b : Written) (fault : ApplyFault) (text : List ℕ) (entries : ℕ) (answer : Result (List ℕ) Refusal) → answer ≡ Ok text → Writes {X = X} a b (Err fault) text → Applies a b (Err fault) entries answer
+pub writes_failed : (X : Type 0) (a b : Written) (fault : ApplyFault) (text : List ℕ) (entries : ℕ) (answer : Result (List ℕ) Refusal) → answer ≡ Ok text → WritesBytes {X = X} a b (Err fault) text → Applies a b (Err fault) entries answer
 writes_failed X a b (Refused refusal) text entries answer e h = absurd h
 writes_failed X a b (Source fault at) text entries answer e h = let P : Result (List ℕ) Refusal → Type 0 = λ r. TakesFront a b (text_of r) in subst P (sym e) h
 writes_failed X a b (Out fault) text entries answer e h = let P : Result (List ℕ) Refusal → Type 0 = λ r. TakesFront a b (text_of r) in subst P (sym e) h

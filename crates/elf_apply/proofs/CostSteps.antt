@@ -21,12 +21,13 @@ use Rattle.elf_model.proofs.CostLemmas.{sum_over-le}
 use Rattle.elf_model.proofs.Slices.{field-slice}
 use Rattle.elf_record.specs.Ehdr.{IsEhdr}
 use Rattle.elf_record.specs.declared.ehdr.Ehdr.{Ehdr}
-use Rattle.elf_headers.specs.Load.{Belongs, early_of, header_cost, load_cost}
+use Rattle.elf_headers.specs.Load.{Belongs, early_of, file_header_cost, load_cost}
 use Rattle.elf_headers.specs.Store.{row}
-use Rattle.elf_apply.specs.Applied.{Stands, passes_cost}
-use Rattle.elf_apply.specs.Walk.{entries_in, entries_from, sections_of, walk_all, own_cost}
+use Rattle.elf_apply.specs.Applied.{StandsFor, passes_cost}
+use Rattle.elf_apply.specs.Walk.{entry_count_in, entries_from, sections_of, walk_all, beside_entry_cost}
 use Rattle.elf_apply.specs.Windows.{windows}
 use Rattle.elf_apply.specs.declared.entry.Target.{Target}
+use Rattle.elf_headers.proofs.LoadLaws.{early_is}
 
 -- how many entries a section has, by its header at an offset of some bytes
 abbrev entries_at : List ℕ → ℕ → ℕ → ℕ → ℕ → ℕ
@@ -36,8 +37,8 @@ entries_at bytes at section size place =
       | true ↦ elim (first_refusal (table_checks_of bytes at size place 24)) [ Some refusal ↦ 0 | None ↦ entry_count bytes at 24 ]
     ]
 
-in_store : (target : Target) (i place : ℕ) → place ≡ target.file.loaded.header.e_shoff + 64 * i → entries_in target i ≡ entries_at (row target.file.store.now i) 0 target.section target.file.loaded.size place
-unfolding entries_in
+in_store : (target : Target) (i place : ℕ) → place ≡ target.file.loaded.header.e_shoff + 64 * i → entry_count_in target i ≡ entries_at (row target.file.store.now i) 0 target.section target.file.loaded.size place
+unfolding entry_count_in
 in_store target i place here = rw here refl
 
 -- the same by the header's own bytes
@@ -65,7 +66,7 @@ in_file file section at true (Some refusal) a f = rw (a, file_entries_in, entrie
 in_file file section at true None a f = rw (a, file_entries_in, entries_at) (rw (f, file_entries_in, entries_at) (sym (length-places_from _ 0 (entry_count file at 24))))
 
 section_counted : (file : List ℕ) (target : Target) (i : ℕ) → Belongs file target.file.loaded target.file.store.now → i < sections_of target
-    → entries_in target i ≡ length (file_entries_in file target.section (section_at file i))
+    → entry_count_in target i ≡ length (file_entries_in file target.section (section_at file i))
 section_counted file target i belongs below =
     let at : ℕ = section_at file i in
     in_store target i at (ap (λ n. n + 64 * i) (sym belongs.header.e_shoff))
@@ -88,13 +89,13 @@ unfolding entries_from entries_for
 entries_are file target belongs =
     let count : sections_of target ≡ e_shnum file = belongs.count ∙ belongs.header.e_shnum in
     let whole : sections_of target - 0 ≡ e_shnum file = omega (arith, count) in
-    sum_counted (file_entries_in file target.section) (section_at file) (entries_in target) 0 (sections_of target - 0) (λ k a b. section_counted file target k belongs (omega arith))
+    sum_counted (file_entries_in file target.section) (section_at file) (entry_count_in target) 0 (sections_of target - 0) (λ k a b. section_counted file target k belongs (omega arith))
     ∙ ap (λ n. length (flat_map (file_entries_in file target.section) (places_from (section_at file) 0 n))) whole
 
 walk_is : (file : List ℕ) (target : Target) → Belongs file target.file.loaded target.file.store.now → walk_all target ≡ length (entries_for file target.section) * (24 + 24 + layout_names_cost target.layout.now)
 unfolding walk_all
 walk_is file target belongs =
-    ap (λ n. n * (24 + own_cost target)) (entries_are file target belongs) ∙ ap (λ k. length (entries_for file target.section) * k) (omega arith)
+    ap (λ n. n * (24 + beside_entry_cost target)) (entries_are file target belongs) ∙ ap (λ k. length (entries_for file target.section) * k) (omega arith)
 
 -- where the checks before the entries pass, those before the section headers do
 early_none : (file : List ℕ) (headers : ℕ) → first_refusal (load_checks file headers) ≡ None → first_refusal (early_checks file headers) ≡ None
@@ -122,11 +123,6 @@ module _ (file : List ℕ) (headers section : ℕ) (layout : Layout) (passes : �
       by_early (Some refusal) e = let is = cost_with-early file headers section layout passes refusal e in omega (arith, is)
       by_early None e = let is = cost_loaded e in omega (arith, is)
 
--- the checks before the section headers are read, by the decoded header
-early_is : (file : List ℕ) (header : Ehdr) (size slots : ℕ) → IsEhdr file 0 header → size ≡ length file → first_refusal (early_of header size slots) ≡ first_refusal (early_checks file slots)
-early_is file header size slots is same =
-    rw (same, is.e_phnum, is.e_shstrndx, is.e_shnum, is.e_shoff, is.e_shentsize, is.e_phentsize, is.e_phoff) refl
-
 pub load_within : (file : List ℕ) (header : Ehdr) (size slots section : ℕ) (layout : Layout) (passes : ℕ) → IsEhdr file 0 header → size ≡ length file → first_refusal (header_checks file) ≡ None
     → 64 + load_cost header size slots ≤ cost_with file slots section layout passes
 load_within file header size slots section layout passes is same passed = by_cases (first_refusal (early_of header size slots)) refl
@@ -140,7 +136,7 @@ load_within file header size slots section layout passes is same passed = by_cas
 
 -- what a target's passes cost is what the definition has
 pub cost_stands : (file : List ℕ) (headers : ℕ) (target : Target) (at : ℕ) (passes : ℕ) → Belongs file target.file.loaded target.file.store.now → first_refusal (header_checks file ++ early_checks file headers) ≡ None
-    → length (slice file at target.size) ≡ target.size → Stands file headers target at
+    → length (slice file at target.size) ≡ target.size → StandsFor file headers target at
     → cost_with file headers target.section target.layout.now passes ≡ 64 + 64 * e_shnum file + passes_cost target passes
 cost_stands file headers target at passes belongs early long stands =
     let held : length (held_bytes file (section_at file target.section)) ≡ target.size = sym (ap length stands.bytes) ∙ long in
@@ -148,7 +144,7 @@ cost_stands file headers target at passes belongs early long stands =
     let is = cost_with-passed file headers target.section target.layout.now passes early stands.passed in
     omega (arith, held, walk, is)
 
-pub windows_same : (file : List ℕ) (headers : ℕ) (target : Target) (at : ℕ) → length (slice file at target.size) ≡ target.size → Stands file headers target at → window_passes file target.section ≡ 1 + windows target.size
+pub windows_same : (file : List ℕ) (headers : ℕ) (target : Target) (at : ℕ) → length (slice file at target.size) ≡ target.size → StandsFor file headers target at → window_passes file target.section ≡ 1 + windows target.size
 windows_same file headers target at long stands = ap (λ n. 1 + (n + 63) / 64) (sym (ap length stands.bytes) ∙ long)
 
 -- For every source: a section has no more entries than the file's size gives.
@@ -173,12 +169,12 @@ unfolding walk_all entries_from
 walk_below target headers few =
     let n : ℕ = target.file.loaded.size / 24 in
     let each : ℕ = 48 + layout_names_cost target.layout.now in
-    let sum = sum_over-le (entries_in target) n 0 (sections_of target - 0) (λ i.
+    let sum = sum_over-le (entry_count_in target) n 0 (sections_of target - 0) (λ i.
     let is = in_store target i _ refl in
     let most = entries_few (row target.file.store.now i) 0 target.section target.file.loaded.size (target.file.loaded.header.e_shoff + 64 * i) _ _ refl refl in omega (arith, is, most)) in
-    let many : sum_over (entries_in target) 0 (sections_of target - 0) * (24 + own_cost target) ≤ ((sections_of target - 0) * n) * (24 + own_cost target) = mul-le-mul_right (24 + own_cost target) sum in
-    let more : (sections_of target - 0) * n * (24 + own_cost target) ≤ headers * n * (24 + own_cost target) = mul-le-mul_right (24 + own_cost target) (mul-le-mul_right n (omega arith)) in
-    let last : headers * n * (24 + own_cost target) ≡ headers * (n * each) = mul_grouped headers n (24 + own_cost target) ∙ ap (λ k. headers * (n * k)) (omega arith) in
+    let many : sum_over (entry_count_in target) 0 (sections_of target - 0) * (24 + beside_entry_cost target) ≤ ((sections_of target - 0) * n) * (24 + beside_entry_cost target) = mul-le-mul_right (24 + beside_entry_cost target) sum in
+    let more : (sections_of target - 0) * n * (24 + beside_entry_cost target) ≤ headers * n * (24 + beside_entry_cost target) = mul-le-mul_right (24 + beside_entry_cost target) (mul-le-mul_right n (omega arith)) in
+    let last : headers * n * (24 + beside_entry_cost target) ≡ headers * (n * each) = mul_grouped headers n (24 + beside_entry_cost target) ∙ ap (λ k. headers * (n * k)) (omega arith) in
     omega (arith, many, more, last)
   where
     mul_grouped : (a b c : ℕ) → a * b * c ≡ a * (b * c)
@@ -204,17 +200,6 @@ checked_below walk size before after h =
 pub passes_sum : (walk size before middle after : ℕ) → middle ≤ before + walk → after ≤ middle + (windows size * walk + size) → after ≤ before + ((1 + windows size) * walk + size)
 passes_sum walk size before middle after h k =
     let one : (1 + windows size) * walk ≡ walk + windows size * walk = omega arith in omega (arith, one, h, k)
-
-where_most : (condition : Bool) (n : ℕ) → cost_where condition n ≤ n
-where_most true n = omega arith
-where_most false n = omega arith
-
--- the file header is 64 bytes, or not read
-pub header_most : (size : ℕ) → header_cost size ≤ 64
-header_most size = where_most (is_none (first_refusal (length_checks size))) 64
-
-pub load_most : (header : Ehdr) (size slots : ℕ) → load_cost header size slots ≤ 64 * header.e_shnum
-load_most header size slots = where_most (is_none (first_refusal (early_of header size slots))) (64 * header.e_shnum)
 
 -- a bound by the order of the entries
 pub order_within :

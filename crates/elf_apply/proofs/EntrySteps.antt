@@ -18,7 +18,7 @@ use Rattle.elf_table.specs.Tables.{Rows, Strings}
 use Rattle.elf_table.specs.Cursors.{row_at}
 use Rattle.elf_headers.specs.declared.fault.Fault.{Fault}
 use Rattle.elf_headers.specs.declared.fault.Fault.TheVariants.{Refused, Source}
-use Rattle.elf_apply.specs.Costs.{Tells}
+use Rattle.elf_apply.specs.Costs.{ValueOrRefusal}
 use Rattle.elf_apply.specs.Entries.{Changes, Does, term_of, taken_value, taken_place}
 use Rattle.elf_reloc.specs.Types.{terms}
 use Rattle.elf_apply.specs.declared.entry.Placed.{Placed}
@@ -278,7 +278,7 @@ module _ (t : Target) (header rela number : ℕ) (n : number ≡ r_type t.file r
   change_unsupported = refl
 
 -- a fault of S, L or P is the entry's
-pub does_fault : (fault : Fault) (answer : Result ℕ Refusal) (change : Change) → Tells {X = ℕ} (Err fault) answer → ((refusal : Refusal) → answer ≡ Err refusal → change ≡ Fails refusal) → Does (Err fault) change
+pub does_fault : (fault : Fault) (answer : Result ℕ Refusal) (change : Change) → ValueOrRefusal {X = ℕ} (Err fault) answer → ((refusal : Refusal) → answer ≡ Err refusal → change ≡ Fails refusal) → Does (Err fault) change
 does_fault (Refused refusal) answer change h f = f refusal h
 does_fault (Source fault at) answer change h f = tt
 

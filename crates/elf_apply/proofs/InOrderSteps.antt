@@ -14,19 +14,14 @@ use Rattle.elf_source.proofs.PutsLaws.{Takes-nothing, Takes-then, TakesFront-the
 use Rattle.elf_headers.specs.declared.fault.Fault.{Fault}
 use Rattle.elf_headers.specs.declared.fault.Fault.TheVariants.{Refused as Refuses, Source as Unread}
 use Rattle.elf_apply.specs.InOrder.{Holding, Midway, Rises, UnderWay, IsNoRefusal}
-use Rattle.elf_apply.specs.Walk.{Finds, changes_left}
-use Rattle.elf_apply.specs.Windows.{Writes, IsUnread, fault_as}
+use Rattle.elf_apply.specs.Walk.{FindsEntry, changes_left}
+use Rattle.elf_apply.specs.Windows.{WritesBytes, IsUnread, fault_as}
 use Rattle.elf_apply.specs.declared.entry.Target.{Target as TargetCode}
 use Rattle.elf_apply.specs.declared.walk.Entries.{Entries}
 use Rattle.elf_apply.specs.declared.fault.ApplyFault.{ApplyFault}
 use Rattle.elf_apply.specs.declared.fault.ApplyFault.TheVariants.{Refused, Source, Out}
-use Rattle.elf_apply.proofs.WindowSteps.{and_is, slice_in, length_in, window_more, window_stopped, take_more}
-
--- parts of a list
-pub slice_drop : (now : List ℕ) (low n k : ℕ) → k ≤ n → drop k (slice now low n) ≡ slice now (low + k) (n - k)
-slice_drop now low n k few =
-    let whole : n ≡ k + (n - k) = omega arith in
-    ap (λ j. drop k (take j (drop low now))) whole ∙ (drop-take k (n - k) (drop low now) ∙ ap (take (n - k)) (drop-drop k low now))
+use Rattle.elf_apply.proofs.WindowSteps.{and_is, window_more, window_stopped, take_more}
+use Rattle.elf_model.proofs.Slices.{slice-size, slice-slice, slice-rest}
 
 pub slice_split : (now : List ℕ) (low n k m : ℕ) → n ≡ k + m → slice now low n ≡ slice now low k ++ slice now (low + k) m
 slice_split now low n k m e =
@@ -50,7 +45,7 @@ midway_skip base now h after k few low bytes midway =
     record {
       long = midway.long;
       within = omega (arith, end, within);
-      held = bytes ∙ (ap (drop k) midway.held ∙ (slice_drop now h.low (length h.bytes) k few ∙ (ap (λ n. slice now (h.low + k) n) (sym long) ∙ ap (λ i. slice now i (length after.bytes)) (sym low))));
+      held = bytes ∙ (ap (drop k) midway.held ∙ (slice-rest now h.low (length h.bytes) k few ∙ (ap (λ n. slice now (h.low + k) n) (sym long) ∙ ap (λ i. slice now i (length after.bytes)) (sym low))));
       rest = ap (λ i. drop i now) end ∙ (midway.rest ∙ ap (λ i. drop i base) (sym end));
     }
 
@@ -74,7 +69,7 @@ midway_jump base now h after none nothing le within midway =
 
 pub copied : (file : List ℕ) (at size : ℕ) (now : List ℕ) (h : Holding) (m : ℕ) → h.bytes ≡ [] → h.low + m ≤ size → Midway (slice file at size) now h → slice now h.low m ≡ slice file (at + h.low) m
 copied file at size now h m none fits midway =
-    ap (take m) (none_rest (slice file at size) now h none midway) ∙ slice_in file at size h.low m fits
+    ap (take m) (none_rest (slice file at size) now h none midway) ∙ slice-slice file at size h.low m fits
 
 -- more is read
 pub midway_read : (file : List ℕ) (at size : ℕ) (now : List ℕ) (h after : Holding) (m : ℕ) (read : List ℕ) → at + size ≤ length file → h.low + length h.bytes + m ≤ size
@@ -82,10 +77,10 @@ pub midway_read : (file : List ℕ) (at size : ℕ) (now : List ℕ) (h after : 
 midway_read file at size now h after m read long fits low bytes is midway =
     let base : List ℕ = slice file at size in
     let n : ℕ = length h.bytes in
-    let size_long : length base ≡ size = length_in file at size long in
-    let read_long : length read ≡ m = ap length is ∙ length_in file (at + (h.low + n)) m (omega (arith, fits, long)) in
+    let size_long : length base ≡ size = slice-size file at size long in
+    let read_long : length read ≡ m = ap length is ∙ slice-size file (at + (h.low + n)) m (omega (arith, fits, long)) in
     let all_long : length after.bytes ≡ n + m = ap length bytes ∙ (length-append h.bytes read ∙ ap (λ k. n + k) read_long) in
-    let behind : read ≡ slice now (h.low + n) m = is ∙ (sym (slice_in file at size (h.low + n) m fits) ∙ ap (take m) (sym midway.rest)) in
+    let behind : read ≡ slice now (h.low + n) m = is ∙ (sym (slice-slice file at size (h.low + n) m fits) ∙ ap (take m) (sym midway.rest)) in
     let end : h.low + n ≤ after.low + length after.bytes = omega (arith, low, all_long) in
     record {
       long = midway.long;
@@ -155,23 +150,23 @@ module _ (file : List ℕ) (at size : ℕ) (now : List ℕ) (h after : Holding) 
       ∙ (ap (λ l. slice now h.low k ++ l) behind ∙ sym (slice_split now h.low (end - h.low) k (end - low) (omega (arith, there, at_low, more))))
 
 -- what is written is a front, and then more
-pub writes_then : (X : Type 0) (a b c : Written) (result : Result X ApplyFault) (xs ys : List ℕ) → Takes a b xs → Writes b c result ys → Writes a c result (xs ++ ys)
+pub writes_then : (X : Type 0) (a b c : Written) (result : Result X ApplyFault) (xs ys : List ℕ) → Takes a b xs → WritesBytes b c result ys → WritesBytes a c result (xs ++ ys)
 writes_then X a b c (Ok x) xs ys before this = Takes-then xs ys before this
 writes_then X a b c (Err (Refused refusal)) xs ys before this = absurd this
 writes_then X a b c (Err (Source fault at)) xs ys before this = TakesFront-then xs ys before this
 writes_then X a b c (Err (Out fault)) xs ys before this = TakesFront-then xs ys before this
 
-pub writes_as : (X : Type 0) (a b : Written) (result : Result X ApplyFault) (xs ys : List ℕ) → xs ≡ ys → Writes a b result xs → Writes a b result ys
-writes_as X a b result xs ys e h = let P : List ℕ → Type 0 = λ t. Writes a b result t in subst P e h
+pub writes_as : (X : Type 0) (a b : Written) (result : Result X ApplyFault) (xs ys : List ℕ) → xs ≡ ys → WritesBytes a b result xs → WritesBytes a b result ys
+writes_as X a b result xs ys e h = let P : List ℕ → Type 0 = λ t. WritesBytes a b result t in subst P e h
 
 pub front_more : (a b : Written) (text xs ys : List ℕ) → text ≡ xs ++ ys → TakesFront a b xs → TakesFront a b text
 front_more a b text xs ys e h = let P : List ℕ → Type 0 = λ t. TakesFront a b t in subst P (sym e) (TakesFront-more xs ys h)
 
 -- all of it was written, and then a read failed
-pub unread_after : (X : Type 0) (a b : Written) (fault : Fault) (result : Result X ApplyFault) (text : List ℕ) → result ≡ Err (fault_as fault) → IsUnread fault → Takes a b text → Writes a b result text
+pub unread_after : (X : Type 0) (a b : Written) (fault : Fault) (result : Result X ApplyFault) (text : List ℕ) → result ≡ Err (fault_as fault) → IsUnread fault → Takes a b text → WritesBytes a b result text
 unread_after X a b (Refuses refusal) result text is un h = absurd un
 unread_after X a b (Unread fault at) result text is un h =
-    let P : Result X ApplyFault → Type 0 = λ r. Writes a b r text in
+    let P : Result X ApplyFault → Type 0 = λ r. WritesBytes a b r text in
     subst P (sym is) (record { front = text; rest = []; split = sym (append-nil text); takes = h })
 
 pub unread_kept : (fault : Fault) (other : ApplyFault) → other ≡ fault_as fault → IsUnread fault → IsNoRefusal other
@@ -251,7 +246,7 @@ module _ (base text : List ℕ) (h : Holding) (left : List Change) (a b : Writte
           takes = subst Q (sym (take_put known.now patch patch.at inside (omega arith)) ∙ ap (λ k. take k (put patch known.now)) (sym low)) all;
         }
 
-    pub underway_stopped : (X : Type 0) (c : Written) (fault : ApplyFault) → Writes {X = X} b c (Err fault) (slice known.now h.low (patch.at - h.low)) → Writes {X = X} a c (Err fault) text
+    pub underway_stopped : (X : Type 0) (c : Written) (fault : ApplyFault) → WritesBytes {X = X} b c (Err fault) (slice known.now h.low (patch.at - h.low)) → WritesBytes {X = X} a c (Err fault) text
     underway_stopped X c fault this =
         let from : h.low ≤ patch.at = underway_first in
         let step : patch.at ≡ h.low + (patch.at - h.low) = omega arith in
@@ -270,20 +265,20 @@ module _ (base text : List ℕ) (h : Holding) (left : List Change) (a b : Writte
       let same : known.patches ≡ [] = cc in
       sym (ap (λ ps. patched ps known.now) same) ∙ known.ends
 
-  pub underway_end : (X : Type 0) (size : ℕ) (c : Written) (result : Result X ApplyFault) → left ≡ [] → length base ≡ size → h.low ≤ size → Writes b c result (slice known.now h.low (size - h.low)) → Writes a c result text
+  pub underway_end : (X : Type 0) (size : ℕ) (c : Written) (result : Result X ApplyFault) → left ≡ [] → length base ≡ size → h.low ≤ size → WritesBytes b c result (slice known.now h.low (size - h.low)) → WritesBytes a c result text
   underway_end X size c result e sized le this =
       let step : size ≡ h.low + (size - h.low) = omega arith in
       let long : length known.now ≡ size = known.midway.long ∙ sized in
       writes_as X a c result _ _ (sym (take_more known.now h.low (size - h.low)) ∙ (ap (λ k. take k known.now) (sym step) ∙ (take_all size known.now (omega (arith, long)) ∙ now_is e)))
       (writes_then X a b c result (take h.low known.now) (slice known.now h.low (size - h.low)) known.takes this)
 
-  pub underway_failed : (X : Type 0) (fault : Fault) (result : Result X ApplyFault) (rest : (refusal : Refusal) → fault ≡ Refuses refusal → (more : List Change) × (left ≡ Fails refusal ∷ more)) → result ≡ Err (fault_as fault) → Writes a b result text
+  pub underway_failed : (X : Type 0) (fault : Fault) (result : Result X ApplyFault) (rest : (refusal : Refusal) → fault ≡ Refuses refusal → (more : List Change) × (left ≡ Fails refusal ∷ more)) → result ≡ Err (fault_as fault) → WritesBytes a b result text
   unfolding patches_of
   underway_failed X (Refuses refusal) result rest is =
       let found = rest refusal refl in
       let wrong : Err refusal ≡ Ok known.patches = sym (ap patches_of found.1) ∙ known.are in
       absurd (cc)
-  underway_failed X (Unread fault at) result rest is = let P : Result X ApplyFault → Type 0 = λ r. Writes a b r text in subst P (sym is) underway_front
+  underway_failed X (Unread fault at) result rest is = let P : Result X ApplyFault → Type 0 = λ r. WritesBytes a b r text in subst P (sym is) underway_front
 
 -- the begin
 pub underway_start : (base : List ℕ) (h : Holding) (left : List Change) (patches : List Patch) (a : Written) → h.low ≡ 0 → h.bytes ≡ [] → patches_of left ≡ Ok patches → AllInside (length base) patches → Rises 0 patches
@@ -304,6 +299,6 @@ underway_start base h left patches a low none are inside rises =
     }
 
 -- a fault of the walk, by the change that it stands for
-pub finds_refusal : (file : List ℕ) (target : TargetCode) (old new : Entries) (fault : Fault) → Finds file target old new (Err fault) → (refusal : Refusal) → fault ≡ Refuses refusal → (more : List Change) × (changes_left file target old ≡ Fails refusal ∷ more)
+pub finds_refusal : (file : List ℕ) (target : TargetCode) (old new : Entries) (fault : Fault) → FindsEntry file target old new (Err fault) → (refusal : Refusal) → fault ≡ Refuses refusal → (more : List Change) × (changes_left file target old ≡ Fails refusal ∷ more)
 finds_refusal file target old new (Refuses other) finds refusal e = let same : other ≡ refusal = cc in (finds.0, finds.1 ∙ ap (λ r. Fails r ∷ finds.0) same)
 finds_refusal file target old new (Unread fault at) finds refusal e = cc

@@ -9,7 +9,7 @@ use Rattle.elf_model.specs.Names.{same, pad64}
 use Rattle.elf_model.specs.ApplyCost.{layout_names_cost}
 use Rattle.elf_model.specs.Placing.{Layout, address_in, address_named}
 use Rattle.elf_model.specs.declared.causes.Cause.{Cause}
-use Rattle.elf_apply.specs.Costs.{Answers, items_cost}
+use Rattle.elf_apply.specs.Costs.{ValueOrCause, items_cost}
 use Rattle.elf_apply.specs.Layouts.{HasKey, LacksKey}
 use Rattle.elf_table.specs.NamesRead.{Compared}
 use Rattle.elf_headers.specs.declared.fault.Fault.{Fault}
@@ -29,7 +29,7 @@ pub address_in-miss : (items : List (ℕ × ℕ)) (item : ℕ × ℕ) (section :
 unfolding address_in
 address_in-miss items item section e = rw (e, address_in) refl
 
-pub named_fault : (table : List ℕ) (index at : ℕ) (items : List (List ℕ × ℕ)) (item : List ℕ × ℕ) (fault : Fault) → Answers {X = Bool} at (Err fault) (same table index item.0) → Answers {X = Option ℕ} at (Err fault) (address_named table index (item ∷ items))
+pub named_fault : (table : List ℕ) (index at : ℕ) (items : List (List ℕ × ℕ)) (item : List ℕ × ℕ) (fault : Fault) → ValueOrCause {X = Bool} at (Err fault) (same table index item.0) → ValueOrCause {X = Option ℕ} at (Err fault) (address_named table index (item ∷ items))
 unfolding address_named
 named_fault table index at items item (Refused refusal) h = (h.0, rw (h.1, address_named) refl)
 named_fault table index at items item (Source fault offset) h = tt
@@ -85,10 +85,10 @@ step_miss table index at i items item name equal below is named true_is h =
     ap (address_named table index) (drop-at items i item item below is) ∙ named_miss table index (drop (i + 1) items) item (ap (same table index) (sym named) ∙ (h ∙ ap Ok true_is))
 
 pub step_fault : (table : List ℕ) (index at i : ℕ) (items : List (List ℕ × ℕ)) (item : List ℕ × ℕ) (name : List ℕ) (fault : Fault) (answer : Result (Option ℕ) Cause) → i < length items → item ≡ get_or items i item → name ≡ item.0
-    → address_named table index (drop i items) ≡ answer → Answers {X = Bool} at (Err fault) (same table index name) → Answers {X = Option ℕ} at (Err fault) answer
+    → address_named table index (drop i items) ≡ answer → ValueOrCause {X = Bool} at (Err fault) (same table index name) → ValueOrCause {X = Option ℕ} at (Err fault) answer
 step_fault table index at i items item name fault answer below is named left h =
-    let P : List ℕ → Type 0 = λ n. Answers {X = Bool} at (Err fault) (same table index n) in
-    let Q : Result (Option ℕ) Cause → Type 0 = λ a. Answers {X = Option ℕ} at (Err fault) a in
+    let P : List ℕ → Type 0 = λ n. ValueOrCause {X = Bool} at (Err fault) (same table index n) in
+    let Q : Result (Option ℕ) Cause → Type 0 = λ a. ValueOrCause {X = Option ℕ} at (Err fault) a in
     subst Q (sym (ap (address_named table index) (drop-at items i item item below is)) ∙ left) (named_fault table index at (drop (i + 1) items) item fault (subst P named h))
 
 pub step_none : (table : List ℕ) (index i : ℕ) (items : List (List ℕ × ℕ)) → length items ≤ i → address_named table index (drop i items) ≡ Ok None

@@ -10,9 +10,9 @@ use Rattle.elf_model.specs.ApplyLaws.{clipped}
 use Rattle.elf_model.specs.declared.causes.Refusal.{Refusal}
 use Rattle.elf_headers.specs.declared.fault.Fault.{Fault}
 use Rattle.elf_headers.specs.declared.fault.Fault.TheVariants.{Refused, Source}
-use Rattle.elf_apply.specs.Costs.{Tells}
+use Rattle.elf_apply.specs.Costs.{ValueOrRefusal}
 use Rattle.elf_apply.specs.Passes.{folded, Folds, Checks}
-use Rattle.elf_apply.specs.Walk.{changes_left, Finds}
+use Rattle.elf_apply.specs.Walk.{changes_left, FindsEntry}
 use Rattle.elf_apply.specs.declared.entry.Target.{Target as TargetCode}
 use Rattle.elf_apply.specs.declared.walk.Entries.{Entries}
 
@@ -29,17 +29,17 @@ module _ {A : Type 0} (step : A → Patch → A) (value : A) where
   unfolding folded
   folded-fails changes rest refusal answer e h = sym h ∙ ap (folded step value) e
 
-  pub folded-fault : (file : List ℕ) (target : TargetCode) (old new : Entries) (fault : Fault) (answer : Result A Refusal) → Finds file target old new (Err fault) → folded step value (changes_left file target old) ≡ answer → Tells (Err fault) answer
+  pub folded-fault : (file : List ℕ) (target : TargetCode) (old new : Entries) (fault : Fault) (answer : Result A Refusal) → FindsEntry file target old new (Err fault) → folded step value (changes_left file target old) ≡ answer → ValueOrRefusal (Err fault) answer
   folded-fault file target old new (Refused refusal) answer finds h = folded-fails (changes_left file target old) finds.0 refusal answer finds.1 h
   folded-fault file target old new (Source fault at) answer finds h = tt
 
 -- the same fault of a check
-pub checks_fault : (fault : Fault) (answer : Result (Bool × ℕ) Refusal) → Tells {X = Bool × ℕ} (Err fault) answer → Checks (Err fault) answer
+pub checks_fault : (fault : Fault) (answer : Result (Bool × ℕ) Refusal) → ValueOrRefusal {X = Bool × ℕ} (Err fault) answer → Checks (Err fault) answer
 checks_fault (Refused refusal) answer h = h
 checks_fault (Source fault at) answer h = h
 
 -- the same fault, where the answer is another value
-pub folds-fault : (X : Type 0) {A : Type 0} (fault : Fault) (value : A) (answer : Result A Refusal) → Tells {X = A} (Err fault) answer → Folds {X = X} (Err fault) value answer
+pub folds-fault : (X : Type 0) {A : Type 0} (fault : Fault) (value : A) (answer : Result A Refusal) → ValueOrRefusal {X = A} (Err fault) answer → Folds {X = X} (Err fault) value answer
 folds-fault X (Refused refusal) value answer h = h
 folds-fault X (Source fault at) value answer h = tt
 

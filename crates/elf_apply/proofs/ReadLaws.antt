@@ -3,20 +3,15 @@ use Rattle.std.proofs.Common.{◌≡◌, ℕ, None, Result, Err, ap}
 use Rattle.elf_model.specs.declared.causes.Cause.{Cause}
 use Rattle.elf_source.specs.Source.{Counting, OverLimit, Reads}
 use Rattle.elf_source.proofs.ReadsLaws.{Faults-then}
-use Rattle.elf_headers.specs.Faults.{Says, IsAt, IsOfCheck}
+use Rattle.elf_headers.specs.Faults.{Says, IsAt, IsOfCheck, ReadSays}
 use Rattle.elf_table.specs.NamesRead.{Refuses}
 use Rattle.elf_headers.specs.declared.fault.Fault.{Fault}
 use Rattle.elf_headers.specs.declared.fault.Fault.TheVariants.{Refused, Source}
 use Rattle.elf_apply.specs.Windows.{IsUnread}
-use Rattle.elf_apply.specs.Costs.{ReadSays, Answers}
+use Rattle.elf_apply.specs.Costs.{ValueOrCause}
 
 no_limit : (a b : Counting) (n : ℕ) → a.most ≡ None → OverLimit a b n → ⊥
 no_limit a b n none over = let p = over.is_set in cc
-
--- without a limit nothing is refused for want of budget
-pub unlimited : (a b : Counting) (n : ℕ) (fault : Fault) → a.most ≡ None → Says a b n fault → ReadSays a b fault
-unlimited a b n (Refused refusal) none says = λ budget. let over = says budget in no_limit a b n none over.1
-unlimited a b n (Source fault at) none says = says
 
 -- a fault after other reads
 pub ReadSays-then : (a b c : Counting) (n : ℕ) (fault : Fault) → Reads a b n → ReadSays b c fault → ReadSays a c fault
@@ -29,7 +24,7 @@ checked_says a b (Refused refusal) check = check
 checked_says a b (Source fault at) check = absurd check
 
 -- a refusal that is not for want of budget has the cause of the refused answer
-pub refuses_answers : {X : Type 0} (a b : Counting) (at : ℕ) (fault : Fault) (answer : Result X Cause) → ReadSays a b fault → Refuses at fault answer → Answers at (Err fault) answer
+pub refuses_answers : {X : Type 0} (a b : Counting) (at : ℕ) (fault : Fault) (answer : Result X Cause) → ReadSays a b fault → Refuses at fault answer → ValueOrCause at (Err fault) answer
 refuses_answers a b at (Refused refusal) answer says refuses = refuses says
 refuses_answers a b at (Source fault offset) answer says refuses = tt
 

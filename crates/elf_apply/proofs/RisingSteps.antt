@@ -13,7 +13,7 @@ use Rattle.elf_model.proofs.ApplySteps.{offsets_at-append}
 use Rattle.elf_model.proofs.CheckSteps.{first_refusal-some}
 use Rattle.elf_apply.specs.InOrder.{Rises}
 use Rattle.elf_apply.specs.Passes.{folded, rising}
-use Rattle.elf_apply.specs.Applied.{Stands}
+use Rattle.elf_apply.specs.Applied.{StandsFor}
 use Rattle.elf_apply.specs.Walk.{changes_all}
 use Rattle.elf_apply.specs.declared.entry.Target.{Target as TargetCode}
 use Rattle.elf_headers.specs.Load.{Belongs}
@@ -227,7 +227,7 @@ module _ (target : Target) (last : Bool × ℕ) (patches : List Patch) (are : pa
   patches_rise rises = never_rises 0 patches (sym told_by ∙ rises)
 
 -- the same of a target of the code
-module _ (file : List ℕ) (headers : ℕ) (target : TargetCode) (at : ℕ) (belongs : Belongs file target.file.loaded target.file.store.now) (long : length (slice file at target.size) ≡ target.size) (stands : Stands file headers target at)
+module _ (file : List ℕ) (headers : ℕ) (target : TargetCode) (at : ℕ) (belongs : Belongs file target.file.loaded target.file.store.now) (long : length (slice file at target.size) ≡ target.size) (stands : StandsFor file headers target at)
     (last : Bool × ℕ) (patches : List Patch) (are : patches_of (changes_all file target) ≡ Ok patches) (h : folded rising (true, 0) (changes_all file target) ≡ Ok last) where
   abbrev the_same : changes_all file target ≡ changes_of (target_of file target.section target.layout.now)
   the_same = changes_same file headers target at belongs long stands

@@ -7,20 +7,20 @@ use Rattle.elf_model.specs.Placing.{Layout, address_in, address_named, symbol_va
 use Rattle.elf_model.specs.declared.causes.Cause.{Cause}
 use Rattle.elf_model.specs.declared.causes.Refusal.{Refusal}
 use Rattle.elf_source.specs.Source.{Counting}
-use Rattle.elf_headers.specs.Faults.{IsOfCheck}
+use Rattle.elf_headers.specs.Faults.{IsOfCheck, ReadSays}
 use Rattle.elf_headers.specs.declared.fault.Fault.{Fault}
 use Rattle.elf_headers.specs.declared.fault.Fault.TheVariants.{Refused, Source}
 use Rattle.std.specs.Prelude.{IfErr}
-use Rattle.elf_apply.specs.Costs.{Answers, Tells, ReadSays}
+use Rattle.elf_apply.specs.Costs.{ValueOrCause, ValueOrRefusal}
 use Rattle.elf_apply.proofs.ReadLaws.{checked_says}
 
-pub tells_as : {X : Type 0} (result : Result X Fault) (a b : Result X Refusal) → a ≡ b → Tells result b → Tells result a
-tells_as {X = X} result a b e h = let P : Result X Refusal → Type 0 = λ r. Tells result r in subst P (sym e) h
+pub tells_as : {X : Type 0} (result : Result X Fault) (a b : Result X Refusal) → a ≡ b → ValueOrRefusal result b → ValueOrRefusal result a
+tells_as {X = X} result a b e h = let P : Result X Refusal → Type 0 = λ r. ValueOrRefusal result r in subst P (sym e) h
 
 pub tells_refused :
     {X : Type 0} (result : Result X Fault) (answer : Result X Refusal) (at : ℕ) (cause : Cause)
-    → result ≡ Err (Refused (record { at = at; cause = cause })) → answer ≡ Err (record { at = at; cause = cause }) → Tells result answer
-tells_refused {X = X} result answer at cause e h = let P : Result X Fault → Type 0 = λ r. Tells r answer in subst P (sym e) h
+    → result ≡ Err (Refused (record { at = at; cause = cause })) → answer ≡ Err (record { at = at; cause = cause }) → ValueOrRefusal result answer
+tells_refused {X = X} result answer at cause e h = let P : Result X Fault → Type 0 = λ r. ValueOrRefusal r answer in subst P (sym e) h
 
 -- a check's refusal is no fault of a read
 pub check_says : {X : Type 0} (a b : Counting) (result : Result X Fault) → IfErr result IsOfCheck → IfErr result (ReadSays a b)
@@ -28,7 +28,7 @@ check_says a b (Ok x) check = tt
 check_says a b (Err fault) check = checked_says a b fault check
 
 -- a fault of a comparison, in the place of a value
-pub named_fault_or : (fault : Fault) (at : ℕ) (answer : Result (Option ℕ) Cause) (other : Result ℕ Refusal) → Answers {X = Option ℕ} at (Err fault) answer → Tells {X = ℕ} (Err fault) (named_or at answer other)
+pub named_fault_or : (fault : Fault) (at : ℕ) (answer : Result (Option ℕ) Cause) (other : Result ℕ Refusal) → ValueOrCause {X = Option ℕ} at (Err fault) answer → ValueOrRefusal {X = ℕ} (Err fault) (named_or at answer other)
 named_fault_or (Refused refusal) at answer other h =
     ap (λ a. named_or at a other) h.1 ∙ ap (λ k. refusal_at {A = ℕ} k refusal.cause) (sym h.0)
 named_fault_or (Source fault offset) at answer other h = tt
@@ -115,5 +115,5 @@ module _ (file strings : List ℕ) (layout : Layout) (rela at name : ℕ) (named
   pub linkage_none : address_named strings name layout.linkage ≡ Ok None → linkage_value file strings layout rela at ≡ symbol_value file strings layout rela at
   linkage_none h = linkage_by _ h
 
-  pub linkage_fault : (fault : Fault) → Answers {X = Option ℕ} at (Err fault) (address_named strings name layout.linkage) → Tells {X = ℕ} (Err fault) (linkage_value file strings layout rela at)
+  pub linkage_fault : (fault : Fault) → ValueOrCause {X = Option ℕ} at (Err fault) (address_named strings name layout.linkage) → ValueOrRefusal {X = ℕ} (Err fault) (linkage_value file strings layout rela at)
   linkage_fault fault h = tells_as (Err fault) _ _ (linkage_by _ refl) (named_fault_or fault at (address_named strings name layout.linkage) (symbol_value file strings layout rela at) h)

@@ -12,13 +12,13 @@ use Rattle.elf_table.specs.Relocations.{RefersTo, Relocates}
 use Rattle.elf_table.specs.Sections.{table_of}
 use Rattle.elf_table.specs.Tables.{Rows, RowsWithin}
 use Rattle.elf_apply.proofs.Opened.{entries_counted}
-use Rattle.elf_source.specs.Source.{Counting, Reads as ReadsMost}
+use Rattle.elf_source.specs.Source.{Counting, Reads}
 use Rattle.elf_source.proofs.ReadsLaws.{Reads-to}
 use Rattle.elf_headers.specs.Load.{section_place}
 use Rattle.elf_headers.specs.declared.fault.Fault.{Fault}
 use Rattle.elf_headers.specs.declared.fault.Fault.TheVariants.{Refused, Source}
 use Rattle.elf_apply.specs.Entries.{target_as, patch_as, Changes}
-use Rattle.elf_apply.specs.Walk.{changes_from, rows_changes, changes_left, changes_all, own_cost, entries_in, entries_from, sections_of, walk_left, walk_all, steps_left, Walked, Reads, AsksOf}
+use Rattle.elf_apply.specs.Walk.{changes_from, rows_changes, changes_left, changes_all, beside_entry_cost, entry_count_in, entries_from, sections_of, walk_left, walk_all, steps_left, Walked, ReadsEntries, AsksOf}
 use Rattle.elf_apply.specs.declared.entry.Placed.{Placed}
 use Rattle.elf_apply.specs.declared.entry.Target.{Target as TargetCode}
 use Rattle.elf_apply.specs.declared.walk.Entries.{Entries}
@@ -123,25 +123,25 @@ left-row file target old new at next here index less place =
     ∙ (append_assoc (entry_changes (target_as file target) header at) (rows_changes file target header new.cursor.index new.cursor.left) rest ∙ rw (next, here) refl))
 
 -- the entries of the sections that are left
-pub entries-next : (target : TargetCode) (i : ℕ) → i < sections_of target → entries_from target i ≡ entries_in target i + entries_from target (i + 1)
+pub entries-next : (target : TargetCode) (i : ℕ) → i < sections_of target → entries_from target i ≡ entry_count_in target i + entries_from target (i + 1)
 unfolding entries_from
-entries-next target i below = sum-next (entries_in target) i (sections_of target) below
+entries-next target i below = sum-next (entry_count_in target) i (sections_of target) below
 
 pub entries-end : (target : TargetCode) (i : ℕ) → sections_of target ≤ i → entries_from target i ≡ 0
 unfolding entries_from sum_over
 entries-end target i past = let zero : sections_of target - i ≡ 0 = omega arith in rw (zero, entries_from) refl
 
-pub entries-other : (target : TargetCode) (i : ℕ) → applies_to (row target.file.store.now i) target.section 0 ≡ false → entries_in target i ≡ 0
-unfolding entries_in
-entries-other target i h = rw (h, entries_in) refl
+pub entries-other : (target : TargetCode) (i : ℕ) → applies_to (row target.file.store.now i) target.section 0 ≡ false → entry_count_in target i ≡ 0
+unfolding entry_count_in
+entries-other target i h = rw (h, entry_count_in) refl
 
 pub entries-table :
     (target : TargetCode) (i : ℕ) (table : Rows) → applies_to (row target.file.store.now i) target.section 0 ≡ true
     → Ok table ≡ table_of (row target.file.store.now i) 0 target.file.loaded.size (section_place target.file.loaded.header i) 24
-    → table.count ≡ entries_in target i
-unfolding entries_in
+    → table.count ≡ entry_count_in target i
+unfolding entry_count_in
 entries-table target i table h found =
-    rw (h, entries_in) (entries_counted (row target.file.store.now i) 0 target.file.loaded.size (section_place target.file.loaded.header i) table found)
+    rw (h, entry_count_in) (entries_counted (row target.file.store.now i) 0 target.file.loaded.size (section_place target.file.loaded.header i) table found)
 
 -- the cost of what is left
 no-cost-left : (c : Reading) (own : ℕ) → c.failed ≡ None → c.unread ≡ 0 → c.left ≡ 0 → unread_bytes c + unless_failed c.failed (c.left * own) ≡ 0
@@ -150,8 +150,8 @@ no-cost-left c own f u l = rw (f, u, l) (omega arith)
 pub cost-begins : (target : TargetCode) (e : Entries) → e.cursor.failed ≡ None → e.cursor.unread ≡ 0 → e.cursor.left ≡ 0 → e.next ≡ 0 → walk_left target e ≡ walk_all target
 unfolding walk_left walk_all
 cost-begins target e f u l n =
-    let none = no-cost-left e.cursor (own_cost target) f u l in
-    let rest : entries_from target e.next * (24 + own_cost target) ≡ entries_from target 0 * (24 + own_cost target) = ap (λ i. entries_from target i * (24 + own_cost target)) n in
+    let none = no-cost-left e.cursor (beside_entry_cost target) f u l in
+    let rest : entries_from target e.next * (24 + beside_entry_cost target) ≡ entries_from target 0 * (24 + beside_entry_cost target) = ap (λ i. entries_from target i * (24 + beside_entry_cost target)) n in
     omega (arith, rest, none)
 
 pub left-begins : (file : List ℕ) (target : TargetCode) (e : Entries) → e.cursor.left ≡ 0 → e.next ≡ 0 → changes_left file target e ≡ changes_all file target
@@ -165,9 +165,9 @@ times-fewer a b c n h = rw h (omega arith)
 pub cost-passed : (target : TargetCode) (old new : Entries) → old.cursor ≡ new.cursor → new.next ≡ old.next + 1 → old.next < sections_of target → walk_left target new ≤ walk_left target old
 unfolding walk_left
 cost-passed target old new same step below =
-    let own : ℕ = own_cost target in
+    let own : ℕ = beside_entry_cost target in
     let e = entries-next target old.next below in
-    let product = times-fewer (entries_from target old.next) (entries_in target old.next) (entries_from target (old.next + 1)) (24 + own) e in
+    let product = times-fewer (entries_from target old.next) (entry_count_in target old.next) (entries_from target (old.next + 1)) (24 + own) e in
     rw (sym same, step) (omega (arith, product))
 
 new-cost : (c : Reading) (own : ℕ) → c.failed ≡ None → c.unread ≡ c.left * 24 → unread_bytes c + unless_failed c.failed (c.left * own) ≡ c.left * (24 + own)
@@ -175,14 +175,14 @@ new-cost c own f u = rw (f, u) (omega arith)
 
 pub cost-opened :
     (target : TargetCode) (old new : Entries) → new.cursor.failed ≡ None → new.cursor.unread ≡ new.cursor.left * 24 → new.next ≡ old.next + 1 → old.next < sections_of target
-    → new.cursor.left ≡ entries_in target old.next → walk_left target new ≤ walk_left target old
+    → new.cursor.left ≡ entry_count_in target old.next → walk_left target new ≤ walk_left target old
 unfolding walk_left
 cost-opened target old new f u step below counted =
-    let own : ℕ = own_cost target in
+    let own : ℕ = beside_entry_cost target in
     let e = entries-next target old.next below in
-    let product = times-fewer (entries_from target old.next) (entries_in target old.next) (entries_from target (old.next + 1)) (24 + own) e in
+    let product = times-fewer (entries_from target old.next) (entry_count_in target old.next) (entries_from target (old.next + 1)) (24 + own) e in
     let begins = new-cost new.cursor own f u in
-    let many : new.cursor.left * (24 + own) ≡ entries_in target old.next * (24 + own) = ap (λ n. n * (24 + own)) counted in
+    let many : new.cursor.left * (24 + own) ≡ entry_count_in target old.next * (24 + own) = ap (λ n. n * (24 + own)) counted in
     let rest : entries_from target new.next * (24 + own) ≡ entries_from target (old.next + 1) * (24 + own) = ap (λ i. entries_from target i * (24 + own)) step in
     omega (arith, product, begins, many, rest)
 
@@ -232,7 +232,7 @@ opened-fault file target old new (Source fault at) none below applies h = absurd
 
 pub opened-rows : (file : List ℕ) (target : TargetCode) (old new : Entries) (table : Rows) → new.cursor.table ≡ table → new.cursor.index ≡ 0 → new.cursor.left ≡ table.count → new.cursor.held ≡ [] → new.next ≡ old.next + 1 → new.current ≡ old.next
     → old.cursor.left ≡ 0 → old.next < sections_of target → applies_to file target.section (section_at file old.next) ≡ true
-    → Relocates file (section_at file old.next) (Ok (table, new.linked)) → (changes_left file target old ≡ changes_left file target new) × Reads file new
+    → Relocates file (section_at file old.next) (Ok (table, new.linked)) → (changes_left file target old ≡ changes_left file target new) × ReadsEntries file new
 opened-rows file target old new table same first counted held step here none below applies h = (
   left-opened file target old new none step here first (counted ∙ h.counted) below (section_rows file target (section_at file old.next) applies h.pass),
   record {
@@ -244,13 +244,13 @@ opened-rows file target old new table same first counted held step here none bel
 
 -- a row was read, and then its symbol and names
 pub cost-row : (target : TargetCode) (old new : Entries) (before middle after : ℕ) → new.next ≡ old.next → old.cursor.failed ≡ None → new.cursor.failed ≡ None → new.cursor.left + 1 ≡ old.cursor.left
-    → middle + unread_bytes new.cursor ≤ before + unread_bytes old.cursor → after ≤ middle + own_cost target → after + walk_left target new ≤ before + walk_left target old
+    → middle + unread_bytes new.cursor ≤ before + unread_bytes old.cursor → after ≤ middle + beside_entry_cost target → after + walk_left target new ≤ before + walk_left target old
 unfolding walk_left
 cost-row target old new before middle after same f f' less account own =
-    let rest : entries_from target new.next * (24 + own_cost target) ≡ entries_from target old.next * (24 + own_cost target) = ap (λ i. entries_from target i * (24 + own_cost target)) same in
-    let was : unless_failed old.cursor.failed (old.cursor.left * own_cost target) ≡ old.cursor.left * own_cost target = rw f refl in
-    let is : unless_failed new.cursor.failed (new.cursor.left * own_cost target) ≡ new.cursor.left * own_cost target = rw f' refl in
-    let product : old.cursor.left * own_cost target ≡ new.cursor.left * own_cost target + own_cost target = one-less (old.cursor.left) (new.cursor.left) (own_cost target) (omega arith) in
+    let rest : entries_from target new.next * (24 + beside_entry_cost target) ≡ entries_from target old.next * (24 + beside_entry_cost target) = ap (λ i. entries_from target i * (24 + beside_entry_cost target)) same in
+    let was : unless_failed old.cursor.failed (old.cursor.left * beside_entry_cost target) ≡ old.cursor.left * beside_entry_cost target = rw f refl in
+    let is : unless_failed new.cursor.failed (new.cursor.left * beside_entry_cost target) ≡ new.cursor.left * beside_entry_cost target = rw f' refl in
+    let product : old.cursor.left * beside_entry_cost target ≡ new.cursor.left * beside_entry_cost target + beside_entry_cost target = one-less (old.cursor.left) (new.cursor.left) (beside_entry_cost target) (omega arith) in
     omega (arith, rest, was, is, product, account, own)
   where
     one-less : (a b n : ℕ) → a ≡ b + 1 → a * n ≡ b * n + n
@@ -261,15 +261,15 @@ pub cost-failed : (target : TargetCode) (old new : Entries) (before after : ℕ)
     → after + walk_left target new ≤ before + walk_left target old
 unfolding walk_left
 cost-failed target old new before after fault same f account =
-    let rest : entries_from target new.next * (24 + own_cost target) ≡ entries_from target old.next * (24 + own_cost target) = ap (λ i. entries_from target i * (24 + own_cost target)) same in
-    let is : unless_failed new.cursor.failed (new.cursor.left * own_cost target) ≡ 0 = rw f refl in
+    let rest : entries_from target new.next * (24 + beside_entry_cost target) ≡ entries_from target old.next * (24 + beside_entry_cost target) = ap (λ i. entries_from target i * (24 + beside_entry_cost target)) same in
+    let is : unless_failed new.cursor.failed (new.cursor.left * beside_entry_cost target) ≡ 0 = rw f refl in
     omega (arith, rest, is, account)
 
 -- reads by what was left to ask for
-pub reads-left : {a b : Counting} {n : ℕ} (left left' : ℕ) → ReadsMost a b n → b.asked + left' ≤ a.asked + left → ReadsMost a b left
+pub reads-left : {a b : Counting} {n : ℕ} (left left' : ℕ) → Reads a b n → b.asked + left' ≤ a.asked + left → Reads a b left
 reads-left left left' reads account = Reads-to reads (omega (arith, account))
 
-pub asks-of : {a b : Counting} {n : ℕ} (target : TargetCode) (old new : Entries) → ReadsMost a b n → b.asked + walk_left target new ≤ a.asked + walk_left target old → AsksOf a b target old new
+pub asks-of : {a b : Counting} {n : ℕ} (target : TargetCode) (old new : Entries) → Reads a b n → b.asked + walk_left target new ≤ a.asked + walk_left target old → AsksOf a b target old new
 asks-of target old new reads account = record { reads = reads-left (walk_left target old) (walk_left target new) reads account; account = account }
 
 -- what a row gives is the first of what is left
@@ -285,7 +285,7 @@ module _ (file : List ℕ) (target : TargetCode) (old new : Entries) (at : ℕ) 
   row-fails (Refused refusal) after h = (changes_left file target new, left-row file target old new at next here index less place ∙ ap (λ l. l ++ changes_left file target new) h)
   row-fails (Source fault offset) after h = tt
 
-pub reads-row : (file : List ℕ) (holds : Option (List ℕ)) (old new : Entries) → GivesRow holds old.cursor new.cursor → holds ≡ Some file → new.linked ≡ old.linked → new.current ≡ old.current → Reads file old → Reads file new
+pub reads-row : (file : List ℕ) (holds : Option (List ℕ)) (old new : Entries) → GivesRow holds old.cursor new.cursor → holds ≡ Some file → new.linked ≡ old.linked → new.current ≡ old.current → ReadsEntries file old → ReadsEntries file new
 reads-row file holds old new gives held linked here reads = record {
   agrees = gives.agrees file held reads.agrees;
   links = λ some. refers_here file new old.current here (subst (RefersTo file (section_at file old.current)) (sym linked) (reads.links (omega (arith, some, gives.one_less))));
@@ -293,7 +293,7 @@ reads-row file holds old new gives held linked here reads = record {
 }
 
 pub same-walked : (file : List ℕ) (target : TargetCode) (old new : Entries) (cursor : Reading) (result : Result Step Fault) → cursor ≡ old.cursor
-    → (let now : Entries = record { cursor = cursor; linked = old.linked; current = old.current; next = old.next; count = old.count } in Reads file now → Walked file target now new result) → Reads file old → Walked file target old new result
+    → (let now : Entries = record { cursor = cursor; linked = old.linked; current = old.current; next = old.next; count = old.count } in ReadsEntries file now → Walked file target now new result) → ReadsEntries file old → Walked file target old new result
 same-walked file target old new cursor result same walked reads =
-    let P : Reading → Type 0 = λ c. (let now : Entries = record { cursor = c; linked = old.linked; current = old.current; next = old.next; count = old.count } in Reads file now → Walked file target now new result) in
+    let P : Reading → Type 0 = λ c. (let now : Entries = record { cursor = c; linked = old.linked; current = old.current; next = old.next; count = old.count } in ReadsEntries file now → Walked file target now new result) in
     subst P same walked (record { agrees = reads.agrees; links = reads.links; placed = reads.placed })

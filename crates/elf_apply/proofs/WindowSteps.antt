@@ -10,15 +10,16 @@ use Rattle.elf_model.specs.declared.causes.Refusal.{Refusal}
 use Rattle.elf_model.proofs.PatchLaws.{window_patched, length_kept}
 use Rattle.elf_source.specs.Output.{Written, Takes, TakesFront}
 use Rattle.elf_source.proofs.PutsLaws.{Takes-nothing, Takes-then, TakesFront-then, TakesFront-more}
-use Rattle.elf_source.specs.Source.{Counting, Reads as ReadsMost}
+use Rattle.elf_source.specs.Source.{Counting, Reads}
 use Rattle.elf_source.proofs.ReadsLaws.{Faults-then}
 use Rattle.elf_headers.specs.declared.fault.Fault.{Fault}
 use Rattle.elf_headers.specs.declared.fault.Fault.TheVariants.{Refused as Refuses, Source as Unread}
 use Rattle.elf_apply.specs.Passes.{folded, storing, Folds}
-use Rattle.elf_apply.specs.Windows.{Writes, FaultSays, IsUnread, windows, fault_as}
-use Rattle.elf_apply.specs.Costs.{ReadSays}
+use Rattle.elf_apply.specs.Windows.{WritesBytes, ApplyFaultSays, IsUnread, windows, fault_as}
+use Rattle.elf_headers.specs.Faults.{ReadSays}
 use Rattle.elf_apply.specs.declared.fault.ApplyFault.{ApplyFault}
 use Rattle.elf_apply.specs.declared.fault.ApplyFault.TheVariants.{Refused, Source, Out}
+use Rattle.elf_model.proofs.Slices.{slice-size, slice-slice}
 
 -- a pass in a window is the patches' parts, stored one after another
 pub and_is : (patch : Patch) (rest : Result (List Patch) Refusal) (patches : List Patch) → and_patches patch rest ≡ Ok patches → (more : List Patch) × (rest ≡ Ok more) × (patches ≡ patch ∷ more)
@@ -35,25 +36,13 @@ folded_window low n (Put patch ∷ changes) patches window h =
     folded_window low n changes p.0 (put (clipped low n patch) window) p.1 ∙ ap (λ ps. Ok (patched (map (clipped low n) ps) window)) (sym p.2)
 folded_window low n (Fails refusal ∷ changes) patches window h = cc
 
--- a window of a part of the file
-pub slice_in : (file : List ℕ) (at size low n : ℕ) → low + n ≤ size → slice (slice file at size) low n ≡ slice file (at + low) n
-slice_in file at size low n fits =
-    let whole : size ≡ low + (size - low) = omega arith in
-    let small : n ≤ size - low = omega arith in
-    ap (λ k. take n (drop low (take k (drop at file)))) whole
-    ∙ (ap (take n) (drop-take low (size - low) (drop at file))
-    ∙ (take-take n (size - low) (drop low (drop at file)) small ∙ ap (take n) (drop-drop low at file)))
-
-pub length_in : (file : List ℕ) (at size : ℕ) → at + size ≤ length file → length (slice file at size) ≡ size
-length_in file at size fits = length-take-le size (drop at file) (omega (arith, length-drop at file))
-
 -- the window that a pass leaves is the patched section's
 pub window_is : (file : List ℕ) (at size low n : ℕ) (changes : List Change) (patches : List Patch) (read : List ℕ) → at + size ≤ length file → low + n ≤ size → read ≡ slice file (at + low) n
     → patches_of changes ≡ Ok patches → AllInside size patches → folded (storing low n) read changes ≡ Ok (slice (patched patches (slice file at size)) low n)
 window_is file at size low n changes patches read within fits is h inside =
     let base : List ℕ = slice file at size in
-    let long : length base ≡ size = length_in file at size within in
-    let same : read ≡ slice base low n = is ∙ sym (slice_in file at size low n fits) in
+    let long : length base ≡ size = slice-size file at size within in
+    let same : read ≡ slice base low n = is ∙ sym (slice-slice file at size low n fits) in
     let all : AllInside (length base) patches = rw long inside in
     folded_window low n changes patches read h ∙ ap Ok (ap (patched (map (clipped low n) patches)) same ∙ sym (window_patched patches base low n all (omega arith)))
 
@@ -66,26 +55,26 @@ front_none a text = record { front = []; rest = text; split = refl; takes = Take
 
 -- a pass failed: a refusal can't be, and a fault of the source leaves nothing written
 pub pass_failed : (X : Type 0) (a : Written) (fault : Fault) (result : Result X ApplyFault) (text value : List ℕ) (answer : Result (List ℕ) Refusal)
-    → result ≡ Err (fault_as fault) → answer ≡ Ok text → Folds {X = X} (Err fault) value answer → Writes a a result text
+    → result ≡ Err (fault_as fault) → answer ≡ Ok text → Folds {X = X} (Err fault) value answer → WritesBytes a a result text
 pass_failed X a (Refuses refusal) result text value answer is ok folds = cc
 pass_failed X a (Unread fault at) result text value answer is ok folds =
-    let P : Result X ApplyFault → Type 0 = λ r. Writes a a r text in subst P (sym is) (front_none a text)
+    let P : Result X ApplyFault → Type 0 = λ r. WritesBytes a a r text in subst P (sym is) (front_none a text)
 
 -- a read failed
-pub read_failed : (X : Type 0) (a : Written) (fault : Fault) (result : Result X ApplyFault) (text : List ℕ) → result ≡ Err (fault_as fault) → IsUnread fault → Writes a a result text
+pub read_failed : (X : Type 0) (a : Written) (fault : Fault) (result : Result X ApplyFault) (text : List ℕ) → result ≡ Err (fault_as fault) → IsUnread fault → WritesBytes a a result text
 read_failed X a (Refuses refusal) result text is unread = absurd unread
 read_failed X a (Unread fault at) result text is unread =
-    let P : Result X ApplyFault → Type 0 = λ r. Writes a a r text in subst P (sym is) (front_none a text)
+    let P : Result X ApplyFault → Type 0 = λ r. WritesBytes a a r text in subst P (sym is) (front_none a text)
 
 -- a fault of a read is one of a call that writes
-pub fault_says : (a b : Counting) (out : Written) (fault : Fault) → ReadSays a b fault → FaultSays a b out (fault_as fault)
+pub fault_says : (a b : Counting) (out : Written) (fault : Fault) → ReadSays a b fault → ApplyFaultSays a b out (fault_as fault)
 fault_says a b out (Refuses refusal) says = says
 fault_says a b out (Unread fault at) says = says
 
-pub says_as : (a b : Counting) (out : Written) (fault : Fault) (other : ApplyFault) → other ≡ fault_as fault → ReadSays a b fault → FaultSays a b out other
-says_as a b out fault other is says = let P : ApplyFault → Type 0 = λ f. FaultSays a b out f in subst P (sym is) (fault_says a b out fault says)
+pub says_as : (a b : Counting) (out : Written) (fault : Fault) (other : ApplyFault) → other ≡ fault_as fault → ReadSays a b fault → ApplyFaultSays a b out other
+says_as a b out fault other is says = let P : ApplyFault → Type 0 = λ f. ApplyFaultSays a b out f in subst P (sym is) (fault_says a b out fault says)
 
-pub FaultSays-then : (a b c : Counting) (n : ℕ) (out : Written) (fault : ApplyFault) → ReadsMost a b n → FaultSays b c out fault → FaultSays a c out fault
+pub FaultSays-then : (a b c : Counting) (n : ℕ) (out : Written) (fault : ApplyFault) → Reads a b n → ApplyFaultSays b c out fault → ApplyFaultSays a c out fault
 FaultSays-then a b c n out (Refused refusal) reads says = says
 FaultSays-then a b c n out (Source fault at) reads says = (Faults-then a.seen b.seen c.seen fault reads.keeps says.0, says.1)
 FaultSays-then a b c n out (Out fault) reads says = says
@@ -116,7 +105,7 @@ front_then a b c text done n before this =
     let P : List ℕ → Type 0 = λ t. TakesFront a c t in
     front_all a c text (done + n) (subst P (sym (take_more text done n)) (TakesFront-then (take done text) (slice text done n) before this))
 
-pub window_stopped : (X : Type 0) (a b c : Written) (text : List ℕ) (done n : ℕ) (fault : ApplyFault) → Takes a b (take done text) → Writes {X = X} b c (Err fault) (slice text done n) → Writes {X = X} a c (Err fault) text
+pub window_stopped : (X : Type 0) (a b c : Written) (text : List ℕ) (done n : ℕ) (fault : ApplyFault) → Takes a b (take done text) → WritesBytes {X = X} b c (Err fault) (slice text done n) → WritesBytes {X = X} a c (Err fault) text
 window_stopped X a b c text done n (Refused refusal) before this = absurd this
 window_stopped X a b c text done n (Source fault at) before this = front_then a b c text done n before this
 window_stopped X a b c text done n (Out fault) before this = front_then a b c text done n before this

@@ -42,7 +42,7 @@ WroteMost old new (Ok done) most = (done.size ≤ most) × (new.written ≡ min 
 WroteMost old new (Err fault) most = new.written ≤ old.written + most
 
 -- a target stands for a section of the file whose bytes stand at an offset, and no check before its entries fails
-pub record Stands (file : List ℕ) (headers : ℕ) (target : Target) (at : ℕ) : Type 0 where
+pub record StandsFor (file : List ℕ) (headers : ℕ) (target : Target) (at : ℕ) : Type 0 where
   pub passed : first_refusal (before_entries file headers target.section) ≡ None
   pub bytes : slice file at target.size ≡ held_bytes file (section_at file target.section)
 

@@ -21,8 +21,8 @@ abbrev pub patch_as : Placed → Patch
 patch_as placed = record { at = placed.offset; bytes = patched_bytes placed.patch }
 
 -- they lie within so many bytes
-abbrev pub IsInside : ℕ → Placed → Type 0
-IsInside size placed = placed.offset + length (patched_bytes placed.patch) ≤ size
+abbrev pub IsPlacedInside : ℕ → Placed → Type 0
+IsPlacedInside size placed = placed.offset + length (patched_bytes placed.patch) ≤ size
 
 -- what an entry gives: nothing, bytes that are stored, or its fault
 abbrev pub Changes : Result (Option Placed) Fault → List Change → Type 0

@@ -6,7 +6,7 @@ use Rattle.elf_model.specs.Checks.{first_refusal, table_checks_of}
 use Rattle.elf_model.specs.Cost.{sum_over}
 use Rattle.elf_model.specs.Records.{sh_offset, section_at}
 use Rattle.elf_model.specs.Tables.{RELA_SIZE, entry_at, entry_count}
-use Rattle.elf_source.specs.Source.{Counting, Reads as ReadsMost}
+use Rattle.elf_source.specs.Source.{Counting, Reads}
 use Rattle.elf_table.specs.Cursors.{HoldsRows, unread_bytes, unless_failed}
 use Rattle.elf_headers.specs.Load.{section_place}
 use Rattle.elf_table.specs.Relocations.{RefersTo}
@@ -14,7 +14,7 @@ use Rattle.elf_headers.specs.Store.{row}
 use Rattle.elf_table.specs.Tables.{RowsWithin, SymbolsWithin}
 use Rattle.elf_headers.specs.declared.fault.Fault.{Fault}
 use Rattle.elf_headers.specs.declared.fault.Fault.TheVariants.{Refused, Source}
-use Rattle.elf_apply.specs.Entries.{target_as, patch_as, IsInside}
+use Rattle.elf_apply.specs.Entries.{target_as, patch_as, IsPlacedInside}
 use Rattle.elf_apply.specs.declared.entry.Placed.{Placed}
 use Rattle.elf_apply.specs.declared.entry.Target.{Target as TargetCode}
 use Rattle.elf_apply.specs.declared.walk.Entries.{Entries}
@@ -46,8 +46,8 @@ changes_all file target = changes_from file target 0 (sections_of target)
 
 -- how many entries for the target the section of an index has, by its header in the store: none unless it holds entries for
 -- the target and passes its own checks
-unfoldable pub entries_in : TargetCode → ℕ → ℕ
-entries_in target i =
+unfoldable pub entry_count_in : TargetCode → ℕ → ℕ
+entry_count_in target i =
     let bytes = row target.file.store.now i in
     elim (applies_to bytes target.section 0) [
       | false ↦ 0
@@ -59,25 +59,25 @@ entries_in target i =
 
 -- how many the sections from one on have
 unfoldable pub entries_from : TargetCode → ℕ → ℕ
-entries_from target i = sum_over (entries_in target) i (sections_of target - i)
+entries_from target i = sum_over (entry_count_in target) i (sections_of target - i)
 
 -- what an entry asks for beside its own bytes: a symbol and names
-abbrev pub own_cost : TargetCode → ℕ
-own_cost target = 24 + layout_names_cost target.layout.now
+abbrev pub beside_entry_cost : TargetCode → ℕ
+beside_entry_cost target = 24 + layout_names_cost target.layout.now
 
 -- what the walk may still ask for
 unfoldable pub walk_left : TargetCode → Entries → ℕ
 walk_left target e =
-    (unread_bytes e.cursor + unless_failed e.cursor.failed (e.cursor.left * own_cost target))
-    + entries_from target e.next * (24 + own_cost target)
+    (unread_bytes e.cursor + unless_failed e.cursor.failed (e.cursor.left * beside_entry_cost target))
+    + entries_from target e.next * (24 + beside_entry_cost target)
 
 -- what a whole walk asks for
 unfoldable pub walk_all : TargetCode → ℕ
-walk_all target = entries_from target 0 * (24 + own_cost target)
+walk_all target = entries_from target 0 * (24 + beside_entry_cost target)
 
 -- what was asked for is no longer left to the walk
 pub record AsksOf (before after : Counting) (target : TargetCode) (old new : Entries) : Type 0 where
-  pub reads : ReadsMost before after (walk_left target old)
+  pub reads : Reads before after (walk_left target old)
   pub account : after.asked + walk_left target new ≤ before.asked + walk_left target old
 
 -- how many steps are left at most
@@ -94,37 +94,37 @@ pub record Goes (size : ℕ) (target : TargetCode) (e : Entries) : Type 0 where
   pub few : e.count ≤ e.next * 2 ^ 64
 
 -- the rows that are left are the file's
-pub record Reads (file : List ℕ) (e : Entries) : Type 0 where
+pub record ReadsEntries (file : List ℕ) (e : Entries) : Type 0 where
   pub agrees : HoldsRows file e.cursor
   pub links : 0 < e.cursor.left → RefersTo file (section_at file e.current) e.linked
   pub placed : 0 < e.cursor.left → e.cursor.table.at ≡ sh_offset file (section_at file e.current)
 
 -- entries are counted where their section is opened
-abbrev pub Counts : TargetCode → Entries → Entries → Type 0
-Counts target old new = new.count + entries_from target new.next ≡ old.count + entries_from target old.next
+abbrev pub CountsEntries : TargetCode → Entries → Entries → Type 0
+CountsEntries target old new = new.count + entries_from target new.next ≡ old.count + entries_from target old.next
 
 -- a step of the walk
 abbrev pub Walked : List ℕ → TargetCode → Entries → Entries → Result Step Fault → Type 0
-Walked file target old new (Ok (Stores placed)) = (changes_left file target old ≡ Put (patch_as placed) ∷ changes_left file target new) × Reads file new
-Walked file target old new (Ok Nothing) = (changes_left file target old ≡ changes_left file target new) × Reads file new
+Walked file target old new (Ok (Stores placed)) = (changes_left file target old ≡ Put (patch_as placed) ∷ changes_left file target new) × ReadsEntries file new
+Walked file target old new (Ok Nothing) = (changes_left file target old ≡ changes_left file target new) × ReadsEntries file new
 Walked file target old new (Ok End) = changes_left file target old ≡ []
 Walked file target old new (Err (Refused refusal)) = (rest : List Change) × (changes_left file target old ≡ Fails refusal ∷ rest)
 Walked file target old new (Err (Source fault at)) = Unit {0}
 
 -- the next entry that stores bytes
-abbrev pub Finds : List ℕ → TargetCode → Entries → Entries → Result (Option Placed) Fault → Type 0
-Finds file target old new (Ok (Some placed)) = (changes_left file target old ≡ Put (patch_as placed) ∷ changes_left file target new) × Reads file new
-Finds file target old new (Ok None) = changes_left file target old ≡ []
-Finds file target old new (Err (Refused refusal)) = (rest : List Change) × (changes_left file target old ≡ Fails refusal ∷ rest)
-Finds file target old new (Err (Source fault at)) = Unit {0}
+abbrev pub FindsEntry : List ℕ → TargetCode → Entries → Entries → Result (Option Placed) Fault → Type 0
+FindsEntry file target old new (Ok (Some placed)) = (changes_left file target old ≡ Put (patch_as placed) ∷ changes_left file target new) × ReadsEntries file new
+FindsEntry file target old new (Ok None) = changes_left file target old ≡ []
+FindsEntry file target old new (Err (Refused refusal)) = (rest : List Change) × (changes_left file target old ≡ Fails refusal ∷ rest)
+FindsEntry file target old new (Err (Source fault at)) = Unit {0}
 
 abbrev pub StepInside : ℕ → Step → Type 0
-StepInside size (Stores placed) = IsInside size placed
+StepInside size (Stores placed) = IsPlacedInside size placed
 StepInside size Nothing = Unit {0}
 StepInside size End = Unit {0}
 
 abbrev pub FoundInside : ℕ → Option Placed → Type 0
-FoundInside size (Some placed) = IsInside size placed
+FoundInside size (Some placed) = IsPlacedInside size placed
 FoundInside size None = Unit {0}
 
 -- fewer steps are left, or none and the sections are counted

@@ -12,19 +12,20 @@ ghost use Rattle.elf_source.specs.Growth.{Grows};
 ghost use Rattle.elf_source.specs.Source.{Reads};
 ghost use Rattle.elf_headers.specs.Faults.{IsOfCheck};
 ghost use Rattle.elf_headers.specs.Load.{Belongs, IsOpen};
-ghost use Rattle.elf_apply.specs.Applied.{Applies, HeldIs, Stands, WroteMost};
+ghost use Rattle.elf_apply.specs.Applied.{Applies, HeldIs, StandsFor, WroteMost};
 ghost use Rattle.elf_apply.specs.Applied.{apply_ceiling, behind_ceiling, passes_cost};
 ghost use Rattle.elf_apply.specs.InOrder.{Rises};
 ghost use Rattle.elf_apply.specs.Walk.{changes_all, walk_all};
-ghost use Rattle.elf_apply.specs.Windows.{FaultSays, Writes, Wrote, windows};
+ghost use Rattle.elf_apply.specs.Windows.{ApplyFaultSays, WritesBytes, WroteBytes, windows};
 
 use crate::entry::Target;
-use crate::fault::{ApplyFault, fault_of};
+use crate::fault::ApplyFault;
 use crate::in_order::write_in_order;
 use crate::layout::Layout;
 use crate::lookup::refused;
 use crate::passes::check;
 use crate::windows::write_windows;
+use elf_headers::ends_outside;
 use elf_record::numbers::{EM_X86_64, ET_REL, SHT_NOBITS, SHT_NULL};
 use elf_record::{Cause, Shdr};
 use elf_source::{Counted, Out, Sink, Source};
@@ -62,7 +63,7 @@ fn held(file: &File<'_>, section: u16) -> Result<(u64, u64), Fault>
         return Ok((0, 0));
     }
     let size = file.loaded.size();
-    if ends_outside(size, &found) {
+    if ends_outside(size, found.sh_offset, found.sh_size) {
         return refused(file.place(section), Cause::TableOutside);
     }
     Ok((found.sh_offset, found.sh_size))
@@ -83,13 +84,6 @@ fn has_no_bytes(header: &Shdr) -> bool
     header.sh_type == SHT_NOBITS || header.sh_type == SHT_NULL
 }
 
-/// Whether a section ends past the end of a file of `size` bytes.
-fn ends_outside(size: u64, header: &Shdr) -> bool
-    ensures { result ≡ is_outside size header.now.sh_offset header.now.sh_size }
-{
-    u128::from(header.sh_offset) + u128::from(header.sh_size) > u128::from(size)
-}
-
 /// Writes the section, whose bytes stand at the file offset `at`: in one pass where the offsets of
 /// the entries never fall, else window by window.
 fn write_section<S: Source, W: Sink>(
@@ -107,13 +101,13 @@ fn write_section<S: Source, W: Sink>(
         (windows target.now.size * walk_all target.now + target.now.size) }
     ensures once { rises ≡ true →
         src.new.asked ≤ src.old.asked + (walk_all target.now + target.now.size) }
-    ensures says { IfErr result (FaultSays src.old src.new out.new) }
+    ensures says { IfErr result (ApplyFaultSays src.old src.new out.new) }
     ensures grows { Grows out.old out.new }
-    ensures wrote { Wrote out.old out.new result target.now.size }
+    ensures wrote { WroteBytes out.old out.new result target.now.size }
     ensures text { (file : List ℕ) → src.old.seen.file ≡ Some file → (patches : List _) →
         patches_of (changes_all file target.now) ≡ Ok patches →
         AllInside target.now.size patches → (rises ≡ true → Rises 0 patches) →
-        Writes out.old out.new result (patched patches (slice file at target.now.size)) }
+        WritesBytes out.old out.new result (patched patches (slice file at target.now.size)) }
 {
     if rises && target.size > 0 {
         return write_in_order(src, target, at, out);
@@ -135,28 +129,23 @@ fn apply_target<S: Source, W: Sink>(
     ensures reads { Reads src.old src.new
         (passes_cost target.now (1 + windows target.now.size)) }
     ensures once { (file : List ℕ) → src.old.seen.file ≡ Some file → (headers : ℕ) →
-        Stands file headers target.now at →
+        StandsFor file headers target.now at →
         offsets_never_fall file target.now.section ≡ true →
         src.new.asked ≤ src.old.asked + passes_cost target.now 2 }
-    ensures says { IfErr result (FaultSays src.old src.new out.new) }
+    ensures says { IfErr result (ApplyFaultSays src.old src.new out.new) }
     ensures grows { Grows out.old out.new }
     ensures wrote { WroteMost out.old out.new result target.now.size }
     ensures text { (file : List ℕ) → src.old.seen.file ≡ Some file → (headers : ℕ) →
-        Stands file headers target.now at →
+        StandsFor file headers target.now at →
         Applies out.old out.new result (length (entries_for file target.now.section))
         (applied file headers target.now.section target.now.layout.now) }
 {
-    let checked = match check(src, target) {
-        Ok(checked) => checked,
-        Err(fault) => return Err(fault_of(fault)),
-    };
-    match write_section(src, target, at, checked.rises, out) {
-        Ok(()) => Ok(Applied {
-            size: target.size,
-            entries: checked.entries,
-        }),
-        Err(fault) => Err(fault),
-    }
+    let checked = check(src, target)?;
+    write_section(src, target, at, checked.rises, out)?;
+    Ok(Applied {
+        size: target.size,
+        entries: checked.entries,
+    })
 }
 
 /// Writes a section of a loaded file with its relocations applied.
@@ -175,7 +164,7 @@ fn apply_loaded<S: Source, W: Sink>(
     requires fits { src.old.seen.size < 2 ^ 64 }
     ensures reads { Reads src.old src.new
         (behind_ceiling src.old.seen.size store.now.slots layout.now) }
-    ensures says { IfErr result (FaultSays src.old src.new out.new) }
+    ensures says { IfErr result (ApplyFaultSays src.old src.new out.new) }
     ensures grows { Grows out.old out.new }
     ensures wrote { WroteMost out.old out.new result src.old.seen.size }
     ensures cost { (file : List ℕ) → src.old.seen.file ≡ Some file →
@@ -188,17 +177,14 @@ fn apply_loaded<S: Source, W: Sink>(
         (applied file store.now.slots section layout.now) }
 {
     let file = File { loaded, store };
-    let (at, size) = match held(&file, section) {
-        Ok(found) => found,
-        Err(fault) => return Err(fault_of(fault)),
-    };
+    let found = held(&file, section)?;
     let target = Target {
         file,
         layout,
         section,
-        size,
+        size: found.1,
     };
-    apply_target(src, &target, at, out)
+    apply_target(src, &target, found.0, out)
 }
 
 /// Writes the bytes of a section of a relocatable file for x86-64 with its relocations applied:
@@ -227,7 +213,7 @@ pub fn apply<S: Source, W: Sink>(
     // No limit is set.
     requires unlimited { src.old.most ≡ None }
     ensures slots { store.new.slots ≡ store.old.slots }
-    ensures says { IfErr result (FaultSays src.old src.new out.new) }
+    ensures says { IfErr result (ApplyFaultSays src.old src.new out.new) }
     ensures text { (file : List ℕ) → src.old.seen.file ≡ Some file →
         Applies out.old out.new result (length (entries_for file section))
         (applied file store.old.slots section layout.now) }
@@ -239,13 +225,7 @@ pub fn apply<S: Source, W: Sink>(
     ensures grows { Grows out.old out.new }
     ensures wrote { WroteMost out.old out.new result src.old.seen.size }
 {
-    let header = match header(src) {
-        Ok(header) => header,
-        Err(fault) => return Err(fault_of(fault)),
-    };
-    let loaded = match load(src, store, &header) {
-        Ok(loaded) => loaded,
-        Err(fault) => return Err(fault_of(fault)),
-    };
+    let header = header(src)?;
+    let loaded = load(src, store, &header)?;
     apply_loaded(src, store, loaded, section, layout, out)
 }

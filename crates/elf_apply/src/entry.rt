@@ -10,8 +10,9 @@ ghost use Rattle.elf_reloc.specs.Types.{IsSized, IsWidth, formula_as, type_as};
 ghost use Rattle.elf_source.specs.Source.{Reads};
 ghost use Rattle.elf_table.specs.Relocations.{RefersTo};
 ghost use Rattle.elf_table.specs.Tables.{SymbolsWithin};
-ghost use Rattle.elf_apply.specs.Costs.{ReadSays, Tells};
-ghost use Rattle.elf_apply.specs.Entries.{Changes, Does, IsInside, target_as, taken_place, term_of};
+ghost use Rattle.elf_apply.specs.Costs.{ValueOrRefusal};
+ghost use Rattle.elf_headers.specs.Faults.{ReadSays};
+ghost use Rattle.elf_apply.specs.Entries.{Changes, Does, IsPlacedInside, target_as, taken_place, term_of};
 ghost use Rattle.elf_apply.specs.Entries.{value_or};
 
 use crate::layout::Layout;
@@ -57,7 +58,7 @@ pub(crate) fn entry_change<S: Source>(
     requires within { IfSome linked (SymbolsWithin src.old.seen.size) }
     ensures reads { Reads src.old src.new (24 + layout_names_cost target.now.layout.now) }
     ensures says { IfErr result (ReadSays src.old src.new) }
-    ensures inside { IfOk result (λ found. IfSome found (IsInside target.now.size)) }
+    ensures inside { IfOk result (λ found. IfSome found (IsPlacedInside target.now.size)) }
     ensures change { (file : List ℕ) (header : ℕ) → src.old.seen.file ≡ Some file →
         RefersTo file header linked → IsRela file at entry.now →
         Changes result (entry_changes (target_as file target.now) header at) }
@@ -90,7 +91,7 @@ fn stored<S: Source>(
     requires sized { IsSized found.range found.width }
     ensures reads { Reads src.old src.new (24 + layout_names_cost target.now.layout.now) }
     ensures says { IfErr result (ReadSays src.old src.new) }
-    ensures inside { IfOk result (IsInside target.now.size) }
+    ensures inside { IfOk result (IsPlacedInside target.now.size) }
     ensures change { (file : List ℕ) (header : ℕ) → src.old.seen.file ≡ Some file →
         RefersTo file header linked → IsRela file at entry.now →
         Does result (change_of (target_as file target.now) header at (Some (type_as found))) }
@@ -142,7 +143,7 @@ fn named_value<S: Source>(
     ensures says { IfErr result (ReadSays src.old src.new) }
     ensures unnamed { symbol ≡ 0 → src.new ≡ src.old }
     ensures value { (file : List ℕ) (section size header : ℕ) → src.old.seen.file ≡ Some file →
-        RefersTo file header linked → symbol ≡ r_sym file at → Tells result
+        RefersTo file header linked → symbol ≡ r_sym file at → ValueOrRefusal result
         (term_of (formula_as formula)
         (record { file = file; section = section; size = size; layout = layout.now }) header at) }
 {

@@ -1,7 +1,4 @@
 //! Why a section was not written, or not whole.
-ghost use Rattle.std.specs.Prelude.{◌≡◌};
-ghost use Rattle.elf_apply.specs.Windows.{fault_as};
-
 use elf_record::Refusal;
 use elf_source::{OutFault, SourceFault};
 use elf_table::Fault;
@@ -26,12 +23,27 @@ pub enum ApplyFault {
     Out(OutFault),
 }
 
-/// What a fault of a read is.
-pub(crate) fn fault_of(fault: Fault) -> ApplyFault
-    ensures { result ≡ fault_as fault }
-{
-    match fault {
-        Fault::Refused(refusal) => ApplyFault::Refused(refusal),
-        Fault::Source { fault, at } => ApplyFault::Source { fault, at },
+impl From<Fault> for ApplyFault {
+    ghost use Rattle.std.specs.Prelude.{◌≡◌};
+    ghost use Rattle.elf_apply.specs.Windows.{fault_as};
+
+    ghost from_gives = { λ fault stop. stop ≡ fault_as fault };
+
+    fn from(fault: Fault) -> ApplyFault {
+        match fault {
+            Fault::Refused(refusal) => ApplyFault::Refused(refusal),
+            Fault::Source { fault, at } => ApplyFault::Source { fault, at },
+        }
+    }
+}
+
+impl From<OutFault> for ApplyFault {
+    ghost use Rattle.std.specs.Prelude.{◌≡◌};
+    ghost use Rattle.elf_apply.specs.declared.fault.ApplyFault.TheVariants.{Out};
+
+    ghost from_gives = { λ fault stop. stop ≡ Out fault };
+
+    fn from(fault: OutFault) -> ApplyFault {
+        ApplyFault::Out(fault)
     }
 }

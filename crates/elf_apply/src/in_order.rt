@@ -10,15 +10,15 @@ ghost use Rattle.elf_source.specs.Output.{Puts};
 ghost use Rattle.elf_source.specs.Growth.{Grows};
 ghost use Rattle.elf_source.specs.Source.{Reads};
 ghost use Rattle.elf_headers.specs.Load.{IsOpen};
-ghost use Rattle.elf_apply.specs.Costs.{ReadSays};
+ghost use Rattle.elf_headers.specs.Faults.{ReadSays};
 ghost use Rattle.elf_apply.specs.Entries.{patch_as};
 ghost use Rattle.elf_apply.specs.InOrder.{IsNoRefusal, Midway, Rises, end_of};
 ghost use Rattle.elf_apply.specs.Walk.{changes_all, walk_all};
-ghost use Rattle.elf_apply.specs.Windows.{FaultSays, IsUnread, Writes, Wrote};
+ghost use Rattle.elf_apply.specs.Windows.{ApplyFaultSays, IsUnread, WritesBytes, WroteBytes};
 ghost use Rattle.elf_apply.specs.declared.fault.ApplyFault.TheVariants.{Refused as RefusedOf};
 
 use crate::entry::{Placed, Target};
-use crate::fault::{ApplyFault, fault_of};
+use crate::fault::ApplyFault;
 use crate::passes::put_in;
 use crate::walk::Entries;
 use elf_record::{Cause, Refusal};
@@ -150,10 +150,7 @@ impl Held {
         let end = self.low + count as u64;
         let more = (size - end).min((PAGE - count) as u64) as usize;
         let mut page = moved(&self.bytes, self.from, count);
-        match fill(src, at + end, &mut page[count..count + more]) {
-            Ok(()) => {}
-            Err(fault) => return Err(fault),
-        }
+        fill(src, at + end, &mut page[count..count + more])?;
         self.from = 0;
         self.count = count + more;
         self.bytes = page;
@@ -189,33 +186,27 @@ impl Held {
         requires within { at + end ≤ src.old.seen.size }
         requires held { at + end_of self.old ≤ src.old.seen.size }
         requires fits { src.old.seen.size < 2 ^ 64 }
-        ensures says { IfErr result (FaultSays src.old src.new out.new) }
+        ensures says { IfErr result (ApplyFaultSays src.old src.new out.new) }
         ensures low { OnOk result (self.new.low ≡ end) }
         ensures long { OnOk result (length self.new.bytes ≡ end_of self.old - end) }
         ensures kept { IfErr result IsNoRefusal }
         ensures reads { Reads src.old src.new (end - end_of self.old) }
         ensures grows { Grows out.old out.new }
-        ensures wrote { Wrote out.old out.new result (end - self.old.low) }
+        ensures wrote { WroteBytes out.old out.new result (end - self.old.low) }
         ensures text { (file : List ℕ) → src.old.seen.file ≡ Some file →
             (size : ℕ) (now : List ℕ) → at + size ≤ length file → end ≤ size
             → Midway (slice file at size) now self.old →
-            Writes out.old out.new result (slice now self.old.low (end - self.old.low)) }
+            WritesBytes out.old out.new result (slice now self.old.low (end - self.old.low)) }
         ensures still { (file : List ℕ) → src.old.seen.file ≡ Some file →
             (size : ℕ) (now : List ℕ) → at + size ≤ length file → end ≤ size
             → Midway (slice file at size) now self.old →
             OnOk result (Midway (slice file at size) now self.new) }
     {
         let ready = (end - self.low()).min(self.len() as u64);
-        match self.release(ready as usize, out) {
-            Ok(()) => {}
-            Err(fault) => return Err(ApplyFault::Out(fault)),
-        }
+        self.release(ready as usize, out)?;
         let low = self.low();
         if low < end {
-            match copy(src, at + low, end - low, out) {
-                Ok(()) => {}
-                Err(fault) => return Err(fault),
-            }
+            copy(src, at + low, end - low, out)?;
             self.jump(end);
         }
         Ok(())
@@ -235,7 +226,7 @@ impl Held {
         requires held { end_of self.old ≤ size }
         requires within { at + size ≤ src.old.seen.size }
         requires fits { src.old.seen.size < 2 ^ 64 }
-        ensures says { IfErr result (FaultSays src.old src.new out.new) }
+        ensures says { IfErr result (ApplyFaultSays src.old src.new out.new) }
         ensures low { OnOk result (self.new.low ≡ placed.now.offset) }
         ensures never { OnOk result (self.old.low ≤ placed.now.offset) }
         ensures fallen { placed.now.offset < self.old.low → (result ≡ Err (RefusedOf
@@ -247,11 +238,11 @@ impl Held {
         ensures asked_on { OnOk result (src.new.asked + end_of self.old
             ≤ src.old.asked + end_of self.new) }
         ensures grows { Grows out.old out.new }
-        ensures wrote { Wrote out.old out.new result (placed.now.offset - self.old.low) }
+        ensures wrote { WroteBytes out.old out.new result (placed.now.offset - self.old.low) }
         ensures text { (file : List ℕ) → src.old.seen.file ≡ Some file → (now : List ℕ) →
             at + size ≤ length file → self.old.low ≤ placed.now.offset
             → Midway (slice file at size) now self.old →
-            Writes out.old out.new result (slice now self.old.low
+            WritesBytes out.old out.new result (slice now self.old.low
             (placed.now.offset - self.old.low)) }
         ensures still { (file : List ℕ) → src.old.seen.file ≡ Some file → (now : List ℕ) →
             at + size ≤ length file
@@ -264,14 +255,8 @@ impl Held {
                 cause: Cause::PlaceOutside,
             }));
         }
-        match self.advance(src, at, placed.offset, out) {
-            Ok(()) => {}
-            Err(fault) => return Err(fault),
-        }
-        match self.read_on(src, at, size, width_of(placed.patch)) {
-            Ok(()) => {}
-            Err(fault) => return Err(fault_of(fault)),
-        }
+        self.advance(src, at, placed.offset, out)?;
+        self.read_on(src, at, size, width_of(placed.patch))?;
         self.patch(placed);
         Ok(())
     }
@@ -313,13 +298,13 @@ fn copy<S: Source, W: Sink>(
     requires unlimited { src.old.most ≡ None }
     requires within { at + size ≤ src.old.seen.size }
     requires fits { src.old.seen.size < 2 ^ 64 }
-    ensures says { IfErr result (FaultSays src.old src.new out.new) }
+    ensures says { IfErr result (ApplyFaultSays src.old src.new out.new) }
     ensures kept { IfErr result IsNoRefusal }
     ensures reads { Reads src.old src.new size }
     ensures grows { Grows out.old out.new }
-    ensures wrote { Wrote out.old out.new result size }
+    ensures wrote { WroteBytes out.old out.new result size }
     ensures text { (file : List ℕ) → src.old.seen.file ≡ Some file → at + size ≤ length file →
-        Writes out.old out.new result (slice file at size) }
+        WritesBytes out.old out.new result (slice file at size) }
 {
     let mut done = 0;
     'pages: while done < size {
@@ -341,22 +326,17 @@ fn copy_page<S: Source, W: Sink>(
     requires unlimited { src.old.most ≡ None }
     requires few { length page.old ≤ 4096 }
     requires within { at + length page.old ≤ src.old.seen.size }
-    ensures says { IfErr result (FaultSays src.old src.new out.new) }
+    ensures says { IfErr result (ApplyFaultSays src.old src.new out.new) }
     ensures kept { IfErr result IsNoRefusal }
     ensures reads { Reads src.old src.new (length page.old) }
     ensures grows { Grows out.old out.new }
-    ensures wrote { Wrote out.old out.new result (length page.old) }
+    ensures wrote { WroteBytes out.old out.new result (length page.old) }
     ensures text { (file : List ℕ) → src.old.seen.file ≡ Some file →
-        Writes out.old out.new result (slice file at (length page.old)) }
+        WritesBytes out.old out.new result (slice file at (length page.old)) }
 {
-    match fill(src, at, page) {
-        Ok(()) => {}
-        Err(fault) => return Err(fault_of(fault)),
-    }
-    match out.put(page) {
-        Ok(()) => Ok(()),
-        Err(fault) => Err(ApplyFault::Out(fault)),
-    }
+    fill(src, at, page)?;
+    out.put(page)?;
+    Ok(())
 }
 
 /// Writes the section, whose bytes stand at `at`, where the offsets of the entries never fall.
@@ -370,26 +350,22 @@ pub(crate) fn write_in_order<S: Source, W: Sink>(
     requires opened { IsOpen src.old target.now.file.loaded target.now.file.store.now }
     requires within { at + target.now.size ≤ src.old.seen.size }
     requires fits { src.old.seen.size < 2 ^ 64 }
-    ensures says { IfErr result (FaultSays src.old src.new out.new) }
+    ensures says { IfErr result (ApplyFaultSays src.old src.new out.new) }
     ensures grows { Grows out.old out.new }
-    ensures wrote { Wrote out.old out.new result target.now.size }
+    ensures wrote { WroteBytes out.old out.new result target.now.size }
     ensures reads { Reads src.old src.new (walk_all target.now + target.now.size) }
     ensures text { (file : List ℕ) → src.old.seen.file ≡ Some file → (patches : List _) →
         patches_of (changes_all file target.now) ≡ Ok patches → AllInside target.now.size patches →
         Rises 0 patches →
-        Writes out.old out.new result (patched patches (slice file at target.now.size)) }
+        WritesBytes out.old out.new result (patched patches (slice file at target.now.size)) }
 {
     let size = target.size;
     let mut entries = Entries::new();
     let mut held = Held::new();
     'entries: loop {
-        match entries.next(src, target) {
-            Ok(Some(placed)) => match held.store(src, at, size, &placed, out) {
-                Ok(()) => {}
-                Err(fault) => return Err(fault),
-            },
-            Ok(None) => return held.advance(src, at, size, out),
-            Err(fault) => return Err(fault_of(fault)),
+        match entries.next(src, target)? {
+            Some(placed) => held.store(src, at, size, &placed, out)?,
+            None => return held.advance(src, at, size, out),
         }
     }
 }

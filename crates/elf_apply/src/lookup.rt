@@ -6,9 +6,9 @@ ghost use Rattle.elf_model.specs.Placing.{placed_at, symbol_value, undefined_val
 ghost use Rattle.elf_model.specs.Records.{st_name};
 ghost use Rattle.elf_record.specs.Sym.{IsSym};
 ghost use Rattle.elf_source.specs.Source.{Reads};
-ghost use Rattle.elf_headers.specs.Faults.{IsOfCheck};
+ghost use Rattle.elf_headers.specs.Faults.{IsOfCheck, ReadSays};
 ghost use Rattle.elf_table.specs.Tables.{StringsWithin, strings_in};
-ghost use Rattle.elf_apply.specs.Costs.{Answers, ReadSays, Tells, items_cost};
+ghost use Rattle.elf_apply.specs.Costs.{ValueOrCause, ValueOrRefusal, items_cost};
 
 use crate::layout::Layout;
 use crate::named::Named;
@@ -57,7 +57,8 @@ fn address_named<S: Source>(
     requires within { StringsWithin src.old.seen.size symbol.now.names }
     ensures reads { Reads src.old src.new (items_cost items.now) }
     ensures says { IfErr result (ReadSays src.old src.new) }
-    ensures found { (file : List ℕ) → src.old.seen.file ≡ Some file → Answers symbol.now.at result
+    ensures found { (file : List ℕ) → src.old.seen.file ≡ Some file →
+        ValueOrCause symbol.now.at result
         (address_named (strings_in file symbol.now.names) symbol.now.fields.st_name items.now) }
 {
     let off = u64::from(symbol.fields.st_name);
@@ -77,7 +78,7 @@ fn address_named<S: Source>(
 /// An offset from an address modulo 2^64; without an address the entry, which stands at `entry`, is
 /// refused.
 fn placed_at(entry: u64, address: Option<u64>, offset: u64) -> Result<u64, Fault>
-    ensures value { Tells result (placed_at entry address offset) }
+    ensures value { ValueOrRefusal result (placed_at entry address offset) }
     ensures refusal { IfErr result IsOfCheck }
 {
     match address {
@@ -90,7 +91,7 @@ fn placed_at(entry: u64, address: Option<u64>, offset: u64) -> Result<u64, Fault
 /// weak (gABI 4, Symbol Binding).
 fn undefined_value(symbol: &Sym, entry: u64) -> Result<u64, Fault>
     ensures value { (file : List ℕ) (at : ℕ) → IsSym file at symbol.now →
-        Tells result (undefined_value file entry at) }
+        ValueOrRefusal result (undefined_value file entry at) }
     ensures refusal { IfErr result IsOfCheck }
 {
     if symbol.st_shndx == SHN_UNDEF && symbol.binding() == STB_WEAK {
@@ -113,7 +114,7 @@ fn defined_value<S: Source>(
     ensures says { IfErr result (ReadSays src.old src.new) }
     ensures value { (file : List ℕ) → src.old.seen.file ≡ Some file →
         IsSym file symbol.now.at symbol.now.fields →
-        Tells result (named_or symbol.now.at
+        ValueOrRefusal result (named_or symbol.now.at
         (address_named (strings_in file symbol.now.names)
         (st_name file symbol.now.at) layout.now.definitions)
         (undefined_value file entry symbol.now.at)) }
@@ -139,7 +140,7 @@ pub(crate) fn symbol_value<S: Source>(
     ensures says { IfErr result (ReadSays src.old src.new) }
     ensures value { (file : List ℕ) → src.old.seen.file ≡ Some file →
         IsSym file symbol.now.at symbol.now.fields →
-        Tells result (symbol_value file
+        ValueOrRefusal result (symbol_value file
         (strings_in file symbol.now.names) layout.now entry symbol.now.at) }
 {
     match symbol.fields.place() {
@@ -168,7 +169,7 @@ pub(crate) fn linkage_value<S: Source>(
     ensures says { IfErr result (ReadSays src.old src.new) }
     ensures value { (file : List ℕ) → src.old.seen.file ≡ Some file →
         IsSym file symbol.now.at symbol.now.fields →
-        Tells result (linkage_value file
+        ValueOrRefusal result (linkage_value file
         (strings_in file symbol.now.names) layout.now entry symbol.now.at) }
 {
     match address_named(src, symbol, layout.linkage()) {

@@ -5,7 +5,7 @@ ghost use Rattle.elf_model.specs.Apply.{put};
 ghost use Rattle.elf_model.specs.ApplyLaws.{clipped};
 ghost use Rattle.elf_source.specs.Source.{Reads};
 ghost use Rattle.elf_headers.specs.Load.{IsOpen};
-ghost use Rattle.elf_apply.specs.Costs.{ReadSays};
+ghost use Rattle.elf_headers.specs.Faults.{ReadSays};
 ghost use Rattle.elf_apply.specs.Entries.{patch_as};
 ghost use Rattle.elf_apply.specs.Passes.{Checks, Folds, folded, rising, storing};
 ghost use Rattle.elf_apply.specs.Walk.{changes_all, entries_from, walk_all};

@@ -3,10 +3,9 @@ ghost use Rattle.std.specs.Prelude.{◌≡◌, ◌≤◌, ◌+◌, ℕ, List, le
 ghost use Rattle.std.specs.Prelude.{IfSome};
 ghost use Rattle.elf_model.specs.Apply.{applies_to};
 ghost use Rattle.elf_record.specs.Shdr.{IsShdr};
-ghost use Rattle.elf_headers.specs.Faults.{IsOfCheck};
+ghost use Rattle.elf_headers.specs.Faults.{IsOfCheck, ReadSays};
 ghost use Rattle.elf_headers.specs.Load.{Belongs, IsOpen};
-ghost use Rattle.elf_apply.specs.Costs.{ReadSays};
-ghost use Rattle.elf_apply.specs.Walk.{AsksOf, Counts, Finds, FoundFewer, FoundInside, Goes, Reads};
+ghost use Rattle.elf_apply.specs.Walk.{AsksOf, CountsEntries, FindsEntry, FoundFewer, FoundInside, Goes, ReadsEntries};
 ghost use Rattle.elf_apply.specs.Walk.{StepFewer, StepInside, Walked};
 ghost use Rattle.elf_apply.specs.Walk.{changes_all, changes_left, entries_from, walk_all};
 ghost use Rattle.elf_apply.specs.Walk.{walk_left};
@@ -45,7 +44,7 @@ impl Entries {
         ensures left { (target : _) → walk_left target result ≡ walk_all target }
         ensures none { (target : _) →
             result.count + entries_from target result.next ≡ entries_from target 0 }
-        ensures reads { (file : List ℕ) → Reads file result }
+        ensures reads { (file : List ℕ) → ReadsEntries file result }
         ensures changes { (file : List ℕ) (target : _) →
             changes_left file target result ≡ changes_all file target }
     {
@@ -81,10 +80,10 @@ impl Entries {
         ensures says { IfErr result (ReadSays src.old src.new) }
         ensures goes { IfOk result (λ found. Goes src.old.seen.size target.now self.new) }
         ensures fewer { IfOk result (FoundFewer target.now self.old self.new) }
-        ensures counts { IfOk result (λ found. Counts target.now self.old self.new) }
+        ensures counts { IfOk result (λ found. CountsEntries target.now self.old self.new) }
         ensures inside { IfOk result (FoundInside target.now.size) }
-        ensures finds { (file : List ℕ) → src.old.seen.file ≡ Some file → Reads file self.old →
-            Finds file target.now self.old self.new result }
+        ensures finds { (file : List ℕ) → src.old.seen.file ≡ Some file →
+            ReadsEntries file self.old → FindsEntry file target.now self.old self.new result }
     {
         'steps: loop {
             match self.step(src, target) {
@@ -105,10 +104,10 @@ impl Entries {
         ensures says { IfErr result (ReadSays src.old src.new) }
         ensures goes { IfOk result (λ step. Goes src.old.seen.size target.now self.new) }
         ensures fewer { IfOk result (StepFewer target.now self.old self.new) }
-        ensures counts { IfOk result (λ step. Counts target.now self.old self.new) }
+        ensures counts { IfOk result (λ step. CountsEntries target.now self.old self.new) }
         ensures inside { IfOk result (StepInside target.now.size) }
-        ensures walked { (file : List ℕ) → src.old.seen.file ≡ Some file → Reads file self.old →
-            Walked file target.now self.old self.new result }
+        ensures walked { (file : List ℕ) → src.old.seen.file ≡ Some file →
+            ReadsEntries file self.old → Walked file target.now self.old self.new result }
     {
         match self.cursor.advance(src) {
             Ok(true) => {
@@ -132,12 +131,12 @@ impl Entries {
         ensures goes { IfOk result (λ step. Goes target.now.file.loaded.size target.now self.new) }
         ensures refusal { IfErr result IsOfCheck }
         ensures fewer { IfOk result (StepFewer target.now self.old self.new) }
-        ensures counts { IfOk result (λ step. Counts target.now self.old self.new) }
+        ensures counts { IfOk result (λ step. CountsEntries target.now self.old self.new) }
         ensures inside { IfOk result (StepInside target.now.size) }
         ensures left { walk_left target.now self.new ≤ walk_left target.now self.old }
         ensures walked { (file : List ℕ) →
-            Belongs file target.now.file.loaded target.now.file.store.now → Reads file self.old →
-            Walked file target.now self.old self.new result }
+            Belongs file target.now.file.loaded target.now.file.store.now →
+            ReadsEntries file self.old → Walked file target.now self.old self.new result }
     {
         let section = self.next;
         if section >= target.file.sections() {

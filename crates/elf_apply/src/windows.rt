@@ -8,10 +8,10 @@ ghost use Rattle.elf_source.specs.Growth.{Grows};
 ghost use Rattle.elf_source.specs.Source.{Reads};
 ghost use Rattle.elf_headers.specs.Load.{IsOpen};
 ghost use Rattle.elf_apply.specs.Walk.{changes_all, walk_all};
-ghost use Rattle.elf_apply.specs.Windows.{FaultSays, Writes, Wrote, windows};
+ghost use Rattle.elf_apply.specs.Windows.{ApplyFaultSays, WritesBytes, WroteBytes, windows};
 
 use crate::entry::Target;
-use crate::fault::{ApplyFault, fault_of};
+use crate::fault::ApplyFault;
 use crate::passes::patch_window;
 use elf_source::{Counted, Out, Sink, Source};
 use elf_table::fill;
@@ -36,13 +36,13 @@ pub(crate) fn write_windows<S: Source, W: Sink>(
     requires fits { at + target.now.size < 2 ^ 64 }
     ensures reads { Reads src.old src.new
         (windows target.now.size * walk_all target.now + target.now.size) }
-    ensures says { IfErr result (FaultSays src.old src.new out.new) }
+    ensures says { IfErr result (ApplyFaultSays src.old src.new out.new) }
     ensures grows { Grows out.old out.new }
-    ensures wrote { Wrote out.old out.new result target.now.size }
+    ensures wrote { WroteBytes out.old out.new result target.now.size }
     ensures text { (file : List ℕ) → src.old.seen.file ≡ Some file → (patches : List _) →
         patches_of (changes_all file target.now) ≡ Ok patches →
         AllInside target.now.size patches →
-        Writes out.old out.new result (patched patches (slice file at target.now.size)) }
+        WritesBytes out.old out.new result (patched patches (slice file at target.now.size)) }
 {
     let size = target.size;
     let mut done = 0;
@@ -72,25 +72,17 @@ fn write_window<S: Source, W: Sink>(
     requires within { at + target.now.size ≤ src.old.seen.size }
     requires fits { at + target.now.size < 2 ^ 64 }
     ensures reads { Reads src.old src.new (walk_all target.now + length window.old) }
-    ensures says { IfErr result (FaultSays src.old src.new out.new) }
+    ensures says { IfErr result (ApplyFaultSays src.old src.new out.new) }
     ensures grows { Grows out.old out.new }
-    ensures wrote { Wrote out.old out.new result (length window.old) }
+    ensures wrote { WroteBytes out.old out.new result (length window.old) }
     ensures text { (file : List ℕ) → src.old.seen.file ≡ Some file → (patches : List _) →
         patches_of (changes_all file target.now) ≡ Ok patches →
         AllInside target.now.size patches →
-        Writes out.old out.new result
+        WritesBytes out.old out.new result
         (slice (patched patches (slice file at target.now.size)) low (length window.old)) }
 {
-    match fill(src, at + low, window) {
-        Ok(()) => {}
-        Err(fault) => return Err(fault_of(fault)),
-    }
-    match patch_window(src, target, low, window) {
-        Ok(()) => {}
-        Err(fault) => return Err(fault_of(fault)),
-    }
-    match out.put(window) {
-        Ok(()) => Ok(()),
-        Err(fault) => Err(ApplyFault::Out(fault)),
-    }
+    fill(src, at + low, window)?;
+    patch_window(src, target, low, window)?;
+    out.put(window)?;
+    Ok(())
 }

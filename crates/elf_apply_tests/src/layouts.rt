@@ -27,15 +27,10 @@ fn each_sort_has_its_number(rt: HostRuntime) -> Result<(), Fail> {
     for index in 1..65_u16 {
         assert!(rt; layout.push(Item::Section { index, address: 0 }) == Ok(()));
     }
-    let more = Item::Section {
-        index: 65,
-        address: 0,
-    };
+    let address = 0;
+    let more = Item::Section { index: 65, address };
     assert!(rt; layout.push(more) == Err(LayoutFault::Full));
-    let again = Item::Section {
-        index: 64,
-        address: 0,
-    };
+    let again = Item::Section { index: 64, address };
     assert!(rt; layout.push(again) == Err(LayoutFault::Repeat));
     for letter in 65..97_u8 {
         assert!(rt; letter != 0);

@@ -1,13 +1,9 @@
 pub mod Examples
-pub mod ExamplesFields
 pub mod ListedBudgets
 pub mod ListedCosts
-pub mod ListedDynamic
 pub mod ListedHeaders
-pub mod ListedNotes
 pub mod ListedOrder
 pub mod ListedParts
-pub mod ListedRelocations
 pub mod ListedSections
 pub mod ListedSegments
 pub mod ListedSymbols

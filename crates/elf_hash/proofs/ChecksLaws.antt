@@ -25,6 +25,7 @@ use Rattle.elf_headers.specs.declared.fault.Fault.TheVariants.{Refused, Source}
 use Rattle.elf_hash.specs.Lookups.{Compares}
 use Rattle.elf_hash.specs.Tables.{Checked, IsSection}
 use Rattle.elf_hash.specs.declared.hash_section.HashSection.{HashSection}
+use Rattle.elf_table.proofs.RelocationLaws.{refused_first}
 
 -- the checks up to the symbols pass
 pub record Links (file : List ℕ) (at : ℕ) : Type 0 where
@@ -61,10 +62,6 @@ answered_passed : {A : Type 0} (a : Option Refusal) (x y : A) → answered a x �
 answered_passed None x y h = (refl, cc)
 answered_passed (Some refusal) x y h = absurd (cc)
 
-answered_refused : {A : Type 0} (a : Option Refusal) (x : A) (refusal : Refusal) → answered a x ≡ Err (Refused refusal) → a ≡ Some refusal
-answered_refused None x refusal h = absurd (cc)
-answered_refused (Some other) x refusal h = cc
-
 answered_only : {A : Type 0} (a : Option Refusal) (x : A) (fault : Fault) → answered a x ≡ Err fault → (refusal : Refusal) × (fault ≡ Refused refusal)
 answered_only None x fault h = absurd (cc)
 answered_only (Some refusal) x fault h = (refusal, cc)
@@ -80,7 +77,7 @@ symbols_failed : (empty : Bool) (checks : List Check) (none some : Rows × Strin
     → (elim empty as (λ _. Result (Rows × Strings) Fault) [ true ↦ Ok none | false ↦ checked checks some ]) ≡ Err (Refused refusal)
     → first_refusal (if empty then [] else checks) ≡ Some refusal
 symbols_failed true checks none some refusal h = absurd (cc)
-symbols_failed false checks none some refusal h = answered_refused (first_refusal checks) some refusal h
+symbols_failed false checks none some refusal h = refused_first (first_refusal checks) some refusal h
 
 symbols_refused : (empty : Bool) (checks : List Check) (none some : Rows × Strings) (fault : Fault)
     → (elim empty as (λ _. Result (Rows × Strings) Fault) [ true ↦ Ok none | false ↦ checked checks some ]) ≡ Err fault

@@ -8,20 +8,21 @@ use Rattle.elf_model.specs.Hash.{Lookup as Looked, Refused as IsRefused, looked_
 use Rattle.elf_model.specs.Records.{e_shnum, section_at}
 use Rattle.elf_model.specs.declared.causes.Cause.TheVariants.{NoHash}
 use Rattle.elf_model.specs.declared.causes.Refusal.{Refusal}
-use Rattle.elf_model.proofs.CheckSteps.{first_refusal-none, first_refusal-some}
+use Rattle.elf_model.proofs.CheckSteps.{first_refusal-none, first_refusal-some, passes_front}
 use Rattle.elf_model.proofs.CostLemmas.{cost_where-le}
 use Rattle.elf_model.proofs.LookupSteps.{find_cost-early, find_cost-loaded, looked-at, looked-no_hash, looked-refused, looked_in-passed, looked_in-refused}
 use Rattle.elf_record.specs.Ehdr.{IsEhdr}
 use Rattle.elf_record.specs.declared.ehdr.Ehdr.{Ehdr}
 use Rattle.elf_source.specs.Source.{Counting}
-use Rattle.elf_headers.specs.Faults.{HeaderRead, Says}
-use Rattle.elf_headers.specs.Load.{LoadedAs, early_of, header_cost, load_cost}
+use Rattle.elf_headers.specs.Faults.{HeaderRead, Says, ReadSays}
+use Rattle.elf_headers.specs.Load.{LoadedAs, early_of, file_header_cost, load_cost}
 use Rattle.elf_headers.specs.Store.{Stored}
 use Rattle.elf_headers.specs.declared.fault.Fault.{Fault}
 use Rattle.elf_headers.specs.declared.fault.Fault.TheVariants.{Refused, Source}
-use Rattle.elf_hash.specs.Lookups.{Behind, FaultSays, Finds, Walks, behind_bytes, step_bytes, walk_bytes}
-use Rattle.elf_hash.specs.Tables.{Checked, Counts}
+use Rattle.elf_hash.specs.Lookups.{Behind, Finds, Walks, behind_bytes, step_bytes, walk_bytes}
+use Rattle.elf_hash.specs.Tables.{Checked, HasCounts}
 use Rattle.elf_hash.specs.declared.lookup.Lookup.{Lookup}
+use Rattle.elf_headers.proofs.LoadLaws.{early_is}
 
 -- nothing is there
 pub not_some : (found : Option ℕ) → ((value : ℕ) → found ≡ Some value → ⊥) → found ≡ None
@@ -66,7 +67,7 @@ module _ (file : List ℕ) (headers : ℕ) (wanted : List ℕ) (passed : Passed 
 
   pub behind_counts :
       (new : Counting) (section : ℕ) (fault : Fault) → first_hash file ≡ Some section
-      → first_refusal (hash_checks file (section_at file section)) ≡ None → Counts file (section_at file section) (Err fault)
+      → first_refusal (hash_checks file (section_at file section)) ≡ None → HasCounts file (section_at file section) (Err fault)
       → new.asked ≤ old.asked + 8 → Behind file (looked file headers wanted) old new (length wanted) (Err fault)
   behind_counts new section (Refused refusal) some checks counts asks = record {
     walks = λ other. refused_there section refusal some (first_refusal-none (hash_checks file (section_at file section)) (shape_checks file (section_at file section)) checks ∙ counts other);
@@ -94,32 +95,19 @@ module _ (file : List ℕ) (headers : ℕ) (wanted : List ℕ) (passed : Passed 
         asks = subst (λ (l : Looked). new.asked ≤ old.asked + behind_bytes l.compared (length wanted)) (sym same) (omega arith);
       }
 
--- without a limit no refusal is for want of budget
-pub says_never : (old new : Counting) (n : ℕ) (fault : Fault) → old.most ≡ None → Says old new n fault → FaultSays old new fault
-says_never old new n (Refused refusal) unlimited says = λ budget. let set = (says budget).1.is_set in cc
-says_never old new n (Source fault at) unlimited says = says
-
 -- a refusal of the file header, of the load, and of what stands behind
-pub finds_header : (file : List ℕ) (headers : ℕ) (wanted : List ℕ) (old new : Counting) (fault : Fault) → FaultSays old new fault
+pub finds_header : (file : List ℕ) (headers : ℕ) (wanted : List ℕ) (old new : Counting) (fault : Fault) → ReadSays old new fault
     → HeaderRead file (Err fault) → Finds file (looked file headers wanted) (Err fault)
 finds_header file headers wanted old new (Refused refusal) says read =
     ap (λ (l : Looked). l.answer) (looked-refused file headers wanted refusal (first_refusal-some (header_checks file) (load_checks file headers) refusal (read says)))
 finds_header file headers wanted old new (Source fault at) says read = tt
 
-pub finds_load : (file : List ℕ) (headers : ℕ) (wanted : List ℕ) (old new : Counting) (fault : Fault) (store : Stored) → FaultSays old new fault
+pub finds_load : (file : List ℕ) (headers : ℕ) (wanted : List ℕ) (old new : Counting) (fault : Fault) (store : Stored) → ReadSays old new fault
     → first_refusal (header_checks file) ≡ None → store.slots ≡ headers → LoadedAs file (Err fault) store → Finds file (looked file headers wanted) (Err fault)
 finds_load file headers wanted old new (Refused refusal) store says passed slots loads =
     let fails = ap (λ (n : ℕ). first_refusal (load_checks file n)) (sym slots) ∙ loads says in
     ap (λ (l : Looked). l.answer) (looked-refused file headers wanted refusal (first_refusal-none (header_checks file) (load_checks file headers) passed ∙ fails))
 finds_load file headers wanted old new (Source fault at) store says passed slots loads = tt
-
--- what the file header asks for
-pub header_most : (size : ℕ) → header_cost size ≤ 64
-header_most size = cost_where-le (is_none (first_refusal (length_checks size))) 64
-
--- and the section headers
-pub load_most : (header : Ehdr) (size headers : ℕ) → load_cost header size headers ≤ 64 * header.e_shnum
-load_most header size headers = cost_where-le (is_none (first_refusal (early_of header size headers))) (64 * header.e_shnum)
 
 -- a lookup costs the file header at least
 pub find_least : (file : List ℕ) (headers : ℕ) (wanted : List ℕ) → 64 ≤ find_cost file headers wanted
@@ -128,12 +116,6 @@ find_least file headers wanted = by_cases (first_refusal (header_checks file ++ 
     by_cases : (first : Option Refusal) → first_refusal (header_checks file ++ early_checks file headers) ≡ first → 64 ≤ find_cost file headers wanted
     by_cases None e = let cost = find_cost-loaded file headers wanted e in omega (arith, cost)
     by_cases (Some refusal) e = let cost = find_cost-early file headers wanted refusal e in omega (arith, cost)
-
--- the checks before the section headers are read, by the file header's fields
-early_is : (file : List ℕ) (header : Ehdr) (size headers : ℕ) → IsEhdr file 0 header → size ≡ length file
-    → first_refusal (early_of header size headers) ≡ first_refusal (early_checks file headers)
-early_is file header size headers is same =
-    rw (same, is.e_phnum, is.e_shstrndx, is.e_shnum, is.e_shoff, is.e_shentsize, is.e_phentsize, is.e_phoff) refl
 
 -- and the section headers where the checks before them pass
 pub load_within : (file : List ℕ) (header : Ehdr) (size headers : ℕ) (wanted : List ℕ) → IsEhdr file 0 header → size ≡ length file
@@ -148,14 +130,6 @@ load_within file header size headers wanted is same passed = by_cases (first_ref
         let count : header.e_shnum ≡ e_shnum file = is.e_shnum in
         omega (arith, cost, count)
     by_cases (Some refusal) some = find_least file headers wanted
-
--- where two lists of checks pass, the first does
-passes_front : (front rest : List Check) → first_refusal (front ++ rest) ≡ None → first_refusal front ≡ None
-passes_front front rest h = by_cases (first_refusal front) (λ refusal fails. first_refusal-some front rest refusal fails)
-  where
-    by_cases : (first : Option Refusal) → ((refusal : Refusal) → first ≡ Some refusal → first_refusal (front ++ rest) ≡ Some refusal) → first ≡ None
-    by_cases None fails = refl
-    by_cases (Some refusal) fails = let refused = fails refusal refl in cc
 
 -- what a lookup in a loaded file costs
 pub cost_behind : (file : List ℕ) (headers : ℕ) (wanted : List ℕ) → Passed file headers

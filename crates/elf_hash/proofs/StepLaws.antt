@@ -14,7 +14,7 @@ use Rattle.elf_model.proofs.WalkLaws.{not_both}
 use Rattle.elf_headers.specs.Faults.{IsOfRead}
 use Rattle.elf_headers.specs.declared.fault.Fault.{Fault}
 use Rattle.elf_headers.specs.declared.fault.Fault.TheVariants.{Refused, Source}
-use Rattle.elf_hash.specs.Lookups.{Answers, Compares, Walks}
+use Rattle.elf_hash.specs.Lookups.{AnswersLookup, Compares, Walks}
 use Rattle.elf_hash.specs.Tables.{IsTable}
 use Rattle.elf_hash.specs.declared.hash_table.HashTable.{HashTable}
 use Rattle.elf_hash.specs.declared.lookup.Lookup.TheVariants.{Found}
@@ -97,7 +97,7 @@ module _ (file : List ℕ) (at : ℕ) (wanted : List ℕ) where
       (steps word place link taken : ℕ) (symbol : Sym) → Along file at wanted steps word place → 0 < word → is_index file at word ≡ true
       → same_symbol file (linked_at file at) wanted word ≡ Ok true → link ≡ sh_link file at → taken ≡ suc steps
       → IsSym file (symbol_at file (linked_at file at) word) symbol
-      → Answers file (looked_up file at wanted) (Found link word symbol taken)
+      → AnswersLookup file (looked_up file at wanted) (Found link word symbol taken)
   answers_found steps word place link taken symbol along some is equal linked counted stands =
       let found : looked_up file at wanted ≡ record { answer = IsFound link word (symbol_at file (linked_at file at) word); compared = taken } =
       rw (linked, counted) (walk_found steps word place along some is equal) in

@@ -6,7 +6,7 @@ use Rattle.elf_model.specs.Names.{pad64}
 use Rattle.elf_model.specs.Tables.{linked_at}
 use Rattle.elf_record.specs.Sym.{IsSym}
 use Rattle.elf_record.specs.declared.sym.Sym.{Sym}
-use Rattle.elf_source.specs.Source.{Counting, Faults}
+use Rattle.elf_source.specs.Source.{Counting}
 use Rattle.elf_headers.specs.declared.fault.Fault.{Fault}
 use Rattle.elf_headers.specs.declared.fault.Fault.TheVariants.{Refused, Source}
 use Rattle.elf_hash.specs.declared.lookup.Lookup.{Lookup}
@@ -38,28 +38,23 @@ behind_bytes steps length = 8 + walk_bytes steps length
 abbrev pub find_bytes : ℕ → ℕ → ℕ → ℕ
 find_bytes size slots length = 76 + 64 * slots + size / 4 * step_bytes length
 
--- an answer is the one that a lookup gives, or not its refusal
-abbrev pub Answers : List ℕ → Looked → Lookup → Type 0
-Answers file looked (Found section index symbol steps) =
+-- an answer is the one that a lookup gives, with its number of steps, and the symbol is the one at its place
+abbrev pub AnswersLookup : List ℕ → Looked → Lookup → Type 0
+AnswersLookup file looked (Found section index symbol steps) =
     (at : ℕ) × (looked ≡ record { answer = IsFound section index at; compared = steps }) × IsSym file at symbol
-Answers file looked (Absent steps) = looked ≡ record { answer = IsAbsent; compared = steps }
+AnswersLookup file looked (Absent steps) = looked ≡ record { answer = IsAbsent; compared = steps }
 
 -- WHAT A LOOKUP FINDS: the answer that it gives, with its steps, the section, the index and the symbol; or its refusal
 abbrev pub Finds : List ℕ → Looked → Result Lookup Fault → Type 0
-Finds file looked (Ok lookup) = Answers file looked lookup
+Finds file looked (Ok lookup) = AnswersLookup file looked lookup
 Finds file looked (Err (Refused refusal)) = looked.answer ≡ IsRefused refusal
 Finds file looked (Err (Source fault at)) = Unit {0}
 
 -- the same of a part of it, which a limit may stop
 abbrev pub Walks : List ℕ → Looked → Result Lookup Fault → Type 0
-Walks file looked (Ok lookup) = Answers file looked lookup
+Walks file looked (Ok lookup) = AnswersLookup file looked lookup
 Walks file looked (Err (Refused refusal)) = (IsBudget refusal → ⊥) → looked.answer ≡ IsRefused refusal
 Walks file looked (Err (Source fault at)) = Unit {0}
-
--- what a fault says where no limit is set: the source's own names the read that failed, and no refusal is for want of budget
-abbrev pub FaultSays : Counting → Counting → Fault → Type 0
-FaultSays old new (Refused refusal) = IsBudget refusal → ⊥
-FaultSays old new (Source fault at) = Faults old.seen new.seen fault × (at ≡ new.stopped)
 
 -- a symbol's name is compared: the symbol where it is the wanted one, nothing where it is another, or a refusal at the symbol
 abbrev pub Compares : List ℕ → ℕ → List ℕ → ℕ → Result (Option Sym) Fault → Type 0

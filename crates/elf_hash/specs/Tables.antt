@@ -40,7 +40,7 @@ pub record IsTable (file : List ℕ) (at : ℕ) (t : HashTable) : Type 0 where
   pub chains : t.nchain ≡ nchain file at
 
 -- the counts are those of a table of the section's size, and this is the table; or the refusal
-abbrev pub Counts : List ℕ → ℕ → Result HashTable Fault → Type 0
-Counts file at (Ok table) = (first_refusal (shape_checks file at) ≡ None) × IsTable file at table
-Counts file at (Err (Refused refusal)) = (IsBudget refusal → ⊥) → first_refusal (shape_checks file at) ≡ Some refusal
-Counts file at (Err (Source fault offset)) = Unit {0}
+abbrev pub HasCounts : List ℕ → ℕ → Result HashTable Fault → Type 0
+HasCounts file at (Ok table) = (first_refusal (shape_checks file at) ≡ None) × IsTable file at table
+HasCounts file at (Err (Refused refusal)) = (IsBudget refusal → ⊥) → first_refusal (shape_checks file at) ≡ Some refusal
+HasCounts file at (Err (Source fault offset)) = Unit {0}

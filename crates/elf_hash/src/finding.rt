@@ -1,11 +1,11 @@
 //! The call that looks a name up.
 ghost use Rattle.std.specs.Prelude.{◌≡◌, ℕ, ◌+◌, ◌/◌, ◌≤◌, List, length, None, Some, IfErr, IfOk};
-ghost use Rattle.elf_hash.specs.Lookups.{Behind, FaultSays, Finds};
+ghost use Rattle.elf_hash.specs.Lookups.{Behind, Finds};
+ghost use Rattle.elf_headers.specs.Faults.{ReadSays, Says};
 ghost use Rattle.elf_hash.specs.Lookups.{behind_bytes, find_bytes, steps_of};
 ghost use Rattle.elf_model.specs.Checks.{first_refusal, header_checks, load_checks};
 ghost use Rattle.elf_model.specs.Find.{find_cost, looked};
 ghost use Rattle.elf_source.specs.Source.{Reads};
-ghost use Rattle.elf_headers.specs.Faults.{Says};
 ghost use Rattle.elf_headers.specs.Load.{Belongs};
 
 use crate::checks::{checked, first_hash, refused};
@@ -47,7 +47,7 @@ pub fn find<S: Source>(
     // For every source.
     ensures reads { Reads src.old src.new
         (find_bytes src.old.seen.size store.old.slots (length wanted.now)) }
-    ensures says { IfErr result (FaultSays src.old src.new) }
+    ensures says { IfErr result (ReadSays src.old src.new) }
     ensures steps { IfOk result (λ lookup. steps_of lookup ≤ src.old.seen.size / 4) }
 {
     let header = header(src)?;

@@ -1,7 +1,7 @@
 //! The walk along the chain of a name.
 ghost use Rattle.std.specs.Prelude.{◌≡◌, ℕ, ◌+◌, ◌*◌, ◌<◌, ◌≤◌, List, length, Some, IfErr, IfOk};
 ghost use Rattle.elf_hash.specs.Lookups.{Compares, Walks, steps_of, symbol_bytes, walk_bytes};
-ghost use Rattle.elf_hash.specs.Tables.{Counts, IsSection, IsTable, Lies};
+ghost use Rattle.elf_hash.specs.Tables.{HasCounts, IsSection, IsTable, Lies};
 ghost use Rattle.elf_model.specs.Bytes.{field};
 ghost use Rattle.elf_model.specs.Hash.{looked_up};
 ghost use Rattle.elf_source.specs.Source.{Reads};
@@ -29,7 +29,7 @@ pub(crate) fn counted<S: Source>(
     ensures says { IfErr result (Says src.old src.new 8) }
     ensures same { IfOk result (λ table. table.section ≡ section.now) }
     ensures counts { (file : List ℕ) (at : ℕ) → src.old.seen.file ≡ Some file →
-        IsSection file at section.now → Counts file at result }
+        IsSection file at section.now → HasCounts file at result }
 {
     let nbucket = read_word(src, section.at)?;
     let nchain = read_word(src, section.at + 4)?;

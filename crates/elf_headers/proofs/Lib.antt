@@ -1,3 +1,4 @@
+pub mod LoadLaws
 pub mod OpenLaws
 pub mod PagesRead
 pub mod RowsHeld

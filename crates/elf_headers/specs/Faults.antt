@@ -6,7 +6,7 @@ use Rattle.elf_model.specs.declared.causes.Cause.TheVariants.{Budget}
 use Rattle.elf_model.specs.declared.causes.Refusal.{Refusal}
 use Rattle.elf_record.specs.Ehdr.{IsEhdr}
 use Rattle.elf_record.specs.declared.ehdr.Ehdr.{Ehdr}
-use Rattle.elf_source.specs.Source.{Counting, Faults, OverLimit}
+use Rattle.elf_source.specs.Source.{Seen, Counting, Faults, OverLimit}
 use Rattle.elf_headers.specs.declared.fault.Fault.{Fault}
 use Rattle.elf_headers.specs.declared.fault.Fault.TheVariants.{Refused, Source}
 
@@ -20,10 +20,22 @@ abbrev pub Says : Counting → Counting → ℕ → Fault → Type 0
 Says old new n (Refused refusal) = RefusalSays old new n refusal
 Says old new n (Source fault at) = Faults old.seen new.seen fault × (at ≡ new.stopped)
 
+-- what a fault says of the source where no limit is set: the source's own names the read that stopped, and no refusal is
+-- for want of budget
+abbrev pub ReadSays : Counting → Counting → Fault → Type 0
+ReadSays old new (Refused refusal) = IsBudget refusal → ⊥
+ReadSays old new (Source fault at) = Faults old.seen new.seen fault × (at ≡ new.stopped)
+
 -- a fault of a read at an offset: the source's, or a refusal for want of budget
 abbrev pub IsAt : ℕ → Fault → Type 0
 IsAt at (Refused refusal) = refusal ≡ record { at = at; cause = Budget }
 IsAt at (Source fault offset) = offset ≡ at
+
+-- the source was read once, or not at all for want of budget
+abbrev pub FillsOnce : {X : Type 0} → (Seen → ℕ → ℕ → Seen → Type 0) → Seen → Seen → ℕ → ℕ → Result X Fault → Type 0
+FillsOnce one_read old new at n (Ok x) = one_read old at n new
+FillsOnce one_read old new at n (Err (Refused refusal)) = new ≡ old
+FillsOnce one_read old new at n (Err (Source fault offset)) = one_read old at n new
 
 -- a fault of a read at some offset
 abbrev pub IsOfRead : Fault → Type 0

@@ -49,8 +49,8 @@ abbrev pub section_place : Ehdr → ℕ → ℕ
 section_place header i = header.e_shoff + 64 * i
 
 -- how many bytes the file header of a file of this size asks for
-abbrev pub header_cost : ℕ → ℕ
-header_cost size = cost_where (is_none (first_refusal (length_checks size))) 64
+abbrev pub file_header_cost : ℕ → ℕ
+file_header_cost size = cost_where (is_none (first_refusal (length_checks size))) 64
 
 -- how many bytes a load asks for at most, by the file header
 abbrev pub load_cost : Ehdr → ℕ → ℕ → ℕ

@@ -25,8 +25,8 @@ abbrev pub row : Stored → ℕ → List ℕ
 row store i = slice_index_or store.rows i []
 
 -- the bytes of the program header of an index
-abbrev pub segment_row : Stored → ℕ → List ℕ
-segment_row store i = slice_index_or store.segment_rows i []
+abbrev pub segment_bytes : Stored → ℕ → List ℕ
+segment_bytes store i = slice_index_or store.segment_rows i []
 
 -- the rows of one size from an offset on, so many of them
 unfoldable pub rows_from : List ℕ → ℕ → ℕ → ℕ → List (List ℕ)
@@ -44,4 +44,4 @@ HoldsSections file store = (i : ℕ) → i < store.loaded → row store i ≡ sl
 
 -- the loaded rows are the file's program headers
 abbrev pub HoldsSegments : List ℕ → Stored → Type 0
-HoldsSegments file store = (i : ℕ) → i < store.segments → segment_row store i ≡ slice file (segment_at file i) 56
+HoldsSegments file store = (i : ℕ) → i < store.segments → segment_bytes store i ≡ slice file (segment_at file i) 56

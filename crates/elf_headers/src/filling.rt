@@ -2,13 +2,14 @@
 ghost use Rattle.std.specs.Prelude.{◌≡◌, ℕ, List, length, Some, IfErr, OnOk};
 ghost use Rattle.elf_model.specs.Bytes.{slice};
 ghost use Rattle.elf_source.specs.Source.{IsReadable, Reads};
-ghost use Rattle.elf_headers.specs.Faults.{Says, IsAt};
+ghost use Rattle.elf_headers.specs.Faults.{FillsOnce, Says, IsAt};
 
 use crate::fault::Fault;
 use elf_record::{Cause, Refusal};
 use elf_source::{AskFault, Counted, Source};
 
-/// Fills `out`, at most 4,096 bytes, with the bytes from the offset `at` on.
+/// Fills `out`, at most 4,096 bytes, with the bytes from the offset `at` on, none of them past the
+/// source's length: one read.
 ///
 /// # Errors
 /// A refusal for want of budget, or the source's fault; both name `at`. Then `out` holds any bytes.
@@ -17,6 +18,7 @@ pub fn fill<S: Source>(src: &mut Counted<S>, at: u64, out: &mut [u8]) -> Result<
     ensures reads { Reads src.old src.new (length out.old) }
     ensures says { IfErr result (Says src.old src.new (length out.old)) }
     ensures at { IfErr result (IsAt at) }
+    ensures once { FillsOnce S.one_read src.old.seen src.new.seen at (length out.old) result }
     ensures read { (file : List ℕ) → src.old.seen.file ≡ Some file →
         OnOk result (out.new ≡ slice file at (length out.old)) }
 {

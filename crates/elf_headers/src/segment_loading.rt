@@ -11,9 +11,10 @@ use crate::store::HeaderStore;
 use elf_source::{Counted, Source};
 
 impl Loaded {
-    /// Loads the program headers of a file that has no sections into the store, each read once; the
-    /// section headers that were loaded are let go. They stay until the next load into the store
-    /// (gABI 5, Program Header).
+    /// Loads the program headers of a file that has no sections into the store, each read once: 56
+    /// bytes each are asked for, and nothing where there are none. They are no more than the store has
+    /// slots, and lie within the source. No section header stays loaded. They stay until the next load
+    /// into the store (gABI 5, Program Header).
     ///
     /// # Errors
     /// A fault of a read, or a refusal for want of budget, at the offset that was asked for. Then

@@ -7,7 +7,7 @@ ghost use Rattle.elf_record.specs.Phdr.{IsPhdr};
 ghost use Rattle.elf_record.specs.Shdr.{IsShdr};
 ghost use Rattle.elf_source.specs.Source.{Reads};
 ghost use Rattle.elf_headers.specs.Faults.{Says, IsOfRead};
-ghost use Rattle.elf_headers.specs.Store.{empty, emptied, row, segment_row};
+ghost use Rattle.elf_headers.specs.Store.{empty, emptied, row, segment_bytes};
 ghost use Rattle.elf_headers.specs.Store.{AreRows, HoldsSections, HoldsSegments, rows_from};
 
 use crate::fault::Fault;
@@ -52,7 +52,8 @@ impl Model for HeaderStore {
 }
 
 impl HeaderStore {
-    /// A store of `headers` slots, with no header loaded.
+    /// A store of `headers` slots, 1 to 65,279, with no header loaded. Its 64 bytes for each slot are
+    /// taken from `alloc` here, and no other call takes any.
     ///
     /// # Errors
     /// Where memory is refused.
@@ -86,7 +87,8 @@ impl HeaderStore {
         64 * u64::from(self.slots)
     }
 
-    /// The number of section headers that are loaded, at most [`HeaderStore::slots`].
+    /// The number of section headers that are loaded, at most [`HeaderStore::slots`]; 0 while program
+    /// headers are.
     pub fn loaded(&self) -> u16
         ensures value { result ≡ self.now.loaded }
         ensures within { self.now.loaded ≤ self.now.slots }
@@ -95,7 +97,17 @@ impl HeaderStore {
         self.loaded
     }
 
-    /// The section header of an index below [`HeaderStore::loaded`].
+    /// The number of program headers that are loaded, at most [`HeaderStore::slots`]; 0 while section
+    /// headers are.
+    pub fn segments(&self) -> u16
+        ensures value { result ≡ self.now.segments }
+        ensures within { self.now.segments ≤ self.now.slots }
+        ensures permitted { self.now.slots ≤ 65279 }
+    {
+        self.segments
+    }
+
+    /// The section header of an index below [`HeaderStore::loaded`] (gABI 4, Section Header).
     pub fn section(&self, i: u16) -> Shdr
         requires { i < self.now.loaded }
         ensures fields { IsShdr (row self.now i) 0 result }
@@ -103,6 +115,16 @@ impl HeaderStore {
             IsShdr file (section_at file i) result }
     {
         Shdr::decode(self.row(i))
+    }
+
+    /// The program header of an index below [`HeaderStore::segments`] (gABI 5, Program Header).
+    pub fn segment(&self, i: u16) -> Phdr
+        requires { i < self.now.segments }
+        ensures fields { IsPhdr (segment_bytes self.now i) 0 result }
+        ensures stands { (file : List ℕ) → HoldsSegments file self.now →
+            IsPhdr file (segment_at file i) result }
+    {
+        Phdr::decode(self.segment_row(i))
     }
 
     /// The bytes of the section header of an index below [`HeaderStore::loaded`].
@@ -113,29 +135,10 @@ impl HeaderStore {
         row_of(&self.bytes, i)
     }
 
-    /// The number of program headers that are loaded, at most [`HeaderStore::slots`].
-    pub fn segments(&self) -> u16
-        ensures value { result ≡ self.now.segments }
-        ensures within { self.now.segments ≤ self.now.slots }
-        ensures permitted { self.now.slots ≤ 65279 }
-    {
-        self.segments
-    }
-
-    /// The program header of an index below [`HeaderStore::segments`].
-    pub fn segment(&self, i: u16) -> Phdr
-        requires { i < self.now.segments }
-        ensures fields { IsPhdr (segment_row self.now i) 0 result }
-        ensures stands { (file : List ℕ) → HoldsSegments file self.now →
-            IsPhdr file (segment_at file i) result }
-    {
-        Phdr::decode(self.segment_row(i))
-    }
-
     /// The bytes of the program header of an index below [`HeaderStore::segments`].
     fn segment_row(&self, i: u16) -> &[u8; 56]
         requires { i < self.now.segments }
-        ensures { result.now ≡ segment_row self.now i }
+        ensures { result.now ≡ segment_bytes self.now i }
     {
         row_of(&self.bytes, i)
     }

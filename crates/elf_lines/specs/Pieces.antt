@@ -3,7 +3,7 @@ use Rattle.std.specs.Prelude.{ℕ, ◌≡◌, Bool, true, false, List, ◌++◌,
 use Rattle.elf_model.specs.Names.{Shown}
 use Rattle.elf_model.specs.Names.Shown.{Whole, Cut}
 use Rattle.elf_source.specs.declared.faults.OutFault.{OutFault}
-use Rattle.elf_source.specs.Output.{Written, Takes, TakesFront, Fails}
+use Rattle.elf_source.specs.Output.{Written, Takes, TakesFront, OutFails}
 
 -- the sink took what stands before the rest of a text
 pub record TakesBefore (old new : Written) (text rest : List ℕ) : Type 0 where
@@ -15,7 +15,7 @@ pub record TakesBefore (old new : Written) (text rest : List ℕ) : Type 0 where
 abbrev pub PutsBefore : {X : Type 0} → Written → Written → Result X OutFault
     → (text rest : List ℕ) → Type 0
 PutsBefore old new (Ok x) text rest = TakesBefore old new text rest
-PutsBefore old new (Err fault) text rest = TakesFront old new text × Fails new fault
+PutsBefore old new (Err fault) text rest = TakesFront old new text × OutFails new fault
 
 -- a name as it is shown, by whether it was cut
 abbrev pub shown_as : Bool → List ℕ → Shown

@@ -14,8 +14,8 @@ use elf_record::numbers::{
     DT_SONAME, DT_STRSZ, DT_STRTAB, DT_SYMBOLIC, DT_SYMENT, DT_SYMTAB, DT_TEXTREL,
 };
 
-/// The line of a dynamic entry up to the name: its index in its table, tag and value. The space
-/// before the name is the last byte.
+/// The `D` line of a dynamic entry up to the name: its index in its table, tag and value (gABI 5,
+/// Dynamic Section). The space before the name is the last byte.
 pub fn dynamic_front(index: u64, entry: &Dyn) -> Line
     // A tag is read as a signed number, and shown as its bits.
     ensures { (file : List ℕ) (at : ℕ) → IsDyn file at entry.now →

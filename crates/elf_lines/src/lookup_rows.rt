@@ -6,7 +6,7 @@ ghost use Rattle.elf_source.specs.Output.{Puts};
 use crate::columns::{Line, put, put_decimal, put_left};
 use elf_source::{Out, OutFault, Sink};
 
-/// The line that ends a lookup: whether the name was found, and how many symbols were compared.
+/// The `F` line, which ends a lookup: whether the name was found, and how many symbols were compared.
 #[tactic(auto, unfolding(elf_model::specs::Lines::steps_line))]
 pub fn steps_row(found: bool, steps: u32) -> Line
     ensures { result.items ≡ steps_line found steps }
@@ -21,7 +21,7 @@ pub fn steps_row(found: bool, steps: u32) -> Line
     line
 }
 
-/// Writes the line that ends a lookup: whether the name was found, and how many symbols were
+/// Writes the `F` line, which ends a lookup: whether the name was found, and how many symbols were
 /// compared.
 ///
 /// # Errors

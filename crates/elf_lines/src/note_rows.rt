@@ -4,7 +4,7 @@ ghost use Rattle.std.specs.Prelude.{◌≡◌, ◌+◌, ◌*◌, ◌≤◌, ◌+
 ghost use Rattle.arrayvec.specs.ArrayVec.{array_vec_len};
 ghost use Rattle.elf_model.specs.LineFronts.{note_front};
 ghost use Rattle.elf_model.specs.Lines.{cut_mark, hex_bytes, note_line, note_tail};
-ghost use Rattle.elf_source.specs.Output.{Fails, Puts};
+ghost use Rattle.elf_source.specs.Output.{OutFails, Puts};
 ghost use Rattle.elf_lines.specs.Notes.{IsDescriptor};
 ghost use Rattle.elf_lines.specs.Pieces.{shown_as};
 
@@ -17,8 +17,9 @@ use hex::encode_to_slice;
 /// How many bytes of a note's descriptor are shown.
 const SHOWN_DESCRIPTOR: u32 = 32;
 
-/// The line of a note up to the name: the index of its section or program header, type, and the
-/// sizes of its name and its descriptor. The space before the name is the last byte.
+/// The `N` line of a note up to the name: the index of its section or program header, type, and the
+/// sizes of its name and its descriptor in bytes (gABI 5, Note Section). The space before the name is
+/// the last byte.
 #[tactic(auto, unfolding(elf_model::specs::LineFronts::note_front))]
 pub fn note_front(index: u16, head: &NoteHead) -> Line
     ensures { result.items ≡ note_front index head.now.kind head.now.namesz head.now.descsz }
@@ -36,8 +37,8 @@ pub fn note_front(index: u16, head: &NoteHead) -> Line
     line
 }
 
-/// Writes the line of a note, with its name and the first bytes of its descriptor: 32 of them, or
-/// all where it has fewer.
+/// Writes the `N` line of a note, with its name, which `is_cut` where it has more bytes than these,
+/// and the first bytes of its descriptor: 32 of them, or all where it has fewer.
 ///
 /// # Errors
 /// A fault of the output, with a front of the line written.
@@ -51,7 +52,7 @@ pub fn show_note<W: Sink>(
 ) -> Result<(), OutFault>
     requires { length first_bytes.now ≤ 32 }
     ensures grows { Grows out.old out.new }
-    ensures fails { IfErr result (Fails out.new) }
+    ensures fails { IfErr result (OutFails out.new) }
     ensures puts { (descriptor : List ℕ) → IsDescriptor first_bytes.now head.now.descsz descriptor →
         let front = note_front index head.now.kind head.now.namesz head.now.descsz in
         Puts out.old out.new result (note_line front (shown_as is_cut name.now) descriptor) }

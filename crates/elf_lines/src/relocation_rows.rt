@@ -15,8 +15,8 @@ use elf_record::numbers::{
 };
 use itoa::Buffer;
 
-/// The line of a relocation entry up to the name: the index of its section, offset, type on this
-/// machine, symbol and addend. The space before the name is the last byte.
+/// The `R` line of a relocation entry up to the name: the index of its section, offset, type on this
+/// machine, symbol and addend (gABI 4, Relocation). The space before the name is the last byte.
 #[tactic(auto, unfolding(elf_model::specs::LineFronts::relocation_front))]
 pub fn relocation_front(section: u16, machine: u16, entry: &Rela) -> Line
     ensures { (file : List ℕ) (at : ℕ) → IsRela file at entry.now →
@@ -42,7 +42,8 @@ pub fn relocation_front(section: u16, machine: u16, entry: &Rela) -> Line
 #[tactic(auto, unfolding(elf_model::specs::NameTables::relocation_type_text))]
 fn put_relocation_type(line: &mut Line, machine: u16, kind: u32)
     requires { array_vec_len line.old + 32 ≤ 256 }
-    ensures items { line.new.items ≡ line.old.items ++ left_in 10 (relocation_type_text machine kind) }
+    ensures items { line.new.items
+        ≡ line.old.items ++ left_in 10 (relocation_type_text machine kind) }
     ensures len { array_vec_len line.new ≤ array_vec_len line.old + 32 }
 {
     if machine != EM_X86_64 {

@@ -11,7 +11,7 @@ use elf_record::numbers::{ET_CORE, ET_DYN, ET_EXEC, ET_NONE, ET_REL};
 use elf_record::{Cause, Ehdr, Refusal};
 use elf_source::{Out, OutFault, Sink};
 
-/// The line of a file header: type, machine, entry point, the places of the program headers and the
+/// The `H` line of a file header: type, machine, entry point, the places of the program headers and the
 /// section headers, flags, their numbers, and the section of the section names (gABI 4, ELF
 /// Header).
 #[tactic(auto, unfolding(crate::specs::Rows::header_line, crate::specs::Rows::file_type_text))]
@@ -42,7 +42,7 @@ pub fn header_row(header: &Ehdr) -> Line
     line
 }
 
-/// The line of a refusal: the file offset that it points to, and its cause.
+/// The `!` line of a refusal: the file offset that it points to, and its cause.
 #[tactic(auto, unfolding(elf_model::specs::Lines::refusal_line))]
 pub fn refusal_row(refusal: Refusal) -> Line
     ensures { result.items ≡ refusal_line refusal }

@@ -15,8 +15,8 @@ use elf_record::numbers::{
 };
 use elf_record::{SectionFlags, Shdr};
 
-/// The line of a section header up to the name: its index, type, flags, address, file offset, size,
-/// link and info. The space before the name is the last byte.
+/// The `S` line of a section header up to the name: its index, type, flags, address, file offset,
+/// size, link and info (gABI 4, Section Header). The space before the name is the last byte.
 #[tactic(auto, unfolding(crate::specs::Rows::section_front, crate::specs::Rows::section_type_text))]
 pub fn section_front(index: u16, header: &Shdr) -> Line
     ensures { (file : List ℕ) (at : ℕ) → IsShdr file at header.now →

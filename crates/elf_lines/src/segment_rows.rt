@@ -14,8 +14,8 @@ use elf_record::numbers::{
 };
 use elf_record::{Phdr, SegmentFlags};
 
-/// The line of a program header: its index, type, permissions, file offset, virtual and physical
-/// address, size in the file and in memory, and alignment.
+/// The `P` line of a program header: its index, type, permissions, file offset, virtual and physical
+/// address, size in the file and in memory, and alignment (gABI 5, Program Header).
 #[tactic(auto, unfolding(crate::specs::Rows::segment_line, crate::specs::Rows::segment_type_text))]
 pub fn segment_row(index: u16, header: &Phdr) -> Line
     ensures { (file : List ℕ) (at : ℕ) → IsPhdr file at header.now →

@@ -7,7 +7,7 @@ ghost use Rattle.elf_model.specs.LineFronts.{symbol_front};
 ghost use Rattle.elf_model.specs.Lines.{named_line};
 ghost use Rattle.elf_model.specs.Names.Shown.{Whole};
 ghost use Rattle.elf_record.specs.Sym.{IsSym};
-ghost use Rattle.elf_source.specs.Output.{Fails, Puts};
+ghost use Rattle.elf_source.specs.Output.{OutFails, Puts};
 
 use crate::columns::{Line, put, put_decimal, put_hex, put_name_or_decimal};
 use crate::named::show_named;
@@ -19,8 +19,9 @@ use elf_record::numbers::{
 };
 use elf_source::{Out, OutFault, Sink};
 
-/// The line of a symbol up to the name: the index of its section, its own index, value, size, type,
-/// binding, visibility and place. The space before the name is the last byte.
+/// The `Y` line of a symbol up to the name: the index of its section, its own index, value, size,
+/// type, binding, visibility and place (gABI 4, Symbol Table). The space before the name is the last
+/// byte.
 #[tactic(auto, unfolding(elf_model::specs::LineFronts::symbol_front))]
 pub fn symbol_front(section: u16, index: u64, symbol: &Sym) -> Line
     ensures { (file : List ℕ) (at : ℕ) → IsSym file at symbol.now →
@@ -60,7 +61,7 @@ pub fn symbol_front(section: u16, index: u64, symbol: &Sym) -> Line
     line
 }
 
-/// Writes the line of a symbol with its name, whole, as it is given.
+/// Writes the `Y` line of a symbol with its name, whole, as it is given.
 ///
 /// # Errors
 /// A fault of the output, with a front of the line written.
@@ -74,7 +75,7 @@ pub fn show_symbol<W: Sink>(
     ensures puts { (file : List ℕ) (at : ℕ) → IsSym file at symbol.now →
         let front = symbol_front file at section index in
         Puts out.old out.new result (named_line front (Whole name.now)) }
-    ensures fails { IfErr result (Fails out.new) }
+    ensures fails { IfErr result (OutFails out.new) }
     ensures grows { Grows out.old out.new }
 {
     show_named(symbol_front(section, index, symbol), name, false, out)

@@ -11,7 +11,7 @@ use Rattle.elf_table.specs.Tables.{Rows, size_of}
 use Rattle.elf_headers.specs.declared.fault.Fault.{Fault}
 use Rattle.elf_table.specs.declared.row.Row.{Row}
 use Rattle.elf_listing.specs.Kinds.{row_size, own_cost, rows_cost, IsRowOf}
-use Rattle.elf_listing.specs.Shows.{Whole, Stopped}
+use Rattle.elf_listing.specs.Shows.{WroteItems, Stopped}
 use Rattle.elf_listing.specs.Stops.{stop_of}
 use Rattle.elf_listing.specs.declared.rows.Kind.{Kind}
 use Rattle.elf_listing.specs.declared.stop.Stop.{Stop}
@@ -19,20 +19,20 @@ use Rattle.elf_listing.proofs.EachLaws.{each-none, each-more, each-front}
 use Rattle.elf_listing.proofs.ShowLaws.{Whole-none, Whole-then, Stopped-then, Stopped-more, Stopped-unread}
 
 -- no row was shown yet
-pub rows_none : (row : ℕ → List Item) (i : ℕ) (a : Written) → i ≡ 0 → Whole a a (each row 0 i)
+pub rows_none : (row : ℕ → List Item) (i : ℕ) (a : Written) → i ≡ 0 → WroteItems a a (each row 0 i)
 rows_none row i a first = rw (first, each-none row) (Whole-none a)
 
 -- a row more was shown
-pub rows_more : (row : ℕ → List Item) (i next : ℕ) {a b c : Written} → next ≡ i + 1 → Whole a b (each row 0 i) → Whole b c (row i) → Whole a c (each row 0 next)
+pub rows_more : (row : ℕ → List Item) (i next : ℕ) {a b c : Written} → next ≡ i + 1 → WroteItems a b (each row 0 i) → WroteItems b c (row i) → WroteItems a c (each row 0 next)
 rows_more row i next step before this = rw (step, each-more row i) (Whole-then before this)
 
 -- a read failed before the next row
-pub rows_unread : (row : ℕ → List Item) (i count : ℕ) (a b : Written) (fault : Fault) (at : ℕ) → i ≤ count → IsAt at fault → Whole a b (each row 0 i) → Stopped a b (stop_of fault) (each row 0 count)
+pub rows_unread : (row : ℕ → List Item) (i count : ℕ) (a b : Written) (fault : Fault) (at : ℕ) → i ≤ count → IsAt at fault → WroteItems a b (each row 0 i) → Stopped a b (stop_of fault) (each row 0 count)
 rows_unread row i count a b fault at within is before =
     let more = each-front row i count within in rw more.1 (Stopped-unread a b fault at (each row 0 i) more.0 is before)
 
 -- a row stopped
-pub rows_stopped : (row : ℕ → List Item) (i count : ℕ) (a b c : Written) (stop : Stop) → i < count → Whole a b (each row 0 i) → Stopped b c stop (row i) → Stopped a c stop (each row 0 count)
+pub rows_stopped : (row : ℕ → List Item) (i count : ℕ) (a b c : Written) (stop : Stop) → i < count → WroteItems a b (each row 0 i) → Stopped b c stop (row i) → Stopped a c stop (each row 0 count)
 rows_stopped row i count a b c stop below before this =
     let more = each-front row (i + 1) count (omega arith) in
     let shown = rw (← each-more row i) at (Stopped-then a b c stop (each row 0 i) (row i) before this) in

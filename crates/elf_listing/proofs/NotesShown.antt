@@ -11,7 +11,7 @@ use Rattle.elf_model.specs.declared.causes.Cause.TheVariants.{NoteCut}
 use Rattle.elf_model.proofs.NoteLaws.{walked-is}
 use Rattle.elf_record.specs.declared.note_head.NoteHead.{NoteHead}
 use Rattle.elf_lines.specs.Pieces.{shown_as}
-use Rattle.elf_note.specs.NoteCursors.{Reading, IsFound, NameIs, ShowsNote, Stops, notes_from, notes_left, no_notes, cut_at, note_cut}
+use Rattle.elf_note.specs.NoteCursors.{NoteReading, IsFound, NameIs, ShowsNote, StopsNote, notes_from, notes_left, no_notes, cut_at, note_cut}
 use Rattle.elf_note.specs.declared.row.NoteRow.{NoteRow}
 use Rattle.elf_source.specs.Output.{Written}
 use Rattle.elf_headers.specs.Faults.{IsOfRead}
@@ -20,23 +20,23 @@ use Rattle.elf_headers.specs.declared.fault.Fault.{Fault}
 use Rattle.elf_headers.specs.declared.fault.Fault.TheVariants.{Refused, Source as Unread}
 use Rattle.elf_table.specs.declared.names.NameEnd.{NameEnd}
 use Rattle.elf_table.specs.declared.names.NameEnd.TheVariants.{Whole as NameWhole, Cut as NameCut}
-use Rattle.elf_listing.specs.Notes.{IsNote, WrittenBefore, rows_of}
-use Rattle.elf_listing.specs.Shows.{Whole, Front, Stopped, cut_of}
+use Rattle.elf_listing.specs.Notes.{IsNote, WrittenBefore, note_items}
+use Rattle.elf_listing.specs.Shows.{WroteItems, Front, Stopped, cut_of}
 use Rattle.elf_listing.specs.Stops.{stop_of}
 use Rattle.elf_listing.specs.declared.stop.Stop.{Stop}
 use Rattle.elf_listing.proofs.ShowLaws.{Whole-none, Whole-then, Stopped-then, Stopped-more}
 
 -- what is left where no note is, and where no note stands
-none_left : (cap index : ℕ) → rows_of cap index no_notes ≡ []
+none_left : (cap index : ℕ) → note_items cap index no_notes ≡ []
 unfolding walk_rows notes_rows
 none_left cap index = refl
 
-cut_left : (cap index at : ℕ) → rows_of cap index (cut_at at) ≡ FaultItem (record { at = at; cause = NoteCut }) ∷ []
+cut_left : (cap index at : ℕ) → note_items cap index (cut_at at) ≡ FaultItem (record { at = at; cause = NoteCut }) ∷ []
 unfolding walk_rows notes_rows
 cut_left cap index at = ap (λ (x : ℕ). FaultItem (record { at = x; cause = NoteCut }) ∷ []) (zero-add at)
 
 -- a note, and what is left behind it
-pub note_left : (cap index : ℕ) (note : Note) (left : Walk) → rows_of cap index (with_note note left) ≡ (note_row cap index note ∷ []) ++ rows_of cap index left
+pub note_left : (cap index : ℕ) (note : Note) (left : Walk) → note_items cap index (with_note note left) ≡ (note_row cap index note ∷ []) ++ note_items cap index left
 unfolding walk_rows notes_rows
 note_left cap index note left = refl
 
@@ -45,7 +45,7 @@ pub before_all : (a : Written) (all left : List Item) → all ≡ left → Writt
 before_all a all left same = record { done = []; split = same; whole = Whole-none a }
 
 -- some items more were written
-pub before_more : {a b c : Written} (all left next later : List Item) → left ≡ next ++ later → WrittenBefore a b all left → Whole b c next → WrittenBefore a c all later
+pub before_more : {a b c : Written} (all left next later : List Item) → left ≡ next ++ later → WrittenBefore a b all left → WroteItems b c next → WrittenBefore a c all later
 before_more all left next later is before more = record {
   done = before.done ++ next;
   split = before.split ∙ ap (λ (x : List Item). before.done ++ x) is ∙ sym (append_assoc before.done next later);
@@ -53,7 +53,7 @@ before_more all left next later is before more = record {
 }
 
 -- no item is left
-pub before_end : {a b : Written} (all left : List Item) → left ≡ [] → WrittenBefore a b all left → Whole a b all
+pub before_end : {a b : Written} (all left : List Item) → left ≡ [] → WrittenBefore a b all left → WroteItems a b all
 before_end all left none before = rw (before.split ∙ ap (λ (x : List Item). before.done ++ x) none ∙ append-nil before.done) before.whole
 
 -- what is written next stopped
@@ -75,18 +75,18 @@ unfolding front_of
 cut_next a b at all left is before = record { front = front_of all left before; next = λ other. record { behind = []; is_next = is } }
 
 -- a step over the next note failed: at a read, or where no note stands
-pub before_fault : (a b : Written) (fault : Fault) (cap index at : ℕ) (all : List Item) (left : Walk) → Stops at fault → (fault ≡ note_cut at → left ≡ cut_at at)
-    → WrittenBefore a b all (rows_of cap index left) → Stopped a b (stop_of fault) all
-before_fault a b fault cap index at all left (inl read) cut before = unread_next a b fault all (rows_of cap index left) read before
+pub before_fault : (a b : Written) (fault : Fault) (cap index at : ℕ) (all : List Item) (left : Walk) → StopsNote at fault → (fault ≡ note_cut at → left ≡ cut_at at)
+    → WrittenBefore a b all (note_items cap index left) → Stopped a b (stop_of fault) all
+before_fault a b fault cap index at all left (inl read) cut before = unread_next a b fault all (note_items cap index left) read before
 before_fault a b fault cap index at all left (inr is) cut before =
-    rw is (cut_next a b at all (rows_of cap index left) (ap (rows_of cap index) (cut is) ∙ cut_left cap index at) before)
+    rw is (cut_next a b at all (note_items cap index left) (ap (note_items cap index) (cut is) ∙ cut_left cap index at) before)
 
 -- behind the last note
-pub before_none : {a b : Written} (cap index : ℕ) (all : List Item) (left : Walk) → left ≡ no_notes → WrittenBefore a b all (rows_of cap index left) → Whole a b all
-before_none cap index all left none before = before_end all (rows_of cap index left) (ap (rows_of cap index) none ∙ none_left cap index) before
+pub before_none : {a b : Written} (cap index : ℕ) (all : List Item) (left : Walk) → left ≡ no_notes → WrittenBefore a b all (note_items cap index left) → WroteItems a b all
+before_none cap index all left none before = before_end all (note_items cap index left) (ap (note_items cap index) none ∙ none_left cap index) before
 
 -- a note as a row of a cursor shows it
-pub note_of : (align cap at : ℕ) (note : Note) (c : Reading) (row : NoteRow) (name : List ℕ) → ShowsNote c row → IsFound align cap at note c.found name c.descriptor → IsNote cap note row name
+pub note_of : (align cap at : ℕ) (note : Note) (c : NoteReading) (row : NoteRow) (name : List ℕ) → ShowsNote c row → IsFound align cap at note c.found name c.descriptor → IsNote cap note row name
 note_of align cap at note c row name lends found = record {
   named = rw lends.its_end found.shown_name;
   kind = ap (λ (x : NoteHead). x.kind) lends.its_head ∙ found.kind;
@@ -115,26 +115,26 @@ plus : (x y z : ℕ) → x + y + z ≡ x + (y + z)
 plus x y z = omega arith
 
 -- the rows of notes from an offset on are those of the table, with the cut at its offset
-rows_shifted : (a cap index offset most place : ℕ) (rest : List ℕ) → rows_of cap index (walk_from a most (offset + place) rest) ≡ walk_rows cap index offset (walk_from a most place rest)
+rows_shifted : (a cap index offset most place : ℕ) (rest : List ℕ) → note_items cap index (walk_from a most (offset + place) rest) ≡ walk_rows cap index offset (walk_from a most place rest)
 unfolding walk_from walk_rows notes_rows
 rows_shifted a cap index offset zero place rest = ap (λ (x : ℕ). FaultItem (record { at = x; cause = NoteCut }) ∷ []) (zero-add (offset + place))
 rows_shifted a cap index offset (suc most) place rest = step (λ n xs. rows_shifted a cap index offset most n xs)
   where
-    step : ((n : ℕ) (xs : List ℕ) → rows_of cap index (walk_from a most (offset + n) xs) ≡ walk_rows cap index offset (walk_from a most n xs))
-        → rows_of cap index (walk_from a (suc most) (offset + place) rest) ≡ walk_rows cap index offset (walk_from a (suc most) place rest)
+    step : ((n : ℕ) (xs : List ℕ) → note_items cap index (walk_from a most (offset + n) xs) ≡ walk_rows cap index offset (walk_from a most n xs))
+        → note_items cap index (walk_from a (suc most) (offset + place) rest) ≡ walk_rows cap index offset (walk_from a (suc most) place rest)
     step more = go (next_note a rest) refl
       where
-        go : (next : Next) → next_note a rest ≡ next → rows_of cap index (walk_from a (suc most) (offset + place) rest) ≡ walk_rows cap index offset (walk_from a (suc most) place rest)
+        go : (next : Next) → next_note a rest ≡ next → note_items cap index (walk_from a (suc most) (offset + place) rest) ≡ walk_rows cap index offset (walk_from a (suc most) place rest)
         go EndsHere e = rw (e, walk_from, walk_rows) refl
         go Broken e = rw (e, walk_from, walk_rows) (ap (λ (x : ℕ). FaultItem (record { at = x; cause = NoteCut }) ∷ []) (zero-add (offset + place)))
         go (OneNote note size) e =
             rw (e, walk_from, walk_rows)
             (ap (λ (x : List Item). note_row cap index note ∷ x)
-            (ap (λ (x : ℕ). rows_of cap index (walk_from a most x (drop size rest))) (plus offset place size) ∙ more (place + size) (drop size rest)))
+            (ap (λ (x : ℕ). note_items cap index (walk_from a most x (drop size rest))) (plus offset place size) ∙ more (place + size) (drop size rest)))
 
-pub table_rows : (a cap index at : ℕ) (table : List ℕ) → rows_of cap index (notes_from a at table) ≡ walk_rows cap index at (walked a table)
+pub table_rows : (a cap index at : ℕ) (table : List ℕ) → note_items cap index (notes_from a at table) ≡ walk_rows cap index at (walked a table)
 table_rows a cap index at table =
-    ap (λ (x : ℕ). rows_of cap index (notes_from a x table)) (sym (plus_zero at)) ∙ rows_shifted a cap index at (suc (length table)) 0 table
+    ap (λ (x : ℕ). note_items cap index (notes_from a x table)) (sym (plus_zero at)) ∙ rows_shifted a cap index at (suc (length table)) 0 table
     ∙ ap (walk_rows cap index at) (sym (walked-is a table))
   where
     plus_zero : (x : ℕ) → x + 0 ≡ x

@@ -15,7 +15,7 @@ use Rattle.elf_source.proofs.PutsLaws.{Takes-then, TakesFront-then, TakesFront-m
 use Rattle.elf_headers.specs.Faults.{RefusalSays}
 use Rattle.elf_headers.specs.declared.caps.Caps.{Caps}
 use Rattle.elf_listing.specs.Reports.{Reports}
-use Rattle.elf_listing.specs.Shows.{Whole, Front, IsNext, EndsRefused}
+use Rattle.elf_listing.specs.Shows.{WroteItems, Front, IsNext, EndsRefused}
 use Rattle.elf_listing.specs.declared.end.End.TheVariants.{Listed, Refused}
 use Rattle.elf_listing.specs.declared.end.RunFault.{RunFault}
 use Rattle.elf_listing.proofs.EachLaws.{lines_front}
@@ -61,7 +61,7 @@ report_listed None file headers cap parts text fault is = is
 report_listed (Some budget) file headers cap parts text fault is = inl is
 
 -- a listing without a fault is its report
-pub whole_report : {a b : Written} (file : List ℕ) (caps : Caps) (parts : ℕ) → Whole a b (items file caps.headers caps.name.bytes parts) → Reports file caps parts a b (Ok Listed)
+pub whole_report : {a b : Written} (file : List ℕ) (caps : Caps) (parts : ℕ) → WroteItems a b (items file caps.headers caps.name.bytes parts) → Reports file caps parts a b (Ok Listed)
 whole_report file caps parts whole =
     let all : List Item = items file caps.headers caps.name.bytes parts in
     let text : lines_of all ≡ report_of all = sym (ap (λ end. lines_of all ++ end_text end) whole.no_fault ∙ append-nil (lines_of all)) in

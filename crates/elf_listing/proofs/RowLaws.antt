@@ -19,7 +19,7 @@ use Rattle.elf_headers.specs.declared.fault.Fault.{Fault}
 use Rattle.elf_headers.specs.declared.fault.Fault.TheVariants.{Refused, Source}
 use Rattle.elf_table.specs.declared.names.NameEnd.{NameEnd}
 use Rattle.elf_table.specs.declared.names.NameEnd.TheVariants.{Whole as NameWhole, Cut as NameCut}
-use Rattle.elf_listing.specs.Shows.{Whole, Front, EndsRefused, Stopped, Writes, cut_of}
+use Rattle.elf_listing.specs.Shows.{WroteItems, Front, EndsRefused, Stopped, Writes, cut_of}
 use Rattle.elf_listing.specs.Stops.{stop_of}
 use Rattle.elf_listing.specs.declared.stop.Stop.{Stop}
 
@@ -28,7 +28,7 @@ pub Writes-as : {X : Type 0} (a b : Written) (result : Result X Stop) {xs ys : L
 Writes-as a b result same written = subst (λ (items : List Item). Writes a b result items) (sym same) written
 
 -- a line was put
-pub Whole-line : {a b : Written} (line : List ℕ) → Takes a b line → Whole a b (Line line ∷ [])
+pub Whole-line : {a b : Written} (line : List ℕ) → Takes a b line → WroteItems a b (Line line ∷ [])
 Whole-line line p = record { takes = rw append-nil p; no_fault = refl }
 
 pub Stopped-line : {a b : Written} (line : List ℕ) → TakesFront a b line → TakesFront a b (lines_of (Line line ∷ []))

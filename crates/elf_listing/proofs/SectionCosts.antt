@@ -12,15 +12,15 @@ use Rattle.elf_model.specs.Numbers.{SHT_RELA, SHT_DYNAMIC, SHT_NOTE, PT_NOTE, PT
 use Rattle.elf_model.specs.Records.{e_shnum, e_phnum, e_shstrndx, sh_type, sh_offset, sh_size, p_type, p_offset, p_filesz, section_at, segment_at}
 use Rattle.elf_model.specs.declared.causes.Cause.TheVariants.{ExtendedNumbering, SizeNotWhole, TableOutside, TooManyHeaders}
 use Rattle.elf_model.specs.declared.causes.Refusal.{Refusal}
-use Rattle.elf_model.proofs.CheckSteps.{first_refusal-none, first_refusal-some}
+use Rattle.elf_model.proofs.CheckSteps.{first_refusal-none, first_refusal-some, passes_front}
 use Rattle.elf_model.proofs.CostLemmas.{cost_where-le, sum_over-le, tables_by, headers_none}
 use Rattle.elf_model.proofs.StoreLemmas.{rows_cost, segments_cost_rows, by_kind, any_rows, any_segments, sections_counted, places_decide_nothing}
 use Rattle.elf_model.proofs.RecordLemmas.{sums_grow}
 use Rattle.elf_record.specs.Ehdr.{IsEhdr}
 use Rattle.elf_record.specs.declared.ehdr.Ehdr.{Ehdr}
-use Rattle.elf_headers.specs.Load.{Opened, Belongs, IsOpened, early_of, header_cost, load_cost}
+use Rattle.elf_headers.specs.Load.{Opened, Belongs, IsOpened, early_of, file_header_cost, load_cost}
 use Rattle.elf_table.specs.Sections.{answered, bytes_of, rows, table_of, checked}
-use Rattle.elf_headers.specs.Store.{Stored, HoldsSegments, row, segment_row}
+use Rattle.elf_headers.specs.Store.{Stored, HoldsSegments, row, segment_bytes}
 use Rattle.elf_table.specs.Tables.{Rows}
 use Rattle.elf_table.specs.Views.{dynamic_of}
 use Rattle.elf_headers.specs.declared.fault.Fault.{Fault}
@@ -28,6 +28,7 @@ use Rattle.elf_listing.specs.Parts.{asked_cost, segments_listed, tables_listed}
 use Rattle.elf_listing.specs.Viewed.{needs_view, viewed, view_cost}
 use Rattle.elf_listing.specs.declared.parts.Part.TheVariants.{Headers, Symbols, Relocations, SectionNotes, SegmentNotes, SectionDynamic, SegmentDynamic}
 use Rattle.elf_listing.proofs.FileShown.{viewed_none}
+use Rattle.elf_headers.proofs.LoadLaws.{early_is}
 
 -- as many equal costs
 pub sum_of_equal : (amount count : ℕ) → sum_over (λ i. amount) 0 count ≤ count * amount
@@ -128,9 +129,9 @@ sections_among loaded store most parts = let sum = by_kind section_kinds (row st
 -- and those of all segments
 segments_among : (loaded : Opened) (store : Stored) (most parts : ℕ)
     → asked_cost parts SegmentNotes loaded store most + asked_cost parts SegmentDynamic loaded store most
-    ≤ sum_over (λ i. kinds_cost segment_kinds (segment_row store i) 0 loaded.size most parts) 0 store.segments
+    ≤ sum_over (λ i. kinds_cost segment_kinds (segment_bytes store i) 0 loaded.size most parts) 0 store.segments
 unfolding kind_by_kind segment_notes segment_dynamic
-segments_among loaded store most parts = let sum = by_kind segment_kinds (segment_row store) (λ i. 0) loaded.size most parts store.segments in omega arith
+segments_among loaded store most parts = let sum = by_kind segment_kinds (segment_bytes store) (λ i. 0) loaded.size most parts store.segments in omega arith
 
 -- the names of all sections
 names_listed : (asked named : Bool) (n count : ℕ) → cost_where asked (sum_over (λ i. cost_where named n) 0 count) ≤ cost_where (asked && named) (count * n)
@@ -157,7 +158,7 @@ listed_parts : (loaded : Opened) (store : Stored) (most parts : ℕ)
     → tables_listed parts loaded store most
     ≤ cost_where (has parts SECTIONS && not (loaded.header.e_shstrndx == 0)) (store.loaded * name_bytes most) + segments_listed parts loaded
     + sum_over (λ i. kinds_cost section_kinds (row store i) 0 loaded.size most parts) 0 store.loaded
-    + sum_over (λ i. kinds_cost segment_kinds (segment_row store i) 0 loaded.size most parts) 0 store.segments
+    + sum_over (λ i. kinds_cost segment_kinds (segment_bytes store i) 0 loaded.size most parts) 0 store.segments
 listed_parts loaded store most parts =
     let names : asked_cost parts Headers loaded store most ≤ cost_where (has parts SECTIONS && not (loaded.header.e_shstrndx == 0)) (store.loaded * name_bytes most) =
     names_listed (has parts SECTIONS) (not (loaded.header.e_shstrndx == 0)) (name_bytes most) store.loaded in
@@ -174,29 +175,29 @@ viewed_few parts loaded store view = by_cases (needs_view parts loaded) view
     by_cases false h = omega arith
 
 few_segments : (file : List ℕ) (loaded : Opened) (store : Stored) (most parts : ℕ) → Belongs file loaded store → HoldsSegments file store → store.segments ≡ viewed parts loaded
-    → sum_over (λ i. kinds_cost segment_kinds (segment_row store i) 0 loaded.size most parts) 0 store.segments
+    → sum_over (λ i. kinds_cost segment_kinds (segment_bytes store i) 0 loaded.size most parts) 0 store.segments
     ≤ sum_over (λ i. kinds_cost segment_kinds file (segment_at file i) (length file) most parts) 0 (e_phnum file)
 few_segments file loaded store most parts belongs held view = by_cases (needs_view parts loaded) view
   where
     by_cases : (needs : Bool) → store.segments ≡ (if needs then loaded.header.e_phnum else 0)
-        → sum_over (λ i. kinds_cost segment_kinds (segment_row store i) 0 loaded.size most parts) 0 store.segments
+        → sum_over (λ i. kinds_cost segment_kinds (segment_bytes store i) 0 loaded.size most parts) 0 store.segments
         ≤ sum_over (λ i. kinds_cost segment_kinds file (segment_at file i) (length file) most parts) 0 (e_phnum file)
     by_cases true h =
         let count : store.segments ≡ e_phnum file = h ∙ belongs.header.e_phnum in
-        let tables = segments_cost_rows file (segment_row store) most parts (λ i below. held i (omega (arith, count))) in
-        let all : sum_over (λ i. kinds_cost segment_kinds (segment_row store i) 0 loaded.size most parts) 0 store.segments
+        let tables = segments_cost_rows file (segment_bytes store) most parts (λ i below. held i (omega (arith, count))) in
+        let all : sum_over (λ i. kinds_cost segment_kinds (segment_bytes store i) 0 loaded.size most parts) 0 store.segments
         ≡ sum_over (λ i. kinds_cost segment_kinds file (segment_at file i) (length file) most parts) 0 (e_phnum file) =
-        ap (λ n. sum_over (λ i. kinds_cost segment_kinds (segment_row store i) 0 n most parts) 0 store.segments) belongs.size
-        ∙ (ap (sum_over (λ i. kinds_cost segment_kinds (segment_row store i) 0 (length file) most parts) 0) count ∙ tables) in
+        ap (λ n. sum_over (λ i. kinds_cost segment_kinds (segment_bytes store i) 0 n most parts) 0 store.segments) belongs.size
+        ∙ (ap (sum_over (λ i. kinds_cost segment_kinds (segment_bytes store i) 0 (length file) most parts) 0) count ∙ tables) in
         omega (arith, all)
     by_cases false h =
-        let none = sum_of_none (λ i. kinds_cost segment_kinds (segment_row store i) 0 loaded.size most parts) store.segments h in
+        let none = sum_of_none (λ i. kinds_cost segment_kinds (segment_bytes store i) 0 loaded.size most parts) store.segments h in
         omega (arith, none)
 
 -- the tables of the headers in the store are those of the file
 tables_within : (file : List ℕ) (loaded : Opened) (store : Stored) (most parts : ℕ) → Belongs file loaded store → HoldsSegments file store → store.segments ≡ viewed parts loaded
     → sum_over (λ i. kinds_cost section_kinds (row store i) 0 loaded.size most parts) 0 store.loaded
-    + sum_over (λ i. kinds_cost segment_kinds (segment_row store i) 0 loaded.size most parts) 0 store.segments
+    + sum_over (λ i. kinds_cost segment_kinds (segment_bytes store i) 0 loaded.size most parts) 0 store.segments
     ≤ tables_cost file most parts
 unfolding tables_cost
 tables_within file loaded store most parts belongs held view = by_cases (e_shnum file == 0) refl
@@ -206,7 +207,7 @@ tables_within file loaded store most parts belongs held view = by_cases (e_shnum
 
     by_cases : (none : Bool) → (e_shnum file == 0) ≡ none
         → sum_over (λ i. kinds_cost section_kinds (row store i) 0 loaded.size most parts) 0 store.loaded
-        + sum_over (λ i. kinds_cost segment_kinds (segment_row store i) 0 loaded.size most parts) 0 store.segments
+        + sum_over (λ i. kinds_cost segment_kinds (segment_bytes store i) 0 loaded.size most parts) 0 store.segments
         ≤ tables_cost file most parts
     by_cases true h =
         let zero = sum_of_none (λ i. kinds_cost section_kinds (row store i) 0 loaded.size most parts) store.loaded (count ∙ eqb-true (e_shnum file) 0 h) in
@@ -215,7 +216,7 @@ tables_within file loaded store most parts belongs held view = by_cases (e_shnum
         omega (arith, zero, same, sum)
     by_cases false h =
         let sectioned : (loaded.header.e_shnum == 0) ≡ false = ap (λ n. n == 0) belongs.header.e_shnum ∙ h in
-        let zero = sum_of_none (λ i. kinds_cost segment_kinds (segment_row store i) 0 loaded.size most parts) store.segments (view ∙ viewed_none parts loaded sectioned) in
+        let zero = sum_of_none (λ i. kinds_cost segment_kinds (segment_bytes store i) 0 loaded.size most parts) store.segments (view ∙ viewed_none parts loaded sectioned) in
         let tables = rows_cost file (row store) most parts (λ i below. belongs.rows i (omega (arith, count))) in
         let all : sum_over (λ i. kinds_cost section_kinds (row store i) 0 loaded.size most parts) 0 store.loaded
         ≡ sum_over (λ i. kinds_cost section_kinds file (section_at file i) (length file) most parts) 0 (e_shnum file) =
@@ -257,11 +258,11 @@ listed_below loaded store most parts count few some view = by_cases (loaded.head
         let once = segments_once (loaded.header.e_shnum == 0) (has parts SEGMENTS) (has parts NOTES) (has parts DYNAMIC) (56 * loaded.header.e_phnum) in
         let asked = cost_where-le (has parts SEGMENTS || (loaded.header.e_shnum == 0 && (has parts NOTES || has parts DYNAMIC))) (56 * loaded.header.e_phnum) in
         let within = viewed_few parts loaded store view in
-        let more = sums_grow (λ i. kinds_cost segment_kinds (segment_row store i) 0 loaded.size most parts) 0 store.segments loaded.header.e_phnum within in
-        let all = any_segments (segment_row store) loaded.size store.slots most parts loaded.header.e_phnum some in
+        let more = sums_grow (λ i. kinds_cost segment_kinds (segment_bytes store i) 0 loaded.size most parts) 0 store.segments loaded.header.e_phnum within in
+        let all = any_segments (segment_bytes store) loaded.size store.slots most parts loaded.header.e_phnum some in
         omega (arith, zero, none, names, unnamed, listed, once, asked, more, all)
     by_cases false h =
-        let zero = sum_of_none (λ i. kinds_cost segment_kinds (segment_row store i) 0 loaded.size most parts) store.segments (view ∙ viewed_none parts loaded h) in
+        let zero = sum_of_none (λ i. kinds_cost segment_kinds (segment_bytes store i) 0 loaded.size most parts) store.segments (view ∙ viewed_none parts loaded h) in
         let names = cost_where-le (has parts SECTIONS && not (loaded.header.e_shstrndx == 0)) (store.loaded * name_bytes most) in
         let listed = listed_parts loaded store most parts in
         let once = segments_once (loaded.header.e_shnum == 0) (has parts SEGMENTS) (has parts NOTES) (has parts DYNAMIC) (56 * loaded.header.e_phnum) in
@@ -273,22 +274,9 @@ pub slots_below : (size headers cap : ℕ) → 64 + 64 * headers ≤ ceiling siz
 slots_below size headers cap =
     let all = any_rows (λ i. []) size headers cap 0 headers 0 (omega arith) (omega arith) in omega arith
 
--- the checks before the section headers are read, by the file header's fields
-pub early_is : (file : List ℕ) (header : Ehdr) (size headers : ℕ) → IsEhdr file 0 header → size ≡ length file → first_refusal (early_of header size headers) ≡ first_refusal (early_checks file headers)
-early_is file header size headers is same =
-    rw (same, is.e_phnum, is.e_shstrndx, is.e_shnum, is.e_shoff, is.e_shentsize, is.e_phentsize, is.e_phoff) refl
-
 pub loadable : (file : List ℕ) (headers : ℕ) → first_refusal (header_checks file) ≡ None → first_refusal (early_checks file headers) ≡ None → is_loadable file headers ≡ true
 unfolding is_loadable
 loadable file headers passed early = rw (first_refusal-none (header_checks file) (early_checks file headers) passed ∙ early) refl
-
--- where two lists of checks pass, the first does
-passes_front : (front rest : List Check) → first_refusal (front ++ rest) ≡ None → first_refusal front ≡ None
-passes_front front rest h = by_cases (first_refusal front) (λ refusal fails. first_refusal-some front rest refusal fails)
-  where
-    by_cases : (first : Option Refusal) → ((refusal : Refusal) → first ≡ Some refusal → first_refusal (front ++ rest) ≡ Some refusal) → first ≡ None
-    by_cases None fails = refl
-    by_cases (Some refusal) fails = let refused = fails refusal refl in cc
 
 headers_within : (file : List ℕ) (cap parts : ℕ) → 64 * e_shnum file ≤ sections_cost file cap parts
 unfolding sections_cost
@@ -304,10 +292,6 @@ load_within file header size slots cap parts is same passed tables = by_cases (f
         let early : first_refusal (early_checks file slots) ≡ None = sym (none ∙ early_is file header size slots is same) in
         rw (tables, loadable file slots passed early) (omega (arith, headers_within file cap parts, is.e_shnum))
     by_cases (Some refusal) some = omega arith
-
--- what a load asks for at most
-pub load_most : (header : Ehdr) (size slots : ℕ) → load_cost header size slots ≤ 64 * header.e_shnum
-load_most header size slots = cost_where-le (is_none (first_refusal (early_of header size slots))) (64 * header.e_shnum)
 
 -- where checks pass the fourth does
 fourth_passes : (p q r s : Bool) (w x y z : Refusal) (rest : List Check)
@@ -392,10 +376,6 @@ view_below loaded size slots cap parts few some = by_cases (loaded.header.e_shnu
     by_cases false h =
         let none : view_cost parts loaded ≡ 0 = rw h refl in
         omega (arith, none, few, slots_below size slots cap)
-
--- the file header asks for 64 bytes at most
-pub header_most : (size : ℕ) → header_cost size ≤ 64
-header_most size = cost_where-le (is_none (first_refusal (length_checks size))) 64
 
 pub cost_is : (file : List ℕ) (headers cap parts : ℕ) → cost file headers cap parts ≡ 64 + behind_header file headers cap parts
 unfolding cost

@@ -22,9 +22,9 @@ use Rattle.elf_model.specs.declared.causes.Refusal.{Refusal}
 use Rattle.elf_note.specs.DynCursors.{AreStrings}
 use Rattle.elf_note.specs.declared.string_values.DynStrings.{DynStrings}
 use Rattle.elf_table.specs.Tables.{Rows, Strings}
-use Rattle.elf_table.specs.Sections.{bytes_of, table_at, strings_at as strings_linked, names_at, rows, section_names, checked as checked_as}
+use Rattle.elf_table.specs.Sections.{bytes_of, table_at, string_table_at as strings_linked, names_at, rows, section_names, checked as checked_as}
 use Rattle.elf_table.proofs.RelocationLaws.{refused_first, passed_first}
-use Rattle.elf_table.specs.Views.{dynamic_at as table_of_segment}
+use Rattle.elf_table.specs.Views.{dynamic_table_at as table_of_segment}
 use Rattle.elf_headers.specs.declared.fault.Fault.{Fault as TableFault}
 use Rattle.elf_headers.specs.declared.fault.Fault.TheVariants.{Refused}
 use Rattle.elf_listing.specs.Parts.{shown_in}

@@ -11,23 +11,23 @@ use Rattle.elf_headers.specs.declared.fault.Fault.{Fault}
 use Rattle.elf_headers.specs.declared.fault.Fault.TheVariants.{Refused as Refuses, Source as Unread}
 use Rattle.elf_model.specs.Listing.{Item, lines_of}
 use Rattle.elf_listing.specs.Stops.{stop_of}
-use Rattle.elf_listing.specs.Shows.{Whole, Front, Stopped, Writes, StopSays, IsOfOutput, Costs, Spent}
+use Rattle.elf_listing.specs.Shows.{WroteItems, Front, Stopped, Writes, StopSays, IsOfOutput, Costs, Spent}
 use Rattle.elf_listing.specs.declared.stop.Stop.{Stop}
 use Rattle.elf_listing.specs.declared.stop.Stop.TheVariants.{Refused, Source, Out}
 use Rattle.elf_model.proofs.ListingLemmas.{listings_append}
 use Rattle.elf_listing.proofs.EachLaws.{lines_front}
 
 -- nothing was written
-pub Whole-none : (a : Written) → Whole a a []
+pub Whole-none : (a : Written) → WroteItems a a []
 Whole-none a = record { takes = Takes-nothing a; no_fault = refl }
 
-pub Whole-then : {a b c : Written} {xs ys : List Item} → Whole a b xs → Whole b c ys → Whole a c (xs ++ ys)
+pub Whole-then : {a b c : Written} {xs ys : List Item} → WroteItems a b xs → WroteItems b c ys → WroteItems a c (xs ++ ys)
 Whole-then {xs = xs} {ys = ys} p q = record {
   takes = rw ((listings_append xs ys p.no_fault).0) (Takes-then (lines_of xs) (lines_of ys) p.takes q.takes);
   no_fault = (listings_append xs ys p.no_fault).1 ∙ q.no_fault;
 }
 
-pub Front-then : {a b c : Written} {xs ys : List Item} → Whole a b xs → Front b c ys → Front a c (xs ++ ys)
+pub Front-then : {a b c : Written} {xs ys : List Item} → WroteItems a b xs → Front b c ys → Front a c (xs ++ ys)
 Front-then {xs = xs} {ys = ys} p q = record {
   front = xs ++ q.front;
   rest = q.rest;
@@ -46,18 +46,18 @@ Front-more ys p = record {
 }
 
 -- all of some items were written, and none of those behind them
-pub Front-all : {a b : Written} {xs : List Item} (ys : List Item) → Whole a b xs → Front a b (xs ++ ys)
+pub Front-all : {a b : Written} {xs : List Item} (ys : List Item) → WroteItems a b xs → Front a b (xs ++ ys)
 Front-all {xs = xs} ys p = record { front = xs; rest = ys; split = refl; takes = p.takes; no_fault = p.no_fault }
 
 -- a part was written whole, and the next stopped
-pub Stopped-then : (a b c : Written) (stop : Stop) (xs ys : List Item) → Whole a b xs → Stopped b c stop ys → Stopped a c stop (xs ++ ys)
+pub Stopped-then : (a b c : Written) (stop : Stop) (xs ys : List Item) → WroteItems a b xs → Stopped b c stop ys → Stopped a c stop (xs ++ ys)
 unfolding Front-then
 Stopped-then a b c (Refused refusal) xs ys p q = record { front = Front-then p q.front; next = q.next }
 Stopped-then a b c (Source fault at) xs ys p q = Front-then p q
 Stopped-then a b c (Out fault) xs ys p q = rw ((listings_append xs ys p.no_fault).0) (TakesFront-then (lines_of xs) (lines_of ys) p.takes q)
 
 -- a part was written whole, and then another was written so far
-pub Writes-then : {X : Type 0} (a b c : Written) (result : Result X Stop) (xs ys : List Item) → Whole a b xs → Writes b c result ys → Writes a c result (xs ++ ys)
+pub Writes-then : {X : Type 0} (a b c : Written) (result : Result X Stop) (xs ys : List Item) → WroteItems a b xs → Writes b c result ys → Writes a c result (xs ++ ys)
 Writes-then a b c (Ok x) xs ys p q = Whole-then p q
 Writes-then a b c (Err stop) xs ys p q = Stopped-then a b c stop xs ys p q
 
@@ -73,7 +73,7 @@ Stopped-more a b (Out fault) xs ys p =
     let more = lines_front xs ys in rw more.1 (TakesFront-more (lines_of xs) more.0 p)
 
 -- a read failed behind a part that was written whole
-pub Stopped-unread : (a b : Written) (fault : Fault) (at : ℕ) (xs ys : List Item) → IsAt at fault → Whole a b xs → Stopped a b (stop_of fault) (xs ++ ys)
+pub Stopped-unread : (a b : Written) (fault : Fault) (at : ℕ) (xs ys : List Item) → IsAt at fault → WroteItems a b xs → Stopped a b (stop_of fault) (xs ++ ys)
 Stopped-unread a b (Refuses refusal) at xs ys is p =
     record { front = Front-all ys p; next = λ other. absurd (other (ap (λ (r : Refusal). r.cause) is)) }
 Stopped-unread a b (Unread fault offset) at xs ys is p = Front-all ys p

@@ -1,3 +1,4 @@
+pub mod HeadersListed
 pub mod Kinds
 pub mod Notes
 pub mod Parts

@@ -9,7 +9,7 @@ use Rattle.elf_note.specs.declared.row.NoteRow.{NoteRow}
 use Rattle.elf_source.specs.Output.{Written}
 use Rattle.elf_source.specs.declared.source.Source.{Ghosts as Sources}
 use Rattle.elf_source.specs.declared.sink.Sink.{Ghosts as Sinks}
-use Rattle.elf_listing.specs.Shows.{Whole, Writes}
+use Rattle.elf_listing.specs.Shows.{WroteItems, Writes}
 use Rattle.elf_listing.specs.declared.listing.Listing.{Listing}
 use Rattle.elf_listing.specs.declared.stop.Stop.{Stop}
 
@@ -27,11 +27,11 @@ OfNote old new result row index =
     (cap : ℕ) (note : Note) → IsNote cap note row old.name → Writes old.out.now new.out.now result (note_row cap index note ∷ [])
 
 -- the rows of notes whose places are file offsets
-abbrev pub rows_of : ℕ → ℕ → Walk → List Item
-rows_of cap index walk = walk_rows cap index 0 walk
+abbrev pub note_items : ℕ → ℕ → Walk → List Item
+note_items cap index walk = walk_rows cap index 0 walk
 
 -- all items are those that were written, without a fault, and those that are left
 pub record WrittenBefore (old new : Written) (all left : List Item) : Type 0 where
   pub done : List Item
   pub split : all ≡ done ++ left
-  pub whole : Whole old new done
+  pub whole : WroteItems old new done

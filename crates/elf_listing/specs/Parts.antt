@@ -9,7 +9,7 @@ use Rattle.elf_model.specs.Rows.{no_name, section_row, segment_row}
 use Rattle.elf_model.specs.TableKinds.{symbols, relocations, section_notes, segment_notes, section_dynamic, segment_dynamic}
 use Rattle.elf_model.specs.declared.causes.Cause.{Cause}
 use Rattle.elf_headers.specs.Load.{Opened}
-use Rattle.elf_headers.specs.Store.{Stored, row, segment_row as segment_row_in}
+use Rattle.elf_headers.specs.Store.{Stored, row, segment_bytes}
 use Rattle.elf_table.specs.Tables.{Strings, strings_in}
 use Rattle.elf_listing.specs.declared.parts.Part.{Part}
 use Rattle.elf_listing.specs.declared.parts.Part.TheVariants.{Headers, Segments, Symbols, Relocations, SectionNotes, SegmentNotes, SectionDynamic, SegmentDynamic}
@@ -68,9 +68,9 @@ header_cost Segments loaded store cap i = 0
 header_cost Symbols loaded store cap i = table_cost symbols (row store i) 0 loaded.size cap
 header_cost Relocations loaded store cap i = table_cost relocations (row store i) 0 loaded.size cap
 header_cost SectionNotes loaded store cap i = table_cost section_notes (row store i) 0 loaded.size cap
-header_cost SegmentNotes loaded store cap i = table_cost segment_notes (segment_row_in store i) 0 loaded.size cap
+header_cost SegmentNotes loaded store cap i = table_cost segment_notes (segment_bytes store i) 0 loaded.size cap
 header_cost SectionDynamic loaded store cap i = table_cost section_dynamic (row store i) 0 loaded.size cap
-header_cost SegmentDynamic loaded store cap i = table_cost segment_dynamic (segment_row_in store i) 0 loaded.size cap
+header_cost SegmentDynamic loaded store cap i = table_cost segment_dynamic (segment_bytes store i) 0 loaded.size cap
 
 -- how many bytes all headers of a part ask for at most
 abbrev pub part_cost : Part → Opened → Stored → ℕ → ℕ

@@ -6,7 +6,7 @@ use Rattle.elf_model.specs.Cost.{ceiling}
 use Rattle.elf_model.specs.Listing.{has_tables}
 use Rattle.elf_model.specs.declared.causes.Refusal.{Refusal}
 use Rattle.elf_source.specs.Source.{Counting, Keeps, Faults}
-use Rattle.elf_source.specs.Output.{Written, Takes, TakesFront, Fails}
+use Rattle.elf_source.specs.Output.{Written, Takes, TakesFront, OutFails}
 use Rattle.elf_headers.specs.declared.caps.Caps.{Caps}
 use Rattle.elf_listing.specs.declared.end.End.{End}
 use Rattle.elf_listing.specs.declared.end.End.TheVariants.{Listed, Refused}
@@ -34,7 +34,7 @@ pub record Reports (file : List ℕ) (caps : Caps) (parts : ℕ) (old new : Writ
 -- what a fault says of the source and the output: the source's names the read that failed
 abbrev pub FaultSays : Counting → Counting → Written → RunFault → Type 0
 FaultSays old new out (Source fault at) = Faults old.seen new.seen fault × (at ≡ new.stopped)
-FaultSays old new out (Out fault) = Fails out fault
+FaultSays old new out (Out fault) = OutFails out fault
 
 -- WHAT IS ASKED FOR, for every source: no more than the ceiling, nothing where the length refuses the file, and the file
 -- header alone where no table is asked for; never more than the budget; and where the answer is that the budget is used up,

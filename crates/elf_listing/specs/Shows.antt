@@ -7,7 +7,7 @@ use Rattle.elf_model.specs.Rows.{named_row}
 use Rattle.elf_model.specs.declared.causes.Cause.{Cause}
 use Rattle.elf_model.specs.declared.causes.Refusal.{Refusal}
 use Rattle.elf_source.specs.Source.{Counting, Reads, Faults}
-use Rattle.elf_source.specs.Output.{Written, Takes, TakesFront, Fails}
+use Rattle.elf_source.specs.Output.{Written, Takes, TakesFront, OutFails}
 use Rattle.elf_source.specs.declared.source.Source.{Ghosts as Sources}
 use Rattle.elf_source.specs.declared.sink.Sink.{Ghosts as Sinks}
 use Rattle.elf_names.specs.Ahead.{Spends}
@@ -21,7 +21,7 @@ use Rattle.elf_listing.specs.declared.stop.Stop.{Stop}
 use Rattle.elf_listing.specs.declared.stop.Stop.TheVariants.{Refused, Source, Out}
 
 -- the lines of all items were written, and none is a fault
-pub record Whole (old new : Written) (items : List Item) : Type 0 where
+pub record WroteItems (old new : Written) (items : List Item) : Type 0 where
   pub takes : Takes old new (lines_of items)
   pub no_fault : fault_of items ≡ None
 
@@ -51,20 +51,20 @@ Stopped old new (Out fault) items = TakesFront old new (lines_of items)
 
 -- a part of these items was written
 abbrev pub Writes : {X : Type 0} → Written → Written → Result X Stop → List Item → Type 0
-Writes old new (Ok x) items = Whole old new items
+Writes old new (Ok x) items = WroteItems old new items
 Writes old new (Err stop) items = Stopped old new stop items
 
 -- what a stop says of the source and the output
 abbrev pub StopSays : Counting → Counting → Written → ℕ → Stop → Type 0
 StopSays old new out n (Refused refusal) = RefusalSays old new n refusal
 StopSays old new out n (Source fault at) = Faults old.seen new.seen fault × (at ≡ new.stopped)
-StopSays old new out n (Out fault) = Fails out fault
+StopSays old new out n (Out fault) = OutFails out fault
 
 -- a stop is a fault of the output
 abbrev pub IsOfOutput : Written → Stop → Type 0
 IsOfOutput out (Refused refusal) = ⊥
 IsOfOutput out (Source fault at) = ⊥
-IsOfOutput out (Out fault) = Fails out fault
+IsOfOutput out (Out fault) = OutFails out fault
 
 -- WHAT A CALL COSTS: it asked for at most n bytes, and a stop says what is so
 abbrev pub Costs : {X : Type 0} → Counting → Counting → Written → Result X Stop → ℕ → Type 0

@@ -1,9 +1,8 @@
 //! What is listed of each header, one header after another.
 ghost use Rattle.elf_source.specs.Growth.{Grows};
 ghost use Rattle.std.specs.Prelude.{◌≡◌, ◌<◌};
-ghost use Rattle.elf_listing.specs.Parts.{header_cost, header_count};
-ghost use Rattle.elf_listing.specs.Parts.{header_items, part_cost, part_items};
-ghost use Rattle.elf_listing.specs.Shows.{Lists, Shows};
+ghost use Rattle.elf_listing.specs.HeadersListed.{ListsHeader, ListsPart, ShowsHeader, ShowsPart};
+ghost use Rattle.elf_listing.specs.Parts.{header_count};
 
 use crate::listing::Listing;
 use crate::parts::Part;
@@ -14,10 +13,8 @@ impl<S: Source, W: Sink> Listing<'_, '_, '_, S, W> {
     /// Shows a part of each header in the order of the headers, up to the first that is refused.
     pub(crate) fn headers(&mut self, part: Part) -> Result<(), Stop>
         ensures grows { Grows self.old.out.now self.new.out.now }
-        ensures lists { let f = self.old.file in Lists self.old self.new result
-            (part_cost part f.loaded f.store.now self.old.cap.bytes) }
-        ensures shows { let count = header_count part self.old.file.store.now in
-            Shows self.old self.new result (part_items part self.old.cap.bytes count) }
+        ensures lists { ListsPart part self.old self.new result }
+        ensures shows { ShowsPart part self.old self.new result }
     {
         let count = self.header_count(part);
         let mut index = 0;
@@ -44,10 +41,8 @@ impl<S: Source, W: Sink> Listing<'_, '_, '_, S, W> {
     fn header(&mut self, part: Part, index: u16) -> Result<(), Stop>
         requires { index < header_count part self.old.file.store.now }
         ensures grows { Grows self.old.out.now self.new.out.now }
-        ensures lists { let f = self.old.file in Lists self.old self.new result
-            (header_cost part f.loaded f.store.now self.old.cap.bytes index) }
-        ensures shows { Shows self.old self.new result
-            (header_items part self.old.cap.bytes index) }
+        ensures lists { ListsHeader part self.old self.new result index }
+        ensures shows { ShowsHeader part self.old self.new result index }
     {
         match part {
             Part::Headers => self.section_row(index),

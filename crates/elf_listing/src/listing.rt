@@ -12,11 +12,17 @@ use elf_table::{Cap, File, NameBuf};
 /// a part of the file is a method.
 #[derive(Drop)]
 pub struct Listing<'s, 'o, 'f, S: Source, W: Sink> {
+    /// The source that is read.
     pub src: &'s mut Counted<S>,
+    /// The output that is written.
     pub out: &'o mut Out<W>,
+    /// The file that was loaded.
     pub file: File<'f>,
+    /// How many bytes of a name are shown.
     pub cap: Cap,
+    /// The last name that was read.
     pub name: NameBuf,
+    /// The names and symbols that were read ahead.
     pub ahead: ReadAhead,
     pub ghost loaded: { IsOpen src.now file.loaded file.store.now },
     pub ghost viewed: { IsViewed src.now.seen.file file.loaded file.store.now },

@@ -1,8 +1,7 @@
 //! What is listed of a section.
 ghost use Rattle.elf_source.specs.Growth.{Grows};
 ghost use Rattle.std.specs.Prelude.{◌<◌};
-ghost use Rattle.elf_listing.specs.Parts.{header_cost, header_items};
-ghost use Rattle.elf_listing.specs.Shows.{Lists, Shows};
+ghost use Rattle.elf_listing.specs.HeadersListed.{ListsHeader, ShowsHeader};
 ghost use Rattle.elf_listing.specs.declared.parts.Part.TheVariants.{Headers, Symbols};
 ghost use Rattle.elf_listing.specs.declared.parts.Part.TheVariants.{Relocations};
 ghost use Rattle.elf_listing.specs.declared.parts.Part.TheVariants.{SectionNotes, SectionDynamic};
@@ -23,10 +22,8 @@ impl<S: Source, W: Sink> Listing<'_, '_, '_, S, W> {
     pub(crate) fn section_row(&mut self, section: u16) -> Result<(), Stop>
         requires { section < self.old.file.store.now.loaded }
         ensures grows { Grows self.old.out.now self.new.out.now }
-        ensures lists { let f = self.old.file in Lists self.old self.new result
-            (header_cost Headers f.loaded f.store.now self.old.cap.bytes section) }
-        ensures shows { Shows self.old self.new result
-            (header_items Headers self.old.cap.bytes section) }
+        ensures lists { ListsHeader Headers self.old self.new result section }
+        ensures shows { ShowsHeader Headers self.old self.new result section }
     {
         let header = self.file.section(section);
         let place = self.file.place(section);
@@ -41,10 +38,8 @@ impl<S: Source, W: Sink> Listing<'_, '_, '_, S, W> {
     pub(crate) fn symbols(&mut self, section: u16) -> Result<(), Stop>
         requires { section < self.old.file.store.now.loaded }
         ensures grows { Grows self.old.out.now self.new.out.now }
-        ensures lists { let f = self.old.file in Lists self.old self.new result
-            (header_cost Symbols f.loaded f.store.now self.old.cap.bytes section) }
-        ensures shows { Shows self.old self.new result
-            (header_items Symbols self.old.cap.bytes section) }
+        ensures lists { ListsHeader Symbols self.old self.new result section }
+        ensures shows { ShowsHeader Symbols self.old self.new result section }
     {
         if !holds_symbols(&self.file.section(section)) {
             return Ok(());
@@ -60,10 +55,8 @@ impl<S: Source, W: Sink> Listing<'_, '_, '_, S, W> {
     pub(crate) fn relocations(&mut self, section: u16) -> Result<(), Stop>
         requires { section < self.old.file.store.now.loaded }
         ensures grows { Grows self.old.out.now self.new.out.now }
-        ensures lists { let f = self.old.file in Lists self.old self.new result
-            (header_cost Relocations f.loaded f.store.now self.old.cap.bytes section) }
-        ensures shows { Shows self.old self.new result
-            (header_items Relocations self.old.cap.bytes section) }
+        ensures lists { ListsHeader Relocations self.old self.new result section }
+        ensures shows { ShowsHeader Relocations self.old self.new result section }
     {
         if self.file.section(section).sh_type != SHT_RELA {
             return Ok(());
@@ -86,10 +79,8 @@ impl<S: Source, W: Sink> Listing<'_, '_, '_, S, W> {
     pub(crate) fn section_notes(&mut self, section: u16) -> Result<(), Stop>
         requires { section < self.old.file.store.now.loaded }
         ensures grows { Grows self.old.out.now self.new.out.now }
-        ensures lists { let f = self.old.file in Lists self.old self.new result
-            (header_cost SectionNotes f.loaded f.store.now self.old.cap.bytes section) }
-        ensures shows { Shows self.old self.new result
-            (header_items SectionNotes self.old.cap.bytes section) }
+        ensures lists { ListsHeader SectionNotes self.old self.new result section }
+        ensures shows { ShowsHeader SectionNotes self.old self.new result section }
     {
         let header = self.file.section(section);
         if header.sh_type != SHT_NOTE {
@@ -106,10 +97,8 @@ impl<S: Source, W: Sink> Listing<'_, '_, '_, S, W> {
     pub(crate) fn section_dynamic(&mut self, section: u16) -> Result<(), Stop>
         requires { section < self.old.file.store.now.loaded }
         ensures grows { Grows self.old.out.now self.new.out.now }
-        ensures lists { let f = self.old.file in Lists self.old self.new result
-            (header_cost SectionDynamic f.loaded f.store.now self.old.cap.bytes section) }
-        ensures shows { Shows self.old self.new result
-            (header_items SectionDynamic self.old.cap.bytes section) }
+        ensures lists { ListsHeader SectionDynamic self.old self.new result section }
+        ensures shows { ShowsHeader SectionDynamic self.old self.new result section }
     {
         let header = self.file.section(section);
         if header.sh_type != SHT_DYNAMIC {

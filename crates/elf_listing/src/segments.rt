@@ -1,8 +1,7 @@
 //! What is listed of a program header of a file without sections.
 ghost use Rattle.elf_source.specs.Growth.{Grows};
 ghost use Rattle.std.specs.Prelude.{◌≡◌, ◌<◌};
-ghost use Rattle.elf_listing.specs.Parts.{header_cost, header_items};
-ghost use Rattle.elf_listing.specs.Shows.{Lists, Shows};
+ghost use Rattle.elf_listing.specs.HeadersListed.{ListsHeader, ShowsHeader};
 ghost use Rattle.elf_listing.specs.declared.parts.Part.TheVariants.{Segments, SegmentNotes};
 ghost use Rattle.elf_listing.specs.declared.parts.Part.TheVariants.{SegmentDynamic};
 
@@ -34,10 +33,8 @@ impl<'f, S: Source, W: Sink> Listing<'_, '_, 'f, S, W> {
     pub(crate) fn segment_header(&mut self, segment: u16) -> Result<(), Stop>
         requires { segment < self.old.file.store.now.segments }
         ensures grows { Grows self.old.out.now self.new.out.now }
-        ensures lists { let f = self.old.file in Lists self.old self.new result
-            (header_cost Segments f.loaded f.store.now self.old.cap.bytes segment) }
-        ensures shows { Shows self.old self.new result
-            (header_items Segments self.old.cap.bytes segment) }
+        ensures lists { ListsHeader Segments self.old self.new result segment }
+        ensures shows { ShowsHeader Segments self.old self.new result segment }
     {
         let header = self.view().segment(segment);
         self.out.put(&segment_row(segment, &header))?;
@@ -49,10 +46,8 @@ impl<'f, S: Source, W: Sink> Listing<'_, '_, 'f, S, W> {
     pub(crate) fn segment_notes(&mut self, segment: u16) -> Result<(), Stop>
         requires { segment < self.old.file.store.now.segments }
         ensures grows { Grows self.old.out.now self.new.out.now }
-        ensures lists { let f = self.old.file in Lists self.old self.new result
-            (header_cost SegmentNotes f.loaded f.store.now self.old.cap.bytes segment) }
-        ensures shows { Shows self.old self.new result
-            (header_items SegmentNotes self.old.cap.bytes segment) }
+        ensures lists { ListsHeader SegmentNotes self.old self.new result segment }
+        ensures shows { ShowsHeader SegmentNotes self.old self.new result segment }
     {
         let header = self.view().segment(segment);
         if header.p_type != PT_NOTE {
@@ -69,10 +64,8 @@ impl<'f, S: Source, W: Sink> Listing<'_, '_, 'f, S, W> {
     pub(crate) fn segment_dynamic(&mut self, segment: u16) -> Result<(), Stop>
         requires { segment < self.old.file.store.now.segments }
         ensures grows { Grows self.old.out.now self.new.out.now }
-        ensures lists { let f = self.old.file in Lists self.old self.new result
-            (header_cost SegmentDynamic f.loaded f.store.now self.old.cap.bytes segment) }
-        ensures shows { Shows self.old self.new result
-            (header_items SegmentDynamic self.old.cap.bytes segment) }
+        ensures lists { ListsHeader SegmentDynamic self.old self.new result segment }
+        ensures shows { ShowsHeader SegmentDynamic self.old self.new result segment }
     {
         let view = self.view();
         if view.segment(segment).p_type != PT_DYNAMIC {

@@ -37,11 +37,13 @@ const TABLES: Parts = Parts(126);
 /// first fault its line ends the listing. Notes and dynamic entries are those of the sections, and
 /// in a file without sections those of the segments. The store has a slot for each header that the
 /// caps permit, and is loaded with the file's section headers, or with the program headers of a
-/// file without any. Where the caps have a budget no more is read, and the line of a refusal for
-/// want of budget may end the listing sooner; afterwards no limit is set.
+/// file without any. At most 2^127 bytes were asked of the source before. Where the caps have a
+/// budget no more is read, and the line of a refusal for want of budget may end the listing sooner;
+/// afterwards no limit is set.
 ///
 /// # Errors
-/// A fault of the source or of the output. What went out is a front of the listing.
+/// A fault of the source, with the offset that was asked for, or of the output, with the number of
+/// bytes that it took. What went out is a front of the listing, and the store may be loaded again.
 pub fn show<S: Source, W: Sink>(
     src: &mut Counted<S>,
     store: &mut HeaderStore,

@@ -38,13 +38,13 @@ const NO_SYMBOL: &str =
 fn check_listing(
     rt: &(impl Abort + AllocGlobal),
     file: &[u8],
-    caps: (u16, u16),
-    parts: Parts,
+    asked: (u16, u16, Parts),
     text: &[&str],
     status: u8,
     cost: u128,
 ) -> Result<(), Fail> {
-    let caps = Caps::new(caps.0, caps.1).ok_or("caps")?;
+    let (headers, names, parts) = asked;
+    let caps = Caps::new(headers, names).ok_or("caps")?;
     let mut store = HeaderStore::new(rt.alloc(), caps.headers())?;
     let mut buffer = [0; 4096];
     let mut src = Counted::new(MemorySource::new(file));
@@ -78,12 +78,11 @@ const MAIN: &str =
 #[test]
 fn the_sample_is_listed_whole(rt: HostRuntime) -> Result<(), Fail> {
     let text = [HEADER, SECTIONS, NO_SYMBOL, MAIN];
-    check_listing(&rt, one_symbol_table(), (3, 63), LISTED, &text, 0, 432)?;
+    check_listing(&rt, one_symbol_table(), (3, 63, LISTED), &text, 0, 432)?;
     check_listing(
         &rt,
         one_symbol_table(),
-        (3, 63),
-        Parts::SYMBOLS,
+        (3, 63, Parts::SYMBOLS),
         &text[2..],
         0,
         432,
@@ -93,7 +92,7 @@ fn the_sample_is_listed_whole(rt: HostRuntime) -> Result<(), Fail> {
 #[test]
 fn too_few_headers_permitted(rt: HostRuntime) -> Result<(), Fail> {
     let text = [HEADER, "! 000000000000003c too-many-headers\n"];
-    check_listing(&rt, one_symbol_table(), (2, 63), LISTED, &text, 1, 64)
+    check_listing(&rt, one_symbol_table(), (2, 63, LISTED), &text, 1, 64)
 }
 
 #[test]
@@ -102,8 +101,7 @@ fn a_file_cut_in_its_section_headers(rt: HostRuntime) -> Result<(), Fail> {
     check_listing(
         &rt,
         &one_symbol_table()[..311],
-        (3, 63),
-        LISTED,
+        (3, 63, LISTED),
         &text,
         1,
         64,
@@ -119,7 +117,7 @@ fn far_section(kind: u8) -> [u8; 312] {
 #[test]
 fn a_symbol_table_past_the_end_is_refused(rt: HostRuntime) -> Result<(), Fail> {
     let text = ["! 00000000000000b8 table-outside\n"];
-    check_listing(&rt, &far_section(2), (3, 63), Parts::SYMBOLS, &text, 1, 256)
+    check_listing(&rt, &far_section(2), (3, 63, Parts::SYMBOLS), &text, 1, 256)
 }
 
 #[test]
@@ -128,8 +126,7 @@ fn other_ranges_are_not_checked(rt: HostRuntime) -> Result<(), Fail> {
         check_listing(
             &rt,
             &far_section(kind),
-            (3, 63),
-            Parts::SYMBOLS,
+            (3, 63, Parts::SYMBOLS),
             &[],
             0,
             256,
@@ -148,9 +145,9 @@ fn sections_have_names(rt: HostRuntime) -> Result<(), Fail> {
     let third =
         "S     2 STRTAB                     0000000000000000 0000000000000070 0000000000000006 00000000 00000000 \n";
     let text = [first, second, "main\n", third];
-    check_listing(&rt, &file, (3, 63), Parts::SECTIONS, &text, 0, 448)?;
+    check_listing(&rt, &file, (3, 63, Parts::SECTIONS), &text, 0, 448)?;
     let text = [first, second, "ma\\+\n", third];
-    check_listing(&rt, &file, (3, 2), Parts::SECTIONS, &text, 0, 448)
+    check_listing(&rt, &file, (3, 2, Parts::SECTIONS), &text, 0, 448)
 }
 
 #[test]
@@ -158,7 +155,7 @@ fn program_headers_are_listed(rt: HostRuntime) -> Result<(), Fail> {
     let text = [
         "P     0 LOAD     R-X 0000000000000000 0000000000400000 0000000000400000 0000000000000078 0000000000000078 0000000000001000\n",
     ];
-    check_listing(&rt, one_load(), (1, 63), Parts::SEGMENTS, &text, 0, 120)
+    check_listing(&rt, one_load(), (1, 63, Parts::SEGMENTS), &text, 0, 120)
 }
 
 #[test]
@@ -167,12 +164,12 @@ fn names_are_escaped_cut_and_refused(rt: HostRuntime) -> Result<(), Fail> {
         "Y     1          1 0000000000001000 0000000000000010 FUNC    GLOBAL DEFAULT   ABS   ";
     let file = with_bytes(one_symbol_table(), 0x71, b"a\\b\x07".as_slice());
     let text = [NO_SYMBOL, front, "a\\\\b\\x07\n"];
-    check_listing(&rt, &file, (3, 4), Parts::SYMBOLS, &text, 0, 432)?;
+    check_listing(&rt, &file, (3, 4, Parts::SYMBOLS), &text, 0, 432)?;
     let text = [NO_SYMBOL, front, "a\\\\b\\+\n"];
-    check_listing(&rt, &file, (3, 3), Parts::SYMBOLS, &text, 0, 432)?;
+    check_listing(&rt, &file, (3, 3, Parts::SYMBOLS), &text, 0, 432)?;
     let text = [NO_SYMBOL, "! 0000000000000058 name-unended\n"];
     let file = with_bytes(&file, 0x118, &[5]);
-    check_listing(&rt, &file, (3, 4), Parts::SYMBOLS, &text, 1, 432)
+    check_listing(&rt, &file, (3, 4, Parts::SYMBOLS), &text, 1, 432)
 }
 
 #[test]
@@ -182,7 +179,7 @@ fn places_and_types_without_a_name_are_numbers(rt: HostRuntime) -> Result<(), Fa
         NO_SYMBOL,
         "Y     1          1 0000000000001000 0000000000000010      13      9 PROTECTED 65285 main\n",
     ];
-    check_listing(&rt, &file, (3, 63), Parts::SYMBOLS, &text, 0, 432)
+    check_listing(&rt, &file, (3, 63, Parts::SYMBOLS), &text, 0, 432)
 }
 
 #[test]
@@ -219,8 +216,7 @@ fn relocation_entries_are_listed(rt: HostRuntime) -> Result<(), Fail> {
     check_listing(
         &rt,
         overlapping_relocations(),
-        (3, 63),
-        Parts::RELOCS,
+        (3, 63, Parts::RELOCS),
         &text,
         0,
         480,
@@ -237,7 +233,7 @@ fn check_call(
 ) -> Result<(), Fail> {
     assert!(rt; at < 472);
     let file = with_bytes(one_call(), at, &[byte]);
-    check_listing(rt, &file, (5, 63), Parts::RELOCS, &[text], status, 496)
+    check_listing(rt, &file, (5, 63, Parts::RELOCS), &[text], status, 496)
 }
 
 #[test]
@@ -336,7 +332,7 @@ fn every_set_of_parts_is_listed(rt: HostRuntime) -> Result<(), Fail> {
                 text[part] = CALL[part];
             }
         }
-        check_listing(&rt, one_call(), (5, 63), Parts(bits), &text, 0, 672)?;
+        check_listing(&rt, one_call(), (5, 63, Parts(bits)), &text, 0, 672)?;
     }
     Ok(())
 }

@@ -32,3 +32,11 @@ first_refusal-back front back e = go (first_refusal front) refl
     go : (refusal : Option Refusal) → first_refusal front ≡ refusal → first_refusal back ≡ None
     go None f = sym (first_refusal-none front back f) ∙ e
     go (Some refusal) f = let g = first_refusal-some front back refusal f in absurd (cc)
+
+-- where two lists of checks pass, the first does
+pub passes_front : (front rest : List Check) → first_refusal (front ++ rest) ≡ None → first_refusal front ≡ None
+passes_front front rest h = by_cases (first_refusal front) (λ refusal fails. first_refusal-some front rest refusal fails)
+  where
+    by_cases : (first : Option Refusal) → ((refusal : Refusal) → first ≡ Some refusal → first_refusal (front ++ rest) ≡ Some refusal) → first ≡ None
+    by_cases None fails = refl
+    by_cases (Some refusal) fails = let refused = fails refusal refl in cc

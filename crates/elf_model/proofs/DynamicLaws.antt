@@ -5,6 +5,7 @@ use Rattle.std.proofs.lemmas.Bool.{cases_lt}
 use Rattle.elf_model.specs.Records.{d_tag, d_un}
 use Rattle.elf_model.specs.Numbers.{DT_NULL}
 use Rattle.elf_model.specs.Dynamic.{dynamic_count, dynamic_value, dynamic_at, IsListed, CountedIsListed, ListedIsCounted, IsFirstValue, ValueIsFirst, NoValueHasNoTag}
+use Rattle.elf_model.proofs.SameLaws.{alike-or-other}
 
 null-or-not : (tag : ℕ) → (tag ≡ DT_NULL) ⊎ (tag ≢ DT_NULL)
 null-or-not tag = grind (arith, nat_tests)
@@ -79,9 +80,6 @@ pub count-first : (file : List ℕ) (at n i : ℕ) → i < n → ((j : ℕ) → 
 count-first file at n i l none h =
     listed_is_counted file at n (suc i) (record { within = l; none_before = λ j m. none j (omega arith); ended = λ m. (i, refl, h) })
 
-tag-or-not : (tag other : ℕ) → (tag ≡ other) ⊎ (tag ≢ other)
-tag-or-not tag other = grind (arith, nat_tests)
-
 -- no entry tells no value
 pub value-none : (file : List ℕ) (at tag : ℕ) → dynamic_value file at zero tag ≡ None
 unfolding dynamic_value
@@ -121,7 +119,7 @@ first-more file at n tag value h k = record {
 
 pub value_is_first : ValueIsFirst
 value_is_first file at zero tag value e = let n = value-none file at tag in cc
-value_is_first file at (suc n) tag value e = step (λ h. value_is_first file (at + 16) n tag value h) (tag-or-not (d_tag file at) tag)
+value_is_first file at (suc n) tag value e = step (λ h. value_is_first file (at + 16) n tag value h) (alike-or-other (d_tag file at) tag)
   where
     step : (dynamic_value file (at + 16) n tag ≡ Some value → IsFirstValue file (at + 16) n tag value) → (d_tag file at ≡ tag) ⊎ (d_tag file at ≢ tag)
         → IsFirstValue file at (suc n) tag value
@@ -133,7 +131,7 @@ value_is_first file at (suc n) tag value e = step (λ h. value_is_first file (at
 
 pub no_value_has_no_tag : NoValueHasNoTag
 no_value_has_no_tag file at zero tag e = λ i l. absurd (omega arith)
-no_value_has_no_tag file at (suc n) tag e = step (λ h. no_value_has_no_tag file (at + 16) n tag h) (tag-or-not (d_tag file at) tag)
+no_value_has_no_tag file at (suc n) tag e = step (λ h. no_value_has_no_tag file (at + 16) n tag h) (alike-or-other (d_tag file at) tag)
   where
     step : (dynamic_value file (at + 16) n tag ≡ None → (i : ℕ) → i < n → d_tag file (dynamic_at (at + 16) i) ≢ tag) → (d_tag file at ≡ tag) ⊎ (d_tag file at ≢ tag)
         → (i : ℕ) → i < suc n → d_tag file (dynamic_at at i) ≢ tag

@@ -10,7 +10,7 @@ use Rattle.elf_model.specs.TableKinds.{TableKind, TableHeaders, symbols, relocat
 use Rattle.std.proofs.Common.{◌≡◌, ℕ, ◌+◌, ◌*◌, ◌==◌, ◌&&◌, not, Bool, true, false, List, [], ◌∷◌, ◌++◌, length, Some, None, arith, refl, ap, sym, ◌∙◌, append-nil, append_assoc}
 use Rattle.elf_model.specs.Checks.{Check, first_refusal, header_checks, load_checks}
 use Rattle.elf_model.specs.Lines.{header_line, refusal_line}
-use Rattle.elf_model.specs.Listing.{Item, Line, Fault, lines_of, fault_of, report_of, guarded, where_asked, each, has, has_tables, header_items, HEADER, SECTIONS, SEGMENTS, NOTES, DYNAMIC, TABLES, ALL}
+use Rattle.elf_model.specs.Listing.{Item, Line, Fault, lines_of, fault_of, report_of, guarded, where_asked, each, has, has_tables, file_header_items, HEADER, SECTIONS, SEGMENTS, NOTES, DYNAMIC, TABLES, ALL}
 use Rattle.elf_model.specs.Report.{items, load_items, table_items, table_rows, kinds_rows}
 use Rattle.elf_model.specs.declared.causes.Refusal.{Refusal}
 use Rattle.elf_model.specs.ListingLaws.{HeaderAloneIsListed, HeaderFaultIsListedAlone, LoadFaultIsListedSecond, NothingBehindTheFault, ListingsAppend, OtherBitsMeanNothing}
@@ -46,7 +46,7 @@ load_some file headers cap parts h = by_cases (has_tables parts) (guarded (load_
     by_cases true members h = refl
 
 pub header_alone : HeaderAloneIsListed
-unfolding items header_items
+unfolding items file_header_items
 header_alone file headers cap parts h =
     let line : List Item = where_asked parts HEADER (Line (header_line file) ∷ []) in
     ap (guarded (header_checks file)) (ap (λ more. line ++ more) (load_none file headers cap parts h) ∙ append-nil line)

@@ -7,6 +7,7 @@ use Rattle.std.proofs.lemmas.List.Elements.{All-head, All-tail}
 use Rattle.elf_model.specs.Apply.{Patch, put, patched}
 use Rattle.elf_model.specs.ApplyLaws.{IsInside, AllInside, byte_with, byte_after, clipped, LengthKept, BytePatched, WindowPatched, FinalBelow, KeptAbove}
 use Rattle.elf_model.specs.Bytes.{slice}
+use Rattle.elf_model.proofs.Slices.{slice-size, get_or-slice}
 
 pub length-put : (patch : Patch) (base : List ℕ) → IsInside (length base) patch → length (put patch base) ≡ length base
 unfolding put
@@ -140,12 +141,6 @@ module _ (patch : Patch) (low n : ℕ) where
         ]
       ]
 
-length-slice : (base : List ℕ) (low n : ℕ) → low + n ≤ length base → length (slice base low n) ≡ n
-length-slice base low n fits = simp (length-take, length-drop) (omega arith)
-
-byte_of_slice : (base : List ℕ) (low n i : ℕ) → i < n → get_or (slice base low n) i 0 ≡ get_or base (low + i) 0
-byte_of_slice base low n i here = get_or-take n (drop low base) i 0 here ∙ get_or-drop low base i 0
-
 -- a window once a patch is stored
 pub window_put :
     (patch : Patch) (base : List ℕ) (low n : ℕ) → IsInside (length base) patch → low + n ≤ length base
@@ -153,18 +148,18 @@ pub window_put :
 window_put patch base low n inside fits =
     let kept = length-put patch base inside in
     let fits_now : low + n ≤ length (put patch base) = omega arith in
-    let window = length-slice base low n fits in
-    let window_now = length-slice (put patch base) low n fits_now in
+    let window = slice-size base low n fits in
+    let window_now = slice-size (put patch base) low n fits_now in
     let part_inside : IsInside (length (slice base low n)) (clipped low n patch)
     = let c = clipped_inside patch low n in omega arith in
     let part_kept = length-put (clipped low n patch) (slice base low n) part_inside in
     ext_get_or 0 (slice (put patch base) low n) (put (clipped low n patch) (slice base low n)) (window_now ∙ sym window ∙ sym part_kept)
     (λ i h.
     let here : i < n = omega arith in
-    byte_of_slice (put patch base) low n i here
+    get_or-slice (put patch base) low n i here
     ∙ byte_put patch base (low + i) inside
     ∙ byte_with_clipped patch low n i (get_or base (low + i) 0) here
-    ∙ ap (byte_with (clipped low n patch) i) (sym (byte_of_slice base low n i here))
+    ∙ ap (byte_with (clipped low n patch) i) (sym (get_or-slice base low n i here))
     ∙ sym (byte_put (clipped low n patch) (slice base low n) i part_inside))
 
 pub window_patched : WindowPatched

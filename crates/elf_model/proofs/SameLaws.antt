@@ -43,7 +43,8 @@ pub data Compared (bytes wanted : List ℕ) : Type 0 where
   is_other : Differ bytes wanted → begins bytes wanted ≡ Ok false → Compared bytes wanted
   is_short : length bytes < length wanted → bytes ≡ take (length bytes) wanted → begins bytes wanted ≡ Err NameUnended → Compared bytes wanted
 
-alike-or-other : (b w : ℕ) → (b ≡ w) ⊎ (b ≢ w)
+-- two numbers are the same or not
+pub alike-or-other : (b w : ℕ) → (b ≡ w) ⊎ (b ≢ w)
 alike-or-other b w = grind (arith, nat_tests)
 
 compared-more : (b w : ℕ) (bytes wanted : List ℕ) → b ≡ w → Compared bytes wanted → Compared (b ∷ bytes) (w ∷ wanted)

@@ -5,7 +5,7 @@ use Rattle.std.proofs.lemmas.List.{take_all, drop-drop}
 use Rattle.elf_model.specs.Bytes.{slice}
 use Rattle.elf_model.specs.Names.{nul_in, shown}
 use Rattle.elf_model.specs.Names.Shown.{Whole, Cut}
-use Rattle.elf_model.specs.Searches.{Found}
+use Rattle.elf_model.specs.Searches.{NulFound}
 use Rattle.elf_model.specs.declared.causes.Cause.TheVariants.{NameOutside, NameUnended}
 use Rattle.elf_model.proofs.Slices.{slice-rest, slice-size, slice-slice}
 use Rattle.elf_model.proofs.Nuls.{some-free}
@@ -59,7 +59,7 @@ kept-found file piece name new start done count want place cap e n inside within
 -- the search ends at the piece with the first NUL
 pub found-here : (file piece name new : List ℕ) (start done count want place cap : ℕ) → piece ≡ slice file (start + done) count → nul_in (slice file start done) ≡ None
     → name ≡ take cap (slice file start done) → nul_in piece ≡ Some place → place ≤ count → done + count ≤ want → start + want ≤ length file
-    → new ≡ take cap (name ++ take place piece) → Found (slice file start want) cap true new
+    → new ≡ take cap (name ++ take place piece) → NulFound (slice file start want) cap true new
 found-here file piece name new start done count want place cap e before n some inside within whole a = (
   done + place,
   search-found file piece start done count want place e before some within whole,
@@ -77,7 +77,7 @@ shown-past file at size off cap past some =
 
 -- a NUL was found
 pub shown-whole : (file kept : List ℕ) (at size off want cap : ℕ) → at + size ≤ length file → off < size → off + want ≤ size → want ≤ cap + 1
-    → Found (slice file (at + off) want) cap true kept → shown (slice file at size) off cap ≡ Ok (Whole kept)
+    → NulFound (slice file (at + off) want) cap true kept → shown (slice file at size) off cap ≡ Ok (Whole kept)
 shown-whole file kept at size off want cap inside below within few h =
     let long = slice-size file at size inside in
     let part = slice-slice file at size off want within in
@@ -90,7 +90,7 @@ shown-whole file kept at size off want cap inside below within few h =
 
 -- no NUL was found in one byte more than the cap
 pub shown-cut : (file kept : List ℕ) (at size off want cap : ℕ) → at + size ≤ length file → want ≡ cap + 1 → off + want ≤ size
-    → Found (slice file (at + off) want) cap false kept → shown (slice file at size) off cap ≡ Ok (Cut kept)
+    → NulFound (slice file (at + off) want) cap false kept → shown (slice file at size) off cap ≡ Ok (Cut kept)
 shown-cut file kept at size off want cap inside full within h =
     let long = slice-size file at size inside in
     let part = slice-slice file at size off want within in
@@ -100,7 +100,7 @@ shown-cut file kept at size off want cap inside full within h =
 
 -- no NUL was found up to the string table's end
 pub shown-unended : (file kept : List ℕ) (at size off want cap : ℕ) → at + size ≤ length file → off < size → want ≡ size - off → size ≤ off + cap
-    → Found (slice file (at + off) want) cap false kept → shown (slice file at size) off cap ≡ Err NameUnended
+    → NulFound (slice file (at + off) want) cap false kept → shown (slice file at size) off cap ≡ Err NameUnended
 shown-unended file kept at size off want cap inside below all few h =
     let long = slice-size file at size inside in
     shown-open (slice file at size) off cap (omega arith) (omega arith)

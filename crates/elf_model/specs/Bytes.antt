@@ -6,7 +6,7 @@ unfoldable pub number : List ℕ → ℕ
 number [] = 0
 number (b ∷ bs) = b + 256 * number bs
 
--- the bytes of a file from an offset on, so many of them
+-- the bytes of a file from an offset on, so many of them, or fewer where the file ends
 abbrev pub slice : List ℕ → ℕ → ℕ → List ℕ
 slice file at size = take size (drop at file)
 
@@ -14,7 +14,7 @@ slice file at size = take size (drop at file)
 unfoldable pub field : List ℕ → ℕ → ℕ → ℕ
 field file at width = number (slice file at width)
 
--- the bytes of a number in a field of so many bytes
+-- the low bytes of a number, as many as a field has, the least significant first
 unfoldable pub little : ℕ → ℕ → List ℕ
 little zero n = []
 little (suc width) n = n % 256 ∷ little width (n / 256)

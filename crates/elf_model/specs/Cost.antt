@@ -32,7 +32,7 @@ kinds_cost (kind ∷ kinds) bytes at file_size cap parts =
 unfoldable pub is_loadable : List ℕ → ℕ → Bool
 is_loadable file headers = pass (header_checks file ++ early_checks file headers)
 
--- the section headers, and the names of the sections where the file has a section of them
+-- the section headers; and where these are listed and the index of the section of the section names is not 0, a name each
 unfoldable pub sections_cost : List ℕ → ℕ → ℕ → ℕ
 sections_cost file cap parts =
     64 * e_shnum file
@@ -42,11 +42,11 @@ sections_cost file cap parts =
 abbrev pub needs_segments : List ℕ → ℕ → Bool
 needs_segments file parts = has parts SEGMENTS || (e_shnum file == 0 && (has parts NOTES || has parts DYNAMIC))
 
--- the program headers
+-- the program headers, where they are read
 unfoldable pub segments_cost : List ℕ → ℕ → ℕ
 segments_cost file parts = cost_where (needs_segments file parts) (56 * e_phnum file)
 
--- the tables of all headers that describe tables
+-- the tables of all headers that describe tables, as far as the parts have them
 unfoldable pub tables_cost : List ℕ → ℕ → ℕ → ℕ
 tables_cost file cap parts =
     let headers = table_headers file in

@@ -83,5 +83,5 @@ abbrev pub where_asked : ℕ → ℕ → List Item → List Item
 where_asked parts part items = elim (has parts part) [ true ↦ items | false ↦ [] ]
 
 -- the file header's part: the first of its checks that fails, else its line where the parts have it
-unfoldable pub header_items : List ℕ → ℕ → List Item
-header_items file parts = guarded (header_checks file) (where_asked parts HEADER (Line (header_line file) ∷ []))
+unfoldable pub file_header_items : List ℕ → ℕ → List Item
+file_header_items file parts = guarded (header_checks file) (where_asked parts HEADER (Line (header_line file) ∷ []))

@@ -3,7 +3,7 @@ use Rattle.std.specs.Prelude.{◌≡◌, ℕ, ◌≤◌, true, false, List, ◌+
 use Rattle.elf_model.specs.Budget.{IsReport, IsBudgeted}
 use Rattle.elf_model.specs.Checks.{first_refusal, header_checks, load_checks}
 use Rattle.elf_model.specs.Lines.{header_line, refusal_line}
-use Rattle.elf_model.specs.Listing.{Item, lines_of, fault_of, has, has_tables, header_items, HEADER, ALL}
+use Rattle.elf_model.specs.Listing.{Item, lines_of, fault_of, has, has_tables, file_header_items, HEADER, ALL}
 use Rattle.elf_model.specs.Cost.{cost}
 use Rattle.std.specs.Int.RustNames.{bit_and}
 use Rattle.elf_model.specs.Report.{items, report, report_fault}
@@ -13,7 +13,7 @@ use Rattle.elf_model.specs.declared.causes.Refusal.{Refusal}
 abbrev pub HeaderAloneIsListed : Type 0
 HeaderAloneIsListed =
     (file : List ℕ) → (headers cap parts : ℕ) → has_tables parts ≡ false
-    → items file headers cap parts ≡ header_items file parts
+    → items file headers cap parts ≡ file_header_items file parts
 
 -- where a check of the file header fails, the listing is that fault's line alone, under any parts
 abbrev pub HeaderFaultIsListedAlone : Type 0
@@ -21,7 +21,8 @@ HeaderFaultIsListedAlone =
     (file : List ℕ) → (headers cap parts : ℕ) → (refusal : Refusal) → first_refusal (header_checks file) ≡ Some refusal
     → (report file headers cap parts ≡ refusal_line refusal) × (report_fault file headers cap parts ≡ Some refusal)
 
--- where a load check fails, the listing of all parts is the file header's line and that fault's line
+-- where a load check fails, the listing is the file header's line and that fault's line, under any parts with the file
+-- header's and another
 abbrev pub LoadFaultIsListedSecond : Type 0
 LoadFaultIsListedSecond =
     (file : List ℕ) → (headers cap parts : ℕ) → (refusal : Refusal)

@@ -7,7 +7,8 @@ use Rattle.elf_model.specs.Segments.{mapped_checks, mapped_bytes}
 use Rattle.elf_model.specs.declared.causes.Cause.TheVariants.{Unmapped}
 use Rattle.elf_model.specs.declared.causes.Refusal.{Refusal}
 
--- so many bytes at an address, for the dynamic entry at an offset, which is refused where either is not told
+-- so many bytes at an address, for the dynamic entry at an offset, which is refused where either is not told; else they are
+-- behind their checks, `mapped_checks`
 unfoldable pub strings_at : List ℕ → ℕ → Option ℕ → Option ℕ → Result (List ℕ) Refusal
 strings_at file dynamic_at None size = Err (record { at = dynamic_at; cause = Unmapped })
 strings_at file dynamic_at (Some address) None = Err (record { at = dynamic_at; cause = Unmapped })

@@ -47,13 +47,14 @@ shown table index cap =
     else if nat_lt index (length table) then shown_of cap front (nul_in front)
     else Err NameOutside
 
--- whether bytes begin with what is wanted; they may end before that
+-- whether bytes begin with what is wanted, byte by byte up to the first that differs; unended where they end before that
 unfoldable pub begins : List ℕ → List ℕ → Result Bool Cause
 begins bytes [] = Ok true
 begins [] (w ∷ wanted) = Err NameUnended
 begins (b ∷ bytes) (w ∷ wanted) = elim (b == w) [ true ↦ begins bytes wanted | false ↦ Ok false ]
 
--- whether the name at an index is the wanted one: the bytes there begin with it and a NUL
+-- whether the name at an index is the wanted one: the bytes there begin with it and a NUL. In an empty table it is not at
+-- index 0; any other index that is not below the table's size is outside
 unfoldable pub same : List ℕ → ℕ → List ℕ → Result Bool Cause
 same table index wanted =
     if is_empty_at_zero table index then Ok false

@@ -1,5 +1,5 @@
--- Notes (gABI 5, Note Section), each with a head of three words of four bytes: what the notes of a table are, how they are
--- shown, and how they are calculated.
+-- Notes (gABI 5, Note Section): what the notes of a table are, how they are shown, and how they are calculated. Each has a
+-- head of three words of four bytes, as the usual tools write it: in 64-bit files the standard's words have eight.
 use Rattle.std.specs.Prelude.{◌≡◌, ℕ, zero, suc, ◌+◌, ◌-◌, ◌%◌, ◌==◌, ◌<◌, ◌≤◌, min, nat_lt, Bool, true, if◌then◌else◌, List, [], ◌∷◌, ◌++◌, length, take, drop, ◌⊎◌, Option, None, Some}
 use Rattle.std.specs.List.{list_all, before_first}
 use Rattle.elf_model.specs.Bytes.{slice}
@@ -80,7 +80,7 @@ pub record EndsInSpelling (a : ℕ) (notes : List Note) (table : List ℕ) : Typ
 abbrev pub Notes : ℕ → List Note → List ℕ → Type 0
 Notes a notes table = EndsInZeros a notes table ⊎ EndsInSpelling a notes table
 
--- a table has no list of notes, and the longest front of it that is padded notes alone ends at an offset
+-- a table has no list of notes, and the longest front of it that is padded notes alone, these, ends at an offset
 pub record CutAt (a : ℕ) (notes : List Note) (offset : ℕ) (table : List ℕ) : Type 0 where
   pub within : offset ≤ length table
   pub padded : AllPadded a notes (take offset table)
@@ -164,7 +164,8 @@ pub record Walk : Type 0 where
 abbrev pub with_note : Note → Walk → Walk
 with_note note walk = record { notes = note ∷ walk.notes; cut = walk.cut }
 
--- the notes of the bytes from an offset on, no more than so many notes
+-- the notes of the bytes from an offset on, up to the offset where they are cut: where no note stands, or where so many
+-- steps have not come to the end
 unfoldable pub walk_from : ℕ → ℕ → ℕ → List ℕ → Walk
 walk_from a zero offset rest = record { notes = []; cut = Some offset }
 walk_from a (suc most) offset rest =

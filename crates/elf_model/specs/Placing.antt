@@ -50,14 +50,15 @@ placed_at rela (Some address) offset = Ok ((address + offset) % 2 ^ 64)
 abbrev pub STB_WEAK : ℕ
 STB_WEAK = 2
 
--- the value of an undefined or common symbol without a definition: 0 where it is undefined and weak
--- (gABI 4, Symbol Binding)
+-- the value of an undefined or common symbol without a definition: 0 where it is undefined and weak, else the entry is
+-- refused (gABI 4, Symbol Binding)
 abbrev pub undefined_value : List ℕ → ℕ → ℕ → Result ℕ Refusal
 undefined_value file rela symbol =
     if st_shndx file symbol == SHN_UNDEF && st_bind file symbol == STB_WEAK then Ok 0 else refusal_at rela Undefined
 
 -- S, the value of a symbol (gABI 4, Symbol Values), by its section index: its own where it is absolute; the layout's
--- definition where it is undefined or common; else its offset in its section, and reserved indices have no address
+-- definition, else `undefined_value`, where it is undefined or common; else its offset from its section's address, and
+-- reserved indices have no address
 unfoldable pub symbol_value : List ℕ → List ℕ → Layout → ℕ → ℕ → Result ℕ Refusal
 symbol_value file strings layout rela symbol =
     let index = st_shndx file symbol in
@@ -71,6 +72,6 @@ unfoldable pub linkage_value : List ℕ → List ℕ → Layout → ℕ → ℕ 
 linkage_value file strings layout rela symbol =
     named_or symbol (address_named strings (st_name file symbol) layout.linkage) (symbol_value file strings layout rela symbol)
 
--- P, the place of the bytes that are relocated: their offset in their section
+-- P, the place of the bytes that are relocated: their offset from their section's address
 unfoldable pub place_value : List ℕ → Layout → ℕ → ℕ → Result ℕ Refusal
 place_value file layout section rela = placed_at rela (address_in layout.sections section) (r_offset file rela)

@@ -153,7 +153,8 @@ d_tag bytes at = field bytes at 8
 abbrev pub d_un : List ℕ → ℕ → ℕ
 d_un bytes at = field bytes (at + 8) 8
 
--- A note's head, 12 bytes: three words of four bytes (gABI 5, Note Section).
+-- A note's head, 12 bytes: three words of four bytes, as the usual tools write it (gABI 5, Note Section, whose words have
+-- eight bytes in 64-bit files).
 abbrev pub n_namesz : List ℕ → ℕ → ℕ
 n_namesz bytes at = field bytes at 4
 

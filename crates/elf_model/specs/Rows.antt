@@ -50,7 +50,8 @@ symbol_row file cap section at index =
     named_row (symbol_front file symbol_at section index) symbol_at (shown (strings_of file at) (st_name file symbol_at) cap)
 
 -- the offset that a fault names and the name that is shown, for the symbol of an index that a relocation entry names, whose
--- section's header stands at an offset: symbol 0 has no name, any other is one of the linked table's
+-- section's header stands at an offset: symbol 0 has no name; any other is one of the linked table's, else it is a fault at
+-- the entry; a name's own fault is at the symbol
 unfoldable pub symbol_named : List ℕ → ℕ → ℕ → ℕ → ℕ → ℕ × Result Shown Cause
 symbol_named file cap header_at rela_at symbol =
     let table_at = linked_at file header_at in

@@ -3,6 +3,6 @@ use Rattle.std.specs.Prelude.{ℕ, ◌≡◌, Bool, true, false, List, take, Non
 use Rattle.elf_model.specs.Names.{nul_in}
 
 -- in these bytes there is a NUL, or none: those before it are kept, or all, as far as the cap
-abbrev pub Found : List ℕ → ℕ → Bool → List ℕ → Type 0
-Found bytes cap true kept = (place : ℕ) × (nul_in bytes ≡ Some place) × (kept ≡ take cap (take place bytes))
-Found bytes cap false kept = (nul_in bytes ≡ None) × (kept ≡ take cap bytes)
+abbrev pub NulFound : List ℕ → ℕ → Bool → List ℕ → Type 0
+NulFound bytes cap true kept = (place : ℕ) × (nul_in bytes ≡ Some place) × (kept ≡ take cap (take place bytes))
+NulFound bytes cap false kept = (nul_in bytes ≡ None) × (kept ≡ take cap bytes)

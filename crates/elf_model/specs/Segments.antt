@@ -1,6 +1,6 @@
--- The segments of a file: which of them is a table of dynamic entries, and where the addresses that its entries give
--- stand in the file (gABI 5, Program Header, Program Loading). A program header stands at an offset of some bytes: of the
--- file, or of its own bytes alone, at 0.
+-- The segments of a file: the checks of one that is a table of dynamic entries, and where the bytes at an address stand in
+-- the file (gABI 5, Program Header, Program Loading). A program header stands at an offset of some bytes: of the file, or of
+-- its own bytes alone, at 0.
 use Rattle.std.specs.Prelude.{ℕ, zero, suc, ◌+◌, ◌-◌, ◌==◌, ◌&&◌, nat_lt, not, Bool, true, if◌then◌else◌, List, [], ◌∷◌, length, Option, None, Some}
 use Rattle.elf_model.specs.Bytes.{slice}
 use Rattle.elf_model.specs.Records.{e_phnum, p_type, p_offset, p_vaddr, p_filesz, segment_at}
@@ -19,7 +19,8 @@ segment_dynamic_checks_of bytes at file_size place =
 abbrev pub segment_dynamic_checks : List ℕ → ℕ → List Check
 segment_dynamic_checks file at = segment_dynamic_checks_of file at (length file) at
 
--- a LOAD segment holds z bytes from the address v on, and they are in the file; sums are whole numbers
+-- a LOAD segment has z bytes from the address v on among those that it has in the file, p_filesz of them; sums are whole
+-- numbers
 abbrev pub is_mapped_by : List ℕ → ℕ → ℕ → ℕ → Bool
 is_mapped_by bytes at v z =
     p_type bytes at == PT_LOAD
@@ -41,8 +42,8 @@ mapped_at file v z = mapped_from file v z 0 (e_phnum file)
 abbrev pub mapped_offset : List ℕ → ℕ → ℕ → ℕ
 mapped_offset bytes at v = p_offset bytes at + (v - p_vaddr bytes at)
 
--- z bytes from the address v on, which an entry gives: the first LOAD program header that holds them decides where they
--- stand, and they are within the file
+-- z bytes from the address v on, which an entry gives: a LOAD program header holds them, else they are refused at the entry;
+-- by the first that does they are within the file, else they are refused at that program header
 abbrev pub mapped_checks : List ℕ → ℕ → ℕ → ℕ → List Check
 mapped_checks file v z entry = elim (mapped_at file v z) [
   | None ↦ refuse true entry Unmapped ∷ []

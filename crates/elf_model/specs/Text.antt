@@ -22,11 +22,11 @@ space = 32 ∷ []
 abbrev pub newline : List ℕ
 newline = 10 ∷ []
 
--- a text at the left of a column
+-- a text at the left of a column; a longer one is not cut
 unfoldable pub left_in : ℕ → List ℕ → List ℕ
 left_in width text = text ++ spaces (width - length text)
 
--- a text at the right of a column
+-- a text at the right of a column; a longer one is not cut
 unfoldable pub right_in : ℕ → List ℕ → List ℕ
 right_in width text = spaces (width - length text) ++ text
 

@@ -3,7 +3,7 @@ use Rattle.std.proofs.Common.{◌≡◌, ℕ, ◌+◌, ◌-◌, ◌≤◌, List,
 use Rattle.elf_model.specs.Bytes.{slice}
 use Rattle.elf_model.proofs.Slices.{slice-slice}
 use Rattle.elf_source.specs.Source.{Counting, Reads}
-use Rattle.elf_names.specs.Ahead.{Held, Ahead, IsOf, Agrees, AgreesWith, Spends, reach}
+use Rattle.elf_names.specs.Ahead.{Held, HeldAhead, IsOf, Agrees, AgreesWith, Spends, reach}
 
 -- a part of what is held is the file's
 pub part-of_file : (file part : List ℕ) (h : Held) (at count : ℕ) → IsOf file h → h.at ≤ at → at + count ≤ reach h → part ≡ slice h.bytes (at - h.at) count
@@ -21,10 +21,10 @@ piece-of_file file part h at place most agrees same begins ends size is =
     ∙ ap (λ (x : ℕ). slice file x (length part)) same
 
 -- what is held stays that of a source that is read on credit
-pub still_ahead : {a b : Counting} {x y n : ℕ} (old new : Ahead) → Spends a b x y n
+pub still_ahead : {a b : Counting} {x y n : ℕ} (old new : HeldAhead) → Spends a b x y n
     → ((file : List ℕ) → a.seen.file ≡ Some file → Agrees file old → Agrees file new) → AgreesWith a.seen.file old → AgreesWith b.seen.file new
 still_ahead old new p stays held = λ file is. let before = sym p.reads.keeps.same_file ∙ is in stays file before (held file before)
 
 -- and of one that is read beside it
-pub still_held : {a b : Counting} {n : ℕ} (now : Ahead) → Reads a b n → AgreesWith a.seen.file now → AgreesWith b.seen.file now
+pub still_held : {a b : Counting} {n : ℕ} (now : HeldAhead) → Reads a b n → AgreesWith a.seen.file now → AgreesWith b.seen.file now
 still_held now p held = λ file is. held file (sym p.keeps.same_file ∙ is)

@@ -21,18 +21,18 @@ abbrev pub StaysOf : Option (List ℕ) → Held → Held → Type 0
 StaysOf file old new = (bytes : List ℕ) → file ≡ Some bytes → IsOf bytes old → IsOf bytes new
 
 -- what is held of names and of symbols, and how many bytes may be asked for on credit
-pub record Ahead : Type 0 where
+pub record HeldAhead : Type 0 where
   pub names : Held
   pub symbols : Held
   pub credit : ℕ
 
 -- what is held is the file's
-pub record Agrees (file : List ℕ) (a : Ahead) : Type 0 where
+pub record Agrees (file : List ℕ) (a : HeldAhead) : Type 0 where
   pub names : IsOf file a.names
   pub symbols : IsOf file a.symbols
 
 -- what is held is the file's, where the source's is known
-abbrev pub AgreesWith : Option (List ℕ) → Ahead → Type 0
+abbrev pub AgreesWith : Option (List ℕ) → HeldAhead → Type 0
 AgreesWith file a = (bytes : List ℕ) → file ≡ Some bytes → Agrees bytes a
 
 -- WHAT READS ON CREDIT DO, fault or not: with n bytes more of it, what was asked for and what may still be asked for come to
@@ -43,7 +43,7 @@ pub record Spends (old new : Counting) (before after n : ℕ) : Type 0 where
 
 -- so many bytes are held from an offset on; what was asked for, and what of the credit was spent, is no more than what is
 -- held from there on
-pub record Brings (new : Held) (at count before after credit left : ℕ) : Type 0 where
+pub record BringsHeld (new : Held) (at count before after credit left : ℕ) : Type 0 where
   pub begins : new.at ≤ at
   pub ends : at + count ≤ reach new
   pub asked : after ≤ before + (reach new - at)

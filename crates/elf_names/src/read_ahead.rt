@@ -37,9 +37,9 @@ pub struct ReadAhead {
 }
 
 impl Model for ReadAhead {
-    ghost use Rattle.elf_names.specs.Ahead.{Ahead};
+    ghost use Rattle.elf_names.specs.Ahead.{HeldAhead};
 
-    ghost Value = { Ahead };
+    ghost Value = { HeldAhead };
 
     ghost view = { λ r. record { names = r.names; symbols = r.symbols; credit = r.credit } };
 }
@@ -60,10 +60,10 @@ impl ReadAhead {
 
     /// Reads the name at an index of a string table into `name`: the bytes before its NUL, or its
     /// first `cap` bytes where it has more (gABI 4, String Table). An empty string table has the
-    /// empty name at index 0. It reads pieces of 64 to 4,096 bytes, up to the first NUL and never
-    /// past the string table's end; `name_bytes` of the cap is added to the credit, and what it
-    /// asks for is taken from it. After a fault `name` holds any bytes, and after one of a read no
-    /// names are held.
+    /// empty name at index 0. What is not held it reads in pieces of at most 4,096 bytes, until the
+    /// first NUL is held, and never past the string table's end; `name_bytes` of the cap is added to
+    /// the credit, and what it asks for is taken from it. After a fault `name` holds any bytes, and
+    /// after one of a read no names are held.
     ///
     /// # Errors
     /// Refused at the entry that holds the index: `NameOutside` where the index is not below the

@@ -2,7 +2,7 @@
 ghost use Rattle.std.specs.Prelude.{◌≡◌, ℕ, ◌+◌, ◌-◌, ◌^◌, ◌<◌, ◌≤◌, [], length, min, IfErr, OnOk};
 ghost use Rattle.elf_model.specs.Bytes.{slice};
 ghost use Rattle.elf_headers.specs.Faults.{Says, IsAt};
-ghost use Rattle.elf_names.specs.Ahead.{Brings, Spends, StaysOf, reach};
+ghost use Rattle.elf_names.specs.Ahead.{BringsHeld, Spends, StaysOf, reach};
 
 use elf_source::{Counted, Source};
 use elf_table::{Fault, fill};
@@ -80,7 +80,7 @@ impl<const N: usize> Stretch<N> {
         ensures not_past { src.new.asked ≤ src.old.asked + (end - at) }
         ensures agrees { StaysOf src.old.seen.file self.old self.new }
         ensures brings { OnOk result
-            (Brings self.new at count src.old.asked src.new.asked credit.old credit.new) }
+            (BringsHeld self.new at count src.old.asked src.new.asked credit.old credit.new) }
     {
         if at >= self.at && at + count <= self.at + self.held {
             self.served = true;

@@ -13,7 +13,7 @@ use Rattle.elf_record.specs.declared.note_head.NoteHead.{NoteHead}
 use Rattle.elf_headers.specs.declared.fault.Fault.{Fault}
 use Rattle.elf_table.specs.declared.names.NameEnd.{NameEnd}
 use Rattle.elf_table.specs.Windows.{Ahead, bytes_left, range_end}
-use Rattle.elf_note.specs.NoteCursors.{rest, notes_left, no_notes, cut_at, NameIs, Tells, note_size}
+use Rattle.elf_note.specs.NoteCursors.{rest, notes_left, no_notes, cut_at, NameIs, TellsNote, note_size}
 
 short : (file : List ℕ) (w : Ahead) → bytes_left w < 12 → length (rest file w) < 12
 short file w few = omega (arith, length-take (bytes_left w) (drop w.at file))
@@ -89,7 +89,7 @@ pub found-tells : (file : List ℕ) (a cap : ℕ) (old new : Ahead) (head : Note
     → new.at ≡ old.at + note_size a head.namesz head.descsz (bytes_left old)
     → ((note : Note) → note.name ≡ slice file (old.at + 12) head.namesz → length note.name ≡ head.namesz → NameIs name_end name (note_shown cap note))
     → desc_at ≡ old.at + descriptor_start a head.namesz head.descsz → shown ≡ min head.descsz 32 → take shown desc ≡ slice file desc_at shown
-    → Tells a cap old.at name desc (notes_left a file old) (notes_left a file new) (Ok (Some (record { at = place; head = head; name_end = name_end; desc_at = desc_at; shown = shown })))
+    → TellsNote a cap old.at name desc (notes_left a file old) (notes_left a file new) (Ok (Some (record { at = place; head = head; name_end = name_end; desc_at = desc_at; shown = shown })))
 found-tells file a cap old new head name_end name desc place desc_at shown here s ends h fits same moved named da sh db =
     let bytes : List ℕ = rest file old in
     let long : length bytes ≡ bytes_left old = slice-size file old.at (bytes_left old) (omega arith) in
@@ -115,7 +115,7 @@ found-tells file a cap old new head name_end name desc place desc_at shown here 
     )
 
 -- a refusal at the place tells of the cut
-pub tells-cut : (a cap at : ℕ) (name desc : List ℕ) (old new : Walk) (fault : Fault) → old ≡ cut_at at → Tells a cap at name desc old new (Err fault)
+pub tells-cut : (a cap at : ℕ) (name desc : List ℕ) (old new : Walk) (fault : Fault) → old ≡ cut_at at → TellsNote a cap at name desc old new (Err fault)
 tells-cut a cap at name desc old new fault e = λ f. e
 
 -- the places of a note's parts, one behind the other

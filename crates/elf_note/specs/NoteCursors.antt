@@ -18,7 +18,7 @@ use Rattle.elf_note.specs.declared.row.NoteRow.{NoteRow}
 
 -- a cursor: its table, the alignment of its notes, the bytes of the table that are left, the note that it shows with the
 -- first bytes of its descriptor, and the fault where it failed
-pub record Reading : Type 0 where
+pub record NoteReading : Type 0 where
   pub table : Rows
   pub align : ℕ
   pub ahead : Ahead
@@ -51,8 +51,8 @@ abbrev pub note_cut : ℕ → Fault
 note_cut at = Refused (record { at = at; cause = NoteCut })
 
 -- what a step fails with: a fault of a read, or the refusal of what is left
-abbrev pub Stops : ℕ → Fault → Type 0
-Stops at fault = IsOfRead fault ⊎ (fault ≡ note_cut at)
+abbrev pub StopsNote : ℕ → Fault → Type 0
+StopsNote at fault = IsOfRead fault ⊎ (fault ≡ note_cut at)
 
 -- bytes are a name as it is shown
 abbrev pub NameIs : NameEnd → List ℕ → Shown → Type 0
@@ -80,44 +80,44 @@ abbrev pub GivesNote : ℕ → ℕ → ℕ → List ℕ → List ℕ → Walk �
 GivesNote a cap at name descriptor old new found = (note : Note) × (old ≡ with_note note new) × IsFound a cap at note found name descriptor
 
 -- what a step over the next note says of the notes that were left and are left
-abbrev pub Tells : ℕ → ℕ → ℕ → List ℕ → List ℕ → Walk → Walk → Result (Option Found) Fault → Type 0
-Tells a cap at name bytes old new (Ok (Some found)) = GivesNote a cap at name (take found.shown bytes) old new found
-Tells a cap at name bytes old new (Ok None) = old ≡ no_notes
-Tells a cap at name bytes old new (Err fault) = fault ≡ note_cut at → old ≡ cut_at at
+abbrev pub TellsNote : ℕ → ℕ → ℕ → List ℕ → List ℕ → Walk → Walk → Result (Option Found) Fault → Type 0
+TellsNote a cap at name bytes old new (Ok (Some found)) = GivesNote a cap at name (take found.shown bytes) old new found
+TellsNote a cap at name bytes old new (Ok None) = old ≡ no_notes
+TellsNote a cap at name bytes old new (Err fault) = fault ≡ note_cut at → old ≡ cut_at at
 
 -- a note takes at least its head, and at the end nothing is left
-abbrev pub Passes : ℕ → ℕ → Option Found → Type 0
-Passes before after (Some found) = (after + 12 ≤ before) × (found.at + 12 < 2 ^ 64) × (found.shown ≤ 32)
-Passes before after None = after ≡ 0
+abbrev pub PassesNote : ℕ → ℕ → Option Found → Type 0
+PassesNote before after (Some found) = (after + 12 ≤ before) × (found.at + 12 < 2 ^ 64) × (found.shown ≤ 32)
+PassesNote before after None = after ≡ 0
 
 -- where a step leaves a cursor: behind a note, at the end, or failed
-abbrev pub Leaves : Reading → Reading → Result Bool Fault → Type 0
-Leaves old new (Ok true) = (old.failed ≡ None) × (new.failed ≡ None) × (bytes_left new.ahead + 12 ≤ bytes_left old.ahead)
-Leaves old new (Ok false) = (old.failed ≡ None) × (new.failed ≡ None) × (bytes_left new.ahead ≡ 0)
-Leaves old new (Err fault) = (new.failed ≡ Some fault) × (old.failed ≡ None → Stops old.ahead.at fault)
+abbrev pub LeavesNote : NoteReading → NoteReading → Result Bool Fault → Type 0
+LeavesNote old new (Ok true) = (old.failed ≡ None) × (new.failed ≡ None) × (bytes_left new.ahead + 12 ≤ bytes_left old.ahead)
+LeavesNote old new (Ok false) = (old.failed ≡ None) × (new.failed ≡ None) × (bytes_left new.ahead ≡ 0)
+LeavesNote old new (Err fault) = (new.failed ≡ Some fault) × (old.failed ≡ None → StopsNote old.ahead.at fault)
 
 -- what a step of a cursor says of a file's notes: those that were left are the one that it shows now and those that are
 -- left; or none; or they are cut here
-abbrev pub StepTells : List ℕ → ℕ → Reading → Reading → List ℕ → Result Bool Fault → Type 0
+abbrev pub StepTells : List ℕ → ℕ → NoteReading → NoteReading → List ℕ → Result Bool Fault → Type 0
 StepTells file cap old new name (Ok true) =
     GivesNote old.align cap old.ahead.at name new.descriptor (notes_left old.align file old.ahead) (notes_left old.align file new.ahead) new.found
 StepTells file cap old new name (Ok false) = notes_left old.align file old.ahead ≡ no_notes
 StepTells file cap old new name (Err fault) = old.failed ≡ None → fault ≡ note_cut old.ahead.at → notes_left old.align file old.ahead ≡ cut_at old.ahead.at
 
 -- what every step keeps, fault or not
-pub record Keeps (old new : Reading) (before after : ℕ) : Type 0 where
+pub record KeepsNotes (old new : NoteReading) (before after : ℕ) : Type 0 where
   pub same_table : new.table ≡ old.table
   pub same_align : new.align ≡ old.align
   pub moves : MovesOn old.ahead new.ahead before after
 
 -- a step of a cursor, where it answers whether it gave a note
-pub record Advances (file : Option (List ℕ)) (cap : ℕ) (old new : Reading) (name : List ℕ) (result : Result Bool Fault) : Type 0 where
-  pub leaves : Leaves old new result
+pub record AdvancesNote (file : Option (List ℕ)) (cap : ℕ) (old new : NoteReading) (name : List ℕ) (result : Result Bool Fault) : Type 0 where
+  pub leaves : LeavesNote old new result
   pub agrees : StillHolds file old.ahead new.ahead
   pub tells : (bytes : List ℕ) → file ≡ Some bytes → HoldsBytes bytes old.ahead → StepTells bytes cap old new name result
 
 -- the note that a cursor holds, as it shows it
-pub record ShowsNote (c : Reading) (row : NoteRow) : Type 0 where
+pub record ShowsNote (c : NoteReading) (row : NoteRow) : Type 0 where
   pub its_place : row.at ≡ c.found.at
   pub its_head : row.head ≡ c.found.head
   pub its_name : row.name_at ≡ c.found.at + 12
@@ -126,7 +126,7 @@ pub record ShowsNote (c : Reading) (row : NoteRow) : Type 0 where
   pub its_bytes : row.desc.now ≡ c.descriptor
 
 -- the same, where it answers the note
-abbrev pub Steps : Option (List ℕ) → ℕ → Reading → Reading → List ℕ → Result (Option NoteRow) Fault → Type 0
-Steps file cap old new name (Ok (Some row)) = Advances file cap old new name (Ok true) × ShowsNote new row
-Steps file cap old new name (Ok None) = Advances file cap old new name (Ok false)
-Steps file cap old new name (Err fault) = Advances file cap old new name (Err fault)
+abbrev pub StepsNote : Option (List ℕ) → ℕ → NoteReading → NoteReading → List ℕ → Result (Option NoteRow) Fault → Type 0
+StepsNote file cap old new name (Ok (Some row)) = AdvancesNote file cap old new name (Ok true) × ShowsNote new row
+StepsNote file cap old new name (Ok None) = AdvancesNote file cap old new name (Ok false)
+StepsNote file cap old new name (Err fault) = AdvancesNote file cap old new name (Err fault)

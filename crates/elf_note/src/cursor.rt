@@ -1,11 +1,13 @@
 //! A cursor over the notes of a table.
 ghost use Rattle.std.specs.Prelude.{◌≡◌, ℕ, ◌+◌, ◌≤◌, List, [], length, None, Some, Err, IfErr};
 ghost use Rattle.elf_model.specs.Notes.{note_align};
+ghost use Rattle.elf_source.specs.Onward.{ReadsOnward};
 ghost use Rattle.elf_source.specs.Source.{Reads};
 ghost use Rattle.elf_headers.specs.Faults.{Says};
 ghost use Rattle.elf_table.specs.Tables.{RowsWithin};
+ghost use Rattle.elf_table.specs.Windows.{frontier};
 ghost use Rattle.elf_headers.specs.declared.fault.Fault.{Fault};
-ghost use Rattle.elf_note.specs.NoteCursors.{Advances, Keeps, ShowsNote};
+ghost use Rattle.elf_note.specs.NoteCursors.{AdvancesNote, KeepsNotes, ShowsNote};
 
 use crate::note::{Found, SHOWN_DESCRIPTOR, next_note};
 use crate::row::NoteRow;
@@ -30,9 +32,9 @@ pub struct NoteCursor {
 impl Model for NoteCursor {
     ghost use Rattle.std.specs.Prelude.{◌≡◌, ◌+◌, ◌^◌, ◌<◌, ◌≤◌, take};
     ghost use Rattle.elf_table.specs.Windows.{range_end};
-    ghost use Rattle.elf_note.specs.NoteCursors.{Reading};
+    ghost use Rattle.elf_note.specs.NoteCursors.{NoteReading};
 
-    ghost Value = { Reading };
+    ghost Value = { NoteReading };
 
     ghost view = { λ c. record {
       table = c.table;
@@ -70,14 +72,16 @@ impl NoteCursor {
         }
     }
 
-    /// Goes to the next note with its padding, and answers whether there is one. Its name, as it is
-    /// shown with at most `cap` bytes, is then in `name`. What it asks for is no longer unread: all
-    /// calls together ask for no more than the table's bytes, each byte at most once.
+    /// Goes to the next note with its padding, and answers whether there is one. A table with bytes
+    /// ends within the source's length. The note's name, as it is shown with at most `cap` bytes, is
+    /// then in `name`. What it asks for is no longer unread: all calls together ask for no more than
+    /// the table's bytes, each byte at most once.
     ///
     /// # Errors
     /// Refused with `NoteCut` at the file offset where no note stands; else a fault of a read, or a
-    /// refusal for want of budget. Then nothing of the next note is given. From then on each call
-    /// answers the same fault and reads nothing.
+    /// refusal for want of budget, at the offset that was asked for. Then nothing of the next note is
+    /// given, and `name` holds any bytes. From then on each call answers the same fault and reads
+    /// nothing.
     pub fn advance<S: Source>(
         &mut self,
         src: &mut Counted<S>,
@@ -88,8 +92,10 @@ impl NoteCursor {
         ensures reads { Reads src.old src.new self.old.ahead.unread }
         ensures says { self.old.failed ≡ None →
             IfErr result (Says src.old src.new self.old.ahead.unread) }
-        ensures keeps { Keeps self.old self.new src.old.asked src.new.asked }
-        ensures steps { Advances src.old.seen.file cap.bytes self.old self.new name.new result }
+        ensures keeps { KeepsNotes self.old self.new src.old.asked src.new.asked }
+        ensures onward { ReadsOnward S.one_read src.old.seen src.new.seen
+            (frontier self.old.ahead) (frontier self.new.ahead) }
+        ensures steps { AdvancesNote src.old.seen.file cap.bytes self.old self.new name.new result }
         ensures again { (fault : Fault) → self.old.failed ≡ Some fault →
             (result ≡ Err fault) × (src.new ≡ src.old) × (self.new ≡ self.old) }
     {
@@ -141,8 +147,10 @@ impl NoteCursor {
     ghost use Rattle.elf_source.specs.Source.{Reads};
     ghost use Rattle.elf_headers.specs.Faults.{Says};
     ghost use Rattle.elf_table.specs.Tables.{RowsWithin};
+    ghost use Rattle.elf_table.specs.Windows.{frontier};
+    ghost use Rattle.elf_source.specs.Onward.{ReadsOnward};
     ghost use Rattle.elf_headers.specs.declared.fault.Fault.{Fault};
-    ghost use Rattle.elf_note.specs.NoteCursors.{Keeps, Steps};
+    ghost use Rattle.elf_note.specs.NoteCursors.{KeepsNotes, StepsNote};
     ghost use Rattle.elf_note.specs.contracts.cursor.NoteCursor.{the_row};
 
     /// The next note, lent from the cursor until the next call, or None at the table's end. Its
@@ -163,8 +171,10 @@ impl NoteCursor {
         ensures again { (fault : Fault) → self.old.failed ≡ Some fault →
             (result ≡ Err fault) × (src.new ≡ src.old) }
         ensures* after { sem 𝓛 (follows_so the_row the_row self.entry.ghost_name none (λ _ _. ⊤)
-            (λ new. Keeps self.old new src.old.asked src.new.asked
-            × Steps src.old.seen.file cap.bytes self.old new name.new result)) }
+            (λ new. KeepsNotes self.old new src.old.asked src.new.asked
+            × StepsNote src.old.seen.file cap.bytes self.old new name.new result
+            × ReadsOnward S.one_read src.old.seen src.new.seen
+            (frontier self.old.ahead) (frontier new.ahead))) }
     {
         if !self.advance(src, cap, name)? {
             return Ok(None);

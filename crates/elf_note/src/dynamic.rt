@@ -6,8 +6,9 @@ ghost use Rattle.elf_model.specs.Dynamic.{dynamic_count};
 ghost use Rattle.elf_model.specs.Numbers.{DT_NULL};
 ghost use Rattle.elf_model.specs.Records.{d_tag};
 ghost use Rattle.elf_record.specs.Dyn.{IsDyn};
+ghost use Rattle.elf_source.specs.Onward.{ReadsOnward};
 ghost use Rattle.elf_source.specs.Source.{Reads};
-ghost use Rattle.elf_table.specs.Cursors.{ShowsRow, unread_bytes};
+ghost use Rattle.elf_table.specs.Cursors.{ShowsRow, asked_to, unread_bytes};
 ghost use Rattle.elf_headers.specs.Faults.{Says};
 ghost use Rattle.elf_table.specs.Tables.{RowsWithin, size_of};
 ghost use Rattle.elf_headers.specs.declared.fault.Fault.{Fault};
@@ -40,7 +41,7 @@ impl Model for DynCursor {
         × (d.ended ≡ true → d.cursor.failed ≡ None) };
 }
 
-/// A cursor before the first entry of `table`, whose rows have 16 bytes.
+/// A cursor before the first entry of `table`, whose rows have 16 bytes (gABI 5, Dynamic Section).
 pub fn dynamic_rows(table: Table) -> DynCursor
     requires { table.entry ≡ 16 }
     ensures table { result.cursor.table ≡ table }
@@ -74,6 +75,8 @@ impl DynCursor {
             IfErr result (Says src.old src.new (unread_bytes self.old.cursor)) }
         ensures account { src.new.asked + unread_bytes self.new.cursor
             ≤ src.old.asked + unread_bytes self.old.cursor }
+        ensures onward { ReadsOnward S.one_read src.old.seen src.new.seen
+            (asked_to self.old.cursor) (asked_to self.new.cursor) }
         ensures steps { AdvancesEntries src.old.seen.file self.old self.new result }
         ensures again { (fault : Fault) → self.old.cursor.failed ≡ Some fault →
             (result ≡ Err fault) × (src.new ≡ src.old) × (self.new ≡ self.old) }
@@ -103,8 +106,9 @@ impl DynCursor {
     ghost use mathlib.Core.Option.{none};
     ghost use denote.Follow.{follows_so};
     ghost use Rattle.std.specs.Borrow.{sem};
+    ghost use Rattle.elf_source.specs.Onward.{ReadsOnward};
     ghost use Rattle.elf_source.specs.Source.{Reads};
-    ghost use Rattle.elf_table.specs.Cursors.{unread_bytes};
+    ghost use Rattle.elf_table.specs.Cursors.{asked_to, unread_bytes};
     ghost use Rattle.elf_headers.specs.Faults.{Says};
     ghost use Rattle.elf_table.specs.Tables.{RowsWithin};
     ghost use Rattle.elf_headers.specs.declared.fault.Fault.{Fault};
@@ -126,7 +130,9 @@ impl DynCursor {
         ensures* after { sem 𝓛 (follows_so the_row the_row self.entry.ghost_name none (λ _ _. ⊤)
             (λ new. (src.new.asked + unread_bytes new.cursor
             ≤ src.old.asked + unread_bytes self.old.cursor)
-            × StepsEntries src.old.seen.file self.old new result)) }
+            × StepsEntries src.old.seen.file self.old new result
+            × ReadsOnward S.one_read src.old.seen src.new.seen
+            (asked_to self.old.cursor) (asked_to new.cursor))) }
     {
         if !self.advance(src)? {
             return Ok(None);

@@ -2,9 +2,10 @@
 ghost use Rattle.std.specs.Prelude.{◌≡◌, ℕ, ◌+◌, ◌<◌, ◌≤◌, List, length, Some, IfErr, OnOk, IfOk};
 ghost use Rattle.elf_model.specs.Bytes.{slice};
 ghost use Rattle.elf_model.specs.Notes.{Note, note_shown};
+ghost use Rattle.elf_source.specs.Onward.{ReadsOnward};
 ghost use Rattle.elf_source.specs.Source.{Reads};
 ghost use Rattle.elf_headers.specs.Faults.{IsOfRead, Says};
-ghost use Rattle.elf_table.specs.Windows.{HoldsBytes, StillHolds, RangeWithin, MovesOn, bytes_left};
+ghost use Rattle.elf_table.specs.Windows.{HoldsBytes, StillHolds, RangeWithin, MovesOn, bytes_left, frontier};
 ghost use Rattle.elf_note.specs.NoteCursors.{NameIs};
 
 use elf_source::{Counted, Source};
@@ -29,6 +30,8 @@ pub(crate) fn read_name<S: Source>(
     ensures says { IfErr result (Says src.old src.new window.old.unread) }
     ensures fault { IfErr result IsOfRead }
     ensures moves { MovesOn window.old window.new src.old.asked src.new.asked }
+    ensures onward { ReadsOnward S.one_read src.old.seen src.new.seen
+        (frontier window.old) (frontier window.new) }
     ensures at { OnOk result (window.new.at ≡ window.old.at + size) }
     ensures agrees { StillHolds src.old.seen.file window.old window.new }
     ensures read { (file : List ℕ) → src.old.seen.file ≡ Some file → HoldsBytes file window.old →

@@ -3,10 +3,11 @@ ghost use Rattle.std.specs.Prelude.{◌≡◌, ℕ, ◌+◌, ◌-◌, ◌^◌, �
 ghost use Rattle.std.specs.Prelude.{Some, IfErr, OnOk, IfOk};
 ghost use Rattle.elf_model.specs.Bytes.{slice};
 ghost use Rattle.elf_model.specs.Notes.{to_next};
+ghost use Rattle.elf_source.specs.Onward.{ReadsOnward};
 ghost use Rattle.elf_source.specs.Source.{Reads};
 ghost use Rattle.elf_headers.specs.Faults.{IsOfRead, Says};
-ghost use Rattle.elf_table.specs.Windows.{HoldsBytes, StillHolds, RangeWithin, MovesOn, bytes_left};
-ghost use Rattle.elf_note.specs.NoteCursors.{Passes, Stops, Tells, notes_left, note_cut};
+ghost use Rattle.elf_table.specs.Windows.{HoldsBytes, StillHolds, RangeWithin, MovesOn, bytes_left, frontier};
+ghost use Rattle.elf_note.specs.NoteCursors.{PassesNote, StopsNote, TellsNote, notes_left, note_cut};
 
 use crate::naming::read_name;
 use crate::sizes::{gap_between, padding};
@@ -55,12 +56,14 @@ pub(crate) fn next_note<S: Source>(
     requires within { RangeWithin src.old.seen.size window.old }
     ensures reads { Reads src.old src.new window.old.unread }
     ensures says { IfErr result (Says src.old src.new window.old.unread) }
-    ensures stops { IfErr result (Stops window.old.at) }
+    ensures stops { IfErr result (StopsNote window.old.at) }
     ensures moves { MovesOn window.old window.new src.old.asked src.new.asked }
-    ensures passes { IfOk result (Passes (bytes_left window.old) (bytes_left window.new)) }
+    ensures onward { ReadsOnward S.one_read src.old.seen src.new.seen
+        (frontier window.old) (frontier window.new) }
+    ensures passes { IfOk result (PassesNote (bytes_left window.old) (bytes_left window.new)) }
     ensures agrees { StillHolds src.old.seen.file window.old window.new }
     ensures tells { (file : List ℕ) → src.old.seen.file ≡ Some file → HoldsBytes file window.old →
-        Tells align cap.bytes window.old.at name.new desc.new
+        TellsNote align cap.bytes window.old.at name.new desc.new
         (notes_left align file window.old) (notes_left align file window.new) result }
 {
     let at = window.at();
@@ -113,6 +116,8 @@ fn read_rest<S: Source>(
     ensures says { IfErr result (Says src.old src.new window.old.unread) }
     ensures fault { IfErr result IsOfRead }
     ensures moves { MovesOn window.old window.new src.old.asked src.new.asked }
+    ensures onward { ReadsOnward S.one_read src.old.seen src.new.seen
+        (frontier window.old) (frontier window.new) }
     ensures at { OnOk result (window.new.at ≡ window.old.at + size
         + min (to_next align (start + size)) (bytes_left window.old - size)) }
     ensures agrees { StillHolds src.old.seen.file window.old window.new }

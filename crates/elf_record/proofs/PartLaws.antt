@@ -7,11 +7,7 @@ use Rattle.std.proofs.lemmas.List.{take_at, drop_at, drop-drop, get_or-take, get
 use Rattle.elf_model.specs.Bytes.{number, field, slice, little, IsBytes}
 use Rattle.elf_model.proofs.Slices.{field-slice, slice-slice}
 use Rattle.elf_record.specs.Parts.{Part, Number, Raw, place, width_of, part_spelling, PartFits, PartStands, spelling, total_width, joined_onto, joined, AllFit, AllStand}
-
-pub length-little : (width n : ℕ) → length (little width n) ≡ width
-unfolding little
-length-little zero n = refl
-length-little (suc width) n = rw (length-little width (n / 256)) refl
+use Rattle.elf_model.proofs.ChangeLaws.{length-little}
 
 -- a number is read back from its bytes
 pub number-little : (width n : ℕ) → n < 256 ^ width → number (little width n) ≡ n

@@ -4,7 +4,8 @@ ghost use Rattle.std.specs.Prelude.{◌≡◌, ℕ, List, length};
 use crate::fields::{put_u32, u32_at};
 use arrayvec::ArrayVec;
 
-/// The head of a note, 12 bytes: three words of four bytes (gABI 5, Note Section).
+/// The head of a note, 12 bytes: three words of four bytes, as the usual tools write it (gABI 5, Note
+/// Section, whose words have eight bytes in 64-bit files).
 ///
 /// The name and the descriptor follow it, each padded; the sizes do not count the padding.
 #[derive(Clone, Copy, Debug, PartialEq, Eq)]

@@ -73,7 +73,7 @@ pub const SHN_ABS: u16 = 0xfff1;
 pub const SHN_COMMON: u16 = 0xfff2;
 /// The section index that says that the index stands elsewhere.
 pub const SHN_XINDEX: u16 = 0xffff;
-/// The number of program headers that says that it stands in section 0.
+/// The number of program headers that says that it stands in section 0 (gABI 4, ELF Header).
 pub const PN_XNUM: u16 = 0xffff;
 
 /// The binding of a symbol that its file alone sees (gABI 4, Symbol Binding).

@@ -16,7 +16,7 @@ pub struct Sym {
     pub st_other: u8,
     /// The index of the section that the symbol is defined in, or a special index, at 6.
     pub st_shndx: u16,
-    /// The symbol's value, at 8: in a relocatable file its offset in its section.
+    /// The symbol's value, at 8: in a relocatable file its offset in bytes in its section.
     pub st_value: u64,
     /// The symbol's size in bytes, at 16; 0 where it has none or it is not known.
     pub st_size: u64,
@@ -90,7 +90,7 @@ impl Sym {
         self.st_other % 4
     }
 
-    /// Where the symbol is defined, by `st_shndx`.
+    /// Where the symbol is defined, by `st_shndx` (gABI 4, Special Section Indexes).
     pub fn place(&self) -> Place
         ensures { IsPlace self.now.st_shndx result }
     {

@@ -21,10 +21,10 @@ IsUnlimited (Find wanted) src = src.most ≡ None
 IsUnlimited (Apply section layout) src = src.most ≡ None
 
 -- THE ANSWER: what a task gives of a file
-abbrev pub Gives : List ℕ → Caps → Task → Counting → Counting → Written → Written → Result ℕ RunFault → Type 0
-Gives file caps (Show parts) before after old new result = Answers file caps parts.0 before after old new result
-Gives file caps (Find wanted) before after old new result = WroteAnswer old new result (find_answer file caps.headers wanted.bytes.now)
-Gives file caps (Apply section layout) before after old new result = WroteAnswer old new result (apply_answer file caps.headers section layout.now)
+abbrev pub GivesAnswer : List ℕ → Caps → Task → Counting → Counting → Written → Written → Result ℕ RunFault → Type 0
+GivesAnswer file caps (Show parts) before after old new result = Answers file caps parts.0 before after old new result
+GivesAnswer file caps (Find wanted) before after old new result = WroteAnswer old new result (find_answer file caps.headers wanted.bytes.now)
+GivesAnswer file caps (Apply section layout) before after old new result = WroteAnswer old new result (apply_answer file caps.headers section layout.now)
 
 -- what a task costs
 abbrev pub task_cost : List ℕ → Caps → Task → ℕ

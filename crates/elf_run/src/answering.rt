@@ -4,7 +4,7 @@ ghost use Rattle.std.specs.Prelude.{◌≡◌, ◌+◌, ◌^◌, ◌≤◌, ℕ,
 ghost use Rattle.elf_model.specs.Cost.{cost};
 ghost use Rattle.elf_listing.specs.Reports.{Leaves, FaultSays};
 ghost use Rattle.elf_run.specs.Answers.{Answers, AsksAs};
-ghost use Rattle.elf_run.specs.Requests.{AsksFor, Gives, IsUnlimited, task_cost};
+ghost use Rattle.elf_run.specs.Requests.{AsksFor, GivesAnswer, IsUnlimited, task_cost};
 
 use crate::applying::write_applied;
 use crate::finding::look_up;
@@ -17,11 +17,12 @@ use elf_words::{Request, Task};
 /// Carries out a request on a source: writes its text and answers its status, 0 where the file was
 /// listed, the name was found or the relocations are applied, and 1 where there is no such name, the
 /// file is refused, or the request's read budget is used up. The store has a slot for each header
-/// that the request permits. A lookup and an applied section have the condition that no limit is set
-/// on the source. Afterwards none is set.
+/// that the request permits, and at most 2^127 bytes were asked of the source before. A lookup and an
+/// applied section have the condition that no limit is set on the source. Afterwards none is set.
 ///
 /// # Errors
-/// A fault of the source or of the output. What went out is a front of the text.
+/// A fault of the source, with the offset that was asked for, or of the output, with the number of
+/// bytes that it took. What went out is a front of the text.
 pub fn run<S: Source, W: Sink>(
     request: &Request<'_>,
     src: &mut Counted<S>,
@@ -35,7 +36,7 @@ pub fn run<S: Source, W: Sink>(
     ensures leaves { Leaves src.old src.new }
     ensures says { IfErr result (FaultSays src.old src.new out.new) }
     ensures text { (file : List ℕ) → src.old.seen.file ≡ Some file →
-        Gives file request.now.caps request.now.task src.old src.new out.old out.new result }
+        GivesAnswer file request.now.caps request.now.task src.old src.new out.old out.new result }
     ensures cost { (file : List ℕ) → src.old.seen.file ≡ Some file →
         src.new.asked
         ≤ src.old.asked + task_cost file request.now.caps request.now.task }

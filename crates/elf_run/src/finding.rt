@@ -1,11 +1,11 @@
 //! A name looked up.
 ghost use Rattle.std.specs.Prelude.{◌≡◌, ◌+◌, ◌≤◌, ℕ, List, length, None, Some, IfErr};
-ghost use Rattle.elf_hash.specs.Lookups.{Answers as Looks, find_bytes};
+ghost use Rattle.elf_hash.specs.Lookups.{AnswersLookup as Looks, find_bytes};
 ghost use Rattle.elf_model.specs.Find.{find_cost};
 ghost use Rattle.elf_model.specs.FindApplyAnswer.{find_answer};
 ghost use Rattle.elf_model.specs.Hash.{Lookup as Looked};
 ghost use Rattle.elf_source.specs.Growth.{Grows};
-ghost use Rattle.elf_source.specs.Output.{Fails};
+ghost use Rattle.elf_source.specs.Output.{OutFails};
 ghost use Rattle.elf_source.specs.Source.{Reads};
 ghost use Rattle.elf_listing.specs.Reports.{FaultSays, Leaves};
 ghost use Rattle.elf_run.specs.Answers.{WroteAnswer};
@@ -63,7 +63,7 @@ pub(crate) fn look_up<S: Source, W: Sink>(
 #[tactic(auto, using(crate::proofs::FrontLaws::front_then))]
 fn show_lookup<W: Sink>(lookup: &Lookup, wanted: &[u8], out: &mut Out<W>) -> Result<u8, OutFault>
     ensures grows { Grows out.old out.new }
-    ensures fails { IfErr result (Fails out.new) }
+    ensures fails { IfErr result (OutFails out.new) }
     ensures text { (file : List ℕ) (looked : Looked) → Looks file looked lookup.now →
         WroteLines out.old out.new result (lookup_answer file wanted.now looked) }
 {

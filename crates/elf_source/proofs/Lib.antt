@@ -3,3 +3,4 @@ pub mod GrowthLaws
 mod Known
 pub mod ReadsLaws
 pub mod PutsLaws
+pub mod OnwardLaws

@@ -4,7 +4,7 @@ use Rattle.std.specs.Io.KnownBytes.{Appends}
 use Rattle.elf_source.specs.declared.faults.OutFault.{OutFault}
 
 -- a slice that is written from its front: the bytes written, how many bytes are free, whether a take failed
-pub record Filled : Type 0 where
+pub record FrontSlice : Type 0 where
   pub written : List ℕ
   pub free : ℕ
   pub failed : Bool
@@ -34,11 +34,11 @@ pub record TakesFront (old new : Written) (bytes : List ℕ) : Type 0 where
   pub takes : Takes old new front
 
 -- what a fault of the output says: the sink has failed, and the fault tells the count
-pub record Fails (new : Written) (fault : OutFault) : Type 0 where
+pub record OutFails (new : Written) (fault : OutFault) : Type 0 where
   pub failed : new.failed ≡ true
   pub tells : fault.written ≡ new.written
 
 -- a put of these bytes: all of them are taken at Ok, and a front of them at a fault
 abbrev pub Puts : {X : Type 0} → Written → Written → Result X OutFault → List ℕ → Type 0
 Puts old new (Ok x) bytes = Takes old new bytes × (new.failed ≡ false)
-Puts old new (Err fault) bytes = TakesFront old new bytes × Fails new fault
+Puts old new (Err fault) bytes = TakesFront old new bytes × OutFails new fault

@@ -85,7 +85,7 @@ impl<S: Source> Counted<S> {
         }
     }
 
-    /// Sets how many bytes more may be asked for; with None the limit is taken away.
+    /// Sets how many bytes [`Counted::ask`] may ask for from now on; with None the limit is taken away.
     pub fn limit(&mut self, bytes: Option<u64>)
         ensures { Limits self.old self.new bytes }
     {

@@ -30,7 +30,8 @@ pub enum AskFault {
     /// The source failed.
     #[error("the source failed")]
     Source(SourceFault),
-    /// The limit has too few bytes left for this read. Nothing was asked, and nothing has changed.
+    /// The limit has too few bytes left for this read. Nothing was asked, and nothing has changed but
+    /// the offset that [`crate::Counted::stopped`] tells.
     #[error("the limit has too few bytes left")]
     Budget,
 }

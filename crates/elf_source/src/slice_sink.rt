@@ -16,9 +16,9 @@ pub struct SliceSink<'a> {
 
 impl<'a> Model for SliceSink<'a> {
     ghost use Rattle.std.specs.Prelude.{◌≡◌, ◌-◌, ◌≤◌, IsTrue, length, take};
-    ghost use Rattle.elf_source.specs.Output.{Filled};
+    ghost use Rattle.elf_source.specs.Output.{FrontSlice};
 
-    ghost Value = { Filled };
+    ghost Value = { FrontSlice };
 
     ghost view = { λ s. record {
       written = take s.len s.buffer.now;
@@ -73,7 +73,8 @@ impl<'a> Sink for SliceSink<'a> {
         requires { 0 < length bytes.now }
         ensures some { IfOk result (λ count. 0 < count) }
         ensures within { IfOk result (λ count. count ≤ length bytes.now) }
-        ensures bytes { WriteAppends (Some self.old.written) (Some self.new.written) result bytes.now }
+        ensures bytes { WriteAppends
+            (Some self.old.written) (Some self.new.written) result bytes.now }
         ensures fails { self.new.failed ≡ is_err result }
         ensures for_good { IsTrue self.old.failed → IsErr result }
         ensures full { IsErr result ↔ (self.old.free ≡ 0) }

@@ -4,7 +4,7 @@ use Rattle.elf_model.specs.Checks.{Check, first_refusal, table_checks, strings_c
 use Rattle.elf_model.specs.Records.{sh_offset, sh_size, sh_link, section_at}
 use Rattle.elf_model.specs.declared.causes.Refusal.{Refusal}
 use Rattle.elf_table.specs.Tables.{Rows, Strings}
-use Rattle.elf_table.specs.Sections.{answered, checked, rows, strings, names_at, table_at, strings_at, symbols_at}
+use Rattle.elf_table.specs.Sections.{answered, checked, rows, strings, names_at, table_at, string_table_at, symbols_at}
 use Rattle.elf_headers.specs.declared.fault.Fault.{Fault}
 
 -- a refusal, else another
@@ -57,7 +57,7 @@ symbols_table-fails file at fault h =
     table_fails (sh_size file at == 0) (table_checks file at 24) (strings_checks file at) (rows (sh_offset file at) 0 24) (rows (sh_offset file at) (sh_size file at / 24) 24)
     (rows (sh_offset file at) 0 24, strings (sh_offset file at) 0) (rows (sh_offset file at) (sh_size file at / 24) 24, names_at file (section_at file (sh_link file at))) fault h
 
-pub symbols_strings-fail : (file : List ℕ) (at : ℕ) (table : Rows) (fault : Fault) → table_at file at 24 ≡ Ok table → ¬ (table.count ≡ 0) → strings_at file at ≡ Err fault → symbols_at file at ≡ Err fault
+pub symbols_strings-fail : (file : List ℕ) (at : ℕ) (table : Rows) (fault : Fault) → table_at file at 24 ≡ Ok table → ¬ (table.count ≡ 0) → string_table_at file at ≡ Err fault → symbols_at file at ≡ Err fault
 symbols_strings-fail file at table fault h k l =
     table_passes (sh_size file at == 0) (table_checks file at 24) (strings_checks file at) (sh_offset file at) (sh_size file at / 24) 24 table (names_at file (section_at file (sh_link file at)))
     (rows (sh_offset file at) 0 24, strings (sh_offset file at) 0) (rows (sh_offset file at) (sh_size file at / 24) 24, names_at file (section_at file (sh_link file at))) fault h k l

@@ -1,7 +1,7 @@
 -- What a cursor over a table gives, row by row.
-use Rattle.std.specs.Prelude.{ℕ, ◌≡◌, ◌+◌, ◌*◌, ◌/◌, Bool, true, false, List, length, Option, None, Some, Result, Ok, Err}
+use Rattle.std.specs.Prelude.{ℕ, ◌≡◌, ◌+◌, ◌-◌, ◌*◌, ◌/◌, Bool, true, false, List, length, Option, None, Some, Result, Ok, Err}
 use Rattle.elf_model.specs.Bytes.{slice}
-use Rattle.elf_table.specs.Tables.{Rows}
+use Rattle.elf_table.specs.Tables.{Rows, size_of}
 use Rattle.elf_headers.specs.declared.fault.Fault.{Fault}
 use Rattle.elf_headers.specs.Faults.{IsAt}
 use Rattle.elf_table.specs.declared.row.Row.{Row}
@@ -44,6 +44,10 @@ unless_failed (Some fault) n = 0
 -- how many bytes a cursor may still ask for
 abbrev pub unread_bytes : Reading → ℕ
 unread_bytes c = unless_failed c.failed c.unread
+
+-- the offset of the first byte of its table that a cursor has not asked for
+abbrev pub asked_to : Reading → ℕ
+asked_to c = c.table.at + size_of c.table - c.unread
 
 -- what a cursor holds of the next rows is what the file has there
 abbrev pub HoldsRows : List ℕ → Reading → Type 0

@@ -3,7 +3,7 @@ use Rattle.std.specs.Prelude.{ℕ, ◌≡◌, ◌<◌, ◌≢◌, Bool, List, le
 use Rattle.elf_model.specs.Budget.{IsBudget}
 use Rattle.elf_model.specs.Names.{Shown}
 use Rattle.elf_model.specs.Names.Shown.{Whole as ShownWhole, Cut as ShownCut}
-use Rattle.elf_model.specs.Searches.{Found}
+use Rattle.elf_model.specs.Searches.{NulFound}
 use Rattle.elf_model.specs.declared.causes.Cause.{Cause}
 use Rattle.elf_headers.specs.declared.fault.Fault.{Fault}
 use Rattle.elf_headers.specs.declared.fault.Fault.TheVariants.{Refused, Source}
@@ -28,7 +28,7 @@ Compared at (Err fault) answer = Refuses at fault answer
 
 -- bytes were searched for a NUL, and so much of them is kept
 abbrev pub Searched : List ℕ → ℕ → Result Bool Fault → List ℕ → Type 0
-Searched front cap (Ok found) kept = Found front cap found kept
+Searched front cap (Ok found) kept = NulFound front cap found kept
 Searched front cap (Err fault) kept = Unit {0}
 
 -- two lists have the same bytes at the places below a number, missing bytes being 0

@@ -56,8 +56,8 @@ string_table_of bytes at file_size place =
     (strings (sh_offset bytes at) (sh_size bytes at))
 
 -- the string table that a section of the file refers to
-abbrev pub strings_at : List ℕ → ℕ → Result Strings Fault
-strings_at file at = checked (strings_checks file at) (names_at file (section_at file (sh_link file at)))
+abbrev pub string_table_at : List ℕ → ℕ → Result Strings Fault
+string_table_at file at = checked (strings_checks file at) (names_at file (section_at file (sh_link file at)))
 
 -- the string table of the section names
 abbrev pub section_names : List ℕ → Option Strings

@@ -7,7 +7,7 @@ use Rattle.elf_model.specs.declared.causes.Cause.TheVariants.{TableOutside}
 use Rattle.elf_record.specs.declared.ehdr.Ehdr.{Ehdr}
 use Rattle.elf_headers.specs.Load.{Views}
 use Rattle.elf_table.specs.Sections.{checked, rows_of, strings}
-use Rattle.elf_headers.specs.Store.{segment_row}
+use Rattle.elf_headers.specs.Store.{segment_bytes}
 use Rattle.elf_table.specs.Tables.{Rows, Strings}
 use Rattle.elf_headers.specs.declared.fault.Fault.{Fault}
 use Rattle.elf_table.specs.declared.segment_view.SegmentView.{SegmentView}
@@ -27,17 +27,17 @@ abbrev pub dynamic_of : List ℕ → ℕ → ℕ → ℕ → Result Rows Fault
 dynamic_of bytes at file_size place = rows_of file_size (p_offset bytes at) (p_filesz bytes at) place 16
 
 -- those of a segment of the file
-abbrev pub dynamic_at : List ℕ → ℕ → Result Rows Fault
-dynamic_at file at = dynamic_of file at (length file) at
+abbrev pub dynamic_table_at : List ℕ → ℕ → Result Rows Fault
+dynamic_table_at file at = dynamic_of file at (length file) at
 
 -- those of a segment, by its program header in the store
 abbrev pub dynamic_in : SegmentView → ℕ → Result Rows Fault
 dynamic_in v segment =
-    dynamic_of (segment_row v.store.now segment) 0 v.loaded.size (segment_place v.loaded.header segment)
+    dynamic_of (segment_bytes v.store.now segment) 0 v.loaded.size (segment_place v.loaded.header segment)
 
 -- how many bytes a segment has in the file, by its program header in the store
 abbrev pub filesz_in : SegmentView → ℕ → ℕ
-filesz_in v segment = p_filesz (segment_row v.store.now segment) 0
+filesz_in v segment = p_filesz (segment_bytes v.store.now segment) 0
 
 -- a string table of so many bytes at a place of a file of so many bytes; the refusal names a program header
 abbrev pub strings_placed : ℕ → ℕ → ℕ → ℕ → Result Strings Fault

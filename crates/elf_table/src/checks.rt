@@ -78,7 +78,7 @@ pub(crate) fn checked_strings(header: &Shdr, size: u64, place: u64) -> Result<Na
     Ok(Names::new(header.sh_offset, header.sh_size))
 }
 
-/// Whether the section holds symbols (gABI 4, Symbol Table).
+/// Whether the section holds symbols, by its type: SYMTAB or DYNSYM (gABI 4, Section Types).
 pub fn holds_symbols(header: &Shdr) -> bool
     ensures { (file : List ℕ) (at : ℕ) → IsShdr file at header.now →
         result ≡ is_symbol_table file at }

@@ -1,7 +1,8 @@
 //! A cursor over the rows of a table.
 ghost use Rattle.std.specs.Prelude.{◌≡◌, ℕ, ◌+◌, ◌<◌, ◌≤◌, List, [], None, Some, Err, IfErr};
+ghost use Rattle.elf_source.specs.Onward.{ReadsOnward};
 ghost use Rattle.elf_source.specs.Source.{Reads};
-ghost use Rattle.elf_table.specs.Cursors.{Advances, ShowsRow, unread_bytes};
+ghost use Rattle.elf_table.specs.Cursors.{Advances, ShowsRow, asked_to, unread_bytes};
 ghost use Rattle.elf_headers.specs.declared.fault.Fault.{Fault};
 ghost use Rattle.elf_headers.specs.Faults.{Says};
 ghost use Rattle.elf_table.specs.Tables.{RowsWithin, size_of};
@@ -69,8 +70,9 @@ impl Cursor {
         }
     }
 
-    /// Goes to the next row, and answers whether there is one. What it asks for is no longer
-    /// unread: all calls together ask for no more than the table's bytes, each byte at most once.
+    /// Goes to the next row, and answers whether there is one. A table with rows ends within the
+    /// source's length. What it asks for is no longer unread: all calls together ask for no more than
+    /// the table's bytes, each byte at most once.
     ///
     /// # Errors
     /// A fault of a read, or a refusal for want of budget, at the next row's offset. From then on
@@ -82,6 +84,8 @@ impl Cursor {
             IfErr result (Says src.old src.new (unread_bytes self.old)) }
         ensures account { src.new.asked + unread_bytes self.new
             ≤ src.old.asked + unread_bytes self.old }
+        ensures onward { ReadsOnward S.one_read src.old.seen src.new.seen
+            (asked_to self.old) (asked_to self.new) }
         ensures steps { Advances src.old.seen.file self.old self.new result }
         ensures again { (fault : Fault) → self.old.failed ≡ Some fault →
             (result ≡ Err fault) × (src.new ≡ src.old) × (self.new ≡ self.old) }
@@ -124,8 +128,9 @@ impl Cursor {
     ghost use mathlib.Core.Option.{none};
     ghost use denote.Follow.{follows_so};
     ghost use Rattle.std.specs.Borrow.{sem};
+    ghost use Rattle.elf_source.specs.Onward.{ReadsOnward};
     ghost use Rattle.elf_source.specs.Source.{Reads};
-    ghost use Rattle.elf_table.specs.Cursors.{Steps, unread_bytes};
+    ghost use Rattle.elf_table.specs.Cursors.{Steps, asked_to, unread_bytes};
     ghost use Rattle.elf_headers.specs.Faults.{Says};
     ghost use Rattle.elf_table.specs.Tables.{RowsWithin};
     ghost use Rattle.elf_table.specs.contracts.cursor.Cursor.{the_row};
@@ -144,7 +149,9 @@ impl Cursor {
             (result ≡ Err fault) × (src.new ≡ src.old) }
         ensures* after { sem 𝓛 (follows_so the_row the_row self.entry.ghost_name none (λ _ _. ⊤)
             (λ new. (src.new.asked + unread_bytes new ≤ src.old.asked + unread_bytes self.old)
-            × Steps src.old.seen.file self.old new result)) }
+            × Steps src.old.seen.file self.old new result
+            × ReadsOnward S.one_read src.old.seen src.new.seen
+            (asked_to self.old) (asked_to new))) }
     {
         if !self.advance(src)? {
             return Ok(None);

@@ -50,7 +50,8 @@ impl NameBuf {
         self.len = 0;
     }
 
-    /// Adds `bytes` at the end, as far as the name then has no more than `cap` bytes.
+    /// Adds `bytes` at the end, as far as the name then has no more than `cap` bytes. It has no more
+    /// before.
     pub fn add(&mut self, bytes: &[u8], cap: Cap)
         requires { length self.old ≤ cap.bytes }
         ensures { self.new ≡ take cap.bytes (self.old ++ bytes.now) }

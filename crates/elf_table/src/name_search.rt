@@ -3,10 +3,11 @@ ghost use Rattle.std.specs.Prelude.{◌≡◌, ℕ, ◌+◌, ◌<◌, ◌≤◌,
 ghost use Rattle.std.specs.Prelude.{Some, IfErr, IfSome, OnOk};
 ghost use Rattle.elf_model.specs.Bytes.{slice};
 ghost use Rattle.elf_model.specs.Names.{nul_in};
+ghost use Rattle.elf_source.specs.Onward.{ReadsOnward};
 ghost use Rattle.elf_source.specs.Source.{Reads};
 ghost use Rattle.elf_headers.specs.Faults.{IsOfRead, Says};
 ghost use Rattle.elf_table.specs.NamesRead.{Searched};
-ghost use Rattle.elf_table.specs.Windows.{HoldsBytes, StillHolds, RangeWithin, MovesOn, bytes_left};
+ghost use Rattle.elf_table.specs.Windows.{HoldsBytes, StillHolds, RangeWithin, MovesOn, bytes_left, frontier};
 
 use crate::name_buf::NameBuf;
 use crate::window::Window;
@@ -14,9 +15,10 @@ use elf_headers::{Cap, Fault};
 use elf_source::{Counted, Source};
 use memchr::memchr;
 
-/// Goes over the next `want` bytes of a window, or fewer up to the first NUL, and adds those before
-/// it to `name`, which is empty, as far as `cap`. Answers whether there is a NUL. The window then
-/// stands somewhere in those bytes, or behind them.
+/// Goes over the next `want` bytes of a window, no more than are left, or fewer up to the first NUL,
+/// and adds those before it to `name`, which is empty, as far as `cap`. Answers whether there is a
+/// NUL. The window then stands somewhere in those bytes, or behind them; its page is not empty, and
+/// its range ends within the source's length. After a fault `name` holds any bytes.
 ///
 /// # Errors
 /// A fault of a read, or a refusal for want of budget, at the first byte that was not asked for.
@@ -35,6 +37,8 @@ pub fn search_name<S: Source, const N: usize>(
     ensures says { IfErr result (Says src.old src.new window.old.unread) }
     ensures fault { IfErr result IsOfRead }
     ensures moves { MovesOn window.old window.new src.old.asked src.new.asked }
+    ensures onward { ReadsOnward S.one_read src.old.seen src.new.seen
+        (frontier window.old) (frontier window.new) }
     ensures inside { OnOk result (window.new.at ≤ window.old.at + want) }
     ensures agrees { StillHolds src.old.seen.file window.old window.new }
     ensures searched { (file : List ℕ) → src.old.seen.file ≡ Some file →

@@ -122,10 +122,10 @@ impl Names {
         self.size
     }
 
-    /// Whether the name at the index `off` is `wanted`, which has no NUL (gABI 4, String Table). It
-    /// asks once for as many bytes as `wanted` has with its NUL, never past the string table's end;
-    /// where those are 4,097, twice at most. In an empty string table the answer at index 0 is
-    /// false.
+    /// Whether the name at the index `off` is `wanted`, at most 4,096 bytes without a NUL (gABI 4,
+    /// String Table). It asks once for as many bytes as `wanted` has with its NUL, never past the
+    /// string table's end; where those are 4,097, twice at most. In an empty string table the answer
+    /// at index 0 is false.
     ///
     /// # Errors
     /// Refused at `at`, the offset of the entry that holds the index: `NameOutside` where the index

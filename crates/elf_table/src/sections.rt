@@ -5,7 +5,7 @@ ghost use Rattle.elf_record.specs.Shdr.{IsShdr};
 ghost use Rattle.elf_headers.specs.Load.{Belongs, Passes, section_place};
 ghost use Rattle.elf_headers.specs.Faults.{IsOfCheck};
 ghost use Rattle.elf_table.specs.Files.{Tells, program_headers, table_in, size_in};
-ghost use Rattle.elf_table.specs.Sections.{bytes_of, table_at, strings_at, section_names};
+ghost use Rattle.elf_table.specs.Sections.{bytes_of, table_at, string_table_at, section_names};
 ghost use Rattle.elf_table.specs.Sections.{symbols_at};
 ghost use Rattle.elf_table.specs.Relocations.{Links, Relocates};
 ghost use Rattle.elf_headers.specs.Store.{row};
@@ -68,8 +68,8 @@ impl File<'_> {
         Ok(Table::new(offset, size, 1))
     }
 
-    /// The section as a table of rows of `entry` bytes. One of size 0 is not checked. No bytes are
-    /// read.
+    /// The section as a table of rows of `entry` bytes, 1 to 4,096. One of size 0 is not checked. No
+    /// bytes are read.
     ///
     /// # Errors
     /// The first check that fails, at the section's header: `EntrySize` where sh_entsize is another
@@ -102,7 +102,7 @@ impl File<'_> {
     /// `TableOutside` where it ends past the end of the file, both at the linked section's header.
     pub fn strings(&self, section: u16) -> Result<Names, Fault>
         requires below { section < self.now.store.now.loaded }
-        ensures held { Tells self.now section result strings_at }
+        ensures held { Tells self.now section result string_table_at }
         ensures within { IfOk result (StringsWithin self.now.loaded.size) }
         ensures refusal { IfErr result IsOfCheck }
     {

@@ -6,9 +6,9 @@ ghost use Rattle.elf_model.specs.Segments.{mapped_at};
 ghost use Rattle.elf_record.specs.Phdr.{IsPhdr};
 ghost use Rattle.elf_headers.specs.Faults.{IsOfCheck};
 ghost use Rattle.elf_headers.specs.Load.{Views};
-ghost use Rattle.elf_headers.specs.Store.{segment_row};
+ghost use Rattle.elf_headers.specs.Store.{segment_bytes};
 ghost use Rattle.elf_table.specs.Tables.{RowsWithin, StringsWithin, size_of};
-ghost use Rattle.elf_table.specs.Views.{TellsSegment, dynamic_at, dynamic_in, filesz_in};
+ghost use Rattle.elf_table.specs.Views.{TellsSegment, dynamic_table_at, dynamic_in, filesz_in};
 ghost use Rattle.elf_table.specs.Views.{segment_place, strings_mapped};
 
 use crate::checks::{checked_rows, refused};
@@ -31,14 +31,15 @@ impl SegmentView<'_> {
     /// The program header of an index below [`SegmentView::segments`] (gABI 5, Program Header).
     pub fn segment(&self, segment: u16) -> Phdr
         requires { segment < self.now.store.now.segments }
-        ensures fields { IsPhdr (segment_row self.now.store.now segment) 0 result }
+        ensures fields { IsPhdr (segment_bytes self.now.store.now segment) 0 result }
         ensures stands { (file : List ℕ) → Views file self.now.loaded self.now.store.now →
             IsPhdr file (segment_at file segment) result }
     {
         self.store.segment(segment)
     }
 
-    /// The file offset of the program header of an index below e_phnum, in bytes.
+    /// The file offset of the program header of an index below e_phnum, in bytes (gABI 5, Program
+    /// Header).
     pub fn place(&self, segment: u16) -> u64
         requires { segment < self.now.loaded.header.e_phnum }
         ensures value { result ≡ segment_place self.now.loaded.header segment }
@@ -55,7 +56,7 @@ impl SegmentView<'_> {
     pub fn dynamic(&self, segment: u16) -> Result<Table, Fault>
         requires { segment < self.now.store.now.segments }
         ensures value { result ≡ dynamic_in self.now segment }
-        ensures held { TellsSegment self.now segment result dynamic_at }
+        ensures held { TellsSegment self.now segment result dynamic_table_at }
         ensures within { IfOk result (RowsWithin self.now.loaded.size) }
         ensures entry { IfOk result (λ table. table.entry ≡ 16) }
         ensures sized { IfOk result (λ table. size_of table ≡ filesz_in self.now segment) }
@@ -99,7 +100,7 @@ impl SegmentView<'_> {
             mapped_at file address size ≡ option_map (segment_at file) result }
         ensures below { IfSome result (λ segment. segment < self.now.store.now.segments) }
         ensures above { IfSome result (λ segment.
-            p_vaddr (segment_row self.now.store.now segment) 0 ≤ address) }
+            p_vaddr (segment_bytes self.now.store.now segment) 0 ≤ address) }
     {
         let count = self.segments();
         let mut segment = 0;

@@ -89,8 +89,8 @@ impl Table {
         index * self.entry + self.at
     }
 
-    /// The symbol at the index `index`, which is below `len()`, of a table with rows of 24 bytes
-    /// (gABI 4, Symbol Table): one read of 24 bytes.
+    /// The symbol at the index `index`, which is below `len()`, of a table with rows of 24 bytes that
+    /// ends within the source's length (gABI 4, Symbol Table): one read of 24 bytes.
     ///
     /// # Errors
     /// A fault of the read, or a refusal for want of budget, at the symbol's offset.

@@ -2,6 +2,7 @@
 ghost use Rattle.std.specs.Prelude.{◌≡◌, ℕ, ◌+◌, ◌^◌, ◌<◌, ◌≤◌, List, [], length, min, take, drop};
 ghost use Rattle.std.specs.Prelude.{IfErr, OnOk};
 ghost use Rattle.elf_model.specs.Bytes.{slice};
+ghost use Rattle.elf_source.specs.Onward.{ReadsOnward};
 ghost use Rattle.elf_source.specs.Source.{Reads};
 ghost use Rattle.elf_headers.specs.Faults.{Says, IsAt};
 ghost use Rattle.elf_table.specs.Windows.{HoldsBytes, StillHolds, Brings, RangeWithin, MovesOn};
@@ -90,12 +91,13 @@ impl<const N: usize> Window<N> {
         &bytes[self.from as usize..end as usize]
     }
 
-    /// Holds at least `count` bytes: those that it holds, where they are enough, and else a page,
-    /// or all bytes that are left.
+    /// Holds at least `count` bytes, which are no more than a page and than all that are left: those
+    /// that it holds, where they are enough, and else a page, or all bytes that are left. A range with
+    /// bytes left ends within the source's length.
     ///
     /// # Errors
-    /// A fault of a read at the first byte that was not asked for yet. The place is then behind the
-    /// bytes that were to be read.
+    /// A fault of a read, or a refusal for want of budget, at the first byte that was not asked for
+    /// yet. Nothing is held then, and the place is behind the bytes that were to be read.
     pub fn bring<S: Source>(&mut self, src: &mut Counted<S>, count: u64) -> Result<(), Fault>
         requires enough { count ≤ bytes_left self.old }
         requires small { count ≤ self.old.page }
@@ -103,6 +105,8 @@ impl<const N: usize> Window<N> {
         ensures reads { Reads src.old src.new self.old.unread }
         ensures says { IfErr result (Says src.old src.new self.old.unread) }
         ensures moves { MovesOn self.old self.new src.old.asked src.new.asked }
+        ensures onward { ReadsOnward S.one_read src.old.seen src.new.seen
+            (frontier self.old) (frontier self.new) }
         ensures brings { Brings self.old self.new count result }
         ensures agrees { StillHolds src.old.seen.file self.old self.new }
     {
@@ -112,7 +116,7 @@ impl<const N: usize> Window<N> {
         self.read_page(src)
     }
 
-    /// Passes over `count` bytes; what isn't held of them is never read.
+    /// Passes over `count` bytes, no more than are left; what isn't held of them is never read.
     pub fn skip(&mut self, count: u64)
         requires { count ≤ bytes_left self.old }
         ensures page { self.new.page ≡ self.old.page }
@@ -139,6 +143,8 @@ impl<const N: usize> Window<N> {
         ensures says { IfErr result (Says src.old src.new self.old.unread) }
         ensures fault { IfErr result (IsAt (frontier self.old)) }
         ensures moves { MovesOn self.old self.new src.old.asked src.new.asked }
+        ensures onward { ReadsOnward S.one_read src.old.seen src.new.seen
+            (frontier self.old) (frontier self.new) }
         ensures stays { OnOk result (self.new.at ≡ self.old.at) }
         ensures whole { OnOk result
             (length self.new.held ≡ min self.old.page (bytes_left self.old)) }

@@ -11,7 +11,7 @@ use Rattle.std.proofs.Math.Nat.{pow-le-pow_right}
 use Rattle.std.proofs.lemmas.List.{get_or_default}
 use Rattle.std.proofs.lemmas.Str.Parse.{without_leading_plus_none}
 use Rattle.std.proofs.lemmas.Str.Pattern.{NoCharPasses-char, drop_at_char, starts_char}
-use Rattle.elf_words.specs.Items.{EQUALS, IsAddress, IsOf, IsParted, Spells, address_in}
+use Rattle.elf_words.specs.Items.{EQUALS, IsAddress, IsItemOf, IsParted, Spells, item_address}
 use Rattle.elf_apply.specs.declared.layout.Item.{Item}
 
 -- the clause of `rsplit_once` at `=`
@@ -92,7 +92,7 @@ pub no_plus : (digits : List ℕ) (r : Bool) → MatchBool r (HasPrefixMatch (Fi
 no_plus digits r h other plus = true_is_not_false (sym ((starts_char 43 digits r h (omega arith) (omega arith)).1 plus) ∙ other)
 
 -- what a word spells, where the word is parted so
-pub spelled_so : (word key text : List ℕ) → IsParted word key text → (item : Item) → Spells word item → IsOf key item × IsAddress text (address_in item)
+pub spelled_so : (word key text : List ℕ) → IsParted word key text → (item : Item) → Spells word item → IsItemOf key item × IsAddress text (item_address item)
 spelled_so word key text parted item spells =
     let same = parted_once word spells.key spells.text key text spells.parted parted in
-    (subst (λ k. IsOf k item) same.0 spells.is_of, subst (λ t. IsAddress t (address_in item)) same.1 spells.address)
+    (subst (λ k. IsItemOf k item) same.0 spells.is_of, subst (λ t. IsAddress t (item_address item)) same.1 spells.address)

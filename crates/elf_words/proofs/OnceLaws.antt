@@ -7,7 +7,7 @@ use Rattle.elf_apply.specs.declared.layout.Item.{Item}
 use Rattle.elf_apply.specs.declared.layout.Item.TheVariants.{Section, Define, Entry}
 use Rattle.elf_apply.specs.declared.layout.LayoutFault.TheVariants.{Full, Repeat}
 use Rattle.elf_model.specs.Placing.{Layout}
-use Rattle.elf_words.specs.Items.{IsAddress, IsOf, Spells, address_in}
+use Rattle.elf_words.specs.Items.{IsAddress, IsItemOf, Spells, item_address}
 use Rattle.elf_words.specs.Layouts.{Lays, RefusesItem}
 use Rattle.elf_words.specs.declared.requests.RequestFault.{RequestFault}
 use Rattle.elf_words.specs.declared.requests.RequestFault.TheVariants.{Memory, BadName, BadItem, LayoutFull, LayoutRepeat, Words as Told}
@@ -23,7 +23,7 @@ SameItem _ _ = ⊥
 one_head : (key : List ℕ) (a b : ℕ) (xs ys : List ℕ) → key ≡ a ∷ xs → key ≡ b ∷ ys → a ≡ b
 one_head key a b xs ys e f = ap (λ l. get_or l 0 0) (sym e ∙ f)
 
-of_one_key : (key : List ℕ) (x y : Item) → IsOf key x → IsOf key y → address_in x ≡ address_in y → SameItem x y
+of_one_key : (key : List ℕ) (x y : Item) → IsItemOf key x → IsItemOf key y → item_address x ≡ item_address y → SameItem x y
 of_one_key key (Section i a) (Section j b) (d, e, n) (f, g, m) same =
     (n.0.2 ∙ ap (λ k. digits_value 10 (drop 3 k)) (sym e ∙ g) ∙ sym m.0.2, same)
 of_one_key key (Section i a) (Define m b) (d, e, n) (g, o) same = absurd (omega (arith, one_head key 97 100 _ _ e g))
@@ -42,7 +42,7 @@ one_address text a b (d, e, n) (f, g, m) = n.2 ∙ ap (λ t. digits_value 16 (dr
 one_item : (word : List ℕ) (x y : Item) → Spells word x → Spells word y → SameItem x y
 one_item word x y one other =
     let so = spelled_so word one.key one.text one.parted y other in
-    of_one_key one.key x y one.is_of so.0 (one_address one.text (address_in x) (address_in y) one.address so.1)
+    of_one_key one.key x y one.is_of so.0 (one_address one.text (item_address x) (item_address y) one.address so.1)
 
 lacks_none : {K : Type 0} (items : List (K × ℕ)) (key other : K) → key ≡ other → LacksKey items key → HasKey items other → ⊥
 lacks_none items key other same lacks (k, x, within, here, has) = lacks k x within (ap (λ i. i.0) here ∙ has ∙ sym same)

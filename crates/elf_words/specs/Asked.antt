@@ -35,17 +35,17 @@ abbrev pub is_part : Text → Bool
 is_part name = list_any (λ part. bytes_eq name part.1) part_names
 
 -- the number that decimal digits spell, before which a plus may stand
-abbrev pub number : Text → ℕ
-number text = digits_value 10 (without_leading_plus text)
+abbrev pub decimal_value : Text → ℕ
+decimal_value text = digits_value 10 (without_leading_plus text)
 
 -- a text spells a number below 2^64
 abbrev pub SpellsNumber : Text → Type 0
-SpellsNumber text = IsNumeral 10 (without_leading_plus text) × (number text < 2 ^ 64)
+SpellsNumber text = IsNumeral 10 (without_leading_plus text) × (decimal_value text < 2 ^ 64)
 
 -- the number that the value of an option spells, where there is one
 abbrev pub HasNumber : Option Text → Option ℕ → Type 0
 HasNumber None value = value ≡ None
-HasNumber (Some text) value = SpellsNumber text × (value ≡ Some (number text))
+HasNumber (Some text) value = SpellsNumber text × (value ≡ Some (decimal_value text))
 
 -- the caps, by the values of the options
 pub record AreCaps (rows : List Row) (caps : Caps) : Type 0 where
@@ -75,7 +75,7 @@ pub record AreHeaderCaps (rows : List Row) (caps : Caps) : Type 0 where
   pub budget : caps.budget ≡ None
 
 -- a lookup in the file whose path stands among the values, of the name that stands there too
-pub record IsLookup (command : Text) (rows : List Row) (caps : Caps) (file : Option (Bor Text)) (wanted : Wanted) : Type 0 where
+pub record IsFinding (command : Text) (rows : List Row) (caps : Caps) (file : Option (Bor Text)) (wanted : Wanted) : Type 0 where
   pub find : command ≡ codes "find"
   pub limits : AreHeaderCaps rows caps
   pub path : IsFileNamed rows file
@@ -99,7 +99,7 @@ pub record IsApplying (command : Text) (rows : List Row) (caps : Caps) (file : O
 abbrev pub IsTask : Text → List Row → Caps → Option (Bor Text) → Task → Type 0
 IsTask command rows caps file (Show parts) =
     AreCaps rows caps × AreParts (first_of (codes "only") rows) parts × IsOfFile command rows file
-IsTask command rows caps file (Find wanted) = IsLookup command rows caps file wanted
+IsTask command rows caps file (Find wanted) = IsFinding command rows caps file wanted
 IsTask command rows caps file (Apply section layout) = IsApplying command rows caps file section layout.now
 
 -- a command with the values of its arguments asks for just this
@@ -128,7 +128,7 @@ abbrev pub ArePartNames : Words → Type 0
 ArePartNames parts = texts parts.now ≡ map (λ part. part.1) part_names
 
 -- THE REQUEST: the command line takes the words, and what it makes of them is what is asked for
-pub record Asks (words : List Text) (request : Request) : Type 0 where
+pub record WordsAsk (words : List Text) (request : Request) : Type 0 where
   pub parts : Words
   pub named : ArePartNames parts
   pub taken : fault_of (program parts) words ≡ []
@@ -147,7 +147,7 @@ IsRefusal kinds matches (Told error) = IsAmong (kind_of error) kinds ⊎ ((kind_
 IsRefusal kinds matches fault = (kinds ≡ []) × HasFault matches fault
 
 -- WHY WORDS ARE REFUSED: the command line has a fault for them, or what they ask for has one, or they ask for nothing
-pub record Refuses (words : List Text) (fault : RequestFault) : Type 0 where
+pub record WordsRefused (words : List Text) (fault : RequestFault) : Type 0 where
   pub parts : Words
   pub named : ArePartNames parts
   pub refusal : IsRefusal (fault_of (program parts) words) (subcommand_of (program parts) words) fault

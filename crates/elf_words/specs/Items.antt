@@ -27,20 +27,20 @@ IsIndex digits index = IsNumber 10 5 digits index × (1 ≤ index) × (index ≤
 
 -- what an item is of: a section, by its index; the definition of a symbol, or the symbol's entry in the procedure linkage
 -- table, by its name
-abbrev pub IsOf : List ℕ → Item → Type 0
-IsOf key (Section index address) = (digits : List ℕ) × (key ≡ codes "at:" ++ digits) × IsIndex digits index
-IsOf key (Define name address) = (key ≡ codes "def:" ++ name.now) × IsName name.now
-IsOf key (Entry name address) = (key ≡ codes "plt:" ++ name.now) × IsName name.now
+abbrev pub IsItemOf : List ℕ → Item → Type 0
+IsItemOf key (Section index address) = (digits : List ℕ) × (key ≡ codes "at:" ++ digits) × IsIndex digits index
+IsItemOf key (Define name address) = (key ≡ codes "def:" ++ name.now) × IsName name.now
+IsItemOf key (Entry name address) = (key ≡ codes "plt:" ++ name.now) × IsName name.now
 
-abbrev pub address_in : Item → ℕ
-address_in (Section index address) = address
-address_in (Define name address) = address
-address_in (Entry name address) = address
+abbrev pub item_address : Item → ℕ
+item_address (Section index address) = address
+item_address (Define name address) = address
+item_address (Entry name address) = address
 
 -- THE ITEM that a word spells: what it is of, and its address
 pub record Spells (word : List ℕ) (item : Item) : Type 0 where
   pub key : List ℕ
   pub text : List ℕ
   pub parted : IsParted word key text
-  pub is_of : IsOf key item
-  pub address : IsAddress text (address_in item)
+  pub is_of : IsItemOf key item
+  pub address : IsAddress text (item_address item)

@@ -14,8 +14,8 @@ abbrev pub no_items : Layout
 no_items = record { sections = []; definitions = []; linkage = [] }
 
 -- a word spells an item, which is put behind those of its sort
-abbrev pub Puts : Text → Layout → Layout → Type 0
-Puts word old new = (item : Item) × Spells word item × Pushes {X = Unit {0}} item old new (Ok tt)
+abbrev pub PutsItem : Text → Layout → Layout → Type 0
+PutsItem word old new = (item : Item) × Spells word item × Pushes {X = Unit {0}} item old new (Ok tt)
 
 -- a word spells no item; or one for which there is no room; or one whose index or name is there already
 abbrev pub RefusesItem : Text → Layout → RequestFault → Type 0
@@ -29,5 +29,5 @@ RefusesItem word old _ = ⊥
 abbrev pub Lays : Layout → List Text → Result Layout RequestFault → Type 0
 Lays old [] result = result ≡ Ok old
 Lays old (word ∷ words) result =
-    ((new : Layout) × Puts word old new × Lays new words result)
+    ((new : Layout) × PutsItem word old new × Lays new words result)
     ⊎ ((fault : RequestFault) × (result ≡ Err fault) × RefusesItem word old fault)

@@ -38,8 +38,16 @@ Exit status:
   0  listed, found or applied
   1  refused, or out of its reads: the last line is '!', an offset in the file and the cause;
      or there is no such name: the line 'F absent' with the number of names compared
-  2  the words ask for nothing that there is, or for this help
-  3  a read or write fault, a file that cannot be opened, or want of memory";
+  2  the words are wrong, or ask for help, and no file is opened: standard error has what is
+     wrong with which word, or the help, or one of these lines:
+       elfsee: words are not UTF-8
+       elfsee: bad name       NAME is empty, or longer than 4096 bytes
+       elfsee: bad item       an item has another form, or an index or a name out of range
+       elfsee: layout-full    there are too many items of one sort
+       elfsee: layout-repeat  two items of one sort have the same INDEX or NAME
+  3  a read or write fault, a file that cannot be opened, or want of memory: standard error has
+     one of these lines:
+       elfsee: read fault, elfsee: write fault, elfsee: cannot open, elfsee: out of memory";
 
 const ITEMS: &str = "\
 Items, at most 64 sections, 32 definitions and 32 entries, no index or name of a sort twice:

@@ -4,9 +4,9 @@ ghost use Rattle.std.specs.Prelude.{IsNone, length, Ok, Err};
 ghost use Rattle.std.specs.Str.Parse.{IsNumeral};
 ghost use Rattle.elf_apply.specs.Layouts.{IsName};
 ghost use Rattle.elf_apply.specs.declared.layout.Item.{Item};
-ghost use Rattle.elf_words.specs.Items.{IsAddress, IsIndex, IsNumber, IsOf, IsParted};
-ghost use Rattle.elf_words.specs.Items.{Spells, address_in};
-ghost use Rattle.elf_words.specs.Layouts.{Lays, Puts, RefusesItem, no_items};
+ghost use Rattle.elf_words.specs.Items.{IsAddress, IsIndex, IsNumber, IsItemOf, IsParted};
+ghost use Rattle.elf_words.specs.Items.{Spells, item_address};
+ghost use Rattle.elf_words.specs.Layouts.{Lays, PutsItem, RefusesItem, no_items};
 ghost use Rattle.clap.specs.Walk.{texts};
 
 use crate::names::has_nul;
@@ -39,7 +39,7 @@ pub fn lay(layout: &mut Layout, words: &[&str]) -> Result<(), RequestFault>
 
 /// Puts the item that a word spells into a layout, which a refused one leaves as it was.
 fn put(layout: &mut Layout, word: &str) -> Result<(), RequestFault>
-    ensures put { IfOk result (λ _. Puts word.now layout.old layout.new) }
+    ensures put { IfOk result (λ _. PutsItem word.now layout.old layout.new) }
     ensures refused { IfErr result (RefusesItem word.now layout.old) }
 {
     let Some(item) = item(word) else {
@@ -103,9 +103,9 @@ fn number(digits: &str, radix: u32, most: usize) -> Option<u64>
 
 /// The item that stands before an address.
 fn item_of(key: &str, address: u64) -> Option<Item<'_>>
-    ensures is_of { IfSome result (IsOf key.now) }
-    ensures address { IfSome result (λ item. address_in item ≡ address) }
-    ensures none { IsNone result → (item : Item) → IsOf key.now item → ⊥ }
+    ensures is_of { IfSome result (IsItemOf key.now) }
+    ensures address { IfSome result (λ item. item_address item ≡ address) }
+    ensures none { IsNone result → (item : Item) → IsItemOf key.now item → ⊥ }
 {
     if let Some(digits) = behind(key, "at:") {
         let index = index_of(digits)?;

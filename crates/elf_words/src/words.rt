@@ -5,8 +5,8 @@ ghost use Rattle.std.specs.Borrow.{Bor};
 ghost use Rattle.clap.specs.Walk.{Text, first_of, one_of, rows_of};
 ghost use Rattle.clap.specs.Words.{found_of, subcommand_rows_of};
 ghost use Rattle.elf_model.specs.Text.{name_of};
-ghost use Rattle.elf_words.specs.Asked.{AreCaps, AreHeaderCaps, AreParts, Asks, ComesTo};
-ghost use Rattle.elf_words.specs.Asked.{HasNumber, IsFileNamed, Refuses, is_part, item_words};
+ghost use Rattle.elf_words.specs.Asked.{AreCaps, AreHeaderCaps, AreParts, WordsAsk, ComesTo};
+ghost use Rattle.elf_words.specs.Asked.{HasNumber, IsFileNamed, WordsRefused, is_part, item_words};
 ghost use Rattle.elf_words.specs.Asked.{part_names};
 ghost use Rattle.elf_words.specs.Layouts.{Lays, no_items};
 ghost use Rattle.elf_words.specs.Faults.{IsUnasked};
@@ -49,8 +49,8 @@ pub fn request<'a, S: AsStr>(
     words: &'a [S],
     layout: &'a mut Layout,
 ) -> Result<Request<'a>, RequestFault>
-    ensures asked { IfOk result (Asks (map S.text words.entry.now)) }
-    ensures refused { IfErr result (Refuses (map S.text words.entry.now)) }
+    ensures asked { IfOk result (WordsAsk (map S.text words.entry.now)) }
+    ensures refused { IfErr result (WordsRefused (map S.text words.entry.now)) }
 {
     let mut commands = command_line(alloc, PARTS.as_slice())?;
     let matches = match commands.try_get_matches_from_mut(words) {

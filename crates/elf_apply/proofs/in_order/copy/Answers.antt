@@ -2,9 +2,10 @@ use Rattle.std.proofs.Common.{refl, sym, ap, ◌∙◌, ◌+◌, arith, Err}
 use Rattle.std.proofs.lemmas.Result.{err_from_is_err_and}
 use Rattle.elf_source.proofs.ReadsLaws.{Reads-then, Reads-to}
 use Rattle.elf_model.specs.Bytes.{slice}
-use Rattle.elf_apply.proofs.WindowSteps.{window_more, window_stopped, slice_in, short_take, takes_as}
+use Rattle.elf_apply.proofs.WindowSteps.{window_more, window_stopped, short_take, takes_as}
 use Rattle.elf_apply.proofs.InOrderSteps.{writes_as}
 use Rattle.elf_source.proofs.GrowthLaws.{grows_then}
+use Rattle.elf_model.proofs.Slices.{slice-slice}
 use Rattle.elf_apply.proofs.in_order.copy.Goals as goal
 
 pub returns-in_err-copy_page-clause-text : goal.returns-in_err-copy_page-clause-text
@@ -15,7 +16,7 @@ returns-in_err-copy_page-clause-text g c = λ file held long.
     let few = short_take c.min-count.result 4096 (omega (arith, count)) in
     let one = c.in_err-copy_page.ensures.text file (known.reads.keeps.same_file ∙ held) in
     rw (p.1, p.2) (window_stopped (Unit {0}) _ _ _ (slice file c.args.at c.args.size) c.pages.done c.min-count.result c.in_err-copy_page.field-0.0 (known.text file held long)
-    (writes_as (Unit {0}) c.pages.out c.copy_page.new.out (Err c.in_err-copy_page.field-0.0) _ _ (ap (slice file (c.args.at + c.pages.done)) few ∙ sym (slice_in file c.args.at c.args.size c.pages.done c.min-count.result (omega (arith, c.pages-test.true, count)))) one))
+    (writes_as (Unit {0}) c.pages.out c.copy_page.new.out (Err c.in_err-copy_page.field-0.0) _ _ (ap (slice file (c.args.at + c.pages.done)) few ∙ sym (slice-slice file c.args.at c.args.size c.pages.done c.min-count.result (omega (arith, c.pages-test.true, count)))) one))
 
 pub pages-preserved : goal.pages-preserved
 pages-preserved g c =
@@ -30,7 +31,7 @@ pages-preserved g c =
       wrote = omega (arith, known.wrote, c.in_ok-copy_page.ensures.wrote, few);
       text = λ file held long.
           window_more _ _ _ (slice file c.args.at c.args.size) c.pages.done c.min-count.result _ refl (known.text file held long)
-          (takes_as _ _ _ _ (ap (slice file (c.args.at + c.pages.done)) few ∙ sym (slice_in file c.args.at c.args.size c.pages.done c.min-count.result (omega (arith, c.pages-test.true, count))))
+          (takes_as _ _ _ _ (ap (slice file (c.args.at + c.pages.done)) few ∙ sym (slice-slice file c.args.at c.args.size c.pages.done c.min-count.result (omega (arith, c.pages-test.true, count))))
           (c.in_ok-copy_page.ensures.text file (known.reads.keeps.same_file ∙ held)));
     }
 

@@ -1,23 +1,29 @@
-use Rattle.std.proofs.Common.{ap, Err, arith}
+use Rattle.std.proofs.Common.{ap, Err, arith, ◌∙◌}
+use Rattle.std.proofs.lemmas.Result.{err_from_is_err_and}
 use Rattle.elf_apply.proofs.InOrderSteps.{unread_kept}
-use Rattle.elf_apply.proofs.ReadLaws.{unlimited, unread}
-use Rattle.elf_apply.proofs.WindowSteps.{says_as, read_failed, front_written}
+use Rattle.elf_apply.proofs.ReadLaws.{unread}
+use Rattle.elf_apply.proofs.WindowSteps.{fault_says, read_failed, front_written}
+use Rattle.elf_headers.proofs.LoadLaws.{unlimited}
 use Rattle.elf_apply.proofs.in_order.copy_page.Goals as goal
 
-pub returns-in-Err-clause-says : goal.returns-in-Err-clause-says
-returns-in-Err-clause-says g c =
-    says_as c.args.src.now c.fill.new.src c.args.out.now c.in-Err.fault _ c.fault_of.ensures (unlimited c.args.src.now c.fill.new.src _ c.in-Err.fault c.requires.unlimited c.in-Err.ensures.says)
+pub returns-in_err-fill-clause-says : goal.returns-in_err-fill-clause-says
+returns-in_err-fill-clause-says g c =
+    let p = err_from_is_err_and c.from_residual.result c.from_residual.ensures.1 in
+    rw (p.1, p.2) (fault_says c.args.src.now c.fill.new.src c.args.out.now c.in_err-fill.field-0.0 (unlimited c.args.src.now c.fill.new.src _ c.in_err-fill.field-0.0 c.requires.unlimited c.in_err-fill.ensures.says))
 
-pub returns-in-Err-clause-kept : goal.returns-in-Err-clause-kept
-returns-in-Err-clause-kept g c =
-    unread_kept c.in-Err.fault _ c.fault_of.ensures (unread c.args.src.now c.fill.new.src _ _ c.in-Err.fault c.requires.unlimited c.in-Err.ensures.says c.in-Err.ensures.at)
+pub returns-in_err-fill-clause-kept : goal.returns-in_err-fill-clause-kept
+returns-in_err-fill-clause-kept g c =
+    let p = err_from_is_err_and c.from_residual.result c.from_residual.ensures.1 in
+    rw (p.1) (unread_kept c.in_err-fill.field-0.0 p.0 p.2 (unread c.args.src.now c.fill.new.src _ _ c.in_err-fill.field-0.0 c.requires.unlimited c.in_err-fill.ensures.says c.in_err-fill.ensures.at))
 
-pub returns-in-Err-clause-text : goal.returns-in-Err-clause-text
-returns-in-Err-clause-text g c = λ file held.
-    read_failed (Unit {0}) c.args.out.now c.in-Err.fault _ _ (ap Err c.fault_of.ensures)
-    (unread c.args.src.now c.fill.new.src _ _ c.in-Err.fault c.requires.unlimited c.in-Err.ensures.says c.in-Err.ensures.at)
+pub returns-in_err-fill-clause-text : goal.returns-in_err-fill-clause-text
+returns-in_err-fill-clause-text g c = λ file held.
+    let p = err_from_is_err_and c.from_residual.result c.from_residual.ensures.1 in
+    read_failed (Unit {0}) c.args.out.now c.in_err-fill.field-0.0 _ _ (p.1 ∙ ap Err p.2)
+    (unread c.args.src.now c.fill.new.src _ _ c.in_err-fill.field-0.0 c.requires.unlimited c.in_err-fill.ensures.says c.in_err-fill.ensures.at)
 
-pub returns-in-Err-put-clause-wrote : goal.returns-in-Err-put-clause-wrote
-returns-in-Err-put-clause-wrote g c =
-    let more = front_written _ _ _ c.in-Err-put.ensures.puts.0 in
-    omega (arith, more, c.fill.auto.out)
+pub returns-in_err-put-clause-wrote : goal.returns-in_err-put-clause-wrote
+returns-in_err-put-clause-wrote g c =
+    let p = err_from_is_err_and c.from_residual-in_err-put.result c.from_residual-in_err-put.ensures.1 in
+    let more = front_written _ _ _ c.in_err-put.ensures.puts.0 in
+    rw (p.1) (omega (arith, more, c.fill.auto.out))

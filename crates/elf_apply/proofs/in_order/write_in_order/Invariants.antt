@@ -4,21 +4,21 @@ use Rattle.elf_model.specs.Apply.{Patch, patches_of, patched}
 use Rattle.elf_model.specs.ApplyLaws.{AllInside}
 use Rattle.elf_model.specs.Bytes.{slice}
 use Rattle.elf_source.specs.Growth.{Grows}
-use Rattle.elf_source.specs.Source.{Reads as ReadsMost}
+use Rattle.elf_source.specs.Source.{Reads}
 use Rattle.elf_apply.specs.InOrder.{Rises, UnderWay, end_of}
-use Rattle.elf_apply.specs.Walk.{Goes, Reads, changes_left, changes_all, walk_left, walk_all, steps_left}
+use Rattle.elf_apply.specs.Walk.{Goes, ReadsEntries, changes_left, changes_all, walk_left, walk_all, steps_left}
 use Rattle.elf_apply.proofs.in_order.write_in_order.Given as goal
 
 abbrev pub invariant-entries : goal.invariant-entries
 invariant-entries g l = record {
   sized : l.size ≡ l.target.size;
   within : end_of l.held ≤ l.size;
-  reads_most : ReadsMost l.fn.src l.src (walk_all l.target + l.size);
+  reads_most : Reads l.fn.src l.src (walk_all l.target + l.size);
   asked : l.src.asked + (walk_left l.target l.entries + (l.size - end_of l.held)) ≤ l.fn.src.asked + (walk_all l.target + l.size);
   grows : Grows l.fn.out l.out;
   wrote : l.out.written ≡ min (l.fn.out.written + l.held.low) (2 ^ 128 - 1);
   still : Goes l.fn.src.seen.size l.target l.entries;
-  reads : (file : List ℕ) → l.fn.src.seen.file ≡ Some file → Reads file l.entries;
+  reads : (file : List ℕ) → l.fn.src.seen.file ≡ Some file → ReadsEntries file l.entries;
   left : (file : List ℕ) → l.fn.src.seen.file ≡ Some file → (patches : List Patch) → patches_of (changes_all file l.target) ≡ Ok patches → AllInside l.size patches → Rises 0 patches
       → UnderWay (slice file l.at l.size) (patched patches (slice file l.at l.size)) l.held (changes_left file l.target l.entries)
       l.fn.out l.out;

@@ -2,7 +2,8 @@ use Rattle.elf_apply.specs.Costs.{items_cost}
 use Rattle.std.proofs.Common.{◌≤◌, drop, sym, ap, ◌∙◌, ◌+◌, arith, Ok, Some}
 use Rattle.elf_source.proofs.ReadsLaws.{Reads-then, Reads-to}
 use Rattle.elf_apply.proofs.LookupSteps.{step_hit, step_miss, step_fault, step_none, cost_step}
-use Rattle.elf_apply.proofs.ReadLaws.{unlimited, refuses_answers}
+use Rattle.elf_apply.proofs.ReadLaws.{refuses_answers}
+use Rattle.elf_headers.proofs.LoadLaws.{unlimited}
 use Rattle.elf_apply.proofs.lookup.address_named.Goals as goal
 
 pub returns-in-Ok-true-clause-found : goal.returns-in-Ok-true-clause-found

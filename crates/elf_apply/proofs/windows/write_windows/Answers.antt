@@ -5,8 +5,9 @@ use Rattle.elf_headers.proofs.OpenLaws.{still_open}
 use Rattle.elf_model.specs.Apply.{patched}
 use Rattle.elf_model.specs.Bytes.{slice}
 use Rattle.elf_apply.specs.Walk.{walk_all}
-use Rattle.elf_apply.proofs.WindowSteps.{window_more, window_stopped, windows_end, windows_account, length_in, takes_start, short_take}
+use Rattle.elf_apply.proofs.WindowSteps.{window_more, window_stopped, windows_end, windows_account, takes_start, short_take}
 use Rattle.elf_source.proofs.GrowthLaws.{grows_not, grows_then}
+use Rattle.elf_model.proofs.Slices.{slice-size}
 use Rattle.elf_apply.proofs.windows.write_windows.Goals as goal
 
 pub windows-init : goal.windows-init
@@ -54,7 +55,7 @@ write_window-requires-clause-opened g c = still_open _ _ c.windows.invariant.rea
 pub returns-clause-text : goal.returns-clause-text
 returns-clause-text g c = λ file held patches are inside.
     let known = c.windows.invariant in
-    windows_end _ _ patches (slice file c.args.at c.args.target.now.size) c.windows.done c.args.target.now.size (length_in file c.args.at c.args.target.now.size (let belongs = c.requires.opened.belongs file held in omega (arith, belongs.size, c.requires.opened.size, c.requires.within))) inside
+    windows_end _ _ patches (slice file c.args.at c.args.target.now.size) c.windows.done c.args.target.now.size (slice-size file c.args.at c.args.target.now.size (let belongs = c.requires.opened.belongs file held in omega (arith, belongs.size, c.requires.opened.size, c.requires.within))) inside
     (omega (arith, c.windows-test.false)) (known.text file held patches are inside)
 
 pub returns-in_err-write_window-clause-grows : goal.returns-in_err-write_window-clause-grows

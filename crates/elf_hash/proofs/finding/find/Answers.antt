@@ -2,13 +2,14 @@
 use Rattle.std.proofs.Common.{ℕ, sym, ap, ◌∙◌, arith}
 use Rattle.std.proofs.lemmas.Result.{err_from_is_err_and}
 use Rattle.elf_model.specs.Checks.{first_refusal, load_checks}
-use Rattle.elf_hash.proofs.FindLaws.{cost_behind, find_least, finds_header, finds_load, header_most, load_most, load_within, says_never}
+use Rattle.elf_hash.proofs.FindLaws.{cost_behind, find_least, finds_header, finds_load, load_within}
+use Rattle.elf_headers.proofs.LoadLaws.{header_most, load_most, unlimited}
 use Rattle.elf_hash.proofs.finding.find.Goals as goal
 
 pub returns-in_err-header-clause-finds : goal.returns-in_err-header-clause-finds
 returns-in_err-header-clause-finds g c = λ file held.
     let p = err_from_is_err_and c.from_residual.result c.from_residual.ensures.1 in
-    let says = says_never c.args.src.now c.header.new.src _ _ c.requires.unlimited c.in_err-header.ensures.says in
+    let says = unlimited c.args.src.now c.header.new.src _ _ c.requires.unlimited c.in_err-header.ensures.says in
     rw (p.1, p.2) (finds_header file c.args.store.now.slots c.args.wanted.now c.args.src.now c.header.new.src _ says (c.in_err-header.ensures.read file held))
 
 pub returns-in_err-header-clause-asks : goal.returns-in_err-header-clause-asks
@@ -20,8 +21,8 @@ returns-in_err-header-clause-asks g c = λ file held.
 pub returns-in_err-loaded-clause-finds : goal.returns-in_err-loaded-clause-finds
 returns-in_err-loaded-clause-finds g c = λ file held.
     let p = err_from_is_err_and c.from_residual-in_err-loaded.result c.from_residual-in_err-loaded.ensures.1 in
-    let unlimited = c.header.ensures.reads.same_limit ∙ c.requires.unlimited in
-    let says = says_never c.header.new.src c.load.new.src _ _ unlimited c.in_err-loaded.ensures.says in
+    let none = c.header.ensures.reads.same_limit ∙ c.requires.unlimited in
+    let says = unlimited c.header.new.src c.load.new.src _ _ none c.in_err-loaded.ensures.says in
     let read = c.in_ok-header.ensures.read file held in
     let now = c.header.ensures.reads.keeps.same_file ∙ held in
     rw (p.1, p.2) (finds_load file c.args.store.now.slots c.args.wanted.now c.header.new.src c.load.new.src _ _ says read.0 c.load.ensures.slots (c.in_err-loaded.ensures.held file now read.1))

@@ -3,13 +3,13 @@ use Rattle.std.proofs.Common.{◌≡◌, ℕ, if◌then◌else◌, List, [], ◌
 use Rattle.std.specs.Prelude.{IfErr}
 use Rattle.elf_model.specs.LineFronts.{note_front}
 use Rattle.elf_model.specs.Lines.{cut_mark, note_tail}
-use Rattle.elf_source.specs.Output.{Written, Fails, Puts}
+use Rattle.elf_source.specs.Output.{Written, OutFails, Puts}
 use Rattle.elf_source.proofs.GrowthLaws.{grows_put}
 use Rattle.elf_source.specs.declared.faults.OutFault.{OutFault}
 use Rattle.elf_lines.proofs.NameText.{name_text-pieces}
 use Rattle.elf_lines.proofs.note_rows.show_note.Goals as goal
 
-put_fails : (a b : Written) (result : Result (Unit {0}) OutFault) (text : List ℕ) → Puts a b result text → IfErr result (Fails b)
+put_fails : (a b : Written) (result : Result (Unit {0}) OutFault) (text : List ℕ) → Puts a b result text → IfErr result (OutFails b)
 put_fails a b (Ok x) text puts = tt
 put_fails a b (Err fault) text puts = puts.1
 

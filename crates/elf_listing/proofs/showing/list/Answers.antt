@@ -5,9 +5,10 @@ use Rattle.elf_model.specs.Cost.{ceiling}
 use Rattle.elf_model.specs.Report.{load_items}
 use Rattle.elf_listing.proofs.FileShown.{header_part, items_are, header_alone}
 use Rattle.elf_listing.proofs.RowLaws.{Stopped-first, Writes-as}
-use Rattle.elf_listing.proofs.SectionCosts.{slots_below, header_most, cost_is}
+use Rattle.elf_listing.proofs.SectionCosts.{slots_below, cost_is}
 use Rattle.elf_listing.proofs.ShowLaws.{Writes-then, Stopped-more, Costs-then, Costs-fault, Costs-out}
 use Rattle.elf_source.proofs.GrowthLaws.{grows_then}
+use Rattle.elf_headers.proofs.LoadLaws.{header_most}
 use Rattle.elf_listing.proofs.showing.list.Goals as goal
 
 pub returns-in_err-header-clause-ceiling : goal.returns-in_err-header-clause-ceiling

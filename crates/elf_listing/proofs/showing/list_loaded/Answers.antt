@@ -8,9 +8,10 @@ use Rattle.elf_source.proofs.ReadsLaws.{Reads-then}
 use Rattle.elf_listing.specs.Viewed.{view_cost}
 use Rattle.elf_listing.proofs.FileShown.{load_alone, load_passed}
 use Rattle.elf_listing.proofs.RowLaws.{Stopped-first, Stopped-unread-first, Writes-as}
-use Rattle.elf_listing.proofs.SectionCosts.{load_below, load_within, load_most, loaded_within, loaded_below, view_within, view_below, few_headers, viewed_all}
+use Rattle.elf_listing.proofs.SectionCosts.{load_below, load_within, loaded_within, loaded_below, view_within, view_below, few_headers, viewed_all}
 use Rattle.elf_listing.proofs.ShowLaws.{Whole-none, Costs-then, Costs-fault, Costs-later}
 use Rattle.elf_source.proofs.GrowthLaws.{grows_not}
+use Rattle.elf_headers.proofs.LoadLaws.{load_most}
 use Rattle.elf_listing.proofs.showing.list_loaded.Goals as goal
 
 pub returns-then-not-intersects-clause-text : goal.returns-then-not-intersects-clause-text

@@ -1,4 +1,5 @@
-use Rattle.std.proofs.Common.{◌≡◌, false, inl, inr, rules}
+use Rattle.std.proofs.Common.{◌≡◌, false, inl, inr, rules, arith}
+use Rattle.elf_source.proofs.OnwardLaws.{onward_more}
 use Rattle.elf_note.proofs.ShownNames.{shown-cut, shown-whole}
 use Rattle.elf_note.proofs.naming.read_name.Goals as goal
 use Rattle.elf_note.proofs.naming.read_name.Goals.{else-not-found-via-then-not-found+else-size-from, else-not-found-via-else-not-found}
@@ -17,3 +18,9 @@ returns-clause-read g c = λ file h a note e l.
       | else-not-found-via-else-not-found w ↦ inl (search rules)
     ]) (search rules) e l
     (c.in_ok-found.ensures.searched file h a)
+
+pub returns-then-size-from-clause-onward : goal.returns-then-size-from-clause-onward
+returns-then-size-from-clause-onward g c = onward_more _ _ _ _ _ _ (omega (arith, c.skip.ensures.end, c.skip.ensures.unread)) c.search_name.ensures.onward
+
+pub returns-clause-onward : goal.returns-clause-onward
+returns-clause-onward g c = onward_more _ _ _ _ _ _ (omega (arith, c.skip.ensures.end, c.skip.ensures.unread)) c.search_name.ensures.onward

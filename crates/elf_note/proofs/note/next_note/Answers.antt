@@ -5,6 +5,7 @@ use Rattle.elf_model.specs.Notes.{to_next}
 use Rattle.elf_record.specs.NoteHead.{IsNoteHead}
 use Rattle.elf_table.specs.Windows.{bytes_left, range_end}
 use Rattle.elf_note.proofs.Stepping.{left-zeros, left-few, left-short, moved-by, found-tells}
+use Rattle.elf_source.proofs.OnwardLaws.{onward_then}
 use Rattle.elf_note.proofs.note.next_note.Goals as goal
 
 pub returns-then-branch-clause-tells : goal.returns-then-branch-clause-tells
@@ -93,3 +94,16 @@ returns-clause-tells g c = λ file h a.
     (ra ∙ ap (λ (x : ℕ). x + head.descsz + min (to_next c.args.align (c.at-desc_at.result - c.at-at.result + head.descsz)) (bytes_left c.skip.new.self - head.descsz)) (sym da)))
     (λ note n l. c.in_ok-name_end.ensures.read file h1 a1 note (n ∙ ap (λ (x : ℕ). slice file x head.namesz) (sym ta) ∙ ap (slice file c.take.new.window.at) (sym f3)) (l ∙ sym f3))
     (rw gap at place) (sh ∙ ap (λ (x : ℕ). min x 32) f4) (take_at c.read_rest.new.desc _ c.min-shown.result size ∙ rest)
+
+pub returns-in_err-name_end-clause-onward : goal.returns-in_err-name_end-clause-onward
+returns-in_err-name_end-clause-onward g c = onward_then _ _ _ _ _ _ _ _ (omega arith) c.take.ensures.onward c.read_name.ensures.onward
+
+pub returns-in_err-read_rest-clause-onward : goal.returns-in_err-read_rest-clause-onward
+returns-in_err-read_rest-clause-onward g c =
+    let named = onward_then _ _ _ _ _ _ _ _ (omega arith) c.take.ensures.onward c.read_name.ensures.onward in
+    onward_then _ _ _ _ _ _ _ _ (omega (arith, c.skip.ensures.end, c.skip.ensures.unread)) named c.read_rest.ensures.onward
+
+pub returns-clause-onward : goal.returns-clause-onward
+returns-clause-onward g c =
+    let named = onward_then _ _ _ _ _ _ _ _ (omega arith) c.take.ensures.onward c.read_name.ensures.onward in
+    onward_then _ _ _ _ _ _ _ _ (omega (arith, c.skip.ensures.end, c.skip.ensures.unread)) named c.read_rest.ensures.onward

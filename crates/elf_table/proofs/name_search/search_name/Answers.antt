@@ -2,6 +2,7 @@ use Rattle.std.proofs.Common.{◌≡◌, ℕ, ◌+◌, ◌≤◌, List, Some, le
 use Rattle.elf_model.specs.Bytes.{slice}
 use Rattle.elf_model.proofs.Searches.{search-more, kept-more, found-here}
 use Rattle.elf_source.proofs.ReadsLaws.{Reads-then, Reads-to}
+use Rattle.elf_source.proofs.OnwardLaws.{onward_then, onward_more}
 use Rattle.elf_table.specs.Windows.{HoldsBytes, StillHolds}
 use Rattle.elf_table.proofs.Paging.{held-front, Moves-then, Moves-skip}
 use Rattle.elf_table.proofs.name_search.search_name.Goals as goal
@@ -51,8 +52,15 @@ loop-done-preserved g c =
       few = omega (arith, ap length added, length-take {A = ℕ});
       place = omega (arith, sk.at);
       moves = Moves-skip _ _ _ _ _ n sk.page sk.end sk.at sk.unread moves;
+      onward = onward_more _ _ _ _ _ _ (omega (arith, sk.end, sk.unread)) (onward_then _ _ _ _ _ _ _ _ (omega arith) i.onward b.onward);
       reads = Reads-to (Reads-then i.reads b.reads) (let account = moves.account in omega arith);
       agrees = λ file h a. sk.agrees file (ag file h a);
       no_nul = λ file h a. search-more file (take n front) c.args.window.now.at l.done n (piece file h a) (i.no_nul file h a) c.in_default.ensures.first;
       name = λ file h a. kept-more file (take n front) l.name c.add-in-loop-done.new.self c.args.window.now.at l.done n c.args.cap.bytes (piece file h a) (i.name file h a) added;
     }
+
+pub returns-in_err-bring-clause-onward : goal.returns-in_err-bring-clause-onward
+returns-in_err-bring-clause-onward g c = onward_then _ _ _ _ _ _ _ _ (omega arith) c.loop-done.invariant.onward c.bring.ensures.onward
+
+pub returns-in-Some-clause-onward : goal.returns-in-Some-clause-onward
+returns-in-Some-clause-onward g c = onward_then _ _ _ _ _ _ _ _ (omega arith) c.loop-done.invariant.onward c.bring.ensures.onward

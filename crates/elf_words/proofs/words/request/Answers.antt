@@ -1,7 +1,7 @@
 use Rattle.std.proofs.Common.{rules, map, subst, sym, ap, ◌∙◌, Ok, Err, IfErr}
 use Rattle.std.proofs.lemmas.Result.{err_from_is_err_and}
 use Rattle.clap.specs.Words.{subcommand_rows_of}
-use Rattle.elf_words.specs.Asked.{AsksBy, AsksNothing, ComesTo, HasFault, Refuses}
+use Rattle.elf_words.specs.Asked.{AsksBy, AsksNothing, ComesTo, HasFault, WordsRefused}
 use Rattle.elf_words.proofs.FaultLaws.{fault_met, faulty, matches_met, taken_met, unasked_told}
 use Rattle.elf_words.proofs.words.request.Goals as goal
 
@@ -29,7 +29,7 @@ returns-in_err-request-clause-refused g c =
     let has = matches_met (λ matches. HasFault matches c.in_err-request.field-0.0) _ c.as_slice.result (map g.S.AsStr.text c.args.words.now)
     c.in-Ok.matches c.in_ok-commands.ensures c.in-Ok.ensures.ok.2 c.in_err-request.ensures in
     let taken = taken_met _ c.as_slice.result (map g.S.AsStr.text c.args.words.now) c.in_ok-commands.ensures c.in-Ok.ensures.kinds in
-    subst (λ r. IfErr r (Refuses (map g.S.AsStr.text c.args.words.now))) (sym (told.1 ∙ ap (λ fault. Err fault) told.2))
+    subst (λ r. IfErr r (WordsRefused (map g.S.AsStr.text c.args.words.now))) (sym (told.1 ∙ ap (λ fault. Err fault) told.2))
     record { parts = c.as_slice.result; named = search rules; refusal = faulty _ _ c.in_err-request.field-0.0 taken has }
 
 pub returns-clause-refused : goal.returns-clause-refused

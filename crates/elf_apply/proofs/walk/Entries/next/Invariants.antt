@@ -1,18 +1,18 @@
 -- Nothing was given so far.
 use Rattle.std.proofs.Common.{◌≡◌, ℕ, ◌+◌, ◌≤◌, List, Some}
-use Rattle.elf_source.specs.Source.{Reads as ReadsMost}
-use Rattle.elf_apply.specs.Walk.{Counts, Goes, Reads, changes_left, walk_left, steps_left}
+use Rattle.elf_source.specs.Source.{Reads}
+use Rattle.elf_apply.specs.Walk.{CountsEntries, Goes, ReadsEntries, changes_left, walk_left, steps_left}
 use Rattle.elf_apply.proofs.walk.Entries.next.Given as goal
 
 abbrev pub invariant-steps : goal.invariant-steps
 invariant-steps g l = record {
-  reads_most : ReadsMost l.fn.src l.src (walk_left l.target l.fn.self);
+  reads_most : Reads l.fn.src l.src (walk_left l.target l.fn.self);
   asked : l.src.asked + walk_left l.target l.self ≤ l.fn.src.asked + walk_left l.target l.fn.self;
   still : Goes l.fn.src.seen.size l.target l.self;
   fewer : steps_left l.target l.self ≤ steps_left l.target l.fn.self;
-  counts : Counts l.target l.fn.self l.self;
-  reads : (file : List ℕ) → l.fn.src.seen.file ≡ Some file → Reads file l.fn.self
-      → (changes_left file l.target l.fn.self ≡ changes_left file l.target l.self) × Reads file l.self;
+  counts : CountsEntries l.target l.fn.self l.self;
+  reads : (file : List ℕ) → l.fn.src.seen.file ≡ Some file → ReadsEntries file l.fn.self
+      → (changes_left file l.target l.fn.self ≡ changes_left file l.target l.self) × ReadsEntries file l.self;
 }
 
 abbrev pub decreases-steps : goal.decreases-steps

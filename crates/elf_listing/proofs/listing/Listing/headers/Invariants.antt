@@ -5,7 +5,7 @@ use Rattle.elf_model.specs.Listing.{each}
 use Rattle.elf_names.specs.Ahead.{Spends}
 use Rattle.elf_source.specs.Growth.{Grows}
 use Rattle.elf_listing.specs.Parts.{header_cost, header_count, header_items}
-use Rattle.elf_listing.specs.Shows.{SameFile, Whole}
+use Rattle.elf_listing.specs.Shows.{SameFile, WroteItems}
 use Rattle.elf_listing.proofs.listing.Listing.headers.Given as goal
 
 abbrev pub invariant-headers : goal.invariant-headers
@@ -18,7 +18,7 @@ invariant-headers g l =
       keeps : SameFile l.fn.self l.self;
       spends : Spends l.fn.self.src.now l.self.src.now l.fn.self.ahead.credit l.self.ahead.credit (sum_over (header_cost l.part f.loaded f.store.now cap) 0 l.index);
       grows : Grows l.fn.self.out.now l.self.out.now;
-      text : (file : List ℕ) → l.fn.self.src.now.seen.file ≡ Some file → Whole l.fn.self.out.now l.self.out.now (each (λ i. header_items l.part cap i file) 0 l.index);
+      text : (file : List ℕ) → l.fn.self.src.now.seen.file ≡ Some file → WroteItems l.fn.self.out.now l.self.out.now (each (λ i. header_items l.part cap i file) 0 l.index);
     }
 
 abbrev pub decreases-headers : goal.decreases-headers

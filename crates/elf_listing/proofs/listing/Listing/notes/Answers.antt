@@ -7,7 +7,7 @@ use Rattle.elf_names.proofs.HeldLaws.{still_held}
 use Rattle.elf_names.proofs.SpendsLaws.{Spends-none, Spends-reads, Spends-then, Spends-to}
 use Rattle.elf_headers.proofs.OpenLaws.{still_open}
 use Rattle.elf_listing.proofs.ViewedLaws.{still_viewed}
-use Rattle.elf_listing.specs.Notes.{rows_of}
+use Rattle.elf_listing.specs.Notes.{note_items}
 use Rattle.elf_listing.proofs.NotesShown.{all_left, before_all, before_more, before_stopped, before_fault, before_none, note_left, note_of, table_rows}
 use Rattle.elf_source.proofs.GrowthLaws.{grows_not, grows_then}
 use Rattle.elf_listing.proofs.listing.Listing.notes.Goals as goal
@@ -29,7 +29,7 @@ notes-init g c =
           let align = note_align c.args.align in
           let cap = c.args.self.now.cap.bytes in
           let all = all_left align file c.new-cursor.result.ahead c.args.table.at c.args.table.count 4096 n.ahead in
-          before_all _ _ _ (sym (ap (rows_of cap c.args.index) all ∙ table_rows align cap c.args.index c.args.table.at (slice file c.args.table.at c.args.table.count)));
+          before_all _ _ _ (sym (ap (note_items cap c.args.index) all ∙ table_rows align cap c.args.index c.args.table.at (slice file c.args.table.at c.args.table.count)));
     }
 
 pub returns-in_err-advance-clause-shows : goal.returns-in_err-advance-clause-shows
@@ -49,7 +49,7 @@ returns-in_err-note_row-clause-shows g c = λ file held.
     let step = rw c.if-branch.true at c.in_ok-advance.ensures.steps in
     let tells = rw (known.same_align, known.keeps.same_cap) at (step.tells file now (known.agrees file held)) in
     let note = note_of _ _ _ tells.0 _ c.row.result _ c.row.ensures.shows tells.2 in
-    let next = ap (rows_of c.args.self.now.cap.bytes c.args.index) tells.1 ∙ note_left c.args.self.now.cap.bytes c.args.index tells.0 _ in
+    let next = ap (note_items c.args.self.now.cap.bytes c.args.index) tells.1 ∙ note_left c.args.self.now.cap.bytes c.args.index tells.0 _ in
     rw (p.1, p.2) (before_stopped _ _ _ _ _ _ _ _ next (known.text file held) (c.in_err-note_row.ensures.shows c.args.self.now.cap.bytes tells.0 note))
 
 pub notes-preserved : goal.notes-preserved
@@ -81,7 +81,7 @@ notes-preserved g c =
           let now = known.spends.reads.keeps.same_file ∙ held in
           let tells = rw (known.same_align, known.keeps.same_cap) at (step.tells file now (known.agrees file held)) in
           let note = note_of _ _ _ tells.0 _ c.row.result _ c.row.ensures.shows tells.2 in
-          let next = ap (rows_of c.args.self.now.cap.bytes c.args.index) tells.1 ∙ note_left c.args.self.now.cap.bytes c.args.index tells.0 _ in
+          let next = ap (note_items c.args.self.now.cap.bytes c.args.index) tells.1 ∙ note_left c.args.self.now.cap.bytes c.args.index tells.0 _ in
           before_more _ _ _ _ next (known.text file held) (c.in_ok-note_row.ensures.shows c.args.self.now.cap.bytes tells.0 note);
     }
 

@@ -7,7 +7,7 @@ use Rattle.elf_names.specs.Ahead.{Spends}
 use Rattle.elf_note.specs.NoteCursors.{notes_left}
 use Rattle.elf_table.specs.Windows.{HoldsBytes, bytes_left}
 use Rattle.elf_source.specs.Growth.{Grows}
-use Rattle.elf_listing.specs.Notes.{WrittenBefore, rows_of}
+use Rattle.elf_listing.specs.Notes.{WrittenBefore, note_items}
 use Rattle.elf_listing.specs.Shows.{SameFile}
 use Rattle.elf_listing.proofs.listing.Listing.notes.Given as goal
 
@@ -27,7 +27,7 @@ invariant-notes g l =
       text : (file : List ℕ) → l.fn.self.src.now.seen.file ≡ Some file
           → WrittenBefore l.fn.self.out.now l.self.out.now
           (walk_rows cap l.fn.index l.fn.table.at (walked align (slice file l.fn.table.at l.fn.table.count)))
-          (rows_of cap l.fn.index (notes_left align file l.cursor.ahead));
+          (note_items cap l.fn.index (notes_left align file l.cursor.ahead));
     }
 
 abbrev pub decreases-notes : goal.decreases-notes

@@ -6,7 +6,7 @@ use Rattle.elf_table.specs.Cursors.{HoldsRows, unread_bytes}
 use Rattle.elf_source.specs.Growth.{Grows}
 use Rattle.elf_listing.specs.Kinds.{own_cost, row_items, rows_cost, KindOf}
 use Rattle.elf_listing.specs.RowCursors.{reading, rows_left, rows_listed}
-use Rattle.elf_listing.specs.Shows.{SameFile, Whole}
+use Rattle.elf_listing.specs.Shows.{SameFile, WroteItems}
 use Rattle.elf_listing.proofs.listing.Listing.rows.Given as goal
 
 abbrev pub invariant-rows : goal.invariant-rows
@@ -24,7 +24,7 @@ invariant-rows g l =
       listed : (file : List ℕ) → l.fn.self.src.now.seen.file ≡ Some file → now.index + rows_left file l.cursor ≡ rows_listed l.fn.kind file l.fn.table;
       grows : Grows l.fn.self.out.now l.self.out.now;
       text : (file : List ℕ) → l.fn.self.src.now.seen.file ≡ Some file → (0 < l.fn.table.count → KindOf file l.fn.table.at l.fn.kind)
-          → Whole l.fn.self.out.now l.self.out.now (each (row_items l.fn.kind file cap l.fn.table.at) 0 now.index);
+          → WroteItems l.fn.self.out.now l.self.out.now (each (row_items l.fn.kind file cap l.fn.table.at) 0 now.index);
     }
 
 abbrev pub decreases-rows : goal.decreases-rows

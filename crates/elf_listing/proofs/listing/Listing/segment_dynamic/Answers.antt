@@ -3,7 +3,7 @@ use Rattle.std.proofs.Common.{◌≡◌, ◌*◌, ◌≤◌, Err, refl, sym, ap,
 use Rattle.std.proofs.lemmas.Result.{err_from_is_err_and}
 use Rattle.elf_model.specs.Cost.{table_cost}
 use Rattle.elf_model.specs.TableKinds.{segment_dynamic}
-use Rattle.elf_headers.specs.Store.{segment_row}
+use Rattle.elf_headers.specs.Store.{segment_bytes}
 use Rattle.elf_table.specs.Tables.{size_of}
 use Rattle.elf_headers.specs.Load.{Views}
 use Rattle.elf_headers.proofs.OpenLaws.{still_open}
@@ -48,10 +48,10 @@ returns-in_err-told-clause-lists g c =
     let fields = rw c.view-view.ensures.store at c.segment.ensures.fields in
     let kind = sym fields.p_type ∙ c.if-segment-ne-PT_DYNAMIC.false in
     let value = rw (c.view-view.ensures.store, c.view-view.ensures.loaded) at c.in_ok-table.ensures.value in
-    let within = segment_dynamic_within (segment_row f.store.now c.args.segment) f.loaded.size _ most _ kind value in
+    let within = segment_dynamic_within (segment_bytes f.store.now c.args.segment) f.loaded.size _ most _ kind value in
     let entry = c.in_ok-table.ensures.entry in
     let bytes : size_of c.in_ok-table.table ≡ c.in_ok-table.table.count * 16 = ap (λ n. c.in_ok-table.table.count * n) entry in
-    let all : size_of c.in_ok-table.table ≤ table_cost segment_dynamic (segment_row f.store.now c.args.segment) 0 f.loaded.size most = omega (arith, within, bytes) in
+    let all : size_of c.in_ok-table.table ≤ table_cost segment_dynamic (segment_bytes f.store.now c.args.segment) 0 f.loaded.size most = omega (arith, within, bytes) in
     rw (p.1, p.2) (
       record { same_src = refl; same_out = refl; same_file = refl; same_cap = refl },
       Spent-fault _ _ _ _ _ _ _ all c.in_err-told.ensures.reads c.in_err-told.ensures.says,
@@ -69,7 +69,7 @@ returns-clause-lists g c =
     let fields = rw c.view-view.ensures.store at c.segment.ensures.fields in
     let kind = sym fields.p_type ∙ c.if-segment-ne-PT_DYNAMIC.false in
     let value = rw (c.view-view.ensures.store, c.view-view.ensures.loaded) at c.in_ok-table.ensures.value in
-    let within = segment_dynamic_within (segment_row f.store.now c.args.segment) f.loaded.size _ most _ kind value in
+    let within = segment_dynamic_within (segment_bytes f.store.now c.args.segment) f.loaded.size _ most _ kind value in
     let bytes : size_of c.in_ok-table.table ≡ c.in_ok-table.table.count * 16 = ap (λ n. c.in_ok-table.table.count * n) c.in_ok-table.ensures.entry in
     let lists = c.rows.ensures.lists in
     let all = Spent-behind _ _ _ _ _ _ _ _ _ _ (omega (arith, within, bytes)) c.in_ok-told.ensures.reads lists.1 in (

@@ -2,7 +2,7 @@
 use Rattle.std.proofs.Common.{◌≡◌, Err, sym, ap, ◌∙◌, arith}
 use Rattle.std.proofs.lemmas.Result.{err_from_is_err_and}
 use Rattle.elf_model.specs.Records.{segment_at}
-use Rattle.elf_headers.specs.Store.{segment_row}
+use Rattle.elf_headers.specs.Store.{segment_bytes}
 use Rattle.elf_listing.proofs.RowLaws.{Writes-as, Stopped-first}
 use Rattle.elf_listing.proofs.SectionCosts.{segment_notes_within}
 use Rattle.elf_listing.proofs.SectionShown.{no_segment_notes, segment_notes_are, notes_fault, notes_pass}
@@ -37,7 +37,7 @@ returns-clause-lists g c =
     let kind = sym fields.p_type ∙ c.if-header-ne-PT_NOTE.false in
     let value = rw (fields.p_offset, fields.p_filesz) at c.in_ok-table.ensures.value in
     let lists = c.notes.ensures.lists in
-    let costs = Spent-within _ _ _ _ _ _ _ _ (segment_notes_within (segment_row f.store.now c.args.segment) f.loaded.size _ c.args.self.now.cap.bytes _ kind value) lists.1 in
+    let costs = Spent-within _ _ _ _ _ _ _ _ (segment_notes_within (segment_bytes f.store.now c.args.segment) f.loaded.size _ c.args.self.now.cap.bytes _ kind value) lists.1 in
     (lists.0, costs)
 
 pub returns-clause-shows : goal.returns-clause-shows

@@ -2,6 +2,8 @@ use Rattle.std.proofs.Common.{◌≡◌, ◌+◌, ◌≤◌, length, take, ap, s
 use Rattle.std.proofs.lemmas.Slice.{take-put_mid}
 use Rattle.elf_model.specs.Bytes.{slice}
 use Rattle.elf_model.proofs.Slices.{slice-size}
+use Rattle.elf_table.specs.Windows.{frontier}
+use Rattle.elf_headers.proofs.LoadLaws.{fills_onward}
 use Rattle.elf_table.proofs.Paging.{joined}
 use Rattle.elf_table.proofs.window.Window.read_page.Goals as goal
 
@@ -20,3 +22,21 @@ returns-clause-agrees g c =
     joined file _ (take i.held c.gather.new.bytes) c.fill.new.out i.at i.held n (take-put_mid i.held _ c.gather.new.bytes c.fill.new.out (i.held + n) (omega arith) room)
     (ap length c.gather.ensures ∙ whole) (c.gather.ensures ∙ held)
     (c.in_default.ensures.read file h ∙ ap (slice file (i.at + i.held)) (sym c.fill.auto.out ∙ out)) out
+
+pub returns-clause-onward : goal.returns-clause-onward
+returns-clause-onward g c =
+    let i = c.self.inside in
+    let told = c.self.told in
+    let inv = c.self.invariant in
+    let whole : length (slice i.bytes i.from i.held) ≡ i.held = slice-size i.bytes i.from i.held (omega (arith, told)) in
+    let was = ap frontier c.self.view_is in
+    fills_onward _ _ _ (i.at + i.held) _ _ _ c.fill.result c.fill.ensures.once (omega (arith, was, whole)) (search (rules, c.fill.auto.out))
+
+pub returns-in-Err-clause-onward : goal.returns-in-Err-clause-onward
+returns-in-Err-clause-onward g c =
+    let i = c.self.inside in
+    let told = c.self.told in
+    let inv = c.self.invariant in
+    let whole : length (slice i.bytes i.from i.held) ≡ i.held = slice-size i.bytes i.from i.held (omega (arith, told)) in
+    let was = ap frontier c.self.view_is in
+    fills_onward _ _ _ (i.at + i.held) _ _ _ c.fill.result c.fill.ensures.once (omega (arith, was, whole)) (search (rules, c.fill.auto.out))

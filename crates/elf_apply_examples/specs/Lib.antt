@@ -1,0 +1,7 @@
+pub mod ExamplesApply
+pub mod ExamplesApplyCost
+pub mod ExamplesApplyOrder
+pub mod ExamplesLayouts
+pub mod ExamplesPlaces
+pub mod ExamplesValues
+pub mod ListedRelocations

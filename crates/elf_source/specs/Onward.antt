@@ -1,0 +1,19 @@
+-- Reads one behind the other.
+use Rattle.std.specs.Prelude.{ℕ, ◌≡◌, ◌+◌, ◌≤◌, List, [], ◌∷◌}
+use Rattle.elf_source.specs.Source.{Seen}
+
+-- reads, each at an offset and of so many bytes, lead from what was seen to what is seen
+abbrev pub AreMade : (Seen → ℕ → ℕ → Seen → Type 0) → List (ℕ × ℕ) → Seen → Seen → Type 0
+AreMade one_read [] old new = new ≡ old
+AreMade one_read (read ∷ reads) old new = (next : Seen) × one_read old read.0 read.1 next × AreMade one_read reads next new
+
+-- reads between two offsets, none of them of a byte that stands before the end of the one before
+abbrev pub AreOnward : ℕ → ℕ → List (ℕ × ℕ) → Type 0
+AreOnward low high [] = low ≤ high
+AreOnward low high (read ∷ reads) = (low ≤ read.0) × AreOnward (read.0 + read.1) high reads
+
+-- WHAT WAS READ: bytes between two offsets, onward, so that no byte was read twice
+pub record ReadsOnward (one_read : Seen → ℕ → ℕ → Seen → Type 0) (old new : Seen) (low high : ℕ) : Type 0 where
+  pub reads : List (ℕ × ℕ)
+  pub made : AreMade one_read reads old new
+  pub onward : AreOnward low high reads

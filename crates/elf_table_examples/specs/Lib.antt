@@ -1,0 +1,9 @@
+pub mod ExamplesAnswers
+pub mod ExamplesDynamic
+pub mod ExamplesFields
+pub mod ExamplesHash
+pub mod ExamplesLookups
+pub mod ExamplesNames
+pub mod ExamplesNotes
+pub mod ListedDynamic
+pub mod ListedNotes

@@ -1,0 +1,20 @@
+//! Worked answers of lookups, each a theorem about the definitions that the prover computes.
+ghost use Rattle.elf_table_examples.specs.ExamplesAnswers.{FoundIsWritten, AbsentIsWritten, RefusalIsWritten};
+
+/// Names that are found.
+#[tactic(auto, unfolding(elf_model::proofs::OnLiterals::on_literals, crate::proofs::OnExamples::on_examples))]
+pub fn found_is_written()
+    ensures { FoundIsWritten }
+{}
+
+/// A name that is not there.
+#[tactic(auto, unfolding(elf_model::proofs::OnLiterals::on_literals, crate::proofs::OnExamples::on_examples))]
+pub fn absent_is_written()
+    ensures { AbsentIsWritten }
+{}
+
+/// What is refused.
+#[tactic(auto, unfolding(elf_model::proofs::OnLiterals::on_literals, crate::proofs::OnExamples::on_examples))]
+pub fn refusal_is_written()
+    ensures { RefusalIsWritten }
+{}
