@@ -21,10 +21,10 @@ use Rattle.elf_record.specs.declared.ehdr.Ehdr.{Ehdr}
 use Rattle.elf_headers.specs.Load.{Opened, Belongs, IsOpened, early_of, file_header_cost, load_cost}
 use Rattle.elf_table.specs.Sections.{answered, bytes_of, rows, table_of, checked}
 use Rattle.elf_headers.specs.Store.{Stored, HoldsSegments, row, segment_bytes}
-use Rattle.elf_table.specs.Tables.{Rows}
+use Rattle.elf_table.specs.Tables.{Rows, Strings}
 use Rattle.elf_table.specs.Views.{dynamic_of}
 use Rattle.elf_headers.specs.declared.fault.Fault.{Fault}
-use Rattle.elf_listing.specs.Parts.{asked_cost, segments_listed, tables_listed}
+use Rattle.elf_listing.specs.Parts.{asked_cost, name_cost, segments_listed, tables_listed}
 use Rattle.elf_listing.specs.Viewed.{needs_view, viewed, view_cost}
 use Rattle.elf_listing.specs.declared.parts.Part.TheVariants.{Headers, Symbols, Relocations, SectionNotes, SegmentNotes, SectionDynamic, SegmentDynamic}
 use Rattle.elf_listing.proofs.FileShown.{viewed_none}
@@ -33,6 +33,15 @@ use Rattle.elf_headers.proofs.LoadLaws.{early_is}
 -- as many equal costs
 pub sum_of_equal : (amount count : ℕ) → sum_over (λ i. amount) 0 count ≤ count * amount
 sum_of_equal amount count = sum_over-le (λ i. amount) amount 0 count (λ i. omega arith)
+
+-- a section's name, which costs nothing where no string table is told
+name_where : (names : Option Strings) (none : Bool) (cap : ℕ) → (none ≡ true → names ≡ None) → name_cost names cap ≤ cost_where (not none) (name_bytes cap)
+name_where names true cap is = rw (is refl) (omega arith)
+name_where None false cap is = omega arith
+name_where (Some strings) false cap is = omega arith
+
+pub name_within : (names : Option Strings) (index cap : ℕ) → (index ≡ 0 → names ≡ None) → name_cost names cap ≤ cost_where (not (index == 0)) (name_bytes cap)
+name_within names index cap is = name_where names (index == 0) cap (λ e. is (eqb-true index 0 e))
 
 -- a table that was answered passes its checks, and counts
 rows_within : (counts : Bool) (first : Option Refusal) (at n entry each_entry : ℕ) (table : Rows) → (first ≡ None → counts ≡ true)

@@ -4,6 +4,7 @@ use Rattle.elf_source.specs.Source.{Counting, Reads}
 use Rattle.elf_source.specs.Output.{Written}
 use Rattle.elf_source.proofs.PutsLaws.{Takes-nothing, Takes-then, TakesFront-then, TakesFront-more}
 use Rattle.elf_source.proofs.ReadsLaws.{Reads-to, Reads-then, Faults-then, OverLimit-then, OverLimit-more}
+use Rattle.elf_names.specs.Ahead.{Spends}
 use Rattle.elf_names.proofs.SpendsLaws.{Spends-reads, Spends-then, Spends-to}
 use Rattle.elf_headers.specs.Faults.{IsAt, Says}
 use Rattle.elf_model.specs.declared.causes.Refusal.{Refusal}
@@ -121,9 +122,19 @@ Spent-behind a b c out x y (Ok v) n m k within p q = (Spends-to (Spends-then (Sp
 Spent-behind a b c out x y (Err stop) n m k within p q =
     (Spends-to (Spends-then (Spends-reads x p) q.0) (omega (arith, p.at_most, q.0.account)), StopSays-then a b c out stop n (x + m) (x + k) (omega (arith, p.at_most)) p q.1)
 
+-- a call behind one that has its own credit, in a bound on both
+pub Spent-then : {X : Type 0} (a b c : Counting) (out : Written) (x y z : ℕ) (result : Result X Stop) (n m k : ℕ) → n + m ≤ k → Spends a b x y n → Spent b c out y z result m → Spent a c out x z result k
+Spent-then a b c out x y z (Ok v) n m k within p q = (Spends-to (Spends-then p q.0) (omega (arith, p.account, q.0.account)), tt)
+Spent-then a b c out x y z (Err stop) n m k within p q =
+    (Spends-to (Spends-then p q.0) (omega (arith, p.account, q.0.account)), StopSays-then a b c out stop (x + n) (y + m) (x + k) (omega (arith, p.account)) p.reads q.1)
+
 -- a read that failed and took nothing of the credit, in a looser bound
 pub Spent-fault : (a b : Counting) (out : Written) (x : ℕ) (fault : Fault) (n k : ℕ) → n ≤ k → Reads a b n → Says a b n fault → Spent {X = Unit {0}} a b out x x (Err (stop_of fault)) k
 Spent-fault a b out x fault n k within p q = (Spends-reads x (Reads-to p (omega (arith, p.at_most))), StopSays-fault a b out fault n (x + k) (omega arith) q)
+
+-- a read that failed, in a looser bound
+pub Spent-failed : (a b : Counting) (out : Written) (x y : ℕ) (fault : Fault) (n k : ℕ) → n ≤ k → Spends a b x y n → Says a b (x + n) fault → Spent {X = Unit {0}} a b out x y (Err (stop_of fault)) k
+Spent-failed a b out x y fault n k within p q = (Spends-to p (omega (arith, p.account)), StopSays-fault a b out fault (x + n) (x + k) (omega arith) q)
 
 -- the output failed after reads
 pub Costs-out : (a b : Counting) (out : Written) (stop : Stop) (n k : ℕ) → n ≤ k → Reads a b n → IsOfOutput out stop → Costs {X = Unit {0}} a b out (Err stop) k

@@ -1,5 +1,5 @@
 -- The kinds of tables whose rows are listed.
-use Rattle.std.specs.Prelude.{ℕ, ◌≡◌, ◌+◌, ◌*◌, ◌^◌, ◌<◌, List, Some, Result, IfSome}
+use Rattle.std.specs.Prelude.{ℕ, ◌≡◌, ◌+◌, ◌*◌, ◌^◌, ◌<◌, List, Some, Result, IfSome, length}
 use Rattle.elf_model.specs.Bytes.{slice}
 use Rattle.elf_model.specs.Dynamic.{dynamic_at}
 use Rattle.elf_model.specs.Records.{e_phoff, e_machine, sh_offset, section_at}
@@ -13,7 +13,7 @@ use Rattle.elf_table.specs.Relocations.{RefersTo}
 use Rattle.elf_table.specs.Tables.{Rows, RowsWithin, StringsWithin, SymbolsWithin, strings_in}
 use Rattle.elf_table.specs.declared.row.Row.{Row}
 use Rattle.elf_listing.specs.RowCursors.{rows_listed}
-use Rattle.elf_listing.specs.Shows.{Writes}
+use Rattle.elf_listing.specs.Shows.{Lists, Writes}
 use Rattle.elf_listing.specs.Strings.{strings_told, AreWithin, AreOf}
 use Rattle.elf_listing.specs.declared.listing.Listing.{Listing}
 use Rattle.elf_listing.specs.declared.rows.Kind.{Kind}
@@ -81,14 +81,22 @@ pub record IsRowOf (file : List ℕ) (table_at : ℕ) (kind : Kind) (row : Row) 
   pub bytes : row.bytes.now ≡ slice file row.at (row_size kind)
   pub here : row.at ≡ table_at + row.index * row_size kind
 
--- what a call wrote of a row: where the row is the file's, its items
-abbrev pub OfRow : {S W X : Type 0} {s : Sources S} {w : Sinks W} → Listing S W s w → Listing S W s w → Result X Stop → Row → Kind → Type 0
-OfRow old new result row kind =
-    (file : List ℕ) → old.src.now.seen.file ≡ Some file → (table_at : ℕ) → KindOf file table_at kind → IsRowOf file table_at kind row
-    → Writes old.out.now new.out.now result (row_items kind file old.cap.bytes table_at row.index)
+-- a row is one of a kind: it is whole, its index fits, and the tables that its names are read from lie within a source of this size
+pub record RowFits (size : ℕ) (kind : Kind) (row : Row) : Type 0 where
+  pub whole : length row.bytes.now ≡ row_size kind
+  pub within : KindWithin size kind
+  pub fits : IndexFits kind row.index
 
--- what it wrote of a table's rows: where the table is the file's, the items of all that are listed
-abbrev pub OfRows : {S W X : Type 0} {s : Sources S} {w : Sinks W} → Listing S W s w → Listing S W s w → Result X Stop → Rows → Kind → Type 0
-OfRows old new result table kind =
-    (file : List ℕ) → old.src.now.seen.file ≡ Some file → (0 < table.count → KindOf file table.at kind)
-    → Writes old.out.now new.out.now result (each (row_items kind file old.cap.bytes table.at) 0 (rows_listed kind file table))
+-- what a call did that shows a row: where the row is the file's, its items
+abbrev pub ListsRow : {S W X : Type 0} {s : Sources S} {w : Sinks W} → Listing S W s w → Listing S W s w → Result X Stop → Kind → Row → Type 0
+ListsRow old new result kind row =
+    Lists old new result (own_cost kind old.cap.bytes)
+    ((file : List ℕ) → old.src.now.seen.file ≡ Some file → (table_at : ℕ) → KindOf file table_at kind → IsRowOf file table_at kind row
+    → Writes old.out.now new.out.now result (row_items kind file old.cap.bytes table_at row.index))
+
+-- what a call did that shows the rows of a table: where the table is the file's, the items of all that are listed
+abbrev pub ListsRows : {S W X : Type 0} {s : Sources S} {w : Sinks W} → Listing S W s w → Listing S W s w → Result X Stop → Kind → Rows → Type 0
+ListsRows old new result kind table =
+    Lists old new result (rows_cost kind table old.cap.bytes)
+    ((file : List ℕ) → old.src.now.seen.file ≡ Some file → (0 < table.count → KindOf file table.at kind)
+    → Writes old.out.now new.out.now result (each (row_items kind file old.cap.bytes table.at) 0 (rows_listed kind file table)))

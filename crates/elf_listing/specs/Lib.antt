@@ -1,3 +1,4 @@
+pub mod Fetched
 pub mod HeadersListed
 pub mod Kinds
 pub mod Notes

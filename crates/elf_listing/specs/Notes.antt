@@ -2,14 +2,16 @@
 use Rattle.std.specs.Prelude.{ℕ, ◌≡◌, List, [], ◌∷◌, ◌++◌, length, take, Result}
 use Rattle.elf_model.specs.Lines.{SHOWN_DESCRIPTOR}
 use Rattle.elf_model.specs.Listing.{Item}
-use Rattle.elf_model.specs.Notes.{Note, Walk, note_shown}
+use Rattle.elf_model.specs.Bytes.{slice}
+use Rattle.elf_model.specs.Notes.{Note, Walk, note_align, note_shown, walked}
 use Rattle.elf_model.specs.Rows.{note_row, walk_rows}
 use Rattle.elf_note.specs.NoteCursors.{NameIs}
 use Rattle.elf_note.specs.declared.row.NoteRow.{NoteRow}
 use Rattle.elf_source.specs.Output.{Written}
 use Rattle.elf_source.specs.declared.source.Source.{Ghosts as Sources}
 use Rattle.elf_source.specs.declared.sink.Sink.{Ghosts as Sinks}
-use Rattle.elf_listing.specs.Shows.{WroteItems, Writes}
+use Rattle.elf_table.specs.Tables.{Rows}
+use Rattle.elf_listing.specs.Shows.{Lists, Shows, WroteItems, Writes}
 use Rattle.elf_listing.specs.declared.listing.Listing.{Listing}
 use Rattle.elf_listing.specs.declared.stop.Stop.{Stop}
 
@@ -21,10 +23,16 @@ pub record IsNote (cap : ℕ) (note : Note) (row : NoteRow) (name : List ℕ) : 
   pub descsz : row.head.descsz ≡ length note.descriptor
   pub first_bytes : row.desc.now ≡ take SHOWN_DESCRIPTOR note.descriptor
 
--- what a call wrote of a note, whose header has an index: its row
-abbrev pub OfNote : {S W X : Type 0} {s : Sources S} {w : Sinks W} → Listing S W s w → Listing S W s w → Result X Stop → NoteRow → ℕ → Type 0
-OfNote old new result row index =
-    (cap : ℕ) (note : Note) → IsNote cap note row old.name → Writes old.out.now new.out.now result (note_row cap index note ∷ [])
+-- what a call did that shows a note, whose header has an index: its row
+abbrev pub ListsNote : {S W X : Type 0} {s : Sources S} {w : Sinks W} → Listing S W s w → Listing S W s w → Result X Stop → NoteRow → ℕ → Type 0
+ListsNote old new result row index =
+    Lists old new result 0 ((cap : ℕ) (note : Note) → IsNote cap note row old.name → Writes old.out.now new.out.now result (note_row cap index note ∷ []))
+
+-- what a call did that shows the notes of a table: the rows of all, up to the place where no note stands
+abbrev pub ListsNotes : {S W X : Type 0} {s : Sources S} {w : Sinks W} → Listing S W s w → Listing S W s w → Result X Stop → Rows → ℕ → ℕ → Type 0
+ListsNotes old new result table align index =
+    Lists old new result table.count
+    (Shows old new result (λ file. walk_rows old.cap.bytes index table.at (walked (note_align align) (slice file table.at table.count))))
 
 -- the rows of notes whose places are file offsets
 abbrev pub note_items : ℕ → ℕ → Walk → List Item

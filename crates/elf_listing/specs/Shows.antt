@@ -8,6 +8,7 @@ use Rattle.elf_model.specs.declared.causes.Cause.{Cause}
 use Rattle.elf_model.specs.declared.causes.Refusal.{Refusal}
 use Rattle.elf_source.specs.Source.{Counting, Reads, Faults}
 use Rattle.elf_source.specs.Output.{Written, Takes, TakesFront, OutFails}
+use Rattle.elf_source.specs.Growth.{Grows}
 use Rattle.elf_source.specs.declared.source.Source.{Ghosts as Sources}
 use Rattle.elf_source.specs.declared.sink.Sink.{Ghosts as Sinks}
 use Rattle.elf_names.specs.Ahead.{Spends}
@@ -82,11 +83,16 @@ pub record SameFile {S W : Type 0} {s : Sources S} {w : Sinks W} (old new : List
 abbrev pub Spent : {X : Type 0} → Counting → Counting → Written → ℕ → ℕ → Result X Stop → ℕ → Type 0
 Spent old new out before after result n = Spends old new before after n × IfErr result (StopSays old new out (before + n))
 
--- WHAT A CALL OF A LISTING DID, for every source
-abbrev pub Lists : {S W X : Type 0} {s : Sources S} {w : Sinks W} → Listing S W s w → Listing S W s w → Result X Stop → ℕ → Type 0
-Lists old new result n = SameFile old new × Spent old.src.now new.src.now new.out.now old.ahead.credit new.ahead.credit result n
+-- WHAT A CALL OF A LISTING DID. For every source: what was written stays, the listing is still of the same file, and no more than
+-- n bytes were asked for. And what it showed
+pub record Lists {S W X : Type 0} {s : Sources S} {w : Sinks W} (old new : Listing S W s w) (result : Result X Stop) (n : ℕ) (shown : Type 0) : Type 0 where
+  pub grows : Grows old.out.now new.out.now
+  pub keeps : SameFile old new
+  pub spent : Spent old.src.now new.src.now new.out.now old.ahead.credit new.ahead.credit result n
+  pub shows : shown
 
--- WHAT A CALL THAT WRITES NOTHING DID, for every source: the same, and a fault says what is so
+-- WHAT A CALL THAT WRITES NOTHING DID, for every source: the listing is still of the same file, no more than n bytes were asked
+-- for, and a fault says what is so
 abbrev pub Fetches : {S W X : Type 0} {s : Sources S} {w : Sinks W} → Listing S W s w → Listing S W s w → Result X Failure → ℕ → Type 0
 Fetches old new result n =
     SameFile old new × (new.out.now ≡ old.out.now) × Spends old.src.now new.src.now old.ahead.credit new.ahead.credit n
@@ -101,7 +107,7 @@ abbrev pub cut_of : NameEnd → Bool
 cut_of NameWhole = false
 cut_of NameCut = true
 
--- what it wrote of a line that ends in the name that was read: the line with what is shown of the name
-abbrev pub OfName : {S W X : Type 0} {s : Sources S} {w : Sinks W} → Listing S W s w → Listing S W s w → Result X Stop → List ℕ → NameEnd → Type 0
-OfName old new result front end =
-    (at : ℕ) (answer : Result Shown Cause) → NameRead at (Ok end) old.name answer → Writes old.out.now new.out.now result (named_row front at answer)
+-- what a call did that writes a line that ends in the name that was read: the line with what is shown of the name
+abbrev pub ListsLine : {S W X : Type 0} {s : Sources S} {w : Sinks W} → Listing S W s w → Listing S W s w → Result X Stop → List ℕ → NameEnd → Type 0
+ListsLine old new result front end =
+    Lists old new result 0 ((at : ℕ) (answer : Result Shown Cause) → NameRead at (Ok end) old.name answer → Writes old.out.now new.out.now result (named_row front at answer))

@@ -1,5 +1,5 @@
 -- The strings that dynamic entries tell of.
-use Rattle.std.specs.Prelude.{ℕ, ◌≡◌, Bool, true, false, List, Result, Ok, Err}
+use Rattle.std.specs.Prelude.{ℕ, ◌≡◌, Bool, true, false, List, Result, Ok, Err, IfOk, IfErr}
 use Rattle.elf_model.specs.Mapped.{strings_at}
 use Rattle.elf_model.specs.Names.{Shown, shown}
 use Rattle.elf_model.specs.Records.{d_tag, d_un}
@@ -8,6 +8,7 @@ use Rattle.elf_model.specs.declared.causes.Cause.{Cause}
 use Rattle.elf_model.specs.declared.causes.Refusal.{Refusal}
 use Rattle.elf_table.specs.NamesRead.{NameRead}
 use Rattle.elf_table.specs.Tables.{Strings, StringsWithin, strings_in}
+use Rattle.elf_headers.specs.Faults.{IsOfCheck}
 use Rattle.elf_headers.specs.Load.{Views}
 use Rattle.elf_headers.specs.declared.fault.Fault.{Fault as Failure}
 use Rattle.elf_headers.specs.declared.fault.Fault.TheVariants.{Refused}
@@ -36,6 +37,13 @@ FoundAs file (Ok names) (Ok table) = strings_in file names ≡ table
 FoundAs file (Ok names) (Err refusal) = ⊥
 FoundAs file (Err fault) (Ok table) = ⊥
 FoundAs file (Err fault) (Err refusal) = fault ≡ Refused refusal
+
+-- THE STRING TABLE OF AN ENTRY, which was looked for at its offset: the one that is told, or its refusal; it lies within the source,
+-- and a refusal is a check's
+pub record FindsStrings (strings : EntryStrings) (at : ℕ) (result : Result Strings Failure) : Type 0 where
+  pub told : (file : List ℕ) → AreOf file strings → FoundAs file result (strings_told strings file at)
+  pub within : (size : ℕ) → AreWithin size strings → IfOk result (StringsWithin size)
+  pub refusal : IfErr result IsOfCheck
 
 -- the string of the entry at an offset, as it is shown; the refusal where its string table is refused
 abbrev pub told_by : Bool → Result (List ℕ) Refusal → (List ℕ → Result Shown Cause) → Result (Result Shown Cause) Refusal

@@ -1,8 +1,9 @@
 -- The program headers that are loaded beside a file: where they describe its tables.
-use Rattle.std.specs.Prelude.{ℕ, ◌≡◌, ◌*◌, ◌<◌, ◌==◌, ◌&&◌, ◌||◌, Bool, List, Option, Some, if◌then◌else◌}
+use Rattle.std.specs.Prelude.{ℕ, ◌≡◌, ◌*◌, ◌<◌, ◌≤◌, ◌==◌, ◌&&◌, ◌||◌, Bool, List, Option, Some, if◌then◌else◌}
 use Rattle.elf_model.specs.Cost.{cost_where}
 use Rattle.elf_model.specs.Listing.{has, SEGMENTS, NOTES, DYNAMIC}
-use Rattle.elf_headers.specs.Load.{Opened}
+use Rattle.elf_source.specs.Source.{Counting}
+use Rattle.elf_headers.specs.Load.{IsOpen, Opened, SegmentsWithin}
 use Rattle.elf_headers.specs.Store.{Stored, HoldsSegments}
 
 -- the parts of a file without sections need its program headers
@@ -21,3 +22,17 @@ view_cost parts loaded = cost_where (needs_view parts loaded) (56 * loaded.heade
 pub record IsViewed (file : Option (List ℕ)) (loaded : Opened) (store : Stored) : Type 0 where
   pub all : 0 < store.segments → store.segments ≡ loaded.header.e_phnum
   pub held : (bytes : List ℕ) → file ≡ Some bytes → HoldsSegments bytes store
+
+-- what is so before the program headers of a file are loaded: its section headers are in the store, which has room
+pub record AwaitsView (size : ℕ) (loaded : Opened) (store : Stored) : Type 0 where
+  pub whole : store.loaded ≡ loaded.header.e_shnum
+  pub none : store.segments ≡ 0
+  pub room : loaded.header.e_phnum ≤ store.slots
+  pub within : SegmentsWithin size loaded.header
+
+-- what is so where the tables of a file are listed: what was loaded is its source's, with the program headers where the parts need them
+pub record IsReady (parts : ℕ) (src : Counting) (loaded : Opened) (store : Stored) : Type 0 where
+  pub opened : IsOpen src loaded store
+  pub whole : store.loaded ≡ loaded.header.e_shnum
+  pub counted : store.segments ≡ viewed parts loaded
+  pub viewed : IsViewed src.seen.file loaded store

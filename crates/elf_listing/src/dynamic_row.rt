@@ -1,18 +1,12 @@
 //! The row of a dynamic entry, shown.
-ghost use Rattle.elf_source.specs.Growth.{Grows};
-ghost use Rattle.std.specs.Prelude.{◌≡◌, ℕ, List, Some, length, IfOk, IfErr};
-ghost use Rattle.elf_model.specs.Names.{name_bytes};
+ghost use Rattle.std.specs.Prelude.{◌≡◌, ℕ, List};
 ghost use Rattle.elf_model.specs.Records.{d_tag};
 ghost use Rattle.elf_model.specs.Rows.{is_string_tag};
 ghost use Rattle.elf_record.specs.Dyn.{IsDyn};
-ghost use Rattle.elf_headers.specs.Faults.{IsOfCheck};
-ghost use Rattle.elf_model.specs.Mapped.{strings_at};
-ghost use Rattle.elf_table.specs.Tables.{StringsWithin};
-ghost use Rattle.elf_headers.specs.Load.{Views};
-ghost use Rattle.elf_listing.specs.Kinds.{OfRow};
-ghost use Rattle.elf_listing.specs.Shows.{Fetches, Lists};
-ghost use Rattle.elf_listing.specs.Strings.{AreOf, AreWithin, FoundAs};
-ghost use Rattle.elf_listing.specs.Strings.{ToldRead, strings_told, told_name};
+ghost use Rattle.elf_listing.specs.Fetched.{FetchesString};
+ghost use Rattle.elf_listing.specs.Kinds.{ListsRow, RowFits};
+ghost use Rattle.elf_listing.specs.Strings.{AreWithin, FindsStrings};
+ghost use Rattle.elf_listing.specs.declared.dynamic_row.EntryStrings.TheVariants.{Mapped};
 ghost use Rattle.elf_listing.specs.declared.rows.Kind.TheVariants.{Dynamic};
 
 use crate::listing::Listing;
@@ -49,11 +43,8 @@ impl<S: Source, W: Sink> Listing<'_, '_, '_, S, W> {
         row: &Row<'_>,
         strings: &EntryStrings<'_>,
     ) -> Result<(), Stop>
-        requires whole { length row.now.bytes.now ≡ 16 }
-        requires within { AreWithin self.old.src.now.seen.size strings.now }
-        ensures grows { Grows self.old.out.now self.new.out.now }
-        ensures lists { Lists self.old self.new result (name_bytes self.old.cap.bytes) }
-        ensures shows { OfRow self.old self.new result row.now (Dynamic strings.now) }
+        requires { RowFits self.old.src.now.seen.size (Dynamic strings.now) row.now }
+        ensures { ListsRow self.old self.new result (Dynamic strings.now) row.now }
     {
         let entry = Dyn::decode(whole_row(row));
         let end = self.read_string(&entry, strings, row.at)?;
@@ -70,11 +61,7 @@ impl<S: Source, W: Sink> Listing<'_, '_, '_, S, W> {
         at: u64,
     ) -> Result<NameEnd, Fault>
         requires { AreWithin self.old.src.now.seen.size strings.now }
-        ensures fetches { Fetches self.old self.new result (name_bytes self.old.cap.bytes) }
-        ensures read { (file : List ℕ) → self.old.src.now.seen.file ≡ Some file →
-            AreOf file strings.now → IsDyn file at entry.now →
-            ToldRead at result self.new.name
-            (told_name (strings_told strings.now file) file self.old.cap.bytes at) }
+        ensures { FetchesString self.old self.new result entry.now strings.now at }
     {
         if !tells_of_string(entry) {
             self.name.clear();
@@ -88,10 +75,7 @@ impl<S: Source, W: Sink> Listing<'_, '_, '_, S, W> {
 
 /// The string table of the entry at the file offset `at`.
 fn strings_for(strings: &EntryStrings<'_>, at: u64) -> Result<Names, Fault>
-    ensures told { (file : List ℕ) → AreOf file strings.now →
-        FoundAs file result (strings_told strings.now file at) }
-    ensures within { (size : ℕ) → AreWithin size strings.now → IfOk result (StringsWithin size) }
-    ensures refusal { IfErr result IsOfCheck }
+    ensures { FindsStrings strings.now at result }
 {
     match strings {
         EntryStrings::Linked(names) => Ok(*names),
@@ -101,10 +85,7 @@ fn strings_for(strings: &EntryStrings<'_>, at: u64) -> Result<Names, Fault>
 
 /// The string table at the address that entries tell, for the entry at the file offset `at`.
 fn strings_mapped(view: &SegmentView<'_>, told: &DynStrings, at: u64) -> Result<Names, Fault>
-    ensures told { (file : List ℕ) → Views file view.now.loaded view.now.store.now →
-        FoundAs file result (strings_at file at told.now.address told.now.size) }
-    ensures within { IfOk result (StringsWithin view.now.loaded.size) }
-    ensures refusal { IfErr result IsOfCheck }
+    ensures { FindsStrings (Mapped view.now told.now) at result }
 {
     let Some(address) = told.address else {
         return refused(at, Cause::Unmapped);

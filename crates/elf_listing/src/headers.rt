@@ -1,7 +1,6 @@
 //! What is listed of each header, one header after another.
-ghost use Rattle.elf_source.specs.Growth.{Grows};
 ghost use Rattle.std.specs.Prelude.{◌≡◌, ◌<◌};
-ghost use Rattle.elf_listing.specs.HeadersListed.{ListsHeader, ListsPart, ShowsHeader, ShowsPart};
+ghost use Rattle.elf_listing.specs.HeadersListed.{ListsHeader, ListsPart};
 ghost use Rattle.elf_listing.specs.Parts.{header_count};
 
 use crate::listing::Listing;
@@ -12,9 +11,7 @@ use elf_source::{Sink, Source};
 impl<S: Source, W: Sink> Listing<'_, '_, '_, S, W> {
     /// Shows a part of each header in the order of the headers, up to the first that is refused.
     pub(crate) fn headers(&mut self, part: Part) -> Result<(), Stop>
-        ensures grows { Grows self.old.out.now self.new.out.now }
-        ensures lists { ListsPart part self.old self.new result }
-        ensures shows { ShowsPart part self.old self.new result }
+        ensures { ListsPart part self.old self.new result }
     {
         let count = self.header_count(part);
         let mut index = 0;
@@ -40,9 +37,7 @@ impl<S: Source, W: Sink> Listing<'_, '_, '_, S, W> {
     /// Shows a part of one header.
     fn header(&mut self, part: Part, index: u16) -> Result<(), Stop>
         requires { index < header_count part self.old.file.store.now }
-        ensures grows { Grows self.old.out.now self.new.out.now }
-        ensures lists { ListsHeader part self.old self.new result index }
-        ensures shows { ShowsHeader part self.old self.new result index }
+        ensures { ListsHeader part self.old self.new result index }
     {
         match part {
             Part::Headers => self.section_row(index),

@@ -1,10 +1,7 @@
 //! The names that rows refer to, read.
-ghost use Rattle.std.specs.Prelude.{◌≡◌, ℕ, List, Some, IfSome};
-ghost use Rattle.elf_model.specs.Names.{shown, name_bytes};
-ghost use Rattle.elf_table.specs.NamesRead.{NameRead};
-ghost use Rattle.elf_table.specs.Tables.{StringsWithin, strings_in};
-ghost use Rattle.elf_listing.specs.Parts.{name_cost, shown_in};
-ghost use Rattle.elf_listing.specs.Shows.{Fetches};
+ghost use Rattle.std.specs.Prelude.{Some, IfSome};
+ghost use Rattle.elf_table.specs.Tables.{StringsWithin};
+ghost use Rattle.elf_listing.specs.Fetched.{FetchesName};
 
 use crate::listing::Listing;
 use elf_names::NameIndex;
@@ -19,10 +16,7 @@ impl<S: Source, W: Sink> Listing<'_, '_, '_, S, W> {
     /// As for `ReadAhead::name`.
     pub(crate) fn read_name(&mut self, index: NameIndex) -> Result<NameEnd, Fault>
         requires { StringsWithin self.old.src.now.seen.size index.names }
-        ensures fetches { Fetches self.old self.new result (name_bytes self.old.cap.bytes) }
-        ensures read { (file : List ℕ) → self.old.src.now.seen.file ≡ Some file →
-            NameRead index.at result self.new.name
-            (shown (strings_in file index.names) index.off self.old.cap.bytes) }
+        ensures { FetchesName self.old self.new result (Some index.names) index.off index.at }
     {
         self.ahead.name(self.src, index, self.cap, &mut self.name)
     }
@@ -36,10 +30,7 @@ impl<S: Source, W: Sink> Listing<'_, '_, '_, S, W> {
         at: u64,
     ) -> Result<NameEnd, Fault>
         requires { IfSome names (StringsWithin self.old.src.now.seen.size) }
-        ensures fetches { Fetches self.old self.new result
-            (name_cost names self.old.cap.bytes) }
-        ensures read { (file : List ℕ) → self.old.src.now.seen.file ≡ Some file →
-            NameRead at result self.new.name (shown_in file names off self.old.cap.bytes) }
+        ensures { FetchesName self.old self.new result names off at }
     {
         let Some(names) = names else {
             self.name.clear();

@@ -1,12 +1,7 @@
 //! The notes of a table, shown one after another.
-ghost use Rattle.elf_source.specs.Growth.{Grows};
 ghost use Rattle.std.specs.Prelude.{◌≡◌, ◌≤◌, length};
-ghost use Rattle.elf_model.specs.Bytes.{slice};
-ghost use Rattle.elf_model.specs.Notes.{note_align, walked};
-ghost use Rattle.elf_model.specs.Rows.{walk_rows};
 ghost use Rattle.elf_table.specs.Tables.{RowsWithin};
-ghost use Rattle.elf_listing.specs.Notes.{OfNote};
-ghost use Rattle.elf_listing.specs.Shows.{Lists, Shows};
+ghost use Rattle.elf_listing.specs.Notes.{ListsNote, ListsNotes};
 
 use crate::listing::Listing;
 use crate::row::is_cut;
@@ -23,11 +18,7 @@ impl<S: Source, W: Sink> Listing<'_, '_, '_, S, W> {
     pub(crate) fn notes(&mut self, table: Table, align: u64, index: u16) -> Result<(), Stop>
         requires bytes { table.entry ≡ 1 }
         requires within { RowsWithin self.old.src.now.seen.size table }
-        ensures grows { Grows self.old.out.now self.new.out.now }
-        ensures lists { Lists self.old self.new result table.count }
-        ensures shows { Shows self.old self.new result (λ file.
-            walk_rows self.old.cap.bytes index table.at
-            (walked (note_align align) (slice file table.at table.count))) }
+        ensures { ListsNotes self.old self.new result table align index }
     {
         let mut cursor = NoteCursor::new(table, align);
         'notes: while cursor.advance(self.src, self.cap, &mut self.name)? {
@@ -39,9 +30,7 @@ impl<S: Source, W: Sink> Listing<'_, '_, '_, S, W> {
     /// Shows a note, whose name was read: its `N` line.
     fn note_row(&mut self, row: &NoteRow<'_>, index: u16) -> Result<(), Stop>
         requires { length row.now.desc.now ≤ 32 }
-        ensures grows { Grows self.old.out.now self.new.out.now }
-        ensures lists { Lists self.old self.new result 0 }
-        ensures shows { OfNote self.old self.new result row.now index }
+        ensures { ListsNote self.old self.new result row.now index }
     {
         let is_cut = is_cut(row.name_end);
         let name = self.name.bytes();

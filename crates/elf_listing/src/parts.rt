@@ -1,13 +1,8 @@
 //! The parts of a listing behind the file header, one after another.
-ghost use Rattle.elf_source.specs.Growth.{Grows};
-ghost use Rattle.std.specs.Prelude.{◌≡◌, ◌+◌, ◌++◌};
-ghost use Rattle.elf_model.specs.Listing.{where_asked, each, SEGMENTS};
-ghost use Rattle.elf_model.specs.Records.{e_phnum};
-ghost use Rattle.elf_model.specs.Report.{table_items};
-ghost use Rattle.elf_model.specs.Rows.{segment_row};
-ghost use Rattle.elf_listing.specs.Parts.{asked_cost, bit_of, header_count, part_items};
-ghost use Rattle.elf_listing.specs.Parts.{segments_listed, tables_listed};
-ghost use Rattle.elf_listing.specs.Shows.{Lists, Shows};
+ghost use Rattle.std.specs.Prelude.{◌≡◌};
+ghost use Rattle.elf_listing.specs.HeadersListed.{ListsAsked, ListsPair};
+ghost use Rattle.elf_listing.specs.HeadersListed.{ListsSegments, ListsTables};
+ghost use Rattle.elf_listing.specs.Parts.{bit_of};
 ghost use Rattle.elf_listing.specs.Viewed.{viewed};
 
 use crate::listing::Listing;
@@ -44,11 +39,7 @@ impl<S: Source, W: Sink> Listing<'_, '_, '_, S, W> {
     /// refusal.
     pub(crate) fn tables(&mut self, parts: Parts) -> Result<(), Stop>
         requires { self.old.file.store.now.segments ≡ viewed parts.0 self.old.file.loaded }
-        ensures grows { Grows self.old.out.now self.new.out.now }
-        ensures lists { let f = self.old.file in Lists self.old self.new result
-            (tables_listed parts.0 f.loaded f.store.now self.old.cap.bytes) }
-        ensures shows { Shows self.old self.new result
-            (λ file. table_items file self.old.cap.bytes parts.0) }
+        ensures { ListsTables parts.0 self.old self.new result }
     {
         self.part(parts, Part::Headers)?;
         self.segments(parts)?;
@@ -59,17 +50,7 @@ impl<S: Source, W: Sink> Listing<'_, '_, '_, S, W> {
 
     /// Shows two parts, one behind the other.
     fn pair(&mut self, parts: Parts, first: Part, second: Part) -> Result<(), Stop>
-        ensures grows { Grows self.old.out.now self.new.out.now }
-        ensures lists { let f = self.old.file in let cap = self.old.cap.bytes in
-            Lists self.old self.new result
-            (asked_cost parts.0 first f.loaded f.store.now cap
-            + asked_cost parts.0 second f.loaded f.store.now cap) }
-        ensures shows { let cap = self.old.cap.bytes in let store = self.old.file.store.now in
-            Shows self.old self.new result (λ file.
-            where_asked parts.0 (bit_of first)
-            (part_items first cap (header_count first store) file)
-            ++ where_asked parts.0 (bit_of second)
-            (part_items second cap (header_count second store) file)) }
+        ensures { ListsPair parts.0 first second self.old self.new result }
     {
         self.part(parts, first)?;
         self.part(parts, second)
@@ -77,12 +58,7 @@ impl<S: Source, W: Sink> Listing<'_, '_, '_, S, W> {
 
     /// Shows a part of each header, where the parts have it.
     fn part(&mut self, parts: Parts, part: Part) -> Result<(), Stop>
-        ensures grows { Grows self.old.out.now self.new.out.now }
-        ensures lists { let f = self.old.file in Lists self.old self.new result
-            (asked_cost parts.0 part f.loaded f.store.now self.old.cap.bytes) }
-        ensures shows { let count = header_count part self.old.file.store.now in
-            Shows self.old self.new result (λ file. where_asked parts.0 (bit_of part)
-            (part_items part self.old.cap.bytes count file)) }
+        ensures { ListsAsked parts.0 part self.old self.new result }
     {
         if !parts.contains(bit(part)) {
             return Ok(());
@@ -94,11 +70,7 @@ impl<S: Source, W: Sink> Listing<'_, '_, '_, S, W> {
     /// Header). Those of a file without sections are in the store.
     fn segments(&mut self, parts: Parts) -> Result<(), Stop>
         requires { self.old.file.store.now.segments ≡ viewed parts.0 self.old.file.loaded }
-        ensures grows { Grows self.old.out.now self.new.out.now }
-        ensures lists { Lists self.old self.new result
-            (segments_listed parts.0 self.old.file.loaded) }
-        ensures shows { Shows self.old self.new result
-            (λ file. where_asked parts.0 SEGMENTS (each (segment_row file) 0 (e_phnum file))) }
+        ensures { ListsSegments parts.0 self.old self.new result }
     {
         if !parts.contains(Parts::SEGMENTS) {
             return Ok(());

@@ -1,13 +1,8 @@
 //! The row of a relocation entry, shown.
-ghost use Rattle.elf_source.specs.Growth.{Grows};
-ghost use Rattle.std.specs.Prelude.{◌≡◌, ◌+◌, ℕ, List, Some, Err, length, IfSome};
-ghost use Rattle.elf_model.specs.Names.{name_bytes};
-ghost use Rattle.elf_model.specs.Rows.{symbol_named};
-ghost use Rattle.elf_table.specs.NamesRead.{NameRead};
-ghost use Rattle.elf_table.specs.Relocations.{RefersTo};
+ghost use Rattle.std.specs.Prelude.{◌≡◌, Err, IfSome};
 ghost use Rattle.elf_table.specs.Tables.{SymbolsWithin};
-ghost use Rattle.elf_listing.specs.Kinds.{OfRow};
-ghost use Rattle.elf_listing.specs.Shows.{Fetches, Lists};
+ghost use Rattle.elf_listing.specs.Fetched.{FetchesSymbol};
+ghost use Rattle.elf_listing.specs.Kinds.{ListsRow, RowFits};
 ghost use Rattle.elf_listing.specs.declared.rows.Kind.TheVariants.{Relocations};
 
 use crate::listing::Listing;
@@ -32,12 +27,9 @@ impl<S: Source, W: Sink> Listing<'_, '_, '_, S, W> {
         machine: u16,
         linked: Linked,
     ) -> Result<(), Stop>
-        requires whole { length row.now.bytes.now ≡ 24 }
-        requires within { IfSome linked (SymbolsWithin self.old.src.now.seen.size) }
-        ensures grows { Grows self.old.out.now self.new.out.now }
-        ensures lists { Lists self.old self.new result (24 + name_bytes self.old.cap.bytes) }
-        ensures shows { OfRow self.old self.new result row.now
-            (Relocations section machine linked) }
+        requires { let kind = Relocations section machine linked in
+            RowFits self.old.src.now.seen.size kind row.now }
+        ensures { ListsRow self.old self.new result (Relocations section machine linked) row.now }
     {
         let entry = Rela::decode(whole_row(row));
         let symbol = entry.symbol();
@@ -50,13 +42,7 @@ impl<S: Source, W: Sink> Listing<'_, '_, '_, S, W> {
     /// the symbol.
     fn read_symbol(&mut self, linked: Linked, symbol: u32, at: u64) -> Result<NameEnd, Fault>
         requires { IfSome linked (SymbolsWithin self.old.src.now.seen.size) }
-        ensures fetches { Fetches self.old self.new result
-            (24 + name_bytes self.old.cap.bytes) }
-        ensures unnamed { symbol ≡ 0 → self.new.src.now ≡ self.old.src.now }
-        ensures read { (file : List ℕ) (header : ℕ) → self.old.src.now.seen.file ≡ Some file →
-            RefersTo file header linked →
-            let named = symbol_named file self.old.cap.bytes header at symbol in
-            NameRead named.0 result self.new.name named.1 }
+        ensures { FetchesSymbol self.old self.new result linked symbol at }
     {
         if symbol == 0 {
             self.name.clear();

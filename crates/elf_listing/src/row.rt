@@ -1,10 +1,7 @@
 //! The row of a table, shown.
-ghost use Rattle.elf_source.specs.Growth.{Grows};
-ghost use Rattle.std.specs.Prelude.{◌≡◌, ◌^◌, ◌<◌, length};
-ghost use Rattle.elf_model.specs.Names.{name_bytes};
-ghost use Rattle.elf_table.specs.Tables.{StringsWithin};
-ghost use Rattle.elf_listing.specs.Kinds.{OfRow};
-ghost use Rattle.elf_listing.specs.Shows.{Lists, OfName, cut_of};
+ghost use Rattle.std.specs.Prelude.{◌≡◌, length};
+ghost use Rattle.elf_listing.specs.Kinds.{ListsRow, RowFits};
+ghost use Rattle.elf_listing.specs.Shows.{ListsLine, cut_of};
 ghost use Rattle.elf_listing.specs.declared.rows.Kind.TheVariants.{Segments, Symbols};
 
 use crate::listing::Listing;
@@ -18,11 +15,8 @@ use elf_table::{NameEnd, Names, Row};
 impl<S: Source, W: Sink> Listing<'_, '_, '_, S, W> {
     /// Shows the row of a program header: its `P` line.
     pub(crate) fn segment_row(&mut self, row: &Row<'_>) -> Result<(), Stop>
-        requires whole { length row.now.bytes.now ≡ 56 }
-        requires few { row.now.index < 2 ^ 16 }
-        ensures grows { Grows self.old.out.now self.new.out.now }
-        ensures lists { Lists self.old self.new result 0 }
-        ensures shows { OfRow self.old self.new result row.now Segments }
+        requires { RowFits self.old.src.now.seen.size Segments row.now }
+        ensures { ListsRow self.old self.new result Segments row.now }
     {
         let header = Phdr::decode(whole_row(row));
         self.out.put(&segment_row(row.index as u16, &header))?;
@@ -37,11 +31,8 @@ impl<S: Source, W: Sink> Listing<'_, '_, '_, S, W> {
         section: u16,
         names: &Names,
     ) -> Result<(), Stop>
-        requires whole { length row.now.bytes.now ≡ 24 }
-        requires within { StringsWithin self.old.src.now.seen.size names.now }
-        ensures grows { Grows self.old.out.now self.new.out.now }
-        ensures lists { Lists self.old self.new result (name_bytes self.old.cap.bytes) }
-        ensures shows { OfRow self.old self.new result row.now (Symbols section names.now) }
+        requires { RowFits self.old.src.now.seen.size (Symbols section names.now) row.now }
+        ensures { ListsRow self.old self.new result (Symbols section names.now) row.now }
     {
         let symbol = Sym::decode(whole_row(row));
         let off = u64::from(symbol.st_name);
@@ -55,9 +46,7 @@ impl<S: Source, W: Sink> Listing<'_, '_, '_, S, W> {
 
     /// Writes a line that ends in the name that was read.
     pub(crate) fn named_line(&mut self, front: Line, end: NameEnd) -> Result<(), Stop>
-        ensures grows { Grows self.old.out.now self.new.out.now }
-        ensures lists { Lists self.old self.new result 0 }
-        ensures shows { OfName self.old self.new result front.items end }
+        ensures { ListsLine self.old self.new result front.items end }
     {
         show_named(front, self.name.bytes(), is_cut(end), self.out)?;
         Ok(())

@@ -1,9 +1,5 @@
 //! The rows of a table, shown one after another.
-ghost use Rattle.elf_source.specs.Growth.{Grows};
-ghost use Rattle.std.specs.Prelude.{◌≡◌, length};
-ghost use Rattle.elf_listing.specs.Kinds.{row_size, own_cost, rows_cost, KindWithin};
-ghost use Rattle.elf_listing.specs.Kinds.{IndexFits, IsTableOf, OfRow, OfRows};
-ghost use Rattle.elf_listing.specs.Shows.{Lists};
+ghost use Rattle.elf_listing.specs.Kinds.{IsTableOf, ListsRow, ListsRows, RowFits};
 
 use crate::dynamic_row::EntryStrings;
 use crate::listing::Listing;
@@ -45,10 +41,7 @@ impl<S: Source, W: Sink> Listing<'_, '_, '_, S, W> {
     /// refused.
     pub(crate) fn rows(&mut self, table: Table, kind: &Kind<'_>) -> Result<(), Stop>
         requires { IsTableOf self.old.src.now.seen.size kind.now table }
-        ensures grows { Grows self.old.out.now self.new.out.now }
-        ensures lists { Lists self.old self.new result
-            (rows_cost kind.now table self.old.cap.bytes) }
-        ensures shows { OfRows self.old self.new result table kind.now }
+        ensures { ListsRows self.old self.new result kind.now table }
     {
         let mut cursor = RowCursor::new(table, kind);
         'rows: while cursor.advance(self.src)? {
@@ -59,12 +52,8 @@ impl<S: Source, W: Sink> Listing<'_, '_, '_, S, W> {
 
     /// Shows one row.
     fn row(&mut self, row: &Row<'_>, kind: &Kind<'_>) -> Result<(), Stop>
-        requires whole { length row.now.bytes.now ≡ row_size kind.now }
-        requires within { KindWithin self.old.src.now.seen.size kind.now }
-        requires fits { IndexFits kind.now row.now.index }
-        ensures grows { Grows self.old.out.now self.new.out.now }
-        ensures lists { Lists self.old self.new result (own_cost kind.now self.old.cap.bytes) }
-        ensures shows { OfRow self.old self.new result row.now kind.now }
+        requires { RowFits self.old.src.now.seen.size kind.now row.now }
+        ensures { ListsRow self.old self.new result kind.now row.now }
     {
         match kind {
             Kind::Segments => self.segment_row(row),

@@ -1,7 +1,6 @@
 //! What is listed of a section.
-ghost use Rattle.elf_source.specs.Growth.{Grows};
 ghost use Rattle.std.specs.Prelude.{◌<◌};
-ghost use Rattle.elf_listing.specs.HeadersListed.{ListsHeader, ShowsHeader};
+ghost use Rattle.elf_listing.specs.HeadersListed.{ListsHeader};
 ghost use Rattle.elf_listing.specs.declared.parts.Part.TheVariants.{Headers, Symbols};
 ghost use Rattle.elf_listing.specs.declared.parts.Part.TheVariants.{Relocations};
 ghost use Rattle.elf_listing.specs.declared.parts.Part.TheVariants.{SectionNotes, SectionDynamic};
@@ -21,9 +20,7 @@ impl<S: Source, W: Sink> Listing<'_, '_, '_, S, W> {
     /// section header (gABI 4, Section Header).
     pub(crate) fn section_row(&mut self, section: u16) -> Result<(), Stop>
         requires { section < self.old.file.store.now.loaded }
-        ensures grows { Grows self.old.out.now self.new.out.now }
-        ensures lists { ListsHeader Headers self.old self.new result section }
-        ensures shows { ShowsHeader Headers self.old self.new result section }
+        ensures { ListsHeader Headers self.old self.new result section }
     {
         let header = self.file.section(section);
         let place = self.file.place(section);
@@ -37,9 +34,7 @@ impl<S: Source, W: Sink> Listing<'_, '_, '_, S, W> {
     /// refusal of its table, of its string table or of a name (gABI 4, Symbol Table).
     pub(crate) fn symbols(&mut self, section: u16) -> Result<(), Stop>
         requires { section < self.old.file.store.now.loaded }
-        ensures grows { Grows self.old.out.now self.new.out.now }
-        ensures lists { ListsHeader Symbols self.old self.new result section }
-        ensures shows { ShowsHeader Symbols self.old self.new result section }
+        ensures { ListsHeader Symbols self.old self.new result section }
     {
         if !holds_symbols(&self.file.section(section)) {
             return Ok(());
@@ -54,9 +49,7 @@ impl<S: Source, W: Sink> Listing<'_, '_, '_, S, W> {
     /// Relocation).
     pub(crate) fn relocations(&mut self, section: u16) -> Result<(), Stop>
         requires { section < self.old.file.store.now.loaded }
-        ensures grows { Grows self.old.out.now self.new.out.now }
-        ensures lists { ListsHeader Relocations self.old self.new result section }
-        ensures shows { ShowsHeader Relocations self.old self.new result section }
+        ensures { ListsHeader Relocations self.old self.new result section }
     {
         if self.file.section(section).sh_type != SHT_RELA {
             return Ok(());
@@ -78,9 +71,7 @@ impl<S: Source, W: Sink> Listing<'_, '_, '_, S, W> {
     /// table or of what stands in the place of a note (gABI 5, Note Section).
     pub(crate) fn section_notes(&mut self, section: u16) -> Result<(), Stop>
         requires { section < self.old.file.store.now.loaded }
-        ensures grows { Grows self.old.out.now self.new.out.now }
-        ensures lists { ListsHeader SectionNotes self.old self.new result section }
-        ensures shows { ShowsHeader SectionNotes self.old self.new result section }
+        ensures { ListsHeader SectionNotes self.old self.new result section }
     {
         let header = self.file.section(section);
         if header.sh_type != SHT_NOTE {
@@ -96,9 +87,7 @@ impl<S: Source, W: Sink> Listing<'_, '_, '_, S, W> {
     /// (gABI 5, Dynamic Section).
     pub(crate) fn section_dynamic(&mut self, section: u16) -> Result<(), Stop>
         requires { section < self.old.file.store.now.loaded }
-        ensures grows { Grows self.old.out.now self.new.out.now }
-        ensures lists { ListsHeader SectionDynamic self.old self.new result section }
-        ensures shows { ShowsHeader SectionDynamic self.old self.new result section }
+        ensures { ListsHeader SectionDynamic self.old self.new result section }
     {
         let header = self.file.section(section);
         if header.sh_type != SHT_DYNAMIC {

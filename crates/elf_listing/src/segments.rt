@@ -1,7 +1,6 @@
 //! What is listed of a program header of a file without sections.
-ghost use Rattle.elf_source.specs.Growth.{Grows};
 ghost use Rattle.std.specs.Prelude.{◌≡◌, ◌<◌};
-ghost use Rattle.elf_listing.specs.HeadersListed.{ListsHeader, ShowsHeader};
+ghost use Rattle.elf_listing.specs.HeadersListed.{ListsHeader};
 ghost use Rattle.elf_listing.specs.declared.parts.Part.TheVariants.{Segments, SegmentNotes};
 ghost use Rattle.elf_listing.specs.declared.parts.Part.TheVariants.{SegmentDynamic};
 
@@ -32,9 +31,7 @@ impl<'f, S: Source, W: Sink> Listing<'_, '_, 'f, S, W> {
     /// Header).
     pub(crate) fn segment_header(&mut self, segment: u16) -> Result<(), Stop>
         requires { segment < self.old.file.store.now.segments }
-        ensures grows { Grows self.old.out.now self.new.out.now }
-        ensures lists { ListsHeader Segments self.old self.new result segment }
-        ensures shows { ShowsHeader Segments self.old self.new result segment }
+        ensures { ListsHeader Segments self.old self.new result segment }
     {
         let header = self.view().segment(segment);
         self.out.put(&segment_row(segment, &header))?;
@@ -45,9 +42,7 @@ impl<'f, S: Source, W: Sink> Listing<'_, '_, 'f, S, W> {
     /// Section).
     pub(crate) fn segment_notes(&mut self, segment: u16) -> Result<(), Stop>
         requires { segment < self.old.file.store.now.segments }
-        ensures grows { Grows self.old.out.now self.new.out.now }
-        ensures lists { ListsHeader SegmentNotes self.old self.new result segment }
-        ensures shows { ShowsHeader SegmentNotes self.old self.new result segment }
+        ensures { ListsHeader SegmentNotes self.old self.new result segment }
     {
         let header = self.view().segment(segment);
         if header.p_type != PT_NOTE {
@@ -63,9 +58,7 @@ impl<'f, S: Source, W: Sink> Listing<'_, '_, 'f, S, W> {
     /// and the size, and once more to be shown (gABI 5, Dynamic Section).
     pub(crate) fn segment_dynamic(&mut self, segment: u16) -> Result<(), Stop>
         requires { segment < self.old.file.store.now.segments }
-        ensures grows { Grows self.old.out.now self.new.out.now }
-        ensures lists { ListsHeader SegmentDynamic self.old self.new result segment }
-        ensures shows { ShowsHeader SegmentDynamic self.old self.new result segment }
+        ensures { ListsHeader SegmentDynamic self.old self.new result segment }
     {
         let view = self.view();
         if view.segment(segment).p_type != PT_DYNAMIC {

@@ -11,10 +11,10 @@ ghost use Rattle.elf_model.specs.Listing.{SEGMENTS, NOTES, DYNAMIC};
 ghost use Rattle.elf_model.specs.Report.{items, load_items, table_items};
 ghost use Rattle.elf_record.specs.Ehdr.{IsEhdr};
 ghost use Rattle.elf_listing.specs.Parts.{tables_listed};
-ghost use Rattle.elf_listing.specs.Viewed.{IsViewed, view_cost, viewed};
+ghost use Rattle.elf_listing.specs.Viewed.{AwaitsView, IsReady, view_cost, viewed};
 ghost use Rattle.elf_source.specs.Source.{Reads};
 ghost use Rattle.elf_headers.specs.Faults.{HeaderRead, IsOfRead, Says};
-ghost use Rattle.elf_headers.specs.Load.{Belongs, IsOpen, SegmentsWithin};
+ghost use Rattle.elf_headers.specs.Load.{Belongs};
 ghost use Rattle.elf_headers.specs.Store.{HoldsSegments};
 ghost use Rattle.elf_listing.specs.Reports.{Reports, FaultSays, AsksWithin, Leaves};
 ghost use Rattle.elf_listing.specs.Shows.{Costs, IsOfOutput, Writes};
@@ -155,10 +155,7 @@ fn load_view<S: Source>(
     loaded: &Loaded,
     parts: Parts,
 ) -> Result<(), Fault>
-    requires whole { store.old.loaded ≡ loaded.now.header.e_shnum }
-    requires none { store.old.segments ≡ 0 }
-    requires room { loaded.now.header.e_phnum ≤ store.old.slots }
-    requires within { SegmentsWithin src.old.seen.size loaded.now.header }
+    requires { AwaitsView src.old.seen.size loaded.now store.old }
     ensures slots { store.new.slots ≡ store.old.slots }
     ensures loaded { store.new.loaded ≡ store.old.loaded }
     ensures segments { OnOk result (store.new.segments ≡ viewed parts.0 loaded.now) }
@@ -193,10 +190,7 @@ fn list_tables<S: Source, W: Sink>(
     cap: Cap,
     parts: Parts,
 ) -> Result<(), Stop>
-    requires opened { IsOpen src.old loaded store.now }
-    requires whole { store.now.loaded ≡ loaded.header.e_shnum }
-    requires counted { store.now.segments ≡ viewed parts.0 loaded }
-    requires viewed { IsViewed src.old.seen.file loaded store.now }
+    requires { IsReady parts.0 src.old loaded store.now }
     ensures grows { Grows out.old out.new }
     ensures costs { Costs src.old src.new out.new result
         (tables_listed parts.0 loaded store.now cap.bytes) }

@@ -39,14 +39,15 @@ returns-in_err-loaded-clause-text g c = λ file held.
     let tables : has_tables c.args.parts.0 ≡ true = search rules in
     rw (p.1, p.2) (Stopped-first _ _ _ (load_alone file c.args.store.now.slots c.args.cap.bytes c.args.parts.0 _ _ (c.in_err-loaded.ensures.held file held (c.requires.header file held).1) c.load.ensures.slots tables))
 
-pub load_view-requires-clause-within : goal.load_view-requires-clause-within
-load_view-requires-clause-within g c =
+pub load_view-requires : goal.load_view-requires
+load_view-requires g c =
     let opens = c.in_ok-loaded.ensures.opens in
-    let within = opens.passes.segments in
-    rw (opens.same_header, c.load.ensures.reads.keeps.same_size) (λ some. let inside = within some in omega (arith, inside))
-
-pub load_view-requires-clause-room : goal.load_view-requires-clause-room
-load_view-requires-clause-room g c = let opens = c.in_ok-loaded.ensures.opens in rw opens.same_header opens.passes.few_segments
+    record {
+      whole = search rules;
+      none = search rules;
+      room = rw opens.same_header opens.passes.few_segments;
+      within = let within = opens.passes.segments in rw (opens.same_header, c.load.ensures.reads.keeps.same_size) (λ some. let inside = within some in omega (arith, inside));
+    }
 
 pub returns-in_err-load_view-clause-below : goal.returns-in_err-load_view-clause-below
 returns-in_err-load_view-clause-below g c =
@@ -77,25 +78,27 @@ returns-in_err-load_view-clause-text g c = λ file held.
     let p = err_from_is_err_and c.from_residual-in_err-load_view.result c.from_residual-in_err-load_view.ensures.1 in
     rw (p.1, p.2) (Stopped-unread-first _ _ _ c.in_err-load_view.ensures.fault)
 
-pub list_tables-requires-clause-opened : goal.list_tables-requires-clause-opened
-list_tables-requires-clause-opened g c =
+pub list_tables-requires : goal.list_tables-requires
+list_tables-requires g c =
     let reads = Reads-then c.load.ensures.reads c.load_view.ensures.reads in
     record {
-      size = c.in_ok-loaded.ensures.opens.same_size ∙ sym reads.keeps.same_size;
-      belongs = λ file held.
-          let before = sym reads.keeps.same_file ∙ held in
-          let loaded = sym c.load_view.ensures.reads.keeps.same_file ∙ held in
-          (c.in_ok-load_view.ensures.held file loaded (c.in_ok-loaded.ensures.held file before (c.requires.header file before).1)).0;
+      opened = record {
+        size = c.in_ok-loaded.ensures.opens.same_size ∙ sym reads.keeps.same_size;
+        belongs = λ file held.
+            let before = sym reads.keeps.same_file ∙ held in
+            let loaded = sym c.load_view.ensures.reads.keeps.same_file ∙ held in
+            (c.in_ok-load_view.ensures.held file loaded (c.in_ok-loaded.ensures.held file before (c.requires.header file before).1)).0;
+      };
+      whole = search rules;
+      counted = search rules;
+      viewed = record {
+        all = viewed_all c.args.parts.0 c.in_ok-loaded.loaded c.load_view.new.store c.in_ok-load_view.ensures.segments;
+        held = λ file held.
+            let loaded = sym c.load_view.ensures.reads.keeps.same_file ∙ held in
+            let before = sym c.load.ensures.reads.keeps.same_file ∙ loaded in
+            (c.in_ok-load_view.ensures.held file loaded (c.in_ok-loaded.ensures.held file before (c.requires.header file before).1)).1;
+      };
     }
-
-pub list_tables-requires-clause-viewed : goal.list_tables-requires-clause-viewed
-list_tables-requires-clause-viewed g c = record {
-  all = viewed_all c.args.parts.0 c.in_ok-loaded.loaded c.load_view.new.store c.in_ok-load_view.ensures.segments;
-  held = λ file held.
-      let loaded = sym c.load_view.ensures.reads.keeps.same_file ∙ held in
-      let before = sym c.load.ensures.reads.keeps.same_file ∙ loaded in
-      (c.in_ok-load_view.ensures.held file loaded (c.in_ok-loaded.ensures.held file before (c.requires.header file before).1)).1;
-}
 
 pub returns-clause-below : goal.returns-clause-below
 returns-clause-below g c =

@@ -1,27 +1,31 @@
-use Rattle.std.proofs.Common.{sym, ap, ◌∙◌}
+use Rattle.std.proofs.Common.{rules, sym, ap, ◌∙◌}
 use Rattle.std.proofs.lemmas.Result.{err_from_is_err_and}
 use Rattle.elf_lines.specs.Pieces.{shown_as}
 use Rattle.elf_listing.proofs.NotesShown.{named_as, note_is}
 use Rattle.elf_listing.proofs.RowLaws.{Whole-line, Stopped-line}
 use Rattle.elf_listing.proofs.listing.Listing.note_row.Goals as goal
 
-pub returns-in_err-show_note-clause-shows : goal.returns-in_err-show_note-clause-shows
-returns-in_err-show_note-clause-shows g c = λ cap note is.
-    let p = err_from_is_err_and c.from_residual.result c.from_residual.ensures.1 in
-    let shown = named_as _ _ _ is.named ∙ ap (λ b. shown_as b c.args.self.now.name) (sym c.is_cut-is_cut.ensures)
-    ∙ ap (shown_as c.is_cut-is_cut.result) (sym c.bytes-name.ensures.value) in
-    let puts = c.in_err-show_note.ensures.puts note.descriptor (record { first_is = is.first_bytes; size_is = is.descsz }) in
-    rw (p.1, p.2, note_is cap c.args.index _ _ _ _ note is.kind is.namesz is.descsz shown) (Stopped-line _ puts.0)
+pub returns-in_err-show_note : goal.returns-in_err-show_note
+returns-in_err-show_note g c = record {
+  grows = c.in_err-show_note.ensures.grows;
+  keeps = search rules;
+  spent = search rules;
+  shows = λ cap note is.
+      let p = err_from_is_err_and c.from_residual.result c.from_residual.ensures.1 in
+      let shown = named_as _ _ _ is.named ∙ ap (λ b. shown_as b c.args.self.now.name) (sym c.is_cut-is_cut.ensures)
+      ∙ ap (shown_as c.is_cut-is_cut.result) (sym c.bytes-name.ensures.value) in
+      let puts = c.in_err-show_note.ensures.puts note.descriptor (record { first_is = is.first_bytes; size_is = is.descsz }) in
+      rw (p.1, p.2, note_is cap c.args.index _ _ _ _ note is.kind is.namesz is.descsz shown) (Stopped-line _ puts.0);
+}
 
-pub returns-clause-shows : goal.returns-clause-shows
-returns-clause-shows g c = λ cap note is.
-    let shown = named_as _ _ _ is.named ∙ ap (λ b. shown_as b c.args.self.now.name) (sym c.is_cut-is_cut.ensures)
-    ∙ ap (shown_as c.is_cut-is_cut.result) (sym c.bytes-name.ensures.value) in
-    let puts = c.in_ok-show_note.ensures.puts note.descriptor (record { first_is = is.first_bytes; size_is = is.descsz }) in
-    rw (note_is cap c.args.index _ _ _ _ note is.kind is.namesz is.descsz shown) (Whole-line _ puts.0)
-
-pub returns-in_err-show_note-clause-grows : goal.returns-in_err-show_note-clause-grows
-returns-in_err-show_note-clause-grows g c = c.in_err-show_note.ensures.grows
-
-pub returns-clause-grows : goal.returns-clause-grows
-returns-clause-grows g c = c.in_ok-show_note.ensures.grows
+pub returns : goal.returns
+returns g c = record {
+  grows = c.in_ok-show_note.ensures.grows;
+  keeps = search rules;
+  spent = search rules;
+  shows = λ cap note is.
+      let shown = named_as _ _ _ is.named ∙ ap (λ b. shown_as b c.args.self.now.name) (sym c.is_cut-is_cut.ensures)
+      ∙ ap (shown_as c.is_cut-is_cut.result) (sym c.bytes-name.ensures.value) in
+      let puts = c.in_ok-show_note.ensures.puts note.descriptor (record { first_is = is.first_bytes; size_is = is.descsz }) in
+      rw (note_is cap c.args.index _ _ _ _ note is.kind is.namesz is.descsz shown) (Whole-line _ puts.0);
+}

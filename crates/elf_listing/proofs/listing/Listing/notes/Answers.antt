@@ -1,5 +1,5 @@
 -- Each note that the cursor gives is the file's, and is shown behind those before it.
-use Rattle.std.proofs.Common.{refl, ap, sym, ◌∙◌, arith}
+use Rattle.std.proofs.Common.{rules, refl, ap, sym, ◌∙◌, arith}
 use Rattle.std.proofs.lemmas.Result.{err_from_is_err_and}
 use Rattle.elf_model.specs.Bytes.{slice}
 use Rattle.elf_model.specs.Notes.{note_align}
@@ -32,32 +32,42 @@ notes-init g c =
           before_all _ _ _ (sym (ap (note_items cap c.args.index) all ∙ table_rows align cap c.args.index c.args.table.at (slice file c.args.table.at c.args.table.count)));
     }
 
-pub returns-in_err-advance-clause-shows : goal.returns-in_err-advance-clause-shows
-returns-in_err-advance-clause-shows g c = λ file held.
-    let p = err_from_is_err_and c.from_residual.result c.from_residual.ensures.1 in
-    let known = c.notes.invariant in
-    let now = known.spends.reads.keeps.same_file ∙ held in
-    let step = c.in_err-advance.ensures.steps in
-    let tells = rw known.same_align at (step.tells file now (known.agrees file held) known.not_failed) in
-    rw (p.1, p.2) (before_fault _ _ _ c.args.self.now.cap.bytes c.args.index _ _ _ (step.leaves.1 known.not_failed) tells (known.text file held))
+pub returns-in_err-advance : goal.returns-in_err-advance
+returns-in_err-advance g c = record {
+  grows = c.notes.invariant.grows;
+  keeps = search rules;
+  spent = search rules;
+  shows = λ file held.
+      let p = err_from_is_err_and c.from_residual.result c.from_residual.ensures.1 in
+      let known = c.notes.invariant in
+      let now = known.spends.reads.keeps.same_file ∙ held in
+      let step = c.in_err-advance.ensures.steps in
+      let tells = rw known.same_align at (step.tells file now (known.agrees file held) known.not_failed) in
+      rw (p.1, p.2) (before_fault _ _ _ c.args.self.now.cap.bytes c.args.index _ _ _ (step.leaves.1 known.not_failed) tells (known.text file held));
+}
 
-pub returns-in_err-note_row-clause-shows : goal.returns-in_err-note_row-clause-shows
-returns-in_err-note_row-clause-shows g c = λ file held.
-    let p = err_from_is_err_and c.from_residual-in_err-note_row.result c.from_residual-in_err-note_row.ensures.1 in
-    let known = c.notes.invariant in
-    let now = known.spends.reads.keeps.same_file ∙ held in
-    let step = rw c.if-branch.true at c.in_ok-advance.ensures.steps in
-    let tells = rw (known.same_align, known.keeps.same_cap) at (step.tells file now (known.agrees file held)) in
-    let note = note_of _ _ _ tells.0 _ c.row.result _ c.row.ensures.shows tells.2 in
-    let next = ap (note_items c.args.self.now.cap.bytes c.args.index) tells.1 ∙ note_left c.args.self.now.cap.bytes c.args.index tells.0 _ in
-    rw (p.1, p.2) (before_stopped _ _ _ _ _ _ _ _ next (known.text file held) (c.in_err-note_row.ensures.shows c.args.self.now.cap.bytes tells.0 note))
+pub returns-in_err-note_row : goal.returns-in_err-note_row
+returns-in_err-note_row g c = record {
+  grows = grows_then c.notes.invariant.grows c.in_err-note_row.ensures.grows;
+  keeps = search rules;
+  spent = search rules;
+  shows = λ file held.
+      let p = err_from_is_err_and c.from_residual-in_err-note_row.result c.from_residual-in_err-note_row.ensures.1 in
+      let known = c.notes.invariant in
+      let now = known.spends.reads.keeps.same_file ∙ held in
+      let step = rw c.if-branch.true at c.in_ok-advance.ensures.steps in
+      let tells = rw (known.same_align, known.keeps.same_cap) at (step.tells file now (known.agrees file held)) in
+      let note = note_of _ _ _ tells.0 _ c.row.result _ c.row.ensures.shows tells.2 in
+      let next = ap (note_items c.args.self.now.cap.bytes c.args.index) tells.1 ∙ note_left c.args.self.now.cap.bytes c.args.index tells.0 _ in
+      rw (p.1, p.2) (before_stopped _ _ _ _ _ _ _ _ next (known.text file held) (c.in_err-note_row.ensures.shows c.args.self.now.cap.bytes tells.0 note));
+}
 
 pub notes-preserved : goal.notes-preserved
 notes-preserved g c =
     let known = c.notes.invariant in
     let step = rw c.if-branch.true at c.in_ok-advance.ensures.steps in
-    let lists = c.in_ok-note_row.ensures.lists.0 in
-    let asks = c.in_ok-note_row.ensures.lists.1.0 in
+    let lists = c.in_ok-note_row.ensures.keeps in
+    let asks = c.in_ok-note_row.ensures.spent.0 in
     let reads = c.in_ok-advance.ensures.reads in
     let keeps = c.in_ok-advance.ensures.keeps in
     let account = keeps.moves.account in
@@ -85,13 +95,18 @@ notes-preserved g c =
           before_more _ _ _ _ next (known.text file held) (c.in_ok-note_row.ensures.shows c.args.self.now.cap.bytes tells.0 note);
     }
 
-pub returns-clause-shows : goal.returns-clause-shows
-returns-clause-shows g c = λ file held.
-    let known = c.notes.invariant in
-    let now = known.spends.reads.keeps.same_file ∙ held in
-    let step = rw c.if-branch.false at c.in_ok-advance.ensures.steps in
-    let tells = rw known.same_align at (step.tells file now (known.agrees file held)) in
-    before_none c.args.self.now.cap.bytes c.args.index _ _ tells (known.text file held)
+pub returns : goal.returns
+returns g c = record {
+  grows = c.notes.invariant.grows;
+  keeps = search rules;
+  spent = search rules;
+  shows = λ file held.
+      let known = c.notes.invariant in
+      let now = known.spends.reads.keeps.same_file ∙ held in
+      let step = rw c.if-branch.false at c.in_ok-advance.ensures.steps in
+      let tells = rw known.same_align at (step.tells file now (known.agrees file held)) in
+      before_none c.args.self.now.cap.bytes c.args.index _ _ tells (known.text file held);
+}
 
 pub invariant_of-self : goal.invariant_of-self
 invariant_of-self g c = record {
@@ -99,12 +114,3 @@ invariant_of-self g c = record {
   viewed = still_viewed _ _ c.advance.ensures.reads c.notes.self.viewed;
   held = still_held _ c.advance.ensures.reads c.notes.self.held;
 }
-
-pub returns-in_err-advance-clause-grows : goal.returns-in_err-advance-clause-grows
-returns-in_err-advance-clause-grows g c = c.notes.invariant.grows
-
-pub returns-in_err-note_row-clause-grows : goal.returns-in_err-note_row-clause-grows
-returns-in_err-note_row-clause-grows g c = grows_then c.notes.invariant.grows c.in_err-note_row.ensures.grows
-
-pub returns-clause-grows : goal.returns-clause-grows
-returns-clause-grows g c = c.notes.invariant.grows

@@ -5,16 +5,23 @@ use Rattle.elf_listing.proofs.ShowLaws.{Writes-then, Stopped-more}
 use Rattle.elf_source.proofs.GrowthLaws.{grows_then}
 use Rattle.elf_listing.proofs.listing.Listing.pair.Goals as goal
 
-pub returns-in_err-part-clause-shows : goal.returns-in_err-part-clause-shows
-returns-in_err-part-clause-shows g c = λ file held.
-    let p = err_from_is_err_and c.from_residual.result c.from_residual.ensures.1 in
-    rw (p.1, p.2) (Stopped-more _ _ _ _ _ (c.in_err-part.ensures.shows file held))
+pub returns-in_err-part : goal.returns-in_err-part
+returns-in_err-part g c = record {
+  grows = search rules;
+  keeps = search rules;
+  spent = search rules;
+  shows = λ file held.
+      let p = err_from_is_err_and c.from_residual.result c.from_residual.ensures.1 in
+      rw (p.1, p.2) (Stopped-more _ _ _ _ _ (c.in_err-part.ensures.shows file held));
+}
 
-pub returns-clause-shows : goal.returns-clause-shows
-returns-clause-shows g c = λ file held.
-    let first = c.in_ok-part.ensures.shows file held in
-    let second = rw (c.in_ok-part.ensures.lists.0.same_cap, c.in_ok-part.ensures.lists.0.same_file) at (c.part-2.ensures.shows file (search rules)) in
-    Writes-then _ _ _ _ _ _ first second
-
-pub returns-clause-grows : goal.returns-clause-grows
-returns-clause-grows g c = grows_then c.in_ok-part.ensures.grows c.part-2.ensures.grows
+pub returns : goal.returns
+returns g c = record {
+  grows = grows_then c.in_ok-part.ensures.grows c.part-2.ensures.grows;
+  keeps = search rules;
+  spent = search rules;
+  shows = λ file held.
+      let first = c.in_ok-part.ensures.shows file held in
+      let second = rw (c.in_ok-part.ensures.keeps.same_cap, c.in_ok-part.ensures.keeps.same_file) at (c.part-2.ensures.shows file (search rules)) in
+      Writes-then _ _ _ _ _ _ first second;
+}

@@ -1,5 +1,5 @@
 -- The name of a symbol by the cases of the definition.
-use Rattle.std.proofs.Common.{◌≡◌, ◌<◌, sym, ap, ◌∙◌, arith, Ok}
+use Rattle.std.proofs.Common.{rules, ◌≡◌, ◌<◌, sym, ap, ◌∙◌, arith, Ok}
 use Rattle.std.proofs.lemmas.Bool.{ne_eqb}
 use Rattle.elf_model.specs.Names.Shown.{Whole}
 use Rattle.elf_names.proofs.HeldLaws.{still_ahead}
@@ -9,30 +9,46 @@ use Rattle.elf_listing.proofs.SymbolNamed.{read_as, named_zero, named_unlinked, 
 use Rattle.elf_table.proofs.RelocationLaws.{refers, refers-nowhere}
 use Rattle.elf_listing.proofs.listing.Listing.read_symbol.Goals as goal
 
-pub returns-then-symbol-eq0-clause-read : goal.returns-then-symbol-eq0-clause-read
-returns-then-symbol-eq0-clause-read g c = λ file header held linked.
-    rw (named_zero file c.args.self.now.cap.bytes header c.args.at c.args.symbol c.if-symbol-eq0.true) (ap (λ name. Ok (Whole name)) (sym c.clear.ensures))
+pub returns-then-symbol-eq0 : goal.returns-then-symbol-eq0
+returns-then-symbol-eq0 g c = record {
+  fetches = search rules;
+  unnamed = search rules;
+  read = λ file header held linked.
+      rw (named_zero file c.args.self.now.cap.bytes header c.args.at c.args.symbol c.if-symbol-eq0.true) (ap (λ name. Ok (Whole name)) (sym c.clear.ensures));
+}
 
-pub returns-in_default-clause-read : goal.returns-in_default-clause-read
-returns-in_default-clause-read g c = λ file header held linked.
-    rw c.refused.ensures (refuses_as _ _ _ (named_unlinked file c.args.self.now.cap.bytes header c.args.at c.args.symbol (ne_eqb c.args.symbol 0 c.if-symbol-eq0.false) (refers-nowhere file header _ c.in_default.is linked)))
+pub returns-in_default : goal.returns-in_default
+returns-in_default g c = record {
+  fetches = search rules;
+  unnamed = search rules;
+  read = λ file header held linked.
+      rw c.refused.ensures (refuses_as _ _ _ (named_unlinked file c.args.self.now.cap.bytes header c.args.at c.args.symbol (ne_eqb c.args.symbol 0 c.if-symbol-eq0.false) (refers-nowhere file header _ c.in_default.is linked)));
+}
 
-pub returns-then-index-len-clause-read : goal.returns-then-index-len-clause-read
-returns-then-index-len-clause-read g c = λ file header held linked.
-    let to = refers file header _ c.in-Some.found c.in-Some.is linked in
-    let counted : c.len.result ≡ c.in-Some.found.0.count = c.len.ensures in
-    rw c.refused-then-index-len.ensures (refuses_as _ _ _ (named_beyond file c.args.self.now.cap.bytes header c.args.at c.args.symbol (ne_eqb c.args.symbol 0 c.if-symbol-eq0.false) to.0
-    (omega (arith, c.if-index-len.true, counted, c.from-index.ensures, to.1.counted))))
+pub returns-then-index-len : goal.returns-then-index-len
+returns-then-index-len g c = record {
+  fetches = search rules;
+  unnamed = search rules;
+  read = λ file header held linked.
+      let to = refers file header _ c.in-Some.found c.in-Some.is linked in
+      let counted : c.len.result ≡ c.in-Some.found.0.count = c.len.ensures in
+      rw c.refused-then-index-len.ensures (refuses_as _ _ _ (named_beyond file c.args.self.now.cap.bytes header c.args.at c.args.symbol (ne_eqb c.args.symbol 0 c.if-symbol-eq0.false) to.0
+      (omega (arith, c.if-index-len.true, counted, c.from-index.ensures, to.1.counted))));
+}
 
-pub returns-clause-read : goal.returns-clause-read
-returns-clause-read g c = λ file header held linked.
-    let to = refers file header _ c.in-Some.found c.in-Some.is linked in
-    let counted : c.len.result ≡ c.in-Some.found.0.count = c.len.ensures in
-    let below : c.args.symbol < c.in-Some.found.0.count = omega (arith, c.if-index-len.false, counted, c.from-index.ensures) in
-    let named = named_there file c.args.self.now.cap.bytes header c.args.at c.args.symbol (ne_eqb c.args.symbol 0 c.if-symbol-eq0.false) to.0 (omega (arith, below, to.1.counted)) in
-    let decoded = c.in_ok-entry.ensures.read file held (c.args.self.now.held file held) in
-    let place = found_there file c.args.self.now.cap.bytes header c.args.symbol _ _ _ c.in-Some.found.0 c.in-Some.found.1 to.1 (omega (arith, below)) c.from-index.ensures c.place.ensures (c.from.ensures ∙ decoded.st_name) in
-    read_as _ _ _ _ (named ∙ place) (c.read_name.ensures.read file (c.in_ok-entry.ensures.spends.reads.keeps.same_file ∙ held))
+pub returns : goal.returns
+returns g c = record {
+  fetches = search rules;
+  unnamed = search rules;
+  read = λ file header held linked.
+      let to = refers file header _ c.in-Some.found c.in-Some.is linked in
+      let counted : c.len.result ≡ c.in-Some.found.0.count = c.len.ensures in
+      let below : c.args.symbol < c.in-Some.found.0.count = omega (arith, c.if-index-len.false, counted, c.from-index.ensures) in
+      let named = named_there file c.args.self.now.cap.bytes header c.args.at c.args.symbol (ne_eqb c.args.symbol 0 c.if-symbol-eq0.false) to.0 (omega (arith, below, to.1.counted)) in
+      let decoded = c.in_ok-entry.ensures.read file held (c.args.self.now.held file held) in
+      let place = found_there file c.args.self.now.cap.bytes header c.args.symbol _ _ _ c.in-Some.found.0 c.in-Some.found.1 to.1 (omega (arith, below)) c.from-index.ensures c.place.ensures (c.from.ensures ∙ decoded.st_name) in
+      read_as _ _ _ _ (named ∙ place) (c.read_name.ensures.read file (c.in_ok-entry.ensures.spends.reads.keeps.same_file ∙ held));
+}
 
 pub invariant_of-self-2 : goal.invariant_of-self-2
 invariant_of-self-2 g c = record {

@@ -1,5 +1,5 @@
 -- Each row that the cursor gives is the file's, and is shown behind those before it.
-use Rattle.std.proofs.Common.{◌≡◌, ◌+◌, ◌<◌, refl, ◌∙◌, arith}
+use Rattle.std.proofs.Common.{rules, ◌≡◌, ◌+◌, ◌<◌, refl, ◌∙◌, arith}
 use Rattle.std.proofs.lemmas.Result.{err_from_is_err_and}
 use Rattle.elf_source.proofs.ReadsLaws.{Reads-then}
 use Rattle.elf_names.proofs.HeldLaws.{still_held}
@@ -29,52 +29,55 @@ rows-init g c =
       text = λ file held of_kind. rows_none _ _ _ n.index;
     }
 
-pub returns-in_err-advance-clause-shows : goal.returns-in_err-advance-clause-shows
-returns-in_err-advance-clause-shows g c = λ file held of_kind.
-    let p = err_from_is_err_and c.from_residual.result c.from_residual.ensures.1 in
-    let known = c.rows.invariant in
-    rw (p.1, p.2) (rows_unread (row_items c.args.kind.now file c.args.self.now.cap.bytes c.args.table.at) (reading c.rows.cursor).index _ _ _ _ _ (omega (arith, known.listed file held)) (c.in_err-advance.ensures.steps.at_next known.not_failed) (known.text file held of_kind))
+pub returns-in_err-advance : goal.returns-in_err-advance
+returns-in_err-advance g c = record {
+  grows = c.rows.invariant.grows;
+  keeps = search rules;
+  spent = search rules;
+  shows = λ file held of_kind.
+      let p = err_from_is_err_and c.from_residual.result c.from_residual.ensures.1 in
+      let known = c.rows.invariant in
+      rw (p.1, p.2) (rows_unread (row_items c.args.kind.now file c.args.self.now.cap.bytes c.args.table.at) (reading c.rows.cursor).index _ _ _ _ _ (omega (arith, known.listed file held)) (c.in_err-advance.ensures.steps.at_next known.not_failed) (known.text file held of_kind));
+}
 
-pub returns-in_err-row-clause-lists : goal.returns-in_err-row-clause-lists
-returns-in_err-row-clause-lists g c =
-    let p = err_from_is_err_and c.from_residual-in_err-row.result c.from_residual-in_err-row.ensures.1 in
-    let known = c.rows.invariant in
-    let step = rw c.if-branch.true at c.in_ok-advance.ensures.steps in
-    let gives = step.gives in
-    let account = c.in_ok-advance.ensures.account in
-    let reads = c.in_ok-advance.ensures.reads in
-    let lists = c.in_err-row.ensures.lists in
-    let own = own_cost c.args.kind.now c.args.self.now.cap.bytes in
-    let credit = c.rows.self.ahead.credit in
-    let within = account_row (reading c.rows.cursor) (reading c.advance.new.self) _ (c.advance.new.src.asked + credit) own _ gives.one_less (omega (arith, account)) known.asked in
-    let says = rw known.keeps.same_cap at lists.1.1 in
-    let asks = rw known.keeps.same_cap at lists.1.0 in
-    rw (p.1, p.2) (
-      record {
-        same_src = lists.0.same_src ∙ known.keeps.same_src;
-        same_out = lists.0.same_out ∙ known.keeps.same_out;
-        same_file = lists.0.same_file ∙ known.keeps.same_file;
-        same_cap = lists.0.same_cap ∙ known.keeps.same_cap;
-      },
-      (
+pub returns-in_err-row : goal.returns-in_err-row
+returns-in_err-row g c = record {
+  grows = grows_then c.rows.invariant.grows c.in_err-row.ensures.grows;
+  keeps = record {
+    same_src = c.in_err-row.ensures.keeps.same_src ∙ c.rows.invariant.keeps.same_src;
+    same_out = c.in_err-row.ensures.keeps.same_out ∙ c.rows.invariant.keeps.same_out;
+    same_file = c.in_err-row.ensures.keeps.same_file ∙ c.rows.invariant.keeps.same_file;
+    same_cap = c.in_err-row.ensures.keeps.same_cap ∙ c.rows.invariant.keeps.same_cap;
+  };
+  spent =
+      let p = err_from_is_err_and c.from_residual-in_err-row.result c.from_residual-in_err-row.ensures.1 in
+      let known = c.rows.invariant in
+      let step = rw c.if-branch.true at c.in_ok-advance.ensures.steps in
+      let gives = step.gives in
+      let account = c.in_ok-advance.ensures.account in
+      let reads = c.in_ok-advance.ensures.reads in
+      let own = own_cost c.args.kind.now c.args.self.now.cap.bytes in
+      let credit = c.rows.self.ahead.credit in
+      let within = account_row (reading c.rows.cursor) (reading c.advance.new.self) _ (c.advance.new.src.asked + credit) own _ gives.one_less (omega (arith, account)) known.asked in
+      let says = rw known.keeps.same_cap at c.in_err-row.ensures.spent.1 in
+      let asks = rw known.keeps.same_cap at c.in_err-row.ensures.spent.0 in
+      rw (p.1, p.2) (
         Spends-to (Spends-then known.spends (Spends-then (Spends-reads credit reads) asks)) (omega (arith, within, asks.account)),
         StopSays-then _ _ _ _ _ _ _ _ (omega (arith, within)) (Reads-then known.spends.reads reads) says,
-      ),
-    )
-
-pub returns-in_err-row-clause-shows : goal.returns-in_err-row-clause-shows
-returns-in_err-row-clause-shows g c = λ file held of_kind.
-    let p = err_from_is_err_and c.from_residual-in_err-row.result c.from_residual-in_err-row.ensures.1 in
-    let known = c.rows.invariant in
-    let step = rw c.if-branch.true at c.in_ok-advance.ensures.steps in
-    let gives = step.gives in
-    let now = known.spends.reads.keeps.same_file ∙ held in
-    let less = step.one_less file now (known.agrees file held) in
-    let below : (reading c.rows.cursor).index < rows_listed c.args.kind.now file c.args.table = omega (arith, known.listed file held, less) in
-    let some : 0 < c.args.table.count = omega (arith, known.counted, gives.one_less) in
-    let row = given_row file c.args.kind.now c.args.table gives c.row.ensures now (known.agrees file held) known.same_table c.requires.entry in
-    let shown = rw (given_index gives c.row.ensures, known.keeps.same_cap) at (c.in_err-row.ensures.shows file (c.in_ok-advance.ensures.reads.keeps.same_file ∙ now) c.args.table.at (of_kind some) row) in
-    rw (p.1, p.2) (rows_stopped (row_items c.args.kind.now file c.args.self.now.cap.bytes c.args.table.at) (reading c.rows.cursor).index _ _ _ _ _ below (known.text file held of_kind) shown)
+      );
+  shows = λ file held of_kind.
+      let p = err_from_is_err_and c.from_residual-in_err-row.result c.from_residual-in_err-row.ensures.1 in
+      let known = c.rows.invariant in
+      let step = rw c.if-branch.true at c.in_ok-advance.ensures.steps in
+      let gives = step.gives in
+      let now = known.spends.reads.keeps.same_file ∙ held in
+      let less = step.one_less file now (known.agrees file held) in
+      let below : (reading c.rows.cursor).index < rows_listed c.args.kind.now file c.args.table = omega (arith, known.listed file held, less) in
+      let some : 0 < c.args.table.count = omega (arith, known.counted, gives.one_less) in
+      let row = given_row file c.args.kind.now c.args.table gives c.row.ensures now (known.agrees file held) known.same_table c.requires.entry in
+      let shown = rw (given_index gives c.row.ensures, known.keeps.same_cap) at (c.in_err-row.ensures.shows file (c.in_ok-advance.ensures.reads.keeps.same_file ∙ now) c.args.table.at (of_kind some) row) in
+      rw (p.1, p.2) (rows_stopped (row_items c.args.kind.now file c.args.self.now.cap.bytes c.args.table.at) (reading c.rows.cursor).index _ _ _ _ _ below (known.text file held of_kind) shown);
+}
 
 pub rows-preserved : goal.rows-preserved
 rows-preserved g c =
@@ -82,8 +85,8 @@ rows-preserved g c =
     let step = rw c.if-branch.true at c.in_ok-advance.ensures.steps in
     let gives = step.gives in
     let account = c.in_ok-advance.ensures.account in
-    let lists = c.in_ok-row.ensures.lists.0 in
-    let asks = c.in_ok-row.ensures.lists.1.0 in
+    let lists = c.in_ok-row.ensures.keeps in
+    let asks = c.in_ok-row.ensures.spent.0 in
     let reads = c.in_ok-advance.ensures.reads in
     let own = own_cost c.args.kind.now c.args.self.now.cap.bytes in
     let credit = c.rows.self.ahead.credit in
@@ -114,12 +117,17 @@ rows-preserved g c =
           rows_more (row_items c.args.kind.now file c.args.self.now.cap.bytes c.args.table.at) (reading c.rows.cursor).index _ gives.next_index (known.text file held of_kind) shown;
     }
 
-pub returns-clause-shows : goal.returns-clause-shows
-returns-clause-shows g c = λ file held of_kind.
-    let known = c.rows.invariant in
-    let ends = rw c.if-branch.false at c.in_ok-advance.ensures.steps in
-    let all : (reading c.rows.cursor).index ≡ rows_listed c.args.kind.now file c.args.table = omega (arith, known.listed file held, ends.none_left file) in
-    rw (← all) (known.text file held of_kind)
+pub returns : goal.returns
+returns g c = record {
+  grows = c.rows.invariant.grows;
+  keeps = search rules;
+  spent = search rules;
+  shows = λ file held of_kind.
+      let known = c.rows.invariant in
+      let ends = rw c.if-branch.false at c.in_ok-advance.ensures.steps in
+      let all : (reading c.rows.cursor).index ≡ rows_listed c.args.kind.now file c.args.table = omega (arith, known.listed file held, ends.none_left file) in
+      rw (← all) (known.text file held of_kind);
+}
 
 pub invariant_of-self : goal.invariant_of-self
 invariant_of-self g c = record {
@@ -127,12 +135,3 @@ invariant_of-self g c = record {
   viewed = still_viewed _ _ c.advance.ensures.reads c.rows.self.viewed;
   held = still_held _ c.advance.ensures.reads c.rows.self.held;
 }
-
-pub returns-in_err-advance-clause-grows : goal.returns-in_err-advance-clause-grows
-returns-in_err-advance-clause-grows g c = c.rows.invariant.grows
-
-pub returns-in_err-row-clause-grows : goal.returns-in_err-row-clause-grows
-returns-in_err-row-clause-grows g c = grows_then c.rows.invariant.grows c.in_err-row.ensures.grows
-
-pub returns-clause-grows : goal.returns-clause-grows
-returns-clause-grows g c = c.rows.invariant.grows

@@ -1,5 +1,5 @@
 -- The checks of the table and the first pass over its entries stand before the entries.
-use Rattle.std.proofs.Common.{◌≡◌, ◌*◌, ◌≤◌, Err, refl, sym, ap, ◌∙◌, arith}
+use Rattle.std.proofs.Common.{rules, ◌≡◌, ◌*◌, ◌≤◌, Err, refl, sym, ap, ◌∙◌, arith}
 use Rattle.std.proofs.lemmas.Result.{err_from_is_err_and}
 use Rattle.elf_model.specs.Cost.{table_cost}
 use Rattle.elf_model.specs.TableKinds.{segment_dynamic}
@@ -17,21 +17,31 @@ use Rattle.elf_listing.proofs.ViewedLaws.{still_viewed}
 use Rattle.elf_source.proofs.GrowthLaws.{grows_not}
 use Rattle.elf_listing.proofs.listing.Listing.segment_dynamic.Goals as goal
 
-pub returns-then-segment-ne-PT_DYNAMIC-clause-shows : goal.returns-then-segment-ne-PT_DYNAMIC-clause-shows
-returns-then-segment-ne-PT_DYNAMIC-clause-shows g c = λ file held.
-    let viewed = views file _ _ _ (c.args.self.now.loaded.belongs file held) c.args.self.now.viewed held (omega (arith, c.requires)) in
-    let stands = c.segment.ensures.stands file (rw (c.view-view.ensures.loaded, c.view-view.ensures.store) viewed) in
-    rw (no_segment_dynamic file c.args.self.now.cap.bytes c.args.segment (λ same. c.if-segment-ne-PT_DYNAMIC.true (stands.p_type ∙ same))) (Whole-none _)
+pub returns-then-segment-ne-PT_DYNAMIC : goal.returns-then-segment-ne-PT_DYNAMIC
+returns-then-segment-ne-PT_DYNAMIC g c = record {
+  grows = search rules;
+  keeps = search rules;
+  spent = search rules;
+  shows = λ file held.
+      let viewed = views file _ _ _ (c.args.self.now.loaded.belongs file held) c.args.self.now.viewed held (omega (arith, c.requires)) in
+      let stands = c.segment.ensures.stands file (rw (c.view-view.ensures.loaded, c.view-view.ensures.store) viewed) in
+      rw (no_segment_dynamic file c.args.self.now.cap.bytes c.args.segment (λ same. c.if-segment-ne-PT_DYNAMIC.true (stands.p_type ∙ same))) (Whole-none _);
+}
 
-pub returns-in_err-table-clause-shows : goal.returns-in_err-table-clause-shows
-returns-in_err-table-clause-shows g c = λ file held.
-    let p = err_from_is_err_and c.from_residual.result c.from_residual.ensures.1 in
-    let viewed = views file _ _ _ (c.args.self.now.loaded.belongs file held) c.args.self.now.viewed held (omega (arith, c.requires)) in
-    let view : Views file c.view-view.result.loaded c.view-view.result.store.now = rw (c.view-view.ensures.loaded, c.view-view.ensures.store) viewed in
-    let stands = c.segment.ensures.stands file view in
-    let kind = sym stands.p_type ∙ c.if-segment-ne-PT_DYNAMIC.false in
-    rw (p.1, p.2) (Stopped-first _ _ _ (λ refusal is other.
-    segment_dynamic_fault file c.args.self.now.cap.bytes c.args.segment refusal kind (sym (c.in_err-table.ensures.held file view) ∙ ap (λ fault. Err fault) is)))
+pub returns-in_err-table : goal.returns-in_err-table
+returns-in_err-table g c = record {
+  grows = search rules;
+  keeps = search rules;
+  spent = search rules;
+  shows = λ file held.
+      let p = err_from_is_err_and c.from_residual.result c.from_residual.ensures.1 in
+      let viewed = views file _ _ _ (c.args.self.now.loaded.belongs file held) c.args.self.now.viewed held (omega (arith, c.requires)) in
+      let view : Views file c.view-view.result.loaded c.view-view.result.store.now = rw (c.view-view.ensures.loaded, c.view-view.ensures.store) viewed in
+      let stands = c.segment.ensures.stands file view in
+      let kind = sym stands.p_type ∙ c.if-segment-ne-PT_DYNAMIC.false in
+      rw (p.1, p.2) (Stopped-first _ _ _ (λ refusal is other.
+      segment_dynamic_fault file c.args.self.now.cap.bytes c.args.segment refusal kind (sym (c.in_err-table.ensures.held file view) ∙ ap (λ fault. Err fault) is)));
+}
 
 pub invariant_of-self : goal.invariant_of-self
 invariant_of-self g c = record {
@@ -40,56 +50,50 @@ invariant_of-self g c = record {
   held = still_held _ c.dynamic_strings.ensures.reads c.args.self.now.held;
 }
 
-pub returns-in_err-told-clause-lists : goal.returns-in_err-told-clause-lists
-returns-in_err-told-clause-lists g c =
-    let p = err_from_is_err_and c.from_residual-in_err-told.result c.from_residual-in_err-told.ensures.1 in
-    let f = c.args.self.now.file in
-    let most = c.args.self.now.cap.bytes in
-    let fields = rw c.view-view.ensures.store at c.segment.ensures.fields in
-    let kind = sym fields.p_type ∙ c.if-segment-ne-PT_DYNAMIC.false in
-    let value = rw (c.view-view.ensures.store, c.view-view.ensures.loaded) at c.in_ok-table.ensures.value in
-    let within = segment_dynamic_within (segment_bytes f.store.now c.args.segment) f.loaded.size _ most _ kind value in
-    let entry = c.in_ok-table.ensures.entry in
-    let bytes : size_of c.in_ok-table.table ≡ c.in_ok-table.table.count * 16 = ap (λ n. c.in_ok-table.table.count * n) entry in
-    let all : size_of c.in_ok-table.table ≤ table_cost segment_dynamic (segment_bytes f.store.now c.args.segment) 0 f.loaded.size most = omega (arith, within, bytes) in
-    rw (p.1, p.2) (
-      record { same_src = refl; same_out = refl; same_file = refl; same_cap = refl },
-      Spent-fault _ _ _ _ _ _ _ all c.in_err-told.ensures.reads c.in_err-told.ensures.says,
-    )
+pub returns-in_err-told : goal.returns-in_err-told
+returns-in_err-told g c = record {
+  grows = grows_not _;
+  keeps = record { same_src = refl; same_out = refl; same_file = refl; same_cap = refl };
+  spent =
+      let p = err_from_is_err_and c.from_residual-in_err-told.result c.from_residual-in_err-told.ensures.1 in
+      let f = c.args.self.now.file in
+      let most = c.args.self.now.cap.bytes in
+      let fields = rw c.view-view.ensures.store at c.segment.ensures.fields in
+      let kind = sym fields.p_type ∙ c.if-segment-ne-PT_DYNAMIC.false in
+      let value = rw (c.view-view.ensures.store, c.view-view.ensures.loaded) at c.in_ok-table.ensures.value in
+      let within = segment_dynamic_within (segment_bytes f.store.now c.args.segment) f.loaded.size _ most _ kind value in
+      let entry = c.in_ok-table.ensures.entry in
+      let bytes : size_of c.in_ok-table.table ≡ c.in_ok-table.table.count * 16 = ap (λ n. c.in_ok-table.table.count * n) entry in
+      let all : size_of c.in_ok-table.table ≤ table_cost segment_dynamic (segment_bytes f.store.now c.args.segment) 0 f.loaded.size most = omega (arith, within, bytes) in
+      rw (p.1, p.2) (Spent-fault _ _ _ _ _ _ _ all c.in_err-told.ensures.reads c.in_err-told.ensures.says);
+  shows = λ file held.
+      let p = err_from_is_err_and c.from_residual-in_err-told.result c.from_residual-in_err-told.ensures.1 in
+      rw (p.1, p.2) (Stopped-unread-first _ _ _ c.in_err-told.ensures.fault);
+}
 
-pub returns-in_err-told-clause-shows : goal.returns-in_err-told-clause-shows
-returns-in_err-told-clause-shows g c = λ file held.
-    let p = err_from_is_err_and c.from_residual-in_err-told.result c.from_residual-in_err-told.ensures.1 in
-    rw (p.1, p.2) (Stopped-unread-first _ _ _ c.in_err-told.ensures.fault)
-
-pub returns-clause-lists : goal.returns-clause-lists
-returns-clause-lists g c =
-    let f = c.args.self.now.file in
-    let most = c.args.self.now.cap.bytes in
-    let fields = rw c.view-view.ensures.store at c.segment.ensures.fields in
-    let kind = sym fields.p_type ∙ c.if-segment-ne-PT_DYNAMIC.false in
-    let value = rw (c.view-view.ensures.store, c.view-view.ensures.loaded) at c.in_ok-table.ensures.value in
-    let within = segment_dynamic_within (segment_bytes f.store.now c.args.segment) f.loaded.size _ most _ kind value in
-    let bytes : size_of c.in_ok-table.table ≡ c.in_ok-table.table.count * 16 = ap (λ n. c.in_ok-table.table.count * n) c.in_ok-table.ensures.entry in
-    let lists = c.rows.ensures.lists in
-    let all = Spent-behind _ _ _ _ _ _ _ _ _ _ (omega (arith, within, bytes)) c.in_ok-told.ensures.reads lists.1 in (
-      record {
-        same_src = lists.0.same_src;
-        same_out = lists.0.same_out;
-        same_file = lists.0.same_file;
-        same_cap = lists.0.same_cap;
-      },
-      all,
-    )
-
-pub returns-clause-shows : goal.returns-clause-shows
-returns-clause-shows g c = λ file held.
-    let viewed = views file _ _ _ (c.args.self.now.loaded.belongs file held) c.args.self.now.viewed held (omega (arith, c.requires)) in
-    let view : Views file c.view-view.result.loaded c.view-view.result.store.now = rw (c.view-view.ensures.loaded, c.view-view.ensures.store) viewed in
-    let stands = c.segment.ensures.stands file view in
-    let kind = sym stands.p_type ∙ c.if-segment-ne-PT_DYNAMIC.false in
-    Writes-as _ _ _ (segment_dynamic_pass file c.args.self.now.cap.bytes c.args.segment _ _ kind (sym (c.in_ok-table.ensures.held file view)) (c.in_ok-told.ensures.values file held))
-    (c.rows.ensures.shows file (c.dynamic_strings.ensures.reads.keeps.same_file ∙ held) (λ some. view))
-
-pub returns-in_err-told-clause-grows : goal.returns-in_err-told-clause-grows
-returns-in_err-told-clause-grows g c = grows_not _
+pub returns : goal.returns
+returns g c = record {
+  grows = search rules;
+  keeps = record {
+    same_src = c.rows.ensures.keeps.same_src;
+    same_out = c.rows.ensures.keeps.same_out;
+    same_file = c.rows.ensures.keeps.same_file;
+    same_cap = c.rows.ensures.keeps.same_cap;
+  };
+  spent =
+      let f = c.args.self.now.file in
+      let most = c.args.self.now.cap.bytes in
+      let fields = rw c.view-view.ensures.store at c.segment.ensures.fields in
+      let kind = sym fields.p_type ∙ c.if-segment-ne-PT_DYNAMIC.false in
+      let value = rw (c.view-view.ensures.store, c.view-view.ensures.loaded) at c.in_ok-table.ensures.value in
+      let within = segment_dynamic_within (segment_bytes f.store.now c.args.segment) f.loaded.size _ most _ kind value in
+      let bytes : size_of c.in_ok-table.table ≡ c.in_ok-table.table.count * 16 = ap (λ n. c.in_ok-table.table.count * n) c.in_ok-table.ensures.entry in
+      Spent-behind _ _ _ _ _ _ _ _ _ _ (omega (arith, within, bytes)) c.in_ok-told.ensures.reads c.rows.ensures.spent;
+  shows = λ file held.
+      let viewed = views file _ _ _ (c.args.self.now.loaded.belongs file held) c.args.self.now.viewed held (omega (arith, c.requires)) in
+      let view : Views file c.view-view.result.loaded c.view-view.result.store.now = rw (c.view-view.ensures.loaded, c.view-view.ensures.store) viewed in
+      let stands = c.segment.ensures.stands file view in
+      let kind = sym stands.p_type ∙ c.if-segment-ne-PT_DYNAMIC.false in
+      Writes-as _ _ _ (segment_dynamic_pass file c.args.self.now.cap.bytes c.args.segment _ _ kind (sym (c.in_ok-table.ensures.held file view)) (c.in_ok-told.ensures.values file held))
+      (c.rows.ensures.shows file (c.dynamic_strings.ensures.reads.keeps.same_file ∙ held) (λ some. view));
+}

@@ -1,20 +1,30 @@
-use Rattle.std.proofs.Common.{◌≡◌, ◌+◌, ◌*◌, ◌∙◌, arith}
+use Rattle.std.proofs.Common.{rules, ◌≡◌, ◌+◌, ◌*◌, ◌∙◌, arith}
 use Rattle.std.proofs.lemmas.Result.{err_from_is_err_and}
 use Rattle.elf_model.specs.Records.{e_phoff}
 use Rattle.elf_listing.proofs.RowLaws.{segment_is, Whole-line, Stopped-line}
 use Rattle.elf_listing.proofs.listing.Listing.segment_row.Goals as goal
 
-pub returns-in_err-put-clause-shows : goal.returns-in_err-put-clause-shows
-returns-in_err-put-clause-shows g c = λ file held at of_kind row.
-    let p = err_from_is_err_and c.from_residual.result c.from_residual.ensures.1 in
-    let decoded = c.decode-header.ensures.stands file c.args.row.now.at (c.whole_row.ensures ∙ row.bytes) in
-    let here : c.args.row.now.at ≡ e_phoff file + c.args.row.now.index * 56 = omega (arith, of_kind, row.here) in
-    let line = c.deref.ensures.0 ∙ c.segment_row.ensures file c.args.row.now.at decoded in
-    rw (p.1, p.2, segment_is file _ c.args.row.now.at c.args.row.now.index line here) (Stopped-line _ c.in_err-put.ensures.puts.0)
+pub returns-in_err-put : goal.returns-in_err-put
+returns-in_err-put g c = record {
+  grows = search rules;
+  keeps = search rules;
+  spent = search rules;
+  shows = λ file held at of_kind row.
+      let p = err_from_is_err_and c.from_residual.result c.from_residual.ensures.1 in
+      let decoded = c.decode-header.ensures.stands file c.args.row.now.at (c.whole_row.ensures ∙ row.bytes) in
+      let here : c.args.row.now.at ≡ e_phoff file + c.args.row.now.index * 56 = omega (arith, of_kind, row.here) in
+      let line = c.deref.ensures.0 ∙ c.segment_row.ensures file c.args.row.now.at decoded in
+      rw (p.1, p.2, segment_is file _ c.args.row.now.at c.args.row.now.index line here) (Stopped-line _ c.in_err-put.ensures.puts.0);
+}
 
-pub returns-clause-shows : goal.returns-clause-shows
-returns-clause-shows g c = λ file held at of_kind row.
-    let decoded = c.decode-header.ensures.stands file c.args.row.now.at (c.whole_row.ensures ∙ row.bytes) in
-    let here : c.args.row.now.at ≡ e_phoff file + c.args.row.now.index * 56 = omega (arith, of_kind, row.here) in
-    let line = c.deref.ensures.0 ∙ c.segment_row.ensures file c.args.row.now.at decoded in
-    rw (segment_is file _ c.args.row.now.at c.args.row.now.index line here) (Whole-line _ c.in_ok-put.ensures.puts.0)
+pub returns : goal.returns
+returns g c = record {
+  grows = search rules;
+  keeps = search rules;
+  spent = search rules;
+  shows = λ file held at of_kind row.
+      let decoded = c.decode-header.ensures.stands file c.args.row.now.at (c.whole_row.ensures ∙ row.bytes) in
+      let here : c.args.row.now.at ≡ e_phoff file + c.args.row.now.index * 56 = omega (arith, of_kind, row.here) in
+      let line = c.deref.ensures.0 ∙ c.segment_row.ensures file c.args.row.now.at decoded in
+      rw (segment_is file _ c.args.row.now.at c.args.row.now.index line here) (Whole-line _ c.in_ok-put.ensures.puts.0);
+}

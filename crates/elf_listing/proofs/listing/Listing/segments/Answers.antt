@@ -11,29 +11,35 @@ use Rattle.elf_listing.proofs.SectionCosts.{sum_of_equal}
 use Rattle.elf_listing.proofs.ShowLaws.{Spent-within}
 use Rattle.elf_listing.proofs.listing.Listing.segments.Goals as goal
 
-pub returns-then-sections-eq0-clause-lists : goal.returns-then-sections-eq0-clause-lists
-returns-then-sections-eq0-clause-lists g c =
-    let f = c.args.self.now.file in
-    let lists = c.headers.ensures.lists in
-    let none = sum_of_equal 0 f.store.now.segments in
-    (lists.0, Spent-within _ _ _ _ _ _ _ (segments_listed c.args.parts.0 f.loaded) (omega (arith, none)) lists.1)
+pub returns-then-sections-eq0 : goal.returns-then-sections-eq0
+returns-then-sections-eq0 g c = record {
+  grows = search rules;
+  keeps = c.headers.ensures.keeps;
+  spent =
+      let f = c.args.self.now.file in
+      let none = sum_of_equal 0 f.store.now.segments in
+      Spent-within _ _ _ _ _ _ _ (segments_listed c.args.parts.0 f.loaded) (omega (arith, none)) c.headers.ensures.spent;
+  shows = λ file held.
+      let f = c.args.self.now.file in
+      let belongs = c.args.self.now.loaded.belongs file held in
+      let zero : f.loaded.header.e_shnum ≡ 0 = sym belongs.count ∙ (sym c.sections.ensures ∙ c.if-sections-eq0.true) in
+      let none : (f.loaded.header.e_shnum == 0) ≡ true = ap (λ n. n == 0) zero in
+      let asked : has c.args.parts.0 SEGMENTS ≡ true = search rules in
+      let all : f.store.now.segments ≡ e_phnum file = c.requires ∙ (viewed_segments c.args.parts.0 f.loaded none asked ∙ belongs.header.e_phnum) in
+      Writes-as _ _ _ (ap (λ b. elim b [ true ↦ each (segment_row file) 0 (e_phnum file) | false ↦ [] ]) asked ∙ ap (each (segment_row file) 0) (sym all))
+      (c.headers.ensures.shows file held);
+}
 
-pub returns-then-sections-eq0-clause-shows : goal.returns-then-sections-eq0-clause-shows
-returns-then-sections-eq0-clause-shows g c = λ file held.
-    let f = c.args.self.now.file in
-    let belongs = c.args.self.now.loaded.belongs file held in
-    let zero : f.loaded.header.e_shnum ≡ 0 = sym belongs.count ∙ (sym c.sections.ensures ∙ c.if-sections-eq0.true) in
-    let none : (f.loaded.header.e_shnum == 0) ≡ true = ap (λ n. n == 0) zero in
-    let asked : has c.args.parts.0 SEGMENTS ≡ true = search rules in
-    let all : f.store.now.segments ≡ e_phnum file = c.requires ∙ (viewed_segments c.args.parts.0 f.loaded none asked ∙ belongs.header.e_phnum) in
-    Writes-as _ _ _ (ap (λ b. elim b [ true ↦ each (segment_row file) 0 (e_phnum file) | false ↦ [] ]) asked ∙ ap (each (segment_row file) 0) (sym all))
-    (c.headers.ensures.shows file held)
-
-pub returns-clause-shows : goal.returns-clause-shows
-returns-clause-shows g c = λ file held.
-    let belongs = c.args.self.now.loaded.belongs file held in
-    let asked : has c.args.parts.0 SEGMENTS ≡ true = search rules in
-    let at : c.segments-table.result.at ≡ e_phoff file = ap (λ (rows : Rows). rows.at) c.segments-table.ensures.value ∙ belongs.header.e_phoff in
-    let all : c.segments-table.result.count ≡ e_phnum file = ap (λ (rows : Rows). rows.count) c.segments-table.ensures.value ∙ belongs.header.e_phnum in
-    Writes-as _ _ _ (ap (λ b. elim b [ true ↦ each (segment_row file) 0 (e_phnum file) | false ↦ [] ]) asked ∙ ap (each (segment_row file) 0) (sym all))
-    (c.rows.ensures.shows file held (λ some. at))
+pub returns : goal.returns
+returns g c = record {
+  grows = search rules;
+  keeps = search rules;
+  spent = search rules;
+  shows = λ file held.
+      let belongs = c.args.self.now.loaded.belongs file held in
+      let asked : has c.args.parts.0 SEGMENTS ≡ true = search rules in
+      let at : c.segments-table.result.at ≡ e_phoff file = ap (λ (rows : Rows). rows.at) c.segments-table.ensures.value ∙ belongs.header.e_phoff in
+      let all : c.segments-table.result.count ≡ e_phnum file = ap (λ (rows : Rows). rows.count) c.segments-table.ensures.value ∙ belongs.header.e_phnum in
+      Writes-as _ _ _ (ap (λ b. elim b [ true ↦ each (segment_row file) 0 (e_phnum file) | false ↦ [] ]) asked ∙ ap (each (segment_row file) 0) (sym all))
+      (c.rows.ensures.shows file held (λ some. at));
+}
