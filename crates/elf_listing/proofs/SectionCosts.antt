@@ -1,8 +1,8 @@
 -- What the tables of a loaded file ask for, by the section headers in the store.
-use Rattle.std.proofs.Common.{◌≡◌, ℕ, ◌+◌, ◌*◌, ◌/◌, ◌%◌, ◌<◌, ◌≤◌, ◌==◌, ◌&&◌, ◌||◌, not, nat_lt, if◌then◌else◌, Bool, true, false, List, [], ◌∷◌, ◌++◌, length, drop, Option, None, Some, Result, Ok, refl, sym, ap, ◌∙◌, arith}
+use Rattle.std.proofs.Common.{◌≡◌, ℕ, ◌+◌, ◌*◌, ◌/◌, ◌%◌, ◌<◌, ◌≤◌, ◌==◌, ◌&&◌, ◌||◌, not, nat_lt, if◌then◌else◌, Bool, true, false, List, [], ◌∷◌, length, drop, Option, None, Some, Result, Ok, refl, sym, ap, ◌∙◌, arith}
 use Rattle.std.proofs.lemmas.Bool.{eqb-true, ltb-false}
 use Rattle.std.specs.Prelude.{is_none}
-use Rattle.elf_model.specs.Checks.{Check, first_refusal, pass, refuse, is_outside, length_checks, header_checks, early_checks, section_name_checks, is_symbol_table, table_checks_of, whole_checks_of}
+use Rattle.elf_model.specs.Checks.{Check, first_refusal, pass, refuse, is_outside, header_checks, early_checks, section_name_checks, is_symbol_table, table_checks_of, whole_checks_of}
 use Rattle.elf_model.specs.Cost.{sum_over, cost_where, table_cost, kinds_cost, is_loadable, sections_cost, segments_cost, tables_cost, behind_header, cost, ceiling}
 use Rattle.elf_model.specs.Listing.{has, has_tables, SECTIONS, SEGMENTS, NOTES, DYNAMIC}
 use Rattle.elf_model.specs.CostLaws.{kind_by_kind}
@@ -12,13 +12,13 @@ use Rattle.elf_model.specs.Numbers.{SHT_RELA, SHT_DYNAMIC, SHT_NOTE, PT_NOTE, PT
 use Rattle.elf_model.specs.Records.{e_shnum, e_phnum, e_shstrndx, sh_type, sh_offset, sh_size, p_type, p_offset, p_filesz, section_at, segment_at}
 use Rattle.elf_model.specs.declared.causes.Cause.TheVariants.{ExtendedNumbering, SizeNotWhole, TableOutside, TooManyHeaders}
 use Rattle.elf_model.specs.declared.causes.Refusal.{Refusal}
-use Rattle.elf_model.proofs.CheckSteps.{first_refusal-none, first_refusal-some, passes_front}
+use Rattle.elf_model.proofs.CheckSteps.{first_refusal-none, passes_front}
 use Rattle.elf_model.proofs.CostLemmas.{cost_where-le, sum_over-le, tables_by, headers_none}
 use Rattle.elf_model.proofs.StoreLemmas.{rows_cost, segments_cost_rows, by_kind, any_rows, any_segments, sections_counted, places_decide_nothing}
 use Rattle.elf_model.proofs.RecordLemmas.{sums_grow}
 use Rattle.elf_record.specs.Ehdr.{IsEhdr}
 use Rattle.elf_record.specs.declared.ehdr.Ehdr.{Ehdr}
-use Rattle.elf_headers.specs.Load.{Opened, Belongs, IsOpened, early_of, file_header_cost, load_cost}
+use Rattle.elf_headers.specs.Load.{Opened, Belongs, IsOpened, early_of, load_cost}
 use Rattle.elf_table.specs.Sections.{answered, bytes_of, rows, table_of, checked}
 use Rattle.elf_headers.specs.Store.{Stored, HoldsSegments, row, segment_bytes}
 use Rattle.elf_table.specs.Tables.{Rows, Strings}

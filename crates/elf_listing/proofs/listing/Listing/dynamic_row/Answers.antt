@@ -1,41 +1,29 @@
 -- The row of an entry, by its string.
-use Rattle.std.proofs.Common.{rules, ◌≡◌, refl, ap, ◌∙◌, arith}
+use Rattle.std.proofs.Common.{◌≡◌, refl, ap, ◌∙◌, arith}
 use Rattle.std.proofs.lemmas.Result.{err_from_is_err_and}
 use Rattle.elf_model.specs.Dynamic.{dynamic_at}
 use Rattle.elf_model.specs.LineFronts.{dynamic_front}
 use Rattle.elf_listing.specs.Strings.{strings_told, told_name}
 use Rattle.elf_listing.proofs.RowLaws.{Writes-as}
 use Rattle.elf_listing.proofs.StringsTold.{entry_is, told_row, told_shown, Stopped-told}
-use Rattle.elf_listing.proofs.ShowLaws.{Spent-failed, Spent-then}
-use Rattle.elf_source.proofs.GrowthLaws.{grows_not}
+use Rattle.elf_listing.proofs.ListsLaws.{Lists-named, Lists-unread}
 use Rattle.elf_listing.proofs.listing.Listing.dynamic_row.Goals as goal
 
 pub returns-in_err-end : goal.returns-in_err-end
-returns-in_err-end g c = record {
-  grows = rw c.in_err-end.ensures.fetches.1 (grows_not _);
-  keeps = c.in_err-end.ensures.fetches.0;
-  spent =
-      let p = err_from_is_err_and c.from_residual.result c.from_residual.ensures.1 in
-      rw (p.1, p.2) (Spent-failed _ _ _ _ _ _ _ _ (omega arith) c.in_err-end.ensures.fetches.2 c.in_err-end.ensures.fetches.3);
-  shows = λ file held at of_kind row.
-      let p = err_from_is_err_and c.from_residual.result c.from_residual.ensures.1 in
-      let decoded = c.decode-entry.ensures.stands file c.args.row.now.at (c.whole_row.ensures ∙ row.bytes) in
-      let here : c.args.row.now.at ≡ dynamic_at at c.args.row.now.index = omega (arith, row.here) in
-      rw (p.1, p.2, entry_is file (dynamic_front file c.args.row.now.at c.args.row.now.index) c.args.self.now.cap.bytes c.args.row.now.at c.args.row.now.index (dynamic_at at c.args.row.now.index) (strings_told c.args.strings.now file) refl here, c.in_err-end.ensures.fetches.1)
-      (Stopped-told _ _ c.args.row.now.at _ c.read_string.new.self.name _ (c.in_err-end.ensures.read file held of_kind decoded));
-}
+returns-in_err-end g c =
+    let p = err_from_is_err_and c.from_residual.result c.from_residual.ensures.1 in
+    rw (p.1, p.2) (Lists-unread _ _ _ _ _ _ (omega arith) c.in_err-end.ensures.fetches (λ file held at of_kind row.
+    let decoded = c.decode-entry.ensures.stands file c.args.row.now.at (c.whole_row.ensures ∙ row.bytes) in
+    let here : c.args.row.now.at ≡ dynamic_at at c.args.row.now.index = omega (arith, row.here) in
+    rw (entry_is file (dynamic_front file c.args.row.now.at c.args.row.now.index) c.args.self.now.cap.bytes c.args.row.now.at c.args.row.now.index (dynamic_at at c.args.row.now.index) (strings_told c.args.strings.now file) refl here, c.in_err-end.ensures.fetches.1)
+    (Stopped-told _ _ c.args.row.now.at _ c.read_string.new.self.name _ (c.in_err-end.ensures.read file held of_kind decoded))))
 
 pub returns : goal.returns
-returns g c = record {
-  grows = rw (← c.in_ok-end.ensures.fetches.1) c.named_line.ensures.grows;
-  keeps = search rules;
-  spent = Spent-then _ _ _ _ _ _ _ _ _ _ _ (omega arith) c.in_ok-end.ensures.fetches.2 c.named_line.ensures.spent;
-  shows = λ file held at of_kind row.
-      let decoded = c.decode-entry.ensures.stands file c.args.row.now.at (c.whole_row.ensures ∙ row.bytes) in
-      let here : c.args.row.now.at ≡ dynamic_at at c.args.row.now.index = omega (arith, row.here) in
-      let read = told_shown c.args.row.now.at _ _ (told_name (strings_told c.args.strings.now file) file c.args.self.now.cap.bytes c.args.row.now.at) (c.in_ok-end.ensures.read file held of_kind decoded) in
-      let front = c.dynamic_front.ensures file c.args.row.now.at decoded in
-      rw (← c.in_ok-end.ensures.fetches.1)
-      (Writes-as _ _ _ (entry_is file _ c.args.self.now.cap.bytes c.args.row.now.at c.args.row.now.index (dynamic_at at c.args.row.now.index) (strings_told c.args.strings.now file) front here ∙ ap (told_row c.dynamic_front.result.items c.args.row.now.at) read.1)
-      (c.named_line.ensures.shows _ _ read.2));
-}
+returns g c = Lists-named _ _ _ _ _ _ _ _ (omega arith) c.in_ok-end.ensures.fetches c.named_line.ensures (λ file held at of_kind row.
+    let decoded = c.decode-entry.ensures.stands file c.args.row.now.at (c.whole_row.ensures ∙ row.bytes) in
+    let here : c.args.row.now.at ≡ dynamic_at at c.args.row.now.index = omega (arith, row.here) in
+    let read = told_shown c.args.row.now.at _ _ (told_name (strings_told c.args.strings.now file) file c.args.self.now.cap.bytes c.args.row.now.at) (c.in_ok-end.ensures.read file held of_kind decoded) in
+    let front = c.dynamic_front.ensures file c.args.row.now.at decoded in
+    rw (← c.in_ok-end.ensures.fetches.1)
+    (Writes-as _ _ _ (entry_is file _ c.args.self.now.cap.bytes c.args.row.now.at c.args.row.now.index (dynamic_at at c.args.row.now.index) (strings_told c.args.strings.now file) front here ∙ ap (told_row c.dynamic_front.result.items c.args.row.now.at) read.1)
+    (c.named_line.ensures.shows _ _ read.2)))

@@ -1,39 +1,27 @@
-use Rattle.std.proofs.Common.{rules, ◌≡◌, ◌+◌, ◌*◌, ◌/◌, ◌^◌, ◌∙◌, ap, refl, [], arith}
+use Rattle.std.proofs.Common.{◌≡◌, ◌+◌, ◌*◌, ◌/◌, ◌^◌, ◌∙◌, ap, refl, [], arith}
 use Rattle.std.proofs.lemmas.Result.{err_from_is_err_and}
 use Rattle.elf_model.specs.LineFronts.{relocation_front}
 use Rattle.elf_model.specs.Records.{section_at, sh_offset}
 use Rattle.elf_listing.proofs.RowLaws.{relocation_is, Writes-as, Stopped-name}
-use Rattle.elf_listing.proofs.ShowLaws.{Spent-failed, Spent-then}
-use Rattle.elf_source.proofs.GrowthLaws.{grows_not}
+use Rattle.elf_listing.proofs.ListsLaws.{Lists-named, Lists-unread}
 use Rattle.elf_listing.proofs.listing.Listing.relocation_row.Goals as goal
 
 pub returns-in_err-end : goal.returns-in_err-end
-returns-in_err-end g c = record {
-  grows = rw c.in_err-end.ensures.fetches.1 (grows_not _);
-  keeps = c.in_err-end.ensures.fetches.0;
-  spent =
-      let p = err_from_is_err_and c.from_residual.result c.from_residual.ensures.1 in
-      rw (p.1, p.2) (Spent-failed _ _ _ _ _ _ _ _ (omega arith) c.in_err-end.ensures.fetches.2 c.in_err-end.ensures.fetches.3);
-  shows = λ file held at of_kind row.
-      let p = err_from_is_err_and c.from_residual.result c.from_residual.ensures.1 in
-      let decoded = c.decode-entry.ensures.stands file c.args.row.now.at (c.whole_row.ensures ∙ row.bytes) in
-      let here : c.args.row.now.at ≡ sh_offset file (section_at file c.args.section) + c.args.row.now.index * 24 = omega (arith, of_kind.2, row.here) in
-      let symbol = c.symbol-symbol.ensures ∙ ap (λ n. n / 2 ^ 32) decoded.r_info in
-      rw (p.1, p.2, relocation_is file _ _ c.args.section (section_at file c.args.section) c.args.row.now.at _ c.args.row.now.index here refl symbol, c.in_err-end.ensures.fetches.1)
-      (Stopped-name _ _ _ _ [] _ (c.in_err-end.ensures.read file (section_at file c.args.section) held of_kind.1));
-}
+returns-in_err-end g c =
+    let p = err_from_is_err_and c.from_residual.result c.from_residual.ensures.1 in
+    rw (p.1, p.2) (Lists-unread _ _ _ _ _ _ (omega arith) c.in_err-end.ensures.fetches (λ file held at of_kind row.
+    let decoded = c.decode-entry.ensures.stands file c.args.row.now.at (c.whole_row.ensures ∙ row.bytes) in
+    let here : c.args.row.now.at ≡ sh_offset file (section_at file c.args.section) + c.args.row.now.index * 24 = omega (arith, of_kind.2, row.here) in
+    let symbol = c.symbol-symbol.ensures ∙ ap (λ n. n / 2 ^ 32) decoded.r_info in
+    rw (relocation_is file _ _ c.args.section (section_at file c.args.section) c.args.row.now.at _ c.args.row.now.index here refl symbol, c.in_err-end.ensures.fetches.1)
+    (Stopped-name _ _ _ _ [] _ (c.in_err-end.ensures.read file (section_at file c.args.section) held of_kind.1))))
 
 pub returns : goal.returns
-returns g c = record {
-  grows = rw (← c.in_ok-end.ensures.fetches.1) c.named_line.ensures.grows;
-  keeps = search rules;
-  spent = Spent-then _ _ _ _ _ _ _ _ _ _ _ (omega arith) c.in_ok-end.ensures.fetches.2 c.named_line.ensures.spent;
-  shows = λ file held at of_kind row.
-      let decoded = c.decode-entry.ensures.stands file c.args.row.now.at (c.whole_row.ensures ∙ row.bytes) in
-      let here : c.args.row.now.at ≡ sh_offset file (section_at file c.args.section) + c.args.row.now.index * 24 = omega (arith, of_kind.2, row.here) in
-      let symbol = c.symbol-symbol.ensures ∙ ap (λ n. n / 2 ^ 32) decoded.r_info in
-      let front = c.relocation_front.ensures file c.args.row.now.at decoded ∙ ap (λ m. relocation_front file c.args.row.now.at m c.args.section) of_kind.0 in
-      rw (← c.in_ok-end.ensures.fetches.1)
-      (Writes-as _ _ _ (relocation_is file _ _ c.args.section (section_at file c.args.section) c.args.row.now.at _ c.args.row.now.index here front symbol)
-      (c.named_line.ensures.shows _ _ (c.in_ok-end.ensures.read file (section_at file c.args.section) held of_kind.1)));
-}
+returns g c = Lists-named _ _ _ _ _ _ _ _ (omega arith) c.in_ok-end.ensures.fetches c.named_line.ensures (λ file held at of_kind row.
+    let decoded = c.decode-entry.ensures.stands file c.args.row.now.at (c.whole_row.ensures ∙ row.bytes) in
+    let here : c.args.row.now.at ≡ sh_offset file (section_at file c.args.section) + c.args.row.now.index * 24 = omega (arith, of_kind.2, row.here) in
+    let symbol = c.symbol-symbol.ensures ∙ ap (λ n. n / 2 ^ 32) decoded.r_info in
+    let front = c.relocation_front.ensures file c.args.row.now.at decoded ∙ ap (λ m. relocation_front file c.args.row.now.at m c.args.section) of_kind.0 in
+    rw (← c.in_ok-end.ensures.fetches.1)
+    (Writes-as _ _ _ (relocation_is file _ _ c.args.section (section_at file c.args.section) c.args.row.now.at _ c.args.row.now.index here front symbol)
+    (c.named_line.ensures.shows _ _ (c.in_ok-end.ensures.read file (section_at file c.args.section) held of_kind.1))))

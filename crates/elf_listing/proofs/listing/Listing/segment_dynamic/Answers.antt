@@ -15,33 +15,25 @@ use Rattle.elf_listing.proofs.SegmentShown.{views}
 use Rattle.elf_listing.proofs.ShowLaws.{Whole-none, Spent-behind, Spent-fault}
 use Rattle.elf_listing.proofs.ViewedLaws.{still_viewed}
 use Rattle.elf_source.proofs.GrowthLaws.{grows_not}
+use Rattle.elf_listing.proofs.ListsLaws.{Lists-nothing, Lists-refused}
 use Rattle.elf_listing.proofs.listing.Listing.segment_dynamic.Goals as goal
 
 pub returns-then-segment-ne-PT_DYNAMIC : goal.returns-then-segment-ne-PT_DYNAMIC
-returns-then-segment-ne-PT_DYNAMIC g c = record {
-  grows = search rules;
-  keeps = search rules;
-  spent = search rules;
-  shows = λ file held.
-      let viewed = views file _ _ _ (c.args.self.now.loaded.belongs file held) c.args.self.now.viewed held (omega (arith, c.requires)) in
-      let stands = c.segment.ensures.stands file (rw (c.view-view.ensures.loaded, c.view-view.ensures.store) viewed) in
-      rw (no_segment_dynamic file c.args.self.now.cap.bytes c.args.segment (λ same. c.if-segment-ne-PT_DYNAMIC.true (stands.p_type ∙ same))) (Whole-none _);
-}
+returns-then-segment-ne-PT_DYNAMIC g c = Lists-nothing _ _ _ _ (λ file held.
+    let viewed = views file _ _ _ (c.args.self.now.loaded.belongs file held) c.args.self.now.viewed held (omega (arith, c.requires)) in
+    let stands = c.segment.ensures.stands file (rw (c.view-view.ensures.loaded, c.view-view.ensures.store) viewed) in
+    rw (no_segment_dynamic file c.args.self.now.cap.bytes c.args.segment (λ same. c.if-segment-ne-PT_DYNAMIC.true (stands.p_type ∙ same))) (Whole-none _))
 
 pub returns-in_err-table : goal.returns-in_err-table
-returns-in_err-table g c = record {
-  grows = search rules;
-  keeps = search rules;
-  spent = search rules;
-  shows = λ file held.
-      let p = err_from_is_err_and c.from_residual.result c.from_residual.ensures.1 in
-      let viewed = views file _ _ _ (c.args.self.now.loaded.belongs file held) c.args.self.now.viewed held (omega (arith, c.requires)) in
-      let view : Views file c.view-view.result.loaded c.view-view.result.store.now = rw (c.view-view.ensures.loaded, c.view-view.ensures.store) viewed in
-      let stands = c.segment.ensures.stands file view in
-      let kind = sym stands.p_type ∙ c.if-segment-ne-PT_DYNAMIC.false in
-      rw (p.1, p.2) (Stopped-first _ _ _ (λ refusal is other.
-      segment_dynamic_fault file c.args.self.now.cap.bytes c.args.segment refusal kind (sym (c.in_err-table.ensures.held file view) ∙ ap (λ fault. Err fault) is)));
-}
+returns-in_err-table g c =
+    let p = err_from_is_err_and c.from_residual.result c.from_residual.ensures.1 in
+    rw (p.1, p.2) (Lists-refused _ _ _ _ (search rules) (λ file held.
+    let viewed = views file _ _ _ (c.args.self.now.loaded.belongs file held) c.args.self.now.viewed held (omega (arith, c.requires)) in
+    let view : Views file c.view-view.result.loaded c.view-view.result.store.now = rw (c.view-view.ensures.loaded, c.view-view.ensures.store) viewed in
+    let stands = c.segment.ensures.stands file view in
+    let kind = sym stands.p_type ∙ c.if-segment-ne-PT_DYNAMIC.false in
+    Stopped-first _ _ _ (λ refusal is other.
+    segment_dynamic_fault file c.args.self.now.cap.bytes c.args.segment refusal kind (sym (c.in_err-table.ensures.held file view) ∙ ap (λ fault. Err fault) is))))
 
 pub invariant_of-self : goal.invariant_of-self
 invariant_of-self g c = record {

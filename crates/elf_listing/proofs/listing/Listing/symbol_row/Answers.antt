@@ -1,34 +1,22 @@
-use Rattle.std.proofs.Common.{rules, ◌≡◌, ◌+◌, ◌*◌, refl, ◌∙◌, [], arith}
+use Rattle.std.proofs.Common.{◌≡◌, ◌+◌, ◌*◌, refl, ◌∙◌, [], arith}
 use Rattle.std.proofs.lemmas.Result.{err_from_is_err_and}
 use Rattle.elf_model.specs.Records.{section_at, sh_offset}
 use Rattle.elf_listing.proofs.RowLaws.{symbol_is, Writes-as, Stopped-name}
-use Rattle.elf_listing.proofs.ShowLaws.{Spent-failed, Spent-then}
-use Rattle.elf_source.proofs.GrowthLaws.{grows_not}
+use Rattle.elf_listing.proofs.ListsLaws.{Lists-named, Lists-unread}
 use Rattle.elf_listing.proofs.listing.Listing.symbol_row.Goals as goal
 
 pub returns-in_err-end : goal.returns-in_err-end
-returns-in_err-end g c = record {
-  grows = rw c.in_err-end.ensures.fetches.1 (grows_not _);
-  keeps = c.in_err-end.ensures.fetches.0;
-  spent =
-      let p = err_from_is_err_and c.from_residual.result c.from_residual.ensures.1 in
-      rw (p.1, p.2) (Spent-failed _ _ _ _ _ _ _ _ (omega arith) c.in_err-end.ensures.fetches.2 c.in_err-end.ensures.fetches.3);
-  shows = λ file held at of_kind row.
-      let p = err_from_is_err_and c.from_residual.result c.from_residual.ensures.1 in
-      let decoded = c.decode-symbol.ensures.stands file c.args.row.now.at (c.whole_row.ensures ∙ row.bytes) in
-      let here : c.args.row.now.at ≡ sh_offset file (section_at file c.args.section) + c.args.row.now.index * 24 = omega (arith, of_kind.1, row.here) in
-      rw (p.1, p.2, symbol_is file _ _ _ _ _ _ _ refl of_kind.0 (c.from-off.ensures ∙ decoded.st_name) here, c.in_err-end.ensures.fetches.1) (Stopped-name _ _ _ _ [] _ (c.in_err-end.ensures.read file held));
-}
+returns-in_err-end g c =
+    let p = err_from_is_err_and c.from_residual.result c.from_residual.ensures.1 in
+    rw (p.1, p.2) (Lists-unread _ _ _ _ _ _ (omega arith) c.in_err-end.ensures.fetches (λ file held at of_kind row.
+    let decoded = c.decode-symbol.ensures.stands file c.args.row.now.at (c.whole_row.ensures ∙ row.bytes) in
+    let here : c.args.row.now.at ≡ sh_offset file (section_at file c.args.section) + c.args.row.now.index * 24 = omega (arith, of_kind.1, row.here) in
+    rw (symbol_is file _ _ _ _ _ _ _ refl of_kind.0 (c.from-off.ensures ∙ decoded.st_name) here, c.in_err-end.ensures.fetches.1) (Stopped-name _ _ _ _ [] _ (c.in_err-end.ensures.read file held))))
 
 pub returns : goal.returns
-returns g c = record {
-  grows = rw (← c.in_ok-end.ensures.fetches.1) c.named_line.ensures.grows;
-  keeps = search rules;
-  spent = Spent-then _ _ _ _ _ _ _ _ _ _ _ (omega arith) c.in_ok-end.ensures.fetches.2 c.named_line.ensures.spent;
-  shows = λ file held at of_kind row.
-      let decoded = c.decode-symbol.ensures.stands file c.args.row.now.at (c.whole_row.ensures ∙ row.bytes) in
-      let here : c.args.row.now.at ≡ sh_offset file (section_at file c.args.section) + c.args.row.now.index * 24 = omega (arith, of_kind.1, row.here) in
-      rw (← c.in_ok-end.ensures.fetches.1)
-      (Writes-as _ _ _ (symbol_is file _ _ _ _ _ _ _ (c.symbol_front.ensures file c.args.row.now.at decoded) of_kind.0 (c.from-off.ensures ∙ decoded.st_name) here)
-      (c.named_line.ensures.shows _ _ (c.in_ok-end.ensures.read file held)));
-}
+returns g c = Lists-named _ _ _ _ _ _ _ _ (omega arith) c.in_ok-end.ensures.fetches c.named_line.ensures (λ file held at of_kind row.
+    let decoded = c.decode-symbol.ensures.stands file c.args.row.now.at (c.whole_row.ensures ∙ row.bytes) in
+    let here : c.args.row.now.at ≡ sh_offset file (section_at file c.args.section) + c.args.row.now.index * 24 = omega (arith, of_kind.1, row.here) in
+    rw (← c.in_ok-end.ensures.fetches.1)
+    (Writes-as _ _ _ (symbol_is file _ _ _ _ _ _ _ (c.symbol_front.ensures file c.args.row.now.at decoded) of_kind.0 (c.from-off.ensures ∙ decoded.st_name) here)
+    (c.named_line.ensures.shows _ _ (c.in_ok-end.ensures.read file held))))

@@ -1,0 +1,78 @@
+-- What a call of a listing did, by what the calls below it did.
+use Rattle.std.proofs.Common.{ℕ, ◌≤◌, Result, Ok, Err, refl, ◌∙◌, arith}
+use Rattle.elf_source.specs.declared.source.Source.{Ghosts as Sources}
+use Rattle.elf_source.specs.declared.sink.Sink.{Ghosts as Sinks}
+use Rattle.elf_source.proofs.GrowthLaws.{grows_not}
+use Rattle.elf_names.proofs.SpendsLaws.{Spends-none}
+use Rattle.elf_headers.specs.Faults.{IsOfCheck}
+use Rattle.elf_headers.specs.declared.fault.Fault.{Fault}
+use Rattle.elf_headers.specs.declared.fault.Fault.TheVariants.{Refused, Source}
+use Rattle.elf_table.specs.declared.names.NameEnd.{NameEnd}
+use Rattle.elf_table.specs.declared.names.NameEnd.TheVariants.{Whole}
+use Rattle.elf_listing.specs.Shows.{SameFile, Fetches, Lists}
+use Rattle.elf_listing.specs.Stops.{stop_of}
+use Rattle.elf_listing.specs.declared.listing.Listing.{Listing}
+use Rattle.elf_listing.specs.declared.stop.Stop.{Stop}
+use Rattle.elf_listing.proofs.ShowLaws.{Spent-failed, Spent-then, Spent-within}
+
+-- it is of the same file as before
+SameFile-not : {S W : Type 0} {s : Sources S} {w : Sinks W} (a : Listing S W s w) → SameFile a a
+SameFile-not a = record { same_src = refl; same_out = refl; same_file = refl; same_cap = refl }
+
+SameFile-then : {S W : Type 0} {s : Sources S} {w : Sinks W} {a b c : Listing S W s w} → SameFile a b → SameFile b c → SameFile a c
+SameFile-then p q = record {
+  same_src = q.same_src ∙ p.same_src;
+  same_out = q.same_out ∙ p.same_out;
+  same_file = q.same_file ∙ p.same_file;
+  same_cap = q.same_cap ∙ p.same_cap;
+}
+
+-- nothing is shown, and nothing was read
+pub Lists-nothing : {S W X : Type 0} {s : Sources S} {w : Sinks W} (a : Listing S W s w) (x : X) (n : ℕ) (shown : Type 0) → shown → Lists a a (Ok x) n shown
+Lists-nothing a x n shown is = record {
+  grows = grows_not _;
+  keeps = SameFile-not a;
+  spent = (Spends-none _ _ _ _ (omega arith), tt);
+  shows = is;
+}
+
+-- a check refused, and nothing was read
+pub Lists-refused : {S W : Type 0} {s : Sources S} {w : Sinks W} (a : Listing S W s w) (fault : Fault) (n : ℕ) (shown : Type 0)
+    → IsOfCheck fault → shown → Lists {X = Unit {0}} a a (Err (stop_of fault)) n shown
+Lists-refused a (Refused refusal) n shown check is = record {
+  grows = grows_not _;
+  keeps = SameFile-not a;
+  spent = (Spends-none _ _ _ _ (omega arith), λ budget. absurd (check budget));
+  shows = is;
+}
+Lists-refused a (Source fault at) n shown check is = absurd check
+
+-- what a name is read for was not
+pub Lists-unread : {S W : Type 0} {s : Sources S} {w : Sinks W} (a b : Listing S W s w) (fault : Fault) (n k : ℕ) (shown : Type 0)
+    → n ≤ k → Fetches {X = NameEnd} a b (Err fault) n → shown → Lists {X = Unit {0}} a b (Err (stop_of fault)) k shown
+Lists-unread a b fault n k shown within p is = record {
+  grows = rw p.1 (grows_not _);
+  keeps = p.0;
+  spent = Spent-failed _ _ _ _ _ _ _ _ within p.2 p.3;
+  shows = is;
+}
+
+-- a name was read, and then its line was written
+pub Lists-named : {S W X : Type 0} {s : Sources S} {w : Sinks W} (a b c : Listing S W s w) (result : Result X Stop) (n k : ℕ) (read shown : Type 0)
+    → n ≤ k → Fetches a b (Ok Whole) n → Lists b c result 0 read → shown → Lists a c result k shown
+Lists-named a b c result n k read shown within p q is = record {
+  grows = rw (← p.1) q.grows;
+  keeps = SameFile-then p.0 q.keeps;
+  spent = Spent-then _ _ _ _ _ _ _ _ _ _ _ (omega (arith, within)) p.2 q.spent;
+  shows = is;
+}
+
+-- what was asked for is within more
+pub Lists-within : {S W X : Type 0} {s : Sources S} {w : Sinks W} (a b : Listing S W s w) (result : Result X Stop) (n k : ℕ) (read shown : Type 0)
+    → n ≤ k → Lists a b result n read → shown → Lists a b result k shown
+Lists-within a b result n k read shown within p is = record {
+  grows = p.grows;
+  keeps = p.keeps;
+  spent = Spent-within _ _ _ _ _ _ _ _ within p.spent;
+  shows = is;
+}
