@@ -1,7 +1,7 @@
 -- The stages of a lookup in a file: what is found, and what is asked for.
 use Rattle.std.proofs.Common.{◌≡◌, ℕ, ◌+◌, ◌*◌, ◌≤◌, List, ◌++◌, length, Option, None, Some, Result, Err, refl, sym, ap, subst, ◌∙◌, arith}
 use Rattle.std.specs.Prelude.{is_none}
-use Rattle.elf_model.specs.Checks.{Check, first_refusal, length_checks, header_checks, early_checks, section_name_checks, load_checks}
+use Rattle.elf_model.specs.Checks.{first_refusal, header_checks, early_checks, section_name_checks, load_checks}
 use Rattle.elf_model.specs.Cost.{cost_where}
 use Rattle.elf_model.specs.Find.{find_cost, first_hash, hash_checks, looked, shape_checks}
 use Rattle.elf_model.specs.Hash.{Lookup as Looked, Refused as IsRefused, looked_up}
@@ -9,13 +9,12 @@ use Rattle.elf_model.specs.Records.{e_shnum, section_at}
 use Rattle.elf_model.specs.declared.causes.Cause.TheVariants.{NoHash}
 use Rattle.elf_model.specs.declared.causes.Refusal.{Refusal}
 use Rattle.elf_model.proofs.CheckSteps.{first_refusal-none, first_refusal-some, passes_front}
-use Rattle.elf_model.proofs.CostLemmas.{cost_where-le}
 use Rattle.elf_model.proofs.LookupSteps.{find_cost-early, find_cost-loaded, looked-at, looked-no_hash, looked-refused, looked_in-passed, looked_in-refused}
 use Rattle.elf_record.specs.Ehdr.{IsEhdr}
 use Rattle.elf_record.specs.declared.ehdr.Ehdr.{Ehdr}
 use Rattle.elf_source.specs.Source.{Counting}
-use Rattle.elf_headers.specs.Faults.{HeaderRead, Says, ReadSays}
-use Rattle.elf_headers.specs.Load.{LoadedAs, early_of, file_header_cost, load_cost}
+use Rattle.elf_headers.specs.Faults.{HeaderRead, ReadSays}
+use Rattle.elf_headers.specs.Load.{LoadedAs, early_of, load_cost}
 use Rattle.elf_headers.specs.Store.{Stored}
 use Rattle.elf_headers.specs.declared.fault.Fault.{Fault}
 use Rattle.elf_headers.specs.declared.fault.Fault.TheVariants.{Refused, Source}
@@ -137,3 +136,7 @@ pub cost_behind : (file : List ℕ) (headers : ℕ) (wanted : List ℕ) → Pass
 cost_behind file headers wanted passed =
     find_cost-loaded file headers wanted
     (first_refusal-none (header_checks file) (early_checks file headers) passed.header ∙ passes_front (early_checks file headers) (section_name_checks file) passed.load)
+
+-- a load asks for no more section headers than there are slots
+pub load_slots : (header : Ehdr) (size slots : ℕ) → load_cost header size slots ≤ 64 * slots
+load_slots header size slots = grind arith

@@ -63,8 +63,9 @@ abbrev pub without_command : App
 without_command = let app = new_app (codes "elfsee") in
     record app { top = record app.top { no_binary_name = true; subcommand_required = true; arg_required_else_help = true } }
 
+-- the program, with the commands that list
+abbrev pub with_listings : Words → App
+with_listings parts = with_subcommand (with_subcommand without_command (show_command parts).top) (sample_command parts).top
+
 abbrev pub program : Words → App
-program parts =
-    with_subcommand
-    (with_subcommand (with_subcommand (with_subcommand without_command (show_command parts).top) (sample_command parts).top) find_command.top)
-    apply_command.top
+program parts = with_subcommand (with_subcommand (with_listings parts) find_command.top) apply_command.top

@@ -7,7 +7,7 @@ ghost use Rattle.elf_words.specs.CommandLine.{apply_command, file_argument, find
 ghost use Rattle.elf_words.specs.CommandLine.{headers_option, item_argument, max_read_option};
 ghost use Rattle.elf_words.specs.CommandLine.{name_argument, names_option, only_option, program};
 ghost use Rattle.elf_words.specs.CommandLine.{sample_command, section_argument, show_command};
-ghost use Rattle.elf_words.specs.CommandLine.{with_listing_options, without_command};
+ghost use Rattle.elf_words.specs.CommandLine.{with_listing_options, with_listings, without_command};
 
 use clap::{Arg, Command, value_parser};
 use std::alloc::{AllocError, Global};
@@ -62,15 +62,18 @@ Example: elfsee apply example.o 1 at:1=0x401000 def:main=0x401200";
 pub fn command_line<'a>(alloc: Global, parts: &'a [&'a str]) -> Result<Command<'a>, AllocError>
     ensures { IfOk result (λ command. app_of command ≡ program parts.entry) }
 {
-    let show = show(alloc, parts)?;
-    let sample = sample(alloc, parts)?;
-    let find = find(alloc)?;
-    let apply = apply(alloc)?;
+    listings(alloc, parts)?
+        .subcommand(find(alloc)?)?
+        .subcommand(apply(alloc)?)
+}
+
+/// The program, with the commands that list.
+fn listings<'a>(alloc: Global, parts: &'a [&'a str]) -> Result<Command<'a>, AllocError>
+    ensures { IfOk result (λ command. app_of command ≡ with_listings parts.entry) }
+{
     program(alloc)?
-        .subcommand(show)?
-        .subcommand(sample)?
-        .subcommand(find)?
-        .subcommand(apply)
+        .subcommand(show(alloc, parts)?)?
+        .subcommand(sample(alloc, parts)?)
 }
 
 /// The program, without its commands.

@@ -1,5 +1,5 @@
 //! Words that spell items, and words that spell none.
-use crate::item;
+use crate::items::item;
 use elf_apply::Item;
 use std::process::Abort;
 use std::test::Fail;

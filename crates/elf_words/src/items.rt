@@ -56,7 +56,7 @@ fn put(layout: &mut Layout, word: &str) -> Result<(), RequestFault>
 /// a symbol; `plt:NAME=ADDR`, that of a symbol's procedure linkage table entry. The last `=` parts
 /// them. INDEX is 1 to 5 decimal digits, from 1 to 65279; NAME 1 to 255 bytes without NUL; ADDR
 /// `0x` and 1 to 16 hexadecimal digits of either case. None for another word.
-pub fn item(word: &str) -> Option<Item<'_>>
+pub(crate) fn item(word: &str) -> Option<Item<'_>>
     ensures spelled { IfSome result (Spells word.now) }
     ensures unspelled { IsNone result → (item : Item) → Spells word.now item → ⊥ }
 {

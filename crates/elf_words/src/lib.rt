@@ -13,7 +13,6 @@ mod requests;
 mod tests;
 mod words;
 
-pub use items::item;
 pub use names::checked_name;
 pub use requests::{Request, RequestFault, Task, Wanted};
 pub use words::request;

@@ -1,8 +1,10 @@
 -- The file header, the load, and what stands behind, each within the lookup's cost.
-use Rattle.std.proofs.Common.{ℕ, sym, ap, ◌∙◌, arith}
+use Rattle.std.proofs.Common.{ℕ, ◌/◌, length, sym, ap, ◌∙◌, arith}
 use Rattle.std.proofs.lemmas.Result.{err_from_is_err_and}
 use Rattle.elf_model.specs.Checks.{first_refusal, load_checks}
-use Rattle.elf_hash.proofs.FindLaws.{cost_behind, find_least, finds_header, finds_load, load_within}
+use Rattle.elf_source.proofs.ReadsLaws.{Reads-then, Reads-to}
+use Rattle.elf_hash.specs.Lookups.{behind_bytes}
+use Rattle.elf_hash.proofs.FindLaws.{cost_behind, find_least, finds_header, finds_load, load_slots, load_within}
 use Rattle.elf_headers.proofs.LoadLaws.{header_most, load_most, unlimited}
 use Rattle.elf_hash.proofs.finding.find.Goals as goal
 
@@ -49,3 +51,19 @@ returns-clause-asks g c = λ file held.
     let most = header_most c.args.src.now.seen.size in
     let headers = load_most c.in_ok-header.header c.header.new.src.seen.size slots in
     omega (arith, c.header.ensures.reads.at_most, c.load.ensures.reads.at_most, most, headers, behind.asks, cost, read.1.e_shnum)
+
+pub returns-in_err-loaded-clause-reads : goal.returns-in_err-loaded-clause-reads
+returns-in_err-loaded-clause-reads g c =
+    let most = header_most c.args.src.now.seen.size in
+    let headers = load_slots c.in_ok-header.header c.header.new.src.seen.size c.args.store.now.slots in
+    Reads-to (Reads-then c.header.ensures.reads c.load.ensures.reads)
+    (omega (arith, c.header.ensures.reads.at_most, c.load.ensures.reads.at_most, most, headers))
+
+pub returns-clause-reads : goal.returns-clause-reads
+returns-clause-reads g c =
+    let most = header_most c.args.src.now.seen.size in
+    let headers = load_slots c.in_ok-header.header c.header.new.src.seen.size c.args.store.now.slots in
+    let loaded = Reads-then c.header.ensures.reads c.load.ensures.reads in
+    let same = ap (λ (size : ℕ). behind_bytes (size / 4) (length c.args.wanted.now)) loaded.keeps.same_size in
+    Reads-to (Reads-then loaded c.find_in.ensures.reads)
+    (omega (arith, loaded.at_most, c.find_in.ensures.reads.at_most, same, most, headers))

@@ -135,3 +135,36 @@ returns-clause-asks g c = λ file at held is.
 pub returns-clause-walks : goal.returns-clause-walks
 returns-clause-walks g c = λ file at held is.
     walk_absent file at c.args.wanted.now _ _ _ (c.loop-index.invariant.along file at held is) (c.loop-index-test.false)
+
+pub returns-then-index-table-clause-reads : goal.returns-then-index-table-clause-reads
+returns-then-index-table-clause-reads g c =
+    let known = c.loop-index.invariant in
+    let less = walk_less c.loop-index.steps c.args.table.now.nchain (length c.args.wanted.now) known.few in
+    Reads-to known.reads (omega (arith, known.reads.at_most, less))
+
+pub returns-in_err-symbol-clause-reads : goal.returns-in_err-symbol-clause-reads
+returns-in_err-symbol-clause-reads g c =
+    let known = c.loop-index.invariant in
+    let more = walk_more c.loop-index.steps c.args.table.now.nchain (length c.args.wanted.now) (omega (arith, known.few, c.if-steps-table.false)) in
+    let reads = Reads-then known.reads c.named.ensures.reads in
+    Reads-to reads (omega (arith, reads.at_most, more))
+
+pub returns-in-Some-clause-reads : goal.returns-in-Some-clause-reads
+returns-in-Some-clause-reads g c =
+    let known = c.loop-index.invariant in
+    let more = walk_more c.loop-index.steps c.args.table.now.nchain (length c.args.wanted.now) (omega (arith, known.few, c.if-steps-table.false)) in
+    let reads = Reads-then known.reads c.named.ensures.reads in
+    Reads-to reads (omega (arith, reads.at_most, more))
+
+pub returns-in_err-index-2-clause-reads : goal.returns-in_err-index-2-clause-reads
+returns-in_err-index-2-clause-reads g c =
+    let known = c.loop-index.invariant in
+    let more = walk_more c.loop-index.steps c.args.table.now.nchain (length c.args.wanted.now) (omega (arith, known.few, c.if-steps-table.false)) in
+    let reads = Reads-then (Reads-then known.reads c.named.ensures.reads) c.read_word-in-loop-index.ensures.reads in
+    Reads-to reads (omega (arith, reads.at_most, more))
+
+pub returns-clause-reads : goal.returns-clause-reads
+returns-clause-reads g c =
+    let known = c.loop-index.invariant in
+    let less = walk_less c.loop-index.steps c.args.table.now.nchain (length c.args.wanted.now) known.few in
+    Reads-to known.reads (omega (arith, known.reads.at_most, less))

@@ -1,5 +1,5 @@
 -- The file header's checks stand before all, and its line before what is loaded.
-use Rattle.std.proofs.Common.{ℕ, ap, arith, ◌∙◌}
+use Rattle.std.proofs.Common.{◌≡◌, ℕ, Ok, Err, ap, arith, ◌∙◌}
 use Rattle.std.proofs.lemmas.Result.{err_from_is_err_and}
 use Rattle.elf_model.specs.Cost.{ceiling}
 use Rattle.elf_model.specs.Report.{load_items}
@@ -7,9 +7,14 @@ use Rattle.elf_listing.proofs.FileShown.{header_part, items_are, header_alone}
 use Rattle.elf_listing.proofs.RowLaws.{Stopped-first, Writes-as}
 use Rattle.elf_listing.proofs.SectionCosts.{slots_below, cost_is}
 use Rattle.elf_listing.proofs.ShowLaws.{Writes-then, Stopped-more, Costs-then, Costs-fault, Costs-out}
+use Rattle.elf_source.specs.Source.{Counting}
 use Rattle.elf_source.proofs.GrowthLaws.{grows_then}
 use Rattle.elf_headers.proofs.LoadLaws.{header_most}
 use Rattle.elf_listing.proofs.showing.list.Goals as goal
+
+-- what is answered is no fault
+no_fault : {X E : Type 0} {x : X} {fault : E} → Ok x ≡ Err fault → ⊥
+no_fault same = cc
 
 pub returns-in_err-header-clause-ceiling : goal.returns-in_err-header-clause-ceiling
 returns-in_err-header-clause-ceiling g c =
@@ -76,3 +81,27 @@ returns-clause-text g c = λ file held.
 
 pub returns-clause-grows : goal.returns-clause-grows
 returns-clause-grows g c = grows_then c.in_ok-list_header.ensures.grows c.list_loaded.ensures.grows
+
+pub returns-in_err-header-clause-unread : goal.returns-in_err-header-clause-unread
+returns-in_err-header-clause-unread g c = λ refusal refused. (c.header.ensures.unread refusal refused).1
+
+pub returns-in_err-header-clause-alone : goal.returns-in_err-header-clause-alone
+returns-in_err-header-clause-alone g c = λ none.
+    let most = header_most c.args.src.now.seen.size in omega (arith, most, c.header.ensures.reads.at_most)
+
+pub returns-in_err-list_header-clause-unread : goal.returns-in_err-list_header-clause-unread
+returns-in_err-list_header-clause-unread g c = λ refusal refused. (c.header.ensures.unread refusal refused).1
+
+pub returns-in_err-list_header-clause-alone : goal.returns-in_err-list_header-clause-alone
+returns-in_err-list_header-clause-alone g c = λ none.
+    let most = header_most c.args.src.now.seen.size in omega (arith, most, c.header.ensures.reads.at_most)
+
+pub returns-clause-unread : goal.returns-clause-unread
+returns-clause-unread g c = λ refusal refused.
+    absurd (no_fault (c.in_ok-header.ensures.unread refusal refused).0)
+
+pub returns-clause-alone : goal.returns-clause-alone
+returns-clause-alone g c = λ none.
+    let most = header_most c.args.src.now.seen.size in
+    let same = ap (λ (source : Counting). source.asked) (c.list_loaded.ensures.alone none) in
+    omega (arith, most, same, c.header.ensures.reads.at_most)

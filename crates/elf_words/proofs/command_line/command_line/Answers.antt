@@ -5,8 +5,6 @@ use Rattle.elf_words.proofs.command_line.command_line.Goals as goal
 
 pub returns : goal.returns
 returns c =
-    let one = c.in_ok-subcommand.ensures.shape c.in_ok-show.ensures.local ∙ ap₂ with_subcommand c.in_ok-program.ensures (ap (λ app. app.top) c.in_ok-show.ensures.app) in
-    let two = c.in_ok-subcommand-2.ensures.shape c.in_ok-sample.ensures.local ∙ ap₂ with_subcommand one (ap (λ app. app.top) c.in_ok-sample.ensures.app) in
-    let three = c.in_ok-subcommand-3.ensures.shape c.in_ok-find.ensures.local ∙ ap₂ with_subcommand two (ap (λ app. app.top) c.in_ok-find.ensures.app) in
-    IfOk-weaker c.subcommand-4.result _ _ (λ whole added. added.shape c.in_ok-apply.ensures.local ∙ ap₂ with_subcommand three (ap (λ app. app.top) c.in_ok-apply.ensures.app))
-    c.subcommand-4.ensures
+    let one = c.in_ok-subcommand.ensures.shape c.in_ok-find.ensures.local ∙ ap₂ with_subcommand c.in_ok-listings.ensures (ap (λ app. app.top) c.in_ok-find.ensures.app) in
+    IfOk-weaker c.subcommand-2.result _ _ (λ whole added. added.shape c.in_ok-apply.ensures.local ∙ ap₂ with_subcommand one (ap (λ app. app.top) c.in_ok-apply.ensures.app))
+    c.subcommand-2.ensures
