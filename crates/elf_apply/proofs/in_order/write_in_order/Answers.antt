@@ -1,4 +1,4 @@
-use Rattle.std.proofs.Common.{refl, sym, ap, ◌∙◌, subst, ◌+◌, ◌-◌, ◌≤◌, arith, length, List, ℕ, ◌≡◌, Err}
+use Rattle.std.proofs.Common.{rules, refl, sym, ap, ◌∙◌, subst, ◌+◌, ◌-◌, ◌≤◌, arith, length, List, ℕ, ◌≡◌, Err}
 use Rattle.std.proofs.lemmas.Result.{err_from_is_err_and}
 use Rattle.elf_source.proofs.ReadsLaws.{Reads-none, Reads-then, Reads-to}
 use Rattle.elf_headers.proofs.OpenLaws.{still_open}
@@ -95,8 +95,12 @@ returns-in_err-placed-clause-text g c = λ file held patches are inside rises.
     (finds_refusal file c.args.target.now c.entries.entries c.next.new.self c.in_err-placed.field-0.0 (c.in_err-placed.ensures.finds file (known.reads_most.keeps.same_file ∙ held) (known.reads file held)))
     (p.1 ∙ ap Err p.2)
 
-pub next-requires-clause-opened : goal.next-requires-clause-opened
-next-requires-clause-opened g c = still_open _ _ c.entries.invariant.reads_most c.requires.opened
+pub next-requires : goal.next-requires
+next-requires g c = record {
+  unlimited = search rules;
+  opened = still_open _ _ c.entries.invariant.reads_most c.requires.opened;
+  goes = search rules;
+}
 
 pub returns-in_err-placed-clause-says : goal.returns-in_err-placed-clause-says
 returns-in_err-placed-clause-says g c =

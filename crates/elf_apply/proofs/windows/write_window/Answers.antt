@@ -1,4 +1,4 @@
-use Rattle.std.proofs.Common.{ap, ◌∙◌, ◌+◌, ◌≤◌, arith, length, Err}
+use Rattle.std.proofs.Common.{rules, ap, ◌∙◌, ◌+◌, ◌≤◌, arith, length, Err}
 use Rattle.std.proofs.lemmas.Result.{err_from_is_err_and}
 use Rattle.elf_headers.proofs.OpenLaws.{still_open}
 use Rattle.elf_apply.specs.Walk.{changes_all}
@@ -12,7 +12,7 @@ returns-clause-text g c = λ file held patches are inside.
     let belongs = c.requires.opened.belongs file held in
     let long : c.args.at + c.args.target.now.size ≤ length file = omega (arith, belongs.size, c.requires.opened.size, c.requires.within) in
     let done = window_done file c.args.at c.args.target.now.size c.args.low (length c.args.window.now) (length c.fill.new.out) (changes_all file c.args.target.now) patches c.fill.new.out long c.requires.part (c.in_ok-fill.ensures.read file held) c.fill.auto.out are inside in
-    let same = folds_ok c.patch_window.new.window _ _ (c.in_ok-patch_window.ensures.patched file (c.fill.ensures.reads.keeps.same_file ∙ held)) done in
+    let same = folds_ok c.patch_window.new.window _ _ (c.in_ok-patch_window.ensures.told file (c.fill.ensures.reads.keeps.same_file ∙ held)) done in
     takes_as _ _ _ _ same c.in_ok-put.ensures.puts.0
 
 pub returns-in_err-put-clause-text : goal.returns-in_err-put-clause-text
@@ -21,7 +21,7 @@ returns-in_err-put-clause-text g c = λ file held patches are inside.
     let belongs = c.requires.opened.belongs file held in
     let long : c.args.at + c.args.target.now.size ≤ length file = omega (arith, belongs.size, c.requires.opened.size, c.requires.within) in
     let done = window_done file c.args.at c.args.target.now.size c.args.low (length c.args.window.now) (length c.fill.new.out) (changes_all file c.args.target.now) patches c.fill.new.out long c.requires.part (c.in_ok-fill.ensures.read file held) c.fill.auto.out are inside in
-    let same = folds_ok c.patch_window.new.window _ _ (c.in_ok-patch_window.ensures.patched file (c.fill.ensures.reads.keeps.same_file ∙ held)) done in
+    let same = folds_ok c.patch_window.new.window _ _ (c.in_ok-patch_window.ensures.told file (c.fill.ensures.reads.keeps.same_file ∙ held)) done in
     rw (p.1, p.2) (front_as _ _ _ _ same c.in_err-put.ensures.puts.0)
 
 pub returns-in_err-patch_window-clause-text : goal.returns-in_err-patch_window-clause-text
@@ -31,7 +31,7 @@ returns-in_err-patch_window-clause-text g c = λ file held patches are inside.
     let long : c.args.at + c.args.target.now.size ≤ length file = omega (arith, belongs.size, c.requires.opened.size, c.requires.within) in
     let done = window_done file c.args.at c.args.target.now.size c.args.low (length c.args.window.now) (length c.fill.new.out) (changes_all file c.args.target.now) patches c.fill.new.out long c.requires.part (c.in_ok-fill.ensures.read file held) c.fill.auto.out are inside in
     pass_failed (Unit {0}) c.args.out.now c.in_err-patch_window.field-0.0 _ _ c.patch_window.new.window _ (p.1 ∙ ap Err p.2) done
-    (c.in_err-patch_window.ensures.patched file (c.fill.ensures.reads.keeps.same_file ∙ held))
+    (c.in_err-patch_window.ensures.told file (c.fill.ensures.reads.keeps.same_file ∙ held))
 
 pub returns-in_err-fill-clause-text : goal.returns-in_err-fill-clause-text
 returns-in_err-fill-clause-text g c = λ file held patches are inside.
@@ -55,5 +55,10 @@ returns-in_err-put-clause-wrote g c =
     let more = front_written _ _ _ c.in_err-put.ensures.puts.0 in
     rw (p.1) (omega (arith, more, c.patch_window.auto.window, c.fill.auto.out))
 
-pub patch_window-requires-clause-opened : goal.patch_window-requires-clause-opened
-patch_window-requires-clause-opened g c = still_open _ _ c.fill.ensures.reads c.requires.opened
+pub patch_window-requires : goal.patch_window-requires
+patch_window-requires g c = record {
+  unlimited = search rules;
+  opened = still_open _ _ c.fill.ensures.reads c.requires.opened;
+  within = search rules;
+  fits = search rules;
+}
