@@ -1,9 +1,12 @@
 -- One pass over entries whose offsets never fall: what is held, and how far the section has come.
-use Rattle.std.specs.Prelude.{ℕ, ◌≡◌, ◌+◌, ◌≤◌, List, [], ◌∷◌, length, take, drop, Ok}
+use Rattle.std.specs.Prelude.{ℕ, ◌≡◌, ◌+◌, ◌≤◌, List, [], ◌∷◌, length, take, drop, Some, Result, Ok, IfErr}
 use Rattle.elf_model.specs.Apply.{Patch, Change, patches_of, patched}
 use Rattle.elf_model.specs.ApplyLaws.{AllInside}
 use Rattle.elf_model.specs.Bytes.{slice}
+use Rattle.elf_source.specs.Growth.{Grows}
 use Rattle.elf_source.specs.Output.{Written, Takes}
+use Rattle.elf_source.specs.Source.{Counting, Reads}
+use Rattle.elf_apply.specs.Windows.{ApplyFaultSays, WritesBytes, WroteBytes}
 use Rattle.elf_apply.specs.declared.fault.ApplyFault.{ApplyFault}
 use Rattle.elf_apply.specs.declared.fault.ApplyFault.TheVariants.{Refused, Source, Out}
 
@@ -45,3 +48,12 @@ abbrev pub IsNoRefusal : ApplyFault → Type 0
 IsNoRefusal (Refused refusal) = ⊥
 IsNoRefusal (Source fault at) = Unit {0}
 IsNoRefusal (Out fault) = Unit {0}
+
+-- what a call did that writes n bytes of the source as they stand, and refuses nothing; and this holds of the file
+pub record Copies {X : Type 0} (before after : Counting) (old new : Written) (result : Result X ApplyFault) (n : ℕ) (Text : List ℕ → Type 0) : Type 0 where
+  pub says : IfErr result (ApplyFaultSays before after new)
+  pub kept : IfErr result IsNoRefusal
+  pub reads : Reads before after n
+  pub grows : Grows old new
+  pub wrote : WroteBytes old new result n
+  pub text : (file : List ℕ) → before.seen.file ≡ Some file → Text file

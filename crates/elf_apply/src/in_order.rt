@@ -1,20 +1,20 @@
 //! The section with its relocations applied, in one pass over entries whose offsets never fall.
 ghost use Rattle.std.specs.Prelude.{◌≡◌, ◌+◌, ◌-◌, ◌^◌, ◌<◌, ◌≤◌, ℕ, List, [], length, take, drop};
-ghost use Rattle.std.specs.Prelude.{None, Some, Ok, Err, IfErr, OnOk};
-ghost use Rattle.elf_model.specs.Apply.{patches_of, patched, put};
-ghost use Rattle.elf_model.specs.ApplyLaws.{AllInside, clipped};
+ghost use Rattle.std.specs.Prelude.{None, Some, Err, IfErr, OnOk};
+ghost use Rattle.elf_model.specs.Apply.{put};
+ghost use Rattle.elf_model.specs.ApplyLaws.{clipped};
 ghost use Rattle.elf_model.specs.Bytes.{slice};
 ghost use Rattle.elf_model.specs.declared.causes.Cause.TheVariants.{PlaceOutside};
 ghost use Rattle.elf_reloc.specs.Types.{patched_bytes};
 ghost use Rattle.elf_source.specs.Output.{Puts};
 ghost use Rattle.elf_source.specs.Growth.{Grows};
 ghost use Rattle.elf_source.specs.Source.{Reads};
-ghost use Rattle.elf_headers.specs.Load.{IsOpen};
 ghost use Rattle.elf_headers.specs.Faults.{ReadSays};
 ghost use Rattle.elf_apply.specs.Entries.{patch_as};
-ghost use Rattle.elf_apply.specs.InOrder.{IsNoRefusal, Midway, Rises, end_of};
-ghost use Rattle.elf_apply.specs.Walk.{changes_all, walk_all};
-ghost use Rattle.elf_apply.specs.Windows.{ApplyFaultSays, IsUnread, WritesBytes, WroteBytes};
+ghost use Rattle.elf_apply.specs.InOrder.{Copies, IsNoRefusal, Midway, Rises, end_of};
+ghost use Rattle.elf_apply.specs.Walk.{walk_all};
+ghost use Rattle.elf_apply.specs.Windows.{ApplyFaultSays, IsUnread, MayWrite, OfPatches};
+ghost use Rattle.elf_apply.specs.Windows.{WritesBytes, WritesOut, WroteBytes};
 ghost use Rattle.elf_apply.specs.declared.fault.ApplyFault.TheVariants.{Refused as RefusedOf};
 
 use crate::entry::{Placed, Target};
@@ -298,13 +298,8 @@ fn copy<S: Source, W: Sink>(
     requires unlimited { src.old.most ≡ None }
     requires within { at + size ≤ src.old.seen.size }
     requires fits { src.old.seen.size < 2 ^ 64 }
-    ensures says { IfErr result (ApplyFaultSays src.old src.new out.new) }
-    ensures kept { IfErr result IsNoRefusal }
-    ensures reads { Reads src.old src.new size }
-    ensures grows { Grows out.old out.new }
-    ensures wrote { WroteBytes out.old out.new result size }
-    ensures text { (file : List ℕ) → src.old.seen.file ≡ Some file → at + size ≤ length file →
-        WritesBytes out.old out.new result (slice file at size) }
+    ensures { Copies src.old src.new out.old out.new result size (λ file.
+        at + size ≤ length file → WritesBytes out.old out.new result (slice file at size)) }
 {
     let mut done = 0;
     'pages: while done < size {
@@ -326,13 +321,8 @@ fn copy_page<S: Source, W: Sink>(
     requires unlimited { src.old.most ≡ None }
     requires few { length page.old ≤ 4096 }
     requires within { at + length page.old ≤ src.old.seen.size }
-    ensures says { IfErr result (ApplyFaultSays src.old src.new out.new) }
-    ensures kept { IfErr result IsNoRefusal }
-    ensures reads { Reads src.old src.new (length page.old) }
-    ensures grows { Grows out.old out.new }
-    ensures wrote { WroteBytes out.old out.new result (length page.old) }
-    ensures text { (file : List ℕ) → src.old.seen.file ≡ Some file →
-        WritesBytes out.old out.new result (slice file at (length page.old)) }
+    ensures { Copies src.old src.new out.old out.new result (length page.old) (λ file.
+        WritesBytes out.old out.new result (slice file at (length page.old))) }
 {
     fill(src, at, page)?;
     out.put(page)?;
@@ -346,18 +336,10 @@ pub(crate) fn write_in_order<S: Source, W: Sink>(
     at: u64,
     out: &mut Out<W>,
 ) -> Result<(), ApplyFault>
-    requires unlimited { src.old.most ≡ None }
-    requires opened { IsOpen src.old target.now.file.loaded target.now.file.store.now }
-    requires within { at + target.now.size ≤ src.old.seen.size }
-    requires fits { src.old.seen.size < 2 ^ 64 }
-    ensures says { IfErr result (ApplyFaultSays src.old src.new out.new) }
-    ensures grows { Grows out.old out.new }
-    ensures wrote { WroteBytes out.old out.new result target.now.size }
-    ensures reads { Reads src.old src.new (walk_all target.now + target.now.size) }
-    ensures text { (file : List ℕ) → src.old.seen.file ≡ Some file → (patches : List _) →
-        patches_of (changes_all file target.now) ≡ Ok patches → AllInside target.now.size patches →
-        Rises 0 patches →
-        WritesBytes out.old out.new result (patched patches (slice file at target.now.size)) }
+    requires { MayWrite src.old target.now at src.old.seen.size }
+    ensures { WritesOut src.old src.new out.old out.new result
+        (walk_all target.now + target.now.size) target.now.size (OfPatches target.now at
+        (λ patches text. Rises 0 patches → WritesBytes out.old out.new result text)) }
 {
     let size = target.size;
     let mut entries = Entries::new();
