@@ -81,11 +81,11 @@ pub record MayConsultLinked (src : Counting) (linked : Option (Rows × Strings))
   pub within : IfSome linked (SymbolsWithin src.seen.size)
 
 -- what a call did that reads what an entry at an offset stores, bytes that lie inside the section
-pub record ConsultsEntry {X : Type 0} (old new : Counting) (result : Result X Fault) (target : TargetCode) (linked : Option (Rows × Strings)) (entry : Rela) (at : ℕ) (Inside : ℕ → X → Type 0) (Stored : Target → ℕ → Type 0) : Type 0 where
+pub record ConsultsEntry {X : Type 0} (old new : Counting) (result : Result X Fault) (target : TargetCode) (linked : Option (Rows × Strings)) (entry : Rela) (at : ℕ) (Inside : ℕ → X → Type 0) (Told : Target → ℕ → Type 0) : Type 0 where
   pub reads : Reads old new (24 + layout_names_cost target.layout.now)
   pub says : IfErr result (ReadSays old new)
   pub inside : IfOk result (Inside target.size)
-  pub change : (file : List ℕ) (header : ℕ) → old.seen.file ≡ Some file → RefersTo file header linked → IsRela file at entry → Stored (target_as file target) header
+  pub change : (file : List ℕ) (header : ℕ) → old.seen.file ≡ Some file → RefersTo file header linked → IsRela file at entry → Told (target_as file target) header
 
 -- what a call did that reads S or L for the entry at an offset, which names the symbol of an index; of symbol 0 it reads nothing
 pub record ConsultsTerm (old new : Counting) (result : Result ℕ Fault) (layout : Layout) (symbol : ℕ) (linked : Option (Rows × Strings)) (at : ℕ) (formula : Formula) : Type 0 where

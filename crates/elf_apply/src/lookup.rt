@@ -1,5 +1,5 @@
 //! The value of a symbol in a layout.
-ghost use Rattle.std.specs.Prelude.{◌≡◌, ◌≤◌, ℕ, List, length, Err, IfErr};
+ghost use Rattle.std.specs.Prelude.{◌≡◌, ℕ, List, Err, IfErr};
 ghost use Rattle.elf_model.specs.ApplyCost.{layout_names_cost};
 ghost use Rattle.elf_model.specs.Placing.{address_in, address_named, linkage_value, named_or};
 ghost use Rattle.elf_model.specs.Placing.{placed_at, symbol_value, undefined_value};

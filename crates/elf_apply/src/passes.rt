@@ -1,5 +1,5 @@
 //! The passes over the relocation entries for a section.
-ghost use Rattle.std.specs.Prelude.{◌≡◌, ◌+◌, ◌<◌, ◌^◌, ◌&&◌, ℕ, List, nat_le, length};
+ghost use Rattle.std.specs.Prelude.{◌≡◌, ◌+◌, ◌<◌, ◌^◌, ◌&&◌, nat_le, length};
 ghost use Rattle.elf_model.specs.Apply.{put};
 ghost use Rattle.elf_model.specs.ApplyLaws.{clipped};
 ghost use Rattle.elf_apply.specs.Costs.{Consults};
