@@ -20,6 +20,11 @@ pub record Holding : Type 0 where
   pub low : ℕ
   pub bytes : List ℕ
 
+-- what is held is these bytes, from this offset on
+pub record IsHeldFrom (h : Holding) (begin : ℕ) (text : List ℕ) : Type 0 where
+  pub low : h.low ≡ begin
+  pub bytes : h.bytes ≡ text
+
 -- where they end
 abbrev pub end_of : Holding → ℕ
 end_of h = h.low + length h.bytes

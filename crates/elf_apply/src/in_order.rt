@@ -6,8 +6,8 @@ ghost use Rattle.elf_model.specs.Bytes.{slice};
 ghost use Rattle.elf_reloc.specs.Types.{patched_bytes};
 ghost use Rattle.elf_source.specs.Output.{Puts};
 ghost use Rattle.elf_apply.specs.Entries.{patch_as};
-ghost use Rattle.elf_apply.specs.InOrder.{Copies, MayRead, ReadsOn, Rises, StoresEntry};
-ghost use Rattle.elf_apply.specs.InOrder.{WritesUpTo, end_of};
+ghost use Rattle.elf_apply.specs.InOrder.{Copies, IsHeldFrom, MayRead, ReadsOn, Rises};
+ghost use Rattle.elf_apply.specs.InOrder.{StoresEntry, WritesUpTo, end_of};
 ghost use Rattle.elf_apply.specs.Walk.{walk_all};
 ghost use Rattle.elf_apply.specs.Windows.{MayWrite, OfPatches, WritesBytes, WritesOut};
 
@@ -48,8 +48,7 @@ impl Model for Held {
 impl Held {
     /// Nothing, at the section's begin.
     fn new() -> Held
-        ensures low { result.low ≡ 0 }
-        ensures bytes { result.bytes ≡ [] }
+        ensures { IsHeldFrom result 0 [] }
     {
         Held {
             low: 0,
@@ -78,8 +77,7 @@ impl Held {
     fn skip(&mut self, count: usize)
         requires few { count ≤ length self.old.bytes }
         requires fits { self.old.low + count < 2 ^ 64 }
-        ensures low { self.new.low ≡ self.old.low + count }
-        ensures bytes { self.new.bytes ≡ drop count self.old.bytes }
+        ensures { IsHeldFrom self.new (self.old.low + count) (drop count self.old.bytes) }
     {
         self.low += count as u64;
         self.from += count;
@@ -91,8 +89,7 @@ impl Held {
         requires few { count ≤ length self.old.bytes }
         requires fits { self.old.low + count < 2 ^ 64 }
         ensures puts { Puts out.old out.new result (take count self.old.bytes) }
-        ensures low { self.new.low ≡ self.old.low + count }
-        ensures bytes { self.new.bytes ≡ drop count self.old.bytes }
+        ensures rest { IsHeldFrom self.new (self.old.low + count) (drop count self.old.bytes) }
     {
         let from = self.from;
         let answer = out.put(&self.bytes[from..from + count]);
@@ -103,8 +100,7 @@ impl Held {
     /// Goes to an offset with nothing held: what stands before it is written.
     fn jump(&mut self, end: u64)
         requires { self.old.bytes ≡ [] }
-        ensures low { self.new.low ≡ end }
-        ensures bytes { self.new.bytes ≡ [] }
+        ensures { IsHeldFrom self.new end [] }
     {
         self.low = end;
     }

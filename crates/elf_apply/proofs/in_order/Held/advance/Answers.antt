@@ -46,7 +46,7 @@ returns-in_err-copy g c = record {
   text = λ file held size now long within midway.
       let p = err_from_is_err_and c.from_residual-in_err-copy.result c.from_residual-in_err-copy.ensures.1 in
       let is : c.min-ready.result ≡ min (c.args.end - c.args.self.now.low) (length c.args.self.now.bytes) = omega (arith, c.min-ready.ensures, c.low.ensures, c.len.ensures.value) in
-      let text = gone_text file c.args.at size now c.args.self.now c.release.new.self c.min-ready.result c.args.end c.low-low.result is c.requires.low c.release.ensures.low c.release.ensures.bytes c.low-low.ensures c.if-low-end.true within midway in
+      let text = gone_text file c.args.at size now c.args.self.now c.release.new.self c.min-ready.result c.args.end c.low-low.result is c.requires.low c.release.ensures.rest.low c.release.ensures.rest.bytes c.low-low.ensures c.if-low-end.true within midway in
       rw (p.1, p.2) (writes_as (Unit {0}) c.args.out.now c.copy.new.out (Err c.in_err-copy.field-0.0) _ _ text
       (writes_then (Unit {0}) c.args.out.now c.release.new.out c.copy.new.out (Err c.in_err-copy.field-0.0) _ _
       c.in_ok-release.ensures.puts.0 (c.in_err-copy.ensures.text file held (omega (arith, long, within, c.if-low-end.true)))));
@@ -64,15 +64,15 @@ returns-in_ok-copy g c = record {
   wrote = search rules;
   text = λ file held size now long within midway.
       let is : c.min-ready.result ≡ min (c.args.end - c.args.self.now.low) (length c.args.self.now.bytes) = omega (arith, c.min-ready.ensures, c.low.ensures, c.len.ensures.value) in
-      let text = gone_text file c.args.at size now c.args.self.now c.release.new.self c.min-ready.result c.args.end c.low-low.result is c.requires.low c.release.ensures.low c.release.ensures.bytes c.low-low.ensures c.if-low-end.true within midway in
+      let text = gone_text file c.args.at size now c.args.self.now c.release.new.self c.min-ready.result c.args.end c.low-low.result is c.requires.low c.release.ensures.rest.low c.release.ensures.rest.bytes c.low-low.ensures c.if-low-end.true within midway in
       takes_as _ _ _ _ text (Takes-then _ _ c.in_ok-release.ensures.puts.0 (c.in_ok-copy.ensures.text file held (omega (arith, long, within, c.if-low-end.true))));
   still = λ file held size now long within midway.
       let is : c.min-ready.result ≡ min (c.args.end - c.args.self.now.low) (length c.args.self.now.bytes) = omega (arith, c.min-ready.ensures, c.low.ensures, c.len.ensures.value) in
       let base : List ℕ = slice file c.args.at size in
       let sized : length base ≡ size = slice-size file c.args.at size long in
-      let none = all_gone file c.args.at size now c.args.self.now c.release.new.self c.min-ready.result c.args.end c.low-low.result is c.requires.low c.release.ensures.low c.release.ensures.bytes c.low-low.ensures c.if-low-end.true in
+      let none = all_gone file c.args.at size now c.args.self.now c.release.new.self c.min-ready.result c.args.end c.low-low.result is c.requires.low c.release.ensures.rest.low c.release.ensures.rest.bytes c.low-low.ensures c.if-low-end.true in
       midway_jump base now c.release.new.self c.jump.new.self none c.jump.ensures.bytes (omega (arith, c.jump.ensures.low, c.low-low.ensures, c.if-low-end.true)) (omega (arith, c.jump.ensures.low, sized, within))
-      (midway_skip base now c.args.self.now c.release.new.self c.min-ready.result (omega (arith, is)) c.release.ensures.low c.release.ensures.bytes midway);
+      (midway_skip base now c.args.self.now c.release.new.self c.min-ready.result (omega (arith, is)) c.release.ensures.rest.low c.release.ensures.rest.bytes midway);
 }
 
 pub returns-else-low-end : goal.returns-else-low-end
@@ -80,15 +80,15 @@ returns-else-low-end g c = record {
   says = search rules;
   low = search rules;
   long =
-      omega (arith, ap length c.release.ensures.bytes, length-drop c.min-ready.result c.args.self.now.bytes, c.min-ready.ensures, c.len.ensures.value, c.low.ensures, c.low-low.ensures, c.release.ensures.low, c.if-low-end.false, c.requires.low);
+      omega (arith, ap length c.release.ensures.rest.bytes, length-drop c.min-ready.result c.args.self.now.bytes, c.min-ready.ensures, c.len.ensures.value, c.low.ensures, c.low-low.ensures, c.release.ensures.rest.low, c.if-low-end.false, c.requires.low);
   kept = search rules;
   reads = search rules;
   grows = search rules;
   wrote = search rules;
   text = λ file held size now long within midway.
       let few : c.min-ready.result ≤ length c.args.self.now.bytes = omega (arith, c.min-ready.ensures, c.len.ensures.value) in
-      let all : c.min-ready.result ≡ c.args.end - c.args.self.now.low = omega (arith, c.min-ready.ensures, c.low.ensures, c.low-low.ensures, c.release.ensures.low, c.if-low-end.false, c.requires.low) in
+      let all : c.min-ready.result ≡ c.args.end - c.args.self.now.low = omega (arith, c.min-ready.ensures, c.low.ensures, c.low-low.ensures, c.release.ensures.rest.low, c.if-low-end.false, c.requires.low) in
       takes_as _ _ _ _ (front_part (slice file c.args.at size) now c.args.self.now c.min-ready.result few midway ∙ ap (slice now c.args.self.now.low) all) c.in_ok-release.ensures.puts.0;
   still = λ file held size now long within midway.
-      midway_skip (slice file c.args.at size) now c.args.self.now c.release.new.self c.min-ready.result (omega (arith, c.min-ready.ensures, c.len.ensures.value)) c.release.ensures.low c.release.ensures.bytes midway;
+      midway_skip (slice file c.args.at size) now c.args.self.now c.release.new.self c.min-ready.result (omega (arith, c.min-ready.ensures, c.len.ensures.value)) c.release.ensures.rest.low c.release.ensures.rest.bytes midway;
 }
