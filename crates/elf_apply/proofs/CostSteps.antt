@@ -6,7 +6,7 @@ use Rattle.std.specs.Prelude.{is_none}
 use Rattle.elf_model.specs.Apply.{applies_to, places_from, before_entries, held_bytes}
 use Rattle.elf_model.specs.ApplyCost.{entries_in as file_entries_in, entries_for, layout_names_cost, apply_cost, apply_cost_in_order, apply_cost_by_order, offsets_never_fall, cost_with, window_passes}
 use Rattle.elf_model.specs.Bytes.{slice}
-use Rattle.elf_model.specs.Checks.{refuse, first_refusal, table_checks, table_checks_of, is_outside, length_checks, header_checks, early_checks, load_checks, section_name_checks}
+use Rattle.elf_model.specs.Checks.{refuse, first_refusal, table_checks, table_checks_of, is_outside, header_checks, early_checks, load_checks, section_name_checks}
 use Rattle.elf_model.specs.Cost.{sum_over, cost_where}
 use Rattle.elf_model.specs.Placing.{Layout}
 use Rattle.elf_model.specs.Numbers.{SHT_RELA}
@@ -21,7 +21,7 @@ use Rattle.elf_model.proofs.CostLemmas.{sum_over-le}
 use Rattle.elf_model.proofs.Slices.{field-slice}
 use Rattle.elf_record.specs.Ehdr.{IsEhdr}
 use Rattle.elf_record.specs.declared.ehdr.Ehdr.{Ehdr}
-use Rattle.elf_headers.specs.Load.{Belongs, early_of, file_header_cost, load_cost}
+use Rattle.elf_headers.specs.Load.{Belongs, early_of, load_cost}
 use Rattle.elf_headers.specs.Store.{row}
 use Rattle.elf_apply.specs.Applied.{StandsFor, passes_cost}
 use Rattle.elf_apply.specs.Walk.{entry_count_in, entries_from, sections_of, walk_all, beside_entry_cost}

@@ -1,6 +1,6 @@
 -- A section window by window.
-use Rattle.std.proofs.Common.{◌≡◌, ℕ, ◌+◌, ◌-◌, ◌*◌, ◌<◌, ◌≤◌, List, [], ◌∷◌, ◌++◌, length, take, drop, min, map, Result, Ok, Err, refl, sym, ap, ◌∙◌, subst, arith, length-drop, length-take-le, length-append, replicate, take-take}
-use Rattle.std.proofs.lemmas.List.{take_all, drop-take, drop-drop, take-append-drop, length-replicate}
+use Rattle.std.proofs.Common.{◌≡◌, ℕ, ◌+◌, ◌-◌, ◌*◌, ◌<◌, ◌≤◌, List, [], ◌∷◌, ◌++◌, length, take, drop, min, map, Result, Ok, Err, refl, sym, ap, ◌∙◌, subst, arith, length-take-le, length-append, replicate}
+use Rattle.std.proofs.lemmas.List.{take_all, take-append-drop, length-replicate}
 use Rattle.std.proofs.Math.Nat.{mul-le-mul_right}
 use Rattle.std.proofs.Math.Seq.{take-add}
 use Rattle.elf_model.specs.Apply.{Patch, Change, Put, Fails, put, patched, patches_of, and_patches}

@@ -1,13 +1,17 @@
 -- The section with its relocations applied.
-use Rattle.std.specs.Prelude.{ℕ, ◌≡◌, ◌+◌, ◌-◌, ◌*◌, ◌^◌, ◌/◌, ◌≤◌, min, List, [], length, None, Some, Result, Ok, Err}
-use Rattle.elf_model.specs.Apply.{apply_checks, before_entries, held_bytes}
-use Rattle.elf_model.specs.ApplyCost.{layout_names_cost}
+use Rattle.std.specs.Prelude.{ℕ, ◌≡◌, ◌+◌, ◌-◌, ◌*◌, ◌^◌, ◌/◌, ◌<◌, ◌≤◌, min, true, List, [], length, None, Some, Result, Ok, Err, IfErr}
+use Rattle.elf_model.specs.Apply.{applied, apply_checks, before_entries, held_bytes}
+use Rattle.elf_model.specs.ApplyCost.{apply_cost_by_order, entries_for, layout_names_cost, offsets_never_fall}
 use Rattle.elf_model.specs.Bytes.{slice}
-use Rattle.elf_model.specs.Checks.{first_refusal}
+use Rattle.elf_model.specs.Checks.{first_refusal, header_checks}
 use Rattle.elf_model.specs.Placing.{Layout}
-use Rattle.elf_model.specs.Records.{section_at}
+use Rattle.elf_model.specs.Records.{e_shnum, section_at}
 use Rattle.elf_model.specs.declared.causes.Refusal.{Refusal}
+use Rattle.elf_source.specs.Growth.{Grows}
 use Rattle.elf_source.specs.Output.{Written, Takes, TakesFront}
+use Rattle.elf_source.specs.Source.{Counting, Reads}
+use Rattle.elf_headers.specs.Load.{IsOpen, Opened}
+use Rattle.elf_headers.specs.Store.{Stored}
 use Rattle.elf_headers.specs.declared.fault.Fault.{Fault}
 use Rattle.elf_headers.specs.declared.fault.Fault.TheVariants.{Refused as Refuses, Source as Unread}
 use Rattle.elf_apply.specs.declared.applying.Applied.{Applied}
@@ -15,6 +19,7 @@ use Rattle.elf_apply.specs.declared.entry.Target.{Target}
 use Rattle.elf_apply.specs.declared.fault.ApplyFault.{ApplyFault}
 use Rattle.elf_apply.specs.declared.fault.ApplyFault.TheVariants.{Refused, Source, Out}
 use Rattle.elf_apply.specs.Walk.{walk_all}
+use Rattle.elf_apply.specs.Windows.{ApplyFaultSays, windows}
 
 -- where a section's bytes stand, or the first check that fails
 abbrev pub HeldIs : List ℕ → ℕ → Result (ℕ × ℕ) Fault → Type 0
@@ -58,3 +63,34 @@ behind_ceiling size headers layout = (1 + (size + 63) / 64) * (headers * (size /
 -- how many bytes may be asked for, for every source
 abbrev pub apply_ceiling : ℕ → ℕ → Layout → ℕ
 apply_ceiling size headers layout = 64 + 64 * headers + behind_ceiling size headers layout
+
+-- what a call did that checks all entries and writes the section, whose bytes stand at an offset: two passes where the
+-- offsets of the entries never fall
+pub record AppliesTarget (before after : Counting) (old new : Written) (result : Result Applied ApplyFault) (target : Target) (at : ℕ) : Type 0 where
+  pub says : IfErr result (ApplyFaultSays before after new)
+  pub reads : Reads before after (passes_cost target (1 + windows target.size))
+  pub once : (file : List ℕ) → before.seen.file ≡ Some file → (headers : ℕ) → StandsFor file headers target at → offsets_never_fall file target.section ≡ true
+      → after.asked ≤ before.asked + passes_cost target 2
+  pub grows : Grows old new
+  pub wrote : WroteMost old new result target.size
+  pub text : (file : List ℕ) → before.seen.file ≡ Some file → (headers : ℕ) → StandsFor file headers target at
+      → Applies old new result (length (entries_for file target.section)) (applied file headers target.section target.layout.now)
+
+-- a section of a loaded file may be written: no limit is set, and the store has all section headers of the source's file
+pub record MayApply (src : Counting) (loaded : Opened) (store : Stored) : Type 0 where
+  pub unlimited : src.most ≡ None
+  pub whole : store.loaded ≡ loaded.header.e_shnum
+  pub few : store.loaded ≤ store.slots
+  pub opened : IsOpen src loaded store
+  pub fits : src.seen.size < 2 ^ 64
+
+-- what a call did that writes a section of a loaded file, for whose headers there are so many slots
+pub record AppliesLoaded (before after : Counting) (old new : Written) (result : Result Applied ApplyFault) (slots section : ℕ) (layout : Layout) : Type 0 where
+  pub says : IfErr result (ApplyFaultSays before after new)
+  pub reads : Reads before after (behind_ceiling before.seen.size slots layout)
+  pub cost : (file : List ℕ) → before.seen.file ≡ Some file → first_refusal (header_checks file) ≡ None
+      → 64 + 64 * e_shnum file + after.asked ≤ before.asked + apply_cost_by_order file slots section layout
+  pub grows : Grows old new
+  pub wrote : WroteMost old new result before.seen.size
+  pub text : (file : List ℕ) → before.seen.file ≡ Some file → first_refusal (header_checks file) ≡ None
+      → Applies old new result (length (entries_for file section)) (applied file slots section layout)

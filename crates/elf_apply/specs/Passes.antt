@@ -1,10 +1,15 @@
 -- What the passes over the entries calculate of the list of changes.
-use Rattle.std.specs.Prelude.{ℕ, ◌≡◌, ◌&&◌, nat_le, Bool, List, [], ◌∷◌, Result, Ok, Err}
+use Rattle.std.specs.Prelude.{ℕ, ◌≡◌, ◌+◌, ◌^◌, ◌<◌, ◌≤◌, ◌&&◌, nat_le, Bool, true, List, [], ◌∷◌, None, Some, Result, Ok, Err, IfOk, IfErr}
 use Rattle.elf_model.specs.Apply.{Patch, Change, Put, Fails, put}
 use Rattle.elf_model.specs.ApplyLaws.{clipped}
 use Rattle.elf_model.specs.declared.causes.Refusal.{Refusal}
+use Rattle.elf_source.specs.Source.{Counting, Reads}
+use Rattle.elf_headers.specs.Faults.{ReadSays}
+use Rattle.elf_headers.specs.Load.{IsOpen}
 use Rattle.elf_headers.specs.declared.fault.Fault.{Fault}
 use Rattle.elf_headers.specs.declared.fault.Fault.TheVariants.{Refused, Source}
+use Rattle.elf_apply.specs.Walk.{changes_all, entries_from, walk_all}
+use Rattle.elf_apply.specs.declared.entry.Target.{Target}
 use Rattle.elf_apply.specs.declared.passes.Checked.{Checked}
 
 -- what comes of a value by a step for each patch, or the first fault
@@ -32,3 +37,17 @@ abbrev pub Checks : Result Checked Fault → Result (Bool × ℕ) Refusal → Ty
 Checks (Ok found) answer = answer ≡ Ok (found.rises, found.low)
 Checks (Err (Refused refusal)) answer = answer ≡ Err refusal
 Checks (Err (Source fault at)) answer = Unit {0}
+
+-- what a pass did that checks all entries
+pub record ChecksAll (old new : Counting) (result : Result Checked Fault) (target : Target) : Type 0 where
+  pub reads : Reads old new (walk_all target)
+  pub says : IfErr result (ReadSays old new)
+  pub counted : IfOk result (λ found. found.entries ≡ entries_from target 0)
+  pub checked : (file : List ℕ) → old.seen.file ≡ Some file → Checks result (folded rising (true, 0) (changes_all file target))
+
+-- a window of n bytes at an offset may be patched: it lies inside the section, and the entries may be read
+pub record MayPatch (src : Counting) (target : Target) (low n : ℕ) : Type 0 where
+  pub unlimited : src.most ≡ None
+  pub opened : IsOpen src target.file.loaded target.file.store.now
+  pub within : low + n ≤ target.size
+  pub fits : target.size < 2 ^ 64

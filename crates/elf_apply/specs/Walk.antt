@@ -1,5 +1,5 @@
 -- The walk over the relocation entries for a section: what is left of it, and what a step of it does.
-use Rattle.std.specs.Prelude.{ℕ, ◌≡◌, ◌+◌, ◌-◌, ◌*◌, ◌^◌, ◌<◌, ◌≤◌, true, false, List, [], ◌∷◌, ◌++◌, flat_map, Option, None, Some, Result, Ok, Err, IfSome}
+use Rattle.std.specs.Prelude.{ℕ, ◌≡◌, ◌+◌, ◌-◌, ◌*◌, ◌^◌, ◌<◌, ◌≤◌, true, false, List, [], ◌∷◌, ◌++◌, flat_map, Option, None, Some, Result, Ok, Err, IfOk, IfErr, IfSome}
 use Rattle.elf_model.specs.Apply.{Change, Put, Fails, applies_to, entry_changes, places_from, section_changes}
 use Rattle.elf_model.specs.ApplyCost.{layout_names_cost}
 use Rattle.elf_model.specs.Checks.{first_refusal, table_checks_of}
@@ -8,7 +8,8 @@ use Rattle.elf_model.specs.Records.{sh_offset, section_at}
 use Rattle.elf_model.specs.Tables.{RELA_SIZE, entry_at, entry_count}
 use Rattle.elf_source.specs.Source.{Counting, Reads}
 use Rattle.elf_table.specs.Cursors.{HoldsRows, unread_bytes, unless_failed}
-use Rattle.elf_headers.specs.Load.{section_place}
+use Rattle.elf_headers.specs.Faults.{IsOfCheck, ReadSays}
+use Rattle.elf_headers.specs.Load.{Belongs, IsOpen, section_place}
 use Rattle.elf_table.specs.Relocations.{RefersTo}
 use Rattle.elf_headers.specs.Store.{row}
 use Rattle.elf_table.specs.Tables.{RowsWithin, SymbolsWithin}
@@ -136,3 +137,52 @@ StepFewer target old new End = entries_from target new.next ≡ 0
 abbrev pub FoundFewer : TargetCode → Entries → Entries → Option Placed → Type 0
 FoundFewer target old new (Some placed) = steps_left target new < steps_left target old
 FoundFewer target old new None = entries_from target new.next ≡ 0
+
+-- the entries may be read: no limit is set, and the target's file is that of the source
+pub record MayPass (src : Counting) (target : TargetCode) : Type 0 where
+  pub unlimited : src.most ≡ None
+  pub opened : IsOpen src target.file.loaded target.file.store.now
+
+-- a walk over them may go on
+pub record MayWalk (src : Counting) (target : TargetCode) (e : Entries) : Type 0 where
+  pub unlimited : src.most ≡ None
+  pub opened : IsOpen src target.file.loaded target.file.store.now
+  pub goes : Goes src.seen.size target e
+
+-- a walk that is before the first entry, whatever the target
+pub record BeginsWalk (e : Entries) : Type 0 where
+  pub begins : (size : ℕ) (target : TargetCode) → Goes size target e
+  pub left : (target : TargetCode) → walk_left target e ≡ walk_all target
+  pub none : (target : TargetCode) → e.count + entries_from target e.next ≡ entries_from target 0
+  pub reads : (file : List ℕ) → ReadsEntries file e
+  pub changes : (file : List ℕ) (target : TargetCode) → changes_left file target e ≡ changes_all file target
+
+-- what a call did that goes to the next entry that stores bytes
+pub record GoesToNext (before after : Counting) (target : TargetCode) (old new : Entries) (result : Result (Option Placed) Fault) : Type 0 where
+  pub asks : AsksOf before after target old new
+  pub says : IfErr result (ReadSays before after)
+  pub goes : IfOk result (λ found. Goes before.seen.size target new)
+  pub fewer : IfOk result (FoundFewer target old new)
+  pub counts : IfOk result (λ found. CountsEntries target old new)
+  pub inside : IfOk result (FoundInside target.size)
+  pub finds : (file : List ℕ) → before.seen.file ≡ Some file → ReadsEntries file old → FindsEntry file target old new result
+
+-- what a step did
+pub record GoesOneStep (before after : Counting) (target : TargetCode) (old new : Entries) (result : Result Step Fault) : Type 0 where
+  pub asks : AsksOf before after target old new
+  pub says : IfErr result (ReadSays before after)
+  pub goes : IfOk result (λ step. Goes before.seen.size target new)
+  pub fewer : IfOk result (StepFewer target old new)
+  pub counts : IfOk result (λ step. CountsEntries target old new)
+  pub inside : IfOk result (StepInside target.size)
+  pub walked : (file : List ℕ) → before.seen.file ≡ Some file → ReadsEntries file old → Walked file target old new result
+
+-- what a step to the next section did, which reads nothing
+pub record GoesToSection (target : TargetCode) (old new : Entries) (result : Result Step Fault) : Type 0 where
+  pub goes : IfOk result (λ step. Goes target.file.loaded.size target new)
+  pub refusal : IfErr result IsOfCheck
+  pub fewer : IfOk result (StepFewer target old new)
+  pub counts : IfOk result (λ step. CountsEntries target old new)
+  pub inside : IfOk result (StepInside target.size)
+  pub left : walk_left target new ≤ walk_left target old
+  pub walked : (file : List ℕ) → Belongs file target.file.loaded target.file.store.now → ReadsEntries file old → Walked file target old new result

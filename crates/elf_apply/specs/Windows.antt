@@ -1,10 +1,17 @@
 -- What a call that writes a section with its relocations applied did.
-use Rattle.std.specs.Prelude.{ℕ, ◌≡◌, ◌+◌, ◌-◌, ◌^◌, ◌/◌, ◌≤◌, min, List, Result, Ok, Err}
+use Rattle.std.specs.Prelude.{ℕ, ◌≡◌, ◌+◌, ◌-◌, ◌^◌, ◌/◌, ◌<◌, ◌≤◌, min, List, None, Some, Result, Ok, Err, IfErr}
+use Rattle.elf_model.specs.Apply.{Patch, patches_of, patched}
+use Rattle.elf_model.specs.ApplyLaws.{AllInside}
 use Rattle.elf_model.specs.Budget.{IsBudget}
-use Rattle.elf_source.specs.Source.{Counting, Faults}
+use Rattle.elf_model.specs.Bytes.{slice}
+use Rattle.elf_source.specs.Growth.{Grows}
+use Rattle.elf_source.specs.Source.{Counting, Faults, Reads}
 use Rattle.elf_source.specs.Output.{Written, Takes, TakesFront, OutFails}
+use Rattle.elf_headers.specs.Load.{IsOpen}
 use Rattle.elf_headers.specs.declared.fault.Fault.{Fault}
 use Rattle.elf_headers.specs.declared.fault.Fault.TheVariants.{Refused as Refuses, Source as Unread}
+use Rattle.elf_apply.specs.Walk.{changes_all}
+use Rattle.elf_apply.specs.declared.entry.Target.{Target}
 use Rattle.elf_apply.specs.declared.fault.ApplyFault.{ApplyFault}
 use Rattle.elf_apply.specs.declared.fault.ApplyFault.TheVariants.{Refused, Source, Out}
 
@@ -39,3 +46,26 @@ WritesBytes old new (Err (Out fault)) text = TakesFront old new text
 abbrev pub IsUnread : Fault → Type 0
 IsUnread (Refuses refusal) = ⊥
 IsUnread (Unread fault at) = Unit {0}
+
+-- a section whose bytes stand at an offset may be written: the entries may be read, the bytes lie within the source, and
+-- offsets up to a limit fit
+pub record MayWrite (src : Counting) (target : Target) (at limit : ℕ) : Type 0 where
+  pub unlimited : src.most ≡ None
+  pub opened : IsOpen src target.file.loaded target.file.store.now
+  pub within : at + target.size ≤ src.seen.size
+  pub fits : limit < 2 ^ 64
+
+-- what a call did that writes: it asked for at most n bytes and wrote m, or no more at a fault, which says what is so; and
+-- this holds of the file
+pub record WritesOut {X : Type 0} (before after : Counting) (old new : Written) (result : Result X ApplyFault) (n m : ℕ) (Text : List ℕ → Type 0) : Type 0 where
+  pub says : IfErr result (ApplyFaultSays before after new)
+  pub reads : Reads before after n
+  pub grows : Grows old new
+  pub wrote : WroteBytes old new result m
+  pub text : (file : List ℕ) → before.seen.file ≡ Some file → Text file
+
+-- where all entries store patches inside the section, whose bytes stand at an offset, this holds of them and of its bytes
+-- with the patches
+abbrev pub OfPatches : Target → ℕ → (List Patch → List ℕ → Type 0) → List ℕ → Type 0
+OfPatches target at Text file =
+    (patches : List Patch) → patches_of (changes_all file target) ≡ Ok patches → AllInside target.size patches → Text patches (patched patches (slice file at target.size))

@@ -1,22 +1,19 @@
 //! Relocations applied to a section.
-ghost use Rattle.std.specs.Prelude.{◌≡◌, ◌+◌, ◌*◌, ◌≤◌, ◌<◌, ◌^◌, ◌==◌, ◌||◌, nat_lt, not, true, ℕ};
-ghost use Rattle.std.specs.Prelude.{List, length, None, Some, Ok, IfOk, IfErr};
-ghost use Rattle.elf_model.specs.Apply.{applied, has_no_bytes, patches_of, patched};
-ghost use Rattle.elf_model.specs.ApplyLaws.{AllInside};
-ghost use Rattle.elf_model.specs.ApplyCost.{apply_cost_by_order, entries_for, offsets_never_fall};
-ghost use Rattle.elf_model.specs.Bytes.{slice};
-ghost use Rattle.elf_model.specs.Checks.{first_refusal, header_checks, is_outside};
-ghost use Rattle.elf_model.specs.Records.{e_shnum};
+ghost use Rattle.std.specs.Prelude.{◌≡◌, ◌+◌, ◌*◌, ◌≤◌, ◌==◌, ◌||◌, nat_lt, not, true, ℕ};
+ghost use Rattle.std.specs.Prelude.{List, length, None, Some, IfOk, IfErr};
+ghost use Rattle.elf_model.specs.Apply.{applied, has_no_bytes};
+ghost use Rattle.elf_model.specs.ApplyCost.{apply_cost_by_order, entries_for};
 ghost use Rattle.elf_record.specs.Shdr.{IsShdr};
 ghost use Rattle.elf_source.specs.Growth.{Grows};
 ghost use Rattle.elf_source.specs.Source.{Reads};
 ghost use Rattle.elf_headers.specs.Faults.{IsOfCheck};
-ghost use Rattle.elf_headers.specs.Load.{Belongs, IsOpen};
-ghost use Rattle.elf_apply.specs.Applied.{Applies, HeldIs, StandsFor, WroteMost};
-ghost use Rattle.elf_apply.specs.Applied.{apply_ceiling, behind_ceiling, passes_cost};
+ghost use Rattle.elf_headers.specs.Load.{Belongs};
+ghost use Rattle.elf_apply.specs.Applied.{Applies, AppliesLoaded, AppliesTarget, HeldIs};
+ghost use Rattle.elf_apply.specs.Applied.{MayApply, WroteMost, apply_ceiling};
 ghost use Rattle.elf_apply.specs.InOrder.{Rises};
-ghost use Rattle.elf_apply.specs.Walk.{changes_all, walk_all};
-ghost use Rattle.elf_apply.specs.Windows.{ApplyFaultSays, WritesBytes, WroteBytes, windows};
+ghost use Rattle.elf_apply.specs.Walk.{walk_all};
+ghost use Rattle.elf_apply.specs.Windows.{ApplyFaultSays, MayWrite, OfPatches, WritesBytes};
+ghost use Rattle.elf_apply.specs.Windows.{WritesOut, windows};
 
 use crate::entry::Target;
 use crate::fault::ApplyFault;
@@ -93,21 +90,13 @@ fn write_section<S: Source, W: Sink>(
     rises: bool,
     out: &mut Out<W>,
 ) -> Result<(), ApplyFault>
-    requires unlimited { src.old.most ≡ None }
-    requires opened { IsOpen src.old target.now.file.loaded target.now.file.store.now }
-    requires within { at + target.now.size ≤ src.old.seen.size }
-    requires fits { src.old.seen.size < 2 ^ 64 }
-    ensures reads { Reads src.old src.new
-        (windows target.now.size * walk_all target.now + target.now.size) }
+    requires { MayWrite src.old target.now at src.old.seen.size }
     ensures once { rises ≡ true →
         src.new.asked ≤ src.old.asked + (walk_all target.now + target.now.size) }
-    ensures says { IfErr result (ApplyFaultSays src.old src.new out.new) }
-    ensures grows { Grows out.old out.new }
-    ensures wrote { WroteBytes out.old out.new result target.now.size }
-    ensures text { (file : List ℕ) → src.old.seen.file ≡ Some file → (patches : List _) →
-        patches_of (changes_all file target.now) ≡ Ok patches →
-        AllInside target.now.size patches → (rises ≡ true → Rises 0 patches) →
-        WritesBytes out.old out.new result (patched patches (slice file at target.now.size)) }
+    ensures writes { WritesOut src.old src.new out.old out.new result
+        (windows target.now.size * walk_all target.now + target.now.size) target.now.size
+        (OfPatches target.now at (λ patches text. (rises ≡ true → Rises 0 patches) →
+        WritesBytes out.old out.new result text)) }
 {
     if rises && target.size > 0 {
         return write_in_order(src, target, at, out);
@@ -122,23 +111,8 @@ fn apply_target<S: Source, W: Sink>(
     at: u64,
     out: &mut Out<W>,
 ) -> Result<Applied, ApplyFault>
-    requires unlimited { src.old.most ≡ None }
-    requires opened { IsOpen src.old target.now.file.loaded target.now.file.store.now }
-    requires within { at + target.now.size ≤ src.old.seen.size }
-    requires fits { src.old.seen.size < 2 ^ 64 }
-    ensures reads { Reads src.old src.new
-        (passes_cost target.now (1 + windows target.now.size)) }
-    ensures once { (file : List ℕ) → src.old.seen.file ≡ Some file → (headers : ℕ) →
-        StandsFor file headers target.now at →
-        offsets_never_fall file target.now.section ≡ true →
-        src.new.asked ≤ src.old.asked + passes_cost target.now 2 }
-    ensures says { IfErr result (ApplyFaultSays src.old src.new out.new) }
-    ensures grows { Grows out.old out.new }
-    ensures wrote { WroteMost out.old out.new result target.now.size }
-    ensures text { (file : List ℕ) → src.old.seen.file ≡ Some file → (headers : ℕ) →
-        StandsFor file headers target.now at →
-        Applies out.old out.new result (length (entries_for file target.now.section))
-        (applied file headers target.now.section target.now.layout.now) }
+    requires { MayWrite src.old target.now at src.old.seen.size }
+    ensures { AppliesTarget src.old src.new out.old out.new result target.now at }
 {
     let checked = check(src, target)?;
     write_section(src, target, at, checked.rises, out)?;
@@ -157,24 +131,9 @@ fn apply_loaded<S: Source, W: Sink>(
     layout: &Layout,
     out: &mut Out<W>,
 ) -> Result<Applied, ApplyFault>
-    requires unlimited { src.old.most ≡ None }
-    requires whole { store.now.loaded ≡ loaded.header.e_shnum }
-    requires few { store.now.loaded ≤ store.now.slots }
-    requires opened { IsOpen src.old loaded store.now }
-    requires fits { src.old.seen.size < 2 ^ 64 }
-    ensures reads { Reads src.old src.new
-        (behind_ceiling src.old.seen.size store.now.slots layout.now) }
-    ensures says { IfErr result (ApplyFaultSays src.old src.new out.new) }
-    ensures grows { Grows out.old out.new }
-    ensures wrote { WroteMost out.old out.new result src.old.seen.size }
-    ensures cost { (file : List ℕ) → src.old.seen.file ≡ Some file →
-        first_refusal (header_checks file) ≡ None →
-        64 + 64 * e_shnum file + src.new.asked
-        ≤ src.old.asked + apply_cost_by_order file store.now.slots section layout.now }
-    ensures text { (file : List ℕ) → src.old.seen.file ≡ Some file →
-        first_refusal (header_checks file) ≡ None →
-        Applies out.old out.new result (length (entries_for file section))
-        (applied file store.now.slots section layout.now) }
+    requires { MayApply src.old loaded store.now }
+    ensures { AppliesLoaded src.old src.new out.old out.new result store.now.slots section
+        layout.now }
 {
     let file = File { loaded, store };
     let found = held(&file, section)?;

@@ -1,19 +1,12 @@
 //! What a relocation entry stores.
-ghost use Rattle.std.specs.Prelude.{◌≡◌, ◌≤◌, ◌+◌, ◌<◌, ℕ, List, length, None, Some, IfOk, IfErr};
-ghost use Rattle.std.specs.Prelude.{IfSome, Err, nat_lt};
+ghost use Rattle.std.specs.Prelude.{◌≡◌, ◌+◌, ℕ, List, Some, IfSome, nat_lt};
 ghost use Rattle.elf_model.specs.Apply.{change_of, entry_changes};
-ghost use Rattle.elf_model.specs.ApplyCost.{layout_names_cost};
-ghost use Rattle.elf_model.specs.Records.{r_offset, r_sym};
+ghost use Rattle.elf_model.specs.Records.{r_offset};
 ghost use Rattle.elf_model.specs.declared.causes.Cause.TheVariants.{Unplaced};
-ghost use Rattle.elf_record.specs.Rela.{IsRela};
 ghost use Rattle.elf_reloc.specs.Types.{IsSized, IsWidth, formula_as, type_as};
-ghost use Rattle.elf_source.specs.Source.{Reads};
-ghost use Rattle.elf_table.specs.Relocations.{RefersTo};
-ghost use Rattle.elf_table.specs.Tables.{SymbolsWithin};
-ghost use Rattle.elf_apply.specs.Costs.{ValueOrRefusal};
-ghost use Rattle.elf_headers.specs.Faults.{ReadSays};
-ghost use Rattle.elf_apply.specs.Entries.{Changes, Does, IsPlacedInside, target_as, taken_place, term_of};
-ghost use Rattle.elf_apply.specs.Entries.{value_or};
+ghost use Rattle.elf_apply.specs.Entries.{Changes, ConsultsEntry, ConsultsTerm, Does};
+ghost use Rattle.elf_apply.specs.Entries.{IsPlacedInside, MayConsultLinked};
+ghost use Rattle.elf_apply.specs.Entries.{target_as, taken_place, value_or};
 
 use crate::layout::Layout;
 use crate::lookup::{Symbol, address_in, linkage_value, refused, symbol_value};
@@ -54,14 +47,10 @@ pub(crate) fn entry_change<S: Source>(
     at: u64,
     linked: Linked,
 ) -> Result<Option<Placed>, Fault>
-    requires unlimited { src.old.most ≡ None }
-    requires within { IfSome linked (SymbolsWithin src.old.seen.size) }
-    ensures reads { Reads src.old src.new (24 + layout_names_cost target.now.layout.now) }
-    ensures says { IfErr result (ReadSays src.old src.new) }
-    ensures inside { IfOk result (λ found. IfSome found (IsPlacedInside target.now.size)) }
-    ensures change { (file : List ℕ) (header : ℕ) → src.old.seen.file ≡ Some file →
-        RefersTo file header linked → IsRela file at entry.now →
-        Changes result (entry_changes (target_as file target.now) header at) }
+    requires { MayConsultLinked src.old linked }
+    ensures { ConsultsEntry src.old src.new result target.now linked entry.now at
+        (λ size found. IfSome found (IsPlacedInside size))
+        (λ target header. Changes result (entry_changes target header at)) }
 {
     let kind = entry.kind();
     if kind == R_X86_64_NONE {
@@ -85,16 +74,11 @@ fn stored<S: Source>(
     linked: Linked,
     found: RelocationType,
 ) -> Result<Placed, Fault>
-    requires unlimited { src.old.most ≡ None }
-    requires within { IfSome linked (SymbolsWithin src.old.seen.size) }
+    requires linked { MayConsultLinked src.old linked }
     requires width { IsWidth found.width }
     requires sized { IsSized found.range found.width }
-    ensures reads { Reads src.old src.new (24 + layout_names_cost target.now.layout.now) }
-    ensures says { IfErr result (ReadSays src.old src.new) }
-    ensures inside { IfOk result (IsPlacedInside target.now.size) }
-    ensures change { (file : List ℕ) (header : ℕ) → src.old.seen.file ≡ Some file →
-        RefersTo file header linked → IsRela file at entry.now →
-        Does result (change_of (target_as file target.now) header at (Some (type_as found))) }
+    ensures { ConsultsEntry src.old src.new result target.now linked entry.now at IsPlacedInside
+        (λ target header. Does result (change_of target header at (Some (type_as found)))) }
 {
     let offset = entry.r_offset;
     if ends_past(offset, found.width, target.size) {
@@ -137,15 +121,9 @@ fn named_value<S: Source>(
     linked: Linked,
     formula: Formula,
 ) -> Result<u64, Fault>
-    requires unlimited { src.old.most ≡ None }
-    requires within { IfSome linked (SymbolsWithin src.old.seen.size) }
-    ensures reads { Reads src.old src.new (24 + layout_names_cost layout.now) }
-    ensures says { IfErr result (ReadSays src.old src.new) }
-    ensures unnamed { symbol ≡ 0 → src.new ≡ src.old }
-    ensures value { (file : List ℕ) (section size header : ℕ) → src.old.seen.file ≡ Some file →
-        RefersTo file header linked → symbol ≡ r_sym file at → ValueOrRefusal result
-        (term_of (formula_as formula)
-        (record { file = file; section = section; size = size; layout = layout.now }) header at) }
+    requires { MayConsultLinked src.old linked }
+    ensures { ConsultsTerm src.old src.new result layout.now symbol linked at
+        (formula_as formula) }
 {
     if symbol == 0 {
         return Ok(0);

@@ -1,21 +1,15 @@
 //! The section with its relocations applied, in one pass over entries whose offsets never fall.
-ghost use Rattle.std.specs.Prelude.{◌≡◌, ◌+◌, ◌-◌, ◌^◌, ◌<◌, ◌≤◌, ℕ, List, [], length, take, drop};
-ghost use Rattle.std.specs.Prelude.{None, Some, Ok, Err, IfErr, OnOk};
-ghost use Rattle.elf_model.specs.Apply.{patches_of, patched, put};
-ghost use Rattle.elf_model.specs.ApplyLaws.{AllInside, clipped};
+ghost use Rattle.std.specs.Prelude.{◌≡◌, ◌+◌, ◌^◌, ◌<◌, ◌≤◌, None, [], length, take, drop};
+ghost use Rattle.elf_model.specs.Apply.{put};
+ghost use Rattle.elf_model.specs.ApplyLaws.{clipped};
 ghost use Rattle.elf_model.specs.Bytes.{slice};
-ghost use Rattle.elf_model.specs.declared.causes.Cause.TheVariants.{PlaceOutside};
 ghost use Rattle.elf_reloc.specs.Types.{patched_bytes};
 ghost use Rattle.elf_source.specs.Output.{Puts};
-ghost use Rattle.elf_source.specs.Growth.{Grows};
-ghost use Rattle.elf_source.specs.Source.{Reads};
-ghost use Rattle.elf_headers.specs.Load.{IsOpen};
-ghost use Rattle.elf_headers.specs.Faults.{ReadSays};
 ghost use Rattle.elf_apply.specs.Entries.{patch_as};
-ghost use Rattle.elf_apply.specs.InOrder.{IsNoRefusal, Midway, Rises, end_of};
-ghost use Rattle.elf_apply.specs.Walk.{changes_all, walk_all};
-ghost use Rattle.elf_apply.specs.Windows.{ApplyFaultSays, IsUnread, WritesBytes, WroteBytes};
-ghost use Rattle.elf_apply.specs.declared.fault.ApplyFault.TheVariants.{Refused as RefusedOf};
+ghost use Rattle.elf_apply.specs.InOrder.{Copies, IsHeldFrom, MayRead, ReadsOn, Rises};
+ghost use Rattle.elf_apply.specs.InOrder.{StoresEntry, WritesUpTo, end_of};
+ghost use Rattle.elf_apply.specs.Walk.{walk_all};
+ghost use Rattle.elf_apply.specs.Windows.{MayWrite, OfPatches, WritesBytes, WritesOut};
 
 use crate::entry::{Placed, Target};
 use crate::fault::ApplyFault;
@@ -54,8 +48,7 @@ impl Model for Held {
 impl Held {
     /// Nothing, at the section's begin.
     fn new() -> Held
-        ensures low { result.low ≡ 0 }
-        ensures bytes { result.bytes ≡ [] }
+        ensures { IsHeldFrom result 0 [] }
     {
         Held {
             low: 0,
@@ -84,8 +77,7 @@ impl Held {
     fn skip(&mut self, count: usize)
         requires few { count ≤ length self.old.bytes }
         requires fits { self.old.low + count < 2 ^ 64 }
-        ensures low { self.new.low ≡ self.old.low + count }
-        ensures bytes { self.new.bytes ≡ drop count self.old.bytes }
+        ensures { IsHeldFrom self.new (self.old.low + count) (drop count self.old.bytes) }
     {
         self.low += count as u64;
         self.from += count;
@@ -97,8 +89,7 @@ impl Held {
         requires few { count ≤ length self.old.bytes }
         requires fits { self.old.low + count < 2 ^ 64 }
         ensures puts { Puts out.old out.new result (take count self.old.bytes) }
-        ensures low { self.new.low ≡ self.old.low + count }
-        ensures bytes { self.new.bytes ≡ drop count self.old.bytes }
+        ensures rest { IsHeldFrom self.new (self.old.low + count) (drop count self.old.bytes) }
     {
         let from = self.from;
         let answer = out.put(&self.bytes[from..from + count]);
@@ -109,8 +100,7 @@ impl Held {
     /// Goes to an offset with nothing held: what stands before it is written.
     fn jump(&mut self, end: u64)
         requires { self.old.bytes ≡ [] }
-        ensures low { self.new.low ≡ end }
-        ensures bytes { self.new.bytes ≡ [] }
+        ensures { IsHeldFrom self.new end [] }
     {
         self.low = end;
     }
@@ -124,24 +114,11 @@ impl Held {
         size: u64,
         width: usize,
     ) -> Result<(), Fault>
-        requires unlimited { src.old.most ≡ None }
+        requires may { MayRead src.old at size }
         requires few { width ≤ 8 }
         requires inside { self.old.low + width ≤ size }
         requires held { end_of self.old ≤ size }
-        requires within { at + size ≤ src.old.seen.size }
-        requires fits { src.old.seen.size < 2 ^ 64 }
-        ensures says { IfErr result (ReadSays src.old src.new) }
-        ensures unread { IfErr result IsUnread }
-        ensures reads { Reads src.old src.new (size - end_of self.old) }
-        ensures asked_on { OnOk result (src.new.asked + end_of self.old
-            ≤ src.old.asked + end_of self.new) }
-        ensures low { self.new.low ≡ self.old.low }
-        ensures long { OnOk result (width ≤ length self.new.bytes) }
-        ensures held { OnOk result (end_of self.new ≤ size) }
-        ensures bytes { (file : List ℕ) → src.old.seen.file ≡ Some file → (now : List ℕ) →
-            at + size ≤ length file
-            → Midway (slice file at size) now self.old →
-            OnOk result (Midway (slice file at size) now self.new) }
+        ensures { ReadsOn src.old src.new result self.old self.new at size width }
     {
         let count = self.count;
         if count >= width {
@@ -181,26 +158,10 @@ impl Held {
         end: u64,
         out: &mut Out<W>,
     ) -> Result<(), ApplyFault>
-        requires unlimited { src.old.most ≡ None }
+        requires may { MayRead src.old at end }
         requires low { self.old.low ≤ end }
-        requires within { at + end ≤ src.old.seen.size }
         requires held { at + end_of self.old ≤ src.old.seen.size }
-        requires fits { src.old.seen.size < 2 ^ 64 }
-        ensures says { IfErr result (ApplyFaultSays src.old src.new out.new) }
-        ensures low { OnOk result (self.new.low ≡ end) }
-        ensures long { OnOk result (length self.new.bytes ≡ end_of self.old - end) }
-        ensures kept { IfErr result IsNoRefusal }
-        ensures reads { Reads src.old src.new (end - end_of self.old) }
-        ensures grows { Grows out.old out.new }
-        ensures wrote { WroteBytes out.old out.new result (end - self.old.low) }
-        ensures text { (file : List ℕ) → src.old.seen.file ≡ Some file →
-            (size : ℕ) (now : List ℕ) → at + size ≤ length file → end ≤ size
-            → Midway (slice file at size) now self.old →
-            WritesBytes out.old out.new result (slice now self.old.low (end - self.old.low)) }
-        ensures still { (file : List ℕ) → src.old.seen.file ≡ Some file →
-            (size : ℕ) (now : List ℕ) → at + size ≤ length file → end ≤ size
-            → Midway (slice file at size) now self.old →
-            OnOk result (Midway (slice file at size) now self.new) }
+        ensures { WritesUpTo src.old src.new out.old out.new result self.old self.new at end }
     {
         let ready = (end - self.low()).min(self.len() as u64);
         self.release(ready as usize, out)?;
@@ -221,33 +182,11 @@ impl Held {
         placed: &Placed,
         out: &mut Out<W>,
     ) -> Result<(), ApplyFault>
-        requires unlimited { src.old.most ≡ None }
+        requires may { MayRead src.old at size }
         requires inside { placed.now.offset + length (patch_as placed.now).bytes ≤ size }
         requires held { end_of self.old ≤ size }
-        requires within { at + size ≤ src.old.seen.size }
-        requires fits { src.old.seen.size < 2 ^ 64 }
-        ensures says { IfErr result (ApplyFaultSays src.old src.new out.new) }
-        ensures low { OnOk result (self.new.low ≡ placed.now.offset) }
-        ensures never { OnOk result (self.old.low ≤ placed.now.offset) }
-        ensures fallen { placed.now.offset < self.old.low → (result ≡ Err (RefusedOf
-            (record { at = placed.now.at; cause = PlaceOutside })))
-            × (src.new ≡ src.old) × (out.new ≡ out.old) }
-        ensures kept { self.old.low ≤ placed.now.offset → IfErr result IsNoRefusal }
-        ensures held { OnOk result (end_of self.new ≤ size) }
-        ensures reads { Reads src.old src.new (size - end_of self.old) }
-        ensures asked_on { OnOk result (src.new.asked + end_of self.old
-            ≤ src.old.asked + end_of self.new) }
-        ensures grows { Grows out.old out.new }
-        ensures wrote { WroteBytes out.old out.new result (placed.now.offset - self.old.low) }
-        ensures text { (file : List ℕ) → src.old.seen.file ≡ Some file → (now : List ℕ) →
-            at + size ≤ length file → self.old.low ≤ placed.now.offset
-            → Midway (slice file at size) now self.old →
-            WritesBytes out.old out.new result (slice now self.old.low
-            (placed.now.offset - self.old.low)) }
-        ensures still { (file : List ℕ) → src.old.seen.file ≡ Some file → (now : List ℕ) →
-            at + size ≤ length file
-            → Midway (slice file at size) now self.old →
-            OnOk result (Midway (slice file at size) (put (patch_as placed.now) now) self.new) }
+        ensures { StoresEntry src.old src.new out.old out.new result self.old self.new at size
+            placed.now }
     {
         if placed.offset < self.low() {
             return Err(ApplyFault::Refused(Refusal {
@@ -295,16 +234,9 @@ fn copy<S: Source, W: Sink>(
     size: u64,
     out: &mut Out<W>,
 ) -> Result<(), ApplyFault>
-    requires unlimited { src.old.most ≡ None }
-    requires within { at + size ≤ src.old.seen.size }
-    requires fits { src.old.seen.size < 2 ^ 64 }
-    ensures says { IfErr result (ApplyFaultSays src.old src.new out.new) }
-    ensures kept { IfErr result IsNoRefusal }
-    ensures reads { Reads src.old src.new size }
-    ensures grows { Grows out.old out.new }
-    ensures wrote { WroteBytes out.old out.new result size }
-    ensures text { (file : List ℕ) → src.old.seen.file ≡ Some file → at + size ≤ length file →
-        WritesBytes out.old out.new result (slice file at size) }
+    requires { MayRead src.old at size }
+    ensures { Copies src.old src.new out.old out.new result size (λ file.
+        at + size ≤ length file → WritesBytes out.old out.new result (slice file at size)) }
 {
     let mut done = 0;
     'pages: while done < size {
@@ -326,13 +258,8 @@ fn copy_page<S: Source, W: Sink>(
     requires unlimited { src.old.most ≡ None }
     requires few { length page.old ≤ 4096 }
     requires within { at + length page.old ≤ src.old.seen.size }
-    ensures says { IfErr result (ApplyFaultSays src.old src.new out.new) }
-    ensures kept { IfErr result IsNoRefusal }
-    ensures reads { Reads src.old src.new (length page.old) }
-    ensures grows { Grows out.old out.new }
-    ensures wrote { WroteBytes out.old out.new result (length page.old) }
-    ensures text { (file : List ℕ) → src.old.seen.file ≡ Some file →
-        WritesBytes out.old out.new result (slice file at (length page.old)) }
+    ensures { Copies src.old src.new out.old out.new result (length page.old) (λ file.
+        WritesBytes out.old out.new result (slice file at (length page.old))) }
 {
     fill(src, at, page)?;
     out.put(page)?;
@@ -346,18 +273,10 @@ pub(crate) fn write_in_order<S: Source, W: Sink>(
     at: u64,
     out: &mut Out<W>,
 ) -> Result<(), ApplyFault>
-    requires unlimited { src.old.most ≡ None }
-    requires opened { IsOpen src.old target.now.file.loaded target.now.file.store.now }
-    requires within { at + target.now.size ≤ src.old.seen.size }
-    requires fits { src.old.seen.size < 2 ^ 64 }
-    ensures says { IfErr result (ApplyFaultSays src.old src.new out.new) }
-    ensures grows { Grows out.old out.new }
-    ensures wrote { WroteBytes out.old out.new result target.now.size }
-    ensures reads { Reads src.old src.new (walk_all target.now + target.now.size) }
-    ensures text { (file : List ℕ) → src.old.seen.file ≡ Some file → (patches : List _) →
-        patches_of (changes_all file target.now) ≡ Ok patches → AllInside target.now.size patches →
-        Rises 0 patches →
-        WritesBytes out.old out.new result (patched patches (slice file at target.now.size)) }
+    requires { MayWrite src.old target.now at src.old.seen.size }
+    ensures { WritesOut src.old src.new out.old out.new result
+        (walk_all target.now + target.now.size) target.now.size (OfPatches target.now at
+        (λ patches text. Rises 0 patches → WritesBytes out.old out.new result text)) }
 {
     let size = target.size;
     let mut entries = Entries::new();

@@ -1,13 +1,13 @@
 //! The value of a symbol in a layout.
-ghost use Rattle.std.specs.Prelude.{◌≡◌, ◌≤◌, ℕ, List, length, None, Some, Err, IfErr};
+ghost use Rattle.std.specs.Prelude.{◌≡◌, ℕ, List, Err, IfErr};
 ghost use Rattle.elf_model.specs.ApplyCost.{layout_names_cost};
 ghost use Rattle.elf_model.specs.Placing.{address_in, address_named, linkage_value, named_or};
 ghost use Rattle.elf_model.specs.Placing.{placed_at, symbol_value, undefined_value};
 ghost use Rattle.elf_model.specs.Records.{st_name};
 ghost use Rattle.elf_record.specs.Sym.{IsSym};
-ghost use Rattle.elf_source.specs.Source.{Reads};
-ghost use Rattle.elf_headers.specs.Faults.{IsOfCheck, ReadSays};
-ghost use Rattle.elf_table.specs.Tables.{StringsWithin, strings_in};
+ghost use Rattle.elf_headers.specs.Faults.{IsOfCheck};
+ghost use Rattle.elf_table.specs.Tables.{strings_in};
+ghost use Rattle.elf_apply.specs.Costs.{Consults, ConsultsSymbol, MayConsult};
 ghost use Rattle.elf_apply.specs.Costs.{ValueOrCause, ValueOrRefusal, items_cost};
 
 use crate::layout::Layout;
@@ -53,13 +53,10 @@ fn address_named<S: Source>(
     symbol: &Symbol,
     items: &[Named],
 ) -> Result<Option<u64>, Fault>
-    requires unlimited { src.old.most ≡ None }
-    requires within { StringsWithin src.old.seen.size symbol.now.names }
-    ensures reads { Reads src.old src.new (items_cost items.now) }
-    ensures says { IfErr result (ReadSays src.old src.new) }
-    ensures found { (file : List ℕ) → src.old.seen.file ≡ Some file →
-        ValueOrCause symbol.now.at result
-        (address_named (strings_in file symbol.now.names) symbol.now.fields.st_name items.now) }
+    requires { MayConsult src.old symbol.now.names }
+    ensures { Consults src.old src.new result (items_cost items.now)
+        (λ file. ValueOrCause symbol.now.at result (address_named
+        (strings_in file symbol.now.names) symbol.now.fields.st_name items.now)) }
 {
     let off = u64::from(symbol.fields.st_name);
     let mut i = 0;
@@ -108,15 +105,10 @@ fn defined_value<S: Source>(
     symbol: &Symbol,
     entry: u64,
 ) -> Result<u64, Fault>
-    requires unlimited { src.old.most ≡ None }
-    requires within { StringsWithin src.old.seen.size symbol.now.names }
-    ensures reads { Reads src.old src.new (items_cost layout.now.definitions) }
-    ensures says { IfErr result (ReadSays src.old src.new) }
-    ensures value { (file : List ℕ) → src.old.seen.file ≡ Some file →
-        IsSym file symbol.now.at symbol.now.fields →
-        ValueOrRefusal result (named_or symbol.now.at
-        (address_named (strings_in file symbol.now.names)
-        (st_name file symbol.now.at) layout.now.definitions)
+    requires { MayConsult src.old symbol.now.names }
+    ensures { ConsultsSymbol src.old src.new result symbol.now
+        (items_cost layout.now.definitions) (λ file strings. named_or symbol.now.at
+        (address_named strings (st_name file symbol.now.at) layout.now.definitions)
         (undefined_value file entry symbol.now.at)) }
 {
     match address_named(src, symbol, layout.definitions()) {
@@ -134,14 +126,10 @@ pub(crate) fn symbol_value<S: Source>(
     symbol: &Symbol,
     entry: u64,
 ) -> Result<u64, Fault>
-    requires unlimited { src.old.most ≡ None }
-    requires within { StringsWithin src.old.seen.size symbol.now.names }
-    ensures reads { Reads src.old src.new (items_cost layout.now.definitions) }
-    ensures says { IfErr result (ReadSays src.old src.new) }
-    ensures value { (file : List ℕ) → src.old.seen.file ≡ Some file →
-        IsSym file symbol.now.at symbol.now.fields →
-        ValueOrRefusal result (symbol_value file
-        (strings_in file symbol.now.names) layout.now entry symbol.now.at) }
+    requires { MayConsult src.old symbol.now.names }
+    ensures { ConsultsSymbol src.old src.new result symbol.now
+        (items_cost layout.now.definitions)
+        (λ file strings. symbol_value file strings layout.now entry symbol.now.at) }
 {
     match symbol.fields.place() {
         Place::Absolute => Ok(symbol.fields.st_value),
@@ -163,14 +151,9 @@ pub(crate) fn linkage_value<S: Source>(
     symbol: &Symbol,
     entry: u64,
 ) -> Result<u64, Fault>
-    requires unlimited { src.old.most ≡ None }
-    requires within { StringsWithin src.old.seen.size symbol.now.names }
-    ensures reads { Reads src.old src.new (layout_names_cost layout.now) }
-    ensures says { IfErr result (ReadSays src.old src.new) }
-    ensures value { (file : List ℕ) → src.old.seen.file ≡ Some file →
-        IsSym file symbol.now.at symbol.now.fields →
-        ValueOrRefusal result (linkage_value file
-        (strings_in file symbol.now.names) layout.now entry symbol.now.at) }
+    requires { MayConsult src.old symbol.now.names }
+    ensures { ConsultsSymbol src.old src.new result symbol.now (layout_names_cost layout.now)
+        (λ file strings. linkage_value file strings layout.now entry symbol.now.at) }
 {
     match address_named(src, symbol, layout.linkage()) {
         Ok(Some(address)) => Ok(address),

@@ -1,14 +1,11 @@
 //! The passes over the relocation entries for a section.
-ghost use Rattle.std.specs.Prelude.{◌≡◌, ◌+◌, ◌<◌, ◌≤◌, ◌^◌, ◌&&◌, ℕ, List, nat_le, true, length};
-ghost use Rattle.std.specs.Prelude.{None, Some, IfOk, IfErr};
+ghost use Rattle.std.specs.Prelude.{◌≡◌, ◌+◌, ◌<◌, ◌^◌, ◌&&◌, nat_le, length};
 ghost use Rattle.elf_model.specs.Apply.{put};
 ghost use Rattle.elf_model.specs.ApplyLaws.{clipped};
-ghost use Rattle.elf_source.specs.Source.{Reads};
-ghost use Rattle.elf_headers.specs.Load.{IsOpen};
-ghost use Rattle.elf_headers.specs.Faults.{ReadSays};
+ghost use Rattle.elf_apply.specs.Costs.{Consults};
 ghost use Rattle.elf_apply.specs.Entries.{patch_as};
-ghost use Rattle.elf_apply.specs.Passes.{Checks, Folds, folded, rising, storing};
-ghost use Rattle.elf_apply.specs.Walk.{changes_all, entries_from, walk_all};
+ghost use Rattle.elf_apply.specs.Passes.{ChecksAll, Folds, MayPatch, folded, storing};
+ghost use Rattle.elf_apply.specs.Walk.{MayPass, changes_all, walk_all};
 
 use crate::entry::{Placed, Target};
 use crate::walk::Entries;
@@ -31,13 +28,8 @@ pub(crate) struct Checked {
 /// # Errors
 /// The first refusal, or a fault of the source.
 pub(crate) fn check<S: Source>(src: &mut Counted<S>, target: &Target<'_>) -> Result<Checked, Fault>
-    requires unlimited { src.old.most ≡ None }
-    requires opened { IsOpen src.old target.now.file.loaded target.now.file.store.now }
-    ensures reads { Reads src.old src.new (walk_all target.now) }
-    ensures says { IfErr result (ReadSays src.old src.new) }
-    ensures counted { IfOk result (λ found. found.entries ≡ entries_from target.now 0) }
-    ensures checked { (file : List ℕ) → src.old.seen.file ≡ Some file →
-        Checks result (folded rising (true, 0) (changes_all file target.now)) }
+    requires { MayPass src.old target.now }
+    ensures { ChecksAll src.old src.new result target.now }
 {
     let mut entries = Entries::new();
     let mut rises = true;
@@ -77,15 +69,10 @@ pub(crate) fn patch_window<S: Source>(
     low: u64,
     window: &mut [u8],
 ) -> Result<(), Fault>
-    requires unlimited { src.old.most ≡ None }
-    requires opened { IsOpen src.old target.now.file.loaded target.now.file.store.now }
-    requires within { low + length window.old ≤ target.now.size }
-    requires fits { target.now.size < 2 ^ 64 }
-    ensures reads { Reads src.old src.new (walk_all target.now) }
-    ensures says { IfErr result (ReadSays src.old src.new) }
-    ensures patched { (file : List ℕ) → src.old.seen.file ≡ Some file →
-        Folds result window.new
-        (folded (storing low (length window.old)) window.old (changes_all file target.now)) }
+    requires { MayPatch src.old target.now low (length window.old) }
+    ensures { Consults src.old src.new result (walk_all target.now) (λ file. Folds result
+        window.new (folded (storing low (length window.old)) window.old
+        (changes_all file target.now))) }
 {
     let mut entries = Entries::new();
     'entries: loop {

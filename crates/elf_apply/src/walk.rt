@@ -1,14 +1,9 @@
 //! The walk over the relocation entries for a section.
-ghost use Rattle.std.specs.Prelude.{◌≡◌, ◌≤◌, ◌+◌, ℕ, List, length, None, Some, Ok, IfOk, IfErr};
-ghost use Rattle.std.specs.Prelude.{IfSome};
+ghost use Rattle.std.specs.Prelude.{◌≡◌, ℕ, List, length};
 ghost use Rattle.elf_model.specs.Apply.{applies_to};
 ghost use Rattle.elf_record.specs.Shdr.{IsShdr};
-ghost use Rattle.elf_headers.specs.Faults.{IsOfCheck, ReadSays};
-ghost use Rattle.elf_headers.specs.Load.{Belongs, IsOpen};
-ghost use Rattle.elf_apply.specs.Walk.{AsksOf, CountsEntries, FindsEntry, FoundFewer, FoundInside, Goes, ReadsEntries};
-ghost use Rattle.elf_apply.specs.Walk.{StepFewer, StepInside, Walked};
-ghost use Rattle.elf_apply.specs.Walk.{changes_all, changes_left, entries_from, walk_all};
-ghost use Rattle.elf_apply.specs.Walk.{walk_left};
+ghost use Rattle.elf_apply.specs.Walk.{BeginsWalk, Goes, GoesOneStep, GoesToNext, GoesToSection};
+ghost use Rattle.elf_apply.specs.Walk.{MayWalk};
 
 use crate::entry::{Linked, Placed, Target, entry_change};
 use elf_record::numbers::SHT_RELA;
@@ -40,13 +35,7 @@ pub(crate) enum Step {
 impl Entries {
     /// Before the first entry.
     pub(crate) fn new() -> Entries
-        ensures begins { (size : ℕ) (target : _) → Goes size target result }
-        ensures left { (target : _) → walk_left target result ≡ walk_all target }
-        ensures none { (target : _) →
-            result.count + entries_from target result.next ≡ entries_from target 0 }
-        ensures reads { (file : List ℕ) → ReadsEntries file result }
-        ensures changes { (file : List ℕ) (target : _) →
-            changes_left file target result ≡ changes_all file target }
+        ensures { BeginsWalk result }
     {
         Entries {
             cursor: Cursor::new(Table::new(0, 0, 24)),
@@ -73,17 +62,8 @@ impl Entries {
         src: &mut Counted<S>,
         target: &Target<'_>,
     ) -> Result<Option<Placed>, Fault>
-        requires unlimited { src.old.most ≡ None }
-        requires opened { IsOpen src.old target.now.file.loaded target.now.file.store.now }
-        requires goes { Goes src.old.seen.size target.now self.old }
-        ensures asks { AsksOf src.old src.new target.now self.old self.new }
-        ensures says { IfErr result (ReadSays src.old src.new) }
-        ensures goes { IfOk result (λ found. Goes src.old.seen.size target.now self.new) }
-        ensures fewer { IfOk result (FoundFewer target.now self.old self.new) }
-        ensures counts { IfOk result (λ found. CountsEntries target.now self.old self.new) }
-        ensures inside { IfOk result (FoundInside target.now.size) }
-        ensures finds { (file : List ℕ) → src.old.seen.file ≡ Some file →
-            ReadsEntries file self.old → FindsEntry file target.now self.old self.new result }
+        requires { MayWalk src.old target.now self.old }
+        ensures { GoesToNext src.old src.new target.now self.old self.new result }
     {
         'steps: loop {
             match self.step(src, target) {
@@ -97,17 +77,8 @@ impl Entries {
 
     /// One step: an entry, or a section.
     fn step<S: Source>(&mut self, src: &mut Counted<S>, target: &Target<'_>) -> Result<Step, Fault>
-        requires unlimited { src.old.most ≡ None }
-        requires opened { IsOpen src.old target.now.file.loaded target.now.file.store.now }
-        requires goes { Goes src.old.seen.size target.now self.old }
-        ensures asks { AsksOf src.old src.new target.now self.old self.new }
-        ensures says { IfErr result (ReadSays src.old src.new) }
-        ensures goes { IfOk result (λ step. Goes src.old.seen.size target.now self.new) }
-        ensures fewer { IfOk result (StepFewer target.now self.old self.new) }
-        ensures counts { IfOk result (λ step. CountsEntries target.now self.old self.new) }
-        ensures inside { IfOk result (StepInside target.now.size) }
-        ensures walked { (file : List ℕ) → src.old.seen.file ≡ Some file →
-            ReadsEntries file self.old → Walked file target.now self.old self.new result }
+        requires { MayWalk src.old target.now self.old }
+        ensures { GoesOneStep src.old src.new target.now self.old self.new result }
     {
         match self.cursor.advance(src) {
             Ok(true) => {
@@ -128,15 +99,7 @@ impl Entries {
     fn open(&mut self, target: &Target<'_>) -> Result<Step, Fault>
         requires goes { Goes target.now.file.loaded.size target.now self.old }
         requires none { self.old.cursor.left ≡ 0 }
-        ensures goes { IfOk result (λ step. Goes target.now.file.loaded.size target.now self.new) }
-        ensures refusal { IfErr result IsOfCheck }
-        ensures fewer { IfOk result (StepFewer target.now self.old self.new) }
-        ensures counts { IfOk result (λ step. CountsEntries target.now self.old self.new) }
-        ensures inside { IfOk result (StepInside target.now.size) }
-        ensures left { walk_left target.now self.new ≤ walk_left target.now self.old }
-        ensures walked { (file : List ℕ) →
-            Belongs file target.now.file.loaded target.now.file.store.now →
-            ReadsEntries file self.old → Walked file target.now self.old self.new result }
+        ensures { GoesToSection target.now self.old self.new result }
     {
         let section = self.next;
         if section >= target.file.sections() {

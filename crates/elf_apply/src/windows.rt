@@ -1,14 +1,8 @@
 //! The section with its relocations applied, window by window.
-ghost use Rattle.std.specs.Prelude.{◌≡◌, ◌+◌, ◌*◌, ◌<◌, ◌≤◌, ◌^◌, ℕ, List, length, None, Some, Ok};
-ghost use Rattle.std.specs.Prelude.{IfErr};
-ghost use Rattle.elf_model.specs.Apply.{patches_of, patched};
-ghost use Rattle.elf_model.specs.ApplyLaws.{AllInside};
+ghost use Rattle.std.specs.Prelude.{◌+◌, ◌*◌, ◌≤◌, length};
 ghost use Rattle.elf_model.specs.Bytes.{slice};
-ghost use Rattle.elf_source.specs.Growth.{Grows};
-ghost use Rattle.elf_source.specs.Source.{Reads};
-ghost use Rattle.elf_headers.specs.Load.{IsOpen};
-ghost use Rattle.elf_apply.specs.Walk.{changes_all, walk_all};
-ghost use Rattle.elf_apply.specs.Windows.{ApplyFaultSays, WritesBytes, WroteBytes, windows};
+ghost use Rattle.elf_apply.specs.Walk.{walk_all};
+ghost use Rattle.elf_apply.specs.Windows.{MayWrite, OfPatches, WritesBytes, WritesOut, windows};
 
 use crate::entry::Target;
 use crate::fault::ApplyFault;
@@ -30,19 +24,10 @@ pub(crate) fn write_windows<S: Source, W: Sink>(
     at: u64,
     out: &mut Out<W>,
 ) -> Result<(), ApplyFault>
-    requires unlimited { src.old.most ≡ None }
-    requires opened { IsOpen src.old target.now.file.loaded target.now.file.store.now }
-    requires within { at + target.now.size ≤ src.old.seen.size }
-    requires fits { at + target.now.size < 2 ^ 64 }
-    ensures reads { Reads src.old src.new
-        (windows target.now.size * walk_all target.now + target.now.size) }
-    ensures says { IfErr result (ApplyFaultSays src.old src.new out.new) }
-    ensures grows { Grows out.old out.new }
-    ensures wrote { WroteBytes out.old out.new result target.now.size }
-    ensures text { (file : List ℕ) → src.old.seen.file ≡ Some file → (patches : List _) →
-        patches_of (changes_all file target.now) ≡ Ok patches →
-        AllInside target.now.size patches →
-        WritesBytes out.old out.new result (patched patches (slice file at target.now.size)) }
+    requires { MayWrite src.old target.now at (at + target.now.size) }
+    ensures { WritesOut src.old src.new out.old out.new result
+        (windows target.now.size * walk_all target.now + target.now.size) target.now.size
+        (OfPatches target.now at (λ patches text. WritesBytes out.old out.new result text)) }
 {
     let size = target.size;
     let mut done = 0;
@@ -65,21 +50,13 @@ fn write_window<S: Source, W: Sink>(
     window: &mut [u8],
     out: &mut Out<W>,
 ) -> Result<(), ApplyFault>
-    requires unlimited { src.old.most ≡ None }
-    requires opened { IsOpen src.old target.now.file.loaded target.now.file.store.now }
+    requires may { MayWrite src.old target.now at (at + target.now.size) }
     requires few { length window.old ≤ 64 }
     requires part { low + length window.old ≤ target.now.size }
-    requires within { at + target.now.size ≤ src.old.seen.size }
-    requires fits { at + target.now.size < 2 ^ 64 }
-    ensures reads { Reads src.old src.new (walk_all target.now + length window.old) }
-    ensures says { IfErr result (ApplyFaultSays src.old src.new out.new) }
-    ensures grows { Grows out.old out.new }
-    ensures wrote { WroteBytes out.old out.new result (length window.old) }
-    ensures text { (file : List ℕ) → src.old.seen.file ≡ Some file → (patches : List _) →
-        patches_of (changes_all file target.now) ≡ Ok patches →
-        AllInside target.now.size patches →
-        WritesBytes out.old out.new result
-        (slice (patched patches (slice file at target.now.size)) low (length window.old)) }
+    ensures { WritesOut src.old src.new out.old out.new result
+        (walk_all target.now + length window.old) (length window.old)
+        (OfPatches target.now at (λ patches text. WritesBytes out.old out.new result
+        (slice text low (length window.old)))) }
 {
     fill(src, at + low, window)?;
     patch_window(src, target, low, window)?;

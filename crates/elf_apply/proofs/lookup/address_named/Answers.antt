@@ -1,23 +1,37 @@
 use Rattle.elf_apply.specs.Costs.{items_cost}
-use Rattle.std.proofs.Common.{◌≤◌, drop, sym, ap, ◌∙◌, ◌+◌, arith, Ok, Some}
+use Rattle.std.proofs.Common.{rules, ◌≤◌, drop, sym, ap, ◌∙◌, ◌+◌, arith, Ok, Some}
 use Rattle.elf_source.proofs.ReadsLaws.{Reads-then, Reads-to}
 use Rattle.elf_apply.proofs.LookupSteps.{step_hit, step_miss, step_fault, step_none, cost_step}
 use Rattle.elf_apply.proofs.ReadLaws.{refuses_answers}
 use Rattle.elf_headers.proofs.LoadLaws.{unlimited}
 use Rattle.elf_apply.proofs.lookup.address_named.Goals as goal
 
-pub returns-in-Ok-true-clause-found : goal.returns-in-Ok-true-clause-found
-returns-in-Ok-true-clause-found g c = λ file held.
-    let known = c.loop-i.invariant in
-    sym (known.left file held) ∙ (step_hit _ c.args.symbol.now.fields.st_name c.args.symbol.now.at c.loop-i.i c.args.items.now c.index-items-i.result c.name.result.now c.in-Ok-true.field-0 c.loop-i-test.true c.index-items-i.is c.name.ensures.value c.in-Ok-true.field-0-test
-    (rw c.from-off.ensures at c.in-Ok-true.ensures.compared file (known.reads.keeps.same_file ∙ held)) ∙ ap (λ n. Ok (Some n)) (sym c.address.ensures))
+pub returns-in-Ok-true : goal.returns-in-Ok-true
+returns-in-Ok-true g c = record {
+  reads =
+      let known = c.loop-i.invariant in
+      let cost = cost_step c.loop-i.i c.args.items.now c.index-items-i.result c.name.result.now c.loop-i-test.true c.index-items-i.is c.name.ensures.value in
+      Reads-to (Reads-then known.reads c.equals.ensures.reads) (omega (arith, cost, known.asked, c.equals.ensures.reads.at_most));
+  says = search rules;
+  told = λ file held.
+      let known = c.loop-i.invariant in
+      sym (known.left file held) ∙ (step_hit _ c.args.symbol.now.fields.st_name c.args.symbol.now.at c.loop-i.i c.args.items.now c.index-items-i.result c.name.result.now c.in-Ok-true.field-0 c.loop-i-test.true c.index-items-i.is c.name.ensures.value c.in-Ok-true.field-0-test
+      (rw c.from-off.ensures at c.in-Ok-true.ensures.compared file (known.reads.keeps.same_file ∙ held)) ∙ ap (λ n. Ok (Some n)) (sym c.address.ensures));
+}
 
-pub returns-in-Err-clause-found : goal.returns-in-Err-clause-found
-returns-in-Err-clause-found g c = λ file held.
-    let known = c.loop-i.invariant in
-    let says = unlimited c.loop-i.src c.equals.new.src _ c.in-Err.fault (known.reads.same_limit ∙ c.requires.unlimited) c.in-Err.ensures.says in
-    step_fault _ c.args.symbol.now.fields.st_name c.args.symbol.now.at c.loop-i.i c.args.items.now c.index-items-i.result c.name.result.now c.in-Err.fault _ c.loop-i-test.true c.index-items-i.is c.name.ensures.value
-    (known.left file held) (refuses_answers c.loop-i.src c.equals.new.src _ c.in-Err.fault _ says (rw c.from-off.ensures at c.in-Err.ensures.compared file (known.reads.keeps.same_file ∙ held)))
+pub returns-in-Err : goal.returns-in-Err
+returns-in-Err g c = record {
+  reads =
+      let known = c.loop-i.invariant in
+      let cost = cost_step c.loop-i.i c.args.items.now c.index-items-i.result c.name.result.now c.loop-i-test.true c.index-items-i.is c.name.ensures.value in
+      Reads-to (Reads-then known.reads c.equals.ensures.reads) (omega (arith, cost, known.asked, c.equals.ensures.reads.at_most));
+  says = search rules;
+  told = λ file held.
+      let known = c.loop-i.invariant in
+      let says = unlimited c.loop-i.src c.equals.new.src _ c.in-Err.fault (known.reads.same_limit ∙ c.requires.unlimited) c.in-Err.ensures.says in
+      step_fault _ c.args.symbol.now.fields.st_name c.args.symbol.now.at c.loop-i.i c.args.items.now c.index-items-i.result c.name.result.now c.in-Err.fault _ c.loop-i-test.true c.index-items-i.is c.name.ensures.value
+      (known.left file held) (refuses_answers c.loop-i.src c.equals.new.src _ c.in-Err.fault _ says (rw c.from-off.ensures at c.in-Err.ensures.compared file (known.reads.keeps.same_file ∙ held)));
+}
 
 pub loop-i-preserved : goal.loop-i-preserved
 loop-i-preserved g c =
@@ -33,6 +47,10 @@ loop-i-preserved g c =
           (rw c.from-off.ensures at c.in-Ok-false.ensures.compared file (known.reads.keeps.same_file ∙ held))) ∙ known.left file held;
     }
 
-pub returns-clause-found : goal.returns-clause-found
-returns-clause-found g c = λ file held.
-    sym (c.loop-i.invariant.left file held) ∙ step_none _ c.args.symbol.now.fields.st_name c.loop-i.i c.args.items.now c.loop-i-test.false
+pub returns : goal.returns
+returns g c = record {
+  reads = search rules;
+  says = search rules;
+  told = λ file held.
+      sym (c.loop-i.invariant.left file held) ∙ step_none _ c.args.symbol.now.fields.st_name c.loop-i.i c.args.items.now c.loop-i-test.false;
+}

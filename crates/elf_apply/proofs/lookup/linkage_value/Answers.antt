@@ -1,31 +1,34 @@
-use Rattle.std.proofs.Common.{◌∙◌, arith}
+use Rattle.std.proofs.Common.{rules, ◌∙◌, arith}
 use Rattle.elf_apply.proofs.SymbolSteps.{tells_as, linkage_found, linkage_none, linkage_fault}
 use Rattle.elf_apply.proofs.LookupSteps.{names_cost}
 use Rattle.elf_source.proofs.ReadsLaws.{Reads-then, Reads-to}
 use Rattle.elf_apply.proofs.lookup.linkage_value.Goals as goal
 
-pub returns-in-Ok-Some-clause-reads : goal.returns-in-Ok-Some-clause-reads
-returns-in-Ok-Some-clause-reads g c =
-    let p = rw c.linkage.ensures at c.address_named.ensures.reads in Reads-to p (omega (arith, p.at_most, names_cost c.args.layout.now))
+pub returns-in-Ok-Some : goal.returns-in-Ok-Some
+returns-in-Ok-Some g c = record {
+  reads =
+      let p = rw c.linkage.ensures at c.address_named.ensures.reads in Reads-to p (omega (arith, p.at_most, names_cost c.args.layout.now));
+  says = search rules;
+  told = λ file held decoded.
+      linkage_found file _ c.args.layout.now c.args.entry c.args.symbol.now.at _ decoded.st_name _ (rw (c.in-Ok-Some.field-0-is, c.linkage.ensures) at c.in-Ok-Some.ensures.told file held);
+}
 
-pub returns-in-Ok-None-clause-reads : goal.returns-in-Ok-None-clause-reads
-returns-in-Ok-None-clause-reads g c =
-    let first = rw c.linkage.ensures at c.address_named.ensures.reads in
-    let p = Reads-then first c.symbol_value.ensures.reads in Reads-to p (omega (arith, p.at_most, names_cost c.args.layout.now))
+pub returns-in-Ok-None : goal.returns-in-Ok-None
+returns-in-Ok-None g c = record {
+  reads =
+      let first = rw c.linkage.ensures at c.address_named.ensures.reads in
+      let p = Reads-then first c.symbol_value.ensures.reads in Reads-to p (omega (arith, p.at_most, names_cost c.args.layout.now));
+  says = search rules;
+  told = λ file held decoded.
+      tells_as c.symbol_value.result _ _ (linkage_none file _ c.args.layout.now c.args.entry c.args.symbol.now.at _ decoded.st_name (rw (c.in-Ok-None.field-0-is, c.linkage.ensures) at c.in-Ok-None.ensures.told file held))
+      (c.symbol_value.ensures.told file (c.address_named.ensures.reads.keeps.same_file ∙ held) decoded);
+}
 
-pub returns-in-Err-clause-reads : goal.returns-in-Err-clause-reads
-returns-in-Err-clause-reads g c =
-    let p = rw c.linkage.ensures at c.address_named.ensures.reads in Reads-to p (omega (arith, p.at_most, names_cost c.args.layout.now))
-
-pub returns-in-Ok-Some-clause-value : goal.returns-in-Ok-Some-clause-value
-returns-in-Ok-Some-clause-value g c = λ file held decoded.
-    linkage_found file _ c.args.layout.now c.args.entry c.args.symbol.now.at _ decoded.st_name _ (rw (c.in-Ok-Some.field-0-is, c.linkage.ensures) at c.in-Ok-Some.ensures.found file held)
-
-pub returns-in-Ok-None-clause-value : goal.returns-in-Ok-None-clause-value
-returns-in-Ok-None-clause-value g c = λ file held decoded.
-    tells_as c.symbol_value.result _ _ (linkage_none file _ c.args.layout.now c.args.entry c.args.symbol.now.at _ decoded.st_name (rw (c.in-Ok-None.field-0-is, c.linkage.ensures) at c.in-Ok-None.ensures.found file held))
-    (c.symbol_value.ensures.value file (c.address_named.ensures.reads.keeps.same_file ∙ held) decoded)
-
-pub returns-in-Err-clause-value : goal.returns-in-Err-clause-value
-returns-in-Err-clause-value g c = λ file held decoded.
-    linkage_fault file _ c.args.layout.now c.args.entry c.args.symbol.now.at _ decoded.st_name _ (rw c.linkage.ensures at c.in-Err.ensures.found file held)
+pub returns-in-Err : goal.returns-in-Err
+returns-in-Err g c = record {
+  reads =
+      let p = rw c.linkage.ensures at c.address_named.ensures.reads in Reads-to p (omega (arith, p.at_most, names_cost c.args.layout.now));
+  says = search rules;
+  told = λ file held decoded.
+      linkage_fault file _ c.args.layout.now c.args.entry c.args.symbol.now.at _ decoded.st_name _ (rw c.linkage.ensures at c.in-Err.ensures.told file held);
+}
