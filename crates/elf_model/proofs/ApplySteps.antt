@@ -6,7 +6,7 @@ use Rattle.elf_model.specs.ApplyCost.{offsets_at, never_fall_from, offsets_never
 use Rattle.elf_model.specs.Checks.{first_refusal, header_checks, early_checks, is_section_outside}
 use Rattle.elf_model.specs.Placing.{Layout}
 use Rattle.elf_model.specs.Records.{e_shnum, sh_offset, sh_size, r_offset, r_type, section_at}
-use Rattle.elf_model.specs.Values.{R_X86_64_NONE}
+use Rattle.elf_model.specs.Numbers.{R_X86_64_NONE}
 use Rattle.elf_model.specs.declared.causes.Refusal.{Refusal}
 
 -- a section that holds bytes within the file holds as many as its size

@@ -8,8 +8,9 @@ use Rattle.elf_model.specs.ApplyLaws.{IsInside, AllInside, EntryStoresValue, Cha
 use Rattle.elf_model.specs.Checks.{refuse, first_refusal}
 use Rattle.elf_model.specs.Placing.{symbol_value, linkage_value, place_value}
 use Rattle.elf_model.specs.Records.{r_offset, r_type}
+use Rattle.elf_model.specs.Numbers.{R_X86_64_NONE}
 use Rattle.elf_model.specs.Tables.{relocation_table_checks}
-use Rattle.elf_model.specs.Values.{Terms, takes_linkage, takes_place, Kind, kind_of, R_X86_64_NONE, overflows, value_of, low_bytes, patch_of, value}
+use Rattle.elf_model.specs.Values.{Terms, takes_linkage, takes_place, Kind, kind_of, overflows, value_of, low_bytes, patch_of, value}
 use Rattle.elf_model.specs.declared.causes.Cause.TheVariants.{Overflow, PlaceOutside}
 use Rattle.elf_model.specs.declared.causes.Refusal.{Refusal}
 use Rattle.elf_model.proofs.CheckSteps.{first_refusal-back}

@@ -1,5 +1,5 @@
 -- Costs add up within the ceiling.
-use Rattle.std.proofs.Common.{◌≡◌, ℕ, suc, zero, ◌+◌, ◌*◌, ◌/◌, ◌%◌, ◌≤◌, ◌==◌, ◌&&◌, ◌||◌, not, Bool, true, false, List, [], ◌∷◌, ◌++◌, length, Some, refl, ap, ◌∙◌, arith}
+use Rattle.std.proofs.Common.{◌≡◌, ℕ, suc, zero, ◌+◌, ◌-◌, ◌*◌, ◌/◌, ◌%◌, ◌≤◌, ◌==◌, ◌&&◌, ◌||◌, not, Bool, true, false, List, [], ◌∷◌, ◌++◌, length, Some, refl, ap, ◌∙◌, arith, add-zero, zero-add}
 use Rattle.std.proofs.Math.Nat.{mul-le-mul_left, mul-le-mul_right, mul-le-mul, div-mul-le_self, add-mul, mul-add}
 use Rattle.std.proofs.lemmas.Bool.Decides.{nat_tests}
 use Rattle.std.proofs.lemmas.Bool.{ltb-false, eqb-true}
@@ -13,7 +13,33 @@ use Rattle.elf_model.specs.Listing.{has, has_tables}
 use Rattle.elf_model.specs.declared.causes.Cause.TheVariants.{EntrySize, SizeNotWhole, TableOutside}
 use Rattle.elf_model.specs.TableKinds.{TableHeaders, symbols, relocations, section_dynamic, section_notes, segment_notes, segment_dynamic, section_kinds, segment_kinds, by_sections, by_segments, table_headers}
 use Rattle.elf_model.specs.Cost.{sum_over, cost_where, table_cost, kinds_cost, is_loadable, needs_segments, sections_cost, segments_cost, tables_cost, cost, ceiling}
-use Rattle.elf_model.specs.CostLaws.{CostIsWithinCeiling}
+use Rattle.elf_model.specs.CostLaws.{CostIsWithinCeiling, LastCostIsAdded, SumsGrow}
+
+-- sums are put together
+pub sums_split : (amount : ℕ → ℕ) (first count more : ℕ)
+    → sum_over amount first (count + more) ≡ sum_over amount first count + sum_over amount (first + count) more
+unfolding sum_over
+sums_split amount first zero more = rw (zero-add more, add-zero first) (omega arith)
+sums_split amount first (suc count) more =
+    let step = sums_split amount (suc first) count more in
+    let place : suc first + count ≡ first + suc count = omega arith in
+    let total : suc count + more ≡ suc (count + more) = omega arith in
+    ap (λ n. sum_over amount first n) total
+    ∙ ap (λ rest. amount first + rest) (step ∙ ap (λ n. sum_over amount (suc first) count + sum_over amount n more) place)
+    ∙ omega arith
+
+pub last_cost : LastCostIsAdded
+unfolding sum_over
+last_cost amount first count =
+    let s = sums_split amount first count 1 in
+    s ∙ omega arith
+
+pub sums_grow : SumsGrow
+sums_grow amount first count more h =
+    let e : more ≡ count + (more - count) = omega arith in
+    let s = sums_split amount first count (more - count) in
+    let t = ap (λ n. sum_over amount first n) e in
+    omega arith
 
 -- what one table costs at most, in a file of so many bytes
 abbrev pub table_bound : ℕ → ℕ → ℕ

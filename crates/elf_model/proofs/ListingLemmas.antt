@@ -7,13 +7,30 @@ use Rattle.elf_model.specs.Cost.{cost_where, table_cost, kinds_cost, is_loadable
 use Rattle.elf_model.proofs.StoreLemmas.{sum_over-equal}
 use Rattle.elf_model.specs.Rows.{section_row, segment_row}
 use Rattle.elf_model.specs.TableKinds.{TableKind, TableHeaders, symbols, relocations, section_notes, section_dynamic, segment_notes, segment_dynamic, section_kinds, segment_kinds, by_sections, by_segments, table_headers}
-use Rattle.std.proofs.Common.{◌≡◌, ℕ, ◌+◌, ◌*◌, ◌==◌, ◌&&◌, not, Bool, true, false, List, [], ◌∷◌, ◌++◌, length, Some, None, arith, refl, ap, sym, ◌∙◌, append-nil, append_assoc}
+use Rattle.std.proofs.Common.{◌≡◌, ℕ, suc, zero, ◌+◌, ◌*◌, ◌==◌, ◌&&◌, not, Bool, true, false, List, [], ◌∷◌, ◌++◌, length, Some, None, arith, refl, ap, sym, ◌∙◌, append-nil, append_assoc, add-zero, zero-add}
 use Rattle.elf_model.specs.Checks.{Check, first_refusal, header_checks, load_checks}
 use Rattle.elf_model.specs.Lines.{header_line, refusal_line}
 use Rattle.elf_model.specs.Listing.{Item, Line, Fault, lines_of, fault_of, report_of, guarded, where_asked, each, has, has_tables, file_header_items, HEADER, SECTIONS, SEGMENTS, NOTES, DYNAMIC, TABLES, ALL}
 use Rattle.elf_model.specs.Report.{items, load_items, table_items, table_rows, kinds_rows}
 use Rattle.elf_model.specs.declared.causes.Refusal.{Refusal}
-use Rattle.elf_model.specs.ListingLaws.{HeaderAloneIsListed, HeaderFaultIsListedAlone, LoadFaultIsListedSecond, NothingBehindTheFault, ListingsAppend, OtherBitsMeanNothing}
+use Rattle.elf_model.specs.ListingLaws.{LastRowIsLast, RowsSplit, HeaderAloneIsListed, HeaderFaultIsListedAlone, LoadFaultIsListedSecond, NothingBehindTheFault, ListingsAppend, OtherBitsMeanNothing}
+
+-- rows are put together
+pub rows_split : RowsSplit
+unfolding each
+rows_split row first zero more = rw (zero-add more, add-zero first)
+rows_split row first (suc count) more =
+    let step = rows_split row (suc first) count more in
+    let place : suc first + count ≡ first + suc count = omega arith in
+    let total : suc count + more ≡ suc (count + more) = omega arith in
+    ap (λ n. each row first n) total
+    ∙ ap (λ rest. row first ++ rest) (step ∙ ap (λ n. each row (suc first) count ++ each row n more) place)
+    ∙ sym (append_assoc (row first) (each row (suc first) count) (each row (first + suc count) more))
+
+pub last_row : LastRowIsLast
+unfolding each
+last_row row first count =
+    rows_split row first count 1 ∙ ap (λ rest. each row first count ++ rest) (append-nil (row (first + count)))
 
 -- a check that fails stands in the place of the items
 pub guarded-fault : (checks : List Check) (members : List Item) (refusal : Refusal) → first_refusal checks ≡ Some refusal

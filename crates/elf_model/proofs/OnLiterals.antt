@@ -4,13 +4,12 @@ use Rattle.elf_model.specs.Bytes.{number, field, little}
 use Rattle.elf_model.specs.Names.{shown, begins, same}
 use Rattle.elf_model.specs.Notes.{next_note, walk_from, walked, note_rows, note_shown}
 use Rattle.elf_model.specs.Dynamic.{dynamic_count, dynamic_value}
-use Rattle.elf_model.specs.Segments.{mapped_from}
-use Rattle.elf_model.specs.Mapped.{strings_at, mapped_strings}
+use Rattle.elf_model.specs.Mapped.{mapped_from, strings_at, mapped_strings}
 use Rattle.elf_model.specs.Text.{digit, hex, left_in, right_in, right_decimal, name_of}
 use Rattle.elf_model.specs.Causes.{cause_word}
-use Rattle.elf_model.specs.NameTables.{section_types, section_type_text, section_flags, letters_of, section_flags_text, segment_types, segment_type_text, letter_or_dash, segment_flags_text, symbol_types, bindings, visibilities, places, relocation_types, number_sign, relocation_type_text, dynamic_tags, dynamic_tag_text}
+use Rattle.elf_model.specs.NameTables.{file_types, file_type_text, section_types, section_type_text, section_flags, letters_of, section_flags_text, segment_types, segment_type_text, letter_or_dash, segment_flags_text, symbol_types, bindings, visibilities, places, relocation_types, number_sign, relocation_type_text, dynamic_tags, dynamic_tag_text}
 use Rattle.elf_model.specs.LineFronts.{section_front, symbol_front, addend_text, relocation_front, note_front, dynamic_front}
-use Rattle.elf_model.specs.Lines.{file_types, file_type_text, header_line, segment_line, steps_line, refusal_line, name_byte_text, escaped, name_text, hex_bytes, descriptor_text, note_tail}
+use Rattle.elf_model.specs.Lines.{header_line, segment_line, steps_line, refusal_line, name_byte_text, escaped, name_text, hex_bytes, descriptor_text, note_tail}
 use Rattle.elf_model.specs.Listing.{each, file_header_items}
 use Rattle.elf_model.specs.Rows.{section_name, section_row, segment_row, symbol_row, symbol_named, relocation_row, note_row, notes_rows, walk_rows, dynamic_row}
 use Rattle.elf_model.specs.TableKinds.{symbols, relocations, section_dynamic, segment_dynamic, section_notes, segment_notes, table_headers}

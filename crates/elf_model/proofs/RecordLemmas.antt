@@ -1,11 +1,9 @@
--- Records at their own bytes, rows and sums one at a time.
-use Rattle.std.proofs.Common.{◌≡◌, ℕ, suc, zero, ◌+◌, ◌-◌, ◌≤◌, List, ◌++◌, ap, sym, ◌∙◌, arith, append-nil, append_assoc, add-zero, zero-add}
+-- Records at their own bytes.
+use Rattle.std.proofs.Common.{◌≡◌, ℕ, ◌+◌, ◌≤◌, List, ap, ◌∙◌, arith, add-zero}
 use Rattle.elf_model.specs.Bytes.{slice, field}
 use Rattle.elf_model.specs.LineFronts.{section_front, symbol_front, relocation_front, dynamic_front}
 use Rattle.elf_model.specs.Lines.{header_line, segment_line}
-use Rattle.elf_model.specs.Listing.{each}
-use Rattle.elf_model.specs.Cost.{sum_over}
-use Rattle.elf_model.specs.RecordLaws.{FieldsOfSlices, LinesOfSlices, LastRowIsLast, RowsSplit, LastCostIsAdded, SumsGrow}
+use Rattle.elf_model.specs.RecordLaws.{FieldsOfSlices, LinesOfSlices}
 use Rattle.elf_model.proofs.Slices.{field-slice}
 
 pub fields_of_slices : FieldsOfSlices
@@ -60,44 +58,3 @@ lines_of_slices file at index section machine = (
   relocation_front_of_slice file at machine section,
   dynamic_front_of_slice file at index,
 )
-
-pub rows_split : RowsSplit
-unfolding each
-rows_split row first zero more = rw (zero-add more, add-zero first)
-rows_split row first (suc count) more =
-    let step = rows_split row (suc first) count more in
-    let place : suc first + count ≡ first + suc count = omega arith in
-    let total : suc count + more ≡ suc (count + more) = omega arith in
-    ap (λ n. each row first n) total
-    ∙ ap (λ rest. row first ++ rest) (step ∙ ap (λ n. each row (suc first) count ++ each row n more) place)
-    ∙ sym (append_assoc (row first) (each row (suc first) count) (each row (first + suc count) more))
-
-pub last_row : LastRowIsLast
-unfolding each
-last_row row first count =
-    rows_split row first count 1 ∙ ap (λ rest. each row first count ++ rest) (append-nil (row (first + count)))
-
-pub sums_split : (amount : ℕ → ℕ) (first count more : ℕ)
-    → sum_over amount first (count + more) ≡ sum_over amount first count + sum_over amount (first + count) more
-unfolding sum_over
-sums_split amount first zero more = rw (zero-add more, add-zero first) (omega arith)
-sums_split amount first (suc count) more =
-    let step = sums_split amount (suc first) count more in
-    let place : suc first + count ≡ first + suc count = omega arith in
-    let total : suc count + more ≡ suc (count + more) = omega arith in
-    ap (λ n. sum_over amount first n) total
-    ∙ ap (λ rest. amount first + rest) (step ∙ ap (λ n. sum_over amount (suc first) count + sum_over amount n more) place)
-    ∙ omega arith
-
-pub last_cost : LastCostIsAdded
-unfolding sum_over
-last_cost amount first count =
-    let s = sums_split amount first count 1 in
-    s ∙ omega arith
-
-pub sums_grow : SumsGrow
-sums_grow amount first count more h =
-    let e : more ≡ count + (more - count) = omega arith in
-    let s = sums_split amount first count (more - count) in
-    let t = ap (λ n. sum_over amount first n) e in
-    omega arith

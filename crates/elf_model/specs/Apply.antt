@@ -3,12 +3,11 @@
 use Rattle.std.specs.Prelude.{ℕ, zero, suc, ◌+◌, ◌==◌, ◌&&◌, ◌||◌, nat_lt, not, Bool, true, false, if◌then◌else◌, List, [], ◌∷◌, ◌++◌, length, take, drop, flat_map, Option, None, Some, Result, Ok, Err}
 use Rattle.elf_model.specs.Checks.{Check, refuse, first_refusal, header_checks, load_checks, range_checks}
 use Rattle.elf_model.specs.Hash.{symbol_at}
-use Rattle.elf_model.specs.NameTables.{EM_X86_64}
-use Rattle.elf_model.specs.Numbers.{SHT_NULL, SHT_NOBITS, SHT_RELA}
+use Rattle.elf_model.specs.Numbers.{ET_REL, EM_X86_64, SHT_NULL, SHT_NOBITS, SHT_RELA, R_X86_64_NONE}
 use Rattle.elf_model.specs.Placing.{Layout, symbol_value, linkage_value, place_value}
 use Rattle.elf_model.specs.Records.{e_type, e_machine, e_shnum, sh_type, sh_info, r_offset, r_sym, r_type, r_addend, twos_complement, section_at}
 use Rattle.elf_model.specs.Tables.{RELA_SIZE, section_bytes, linked_at, strings_of, entry_count, entry_at, relocation_table_checks, symbol_checks_of}
-use Rattle.elf_model.specs.Values.{Terms, takes_linkage, takes_place, Kind, kind_of, R_X86_64_NONE, overflows, low_bytes}
+use Rattle.elf_model.specs.Values.{Terms, takes_linkage, takes_place, Kind, kind_of, overflows, low_bytes}
 use Rattle.elf_model.specs.declared.causes.Cause.TheVariants.{NotRel, BadLink, Unsupported, Overflow, PlaceOutside}
 use Rattle.elf_model.specs.declared.causes.Refusal.{Refusal}
 
@@ -152,10 +151,6 @@ put patch base = take patch.at base ++ (patch.bytes ++ drop (patch.at + length p
 unfoldable pub patched : List Patch → List ℕ → List ℕ
 patched [] base = base
 patched (patch ∷ patches) base = patched patches (put patch base)
-
--- a relocatable file (gABI 4, ELF Header)
-abbrev pub ET_REL : ℕ
-ET_REL = 1
 
 -- the checks of the request to apply to a section
 unfoldable pub apply_checks : List ℕ → ℕ → List Check

@@ -1,12 +1,12 @@
 -- How many bytes may be asked for to apply the relocations of a section.
 use Rattle.std.specs.Prelude.{ℕ, ◌+◌, ◌*◌, ◌/◌, ◌==◌, ◌&&◌, nat_le, Bool, true, false, List, [], ◌∷◌, ◌++◌, length, sum_by, flat_map, None, Some}
 use Rattle.elf_model.specs.Apply.{applies_to, before_entries, held_size, relocation_entries, section_headers}
-use Rattle.elf_model.specs.Checks.{first_refusal, header_checks, early_checks, table_checks}
+use Rattle.elf_model.specs.Checks.{first_refusal, before_headers, table_checks}
 use Rattle.elf_model.specs.Names.{pad64}
+use Rattle.elf_model.specs.Numbers.{R_X86_64_NONE}
 use Rattle.elf_model.specs.Placing.{Layout}
-use Rattle.elf_model.specs.Records.{e_shnum, r_offset, r_type}
+use Rattle.elf_model.specs.Records.{FILE_HEADER_SIZE, SECTION_HEADER_SIZE, e_shnum, r_offset, r_type}
 use Rattle.elf_model.specs.Tables.{SYMBOL_SIZE, RELA_SIZE}
-use Rattle.elf_model.specs.Values.{R_X86_64_NONE}
 
 -- where the entries for a section stand in another: it has none unless it holds entries for the section and passes its
 -- own checks
@@ -62,11 +62,11 @@ window_passes file section = 1 + (held_size file section + 63) / 64
 -- headers are not read; no entries and no section where a check before the entries fails
 unfoldable pub cost_with : List ℕ → ℕ → ℕ → Layout → ℕ → ℕ
 cost_with file headers section layout passes =
-    elim (first_refusal (header_checks file ++ early_checks file headers)) [
-      | Some refusal ↦ 64
+    elim (first_refusal (before_headers file headers)) [
+      | Some refusal ↦ FILE_HEADER_SIZE
       | None ↦ elim (first_refusal (before_entries file headers section)) [
-        | Some refusal ↦ 64 + 64 * e_shnum file
-        | None ↦ 64 + 64 * e_shnum file + cost_of_passes file section layout passes
+        | Some refusal ↦ FILE_HEADER_SIZE + SECTION_HEADER_SIZE * e_shnum file
+        | None ↦ FILE_HEADER_SIZE + SECTION_HEADER_SIZE * e_shnum file + cost_of_passes file section layout passes
       ]
     ]
 

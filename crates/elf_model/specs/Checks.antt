@@ -1,7 +1,7 @@
 -- Checks in their order: the first one that fails is the answer. Sums are whole numbers.
 use Rattle.std.specs.Prelude.{ℕ, ◌+◌, ◌*◌, ◌%◌, ◌^◌, ◌==◌, ◌&&◌, ◌||◌, nat_lt, not, Bool, true, false, List, [], ◌∷◌, ◌++◌, length, if◌then◌else◌, is_none, Option, None, Some}
 use Rattle.elf_model.specs.Bytes.{field}
-use Rattle.elf_model.specs.Records.{e_phoff, e_shoff, e_phentsize, e_phnum, e_shentsize, e_shnum, e_shstrndx, sh_type, sh_offset, sh_size, sh_link, sh_entsize, section_at}
+use Rattle.elf_model.specs.Records.{FILE_HEADER_SIZE, SECTION_HEADER_SIZE, PROGRAM_HEADER_SIZE, e_phoff, e_shoff, e_phentsize, e_phnum, e_shentsize, e_shnum, e_shstrndx, sh_type, sh_offset, sh_size, sh_link, sh_entsize, section_at}
 use Rattle.elf_model.specs.Numbers.{PN_XNUM, SHN_XINDEX, SHT_STRTAB, SHT_SYMTAB, SHT_DYNSYM}
 use Rattle.elf_model.specs.declared.causes.Refusal.{Refusal}
 use Rattle.elf_model.specs.declared.causes.Cause.{Cause}
@@ -33,7 +33,7 @@ unless_empty size checks = if size == 0 then [] else checks
 abbrev pub length_checks : ℕ → List Check
 length_checks size =
     refuse (not (nat_lt size (2 ^ 63))) size TooLong
-    ∷ refuse (nat_lt size 64) size Short
+    ∷ refuse (nat_lt size FILE_HEADER_SIZE) size Short
     ∷ []
 
 -- the identification: magic number, class, data encoding, version (gABI 4, ELF Identification)
@@ -75,10 +75,10 @@ early_checks_of e size headers =
     ∷ refuse (e.shnum == 0 && not (e.shoff == 0)) 0x3c ExtendedNumbering
     ∷ refuse (nat_lt headers e.shnum) 0x3c TooManyHeaders
     ∷ refuse (nat_lt headers e.phnum) 0x38 TooManyHeaders
-    ∷ refuse (not (e.shnum == 0) && not (e.shentsize == 64)) 0x3a EntrySize
-    ∷ refuse (not (e.phnum == 0) && not (e.phentsize == 56)) 0x36 EntrySize
-    ∷ refuse (not (e.shnum == 0) && is_outside size e.shoff (64 * e.shnum)) 0x28 TableOutside
-    ∷ refuse (not (e.phnum == 0) && is_outside size e.phoff (56 * e.phnum)) 0x20 TableOutside
+    ∷ refuse (not (e.shnum == 0) && not (e.shentsize == SECTION_HEADER_SIZE)) 0x3a EntrySize
+    ∷ refuse (not (e.phnum == 0) && not (e.phentsize == PROGRAM_HEADER_SIZE)) 0x36 EntrySize
+    ∷ refuse (not (e.shnum == 0) && is_outside size e.shoff (SECTION_HEADER_SIZE * e.shnum)) 0x28 TableOutside
+    ∷ refuse (not (e.phnum == 0) && is_outside size e.phoff (PROGRAM_HEADER_SIZE * e.phnum)) 0x20 TableOutside
     ∷ refuse (not (e.shnum == 0) && not (nat_lt e.shstrndx e.shnum)) 0x3e BadLink
     ∷ []
 
@@ -97,6 +97,10 @@ counts_in file = record {
 -- the same of a file
 abbrev pub early_checks : List ℕ → ℕ → List Check
 early_checks file headers = early_checks_of (counts_in file) (length file) headers
+
+-- all checks before the section headers and the program headers are read
+abbrev pub before_headers : List ℕ → ℕ → List Check
+before_headers file headers = header_checks file ++ early_checks file headers
 
 -- the file has a section of the section names
 abbrev pub has_section_names : List ℕ → Bool

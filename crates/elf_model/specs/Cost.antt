@@ -1,9 +1,9 @@
 -- How many bytes a listing asks for at most, and what it never passes. A record stands at an offset of some bytes: of
 -- the file, or of its own bytes alone, at 0.
 use Rattle.std.specs.Prelude.{ℕ, suc, zero, ◌+◌, ◌*◌, ◌/◌, ◌==◌, ◌&&◌, ◌||◌, not, if◌then◌else◌, Bool, List, [], ◌∷◌, ◌++◌, length}
-use Rattle.elf_model.specs.Records.{e_shnum, e_phnum, e_shstrndx}
+use Rattle.elf_model.specs.Records.{FILE_HEADER_SIZE, SECTION_HEADER_SIZE, PROGRAM_HEADER_SIZE, e_shnum, e_phnum, e_shstrndx}
 use Rattle.elf_model.specs.Names.{name_bytes}
-use Rattle.elf_model.specs.Checks.{pass, header_checks, early_checks}
+use Rattle.elf_model.specs.Checks.{pass, before_headers}
 use Rattle.elf_model.specs.Listing.{has, has_tables, SECTIONS, SEGMENTS, NOTES, DYNAMIC}
 use Rattle.elf_model.specs.TableKinds.{TableKind, table_headers}
 
@@ -20,7 +20,7 @@ cost_where condition cost = if condition then cost else 0
 -- where its own checks pass
 unfoldable pub table_cost : TableKind → List ℕ → ℕ → ℕ → ℕ → ℕ
 table_cost kind bytes at file_size cap =
-    cost_where (kind.has_table bytes at && pass (kind.own_checks bytes at file_size)) (kind.entries bytes at * kind.entry_cost cap)
+    cost_where (kind.has_table bytes at && pass (kind.checks.own bytes at file_size)) (kind.entries bytes at * kind.entry_cost cap)
 
 -- what the tables of some kinds cost that a header describes, as far as the parts have them
 unfoldable pub kinds_cost : List TableKind → List ℕ → ℕ → ℕ → ℕ → ℕ → ℕ
@@ -28,14 +28,14 @@ kinds_cost [] bytes at file_size cap parts = 0
 kinds_cost (kind ∷ kinds) bytes at file_size cap parts =
     cost_where (has parts kind.part) (table_cost kind bytes at file_size cap) + kinds_cost kinds bytes at file_size cap parts
 
--- the header checks and the load checks that come before the section headers are read pass
+-- all checks before the section headers and the program headers are read pass
 unfoldable pub is_loadable : List ℕ → ℕ → Bool
-is_loadable file headers = pass (header_checks file ++ early_checks file headers)
+is_loadable file headers = pass (before_headers file headers)
 
 -- the section headers; and where these are listed and the index of the section of the section names is not 0, a name each
 unfoldable pub sections_cost : List ℕ → ℕ → ℕ → ℕ
 sections_cost file cap parts =
-    64 * e_shnum file
+    SECTION_HEADER_SIZE * e_shnum file
     + cost_where (has parts SECTIONS && not (e_shstrndx file == 0)) (e_shnum file * name_bytes cap)
 
 -- the program headers are read: where they are listed, or where they describe tables that are
@@ -44,7 +44,7 @@ needs_segments file parts = has parts SEGMENTS || (e_shnum file == 0 && (has par
 
 -- the program headers, where they are read
 unfoldable pub segments_cost : List ℕ → ℕ → ℕ
-segments_cost file parts = cost_where (needs_segments file parts) (56 * e_phnum file)
+segments_cost file parts = cost_where (needs_segments file parts) (PROGRAM_HEADER_SIZE * e_phnum file)
 
 -- the tables of all headers that describe tables, as far as the parts have them
 unfoldable pub tables_cost : List ℕ → ℕ → ℕ → ℕ
@@ -60,9 +60,10 @@ behind_header file headers cap parts =
 
 -- how many bytes the listing of a file asks for at most: the file header, and what is asked for behind it
 unfoldable pub cost : List ℕ → ℕ → ℕ → ℕ → ℕ
-cost file headers cap parts = 64 + behind_header file headers cap parts
+cost file headers cap parts = FILE_HEADER_SIZE + behind_header file headers cap parts
 
 -- what no listing of a file of so many bytes passes, whatever its bytes are
 unfoldable pub ceiling : ℕ → ℕ → ℕ → ℕ
 ceiling size headers cap =
-    64 + headers * (120 + name_bytes cap + size + size / 16 * (32 + name_bytes cap))
+    FILE_HEADER_SIZE
+    + headers * (SECTION_HEADER_SIZE + PROGRAM_HEADER_SIZE + name_bytes cap + size + size / 16 * (32 + name_bytes cap))

@@ -1,7 +1,7 @@
 -- What holds of costs.
 use Rattle.std.specs.Prelude.{◌≡◌, ℕ, ◌+◌, ◌*◌, ◌<◌, ◌≤◌, List, [], ◌∷◌, length}
 use Rattle.elf_model.specs.Bytes.{slice}
-use Rattle.elf_model.specs.Records.{e_shnum, e_phnum, section_at, segment_at}
+use Rattle.elf_model.specs.Records.{FILE_HEADER_SIZE, SECTION_HEADER_SIZE, PROGRAM_HEADER_SIZE, e_shnum, e_phnum, section_at, segment_at}
 use Rattle.elf_model.specs.Names.{name_bytes}
 use Rattle.elf_model.specs.Checks.{pass, table_checks_of}
 use Rattle.elf_model.specs.Listing.{has}
@@ -13,6 +13,18 @@ abbrev pub CostIsWithinCeiling : Type 0
 CostIsWithinCeiling =
     (file : List ℕ) → (headers cap parts : ℕ) → cost file headers cap parts ≤ ceiling (length file) headers cap
 
+-- the last cost of so many is added to the others
+abbrev pub LastCostIsAdded : Type 0
+LastCostIsAdded =
+    (amount : ℕ → ℕ) → (first count : ℕ)
+    → sum_over amount first (count + 1) ≡ sum_over amount first count + amount (first + count)
+
+-- some of the costs are no more than all
+abbrev pub SumsGrow : Type 0
+SumsGrow =
+    (amount : ℕ → ℕ) → (first count more : ℕ) → count ≤ more
+    → sum_over amount first count ≤ sum_over amount first more
+
 -- whether the checks of a table pass does not depend on the place that their refusals name
 abbrev pub PlacesDecideNothing : Type 0
 PlacesDecideNothing =
@@ -23,7 +35,7 @@ PlacesDecideNothing =
 abbrev pub RowsCostWhatTheFileCosts : Type 0
 RowsCostWhatTheFileCosts =
     (file : List ℕ) → (row : ℕ → List ℕ) → (cap parts : ℕ)
-    → ((i : ℕ) → i < e_shnum file → row i ≡ slice file (section_at file i) 64)
+    → ((i : ℕ) → i < e_shnum file → row i ≡ slice file (section_at file i) SECTION_HEADER_SIZE)
     → sum_over (λ i. kinds_cost section_kinds (row i) 0 (length file) cap parts) 0 (e_shnum file)
     ≡ sum_over (λ i. kinds_cost section_kinds file (section_at file i) (length file) cap parts) 0 (e_shnum file)
 
@@ -31,7 +43,7 @@ RowsCostWhatTheFileCosts =
 abbrev pub SegmentsCostWhatTheFileCosts : Type 0
 SegmentsCostWhatTheFileCosts =
     (file : List ℕ) → (row : ℕ → List ℕ) → (cap parts : ℕ)
-    → ((i : ℕ) → i < e_phnum file → row i ≡ slice file (segment_at file i) 56)
+    → ((i : ℕ) → i < e_phnum file → row i ≡ slice file (segment_at file i) PROGRAM_HEADER_SIZE)
     → sum_over (λ i. kinds_cost segment_kinds (row i) 0 (length file) cap parts) 0 (e_phnum file)
     ≡ sum_over (λ i. kinds_cost segment_kinds file (segment_at file i) (length file) cap parts) 0 (e_phnum file)
 
@@ -52,7 +64,7 @@ TablesCostKindByKind =
 abbrev pub AnyRowsAreWithinCeiling : Type 0
 AnyRowsAreWithinCeiling =
     (row : ℕ → List ℕ) → (size headers cap parts sections segments : ℕ) → sections ≤ headers → segments ≤ headers
-    → 64 + (64 * sections + sections * name_bytes cap + 56 * segments
+    → FILE_HEADER_SIZE + (SECTION_HEADER_SIZE * sections + sections * name_bytes cap + PROGRAM_HEADER_SIZE * segments
     + sum_over (λ i. kinds_cost section_kinds (row i) 0 size cap parts) 0 sections)
     ≤ ceiling size headers cap
 
@@ -60,5 +72,6 @@ AnyRowsAreWithinCeiling =
 abbrev pub AnySegmentsAreWithinCeiling : Type 0
 AnySegmentsAreWithinCeiling =
     (row : ℕ → List ℕ) → (size headers cap parts segments : ℕ) → segments ≤ headers
-    → 64 + (56 * segments + sum_over (λ i. kinds_cost segment_kinds (row i) 0 size cap parts) 0 segments)
+    → FILE_HEADER_SIZE
+    + (PROGRAM_HEADER_SIZE * segments + sum_over (λ i. kinds_cost segment_kinds (row i) 0 size cap parts) 0 segments)
     ≤ ceiling size headers cap

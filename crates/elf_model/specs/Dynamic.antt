@@ -1,18 +1,19 @@
--- Dynamic entries (gABI 5, Dynamic Section), each of 16 bytes.
+-- Dynamic entries (gABI 5, Dynamic Section).
 use Rattle.std.specs.Prelude.{◌≡◌, ◌≢◌, ℕ, zero, suc, ◌+◌, ◌*◌, ◌==◌, ◌<◌, ◌≤◌, true, false}
 use Rattle.std.specs.Prelude.{List, Option, None, Some}
 use Rattle.elf_model.specs.Numbers.{DT_NULL}
 use Rattle.elf_model.specs.Records.{d_tag, d_un}
+use Rattle.elf_model.specs.Tables.{DYNAMIC_SIZE}
 
 -- how many of the n entries at an offset are listed: up to and with the first whose tag is DT_NULL, or all
 unfoldable pub dynamic_count : List ℕ → ℕ → ℕ → ℕ
 dynamic_count file at zero = 0
-dynamic_count file at (suc n) = elim (d_tag file at == DT_NULL) [ true ↦ 1 | false ↦ suc (dynamic_count file (at + 16) n) ]
+dynamic_count file at (suc n) = elim (d_tag file at == DT_NULL) [ true ↦ 1 | false ↦ suc (dynamic_count file (at + DYNAMIC_SIZE) n) ]
 
 -- the value of the first of the n entries at an offset that has a tag
 unfoldable pub dynamic_value : List ℕ → ℕ → ℕ → ℕ → Option ℕ
 dynamic_value file at zero tag = None
-dynamic_value file at (suc n) tag = elim (d_tag file at == tag) [ true ↦ Some (d_un file at) | false ↦ dynamic_value file (at + 16) n tag ]
+dynamic_value file at (suc n) tag = elim (d_tag file at == tag) [ true ↦ Some (d_un file at) | false ↦ dynamic_value file (at + DYNAMIC_SIZE) n tag ]
 
 -- the value of the first listed entry with a tag, of the n entries at an offset
 abbrev pub listed_value : List ℕ → ℕ → ℕ → ℕ → Option ℕ
@@ -20,7 +21,7 @@ listed_value file at n tag = dynamic_value file at (dynamic_count file at n) tag
 
 -- where an entry stands
 abbrev pub dynamic_at : ℕ → ℕ → ℕ
-dynamic_at at i = at + 16 * i
+dynamic_at at i = at + DYNAMIC_SIZE * i
 
 -- of n entries, those before `count` are listed: none but the last of them has the tag DT_NULL, and where
 -- there are more behind it the last has it

@@ -1,11 +1,11 @@
 -- The lookup of a name in a file: the checks before it, its answer, and how many bytes it may ask for.
 use Rattle.std.specs.Prelude.{ℕ, zero, suc, ◌+◌, ◌*◌, ◌==◌, ◌||◌, nat_lt, not, Bool, true, false, List, [], ◌∷◌, ◌++◌, length, Option, None, Some}
-use Rattle.elf_model.specs.Checks.{Check, refuse, first_refusal, header_checks, early_checks, load_checks, range_checks}
+use Rattle.elf_model.specs.Checks.{Check, refuse, first_refusal, header_checks, before_headers, load_checks, range_checks}
 use Rattle.elf_model.specs.Hash.{nbucket, nchain, Lookup, refused_after, looked_up}
 use Rattle.elf_model.specs.Numbers.{SHT_HASH}
-use Rattle.elf_model.specs.Records.{e_shnum, sh_type, sh_size, sh_link, section_at}
+use Rattle.elf_model.specs.Records.{FILE_HEADER_SIZE, SECTION_HEADER_SIZE, e_shnum, sh_type, sh_size, sh_link, section_at}
 use Rattle.elf_model.specs.Names.{pad64}
-use Rattle.elf_model.specs.Tables.{linked_at, has_symbols, symbol_table_checks}
+use Rattle.elf_model.specs.Tables.{SYMBOL_SIZE, linked_at, has_symbols, symbol_table_checks}
 use Rattle.elf_model.specs.declared.causes.Cause.TheVariants.{BadLink, NoHash, HashShape}
 
 -- the first number from a first one on, among so many, that passes a test
@@ -52,7 +52,9 @@ looked file headers wanted =
 -- the section headers, three words, and a word, a symbol and a name for each symbol compared
 unfoldable pub find_cost : List ℕ → ℕ → List ℕ → ℕ
 find_cost file headers wanted =
-    elim (first_refusal (header_checks file ++ early_checks file headers)) [
-      | Some refusal ↦ 64
-      | None ↦ 76 + 64 * e_shnum file + (looked file headers wanted).compared * (28 + pad64 (length wanted + 1))
+    elim (first_refusal (before_headers file headers)) [
+      | Some refusal ↦ FILE_HEADER_SIZE
+      | None ↦
+          FILE_HEADER_SIZE + 12 + SECTION_HEADER_SIZE * e_shnum file
+          + (looked file headers wanted).compared * (4 + SYMBOL_SIZE + pad64 (length wanted + 1))
     ]

@@ -12,7 +12,6 @@ pub mod LineFronts
 pub mod Lines
 pub mod Checks
 pub mod Tables
-pub mod Segments
 pub mod Listing
 pub mod Mapped
 pub mod Rows

@@ -1,20 +1,12 @@
 -- The lines of a listing. Each is its letter and its fields, one space between two, and a newline.
 use Rattle.std.specs.Prelude.{ℕ, ◌==◌, ◌&&◌, nat_le, nat_lt, if◌then◌else◌, Bool, List, [], ◌∷◌, ◌++◌, codes, take, length}
-use Rattle.elf_model.specs.Text.{hex, left_in, right_decimal, name_in, space, newline}
+use Rattle.elf_model.specs.Text.{hex, left_in, right_decimal, space, newline}
 use Rattle.elf_model.specs.Records.{e_type, e_machine, e_entry, e_phoff, e_shoff, e_flags, e_phnum, e_shnum, e_shstrndx, p_type, p_flags, p_offset, p_vaddr, p_paddr, p_filesz, p_memsz, p_align}
-use Rattle.elf_model.specs.NameTables.{segment_type_text, segment_flags_text}
+use Rattle.elf_model.specs.NameTables.{file_type_text, segment_type_text, segment_flags_text}
 use Rattle.elf_model.specs.Names.{Shown}
 use Rattle.elf_model.specs.Names.Shown.{Whole, Cut}
 use Rattle.elf_model.specs.Causes.{cause_word}
 use Rattle.elf_model.specs.declared.causes.Refusal.{Refusal}
-
--- the object file types (gABI 4, ELF Header)
-unfoldable pub file_types : List (ℕ × List ℕ)
-file_types = (0, codes "NONE") ∷ (1, codes "REL") ∷ (2, codes "EXEC") ∷ (3, codes "DYN") ∷ (4, codes "CORE") ∷ []
-
--- an object file type's name, or its number in four digits
-unfoldable pub file_type_text : ℕ → List ℕ
-file_type_text n = name_in file_types n (hex 4 n)
 
 -- the line of the file header: type, machine, entry point, where the program headers and the section
 -- headers are, flags, how many of them there are, and the section of the section names

@@ -1,13 +1,24 @@
 -- What holds of listings.
-use Rattle.std.specs.Prelude.{◌≡◌, ℕ, ◌≤◌, true, false, List, ◌++◌, Option, None, Some}
+use Rattle.std.specs.Prelude.{◌≡◌, ℕ, ◌+◌, ◌≤◌, true, false, List, ◌++◌, Option, None, Some}
 use Rattle.elf_model.specs.Budget.{IsReport, IsBudgeted}
 use Rattle.elf_model.specs.Checks.{first_refusal, header_checks, load_checks}
 use Rattle.elf_model.specs.Lines.{header_line, refusal_line}
-use Rattle.elf_model.specs.Listing.{Item, lines_of, fault_of, has, has_tables, file_header_items, HEADER, ALL}
+use Rattle.elf_model.specs.Listing.{Item, each, lines_of, fault_of, has, has_tables, file_header_items, HEADER, ALL}
 use Rattle.elf_model.specs.Cost.{cost}
 use Rattle.std.specs.Int.RustNames.{bit_and}
 use Rattle.elf_model.specs.Report.{items, report, report_fault}
 use Rattle.elf_model.specs.declared.causes.Refusal.{Refusal}
+
+-- the last row of so many stands behind the others
+abbrev pub LastRowIsLast : Type 0
+LastRowIsLast =
+    (row : ℕ → List Item) → (first count : ℕ) → each row first (count + 1) ≡ each row first count ++ row (first + count)
+
+-- so many rows are some of them, and the others behind these
+abbrev pub RowsSplit : Type 0
+RowsSplit =
+    (row : ℕ → List Item) → (first count more : ℕ)
+    → each row first (count + more) ≡ each row first count ++ each row (first + count) more
 
 -- with no part but the file header's the listing is the file header's
 abbrev pub HeaderAloneIsListed : Type 0

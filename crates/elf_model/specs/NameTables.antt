@@ -1,6 +1,7 @@
 -- The numbers that a listing has names for, set by set, and what stands for any other number.
-use Rattle.std.specs.Prelude.{ℕ, ◌==◌, if◌then◌else◌, List, [], ◌∷◌, ◌++◌, Option, None, Some, codes, decimal}
+use Rattle.std.specs.Prelude.{ℕ, ◌+◌, ◌==◌, if◌then◌else◌, List, [], ◌∷◌, ◌++◌, Option, None, Some, codes, decimal}
 use Rattle.std.specs.Int.RustNames.{bit_and}
+use Rattle.elf_model.specs.Numbers.{EM_X86_64}
 use Rattle.elf_model.specs.Text.{hex, left_in, right_decimal, name_of, name_in}
 
 -- a name at the left of a column, or where there is none the number at the right of it
@@ -11,6 +12,14 @@ name_or_decimal width None n = right_decimal width n
 -- a number's name in a column, else the number
 abbrev pub name_or_number : List (ℕ × List ℕ) → ℕ → ℕ → List ℕ
 name_or_number names width n = name_or_decimal width (name_of names n) n
+
+-- the object file types (gABI 4, ELF Header)
+unfoldable pub file_types : List (ℕ × List ℕ)
+file_types = (0, codes "NONE") ∷ (1, codes "REL") ∷ (2, codes "EXEC") ∷ (3, codes "DYN") ∷ (4, codes "CORE") ∷ []
+
+-- an object file type's name, or its number in four digits
+unfoldable pub file_type_text : ℕ → List ℕ
+file_type_text n = name_in file_types n (hex 4 n)
 
 -- the section types (gABI 4, Section Types)
 unfoldable pub section_types : List (ℕ × List ℕ)
@@ -37,14 +46,15 @@ letters_of [] flags = []
 letters_of (entry ∷ entries) flags =
     (if bit_and flags entry.0 == entry.0 then entry.1 else []) ++ letters_of entries flags
 
--- all section flags that have a letter
-abbrev pub SECTION_FLAGS : ℕ
-SECTION_FLAGS = 0xff7
+-- all flags that have a letter: each is a bit of its own, so that their sum has these bits
+abbrev pub flags_with_letters : List (ℕ × List ℕ) → ℕ
+flags_with_letters [] = 0
+flags_with_letters (entry ∷ entries) = entry.0 + flags_with_letters entries
 
 -- the letters of a section's flags, then a question mark where any other bit is set
 unfoldable pub section_flags_text : ℕ → List ℕ
 section_flags_text flags =
-    letters_of section_flags flags ++ (if bit_and flags SECTION_FLAGS == flags then [] else codes "?")
+    letters_of section_flags flags ++ (if bit_and flags (flags_with_letters section_flags) == flags then [] else codes "?")
 
 -- the segment types (gABI 5, Segment Types)
 unfoldable pub segment_types : List (ℕ × List ℕ)
@@ -82,10 +92,6 @@ visibilities = (0, codes "DEFAULT") ∷ (1, codes "INTERNAL") ∷ (2, codes "HID
 -- the special places of a symbol (gABI 4, Special Section Indexes)
 unfoldable pub places : List (ℕ × List ℕ)
 places = (0, codes "UND") ∷ (0xfff1, codes "ABS") ∷ (0xfff2, codes "COM") ∷ []
-
--- the machine number of x86-64 (x86-64 psABI, Machine Information)
-abbrev pub EM_X86_64 : ℕ
-EM_X86_64 = 62
 
 -- the relocation types of x86-64 that have names in a listing (x86-64 psABI, Relocation Types)
 unfoldable pub relocation_types : List (ℕ × List ℕ)

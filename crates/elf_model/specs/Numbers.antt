@@ -1,5 +1,13 @@
--- The numbers that the standards give names to, as far as the checks need them.
+-- The numbers that the standards give names to, as far as the definitions need them.
 use Rattle.std.specs.Prelude.{ℕ}
+
+-- the type of a relocatable file (gABI 4, ELF Header)
+abbrev pub ET_REL : ℕ
+ET_REL = 1
+
+-- the machine number of x86-64 (x86-64 psABI, Machine Information)
+abbrev pub EM_X86_64 : ℕ
+EM_X86_64 = 62
 
 -- section types (gABI 4, Section Types)
 abbrev pub SHT_NULL : ℕ
@@ -73,6 +81,14 @@ SHN_ABS = 0xfff1
 
 abbrev pub SHN_COMMON : ℕ
 SHN_COMMON = 0xfff2
+
+-- the weak symbol binding (gABI 4, Symbol Binding)
+abbrev pub STB_WEAK : ℕ
+STB_WEAK = 2
+
+-- the relocation type of x86-64 that stores nothing (x86-64 psABI, Relocation Types)
+abbrev pub R_X86_64_NONE : ℕ
+R_X86_64_NONE = 0
 
 -- the marks of extended numbering: the program headers' number, and the section of the section names
 abbrev pub PN_XNUM : ℕ

@@ -2,7 +2,7 @@
 -- are in it (psABI 4.4, Relocation). A relocation entry stands at an offset `rela` of the file, and its symbol at another.
 use Rattle.std.specs.Prelude.{ℕ, ◌+◌, ◌%◌, ◌^◌, ◌==◌, ◌&&◌, ◌||◌, nat_lt, if◌then◌else◌, true, false, List, [], ◌∷◌, Option, None, Some, Result, Ok, Err}
 use Rattle.elf_model.specs.Names.{same}
-use Rattle.elf_model.specs.Numbers.{SHN_UNDEF, SHN_LORESERVE, SHN_ABS, SHN_COMMON}
+use Rattle.elf_model.specs.Numbers.{SHN_UNDEF, SHN_LORESERVE, SHN_ABS, SHN_COMMON, STB_WEAK}
 use Rattle.elf_model.specs.Records.{st_name, st_shndx, st_value, st_bind, r_offset}
 use Rattle.elf_model.specs.declared.causes.Cause.{Cause}
 use Rattle.elf_model.specs.declared.causes.Cause.TheVariants.{Unplaced, Undefined}
@@ -45,10 +45,6 @@ named_or symbol (Ok (Some address)) other = Ok address
 abbrev pub placed_at : ℕ → Option ℕ → ℕ → Result ℕ Refusal
 placed_at rela None offset = refusal_at rela Unplaced
 placed_at rela (Some address) offset = Ok ((address + offset) % 2 ^ 64)
-
--- the weak binding (gABI 4, Symbol Binding)
-abbrev pub STB_WEAK : ℕ
-STB_WEAK = 2
 
 -- the value of an undefined or common symbol without a definition: 0 where it is undefined and weak, else the entry is
 -- refused (gABI 4, Symbol Binding)

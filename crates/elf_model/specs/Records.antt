@@ -3,6 +3,16 @@
 use Rattle.std.specs.Prelude.{ℕ, ℤ, pos, negsuc, ◌+◌, ◌-◌, ◌*◌, ◌/◌, ◌%◌, ◌^◌, nat_lt, if◌then◌else◌, List}
 use Rattle.elf_model.specs.Bytes.{field}
 
+-- the size of the file header, of a section header and of a program header, in bytes
+abbrev pub FILE_HEADER_SIZE : ℕ
+FILE_HEADER_SIZE = 64
+
+abbrev pub SECTION_HEADER_SIZE : ℕ
+SECTION_HEADER_SIZE = 64
+
+abbrev pub PROGRAM_HEADER_SIZE : ℕ
+PROGRAM_HEADER_SIZE = 56
+
 -- The file header (gABI 4, ELF Header).
 abbrev pub e_type : List ℕ → ℕ
 e_type file = field file 16 2
@@ -166,8 +176,8 @@ n_type bytes at = field bytes (at + 8) 4
 
 -- where a section header stands in the file
 abbrev pub section_at : List ℕ → ℕ → ℕ
-section_at file i = e_shoff file + 64 * i
+section_at file i = e_shoff file + SECTION_HEADER_SIZE * i
 
 -- where a program header stands in the file
 abbrev pub segment_at : List ℕ → ℕ → ℕ
-segment_at file i = e_phoff file + 56 * i
+segment_at file i = e_phoff file + PROGRAM_HEADER_SIZE * i

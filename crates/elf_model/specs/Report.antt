@@ -5,6 +5,7 @@ use Rattle.elf_model.specs.Checks.{header_checks, load_checks}
 use Rattle.elf_model.specs.Lines.{header_line}
 use Rattle.elf_model.specs.Listing.{Item, Line, guarded, each, where_asked, has_tables, report_of, fault_of, HEADER, SECTIONS, SEGMENTS}
 use Rattle.elf_model.specs.Rows.{section_row, segment_row}
+use Rattle.elf_model.specs.Tables.{all_checks}
 use Rattle.elf_model.specs.TableKinds.{TableKind, TableHeaders, table_headers}
 use Rattle.elf_model.specs.declared.causes.Refusal.{Refusal}
 
@@ -12,7 +13,7 @@ use Rattle.elf_model.specs.declared.causes.Refusal.{Refusal}
 -- header describes no such table
 unfoldable pub table_rows : TableKind → List ℕ → ℕ → ℕ → ℕ → List Item
 table_rows kind file cap index at =
-    elim (kind.has_table file at) [ true ↦ guarded (kind.checks file at) (kind.rows file cap index at) | false ↦ [] ]
+    elim (kind.has_table file at) [ true ↦ guarded (all_checks kind.checks file at) (kind.rows file cap index at) | false ↦ [] ]
 
 -- the rows of all tables of some kinds, kind by kind, as far as the parts have them
 unfoldable pub kinds_rows : List TableKind → TableHeaders → List ℕ → ℕ → ℕ → List Item

@@ -1,8 +1,8 @@
 -- The kinds of tables whose rows are listed. A header stands at an offset of some bytes: of the file, or of its own bytes
 -- alone, at 0.
-use Rattle.std.specs.Prelude.{ℕ, ◌+◌, ◌*◌, ◌/◌, ◌==◌, Bool, true, false, List, [], ◌∷◌, length, Result, Ok}
+use Rattle.std.specs.Prelude.{ℕ, ◌+◌, ◌*◌, ◌/◌, ◌==◌, Bool, true, false, List, [], ◌∷◌, Result, Ok}
 use Rattle.elf_model.specs.Bytes.{slice}
-use Rattle.elf_model.specs.Checks.{Check, table_checks_of, whole_checks_of, range_checks_of, is_symbol_table, unless_empty}
+use Rattle.elf_model.specs.Checks.{range_checks_of, is_symbol_table}
 use Rattle.elf_model.specs.Dynamic.{dynamic_count, dynamic_at}
 use Rattle.elf_model.specs.Listing.{Item, each, SYMBOLS, RELOCS, NOTES, DYNAMIC}
 use Rattle.elf_model.specs.Mapped.{mapped_strings}
@@ -11,20 +11,17 @@ use Rattle.elf_model.specs.Notes.{note_align, walked}
 use Rattle.elf_model.specs.Numbers.{SHT_RELA, SHT_NOTE, SHT_DYNAMIC, PT_NOTE, PT_DYNAMIC}
 use Rattle.elf_model.specs.Records.{e_shnum, e_phnum, sh_type, sh_offset, sh_size, sh_addralign, p_type, p_offset, p_filesz, p_align, section_at, segment_at}
 use Rattle.elf_model.specs.Rows.{symbol_row, relocation_row, walk_rows, dynamic_row}
-use Rattle.elf_model.specs.Segments.{segment_dynamic_checks}
-use Rattle.elf_model.specs.Tables.{SYMBOL_SIZE, RELA_SIZE, DYNAMIC_SIZE, strings_of, entry_count, symbol_table_checks, relocation_table_checks, dynamic_table_checks}
+use Rattle.elf_model.specs.Tables.{SYMBOL_SIZE, RELA_SIZE, DYNAMIC_SIZE, TableChecks, nothing_linked, symbol_table, relocation_table, dynamic_table, dynamic_segment, strings_of, entry_count}
 use Rattle.elf_model.specs.declared.causes.Refusal.{Refusal}
 
--- A KIND OF TABLE: its part of a listing; which headers describe one; its own checks, in a file of so many bytes; how many
--- entries the header tells of, and what each asks for; then, in a file, all checks, which are the table's own and those of
--- what it links to, and the rows of the table whose header has an index and stands at an offset
+-- A KIND OF TABLE: its part of a listing; which headers describe one; its checks; how many entries the header tells of, and
+-- what each asks for; then, in a file, the rows of the table whose header has an index and stands at an offset
 pub record TableKind : Type 0 where
   pub part : ℕ
   pub has_table : List ℕ → ℕ → Bool
-  pub own_checks : List ℕ → ℕ → ℕ → List Check
+  pub checks : TableChecks
   pub entries : List ℕ → ℕ → ℕ
   pub entry_cost : ℕ → ℕ
-  pub checks : List ℕ → ℕ → List Check
   pub rows : List ℕ → ℕ → ℕ → ℕ → List Item
 
 -- symbols (gABI 4, Symbol Table): each with its name
@@ -32,10 +29,9 @@ unfoldable pub symbols : TableKind
 symbols = record {
   part = SYMBOLS;
   has_table = is_symbol_table;
-  own_checks = λ bytes at file_size. table_checks_of bytes at file_size at SYMBOL_SIZE;
+  checks = symbol_table;
   entries = λ bytes at. entry_count bytes at SYMBOL_SIZE;
   entry_cost = λ cap. SYMBOL_SIZE + name_bytes cap;
-  checks = symbol_table_checks;
   rows = λ file cap section at. each (symbol_row file cap section at) 0 (entry_count file at SYMBOL_SIZE);
 }
 
@@ -44,10 +40,9 @@ unfoldable pub relocations : TableKind
 relocations = record {
   part = RELOCS;
   has_table = λ bytes at. sh_type bytes at == SHT_RELA;
-  own_checks = λ bytes at file_size. table_checks_of bytes at file_size at RELA_SIZE;
+  checks = relocation_table;
   entries = λ bytes at. entry_count bytes at RELA_SIZE;
   entry_cost = λ cap. RELA_SIZE + (SYMBOL_SIZE + name_bytes cap);
-  checks = relocation_table_checks;
   rows = λ file cap section at. each (relocation_row file cap section at) 0 (entry_count file at RELA_SIZE);
 }
 
@@ -63,10 +58,9 @@ unfoldable pub section_dynamic : TableKind
 section_dynamic = record {
   part = DYNAMIC;
   has_table = λ bytes at. sh_type bytes at == SHT_DYNAMIC;
-  own_checks = λ bytes at file_size. table_checks_of bytes at file_size at DYNAMIC_SIZE;
+  checks = dynamic_table;
   entries = λ bytes at. entry_count bytes at DYNAMIC_SIZE;
   entry_cost = λ cap. DYNAMIC_SIZE + name_bytes cap;
-  checks = dynamic_table_checks;
   rows = λ file cap section at.
       dynamic_rows file cap (sh_offset file at) (entry_count file at DYNAMIC_SIZE) (λ n dynamic_at. Ok (strings_of file at));
 }
@@ -76,10 +70,9 @@ unfoldable pub segment_dynamic : TableKind
 segment_dynamic = record {
   part = DYNAMIC;
   has_table = λ bytes at. p_type bytes at == PT_DYNAMIC;
-  own_checks = λ bytes at file_size. whole_checks_of file_size (p_offset bytes at) (p_filesz bytes at) at DYNAMIC_SIZE;
+  checks = dynamic_segment;
   entries = λ bytes at. p_filesz bytes at / DYNAMIC_SIZE;
   entry_cost = λ cap. 2 * DYNAMIC_SIZE + name_bytes cap;
-  checks = segment_dynamic_checks;
   rows = λ file cap segment at.
       dynamic_rows file cap (p_offset file at) (p_filesz file at / DYNAMIC_SIZE) (mapped_strings file (p_offset file at));
 }
@@ -90,10 +83,13 @@ abbrev notes_of : (List ℕ → ℕ → Bool) → (offset size align : List ℕ 
 notes_of has_table offset size align = record {
   part = NOTES;
   has_table = has_table;
-  own_checks = λ bytes at file_size. range_checks_of file_size (offset bytes at) (size bytes at) at;
+  checks = record {
+    bytes = size;
+    own = λ bytes at file_size. range_checks_of file_size (offset bytes at) (size bytes at) at;
+    linked = nothing_linked;
+  };
   entries = size;
   entry_cost = λ cap. 1;
-  checks = λ file at. unless_empty (size file at) (range_checks_of (length file) (offset file at) (size file at) at);
   rows = λ file cap index at.
       walk_rows cap index (offset file at) (walked (note_align (align file at)) (slice file (offset file at) (size file at)));
 }

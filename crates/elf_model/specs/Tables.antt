@@ -1,8 +1,8 @@
 -- The tables of a file: where their entries stand, what they link to, and their checks.
-use Rattle.std.specs.Prelude.{ℕ, ◌+◌, ◌*◌, ◌/◌, ◌==◌, ◌&&◌, nat_lt, not, if◌then◌else◌, Bool, List, [], ◌∷◌, ◌++◌}
+use Rattle.std.specs.Prelude.{ℕ, ◌+◌, ◌*◌, ◌/◌, ◌==◌, ◌&&◌, nat_lt, not, if◌then◌else◌, Bool, List, [], ◌∷◌, ◌++◌, length}
 use Rattle.elf_model.specs.Bytes.{slice}
-use Rattle.elf_model.specs.Records.{e_shnum, sh_offset, sh_size, sh_link, section_at}
-use Rattle.elf_model.specs.Checks.{Check, refuse, unless_empty, table_checks, strings_checks, is_symbol_table}
+use Rattle.elf_model.specs.Records.{e_shnum, sh_offset, sh_size, sh_link, p_offset, p_filesz, section_at}
+use Rattle.elf_model.specs.Checks.{Check, refuse, unless_empty, whole_checks_of, table_checks_of, strings_checks, is_symbol_table}
 use Rattle.elf_model.specs.declared.causes.Cause.TheVariants.{BadLink, SymbolIndex}
 
 -- the size of a symbol, of a relocation entry with an addend, and of a dynamic entry, in bytes
@@ -35,9 +35,35 @@ entry_count file at entry_size = sh_size file at / entry_size
 abbrev pub entry_at : List ℕ → ℕ → ℕ → ℕ → ℕ
 entry_at file at entry_size index = sh_offset file at + entry_size * index
 
+-- THE CHECKS OF A KIND OF TABLE, whose header stands at an offset of some bytes: how many bytes the table has; its own
+-- checks, in a file of so many bytes, which refuse at the header; and, in a file, those of what it links to
+pub record TableChecks : Type 0 where
+  pub bytes : List ℕ → ℕ → ℕ
+  pub own : List ℕ → ℕ → ℕ → List Check
+  pub linked : List ℕ → ℕ → List Check
+
+-- all of them, of a header of the file
+abbrev pub all_checks : TableChecks → List ℕ → ℕ → List Check
+all_checks checks file at = unless_empty (checks.bytes file at) (checks.own file at (length file) ++ checks.linked file at)
+
+-- a table links to nothing
+abbrev pub nothing_linked : List ℕ → ℕ → List Check
+nothing_linked file at = []
+
+-- a section of entries of one size, with the checks of what it links to
+abbrev pub section_table : ℕ → (List ℕ → ℕ → List Check) → TableChecks
+section_table entry_size linked = record {
+  bytes = sh_size;
+  own = λ bytes at file_size. table_checks_of bytes at file_size at entry_size;
+  linked = linked;
+}
+
 -- a symbol table: its own checks, then its string table's
+abbrev pub symbol_table : TableChecks
+symbol_table = section_table SYMBOL_SIZE strings_checks
+
 abbrev pub symbol_table_checks : List ℕ → ℕ → List Check
-symbol_table_checks file at = unless_empty (sh_size file at) (table_checks file at SYMBOL_SIZE ++ strings_checks file at)
+symbol_table_checks file at = all_checks symbol_table file at
 
 -- a section links to a symbol table; section 0 counts like any other
 abbrev pub has_symbols : List ℕ → ℕ → Bool
@@ -48,8 +74,11 @@ abbrev pub linked_table_checks : List ℕ → ℕ → List Check
 linked_table_checks file at = if has_symbols file at then symbol_table_checks file (linked_at file at) else []
 
 -- a table of relocation entries: its own checks, then those of the symbol table that it links to
+abbrev pub relocation_table : TableChecks
+relocation_table = section_table RELA_SIZE linked_table_checks
+
 abbrev pub relocation_table_checks : List ℕ → ℕ → List Check
-relocation_table_checks file at = unless_empty (sh_size file at) (table_checks file at RELA_SIZE ++ linked_table_checks file at)
+relocation_table_checks file at = all_checks relocation_table file at
 
 -- the symbol of an index that a relocation entry at an offset names, for the section whose header stands at an offset:
 -- symbol 0, or one of the linked table's
@@ -61,5 +90,19 @@ symbol_checks_of file header_at rela_at symbol =
     ∷ []
 
 -- a table of dynamic entries: its own checks, then its string table's
+abbrev pub dynamic_table : TableChecks
+dynamic_table = section_table DYNAMIC_SIZE strings_checks
+
 abbrev pub dynamic_table_checks : List ℕ → ℕ → List Check
-dynamic_table_checks file at = unless_empty (sh_size file at) (table_checks file at DYNAMIC_SIZE ++ strings_checks file at)
+dynamic_table_checks file at = all_checks dynamic_table file at
+
+-- a segment that is a table of dynamic entries: its own checks alone
+abbrev pub dynamic_segment : TableChecks
+dynamic_segment = record {
+  bytes = p_filesz;
+  own = λ bytes at file_size. whole_checks_of file_size (p_offset bytes at) (p_filesz bytes at) at DYNAMIC_SIZE;
+  linked = nothing_linked;
+}
+
+abbrev pub segment_dynamic_checks : List ℕ → ℕ → List Check
+segment_dynamic_checks file at = all_checks dynamic_segment file at

@@ -2,6 +2,7 @@
 -- linkage table entry, A the addend, P the place of the bytes that are relocated.
 use Rattle.std.specs.Prelude.{ℕ, ◌-◌, ◌*◌, ◌%◌, ◌^◌, ◌==◌, ◌||◌, nat_lt, not, Bool, true, false, ℤ, pos, negsuc, ◌+ℤ◌, ◌-ℤ◌, List, [], ◌∷◌, Option, None, Some, Result, Ok, Err}
 use Rattle.elf_model.specs.Bytes.{little}
+use Rattle.elf_model.specs.Numbers.{R_X86_64_NONE}
 use Rattle.elf_model.specs.declared.causes.Cause.{Cause}
 use Rattle.elf_model.specs.declared.causes.Cause.TheVariants.{Unsupported, Overflow}
 
@@ -95,10 +96,6 @@ kind_in (row ∷ rows) n = elim (n == row.0) [ true ↦ Some row.1 | false ↦ k
 -- the relocation type of a number, if it is one that stores a value
 unfoldable pub kind_of : ℕ → Option Kind
 kind_of n = kind_in kinds n
-
--- the relocation type that stores nothing
-abbrev pub R_X86_64_NONE : ℕ
-R_X86_64_NONE = 0
 
 -- a relocation type's value modulo 2^64
 abbrev pub value_of : Kind → Terms → ℕ

@@ -1,10 +1,20 @@
 //! The laws of costs.
-ghost use Rattle.elf_model.specs.CostLaws.{CostIsWithinCeiling, PlacesDecideNothing, RowsCostWhatTheFileCosts, SegmentsCostWhatTheFileCosts, TablesCostKindByKind, AnyRowsAreWithinCeiling, AnySegmentsAreWithinCeiling};
+ghost use Rattle.elf_model.specs.CostLaws.{CostIsWithinCeiling, LastCostIsAdded, SumsGrow, PlacesDecideNothing, RowsCostWhatTheFileCosts, SegmentsCostWhatTheFileCosts, TablesCostKindByKind, AnyRowsAreWithinCeiling, AnySegmentsAreWithinCeiling};
 
 /// No listing costs more than the ceiling, whatever the file's bytes, the caps and the parts are.
 #[tactic(auto, using(crate::proofs::CostLemmas::cost_within))]
 pub fn cost_is_within_ceiling()
     ensures { CostIsWithinCeiling }
+{}
+
+/// The last cost of so many is added to the others.
+pub fn last_cost_is_added()
+    ensures { LastCostIsAdded }
+{}
+
+/// Some of the costs are no more than all.
+pub fn sums_grow()
+    ensures { SumsGrow }
 {}
 
 /// Whether the checks of a table pass does not depend on the place that they name.

@@ -1,5 +1,15 @@
 //! The laws of listings.
-ghost use Rattle.elf_model.specs.ListingLaws.{HeaderAloneIsListed, HeaderFaultIsListedAlone, LoadFaultIsListedSecond, NothingBehindTheFault, ListingsAppend, OtherBitsMeanNothing, AmpleBudgetIsReport};
+ghost use Rattle.elf_model.specs.ListingLaws.{LastRowIsLast, RowsSplit, HeaderAloneIsListed, HeaderFaultIsListedAlone, LoadFaultIsListedSecond, NothingBehindTheFault, ListingsAppend, OtherBitsMeanNothing, AmpleBudgetIsReport};
+
+/// The last row of so many stands behind the others.
+pub fn last_row_is_last()
+    ensures { LastRowIsLast }
+{}
+
+/// So many rows are some of them, and the others behind these.
+pub fn rows_split()
+    ensures { RowsSplit }
+{}
 
 /// With no part but the file header's the listing is the file header's.
 pub fn header_alone_is_listed()
