@@ -3,7 +3,7 @@ use Rattle.std.proofs.Common.{◌≡◌, ◌==◌, Bool, true, false, not, if◌
 use Rattle.std.specs.Prelude.{codes}
 use Rattle.std.proofs.lemmas.Nat.{and_comm}
 use Rattle.bitflags.proofs.OnLiterals.{bitflags_on_literals}
-use Rattle.elf_model.specs.NameTables.{section_flags, section_flags_text, letters_of, SECTION_FLAGS}
+use Rattle.elf_model.specs.NameTables.{section_flags, section_flags_text, letters_of}
 use Rattle.elf_lines.proofs.section_rows.section_letters.Goals as goal
 
 if-not : (b : Bool) (xs ys : List ℕ) → (if not b then xs else ys) ≡ (if b then ys else xs)
@@ -24,14 +24,14 @@ letters-joined : (bits : ℕ)
     → letter bits 0x1 (codes "W") ++ letter bits 0x2 (codes "A") ++ letter bits 0x4 (codes "X") ++ letter bits 0x10 (codes "M")
     ++ letter bits 0x20 (codes "S") ++ letter bits 0x40 (codes "I") ++ letter bits 0x80 (codes "L") ++ letter bits 0x100 (codes "O")
     ++ letter bits 0x200 (codes "G") ++ letter bits 0x400 (codes "T") ++ letter bits 0x800 (codes "C")
-    ++ (if bit_and bits SECTION_FLAGS == bits then [] else codes "?")
+    ++ (if bit_and bits 0xff7 == bits then [] else codes "?")
     ≡ section_flags_text bits
 unfolding section_flags_text section_flags letters_of
 letters-joined bits =
     twelve-joined (letter bits 0x1 (codes "W")) (letter bits 0x2 (codes "A")) (letter bits 0x4 (codes "X")) (letter bits 0x10 (codes "M"))
     (letter bits 0x20 (codes "S")) (letter bits 0x40 (codes "I")) (letter bits 0x80 (codes "L")) (letter bits 0x100 (codes "O"))
     (letter bits 0x200 (codes "G")) (letter bits 0x400 (codes "T")) (letter bits 0x800 (codes "C"))
-    (if bit_and bits SECTION_FLAGS == bits then [] else codes "?")
+    (if bit_and bits 0xff7 == bits then [] else codes "?")
 
 pub returns-clause-text : goal.returns-clause-text
 unfolding bitflags_on_literals
