@@ -1,7 +1,7 @@
 -- The first of a file's program headers that holds some bytes.
 use Rattle.std.proofs.Common.{◌≡◌, ℕ, ◌+◌, ◌-◌, suc, ◌<◌, ◌≤◌, Bool, true, false, if◌then◌else◌, List, None, Some, refl, ◌∙◌, ap, arith}
 use Rattle.elf_model.specs.Records.{segment_at}
-use Rattle.elf_model.specs.Segments.{is_mapped_by, mapped_from}
+use Rattle.elf_model.specs.Mapped.{is_mapped_by, mapped_from}
 
 if_true : {A : Type 0} (b : Bool) (x y : A) → b ≡ true → (if b then x else y) ≡ x
 if_true true x y h = refl

@@ -2,7 +2,7 @@
 use Rattle.std.specs.Prelude.{ℕ, ◌≡◌, ◌+◌, ◌*◌, List, [], ◌∷◌, length, Result}
 use Rattle.elf_model.specs.Checks.{refuse, is_outside}
 use Rattle.elf_model.specs.Records.{p_offset, p_filesz, segment_at}
-use Rattle.elf_model.specs.Segments.{mapped_checks, mapped_place}
+use Rattle.elf_model.specs.Mapped.{mapped_checks, mapped_place}
 use Rattle.elf_model.specs.declared.causes.Cause.TheVariants.{TableOutside}
 use Rattle.elf_record.specs.declared.ehdr.Ehdr.{Ehdr}
 use Rattle.elf_headers.specs.Load.{Views}

@@ -1,6 +1,6 @@
 //! The checks of one segment by its program header.
 ghost use Rattle.std.specs.Prelude.{◌≡◌, ℕ, ◌≤◌, List, IfOk, IfErr, true};
-ghost use Rattle.elf_model.specs.Segments.{is_mapped_by, mapped_offset};
+ghost use Rattle.elf_model.specs.Mapped.{is_mapped_by, mapped_offset};
 ghost use Rattle.elf_record.specs.Phdr.{IsPhdr};
 ghost use Rattle.elf_headers.specs.Faults.{IsOfCheck};
 ghost use Rattle.elf_table.specs.Tables.{StringsWithin};

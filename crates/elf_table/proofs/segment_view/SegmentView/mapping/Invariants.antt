@@ -1,6 +1,6 @@
 -- None of the program headers so far holds the bytes: the first that does is among those left.
 use Rattle.std.proofs.Common.{◌-◌, ◌≡◌, ℕ, ◌≤◌, List}
-use Rattle.elf_model.specs.Segments.{mapped_at, mapped_from}
+use Rattle.elf_model.specs.Mapped.{mapped_at, mapped_from}
 use Rattle.elf_headers.specs.Load.{Views}
 use Rattle.elf_table.proofs.segment_view.SegmentView.mapping.Given as goal
 
