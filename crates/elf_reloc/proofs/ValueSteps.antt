@@ -4,7 +4,8 @@ use Rattle.std.proofs.Math.Facts.{to_z-of_z}
 use Rattle.std.proofs.lemmas.Bool.{ne_eqb}
 use Rattle.std.specs.Int.{cast_signed, cast_unsigned, w64}
 use Rattle.elf_model.specs.Bytes.{little}
-use Rattle.elf_model.specs.Values.{Kind, Terms, R_X86_64_NONE, kind_of, fits, patch_of, value_of, value}
+use Rattle.elf_model.specs.Numbers.{R_X86_64_NONE}
+use Rattle.elf_model.specs.Values.{Kind, Terms, kind_of, fits, patch_of, value_of, value}
 use Rattle.elf_model.specs.declared.causes.Cause.{Cause}
 use Rattle.elf_model.specs.declared.causes.Cause.TheVariants.{Unsupported, Overflow}
 use Rattle.elf_reloc.specs.Types.{terms}
