@@ -7,7 +7,8 @@ use Rattle.elf_model.specs.Records.{r_offset, r_sym, r_type, r_addend, twos_comp
 use Rattle.elf_model.specs.Tables.{linked_at, strings_of, entry_count, has_symbols}
 use Rattle.elf_model.specs.Hash.{symbol_count, symbol_at}
 use Rattle.elf_model.specs.Placing.{Layout, address_in, symbol_value, linkage_value, place_value, placed_at}
-use Rattle.elf_model.specs.Values.{Formula, Kind, Terms, kind_of, patch_of, fits, whole, modulo_2_64, takes_linkage, takes_place, overflows, low_bytes, value_of, R_X86_64_NONE}
+use Rattle.elf_model.specs.Numbers.{R_X86_64_NONE}
+use Rattle.elf_model.specs.Values.{Formula, Kind, Terms, kind_of, patch_of, fits, whole, modulo_2_64, takes_linkage, takes_place, overflows, low_bytes, value_of}
 use Rattle.elf_model.specs.Values.Formula.{Absolute, Relative, LinkageRelative}
 use Rattle.elf_model.specs.Apply.{Target, Change, Put, Fails, entry_changes, change_of, entry_checks, named_value, symbol_checks, value_checks, value_or_zero, terms_of}
 use Rattle.elf_model.specs.declared.causes.Cause.{Cause}

@@ -7,7 +7,8 @@ use Rattle.elf_model.specs.ApplyCost.{entries_in, entries_for, offsets_at, never
 use Rattle.elf_model.specs.Checks.{Check, first_refusal, table_checks}
 use Rattle.elf_model.specs.Records.{r_type, r_offset, sh_size}
 use Rattle.elf_model.specs.Tables.{RELA_SIZE, entry_at, entry_count, linked_at, has_symbols, symbol_table_checks, relocation_table_checks}
-use Rattle.elf_model.specs.Values.{Kind, kind_of, R_X86_64_NONE}
+use Rattle.elf_model.specs.Numbers.{R_X86_64_NONE}
+use Rattle.elf_model.specs.Values.{Kind, kind_of}
 use Rattle.elf_model.specs.declared.causes.Refusal.{Refusal}
 use Rattle.elf_model.proofs.ApplySteps.{offsets_at-append}
 use Rattle.elf_model.proofs.CheckSteps.{first_refusal-some}

@@ -1,5 +1,5 @@
 use Rattle.std.proofs.Common.{rules, ◌%◌, ◌∷◌, [], sym, ap, ◌∙◌}
-use Rattle.elf_model.specs.Values.{R_X86_64_NONE}
+use Rattle.elf_model.specs.Numbers.{R_X86_64_NONE}
 use Rattle.elf_reloc.specs.Types.{types_as}
 use Rattle.elf_apply.specs.Entries.{target_as}
 use Rattle.elf_apply.proofs.EntrySteps.{changes_none, changes_some, change_unsupported, changes_refused, changes_fault}
