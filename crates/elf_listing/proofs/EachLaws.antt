@@ -1,7 +1,7 @@
 -- Rows one after another, and what stands behind some of them.
 use Rattle.std.proofs.Common.{◌≡◌, ℕ, ◌+◌, ◌-◌, ◌≤◌, List, [], ◌∷◌, ◌++◌, refl, sym, ap, ◌∙◌, arith, append_assoc, zero-add}
 use Rattle.elf_model.specs.Listing.{Item, Line, Fault, lines_of, each}
-use Rattle.elf_model.proofs.RecordLemmas.{rows_split, last_row}
+use Rattle.elf_model.proofs.ListingLemmas.{rows_split, last_row}
 
 -- lines of a front of items are a front of all lines
 pub lines_front : (xs ys : List Item) → (rest : List ℕ) × (lines_of (xs ++ ys) ≡ lines_of xs ++ rest)

@@ -3,7 +3,7 @@ use Rattle.std.proofs.Common.{◌≡◌, ℕ, ◌+◌, ◌*◌, ◌<◌, ◌≤�
 use Rattle.elf_model.specs.Bytes.{slice}
 use Rattle.elf_model.specs.Cost.{sum_over}
 use Rattle.elf_model.specs.Listing.{Item, each}
-use Rattle.elf_model.proofs.RecordLemmas.{last_cost, sums_grow}
+use Rattle.elf_model.proofs.CostLemmas.{last_cost, sums_grow}
 use Rattle.elf_source.specs.Output.{Written}
 use Rattle.elf_headers.specs.Faults.{IsAt}
 use Rattle.elf_table.specs.Cursors.{Reading, GivesRow, HoldsRows, unread_bytes, next_row, ShowsRow}

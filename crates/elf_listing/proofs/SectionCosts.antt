@@ -13,9 +13,8 @@ use Rattle.elf_model.specs.Records.{e_shnum, e_phnum, e_shstrndx, sh_type, sh_of
 use Rattle.elf_model.specs.declared.causes.Cause.TheVariants.{ExtendedNumbering, SizeNotWhole, TableOutside, TooManyHeaders}
 use Rattle.elf_model.specs.declared.causes.Refusal.{Refusal}
 use Rattle.elf_model.proofs.CheckSteps.{first_refusal-none, passes_front}
-use Rattle.elf_model.proofs.CostLemmas.{cost_where-le, sum_over-le, tables_by, headers_none}
+use Rattle.elf_model.proofs.CostLemmas.{cost_where-le, sum_over-le, sums_grow, tables_by, headers_none}
 use Rattle.elf_model.proofs.StoreLemmas.{rows_cost, segments_cost_rows, by_kind, any_rows, any_segments, sections_counted, places_decide_nothing}
-use Rattle.elf_model.proofs.RecordLemmas.{sums_grow}
 use Rattle.elf_record.specs.Ehdr.{IsEhdr}
 use Rattle.elf_record.specs.declared.ehdr.Ehdr.{Ehdr}
 use Rattle.elf_headers.specs.Load.{Opened, Belongs, IsOpened, early_of, load_cost}

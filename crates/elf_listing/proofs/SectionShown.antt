@@ -16,8 +16,7 @@ use Rattle.elf_model.specs.Dynamic.{dynamic_at, dynamic_count, listed_value}
 use Rattle.elf_model.proofs.CheckSteps.{first_refusal-none, first_refusal-some}
 use Rattle.elf_model.proofs.ListingLemmas.{guarded-passes, guarded-fault}
 use Rattle.elf_model.specs.Mapped.{mapped_strings, strings_at as strings_mapped}
-use Rattle.elf_model.specs.Segments.{segment_dynamic_checks}
-use Rattle.elf_model.specs.Tables.{section_bytes, strings_of, entry_count, symbol_table_checks, relocation_table_checks, dynamic_table_checks}
+use Rattle.elf_model.specs.Tables.{section_bytes, strings_of, entry_count, symbol_table_checks, relocation_table_checks, dynamic_table_checks, segment_dynamic_checks}
 use Rattle.elf_model.specs.declared.causes.Refusal.{Refusal}
 use Rattle.elf_note.specs.DynCursors.{AreStrings}
 use Rattle.elf_note.specs.declared.string_values.DynStrings.{DynStrings}

@@ -3,11 +3,10 @@ use Rattle.std.proofs.Common.{◌≡◌, ℕ, Bool, true, false, List, [], ◌�
 use Rattle.elf_model.specs.Checks.{first_refusal}
 use Rattle.elf_model.specs.LineFronts.{dynamic_front}
 use Rattle.elf_model.specs.Listing.{Item, Fault as FaultItem}
-use Rattle.elf_model.specs.Mapped.{strings_at}
+use Rattle.elf_model.specs.Mapped.{mapped_checks, mapped_place, strings_at}
 use Rattle.elf_model.specs.Names.{Shown, shown}
 use Rattle.elf_model.specs.Records.{d_tag, d_un}
 use Rattle.elf_model.specs.Rows.{dynamic_row, is_string_tag, named_row, no_name}
-use Rattle.elf_model.specs.Segments.{mapped_checks, mapped_place}
 use Rattle.elf_model.specs.declared.causes.Cause.{Cause}
 use Rattle.elf_model.specs.declared.causes.Cause.TheVariants.{Unmapped}
 use Rattle.elf_model.specs.declared.causes.Refusal.{Refusal}
