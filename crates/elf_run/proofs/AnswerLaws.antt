@@ -26,9 +26,7 @@ report_shown file headers cap parts text fault is =
 -- what is listed is the text of the answer, and its fault tells the status
 listed_shown : (budget : Option ℕ) (file : List ℕ) (headers cap parts : ℕ) (text : List ℕ) (fault : Option Refusal) → IsBudgeted budget file headers cap parts text fault
     → IsShown budget file headers cap parts (answer_of text fault)
-listed_shown None file headers cap parts text fault is = report_shown file headers cap parts text fault is
-listed_shown (Some budget) file headers cap parts text fault (inl is) = inl (report_shown file headers cap parts text fault is)
-listed_shown (Some budget) file headers cap parts text fault (inr is) = inr (is.0, ap status_of is.1.fault_is, (fault, is.1))
+listed_shown budget file headers cap parts text fault is = record { fault = fault; listed = is; status_is = refl }
 
 -- a text is cut short by a refusal for want of budget, whose line is its last
 abbrev IsCutAt : List ℕ → Option Refusal → Refusal → Type 0
