@@ -69,10 +69,12 @@ SymbolsAreValued =
     × RefusesToApply (with_symbol 6 (little 2 2)) placed_layout 0x48 Unplaced
     × RefusesToApply (with_symbol 6 (little 2 0xff05)) special_layout 0x48 Unplaced
 
--- an entry that changes nothing is not checked, nor is the symbol 0
+-- an entry that changes nothing, by its type alone, is not checked, nor is the symbol 0
 abbrev pub NothingIsChecked : Type 0
 NothingIsChecked =
     WritesSection (relocated (zeros 2) (relocation 9 0x500000000 0)) empty_layout (zeros 2)
+    × WritesSection (relocated (zeros 2) (relocation 9 0x500000000 5)) empty_layout (zeros 2)
+    × WritesSection (relocated (1 ∷ zeros 7) (relocation 0 10 0)) empty_layout (zeros 8)
     × WritesSection (with_bytes 0x54 (little 4 0) (with_entries_header 40 (little 4 9))) placed_layout (0xe8 ∷ 0xfb ∷ 0xef ∷ 0xff ∷ 0xff ∷ [])
 
 -- what the request is refused for, in this order; section 0 is refused by itself, and the last section is not
@@ -85,11 +87,13 @@ RequestInOrder =
     × (applied one_call 5 4 empty_layout ≡ Ok (0 ∷ 102 ∷ 0 ∷ []))
     × RefusesToApply (with_bytes 0xf0 (little 8 0x1000) one_call) empty_layout 0xd8 TableOutside
 
--- a section without bytes in the file is empty, wherever it is to stand
+-- a section without bytes in the file is empty, wherever it is to stand; those of other types have bytes
 abbrev pub NoBytesAreApplied : Type 0
 NoBytesAreApplied =
     (applied (with_bytes 0xdc (little 4 8) (with_bytes 0xf0 (little 8 0x1000) (with_entries_header 44 (little 4 2)))) 5 1 empty_layout ≡ Ok [])
     × RefusesToApply (with_bytes 0xdc (little 4 0) one_call) entry_layout 0x48 PlaceOutside
+    × WritesSection (with_bytes 0xdc (little 4 14) one_call) entry_layout (0xe8 ∷ 0xfb ∷ 0x0f ∷ 0 ∷ 0 ∷ [])
+    × WritesSection (with_bytes 0xdc (little 4 7) one_call) entry_layout (0xe8 ∷ 0xfb ∷ 0x0f ∷ 0 ∷ 0 ∷ [])
 
 -- a link of 0 from relocation entries counts, where section 0 is a symbol table
 abbrev pub LinkZeroCounts : Type 0

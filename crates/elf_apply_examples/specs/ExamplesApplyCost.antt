@@ -20,7 +20,8 @@ CostsOfLastWindows =
     × (apply_cost (relocated (zeros 128) (relocation 0 14 1)) 3 1 empty_layout ≡ 64 + 192 + (1 + 2) * 48 + 128)
     × (apply_cost (relocated (zeros 129) (relocation 0 14 1)) 3 1 empty_layout ≡ 64 + 192 + (1 + 3) * 48 + 129)
 
--- in order one pass applies all entries; else each window of 64 bytes takes one, also where an offset falls by 1
+-- in order one pass applies all entries; else each window of 64 bytes takes one, also where an offset falls by 1. With fewer
+-- headers permitted than there are the file header alone is asked for
 abbrev pub CostsByOrder : Type 0
 CostsByOrder =
     (apply_cost_by_order rising_relocations 3 1 empty_layout ≡ 768)
@@ -29,6 +30,8 @@ CostsByOrder =
     × (apply_cost_by_order overlapping_in_other_order 3 1 empty_layout ≡ 456)
     × (apply_cost_by_order (relocated (zeros 65) (relocation 3 12 0 ++ relocation 4 12 0)) 3 1 empty_layout ≡ 64 + 192 + 2 * 2 * 48 + 65)
     × (apply_cost_by_order (relocated (zeros 65) (relocation 4 12 0 ++ relocation 3 12 0)) 3 1 empty_layout ≡ 64 + 192 + 3 * 2 * 48 + 65)
+    × (apply_cost_by_order rising_relocations 2 1 empty_layout ≡ 64)
+    × (apply_cost_by_order falling_relocations 2 1 empty_layout ≡ 64)
 
 -- entries past a fault count, entries of a section that is refused do not
 abbrev pub EntriesThatCount : Type 0
@@ -37,10 +40,12 @@ EntriesThatCount =
     × (apply_cost (two_relocation_sections 9 23) 4 1 empty_layout ≡ 64 + 256 + 2 * 1 * 48 + 8)
     × (apply_cost (two_relocation_sections 9 24) 4 1 empty_layout ≡ 64 + 256 + 2 * 2 * 48 + 8)
 
--- an entry that changes nothing has no part in the order
+-- an entry that changes nothing has no part in the order, whatever its symbol is, and those behind it have theirs
 abbrev pub OrderLeavesOutNone : Type 0
 OrderLeavesOutNone =
     (offsets_never_fall (relocated (zeros 8) (relocation 4 10 0 ++ relocation 0 0 0 ++ relocation 4 12 0)) 1 ≡ true)
+    × (offsets_never_fall (relocated (zeros 8) (relocation 4 10 0 ++ relocation 0 0x500000000 0 ++ relocation 4 12 0)) 1 ≡ true)
+    × (offsets_never_fall (relocated (zeros 8) (relocation 4 10 0 ++ relocation 4 0 0 ++ relocation 0 10 0)) 1 ≡ false)
     × (offsets_never_fall (relocated (zeros 8) (relocation 4 10 0 ++ relocation 0 10 0)) 1 ≡ false)
     × (offsets_never_fall (relocated (zeros 8) (relocation 4 12 0 ++ relocation 3 12 0)) 1 ≡ false)
 

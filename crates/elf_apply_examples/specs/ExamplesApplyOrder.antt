@@ -11,9 +11,10 @@ use Rattle.elf_model.specs.FixturesHash.{hash_with_cycle}
 use Rattle.elf_model.specs.FixturesApply.{relocation, relocated, overlapping_relocations, one_call, with_symbol, empty_layout, placed_layout, entry_layout, unplaced_layout, full_layout}
 use Rattle.elf_model.specs.Placing.{Layout}
 use Rattle.elf_apply_examples.specs.ExamplesApply.{WritesSection, RefusesToApply}
-use Rattle.elf_model.specs.declared.causes.Cause.TheVariants.{Unsupported, Overflow, Unplaced, PlaceOutside, SymbolIndex, NameOutside}
+use Rattle.elf_model.specs.declared.causes.Cause.TheVariants.{Unsupported, Overflow, BadLink, Unplaced, PlaceOutside, SymbolIndex, NameOutside}
 
--- the type, the place, the symbol, its name, the section's address, the value: each entry here fails the next check as well
+-- the type, the place, the symbol, its name, the section's address, the value: each entry here fails the next check as well;
+-- then entries that take S, of a symbol that has no value, where the place, the symbol's index or the link fails before
 abbrev pub EntryFaultsInOrder : Type 0
 EntryFaultsInOrder =
     RefusesToApply (with_bytes 0x48 (little 8 6 ++ little 4 9) one_call) entry_layout 0x48 Unsupported
@@ -22,6 +23,9 @@ EntryFaultsInOrder =
     × RefusesToApply (with_symbol 0 (little 4 3)) unplaced_layout 0x78 NameOutside
     × RefusesToApply (with_bytes 0x50 (little 4 2) (with_symbol 6 (little 2 0xfff1 ++ little 8 (2 ^ 63)))) empty_layout 0x48 Unplaced
     × RefusesToApply (with_bytes 0x50 (little 4 2) (with_symbol 6 (little 2 0xfff1 ++ little 8 (2 ^ 63)))) placed_layout 0x48 Overflow
+    × RefusesToApply (with_bytes 0x48 (little 8 2 ++ little 4 10) one_call) empty_layout 0x48 PlaceOutside
+    × RefusesToApply (with_bytes 0x50 (little 4 10 ++ little 4 2) one_call) empty_layout 0x48 SymbolIndex
+    × RefusesToApply (with_bytes 0x50 (little 4 10) (with_bytes 0x140 (little 4 1) one_call)) empty_layout 0x48 BadLink
 
 -- the call with other bytes in its symbol, where an entry of a type relocates the eight bytes of its section
 abbrev pub eight_relocated : ℕ → ℕ → List ℕ → List ℕ

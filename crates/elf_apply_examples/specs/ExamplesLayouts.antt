@@ -1,5 +1,5 @@
 -- Worked examples of symbols in a layout, of what comes before relocation entries, and of what that costs.
-use Rattle.std.specs.Prelude.{◌≡◌, ℕ, List, codes, ◌+◌, ◌*◌, ◌-◌, ◌^◌, ◌++◌, pos, [], ◌∷◌, map, replicate, true, false, Ok, Err}
+use Rattle.std.specs.Prelude.{◌≡◌, ℕ, List, codes, ◌+◌, ◌*◌, ◌-◌, ◌^◌, ◌++◌, pos, [], ◌∷◌, map, replicate, take, true, false, Ok, Err}
 use Rattle.elf_model.specs.Bytes.{little}
 use Rattle.elf_model.specs.Apply.{applied}
 use Rattle.elf_model.specs.ApplyCost.{apply_cost, apply_cost_in_order, offsets_never_fall}
@@ -11,7 +11,7 @@ use Rattle.elf_model.specs.FixturesTables.{numbers_from}
 use Rattle.elf_model.specs.Placing.{Layout}
 use Rattle.elf_model.specs.Values.{value}
 use Rattle.elf_apply_examples.specs.ExamplesApply.{WritesSection, RefusesSection, RefusesToApply}
-use Rattle.elf_model.specs.declared.causes.Cause.TheVariants.{BadClass, TooManyHeaders, TableOutside, BadLink, NotStrings, NameOutside, NameUnended, NotRel, Unsupported, Unplaced, Undefined, PlaceOutside}
+use Rattle.elf_model.specs.declared.causes.Cause.TheVariants.{Short, BadClass, TooManyHeaders, TableOutside, BadLink, NotStrings, NameOutside, NameUnended, NotRel, Unsupported, Unplaced, Undefined, PlaceOutside}
 
 -- an undefined symbol of no other binding than the weak one is 0
 abbrev pub WeakAloneIsZero : Type 0
@@ -58,10 +58,12 @@ SectionBytesAreChecked =
     × (applied (with_bytes 0xf0 (little 8 472 ++ zeros 8) (with_entries_header 44 (little 4 2))) 5 1 empty_layout ≡ Ok [])
     × RefusesToApply (with_bytes 0xf0 (little 8 473 ++ zeros 8) (with_entries_header 44 (little 4 2))) empty_layout 0xd8 TableOutside
 
--- the file header and the load checks come before what is asked for
+-- the file's length, the file header and the load checks come before what is asked for
 abbrev pub RequestsCheckTheFile : Type 0
 RequestsCheckTheFile =
-    RefusesSection 0 (with_bytes 4 (little 1 1) (with_bytes 16 (little 2 3) one_call)) empty_layout 4 BadClass
+    RefusesSection 0 (take 63 one_call) empty_layout 63 Short
+    × RefusesSection 0 (with_bytes 4 (little 1 1) (with_bytes 16 (little 2 3) one_call)) empty_layout 4 BadClass
+    × (applied (with_bytes 4 (little 1 1) one_call) 2 1 empty_layout ≡ Err (record { at = 4; cause = BadClass }))
     × (applied (with_bytes 16 (little 2 3) one_call) 4 0 empty_layout ≡ Err (record { at = 0x3c; cause = TooManyHeaders }))
     × RefusesSection 0 (with_bytes 0x3e (little 2 5) (with_bytes 16 (little 2 3) one_call)) empty_layout 0x3e BadLink
     × RefusesSection 0 (with_bytes 0x3e (little 2 1) (with_bytes 16 (little 2 3) one_call)) empty_layout 0xd8 NotStrings

@@ -28,6 +28,7 @@ Bits32 =
     Overflows 10 0xffffffff (pos 1) 0
     × Overflows 10 0xffffffff80000000 (pos 0) 0
     × Stores 10 0x80000000 (pos 0) 0 (0 ∷ 0 ∷ 0 ∷ 0x80 ∷ [])
+    × Stores 10 0xffffffff (pos 0) 0 (replicate 4 0xff)
     × Stores 11 0xffffffff80000000 (pos 0) 0 (0 ∷ 0 ∷ 0 ∷ 0x80 ∷ [])
     × Stores 11 0x7fffffff (pos 0) 0 (0xff ∷ 0xff ∷ 0xff ∷ 0x7f ∷ [])
     × Overflows 11 0x80000000 (pos 0) 0

@@ -50,6 +50,14 @@ RelocationSymbolsAreChecked =
     × (report (with_bytes 0x78 (little 4 0x3) one_call) 5 63 RELOCS
     ≡ codes "! 0000000000000078 name-outside\n")
 
+-- a symbol's name is cut to as many bytes as are asked for: the call's symbol is named `abcdef`
+abbrev pub RelocationNamesAreCut : Type 0
+RelocationNamesAreCut =
+    let file = with_bytes 0x1b8 (little 8 8) (with_bytes 0x91 (codes "abcdef") one_call) in
+    (report file 5 2 RELOCS ≡ codes "R     2 0000000000000001 PLT32      00000001 -0000000000000004 ab\\+\n")
+    × (report file 5 5 RELOCS ≡ codes "R     2 0000000000000001 PLT32      00000001 -0000000000000004 abcde\\+\n")
+    × (report file 5 6 RELOCS ≡ codes "R     2 0000000000000001 PLT32      00000001 -0000000000000004 abcdef\n")
+
 -- relocation types of another machine, and types without a name
 abbrev pub RelocationTypesOfOtherMachines : Type 0
 RelocationTypesOfOtherMachines =

@@ -1,5 +1,5 @@
 //! Listings of relocation entries, each computed by the prover.
-ghost use Rattle.elf_apply_examples.specs.ListedRelocations.{OverlappingRelocationsList, RelocationWithoutSymbols, OneCallLists, RelocationSymbolsAreChecked, RelocationTypesOfOtherMachines, AddendsList, RelocationChecksInOrder, LinkToSectionZero, LinkToEmptySymbols, EmptyRelocationsAreNotChecked, LinkToDynamicSymbols, LinksToNoSymbols, EntryWithoutSymbolLists, LinkedSymbolsAreCheckedFirst, EarlierRelocationsAreListed, EmptyRelocationsHaveNoLink, EmptySymbolsHaveNoLink, RelocationsAfterLoadChecks};
+ghost use Rattle.elf_apply_examples.specs.ListedRelocations.{OverlappingRelocationsList, RelocationWithoutSymbols, OneCallLists, RelocationSymbolsAreChecked, RelocationTypesOfOtherMachines, AddendsList, RelocationChecksInOrder, LinkToSectionZero, LinkToEmptySymbols, EmptyRelocationsAreNotChecked, LinkToDynamicSymbols, LinksToNoSymbols, EntryWithoutSymbolLists, LinkedSymbolsAreCheckedFirst, EarlierRelocationsAreListed, EmptyRelocationsHaveNoLink, EmptySymbolsHaveNoLink, RelocationsAfterLoadChecks, RelocationNamesAreCut};
 
 /// Two relocation entries without symbols: the whole listing.
 #[tactic(auto, unfolding(elf_model::proofs::OnLiterals::on_literals))]
@@ -107,4 +107,10 @@ pub fn empty_symbols_have_no_link()
 #[tactic(auto, unfolding(elf_model::proofs::OnLiterals::on_literals))]
 pub fn relocations_after_load_checks()
     ensures { RelocationsAfterLoadChecks }
+{}
+
+/// The name of a symbol, cut and whole.
+#[tactic(auto, unfolding(elf_model::proofs::OnLiterals::on_literals))]
+pub fn relocation_names_are_cut()
+    ensures { RelocationNamesAreCut }
 {}
