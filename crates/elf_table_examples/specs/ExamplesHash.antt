@@ -109,7 +109,7 @@ HashLinksInOrder =
     × RefusesLookup (with_bytes 0x40 (little 4 0) (with_strings_header 4 (little 4 1))) (codes "a") 0x168 NotStrings
     × RefusesLookup (with_bytes 0x40 (little 4 0) (with_strings_header 24 (little 8 0x1000))) (codes "a") 0x168 TableOutside
 
--- a symbol's name that cannot be compared
+-- a symbol's name that cannot be compared, in the only bucket, and in either of two
 abbrev pub NameFaultsAreRefused : Type 0
 NameFaultsAreRefused =
     RefusesLookup (with_bytes 0x70 (little 4 5) hash_with_cycle) (codes "c") 0x70 NameOutside
@@ -118,6 +118,8 @@ NameFaultsAreRefused =
     × ComparesNames (with_bytes 0x70 (little 4 5) hash_with_cycle) (codes "c") 1
     × RefusesLookup (with_bytes 0xa4 (little 1 99) hash_with_cycle) (codes "bc") 0x88 NameUnended
     × ComparesNames (with_bytes 0xa4 (little 1 99) hash_with_cycle) (codes "bc") 2
+    × RefusesLookup (with_bytes 0x70 (little 4 5) (hash_file (2 ∷ 2 ∷ 0 ∷ 1 ∷ 0 ∷ 0 ∷ []))) (codes "a") 0x70 NameOutside
+    × RefusesLookup (with_bytes 0x70 (little 4 5) (hash_file (2 ∷ 2 ∷ 1 ∷ 0 ∷ 0 ∷ 0 ∷ []))) (codes "b") 0x70 NameOutside
 
 -- under a symbol table of no bytes neither it nor its strings are checked, and no word but 0 is an index
 abbrev pub EmptySymbolTable : Type 0

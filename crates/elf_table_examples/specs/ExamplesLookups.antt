@@ -1,5 +1,5 @@
 -- Worked examples of lookups: longer hashes, tables with other counts, and what comes before a walk.
-use Rattle.std.specs.Prelude.{◌≡◌, ℕ, ◌+◌, List, ◌++◌, [], ◌∷◌, codes, flat_map, replicate}
+use Rattle.std.specs.Prelude.{◌≡◌, ℕ, ◌+◌, List, ◌++◌, [], ◌∷◌, codes, flat_map, replicate, take}
 use Rattle.elf_model.specs.Bytes.{little}
 use Rattle.elf_model.specs.Find.{looked, find_cost}
 use Rattle.elf_model.specs.FindApplyAnswer.{find_answer}
@@ -8,9 +8,10 @@ use Rattle.elf_model.specs.FixturesHash.{words, hash_file, hash_with_cycle, with
 use Rattle.elf_model.specs.FixturesTables.{numbers_from}
 use Rattle.elf_model.specs.Hash.{sysv_hash, Refused}
 use Rattle.elf_table_examples.specs.ExamplesHash.{hash_comes_last, FindsSymbol, FindsNothing, RefusesLookup, ComparesNames}
-use Rattle.elf_model.specs.declared.causes.Cause.TheVariants.{BadClass, TooManyHeaders, TableOutside, BadLink, EntrySize, NotStrings, NoHash, HashShape, HashIndex, HashCycle}
+use Rattle.elf_model.specs.declared.causes.Cause.TheVariants.{Short, BadClass, TooManyHeaders, TableOutside, BadLink, EntrySize, NotStrings, NoHash, HashShape, HashIndex, HashCycle}
 
--- names whose hash has each of its top four bits set on the way, and bytes above 127
+-- names whose hash has each of its top four bits set on the way, one whose hash has all lower bits and none of these, and
+-- bytes above 127
 abbrev pub LongerHashes : Type 0
 LongerHashes =
     (sysv_hash (codes "_Unwind_Resume") ≡ 0x08d2aad5)
@@ -18,6 +19,7 @@ LongerHashes =
     × (sysv_hash (0xff ∷ 0xff ∷ []) ≡ 0x10ef)
     × (sysv_hash (replicate 7 0xff) ≡ 0xff)
     × (sysv_hash (replicate 8 0x80) ≡ 0x08888000)
+    × (sysv_hash (replicate 7 0x0f) ≡ 0x0fffffff)
 
 -- one bucket, whose chain goes from symbol 19 down to symbol 1 and ends; the words stand at 0x1a8, the symbols at 0x204,
 -- the first of which is `a` and all others are `b`
@@ -66,10 +68,13 @@ NoChains =
 abbrev pub EmptyHashIsChecked : Type 0
 EmptyHashIsChecked = RefusesLookup (with_hash_header 24 (little 8 0x1000 ++ zeros 8)) (codes "a") 0xe8 TableOutside
 
--- the file header and then the load checks come before the hash table
+-- the file's length, the file header and then the load checks come before the hash table
 abbrev pub LookupsCheckTheFile : Type 0
 LookupsCheckTheFile =
-    RefusesLookup (with_bytes 4 (little 1 1) hash_with_cycle) (codes "a") 4 BadClass
+    RefusesLookup [] (codes "a") 0 Short
+    × RefusesLookup (take 63 hash_with_cycle) (codes "a") 63 Short
+    × RefusesLookup (with_bytes 4 (little 1 1) hash_with_cycle) (codes "a") 4 BadClass
+    × ((looked (with_bytes 4 (little 1 1) hash_with_cycle) 2 (codes "a")).answer ≡ Refused (record { at = 4; cause = BadClass }))
     × RefusesLookup (with_bytes 4 (little 1 1) (with_bytes 0x3e (little 2 4) hash_with_cycle)) (codes "a") 4 BadClass
     × ((looked hash_with_cycle 3 (codes "a")).answer ≡ Refused (record { at = 0x3c; cause = TooManyHeaders }))
     × RefusesLookup (with_bytes 0x3e (little 2 4) hash_with_cycle) (codes "a") 0x3e BadLink
