@@ -34,10 +34,13 @@ CostsOfParts =
     × (cost one_call 5 63 LISTED ≡ 560)
     × (cost one_load 1 63 LISTED ≡ 120)
     × (cost one_symbol_table 3 63 SECTIONS ≡ 256)
+    × (cost named_section 3 63 SYMBOLS ≡ 432)
+    × (cost named_section 4 63 SECTIONS ≡ 448)
     × (cost needed_library 3 63 DYNAMIC ≡ 496)
     × (cost (one_table 7 4 0 build_note []) 3 63 NOTES ≡ 292)
 
--- files without sections: the program headers are read once, for the segments and for the tables that they describe
+-- files without sections: the program headers are read once, for the segments and for the tables that they describe, and
+-- for no other part; there are none whatever the size of a section header is
 abbrev pub CostsWithoutSections : Type 0
 CostsWithoutSections =
     (cost one_load 1 63 SEGMENTS ≡ 120)
@@ -45,6 +48,14 @@ CostsWithoutSections =
     × (cost one_load 1 63 NOTES ≡ 120)
     × (cost one_load 1 63 DYNAMIC ≡ 120)
     × (cost one_load 1 63 (SECTIONS + SYMBOLS + RELOCS) ≡ 64)
+    × (cost one_load 1 63 SECTIONS ≡ 64)
+    × (cost one_load 1 63 SYMBOLS ≡ 64)
+    × (cost one_load 1 63 RELOCS ≡ 64)
+    × (cost one_load 1 63 (SYMBOLS + 128) ≡ 64)
+    × (cost one_load 1 63 (HEADER + NOTES) ≡ 120)
+    × (cost one_load 1 63 (SYMBOLS + DYNAMIC) ≡ 120)
+    × (cost (with_bytes 0x3a (little 2 64) note_segment) 1 63 NOTES ≡ 140)
+    × (cost (with_bytes 0x3a (little 2 64) one_load) 1 63 DYNAMIC ≡ 120)
     × (cost note_segment 1 63 NOTES ≡ 140)
     × (cost note_segment 1 63 ALL ≡ 140)
 

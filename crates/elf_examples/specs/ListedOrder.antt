@@ -1,16 +1,17 @@
 -- Which of several faults comes first, and a listing with a table of each kind.
-use Rattle.std.specs.Prelude.{◌≡◌, ℕ, ◌+◌, ◌*◌, ◌-◌, ◌^◌, ◌++◌, List, [], Some, codes}
+use Rattle.std.specs.Prelude.{◌≡◌, ℕ, ◌+◌, ◌*◌, ◌-◌, ◌^◌, ◌++◌, List, [], ◌∷◌, None, Some, codes, map, replicate, take}
 use Rattle.elf_model.specs.Bytes.{little}
 use Rattle.elf_model.specs.Checks.{first_refusal, header_checks, load_checks}
 use Rattle.elf_model.specs.Tables.{symbol_table_checks, relocation_table_checks, dynamic_table_checks}
-use Rattle.elf_model.specs.Listing.{RELOCS, NOTES, DYNAMIC, ALL}
+use Rattle.elf_model.specs.Listing.{SYMBOLS, RELOCS, NOTES, DYNAMIC, ALL}
 use Rattle.elf_model.specs.Report.{report}
 use Rattle.elf_model.specs.Cost.{cost}
 use Rattle.elf_model.specs.Fixtures.{zeros, with_bytes, file_header, section_header, symbol, bare_header, one_symbol_table}
 use Rattle.elf_model.specs.FixturesApply.{relocation, overlapping_relocations, one_call}
 use Rattle.elf_model.specs.FixturesTables.{program_header, one_segment, plain_note, aligned_note, build_note, note_segment, one_table, tagged, needed_library}
+use Rattle.elf_model.specs.FixturesSegments.{object, library_without_sections}
 use Rattle.elf_model.specs.declared.causes.Cause.{Cause}
-use Rattle.elf_model.specs.declared.causes.Cause.TheVariants.{NotElf, BadClass, BadData, ExtendedNumbering, TooManyHeaders, EntrySize, SizeNotWhole, TableOutside, NotStrings}
+use Rattle.elf_model.specs.declared.causes.Cause.TheVariants.{NotElf, BadClass, BadData, BadVersion, ExtendedNumbering, TooManyHeaders, EntrySize, SizeNotWhole, TableOutside, BadLink, NotStrings}
 
 -- one symbol table with other bytes at 0x38: the program headers' number, the size and the number of section headers,
 -- and the section of the section names
@@ -24,6 +25,22 @@ HeaderStops file at cause = first_refusal (header_checks file) ≡ Some (record 
 
 abbrev pub LoadStops : List ℕ → ℕ → ℕ → Cause → Type 0
 LoadStops file headers at cause = first_refusal (load_checks file headers) ≡ Some (record { at = at; cause = cause })
+
+-- all load checks pass
+abbrev pub LoadPasses : List ℕ → ℕ → Type 0
+LoadPasses file headers = first_refusal (load_checks file headers) ≡ None
+
+-- a byte of the identification that is one less or one more than it is to be
+abbrev NeighboursStop : (place byte at : ℕ) → Cause → Type 0
+NeighboursStop place byte at cause =
+    HeaderStops (with_bytes place (little 1 (byte - 1)) bare_header) at cause
+    × HeaderStops (with_bytes place (little 1 (byte + 1)) bare_header) at cause
+
+-- each byte of the magic number, the class, the data encoding and the version has one value
+abbrev pub IdentHasOneValue : Type 0
+IdentHasOneValue =
+    NeighboursStop 0 127 0 NotElf × NeighboursStop 1 69 0 NotElf × NeighboursStop 2 76 0 NotElf × NeighboursStop 3 70 0 NotElf
+    × NeighboursStop 4 2 4 BadClass × NeighboursStop 5 1 5 BadData × NeighboursStop 6 1 6 BadVersion
 
 -- of two checks of the identification that fail the earlier one is told
 abbrev pub IdentFaultsInOrder : Type 0
@@ -46,6 +63,45 @@ LoadFaultsInOrder =
     3 0x28 TableOutside
     × LoadStops (with_bytes 0x20 (little 8 (2 ^ 64 - 1)) (with_bytes 0x36 (little 2 56) (with_counts 1 64 3 3))) 3 0x20 TableOutside
     × LoadStops (with_bytes 0xd8 (little 8 0x1000) (with_counts 0 64 3 1)) 3 0xb8 NotStrings
+
+-- section headers and program headers have one size each, and where there are none their size may be any
+abbrev pub HeaderSizesAreOne : Type 0
+HeaderSizesAreOne =
+    LoadStops (with_counts 0 65 3 0) 3 0x3a EntrySize
+    × LoadStops (with_counts 0 0 3 0) 3 0x3a EntrySize
+    × LoadStops (with_bytes 0x36 (little 2 57) (with_counts 1 64 3 0)) 3 0x36 EntrySize
+    × LoadStops (with_bytes 0x36 (little 2 55) (with_counts 1 64 3 0)) 3 0x36 EntrySize
+    × LoadPasses (with_bytes 0x36 (little 2 56) (with_counts 1 64 3 0)) 3
+    × LoadPasses (with_bytes 0x36 (little 2 57) (with_counts 0 64 3 0)) 3
+    × LoadPasses (with_bytes 0x3a (little 2 65) bare_header) 1
+
+-- one section header, which ends with the file
+abbrev one_header : List ℕ
+one_header = file_header 1 0x40 1 0 ++ zeros 64
+
+-- whether there are section headers their number tells, which may be 1, and neither their size nor their offset, which may be 0
+abbrev pub SectionsAreCounted : Type 0
+SectionsAreCounted =
+    LoadPasses one_header 1
+    × LoadStops one_header 0 0x3c TooManyHeaders
+    × LoadStops (with_bytes 0x3a (little 2 65) one_header) 1 0x3a EntrySize
+    × LoadStops (take 127 one_header) 1 0x28 TableOutside
+    × LoadStops (with_bytes 0x3e (little 2 1) one_header) 1 0x3e BadLink
+    × LoadPasses (file_header 1 0 1 0) 1
+    × LoadStops (with_bytes 0x3a (little 2 65) (file_header 1 0 1 0)) 1 0x3a EntrySize
+    × LoadStops (file_header 1 0 2 0) 2 0x28 TableOutside
+    × LoadStops (file_header 1 0 1 1) 1 0x3e BadLink
+    × LoadPasses (with_bytes 0x3a (little 2 64 ++ little 2 0 ++ little 2 5) bare_header) 1
+    × LoadStops (file_header 1 1 0 0) 1 0x3c ExtendedNumbering
+
+-- program headers that end with the file, and one byte past it; their offset may be 0
+abbrev pub SegmentsEndInside : Type 0
+SegmentsEndInside =
+    LoadPasses (object 2 (zeros 112)) 2
+    × LoadStops (object 2 (zeros 111)) 2 0x20 TableOutside
+    × LoadPasses (object 3 (zeros 168)) 3
+    × LoadStops (object 3 (zeros 167)) 3 0x20 TableOutside
+    × LoadStops (with_bytes 0x20 (zeros 8) (object 2 [])) 2 0x20 TableOutside
 
 -- of the checks of a symbol table that fail the earliest is told: each file here fails the next check as well
 abbrev pub SymbolFaultsInOrder : Type 0
@@ -105,6 +161,7 @@ EveryTableIsListed =
     ++ codes "N     2 00000009 00000004 00000000 ABC \n"
     ++ codes "D     0 SONAME           0000000000000001 g\n")
     × (cost every_table 6 63 ALL ≡ 888)
+    × (cost every_table 127 63 SYMBOLS ≡ 64 + 6 * 64 + 2 * 88)
 
 -- the alignment of notes is counted from their table's start and not from the file's; a segment's notes are aligned and
 -- cut as a section's are
@@ -137,3 +194,14 @@ SegmentNotesByFileSize =
     (report (with_bytes 0x68 (zeros 8) note_segment) 1 63 NOTES ≡ codes "N     0 00000001 00000004 00000004 GNU 2a000000\n")
     × (cost (with_bytes 0x68 (zeros 8) note_segment) 1 63 NOTES ≡ 140)
     × (cost (with_bytes 0x68 (little 8 0x1000) note_segment) 1 63 NOTES ≡ 140)
+
+-- segments of any other type have no notes, and no dynamic entries
+abbrev pub OtherSegmentsHaveNoRows : Type 0
+OtherSegmentsHaveNoRows =
+    (map (λ type. report (with_bytes 0x40 (little 4 type) note_segment) 1 63 NOTES) (0 ∷ 1 ∷ 2 ∷ 3 ∷ 5 ∷ 6 ∷ 7 ∷ 0x104 ∷ 0x6474e553 ∷ [])
+    ≡ replicate 9 [])
+    × (map (λ type. cost (with_bytes 0x40 (little 4 type) note_segment) 1 63 NOTES) (1 ∷ 3 ∷ 5 ∷ 0x104 ∷ 0x6474e553 ∷ []) ≡ replicate 5 120)
+    × (map (λ type. report (with_bytes 0x78 (little 4 type) library_without_sections) 2 63 DYNAMIC) (0 ∷ 1 ∷ 3 ∷ 4 ∷ 0x102 ∷ 0x6474e553 ∷ [])
+    ≡ replicate 6 [])
+    × (map (λ type. cost (with_bytes 0x78 (little 4 type) library_without_sections) 2 63 DYNAMIC) (1 ∷ 3 ∷ 4 ∷ 0x102 ∷ 0x6474e553 ∷ [])
+    ≡ replicate 5 176)

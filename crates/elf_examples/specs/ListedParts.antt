@@ -1,9 +1,10 @@
 -- Parts of a listing, alone and together.
-use Rattle.std.specs.Prelude.{◌≡◌, [], ◌++◌, codes, take}
+use Rattle.std.specs.Prelude.{◌≡◌, ℕ, List, [], ◌∷◌, ◌++◌, codes, take}
 use Rattle.elf_model.specs.Listing.{HEADER, SECTIONS, SYMBOLS, RELOCS, ALL}
 use Rattle.elf_model.specs.Report.{report}
-use Rattle.elf_model.specs.Fixtures.{bare_header, one_symbol_table}
+use Rattle.elf_model.specs.Fixtures.{symbol, bare_header, one_symbol_table}
 use Rattle.elf_model.specs.FixturesApply.{one_call}
+use Rattle.elf_model.specs.FixturesTables.{one_table}
 use Rattle.elf_model.specs.Answer.{show_answer, sample_answer}
 
 -- each part of one file alone
@@ -58,3 +59,38 @@ AnswersHaveAStatus =
     × ((show_answer one_symbol_table 2 63 ALL).status ≡ 1)
     × (show_answer (take 63 bare_header) 1 63 ALL ≡ record { text = codes "! 000000000000003f short\n"; status = 1 })
     × (sample_answer 4096 256 ALL ≡ record { text = report one_symbol_table 3 63 ALL; status = 0 })
+
+-- one symbol, whose name is some bytes with no NUL behind them
+abbrev open_symbol : List ℕ → List ℕ
+open_symbol name = one_table 2 8 24 (symbol 1 0 0 0 0) (0 ∷ name)
+
+-- the text and the status are of the same listing: of the names that are asked for, cut or refused, of the parts and of the
+-- headers
+abbrev pub AnswersAreOfOneListing : Type 0
+AnswersAreOfOneListing =
+    (show_answer (open_symbol (codes "abc")) 3 2 SYMBOLS
+    ≡ record {
+      text = codes "Y     1          0 0000000000000000 0000000000000000 NOTYPE  LOCAL  DEFAULT   UND   ab\\+\n";
+      status = 0;
+    })
+    × (show_answer (open_symbol (codes "ab")) 3 2 SYMBOLS ≡ record { text = codes "! 0000000000000040 name-unended\n"; status = 1 })
+    × (show_answer (open_symbol (codes "ab")) 3 2 HEADER
+    ≡ record {
+      text = codes "H REL     62 0000000000000000 0000000000000000 000000000000005b 00000000     0     3     0\n";
+      status = 0;
+    })
+    × (show_answer one_symbol_table 2 63 ALL
+    ≡ record {
+      text =
+          codes "H REL     62 0000000000000000 0000000000000000 0000000000000078 00000000     0     3     0\n"
+          ++ codes "! 000000000000003c too-many-headers\n";
+      status = 1;
+    })
+    × (sample_answer 2 63 SYMBOLS ≡ record { text = codes "! 000000000000003c too-many-headers\n"; status = 1 })
+    × (sample_answer 3 2 SYMBOLS
+    ≡ record {
+      text =
+          codes "Y     1          0 0000000000000000 0000000000000000 NOTYPE  LOCAL  DEFAULT   UND   \n"
+          ++ codes "Y     1          1 0000000000001000 0000000000000010 FUNC    GLOBAL DEFAULT   ABS   ma\\+\n";
+      status = 0;
+    })

@@ -1,5 +1,5 @@
 -- Listings of notes and dynamic entries in files without sections: the program headers describe the tables.
-use Rattle.std.specs.Prelude.{◌≡◌, ℕ, ◌+◌, ◌-◌, ◌*◌, ◌^◌, List, [], ◌∷◌, ◌++◌, codes}
+use Rattle.std.specs.Prelude.{◌≡◌, ℕ, ◌+◌, ◌-◌, ◌*◌, ◌^◌, List, [], ◌∷◌, ◌++◌, codes, take}
 use Rattle.elf_model.specs.Bytes.{little}
 use Rattle.elf_model.specs.Cost.{cost, ceiling}
 use Rattle.elf_model.specs.Listing.{SEGMENTS, SYMBOLS, NOTES, DYNAMIC, ALL}
@@ -100,6 +100,8 @@ FirstTagsCount =
     ++ codes "D     4 NULL             0000000000000000 \n")
     × (report (loaded 0xfb 0x40 (tagged 1 1 ++ tagged 10 11 ++ tagged 0 0 ++ tagged 5 0x4000f0)) 2 63 DYNAMIC
     ≡ codes "! 00000000000000b0 unmapped\n")
+    × (report (loaded 0xfb 0x40 (tagged 1 1 ++ tagged 5 0x4000f0 ++ tagged 0 0 ++ tagged 10 11)) 2 63 DYNAMIC
+    ≡ codes "! 00000000000000b0 unmapped\n")
 
 -- addresses are added in whole numbers: a segment may load bytes up to and past 2^64, and strings past its end are not mapped
 abbrev pub AddressesDoNotWrap : Type 0
@@ -158,6 +160,51 @@ SegmentsByFileSize =
     × (cost (with_bytes 0xa0 (little 8 0x1000) library_without_sections) 2 63 DYNAMIC ≡ 560)
     × (report (with_bytes 0x58 (zeros 8) library_without_sections) 2 63 DYNAMIC ≡ needed_lines)
 
+-- a program header: type, offset, virtual and physical address, size in the file and in memory
+abbrev segment_apart : (type offset virtual physical file_size memory_size : ℕ) → List ℕ
+segment_apart type offset virtual physical file_size memory_size =
+    little 4 type ++ little 4 6 ++ little 8 offset ++ little 8 virtual ++ little 8 physical ++ little 8 file_size
+    ++ little 8 memory_size ++ little 8 8
+
+-- a segment that is loaded and one of dynamic entries, whose physical addresses are higher than the virtual ones: the sizes
+-- of the first in the file and in memory, those of the second, and how many bytes of strings the entries tell
+abbrev loaded_apart : (load_size load_memory dynamic_size dynamic_memory size : ℕ) → List ℕ
+loaded_apart load_size load_memory dynamic_size dynamic_memory size =
+    object 2
+    (segment_apart 1 0 0x400000 0x800000 load_size load_memory ++ segment_apart 2 0xb0 0x4000b0 0x8000b0 dynamic_size dynamic_memory
+    ++ needed_with (tagged 5 0x4000f0) (tagged 10 size) ++ library_strings)
+
+-- the two addresses and the two sizes are told apart in each place
+abbrev pub SegmentsHaveFourNumbers : Type 0
+SegmentsHaveFourNumbers =
+    (report (loaded_apart 0xfb 0xfa 0x40 0x3f 11) 2 63 DYNAMIC
+    ≡ codes "D     0 NEEDED           0000000000000001 libc.so.6\n"
+    ++ codes "D     1 STRTAB           00000000004000f0 \n"
+    ++ codes "D     2 STRSZ            000000000000000b \n"
+    ++ codes "D     3 NULL             0000000000000000 \n")
+    × (report (loaded_apart 0xfb 0x1000 0x40 0x1000 12) 2 63 DYNAMIC ≡ codes "! 00000000000000b0 unmapped\n")
+    × (report (loaded_apart 0xfb 0x1000 0x3f 0x40 11) 2 63 DYNAMIC ≡ codes "! 0000000000000078 size-not-whole\n")
+    × (report (loaded_apart 0xfb 0x1000 0x3f 0 11) 2 63 DYNAMIC ≡ codes "! 0000000000000078 size-not-whole\n")
+    × (report (loaded_apart 0xfb 0x1000 0x50 0x40 11) 2 63 DYNAMIC ≡ codes "! 0000000000000078 table-outside\n")
+    × (report (loaded_apart 0xfb 0x1000 0 0x3f 11) 2 63 DYNAMIC ≡ [])
+    × (cost (loaded_apart 0xfb 0xfa 0x40 0x3f 11) 2 63 DYNAMIC ≡ 560)
+    × (cost (loaded_apart 0xfb 0xfa 0x3f 0x40 11) 2 63 DYNAMIC ≡ 64 + 112)
+    × (cost (loaded_apart 0xfb 0xfa 0x50 0x40 11) 2 63 DYNAMIC ≡ 64 + 112)
+
+-- a segment of dynamic entries that ends with the file, in 152 bytes
+abbrev entries_at_the_end : List ℕ
+entries_at_the_end = object 1 (program_header 2 6 0x78 0 0x20 8 ++ tagged 24 0 ++ tagged 0 0)
+
+-- one that ends one byte past the file is refused, and costs nothing
+abbrev pub SegmentEntriesEndInside : Type 0
+SegmentEntriesEndInside =
+    (report entries_at_the_end 1 63 DYNAMIC
+    ≡ codes "D     0 BIND_NOW         0000000000000000 \n"
+    ++ codes "D     1 NULL             0000000000000000 \n")
+    × (report (take 151 entries_at_the_end) 1 63 DYNAMIC ≡ codes "! 0000000000000040 table-outside\n")
+    × (cost entries_at_the_end 1 63 DYNAMIC ≡ 64 + 56 + 2 * 96)
+    × (cost (take 151 entries_at_the_end) 1 63 DYNAMIC ≡ 64 + 56)
+
 -- dynamic entries before the segment that loads their strings
 abbrev loaded_later : (phnum : ℕ) → List ℕ
 loaded_later phnum =
@@ -181,12 +228,16 @@ SegmentTablesInOrder =
     ++ codes "D     0 BIND_NOW         0000000000000000 \n"
     ++ codes "D     0 BIND_NOW         0000000000000000 \n"
 
--- two notes of a segment at an alignment of 8
+-- two notes of a segment at an alignment of 8, and with their names cut
 abbrev pub TwoNotesOfASegment : Type 0
 TwoNotesOfASegment =
-    report (one_segment (program_header 4 4 0x78 0 (32 + 28) 8) (aligned_note ++ zeros 4 ++ aligned_note)) 1 63 NOTES
+    let file = one_segment (program_header 4 4 0x78 0 (32 + 28) 8) (aligned_note ++ zeros 4 ++ aligned_note) in
+    (report file 1 63 NOTES
     ≡ codes "N     0 00000001 00000005 00000004 ABCD 01020304\n"
-    ++ codes "N     0 00000001 00000005 00000004 ABCD 01020304\n"
+    ++ codes "N     0 00000001 00000005 00000004 ABCD 01020304\n")
+    × (report file 1 2 NOTES
+    ≡ codes "N     0 00000001 00000005 00000004 AB\\+ 01020304\n"
+    ++ codes "N     0 00000001 00000005 00000004 AB\\+ 01020304\n")
 
 -- without sections and without program headers there is the file header alone
 abbrev pub NoHeadersNoTables : Type 0

@@ -1,5 +1,5 @@
 //! Which of several faults comes first, and a listing with a table of each kind, each computed by the prover.
-ghost use Rattle.elf_examples.specs.ListedOrder.{IdentFaultsInOrder, LoadFaultsInOrder, SymbolFaultsInOrder, LinkFaultsComeLater, EveryTableIsListed, NotesAlignFromTheirTable, SectionZeroIsATable, SegmentNotesByFileSize};
+ghost use Rattle.elf_examples.specs.ListedOrder.{IdentFaultsInOrder, LoadFaultsInOrder, SymbolFaultsInOrder, LinkFaultsComeLater, EveryTableIsListed, NotesAlignFromTheirTable, SectionZeroIsATable, SegmentNotesByFileSize, IdentHasOneValue, HeaderSizesAreOne, SectionsAreCounted, SegmentsEndInside, OtherSegmentsHaveNoRows};
 
 /// The order of the identification's checks.
 #[tactic(auto, unfolding(elf_model::proofs::OnLiterals::on_literals, crate::proofs::OnExamples::on_examples))]
@@ -47,4 +47,34 @@ pub fn section_zero_is_a_table()
 #[tactic(auto, unfolding(elf_model::proofs::OnLiterals::on_literals, crate::proofs::OnExamples::on_examples))]
 pub fn segment_notes_by_file_size()
     ensures { SegmentNotesByFileSize }
+{}
+
+/// Bytes beside those of the identification.
+#[tactic(auto, unfolding(elf_model::proofs::OnLiterals::on_literals, crate::proofs::OnExamples::on_examples))]
+pub fn ident_has_one_value()
+    ensures { IdentHasOneValue }
+{}
+
+/// The sizes of headers on both sides of the right one.
+#[tactic(auto, unfolding(elf_model::proofs::OnLiterals::on_literals, crate::proofs::OnExamples::on_examples))]
+pub fn header_sizes_are_one()
+    ensures { HeaderSizesAreOne }
+{}
+
+/// One section header, none, and section headers at the file's start.
+#[tactic(auto, unfolding(elf_model::proofs::OnLiterals::on_literals, crate::proofs::OnExamples::on_examples))]
+pub fn sections_are_counted()
+    ensures { SectionsAreCounted }
+{}
+
+/// Program headers up to the file's end, and one byte past it.
+#[tactic(auto, unfolding(elf_model::proofs::OnLiterals::on_literals, crate::proofs::OnExamples::on_examples))]
+pub fn segments_end_inside()
+    ensures { SegmentsEndInside }
+{}
+
+/// Segments of types beside those that have tables.
+#[tactic(auto, unfolding(elf_model::proofs::OnLiterals::on_literals, crate::proofs::OnExamples::on_examples))]
+pub fn other_segments_have_no_rows()
+    ensures { OtherSegmentsHaveNoRows }
 {}

@@ -1,5 +1,5 @@
 //! Parts of a listing, alone and together, each computed by the prover.
-ghost use Rattle.elf_examples.specs.ListedParts.{PartsAloneList, PartsTogetherList, NoPartsListNothing, AnswersHaveAStatus};
+ghost use Rattle.elf_examples.specs.ListedParts.{PartsAloneList, PartsTogetherList, NoPartsListNothing, AnswersHaveAStatus, AnswersAreOfOneListing};
 
 /// Each part of one file alone.
 #[tactic(auto, unfolding(elf_model::proofs::OnLiterals::on_literals))]
@@ -23,4 +23,10 @@ pub fn no_parts_list_nothing()
 #[tactic(auto, unfolding(elf_model::proofs::OnLiterals::on_literals))]
 pub fn answers_have_a_status()
     ensures { AnswersHaveAStatus }
+{}
+
+/// The text and the status of one listing.
+#[tactic(auto, unfolding(elf_model::proofs::OnLiterals::on_literals))]
+pub fn answers_are_of_one_listing()
+    ensures { AnswersAreOfOneListing }
 {}
