@@ -1,1 +1,4 @@
+pub mod Budgets
 pub mod OnExamples
+pub mod OtherAnswers
+pub mod OtherTexts

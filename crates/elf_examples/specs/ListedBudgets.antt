@@ -1,13 +1,14 @@
 -- Where a read budget ends a listing.
-use Rattle.std.specs.Prelude.{ℕ, ◌≡◌, ◌<◌, ◌++◌, List, [], length, take, Option, None, Some, codes}
-use Rattle.elf_model.specs.Budget.{IsBudget, IsBudgeted}
+use Rattle.std.specs.Prelude.{ℕ, ◌≡◌, ◌<◌, ◌⊎◌, ◌++◌, List, [], ◌∷◌, length, take, Option, None, Some, codes}
+use Rattle.elf_model.specs.Answer.{Answer, IsShown, show_answer}
+use Rattle.elf_model.specs.Budget.{IsBudget, IsCut, IsBudgeted}
 use Rattle.elf_model.specs.Cost.{cost}
 use Rattle.elf_model.specs.Lines.{refusal_line}
-use Rattle.elf_model.specs.Listing.{HEADER, ALL, lines_of, fault_of}
-use Rattle.elf_model.specs.Report.{items, report}
+use Rattle.elf_model.specs.Listing.{Line, Fault, HEADER, ALL, lines_of, fault_of}
+use Rattle.elf_model.specs.Report.{items, report, report_fault}
 use Rattle.elf_model.specs.Fixtures.{one_symbol_table}
 use Rattle.elf_model.specs.declared.causes.Refusal.{Refusal}
-use Rattle.elf_model.specs.declared.causes.Cause.TheVariants.{Budget}
+use Rattle.elf_model.specs.declared.causes.Cause.TheVariants.{Short, Budget}
 
 -- the refusal of a read at an offset, for want of budget
 abbrev pub spent_at : ℕ → Refusal
@@ -28,8 +29,52 @@ BudgetMayEndAListing =
     → EndsBehind file headers cap parts budget count at text
     → IsBudgeted (Some budget) file headers cap parts text (Some (spent_at at))
 
+-- nothing else is: without a budget the report and its fault, with one these or such a text and the refusal of its read
+abbrev pub NothingElseIsAllowed : Type 0
+NothingElseIsAllowed =
+    (file : List ℕ) (headers cap parts : ℕ) (text : List ℕ) (fault : Option Refusal)
+    → (IsBudgeted None file headers cap parts text fault
+    → (text ≡ report file headers cap parts) × (fault ≡ report_fault file headers cap parts))
+    × ((budget : ℕ)
+    → IsBudgeted (Some budget) file headers cap parts text fault
+    → ((text ≡ report file headers cap parts) × (fault ≡ report_fault file headers cap parts))
+    ⊎ ((count : ℕ) × (at : ℕ) × (fault ≡ Some (spent_at at)) × EndsBehind file headers cap parts budget count at text))
+
+-- no cut of a file of 64 bytes: an offset at the file's length, another cause, no fault, the fault of another offset, a line that
+-- is not the first, the fault's line before the budget's
+abbrev pub OtherTextsAreNoCuts : Type 0
+OtherTextsAreNoCuts =
+    (IsCut 64 [] (codes "! 0000000000000040 budget\n") (Some (spent_at 64)) → ⊥)
+    × (IsCut 64 [] (codes "! 0000000000000000 short\n") (Some (record { at = 0; cause = Short })) → ⊥)
+    × (IsCut 64 [] (codes "! 0000000000000000 budget\n") None → ⊥)
+    × (IsCut 64 [] (codes "! 0000000000000001 budget\n") (Some (spent_at 0)) → ⊥)
+    × (IsCut 64 (Line (codes "a") ∷ []) (codes "b! 0000000000000000 budget\n") (Some (spent_at 0)) → ⊥)
+    × (IsCut 64 (Line (codes "a") ∷ Line (codes "b") ∷ []) (codes "b! 0000000000000000 budget\n") (Some (spent_at 0)) → ⊥)
+    × (IsCut 64 (Fault (record { at = 0; cause = Short }) ∷ [])
+    (codes "! 0000000000000000 short\n! 0000000000000000 budget\n") (Some (spent_at 0))
+    → ⊥)
+
+-- a whole answer is shown within every budget, and without one; what a budget allows is shown with status 1
+abbrev pub AllowedAnswersAreShown : Type 0
+AllowedAnswersAreShown =
+    (file : List ℕ) (headers cap parts : ℕ)
+    → ((budget : Option ℕ) → IsShown budget file headers cap parts (show_answer file headers cap parts))
+    × ((budget count at : ℕ) (text : List ℕ)
+    → EndsBehind file headers cap parts budget count at text
+    → IsShown (Some budget) file headers cap parts (record { text = text; status = 1 }))
+
+-- and nothing else is shown
+abbrev pub NothingElseIsShown : Type 0
+NothingElseIsShown =
+    (file : List ℕ) (headers cap parts : ℕ) (answer : Answer)
+    → (IsShown None file headers cap parts answer → answer ≡ show_answer file headers cap parts)
+    × ((budget : ℕ)
+    → IsShown (Some budget) file headers cap parts answer
+    → (answer ≡ show_answer file headers cap parts)
+    ⊎ ((answer.status ≡ 1) × ((count : ℕ) × (at : ℕ) × EndsBehind file headers cap parts budget count at answer.text)))
+
 -- what is listed behind the file header's line where the section headers can't be read any more
-abbrev header_and_budget : List ℕ
+abbrev pub header_and_budget : List ℕ
 header_and_budget =
     codes "H REL     62 0000000000000000 0000000000000000 0000000000000078 00000000     0     3     0\n! 0000000000000078 budget\n"
 
@@ -63,3 +108,21 @@ EmptyFileIsShort =
     (budget : ℕ) (text : List ℕ) (fault : Option Refusal)
     → IsBudgeted (Some budget) [] 3 63 ALL text fault
     → text ≡ codes "! 0000000000000000 short\n"
+
+-- a text and a status as they are shown of one symbol table within a budget
+abbrev pub Shows : Option ℕ → ℕ → List ℕ → ℕ → Type 0
+Shows budget parts text status = IsShown budget one_symbol_table 3 63 parts (record { text = text; status = status })
+
+-- a cut is shown where the budget is below the cost, and not with status 0, within a budget of the cost or without a budget; a
+-- whole listing is shown with its own text and status alone
+abbrev pub OtherAnswersAreNotShown : Type 0
+OtherAnswersAreNotShown =
+    Shows (Some 64) ALL header_and_budget 1
+    × (Shows (Some 64) ALL header_and_budget 0 → ⊥)
+    × (Shows (Some 432) ALL header_and_budget 1 → ⊥)
+    × (Shows None ALL header_and_budget 1 → ⊥)
+    × Shows None HEADER (report one_symbol_table 3 63 HEADER) 0
+    × (Shows None HEADER (report one_symbol_table 3 63 HEADER) 1 → ⊥)
+    × (Shows None HEADER [] 0 → ⊥)
+    × (Shows (Some 64) HEADER (report one_symbol_table 3 63 HEADER) 1 → ⊥)
+    × (Shows (Some 64) HEADER [] 0 → ⊥)

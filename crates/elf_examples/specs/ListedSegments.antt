@@ -116,8 +116,12 @@ AddressesDoNotWrap =
     × (report (loaded_at 0 0xfb 0x40 (needed_with (tagged 5 (2 ^ 64 - 8)) (tagged 10 11))) 2 63 DYNAMIC
     ≡ codes "! 00000000000000b0 unmapped\n")
 
--- a table of dynamic entries that is not whole, or lies half outside the file: refused at its program header. One of size 0
--- has no rows and is not checked
+-- a segment of dynamic entries that ends with the file, in 152 bytes
+abbrev entries_at_the_end : List ℕ
+entries_at_the_end = object 1 (program_header 2 6 0x78 0 0x20 8 ++ tagged 24 0 ++ tagged 0 0)
+
+-- a table of dynamic entries that is not whole, or lies half or a byte outside the file: refused at its program header. One of
+-- size 0 has no rows and is not checked
 abbrev pub SegmentEntriesAreChecked : Type 0
 SegmentEntriesAreChecked =
     (report (loaded 0xfb 0x3f (needed_with (tagged 5 0x4000f0) (tagged 10 11))) 2 63 DYNAMIC ≡ codes "! 0000000000000078 size-not-whole\n")
@@ -126,6 +130,12 @@ SegmentEntriesAreChecked =
     × (report (with_bytes 0x80 (little 8 (2 ^ 64 - 0x10)) library_without_sections) 2 63 DYNAMIC ≡ codes "! 0000000000000078 table-outside\n")
     × (report (with_bytes 0x80 (little 8 (2 ^ 64 - 0x10)) (with_bytes 0x98 (zeros 8) library_without_sections)) 2 63 DYNAMIC ≡ [])
     × (cost (with_bytes 0x80 (little 8 (2 ^ 64 - 0x10)) (with_bytes 0x98 (zeros 8) library_without_sections)) 2 63 DYNAMIC ≡ 64 + 112)
+    × (report entries_at_the_end 1 63 DYNAMIC
+    ≡ codes "D     0 BIND_NOW         0000000000000000 \n"
+    ++ codes "D     1 NULL             0000000000000000 \n")
+    × (report (take 151 entries_at_the_end) 1 63 DYNAMIC ≡ codes "! 0000000000000040 table-outside\n")
+    × (cost entries_at_the_end 1 63 DYNAMIC ≡ 64 + 56 + 2 * 96)
+    × (cost (take 151 entries_at_the_end) 1 63 DYNAMIC ≡ 64 + 56)
 
 -- two segments that load the strings, and one that is not loaded, before the dynamic entries at 0x120
 abbrev three_loads : (offset : ℕ) → List ℕ
@@ -190,20 +200,6 @@ SegmentsHaveFourNumbers =
     × (cost (loaded_apart 0xfb 0xfa 0x40 0x3f 11) 2 63 DYNAMIC ≡ 560)
     × (cost (loaded_apart 0xfb 0xfa 0x3f 0x40 11) 2 63 DYNAMIC ≡ 64 + 112)
     × (cost (loaded_apart 0xfb 0xfa 0x50 0x40 11) 2 63 DYNAMIC ≡ 64 + 112)
-
--- a segment of dynamic entries that ends with the file, in 152 bytes
-abbrev entries_at_the_end : List ℕ
-entries_at_the_end = object 1 (program_header 2 6 0x78 0 0x20 8 ++ tagged 24 0 ++ tagged 0 0)
-
--- one that ends one byte past the file is refused, and costs nothing
-abbrev pub SegmentEntriesEndInside : Type 0
-SegmentEntriesEndInside =
-    (report entries_at_the_end 1 63 DYNAMIC
-    ≡ codes "D     0 BIND_NOW         0000000000000000 \n"
-    ++ codes "D     1 NULL             0000000000000000 \n")
-    × (report (take 151 entries_at_the_end) 1 63 DYNAMIC ≡ codes "! 0000000000000040 table-outside\n")
-    × (cost entries_at_the_end 1 63 DYNAMIC ≡ 64 + 56 + 2 * 96)
-    × (cost (take 151 entries_at_the_end) 1 63 DYNAMIC ≡ 64 + 56)
 
 -- dynamic entries before the segment that loads their strings
 abbrev loaded_later : (phnum : ℕ) → List ℕ

@@ -1,10 +1,15 @@
 //! Where a read budget ends a listing, and where it may not.
 ghost use Rattle.elf_examples.specs.ListedBudgets.{
+  AllowedAnswersAreShown,
   BudgetMayEndAListing,
   BudgetsThatEnd,
   BudgetsThatSuffice,
   CutsAreForBudget,
   EmptyFileIsShort,
+  NothingElseIsAllowed,
+  NothingElseIsShown,
+  OtherAnswersAreNotShown,
+  OtherTextsAreNoCuts,
 };
 
 /// Lines of a listing that costs more than a budget, and the line of a read that it can't pay.
@@ -34,4 +39,29 @@ pub fn cuts_are_for_budget()
 #[tactic(auto, unfolding(elf_model::proofs::OnLiterals::on_literals))]
 pub fn empty_file_is_short()
     ensures { EmptyFileIsShort }
+{}
+
+/// No other text and no other fault.
+pub fn nothing_else_is_allowed()
+    ensures { NothingElseIsAllowed }
+{}
+
+/// Texts that no budget allows.
+pub fn other_texts_are_no_cuts()
+    ensures { OtherTextsAreNoCuts }
+{}
+
+/// A whole answer, and one that is cut short.
+pub fn allowed_answers_are_shown()
+    ensures { AllowedAnswersAreShown }
+{}
+
+/// No other answer.
+pub fn nothing_else_is_shown()
+    ensures { NothingElseIsShown }
+{}
+
+/// Answers within a budget below the cost, within one of the cost and without one.
+pub fn other_answers_are_not_shown()
+    ensures { OtherAnswersAreNotShown }
 {}
