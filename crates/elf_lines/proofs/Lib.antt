@@ -3,3 +3,4 @@ pub mod HexText
 pub mod NameText
 pub mod Pieces
 pub mod TagBits
+pub mod ToldText

@@ -13,6 +13,7 @@ mod rows;
 mod section_rows;
 mod segment_rows;
 mod symbol_rows;
+mod told;
 
 pub use buffers::BUFFER_BYTES;
 pub use columns::Line;
@@ -25,3 +26,4 @@ pub use rows::{cause_word, header_row, show_refusal};
 pub use section_rows::section_front;
 pub use segment_rows::segment_row;
 pub use symbol_rows::{show_symbol, symbol_front};
+pub use told::show_told;

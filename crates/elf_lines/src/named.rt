@@ -67,7 +67,11 @@ fn put_escaped<W: Sink>(line: &mut Line, name: &[u8], out: &mut Out<W>) -> Resul
 ///
 /// # Errors
 /// A fault of the output, with a front of the line written.
-fn make_room<W: Sink>(line: &mut Line, count: usize, out: &mut Out<W>) -> Result<(), OutFault>
+pub(crate) fn make_room<W: Sink>(
+    line: &mut Line,
+    count: usize,
+    out: &mut Out<W>,
+) -> Result<(), OutFault>
     requires { count ≤ 256 }
     ensures puts { PutsBefore out.old out.new result line.old.items line.new.items }
     ensures room { IsOk result → array_vec_len line.new + count ≤ 256 }
@@ -83,7 +87,7 @@ fn make_room<W: Sink>(line: &mut Line, count: usize, out: &mut Out<W>) -> Result
 /// Puts a byte of a name as it is spelt in a listing: a backslash is doubled, a printing ASCII
 /// character stands as it is, and any other byte is `\x` and two hexadecimal digits.
 #[tactic(auto, unfolding(elf_model::specs::Lines::name_byte_text))]
-fn put_name_byte(line: &mut Line, byte: u8)
+pub(crate) fn put_name_byte(line: &mut Line, byte: u8)
     requires { array_vec_len line.old + 4 ≤ 256 }
     ensures items { line.new.items ≡ line.old.items ++ name_byte_text byte }
     ensures len { array_vec_len line.new ≤ array_vec_len line.old + 4 }

@@ -1,0 +1,17 @@
+-- A text that is told of on a terminal.
+use Rattle.std.specs.Prelude.{ℕ, ◌≡◌, ◌≤◌, ◌==◌, ◌⊎◌, if◌then◌else◌, List, [], ◌∷◌, ◌++◌}
+use Rattle.elf_model.specs.Text.{newline}
+use Rattle.elf_model.specs.Lines.{name_byte_text}
+
+-- a byte of a text: a newline stands as it is, any other byte is spelt as in a name
+unfoldable pub told_byte : ℕ → List ℕ
+told_byte byte = if byte == 10 then newline else name_byte_text byte
+
+-- the bytes of a text, each as it is told
+unfoldable pub told : List ℕ → List ℕ
+told [] = []
+told (byte ∷ bytes) = told_byte byte ++ told bytes
+
+-- a byte on which no terminal acts but by beginning a line: a newline, or a printing ASCII character
+abbrev pub IsPlain : ℕ → Type 0
+IsPlain byte = (byte ≡ 10) ⊎ ((0x20 ≤ byte) × (byte ≤ 0x7e))
