@@ -21,7 +21,7 @@ mod stop;
 pub use buffers::FIXED_BYTES;
 pub use elf_lines::{
     cause_word, dynamic_front, note_front, relocation_front, section_front, segment_row, show_note,
-    show_refusal, show_steps, show_symbol, symbol_front,
+    show_refusal, show_steps, show_symbol, show_told, symbol_front,
 };
 pub use end::{End, RunFault};
 pub use showing::show;

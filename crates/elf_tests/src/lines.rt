@@ -1,7 +1,7 @@
 //! Lines as a reader of a listing sees them.
 use elf_lines::{
     dynamic_front, note_front, relocation_front, section_front, segment_row, show_note, show_steps,
-    show_symbol, symbol_front,
+    show_symbol, show_told, symbol_front,
 };
 use elf_record::{Dyn, NoteHead, Phdr, Rela, Shdr, Sym};
 use elf_source::{Out, OutFault, SliceSink};
@@ -157,6 +157,28 @@ fn a_full_sink_is_a_fault(rt: HostRuntime) {
     assert!(rt; show_symbol(1, 1, &MAIN, &name, &mut out) == full);
     assert!(rt; show_steps(true, 1, &mut out) == full);
     assert!(rt; out.into_inner().written().len() == 600);
+}
+
+#[test]
+fn a_text_is_told_without_bytes_that_a_terminal_acts_on(rt: HostRuntime) {
+    let mut buffer = [0; 64];
+    let mut out = Out::new(SliceSink::new(&mut buffer));
+    let word = b"'a\x1b[1m\\\xc3\xa9\x7f~ '\n\n\tb\0\xff";
+    assert!(rt; show_told(word, &mut out) == Ok(()));
+    let text = "'a\\x1b[1m\\\\\\xc3\\xa9\\x7f~ '\n\n\\x09b\\x00\\xff";
+    assert!(rt; out.into_inner().written() == text.as_bytes());
+}
+
+#[test]
+fn a_long_text_is_told_whole(rt: HostRuntime) {
+    let mut buffer = [0; 900];
+    let mut out = Out::new(SliceSink::new(&mut buffer));
+    assert!(rt; show_told(&[b'a'; 900], &mut out) == Ok(()));
+    assert!(rt; out.into_inner().written() == [b'a'; 900].as_slice());
+    let mut buffer = [0; 899];
+    let mut out = Out::new(SliceSink::new(&mut buffer));
+    let full = Err(OutFault { written: 899 });
+    assert!(rt; show_told(&[b'a'; 900], &mut out) == full);
 }
 
 #[test]

@@ -11,7 +11,7 @@ ghost use Rattle.elf_run.specs.Answers.{refused_line, refused_status};
 ghost use Rattle.elf_words.specs.declared.requests.RequestFault.{RequestFault};
 
 use elf_apply::Layout;
-use elf_listing::RunFault;
+use elf_listing::{RunFault, show_told};
 use elf_run::{
     CANNOT_OPEN, Ending, NOT_UTF8, OUT_OF_MEMORY, READ_FAULT, WRITE_FAULT, outcome, refused, run,
 };
@@ -20,6 +20,7 @@ use elf_table::HeaderStore;
 use elf_words::{Request, RequestFault, request};
 use offset_reader::OffsetReader;
 use sample::sample;
+use std::alloc::{AllocError, Global};
 use std::fs::File;
 use std::io::{BufWriter, ErrorKind, Write};
 use std::os::unix::fs::{FileExt, FileTypeExt};
@@ -30,11 +31,14 @@ use std::{env, fs, io};
 /// How many bytes of output are kept before they are written.
 const OUTPUT_BYTES: usize = 65_536;
 
+/// How many bytes of what is told of words are kept before they are written.
+const TOLD_BYTES: usize = 4_096;
+
 /// A file that is read at offsets.
 type FileReader<F> = Device<OffsetReader<F>>;
 
 fn main(rt: HostRuntime) -> ExitCode {
-    let (status, line) = match answer(&rt) {
+    let (status, line) = match answer(&rt, rt.stderr()) {
         Ok(ending) => ending,
         Err(ending) => ending,
     };
@@ -45,14 +49,18 @@ fn main(rt: HostRuntime) -> ExitCode {
     ExitCode::from(status)
 }
 
-/// Reads the words, makes what memory is needed, opens the file, and carries the request out.
-fn answer<R: Env + Files + Print + Eprint + AllocGlobal>(rt: &R) -> Result<Ending, Ending>
+/// Reads the words, makes what memory is needed, opens the file, and carries the request out. What
+/// is wrong with words, and help, is written to `errors`.
+fn answer<R: Env + Files + Print + AllocGlobal, W: Write + Drop>(
+    rt: &R,
+    errors: W,
+) -> Result<Ending, Ending>
 where
     R::File: FileExt,
 {
     let words = read_words(rt)?;
     let mut layout = Layout::new();
-    let request = read_request(rt, words.as_slice(), &mut layout)?;
+    let request = read_request(rt.alloc(), words.as_slice(), &mut layout, errors)?;
     let Ok(store) = HeaderStore::new(rt.alloc(), request.headers()) else {
         return Err(OUT_OF_MEMORY);
     };
@@ -86,23 +94,43 @@ fn read_words<R: Env + AllocGlobal>(rt: &R) -> Result<Vec<String>, Ending>
 }
 
 /// Reads the request, and tells what is wrong with words that are none.
-fn read_request<'a, R: Eprint + AllocGlobal>(
-    rt: &R,
+fn read_request<'a, W: Write + Drop>(
+    alloc: Global,
     words: &'a [String],
     layout: &'a mut Layout,
+    errors: W,
 ) -> Result<Request<'a>, Ending>
     ensures { IfErr result (λ ending. (fault : RequestFault)
         × (ending.0 ≡ refused_status fault) × (ending.1.now ≡ refused_line fault)) }
 {
-    let fault = match request(rt.alloc(), words, layout) {
+    let fault = match request(alloc, words, layout) {
         Ok(request) => return Ok(request),
         Err(fault) => fault,
     };
     if let RequestFault::Words(told) = &fault {
-        // Where standard error can't be written either, the status alone tells.
-        let _ = eprint!(rt; "{told}");
+        if tell(alloc, told, errors).is_err() {
+            return Err(refused(&RequestFault::Memory));
+        }
     }
     Err(refused(&fault))
+}
+
+/// Writes what is wrong with words, or help, with each byte of a word spelt so that no terminal
+/// acts on it. Where it can't be written, the status alone tells.
+///
+/// # Errors
+/// There is no memory for the text; nothing is written then.
+fn tell<W: Write + Drop>(alloc: Global, told: &clap::Error, errors: W) -> Result<(), AllocError> {
+    let text = format!(in alloc; "{told}")?;
+    let Ok(errors) = BufWriter::with_capacity(alloc, TOLD_BYTES, errors) else {
+        return Err(AllocError);
+    };
+    let mut out = Out::new(WriteSink::new(errors));
+    let _ = show_told(text.as_bytes(), &mut out);
+    let mut errors = out.into_inner().into_inner();
+    let _ = errors.flush();
+    let _ = errors.into_parts();
+    Ok(())
 }
 
 /// Opens a file that can be read at an offset. Folders, pipes and sockets are not opened, so that
