@@ -16,10 +16,11 @@ use elf_record::Cause;
 use elf_source::{Counted, Source};
 use elf_table::File;
 
-/// Looks a name up in a file by its hash table, as a loader does: the table of the first HASH
-/// section, and the symbols that it links to (gABI 5, Hash Table). The section headers are loaded
-/// into the store. `wanted` is the name, at most 4,096 bytes, without a NUL. No limit is set on
-/// what may be asked for.
+/// Looks a name up in a file by its hash table: that of the first HASH section, with the symbols
+/// that it links to (gABI 5, Hash Table). The answer is the first symbol of that name in its chain,
+/// whatever its version and place; a loader may take another. The section headers are loaded into
+/// the store. `wanted` is the name, at most 4,096 bytes, without a NUL. No limit is set on what may
+/// be asked for.
 ///
 /// Where the source's file is known the answer is the file's own, and so is the refusal; no more is
 /// asked for than the lookup costs, also where the source fails. Undefined symbols are found too.

@@ -58,6 +58,12 @@ NAME has 1 to 255 bytes, and the last '=' ends it; ADDR is 0x and 1 to 16 hexade
 
 Example: elfsee apply example.o 1 at:1=0x401000 def:main=0x401200";
 
+const FOUND: &str = "\
+The answer is the first symbol of that name in its chain in the file's SysV hash table,
+whatever its version and place; a loader may take another.
+
+Example: elfsee find /lib/libexample.so printf";
+
 /// The command line, with the names of the parts.
 pub fn command_line<'a>(alloc: Global, parts: &'a [&'a str]) -> Result<Command<'a>, AllocError>
     ensures { IfOk result (λ command. app_of command ≡ program parts.entry) }
@@ -118,8 +124,8 @@ fn find<'a>(alloc: Global) -> Result<Command<'a>, AllocError>
     ensures local { IfOk result (λ command. (fields_of command).has_globals ≡ false) }
 {
     let command = Command::new(alloc, "find")
-        .about("Look a name up by the file's own hash table, as a loader does")
-        .after_help("Example: elfsee find /lib/libexample.so printf");
+        .about("Look a name up by the file's own SysV hash table")
+        .after_help(FOUND);
     command
         .arg(headers(alloc))?
         .arg(file(alloc))?
