@@ -1,4 +1,5 @@
 pub mod ChecksLaws
 pub mod CostLaws
 pub mod FindLaws
+pub mod RestLaws
 pub mod StepLaws

@@ -1,6 +1,8 @@
 -- What a lookup answers, and what it asks for.
-use Rattle.std.specs.Prelude.{ℕ, ◌≡◌, ◌+◌, ◌*◌, ◌/◌, ◌≤◌, true, false, List, Option, None, Some, Result, Ok, Err}
+use Rattle.std.specs.Prelude.{ℕ, ◌≡◌, ◌+◌, ◌*◌, ◌/◌, true, false, List, Option, None, Some, Result, Ok, Err}
 use Rattle.elf_model.specs.Budget.{IsBudget}
+use Rattle.elf_model.specs.Checks.{first_refusal, header_checks, load_checks}
+use Rattle.elf_model.specs.Find.{find_cost, looked}
 use Rattle.elf_model.specs.Hash.{Lookup as Looked, Found as IsFound, Absent as IsAbsent, Refused as IsRefused, same_symbol, symbol_at}
 use Rattle.elf_model.specs.Names.{pad64}
 use Rattle.elf_model.specs.Tables.{linked_at}
@@ -9,6 +11,7 @@ use Rattle.elf_record.specs.declared.sym.Sym.{Sym}
 use Rattle.elf_source.specs.Source.{Counting}
 use Rattle.elf_headers.specs.declared.fault.Fault.{Fault}
 use Rattle.elf_headers.specs.declared.fault.Fault.TheVariants.{Refused, Source}
+use Rattle.elf_headers.specs.Ledger.{Costs, stop_of}
 use Rattle.elf_hash.specs.declared.lookup.Lookup.{Lookup}
 use Rattle.elf_hash.specs.declared.lookup.Lookup.TheVariants.{Found, Absent}
 
@@ -31,7 +34,7 @@ walk_bytes steps length = 4 + steps * step_bytes length
 
 -- what stands behind the section headers: the two counts, and a walk of so many steps
 abbrev pub behind_bytes : ℕ → ℕ → ℕ
-behind_bytes steps length = 8 + walk_bytes steps length
+behind_bytes steps length = 12 + steps * step_bytes length
 
 -- WHAT A LOOKUP NEVER PASSES: the file header, a section header for each slot, the two counts, and a walk of as many steps
 -- as words fit into a file of this size
@@ -44,17 +47,17 @@ AnswersLookup file looked (Found section index symbol steps) =
     (at : ℕ) × (looked ≡ record { answer = IsFound section index at; compared = steps }) × IsSym file at symbol
 AnswersLookup file looked (Absent steps) = looked ≡ record { answer = IsAbsent; compared = steps }
 
--- WHAT A LOOKUP FINDS: the answer that it gives, with its steps, the section, the index and the symbol; or its refusal
-abbrev pub Finds : List ℕ → Looked → Result Lookup Fault → Type 0
-Finds file looked (Ok lookup) = AnswersLookup file looked lookup
-Finds file looked (Err (Refused refusal)) = looked.answer ≡ IsRefused refusal
-Finds file looked (Err (Source fault at)) = Unit {0}
-
--- the same of a part of it, which a limit may stop
+-- what a lookup finds: the answer that it gives, with its steps, the section, the index and the symbol; or its refusal, unless
+-- that is for want of budget
 abbrev pub Walks : List ℕ → Looked → Result Lookup Fault → Type 0
 Walks file looked (Ok lookup) = AnswersLookup file looked lookup
 Walks file looked (Err (Refused refusal)) = (IsBudget refusal → ⊥) → looked.answer ≡ IsRefused refusal
 Walks file looked (Err (Source fault at)) = Unit {0}
+
+-- WHAT A LOOKUP DOES in a known file: it costs a few bytes and a step for each name that it compares, and finds what it gives
+pub record Looks (file : List ℕ) (looked : Looked) (old new : Counting) (result : Result Lookup Fault) (few length : ℕ) : Type 0 where
+  pub costs : Costs old new (stop_of result) (few + looked.compared * step_bytes length)
+  pub finds : Walks file looked result
 
 -- a symbol's name is compared: the symbol where it is the wanted one, nothing where it is another, or a refusal at the symbol
 abbrev pub Compares : List ℕ → ℕ → List ℕ → ℕ → Result (Option Sym) Fault → Type 0
@@ -66,7 +69,12 @@ Compares file at wanted index (Err (Refused refusal)) =
     → (refusal.at ≡ symbol_at file (linked_at file at) index) × (same_symbol file (linked_at file at) wanted index ≡ Err refusal.cause)
 Compares file at wanted index (Err (Source fault offset)) = Unit {0}
 
--- what is asked for behind the section headers, and what is found
-pub record Behind (file : List ℕ) (looked : Looked) (old new : Counting) (length : ℕ) (result : Result Lookup Fault) : Type 0 where
-  pub walks : Walks file looked result
-  pub asks : new.asked ≤ old.asked + behind_bytes looked.compared length
+-- the checks of the file pass
+pub record Passed (file : List ℕ) (headers : ℕ) : Type 0 where
+  pub header : first_refusal (header_checks file) ≡ None
+  pub load : first_refusal (load_checks file headers) ≡ None
+
+-- WHAT A LOOKUP OF A NAME DOES in a known file: it costs no more than the definition's, and finds what that gives
+pub record Finds (file : List ℕ) (headers : ℕ) (wanted : List ℕ) (old new : Counting) (result : Result Lookup Fault) : Type 0 where
+  pub costs : Costs old new (stop_of result) (find_cost file headers wanted)
+  pub finds : Walks file (looked file headers wanted) result

@@ -1,11 +1,8 @@
 //! The call that looks a name up.
-ghost use Rattle.std.specs.Prelude.{◌≡◌, ℕ, ◌+◌, ◌/◌, ◌≤◌, List, length, None, Some, IfErr, IfOk};
-ghost use Rattle.elf_hash.specs.Lookups.{Behind, Finds};
-ghost use Rattle.elf_headers.specs.Faults.{ReadSays, Says};
-ghost use Rattle.elf_hash.specs.Lookups.{behind_bytes, find_bytes, steps_of};
-ghost use Rattle.elf_model.specs.Checks.{first_refusal, header_checks, load_checks};
-ghost use Rattle.elf_model.specs.Find.{find_cost, looked};
-ghost use Rattle.elf_source.specs.Source.{Reads};
+ghost use Rattle.std.specs.Prelude.{◌≡◌, ℕ, ◌/◌, ◌≤◌, length, IfOk};
+ghost use Rattle.elf_headers.specs.Ledger.{Did, stop_of};
+ghost use Rattle.elf_hash.specs.Lookups.{Finds, Looks, Passed, behind_bytes, find_bytes, steps_of};
+ghost use Rattle.elf_model.specs.Find.{looked};
 ghost use Rattle.elf_headers.specs.Load.{Belongs};
 
 use crate::checks::{checked, first_hash, refused};
@@ -19,8 +16,7 @@ use elf_table::File;
 /// Looks a name up in a file by its hash table: that of the first HASH section, with the symbols
 /// that it links to (gABI 5, Hash Table). The answer is the first symbol of that name in its chain,
 /// whatever its version and place; a loader may take another. The section headers are loaded into
-/// the store. `wanted` is the name, at most 4,096 bytes, without a NUL. No limit is set on what may
-/// be asked for.
+/// the store. `wanted` is the name, at most 4,096 bytes, without a NUL.
 ///
 /// Where the source's file is known the answer is the file's own, and so is the refusal; no more is
 /// asked for than the lookup costs, also where the source fails. Undefined symbols are found too.
@@ -31,24 +27,18 @@ use elf_table::File;
 /// the symbols that it links to and of their string table; `HashShape` at its section header where
 /// its counts are no table's of its size; then on the way `HashIndex` at a word that is no index,
 /// `HashCycle` at the bucket's word where the chain goes round, or a name's `NameOutside` or
-/// `NameUnended` at its symbol. Else a fault of the source, at the offset that was asked for. Never
-/// `Budget`.
+/// `NameUnended` at its symbol. Else a fault of the source, or `Budget` where a limit has no room for a
+/// read, at the offset that was asked for.
 pub fn find<S: Source>(
     src: &mut Counted<S>,
     store: &mut HeaderStore,
     wanted: &[u8],
 ) -> Result<Lookup, Fault>
     requires most { length wanted.now ≤ 4096 }
-    requires unlimited { src.old.most ≡ None }
+    ensures did { Did src.old src.new (stop_of result)
+        (find_bytes src.old.seen.size store.old.slots (length wanted.now))
+        (λ file. Finds file store.old.slots wanted.now src.old src.new result) }
     ensures slots { store.new.slots ≡ store.old.slots }
-    ensures finds { (file : List ℕ) → src.old.seen.file ≡ Some file →
-        Finds file (looked file store.old.slots wanted.now) result }
-    ensures asks { (file : List ℕ) → src.old.seen.file ≡ Some file →
-        src.new.asked ≤ src.old.asked + find_cost file store.old.slots wanted.now }
-    // For every source.
-    ensures reads { Reads src.old src.new
-        (find_bytes src.old.seen.size store.old.slots (length wanted.now)) }
-    ensures says { IfErr result (ReadSays src.old src.new) }
     ensures steps { IfOk result (λ lookup. steps_of lookup ≤ src.old.seen.size / 4) }
 {
     let header = header(src)?;
@@ -60,16 +50,12 @@ pub fn find<S: Source>(
 fn find_in<S: Source>(src: &mut Counted<S>, file: &File<'_>, wanted: &[u8]) -> Result<Lookup, Fault>
     requires most { length wanted.now ≤ 4096 }
     requires size { file.now.loaded.size ≡ src.old.seen.size }
-    ensures reads { Reads src.old src.new
-        (behind_bytes (src.old.seen.size / 4) (length wanted.now)) }
-    ensures says { IfErr result (Says src.old src.new
-        (behind_bytes (src.old.seen.size / 4) (length wanted.now))) }
+    ensures did { Did src.old src.new (stop_of result)
+        (behind_bytes (src.old.seen.size / 4) (length wanted.now))
+        (λ bytes. (headers : ℕ) → Belongs bytes file.now.loaded file.now.store.now →
+        Passed bytes headers →
+        Looks bytes (looked bytes headers wanted.now) src.old src.new result 12 (length wanted.now)) }
     ensures steps { IfOk result (λ lookup. steps_of lookup ≤ src.old.seen.size / 4) }
-    ensures walks { (bytes : List ℕ) (headers : ℕ) → src.old.seen.file ≡ Some bytes →
-        Belongs bytes file.now.loaded file.now.store.now →
-        first_refusal (header_checks bytes) ≡ None →
-        first_refusal (load_checks bytes headers) ≡ None →
-        Behind bytes (looked bytes headers wanted.now) src.old src.new (length wanted.now) result }
 {
     let Some(section) = first_hash(file) else {
         return refused(0x28, Cause::NoHash);

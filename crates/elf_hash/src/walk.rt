@@ -1,11 +1,10 @@
 //! The walk along the chain of a name.
-ghost use Rattle.std.specs.Prelude.{◌≡◌, ℕ, ◌+◌, ◌*◌, ◌<◌, ◌≤◌, List, length, Some, IfErr, IfOk};
-ghost use Rattle.elf_hash.specs.Lookups.{Compares, Walks, steps_of, symbol_bytes, walk_bytes};
+ghost use Rattle.std.specs.Prelude.{◌≡◌, ℕ, ◌+◌, ◌*◌, ◌<◌, ◌≤◌, List, length, IfOk, IsTrue};
+ghost use Rattle.elf_headers.specs.Ledger.{Did, IsRead, stop_of};
+ghost use Rattle.elf_hash.specs.Lookups.{Compares, Looks, steps_of, symbol_bytes, walk_bytes};
 ghost use Rattle.elf_hash.specs.Tables.{HasCounts, IsSection, IsTable, Lies};
 ghost use Rattle.elf_model.specs.Bytes.{field};
-ghost use Rattle.elf_model.specs.Hash.{looked_up};
-ghost use Rattle.elf_source.specs.Source.{Reads};
-ghost use Rattle.elf_headers.specs.Faults.{IsOfRead, Says};
+ghost use Rattle.elf_model.specs.Hash.{is_index, looked_up};
 
 use crate::checks::refused;
 use crate::hash_section::HashSection;
@@ -25,11 +24,9 @@ pub(crate) fn counted<S: Source>(
     section: &HashSection,
 ) -> Result<HashTable, Fault>
     requires lies { Lies src.old.seen.size section.now }
-    ensures reads { Reads src.old src.new 8 }
-    ensures says { IfErr result (Says src.old src.new 8) }
+    ensures did { Did src.old src.new (stop_of result) 8
+        (λ file. (at : ℕ) → IsSection file at section.now → HasCounts file at result) }
     ensures same { IfOk result (λ table. table.section ≡ section.now) }
-    ensures counts { (file : List ℕ) (at : ℕ) → src.old.seen.file ≡ Some file →
-        IsSection file at section.now → HasCounts file at result }
 {
     let nbucket = read_word(src, section.at)?;
     let nchain = read_word(src, section.at + 4)?;
@@ -64,22 +61,18 @@ pub(crate) fn walk<S: Source>(
 ) -> Result<Lookup, Fault>
     requires most { length wanted.now ≤ 4096 }
     requires lies { Lies src.old.seen.size table.now.section }
-    ensures reads { Reads src.old src.new (walk_bytes table.now.nchain (length wanted.now)) }
-    ensures says { IfErr result
-        (Says src.old src.new (walk_bytes table.now.nchain (length wanted.now))) }
+    ensures did { Did src.old src.new (stop_of result)
+        (walk_bytes table.now.nchain (length wanted.now))
+        (λ file. (at : ℕ) → IsTable file at table.now →
+        Looks file (looked_up file at wanted.now) src.old src.new result 4 (length wanted.now)) }
     ensures steps { IfOk result (λ lookup. steps_of lookup ≤ table.now.nchain) }
-    ensures asks { (file : List ℕ) (at : ℕ) → src.old.seen.file ≡ Some file →
-        IsTable file at table.now → src.new.asked ≤
-        src.old.asked + walk_bytes (looked_up file at wanted.now).compared (length wanted.now) }
-    ensures walks { (file : List ℕ) (at : ℕ) → src.old.seen.file ≡ Some file →
-        IsTable file at table.now → Walks file (looked_up file at wanted.now) result }
 {
     let bucket = table.bucket_at(wanted);
     let mut at = bucket;
     let mut index = read_word(src, at)?;
     let mut steps = 0;
     while index != 0 {
-        if index >= table.nchain || u64::from(index) >= table.section.symbols.len() {
+        if !is_index(table, index) {
             return refused(at, Cause::HashIndex);
         }
         if steps == table.nchain {
@@ -101,6 +94,16 @@ pub(crate) fn walk<S: Source>(
     Ok(Lookup::Absent { steps })
 }
 
+/// Whether a word is an index of a chain and of a symbol.
+fn is_index(table: &HashTable, word: u32) -> bool
+    ensures below { IsTrue result →
+        (word < table.now.nchain) × (word < table.now.section.symbols.count) }
+    ensures is { (file : List ℕ) (at : ℕ) → IsTable file at table.now →
+        result ≡ is_index file at word }
+{
+    word < table.nchain && u64::from(word) < table.section.symbols.len()
+}
+
 /// The symbol of an index, if it has the wanted name: one read of the symbol, and its name is
 /// compared.
 ///
@@ -115,10 +118,9 @@ fn named<S: Source>(
     requires most { length wanted.now ≤ 4096 }
     requires below { index < section.now.symbols.count }
     requires lies { Lies src.old.seen.size section.now }
-    ensures reads { Reads src.old src.new (symbol_bytes (length wanted.now)) }
-    ensures says { IfErr result (Says src.old src.new (symbol_bytes (length wanted.now))) }
-    ensures compares { (file : List ℕ) (at : ℕ) → src.old.seen.file ≡ Some file →
-        IsSection file at section.now → Compares file at wanted.now index result }
+    ensures { Did src.old src.new (stop_of result) (symbol_bytes (length wanted.now))
+        (λ file. (at : ℕ) → IsSection file at section.now →
+        Compares file at wanted.now index result) }
 {
     let symbol = section.symbols.symbol(src, u64::from(index))?;
     let place = section.symbols.place(u64::from(index));
@@ -133,11 +135,7 @@ fn named<S: Source>(
 /// A fault of the read, or a refusal for want of budget, at the offset.
 fn read_word<S: Source>(src: &mut Counted<S>, at: u64) -> Result<u32, Fault>
     requires { at + 4 ≤ src.old.seen.size }
-    ensures reads { Reads src.old src.new 4 }
-    ensures says { IfErr result (Says src.old src.new 4) }
-    ensures fault { IfErr result IsOfRead }
-    ensures read { (file : List ℕ) → src.old.seen.file ≡ Some file →
-        IfOk result (λ word. word ≡ field file at 4) }
+    ensures { Did src.old src.new (stop_of result) 4 (λ file. IsRead result (field file at 4)) }
 {
     let mut bytes = [0; 4];
     fill(src, at, &mut bytes)?;

@@ -1,3 +1,4 @@
+pub mod LedgerLaws
 pub mod LoadLaws
 pub mod OpenLaws
 pub mod PagesRead

@@ -1,28 +1,23 @@
 -- Both counts are the file's, and are held against the section's size.
-use Rattle.std.proofs.Common.{◌≡◌, ℕ, ◌+◌, ◌*◌, ◌<◌, ◌⊎◌, inl, inr, ap, sym, ◌∙◌, arith}
-use Rattle.elf_model.specs.Bytes.{field}
-use Rattle.elf_model.specs.Hash.{nbucket, nchain}
-use Rattle.elf_model.specs.Records.{sh_size}
-use Rattle.elf_hash.proofs.ChecksLaws.{shape_passed, shape_refused}
+use Rattle.std.proofs.Common.{inl, inr, ◌⊎◌, ◌≡◌, ◌<◌, ◌+◌, ◌*◌, arith}
+use Rattle.elf_hash.proofs.ChecksLaws.{counts_pass, counts_refused}
+use Rattle.elf_headers.proofs.LedgerLaws.{Did-as, Did-stop, Did-then}
 use Rattle.elf_hash.proofs.walk.counted.Goals as goal
 use Rattle.elf_hash.proofs.walk.counted.Goals.{then-nbucket-eq0-via-then-nbucket-eq0, then-nbucket-eq0-via-else-nbucket-eq0+then-words_end-section}
 
-pub returns-then-nbucket-eq0-clause-counts : goal.returns-then-nbucket-eq0-clause-counts
-returns-then-nbucket-eq0-clause-counts g c = λ file at held is.
-    let buckets : c.in_ok-nbucket.nbucket ≡ nbucket file at = c.in_ok-nbucket.ensures.read file held ∙ ap (λ (p : ℕ). field file p 4) is.start in
-    let chains : c.in_ok-nchain.nchain ≡ nchain file at =
-    c.in_ok-nchain.ensures.read file (c.read_word.ensures.reads.keeps.same_file ∙ held) ∙ ap (λ (p : ℕ). field file (p + 4) 4) is.start in
-    let wrong : (nbucket file at ≡ 0) ⊎ (sh_size file at < 8 + 4 * nbucket file at + 4 * nchain file at) =
+pub returns-then-nbucket-eq0-clause-did : goal.returns-then-nbucket-eq0-clause-did
+returns-then-nbucket-eq0-clause-did g c =
+    let wrong : (c.in_ok-nbucket.nbucket ≡ 0) ⊎ (c.args.section.now.size < 8 + 4 * c.in_ok-nbucket.nbucket + 4 * c.in_ok-nchain.nchain) =
     elim c.then-nbucket-eq0.branch [
-      | then-nbucket-eq0-via-then-nbucket-eq0 w ↦ inl (sym buckets ∙ w.if-nbucket-eq0.true)
-      | then-nbucket-eq0-via-else-nbucket-eq0+then-words_end-section w ↦ inr (let long = w.if-words_end-section.true in omega (arith, w.words_end.ensures, buckets, chains, is.size))
+      | then-nbucket-eq0-via-then-nbucket-eq0 w ↦ inl w.if-nbucket-eq0.true
+      | then-nbucket-eq0-via-else-nbucket-eq0+then-words_end-section w ↦ inr (let long = w.if-words_end-section.true in omega (arith, w.words_end.ensures))
     ] in
-    rw (c.refused.ensures, is.place) (λ other. shape_refused file at wrong)
+    rw c.refused.ensures
+    (Did-as 8 (omega arith) (Did-stop _ (λ budget. cc) (Did-then c.in_ok-nbucket.ensures c.in_ok-nchain.ensures))
+    (λ file words costs at is. counts_refused file at _ _ _ is words.0 words.1 wrong))
 
-pub returns-clause-counts : goal.returns-clause-counts
-returns-clause-counts g c = λ file at held is.
-    let buckets : c.in_ok-nbucket.nbucket ≡ nbucket file at = c.in_ok-nbucket.ensures.read file held ∙ ap (λ (p : ℕ). field file p 4) is.start in
-    let chains : c.in_ok-nchain.nchain ≡ nchain file at =
-    c.in_ok-nchain.ensures.read file (c.read_word.ensures.reads.keeps.same_file ∙ held) ∙ ap (λ (p : ℕ). field file (p + 4) 4) is.start in
-    let fits = c.if-words_end-section.false in
-    (shape_passed file at (λ none. c.if-nbucket-eq0.false (buckets ∙ none)) (omega (arith, c.words_end.ensures, buckets, chains, is.size)), record { section = is; buckets = buckets; chains = chains })
+pub returns-clause-did : goal.returns-clause-did
+returns-clause-did g c =
+    let low = c.if-words_end-section.false in
+    Did-as 8 (omega arith) (Did-then c.in_ok-nbucket.ensures c.in_ok-nchain.ensures)
+    (λ file words costs at is. counts_pass file at _ is words.0 words.1 c.if-nbucket-eq0.false (omega (arith, c.words_end.ensures)))
