@@ -5,7 +5,7 @@ use Rattle.std.specs.Borrow.{Bor}
 use Rattle.clap.specs.Walk.{Row, Text, one_of}
 use Rattle.elf_headers.specs.declared.caps.Caps.{Caps}
 use Rattle.elf_model.specs.Placing.{Layout}
-use Rattle.elf_words.specs.Asked.{AreHeaderCaps, AsksNothing, ComesTo, HasFault, HasNumber, IsApplying, IsFileNamed, IsTask, item_words}
+use Rattle.elf_words.specs.Asked.{AreReadingCaps, AsksNothing, ComesTo, HasFault, HasNumber, IsApplying, IsFileNamed, IsTask, item_words}
 use Rattle.elf_words.specs.Layouts.{Lays, no_items}
 use Rattle.elf_words.specs.declared.requests.Request.{Request}
 use Rattle.elf_words.specs.declared.requests.RequestFault.{RequestFault}
@@ -55,8 +55,8 @@ no_section rows layout lays none = record {
 -- what an applying comes to, by whether there are a file and caps
 pub applied : (rows : List Row) (section : ℕ) (layout : Bor Layout) (r : Option Request) → Lays no_items (item_words rows) (Ok layout.now) → section < 2 ^ 16
     → HasNumber (one_of (codes "SECTION") rows) (Some section) → IfSome r (λ request. request.task ≡ Apply section layout)
-    → IfSome r (λ request. IsFileNamed rows request.file) → IfSome r (λ request. AreHeaderCaps rows request.caps)
-    → (r ≡ None → (file : Option (Bor Text)) (caps : Caps) → IsFileNamed rows file → AreHeaderCaps rows caps → ⊥)
+    → IfSome r (λ request. IsFileNamed rows request.file) → IfSome r (λ request. AreReadingCaps rows request.caps)
+    → (r ≡ None → (file : Option (Bor Text)) (caps : Caps) → IsFileNamed rows file → AreReadingCaps rows caps → ⊥)
     → ComesTo (Some (codes "apply", rows)) (Ok r)
 applied rows section layout None lays small index task file caps none = record {
   nothing = λ request asks.

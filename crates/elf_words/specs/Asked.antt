@@ -47,11 +47,15 @@ abbrev pub HasNumber : Option Text → Option ℕ → Type 0
 HasNumber None value = value ≡ None
 HasNumber (Some text) value = SpellsNumber text × (value ≡ Some (decimal_value text))
 
--- the caps, by the values of the options
-pub record AreCaps (rows : List Row) (caps : Caps) : Type 0 where
+-- how many headers are permitted and how many bytes may be read, by the values of the options
+pub record AreLimits (rows : List Row) (caps : Caps) : Type 0 where
   pub headers : HasNumber (one_of (codes "headers") rows) (Some caps.headers)
-  pub names : HasNumber (one_of (codes "names") rows) (Some caps.name.bytes)
   pub budget : HasNumber (one_of (codes "max-read") rows) caps.budget
+
+-- the caps of a listing, by the values of the options
+pub record AreCaps (rows : List Row) (caps : Caps) : Type 0 where
+  pub limits : AreLimits rows caps
+  pub names : HasNumber (one_of (codes "names") rows) (Some caps.name.bytes)
 
 -- the part with this name, or without a name all seven
 abbrev pub AreParts : Option Text → Parts → Type 0
@@ -68,16 +72,15 @@ abbrev pub IsFileNamed : List Row → Option (Bor Text) → Type 0
 IsFileNamed rows None = ⊥
 IsFileNamed rows (Some path) = first_of (codes "FILE") rows ≡ Some path.now
 
--- the caps of what is no listing: the headers stand among the values, the rest is fixed, and reads have no limit
-pub record AreHeaderCaps (rows : List Row) (caps : Caps) : Type 0 where
-  pub headers : HasNumber (one_of (codes "headers") rows) (Some caps.headers)
+-- the caps of what is no listing, which shows no name that is cut
+pub record AreReadingCaps (rows : List Row) (caps : Caps) : Type 0 where
+  pub limits : AreLimits rows caps
   pub names : caps.name.bytes ≡ 256
-  pub budget : caps.budget ≡ None
 
 -- a lookup in the file whose path stands among the values, of the name that stands there too
 pub record IsFinding (command : Text) (rows : List Row) (caps : Caps) (file : Option (Bor Text)) (wanted : Wanted) : Type 0 where
   pub find : command ≡ codes "find"
-  pub limits : AreHeaderCaps rows caps
+  pub limits : AreReadingCaps rows caps
   pub path : IsFileNamed rows file
   pub word : first_of (codes "NAME") rows ≡ Some wanted.bytes.now
 
@@ -89,7 +92,7 @@ item_words rows = unwrap_or (all_of (codes "ITEM") rows) []
 -- words give
 pub record IsApplying (command : Text) (rows : List Row) (caps : Caps) (file : Option (Bor Text)) (section : ℕ) (layout : Layout) : Type 0 where
   pub apply : command ≡ codes "apply"
-  pub limits : AreHeaderCaps rows caps
+  pub limits : AreReadingCaps rows caps
   pub path : IsFileNamed rows file
   pub index : HasNumber (one_of (codes "SECTION") rows) (Some section)
   pub small : section < 2 ^ 16

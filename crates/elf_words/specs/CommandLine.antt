@@ -44,8 +44,12 @@ sample_command parts = with_listing_options parts (new_app (codes "sample"))
 abbrev pub name_argument : Rule
 name_argument = record (new_rule (codes "NAME")) { required = true }
 
+-- a command with the options of what reads a file and lists nothing
+abbrev pub with_reading_options : App → App
+with_reading_options command = with_rule (with_rule command headers_option) max_read_option
+
 abbrev pub find_command : App
-find_command = with_rule (with_rule (with_rule (new_app (codes "find")) headers_option) file_argument) name_argument
+find_command = with_rule (with_rule (with_reading_options (new_app (codes "find"))) file_argument) name_argument
 
 abbrev pub section_argument : Rule
 section_argument = record (new_rule (codes "SECTION")) { required = true; parser = Some (Signed (pos 0) (pos 65535)) }
@@ -56,7 +60,7 @@ item_argument = record (new_rule (codes "ITEM")) { range = Some (record { start_
 
 abbrev pub apply_command : App
 apply_command =
-    with_rule (with_rule (with_rule (with_rule (new_app (codes "apply")) headers_option) file_argument) section_argument) item_argument
+    with_rule (with_rule (with_rule (with_reading_options (new_app (codes "apply"))) file_argument) section_argument) item_argument
 
 -- the program, whose words begin behind its name, and which wants a command
 abbrev pub without_command : App

@@ -7,7 +7,8 @@ ghost use Rattle.elf_words.specs.CommandLine.{apply_command, file_argument, find
 ghost use Rattle.elf_words.specs.CommandLine.{headers_option, item_argument, max_read_option};
 ghost use Rattle.elf_words.specs.CommandLine.{name_argument, names_option, only_option, program};
 ghost use Rattle.elf_words.specs.CommandLine.{sample_command, section_argument, show_command};
-ghost use Rattle.elf_words.specs.CommandLine.{with_listing_options, with_listings, without_command};
+ghost use Rattle.elf_words.specs.CommandLine.{with_listing_options, with_listings};
+ghost use Rattle.elf_words.specs.CommandLine.{with_reading_options, without_command};
 
 use clap::{Arg, Command, value_parser};
 use std::alloc::{AllocError, Global};
@@ -24,7 +25,7 @@ Examples:
   elfsee find /lib/libexample.so printf
   elfsee apply example.o 1 at:1=0x401000 def:main=0x401200
 
-Options of show and sample, before or behind FILE; find and apply have --headers and -- alone:
+Options, before or behind FILE; find and apply have --headers, --max-read and -- alone:
   --headers N   permit so many section headers, and as many program headers:
                 1 to 65279 [default: 4096]
   --names N     show so many bytes of a name: 1 to 4096 [default: 256]
@@ -126,8 +127,7 @@ fn find<'a>(alloc: Global) -> Result<Command<'a>, AllocError>
     let command = Command::new(alloc, "find")
         .about("Look a name up by the file's own SysV hash table")
         .after_help(FOUND);
-    command
-        .arg(headers(alloc))?
+    reading_options(alloc, command)?
         .arg(file(alloc))?
         .arg(name(alloc))
 }
@@ -140,8 +140,7 @@ fn apply<'a>(alloc: Global) -> Result<Command<'a>, AllocError>
     let command = Command::new(alloc, "apply")
         .about("Write a section's bytes with its relocations applied")
         .after_help(ITEMS);
-    command
-        .arg(headers(alloc))?
+    reading_options(alloc, command)?
         .arg(file(alloc))?
         .arg(section(alloc))?
         .arg(item(alloc))
@@ -163,6 +162,16 @@ fn listing_options<'a>(
         .arg(names(alloc))?
         .arg(max_read(alloc))?
         .arg(only(alloc, parts))
+}
+
+/// A command with the options of what reads a file and lists nothing.
+fn reading_options<'a>(alloc: Global, command: Command<'a>) -> Result<Command<'a>, AllocError>
+    ensures app { IfOk result (λ whole.
+        app_of whole ≡ with_reading_options (app_of command.entry)) }
+    ensures local { (fields_of command.entry).has_globals ≡ false →
+        IfOk result (λ whole. (fields_of whole).has_globals ≡ false) }
+{
+    command.arg(headers(alloc))?.arg(max_read(alloc))
 }
 
 /// The file's path.

@@ -18,8 +18,8 @@ use thiserror::Error;
 pub struct Request<'a> {
     /// The file's path, or none for the sample, which is a file that the program carries.
     pub file: Option<&'a str>,
-    /// How many headers are permitted; and of a listing how many bytes of a name are shown, and how
-    /// many bytes may be read. Of the other tasks these are 256, and no limit.
+    /// How many headers are permitted and how many bytes may be read; and of a listing how many
+    /// bytes of a name are shown, which are 256 of the other tasks.
     pub caps: Caps,
     /// What is done with the file.
     pub task: Task<'a>,

@@ -5,9 +5,9 @@ ghost use Rattle.std.specs.Borrow.{Bor};
 ghost use Rattle.clap.specs.Walk.{Text, first_of, one_of, rows_of};
 ghost use Rattle.clap.specs.Words.{found_of, subcommand_rows_of};
 ghost use Rattle.elf_model.specs.Text.{name_of};
-ghost use Rattle.elf_words.specs.Asked.{AreCaps, AreHeaderCaps, AreParts, WordsAsk, ComesTo};
-ghost use Rattle.elf_words.specs.Asked.{HasNumber, IsFileNamed, WordsRefused, is_part, item_words};
-ghost use Rattle.elf_words.specs.Asked.{part_names};
+ghost use Rattle.elf_words.specs.Asked.{AreCaps, AreLimits, AreParts, AreReadingCaps, ComesTo};
+ghost use Rattle.elf_words.specs.Asked.{HasNumber, IsFileNamed, WordsAsk, WordsRefused, is_part};
+ghost use Rattle.elf_words.specs.Asked.{item_words, part_names};
 ghost use Rattle.elf_words.specs.Layouts.{Lays, no_items};
 ghost use Rattle.elf_words.specs.Faults.{IsUnasked};
 ghost use Rattle.elf_words.specs.declared.requests.Task.TheVariants.{Show};
@@ -130,7 +130,7 @@ fn listing<'a>(file: Option<&'a str>, options: &ArgMatches<'a>) -> Option<Reques
     })
 }
 
-/// A lookup in a file, with as many headers as are asked for.
+/// A lookup in a file, within the limits that are asked for.
 fn lookup<'a>(options: &ArgMatches<'a>) -> Result<Option<Request<'a>>, RequestFault>
     ensures { ComesTo (Some (codes "find", rows_of (found_of options.now))) result }
 {
@@ -143,7 +143,7 @@ fn lookup<'a>(options: &ArgMatches<'a>) -> Result<Option<Request<'a>>, RequestFa
     Ok(in_file(options, Task::Find(wanted)))
 }
 
-/// A section applied, with as many headers and in the layout that are asked for.
+/// A section applied, within the limits and in the layout that are asked for.
 fn applying<'a>(
     options: &ArgMatches<'a>,
     layout: &'a mut Layout,
@@ -184,20 +184,19 @@ fn lay_asked(options: &ArgMatches<'_>, layout: &mut Layout) -> Result<(), Reques
     }
 }
 
-/// What is done with the file that is asked for, with as many headers as are asked for.
+/// What is done with the file that is asked for, within the limits that are asked for.
 fn in_file<'a>(options: &ArgMatches<'a>, task: Task<'a>) -> Option<Request<'a>>
     ensures task { IfSome result (λ request. request.task ≡ task.entry) }
     ensures file { IfSome result (λ request.
         IsFileNamed (rows_of (found_of options.now)) request.file) }
     ensures caps { IfSome result (λ request.
-        AreHeaderCaps (rows_of (found_of options.now)) request.caps) }
+        AreReadingCaps (rows_of (found_of options.now)) request.caps) }
     ensures none { result ≡ None → (file : Option (Bor Text)) (caps : Caps)
         → IsFileNamed (rows_of (found_of options.now)) file
-        → AreHeaderCaps (rows_of (found_of options.now)) caps → ⊥ }
+        → AreReadingCaps (rows_of (found_of options.now)) caps → ⊥ }
 {
     let path = text_of(options, "FILE")?;
-    let headers = small_number_of(options, "headers")?;
-    let caps = Caps::new(headers, NAME_BYTES)?;
+    let caps = caps_naming(options, NAME_BYTES)?;
     Some(Request {
         file: Some(path),
         caps,
@@ -211,8 +210,18 @@ fn caps_of(options: &ArgMatches<'_>) -> Option<Caps>
     ensures none { result ≡ None → (caps : Caps)
         → AreCaps (rows_of (found_of options.now)) caps → ⊥ }
 {
-    let headers = small_number_of(options, "headers")?;
     let names = small_number_of(options, "names")?;
+    caps_naming(options, names)
+}
+
+/// The caps with so many bytes of a name, and else what the options ask for.
+fn caps_naming(options: &ArgMatches<'_>, names: u16) -> Option<Caps>
+    ensures some { IfSome result (AreLimits (rows_of (found_of options.now))) }
+    ensures named { IfSome result (λ caps. caps.name.bytes ≡ names) }
+    ensures none { result ≡ None → (caps : Caps) →
+        AreLimits (rows_of (found_of options.now)) caps → caps.name.bytes ≡ names → ⊥ }
+{
+    let headers = small_number_of(options, "headers")?;
     let budget = number_of(options, "max-read")?;
     let caps = Caps::new(headers, names)?;
     Some(match budget {

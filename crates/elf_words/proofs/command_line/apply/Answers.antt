@@ -1,22 +1,23 @@
-use Rattle.std.proofs.Common.{rules, ◌≡◌, ap₂, ◌∙◌, ◌||◌, codes, false}
+use Rattle.std.proofs.Common.{rules, ◌≡◌, ap, ap₂, ◌∙◌, ◌||◌, codes, false}
 use Rattle.std.proofs.lemmas.Result.{IfOk-weaker}
 use Rattle.clap.specs.Simple.{new_app, with_rule}
 use Rattle.clap.specs.Words.{app_of}
 use Rattle.clap.specs.declared.builder.command.Command.TheViews.{out-Command as fields_of}
+use Rattle.elf_words.specs.CommandLine.{with_reading_options}
 use Rattle.elf_words.proofs.command_line.apply.Goals as goal
 
 pub returns-clause-app : goal.returns-clause-app
 returns-clause-app c =
     let start : app_of c.after_help-command.result ≡ new_app (codes "apply") = search rules in
-    let one = c.in_ok-arg.ensures.shape c.headers.ensures.local ∙ ap₂ with_rule start c.headers.ensures.rule in
-    let two = c.in_ok-arg-2.ensures.shape c.file.ensures.local ∙ ap₂ with_rule one c.file.ensures.rule in
-    let three = c.in_ok-arg-3.ensures.shape c.section.ensures.local ∙ ap₂ with_rule two c.section.ensures.rule in
-    IfOk-weaker c.arg-4.result _ _ (λ whole added. added.shape c.item.ensures.local ∙ ap₂ with_rule three c.item.ensures.rule) c.arg-4.ensures
+    let one = c.in_ok-reading_options.ensures.app ∙ ap with_reading_options start in
+    let two = c.in_ok-arg.ensures.shape c.file.ensures.local ∙ ap₂ with_rule one c.file.ensures.rule in
+    let three = c.in_ok-arg-2.ensures.shape c.section.ensures.local ∙ ap₂ with_rule two c.section.ensures.rule in
+    IfOk-weaker c.arg-3.result _ _ (λ whole added. added.shape c.item.ensures.local ∙ ap₂ with_rule three c.item.ensures.rule) c.arg-3.ensures
 
 pub returns-clause-local : goal.returns-clause-local
 returns-clause-local c =
     let start : (fields_of c.after_help-command.result).has_globals ≡ false = search rules in
-    let one = c.in_ok-arg.ensures.globals ∙ ap₂ ◌||◌ start c.headers.ensures.local in
-    let two = c.in_ok-arg-2.ensures.globals ∙ ap₂ ◌||◌ one c.file.ensures.local in
-    let three = c.in_ok-arg-3.ensures.globals ∙ ap₂ ◌||◌ two c.section.ensures.local in
-    IfOk-weaker c.arg-4.result _ _ (λ whole added. added.globals ∙ ap₂ ◌||◌ three c.item.ensures.local) c.arg-4.ensures
+    let one = c.in_ok-reading_options.ensures.local start in
+    let two = c.in_ok-arg.ensures.globals ∙ ap₂ ◌||◌ one c.file.ensures.local in
+    let three = c.in_ok-arg-2.ensures.globals ∙ ap₂ ◌||◌ two c.section.ensures.local in
+    IfOk-weaker c.arg-3.result _ _ (λ whole added. added.globals ∙ ap₂ ◌||◌ three c.item.ensures.local) c.arg-3.ensures
