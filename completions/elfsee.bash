@@ -5,7 +5,7 @@ _elfsee_options() {
     local option given
     case $1 in
     show | sample) set -- --headers --names --max-read --only ;;
-    find | apply) set -- --headers ;;
+    find | apply) set -- --headers --max-read ;;
     *) set -- ;;
     esac
     for option in "$@" --help; do

@@ -66,6 +66,6 @@ complete -c elfsee -n __elfsee_wants_item -a def: -d 'the address of an undefine
 complete -c elfsee -n __elfsee_wants_item -a plt: -d 'the address of an entry in the procedure linkage table, plt:NAME=ADDR'
 complete -c elfsee -n "__fish_seen_subcommand_from show sample find apply; and __elfsee_lacks --headers" -l headers -x -d 'permit so many headers of each kind, 1 to 65279 [4096]'
 complete -c elfsee -n "$listing; and __elfsee_lacks --names" -l names -x -d 'show so many bytes of a name, 1 to 4096 [256]'
-complete -c elfsee -n "$listing; and __elfsee_lacks --max-read" -l max-read -x -d 'read no more than so many bytes of the file'
+complete -c elfsee -n "__fish_seen_subcommand_from show sample find apply; and __elfsee_lacks --max-read" -l max-read -x -d 'read no more than so many bytes of the file'
 complete -c elfsee -n "$listing; and __elfsee_lacks --only" -l only -x -a $parts -d 'list one part'
 complete -c elfsee -s h -l help -d 'tell of the commands and options'

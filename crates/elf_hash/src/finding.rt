@@ -27,8 +27,8 @@ use elf_table::File;
 /// the symbols that it links to and of their string table; `HashShape` at its section header where
 /// its counts are no table's of its size; then on the way `HashIndex` at a word that is no index,
 /// `HashCycle` at the bucket's word where the chain goes round, or a name's `NameOutside` or
-/// `NameUnended` at its symbol. Else a fault of the source, or `Budget` where a limit has no room for a
-/// read, at the offset that was asked for.
+/// `NameUnended` at its symbol. Else a fault of the source, or `Budget` where a limit has no room
+/// for a read, at the offset that was asked for.
 pub fn find<S: Source>(
     src: &mut Counted<S>,
     store: &mut HeaderStore,

@@ -6,27 +6,13 @@ use Rattle.elf_model.specs.Cost.{ceiling}
 use Rattle.elf_model.specs.Listing.{has_tables}
 use Rattle.elf_model.specs.declared.causes.Refusal.{Refusal}
 use Rattle.elf_source.specs.Source.{Seen, Counting, Reads, Limits, OverLimit, counted}
+use Rattle.elf_source.proofs.LimitLaws.{late_budget, within_budget}
 use Rattle.elf_headers.specs.Faults.{RefusalSays}
 use Rattle.elf_headers.specs.declared.caps.Caps.{Caps}
 use Rattle.elf_listing.specs.Reports.{AsksWithin}
 use Rattle.elf_listing.specs.declared.end.End.{End}
 use Rattle.elf_listing.specs.declared.end.End.TheVariants.{Refused}
 use Rattle.elf_listing.specs.declared.end.RunFault.{RunFault}
-
--- no more is asked for than the budget has
-within_budget : (budget : Option ℕ) (s0 s1 s2 : Counting) → Limits s0 s1 budget → s2.most ≡ s1.most → IfSome budget (λ bytes. s2.asked ≤ s0.asked + bytes)
-within_budget None s0 s1 s2 set same = tt
-within_budget (Some bytes) s0 s1 s2 set same = let below = s2.within (counted s0.asked bytes) (same ∙ set.most) in omega (arith, below.0)
-
--- where the budget is used up fewer than 4,096 bytes of it are left
-late_budget : (budget : Option ℕ) (s0 s1 s2 : Counting) (n : ℕ) → s0.asked ≤ 2 ^ 127 → Limits s0 s1 budget → OverLimit s1 s2 n
-    → (bytes : ℕ) × (budget ≡ Some bytes) × (s0.asked + bytes < s2.asked + 4096)
-late_budget None s0 s1 s2 n small set over = let none = set.most in let some = over.is_set in cc
-late_budget (Some bytes) s0 s1 s2 n small set over =
-    let most : Some (counted s0.asked bytes) ≡ Some over.most = sym set.most ∙ over.is_set in
-    let is : counted s0.asked bytes ≡ over.most = cc in
-    let fits = set.small bytes refl in
-    (bytes, refl, omega (arith, small, is, fits, over.late))
 
 pub asks_within : (caps : Caps) (parts : ℕ) (s0 s1 s2 s3 : Counting) (n : ℕ) (result : Result End RunFault) → s0.asked ≤ 2 ^ 127 → Limits s0 s1 caps.budget
     → Reads s1 s2 (ceiling s1.seen.size caps.headers caps.name.bytes) → Limits s2 s3 None

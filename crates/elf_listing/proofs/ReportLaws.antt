@@ -5,12 +5,13 @@ use Rattle.elf_model.specs.Cost.{cost}
 use Rattle.elf_model.specs.Lines.{refusal_line}
 use Rattle.elf_model.specs.Listing.{Item, Fault as FaultItem, lines_of, fault_of, report_of, end_text}
 use Rattle.elf_model.specs.Report.{items}
-use Rattle.elf_model.specs.declared.causes.Cause.{Cause}
-use Rattle.elf_model.specs.declared.causes.Cause.TheVariants.{Short, NotElf, BadClass, BadData, BadVersion, ExtendedNumbering, TooManyHeaders, EntrySize, TableOutside, BadLink, NotStrings, SizeNotWhole, NameOutside, NameUnended, NoteCut, NoHash, HashShape, HashIndex, HashCycle, Unsupported, Overflow, LayoutFull, LayoutRepeat, NotRel, Unplaced, Undefined, PlaceOutside, SymbolIndex, TooLong, Budget, Unmapped}
+use Rattle.elf_model.specs.declared.causes.Cause.TheVariants.{Budget}
 use Rattle.elf_model.specs.declared.causes.Refusal.{Refusal}
+use Rattle.elf_model.proofs.BudgetLaws.{is_budget}
 use Rattle.elf_model.proofs.ListingLemmas.{listings_append}
 use Rattle.elf_source.specs.Source.{Counting, Limits, counted}
 use Rattle.elf_source.specs.Output.{Written, Takes, TakesFront}
+use Rattle.elf_source.proofs.LimitLaws.{budget_below}
 use Rattle.elf_source.proofs.PutsLaws.{Takes-then, TakesFront-then, TakesFront-more, TakesFront-all}
 use Rattle.elf_headers.specs.Faults.{RefusalSays}
 use Rattle.elf_headers.specs.declared.caps.Caps.{Caps}
@@ -19,40 +20,6 @@ use Rattle.elf_listing.specs.Shows.{WroteItems, Front, IsNext, EndsRefused}
 use Rattle.elf_listing.specs.declared.end.End.TheVariants.{Listed, Refused}
 use Rattle.elf_listing.specs.declared.end.RunFault.{RunFault}
 use Rattle.elf_listing.proofs.EachLaws.{lines_front}
-
--- whether a refusal is for want of budget
-is_budget : (cause : Cause) → (cause ≡ Budget) ⊎ (cause ≡ Budget → ⊥)
-is_budget Short = inr (λ e. cc)
-is_budget NotElf = inr (λ e. cc)
-is_budget BadClass = inr (λ e. cc)
-is_budget BadData = inr (λ e. cc)
-is_budget BadVersion = inr (λ e. cc)
-is_budget ExtendedNumbering = inr (λ e. cc)
-is_budget TooManyHeaders = inr (λ e. cc)
-is_budget EntrySize = inr (λ e. cc)
-is_budget TableOutside = inr (λ e. cc)
-is_budget BadLink = inr (λ e. cc)
-is_budget NotStrings = inr (λ e. cc)
-is_budget SizeNotWhole = inr (λ e. cc)
-is_budget NameOutside = inr (λ e. cc)
-is_budget NameUnended = inr (λ e. cc)
-is_budget NoteCut = inr (λ e. cc)
-is_budget NoHash = inr (λ e. cc)
-is_budget HashShape = inr (λ e. cc)
-is_budget HashIndex = inr (λ e. cc)
-is_budget HashCycle = inr (λ e. cc)
-is_budget Unsupported = inr (λ e. cc)
-is_budget Overflow = inr (λ e. cc)
-is_budget LayoutFull = inr (λ e. cc)
-is_budget LayoutRepeat = inr (λ e. cc)
-is_budget NotRel = inr (λ e. cc)
-is_budget Unplaced = inr (λ e. cc)
-is_budget Undefined = inr (λ e. cc)
-is_budget PlaceOutside = inr (λ e. cc)
-is_budget SymbolIndex = inr (λ e. cc)
-is_budget TooLong = inr (λ e. cc)
-is_budget Budget = inl refl
-is_budget Unmapped = inr (λ e. cc)
 
 -- a report is what is listed, within every budget
 report_listed : (budget : Option ℕ) (file : List ℕ) (headers cap parts : ℕ) (text : List ℕ) (fault : Option Refusal) → IsReport (items file headers cap parts) text fault
@@ -89,10 +56,6 @@ front_lines all front =
     let more = lines_front front.front front.rest in
     let split = ap lines_of front.split ∙ more.1 in
     rw split (TakesFront-all (lines_of front.front) more.0 front.takes)
-
--- the budget is less than the cost
-budget_below : (budget asked most n : ℕ) → asked ≤ 2 ^ 127 → most ≡ counted asked budget → budget < 2 ^ 64 → most < asked + n → budget < n
-budget_below budget asked most n small is fits above = omega (arith, is, small, fits, above)
 
 -- a listing that ended in a refusal, and what was put of its line
 ended : {a b : Written} (refusal : Refusal) (all : List Item) (ends : EndsRefused a b refusal all) → IsNext refusal ends.front.rest

@@ -1,5 +1,6 @@
 pub mod AppliedLaws
 pub mod ApplySteps
+pub mod BudgetLaws
 pub mod ChangeLaws
 pub mod ChangeSteps
 pub mod CheckSteps

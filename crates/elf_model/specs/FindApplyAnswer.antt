@@ -1,7 +1,8 @@
 -- What `find` and `apply` give: a text, and a status for the shell.
-use Rattle.std.specs.Prelude.{ℕ, true, false, List, ◌++◌, Result, Ok, Err}
+use Rattle.std.specs.Prelude.{ℕ, ◌≡◌, ◌<◌, ◌⊎◌, true, false, List, ◌++◌, Option, None, Some, Result, Ok, Err}
 use Rattle.elf_model.specs.Answer.{Answer}
 use Rattle.elf_model.specs.Apply.{applied}
+use Rattle.elf_model.specs.Budget.{IsBudget}
 use Rattle.elf_model.specs.Find.{looked}
 use Rattle.elf_model.specs.Hash.{Outcome, Found, Absent, Refused}
 use Rattle.elf_model.specs.LineFronts.{symbol_front}
@@ -45,3 +46,15 @@ abbrev pub apply_answer : List ℕ → ℕ → ℕ → Layout → Answer
 apply_answer file headers section layout =
     let result = applied file headers section layout in
     record { text = applied_text result; status = applied_status result }
+
+-- an answer is the line of a refusal for want of budget alone, whose offset is below the file's length, with status 1
+pub record IsOutOfBudget (size : ℕ) (answer : Answer) : Type 0 where
+  pub refusal : Refusal
+  pub for_budget : IsBudget refusal
+  pub inside : refusal.at < size
+  pub answer_is : answer ≡ record { text = refusal_line refusal; status = 1 }
+
+-- what is answered within a budget: all of it; or, where it costs more than the budget, that refusal
+abbrev pub IsAnswered : Option ℕ → (size cost : ℕ) → (whole answer : Answer) → Type 0
+IsAnswered None size cost whole answer = answer ≡ whole
+IsAnswered (Some budget) size cost whole answer = (answer ≡ whole) ⊎ ((budget < cost) × IsOutOfBudget size answer)

@@ -50,7 +50,7 @@ listed_whole text fault none (inl whole) = whole
 listed_whole text fault none (inr (refusal, cut)) = absurd (no_cut fault refusal none cut.0)
 
 -- the line of a refusal for want of budget, by its offset
-budget_line : (refusal : Refusal) (at : ℕ) → IsBudget refusal → refusal.at ≡ at → refusal ≡ record { at = at; cause = Budget }
+pub budget_line : (refusal : Refusal) (at : ℕ) → IsBudget refusal → refusal.at ≡ at → refusal ≡ record { at = at; cause = Budget }
 budget_line refusal at budget place = rw (budget, place) refl
 
 refused_used : {A : Type 0} {a b : Counting} (caps : Caps) (parts : ℕ) (refusal : Refusal) (text : List ℕ) (fault : Option Refusal) → AsksWithin caps parts a b (Ok (Refused refusal)) → Some refusal ≡ fault

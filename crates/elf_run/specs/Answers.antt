@@ -1,7 +1,11 @@
 -- What a run answers.
-use Rattle.std.specs.Prelude.{ℕ, ◌≡◌, ◌<◌, ◌+◌, ◌⊎◌, ⊤, List, ◌++◌, Some, Result, Ok, Err, [], codes}
+use Rattle.std.specs.Prelude.{ℕ, ◌≡◌, ◌<◌, ◌≤◌, ◌+◌, ◌⊎◌, ⊤, List, ◌++◌, length, Some, Result, Ok, Err, IfSome, [], codes}
 use Rattle.elf_model.specs.Answer.{Answer, IsShown, show_answer}
+use Rattle.elf_model.specs.ApplyCost.{apply_cost_by_order}
+use Rattle.elf_model.specs.Find.{find_cost}
+use Rattle.elf_model.specs.FindApplyAnswer.{IsAnswered, apply_answer, find_answer}
 use Rattle.elf_model.specs.Lines.{refusal_line}
+use Rattle.elf_model.specs.Placing.{Layout}
 use Rattle.elf_model.specs.declared.causes.Cause.TheVariants.{Budget}
 use Rattle.elf_source.specs.Source.{Counting}
 use Rattle.elf_source.specs.Output.{Written, Takes, TakesFront}
@@ -39,6 +43,29 @@ pub record Answers (file : List ℕ) (caps : Caps) (parts : ℕ) (before after :
   pub shown : IsShown caps.budget file caps.headers caps.name.bytes parts answer
   pub wrote : WroteAnswer old new result answer
   pub used : WholeOrUsedUp caps before after result (show_answer file caps.headers caps.name.bytes parts) answer
+
+-- THE ANSWER of what is no listing: all of it, or, where it costs more than the budget, a refusal; and this holds of it
+pub record AnswersWithin (caps : Caps) (file : List ℕ) (cost : ℕ) (whole : Answer) (old new : Written) (result : Result ℕ RunFault) (Used : Answer → Type 0) : Type 0 where
+  pub answer : Answer
+  pub answered : IsAnswered caps.budget (length file) cost whole answer
+  pub wrote : WroteAnswer old new result answer
+  pub used : Used answer
+
+-- the answer of a lookup in a file
+abbrev pub AnswersLookup : List ℕ → Caps → List ℕ → Counting → Counting → Written → Written → Result ℕ RunFault → Type 0
+AnswersLookup file caps wanted before after old new result =
+    let whole = find_answer file caps.headers wanted in
+    AnswersWithin caps file (find_cost file caps.headers wanted) whole old new result (WholeOrUsedUp caps before after result whole)
+
+-- the answer of an applied section of a file
+abbrev pub AnswersApplied : List ℕ → Caps → ℕ → Layout → Written → Written → Result ℕ RunFault → Type 0
+AnswersApplied file caps section layout old new result =
+    AnswersWithin caps file (apply_cost_by_order file caps.headers section layout) (apply_answer file caps.headers section layout) old new result (λ answer. ⊤)
+
+-- no more is asked for than n bytes, and than the budget
+pub record AsksUpTo (caps : Caps) (old new : Counting) (n : ℕ) : Type 0 where
+  pub most : new.asked ≤ old.asked + n
+  pub budget : IfSome caps.budget (λ bytes. new.asked ≤ old.asked + bytes)
 
 -- the status of a listing's end
 abbrev pub end_status : Result End RunFault → Result ℕ RunFault

@@ -17,8 +17,8 @@ use elf_words::{Request, Task};
 /// Carries out a request on a source: writes its text and answers its status, 0 where the file was
 /// listed, the name was found or the relocations are applied, and 1 where there is no such name, the
 /// file is refused, or the request's read budget is used up. The store has a slot for each header
-/// that the request permits, and at most 2^127 bytes were asked of the source before. A lookup and an
-/// applied section have the condition that no limit is set on the source. Afterwards none is set.
+/// that the request permits, and at most 2^127 bytes were asked of the source before. An applied
+/// section has the condition that no limit is set on the source. Afterwards none is set.
 ///
 /// # Errors
 /// A fault of the source, with the offset that was asked for, or of the output, with the number of
@@ -45,7 +45,7 @@ pub fn run<S: Source, W: Sink>(
 {
     match request.task {
         Task::Show(parts) => list(src, store, request.caps, parts, out),
-        Task::Find(wanted) => look_up(src, store, wanted.bytes, out),
+        Task::Find(wanted) => look_up(src, store, request.caps, wanted.bytes, out),
         Task::Apply { section, layout } => write_applied(src, store, section, layout, out),
     }
 }

@@ -1,5 +1,5 @@
 //! Names looked up: the lines, the statuses, and what is asked for.
-use crate::requests::{check_answer, check_outputs, check_reads, request};
+use crate::requests::{check_answer, check_budgets, check_outputs, check_reads, request};
 use elf_fixtures::{hash_with_cycle, hash_with_end, one_symbol_table, with_bytes};
 use elf_words::{Request, Task, checked_name};
 use std::test::Fail;
@@ -70,4 +70,35 @@ fn each_read_and_write_of_a_lookup_fails_in_turn(rt: HostRuntime) -> Result<(), 
     check_outputs(&rt, &wanted, hash_with_cycle())?;
     check_outputs(&rt, &lookup(4, "c")?, &hash_with_end())?;
     check_reads(&rt, &wanted, one_symbol_table(), &[0, 0x78], 2)
+}
+
+#[test]
+fn every_budget_of_a_lookup(rt: HostRuntime) -> Result<(), Fail> {
+    let file = hash_with_cycle();
+    check_budgets(&rt, &lookup(4, "a")?, file, 424)?;
+    check_budgets(&rt, &lookup(4, "b")?, file, 516)?;
+    check_budgets(&rt, &lookup(4, "c")?, file, 608)?;
+    check_budgets(&rt, &lookup(4, "c")?, &hash_with_end(), 516)?;
+    check_budgets(&rt, &lookup(4, "c")?, one_symbol_table(), 268)?;
+    check_budgets(&rt, &lookup(3, "c")?, file, 64)
+}
+
+#[test]
+fn a_budget_ends_a_lookup_at_the_read_that_it_has_no_room_for(
+    rt: HostRuntime,
+) -> Result<(), Fail> {
+    let file = hash_with_cycle();
+    for (budget, text) in [
+        (63, b"! 0000000000000000 budget\n".as_slice()),
+        (64, b"! 00000000000000a8 budget\n".as_slice()),
+        (320, b"! 0000000000000040 budget\n".as_slice()),
+        (327, b"! 0000000000000044 budget\n".as_slice()),
+        (331, b"! 0000000000000048 budget\n".as_slice()),
+        (355, b"! 0000000000000070 budget\n".as_slice()),
+    ] {
+        let mut wanted = lookup(4, "b")?;
+        wanted.caps = wanted.caps.with_budget(budget);
+        check_answer(&rt, &wanted, file, text, 1, u128::from(budget))?;
+    }
+    Ok(())
 }

@@ -1,5 +1,7 @@
 //! Requests carried out on files in memory, and where each read fails or the output ends early.
 
+ghost use Rattle.std.specs.Prelude.{◌≤◌};
+
 use elf_listing::RunFault;
 use elf_run::{outcome, run};
 use elf_source::{
@@ -68,6 +70,36 @@ pub(crate) fn check_answer(
     assert!(rt; outcome(&answer) == (status, ""), "status {status}");
     assert!(rt; written.as_slice() == text, "status {status}");
     assert!(rt; asked <= cost, "{asked} bytes");
+    Ok(())
+}
+
+/// Carries a request out within every budget up to what it costs. It is answered whole, or, within less
+/// than its cost, by the line of the budget alone; and no more is asked for than the budget.
+pub(crate) fn check_budgets(
+    rt: &(impl Abort + AllocGlobal),
+    request: &Request<'_>,
+    file: &[u8],
+    cost: u64,
+) -> Result<(), Fail>
+    requires few { cost ≤ 100000 }
+{
+    let mut store = HeaderStore::new(rt.alloc(), request.headers())?;
+    let whole = carry_out(rt, request, MemorySource::new(file), &mut store);
+    for budget in 0..=cost {
+        let within = Request {
+            file: None,
+            caps: request.caps.with_budget(budget),
+            task: request.task,
+        };
+        let answered = carry_out(rt, &within, MemorySource::new(file), &mut store);
+        assert!(rt; answered.asked <= u128::from(budget), "{budget} bytes");
+        if answered.text != whole.text {
+            assert!(rt; budget < cost);
+            assert!(rt; answered.answer == Ok(1), "{budget} bytes");
+            assert!(rt; answered.text.len() == "! 0000000000000000 budget\n".len());
+            assert!(rt; answered.text.ends_with(b" budget\n".as_slice()));
+        }
+    }
     Ok(())
 }
 

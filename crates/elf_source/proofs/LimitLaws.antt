@@ -1,0 +1,23 @@
+-- What is asked for between the call that sets a limit and the call that takes it away.
+use Rattle.std.proofs.Common.{◌≡◌, ℕ, ◌+◌, ◌^◌, ◌<◌, ◌≤◌, Option, None, Some, refl, sym, ◌∙◌, arith}
+use Rattle.std.specs.Prelude.{IfSome}
+use Rattle.elf_source.specs.Source.{Counting, Limits, OverLimit, counted}
+
+-- no more is asked for than the budget has
+pub within_budget : (budget : Option ℕ) (s0 s1 s2 : Counting) → Limits s0 s1 budget → s2.most ≡ s1.most → IfSome budget (λ bytes. s2.asked ≤ s0.asked + bytes)
+within_budget None s0 s1 s2 set same = tt
+within_budget (Some bytes) s0 s1 s2 set same = let below = s2.within (counted s0.asked bytes) (same ∙ set.most) in omega (arith, below.0)
+
+-- where the budget is used up fewer than 4,096 bytes of it are left
+pub late_budget : (budget : Option ℕ) (s0 s1 s2 : Counting) (n : ℕ) → s0.asked ≤ 2 ^ 127 → Limits s0 s1 budget → OverLimit s1 s2 n
+    → (bytes : ℕ) × (budget ≡ Some bytes) × (s0.asked + bytes < s2.asked + 4096)
+late_budget None s0 s1 s2 n small set over = let none = set.most in let some = over.is_set in cc
+late_budget (Some bytes) s0 s1 s2 n small set over =
+    let most : Some (counted s0.asked bytes) ≡ Some over.most = sym set.most ∙ over.is_set in
+    let is : counted s0.asked bytes ≡ over.most = cc in
+    let fits = set.small bytes refl in
+    (bytes, refl, omega (arith, small, is, fits, over.late))
+
+-- a budget that what is asked for passes is less than what is asked for at most
+pub budget_below : (budget asked most n : ℕ) → asked ≤ 2 ^ 127 → most ≡ counted asked budget → budget < 2 ^ 64 → most < asked + n → budget < n
+budget_below budget asked most n small is fits above = omega (arith, is, small, fits, above)
