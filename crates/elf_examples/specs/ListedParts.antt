@@ -5,7 +5,7 @@ use Rattle.elf_model.specs.Report.{report}
 use Rattle.elf_model.specs.Fixtures.{symbol, bare_header, one_symbol_table}
 use Rattle.elf_model.specs.FixturesApply.{one_call}
 use Rattle.elf_model.specs.FixturesTables.{one_table}
-use Rattle.elf_model.specs.Answer.{show_answer, sample_answer}
+use Rattle.elf_model.specs.Answer.{show_answer}
 
 -- each part of one file alone
 abbrev pub PartsAloneList : Type 0
@@ -58,7 +58,7 @@ AnswersHaveAStatus =
     ((show_answer one_symbol_table 3 63 ALL).status ≡ 0)
     × ((show_answer one_symbol_table 2 63 ALL).status ≡ 1)
     × (show_answer (take 63 bare_header) 1 63 ALL ≡ record { text = codes "! 000000000000003f short\n"; status = 1 })
-    × (sample_answer 4096 256 ALL ≡ record { text = report one_symbol_table 3 63 ALL; status = 0 })
+    × (show_answer one_symbol_table 4096 256 ALL ≡ record { text = report one_symbol_table 3 63 ALL; status = 0 })
 
 -- one symbol, whose name is some bytes with no NUL behind them
 abbrev open_symbol : List ℕ → List ℕ
@@ -86,8 +86,8 @@ AnswersAreOfOneListing =
           ++ codes "! 000000000000003c too-many-headers\n";
       status = 1;
     })
-    × (sample_answer 2 63 SYMBOLS ≡ record { text = codes "! 000000000000003c too-many-headers\n"; status = 1 })
-    × (sample_answer 3 2 SYMBOLS
+    × (show_answer one_symbol_table 2 63 SYMBOLS ≡ record { text = codes "! 000000000000003c too-many-headers\n"; status = 1 })
+    × (show_answer one_symbol_table 3 2 SYMBOLS
     ≡ record {
       text =
           codes "Y     1          0 0000000000000000 0000000000000000 NOTYPE  LOCAL  DEFAULT   UND   \n"
