@@ -1,8 +1,8 @@
 -- Worked examples of fields and names: records whose bytes all differ, and each number that has a name.
 use Rattle.std.specs.Prelude.{◌≡◌, ℕ, List, [], ◌∷◌, codes, map}
 use Rattle.elf_model.specs.Records.{e_type, e_machine, e_entry, e_phoff, e_shoff, e_flags, e_phentsize, e_phnum, e_shentsize, e_shnum, e_shstrndx, sh_name, sh_type, sh_flags, sh_addr, sh_offset, sh_size, sh_link, sh_info, sh_addralign, sh_entsize, p_type, p_flags, p_offset, p_vaddr, p_paddr, p_filesz, p_memsz, p_align, st_name, st_info, st_other, st_shndx, st_value, st_size, r_offset, r_info, r_addend, d_tag, d_un, n_namesz, n_descsz, n_type}
-use Rattle.elf_model.specs.NameTables.{section_type_text, section_flags_text, segment_type_text, segment_flags_text, symbol_types, bindings, visibilities, places, name_or_number, relocation_type_text, dynamic_tag_text}
-use Rattle.elf_model.specs.Lines.{file_type_text, header_line, segment_line, escaped}
+use Rattle.elf_model.specs.NameTables.{file_type_text, section_type_text, section_flags_text, segment_type_text, segment_flags_text, symbol_types, bindings, visibilities, places, name_or_number, relocation_type_text, dynamic_tag_text}
+use Rattle.elf_model.specs.Lines.{header_line, segment_line, escaped}
 use Rattle.elf_model.specs.LineFronts.{section_front, symbol_front, relocation_front, dynamic_front}
 use Rattle.elf_model.specs.Causes.{cause_word}
 use Rattle.elf_model.specs.FixturesTables.{numbers_from}
