@@ -4,7 +4,7 @@ ghost use Rattle.std.specs.Prelude.{◌≡◌, ◌+◌, ◌^◌, ◌≤◌, ℕ,
 ghost use Rattle.elf_model.specs.Cost.{cost};
 ghost use Rattle.elf_listing.specs.Reports.{Leaves, FaultSays};
 ghost use Rattle.elf_run.specs.Answers.{Answers, AsksAs};
-ghost use Rattle.elf_run.specs.Requests.{AsksFor, GivesAnswer, IsUnlimited, task_cost};
+ghost use Rattle.elf_run.specs.Requests.{AsksFor, GivesAnswer, task_cost};
 
 use crate::applying::write_applied;
 use crate::finding::look_up;
@@ -17,8 +17,8 @@ use elf_words::{Request, Task};
 /// Carries out a request on a source: writes its text and answers its status, 0 where the file was
 /// listed, the name was found or the relocations are applied, and 1 where there is no such name, the
 /// file is refused, or the request's read budget is used up. The store has a slot for each header
-/// that the request permits, and at most 2^127 bytes were asked of the source before. An applied
-/// section has the condition that no limit is set on the source. Afterwards none is set.
+/// that the request permits, and at most 2^127 bytes were asked of the source before. Afterwards no
+/// limit is set on the source.
 ///
 /// # Errors
 /// A fault of the source, with the offset that was asked for, or of the output, with the number of
@@ -29,8 +29,7 @@ pub fn run<S: Source, W: Sink>(
     store: &mut HeaderStore,
     out: &mut Out<W>,
 ) -> Result<u8, RunFault>
-    requires { (store.old.slots ≡ request.now.caps.headers) × (src.old.asked ≤ 2 ^ 127)
-        × IsUnlimited request.now.task src.old }
+    requires { (store.old.slots ≡ request.now.caps.headers) × (src.old.asked ≤ 2 ^ 127) }
     ensures slots { store.new.slots ≡ store.old.slots }
     ensures grows { Grows out.old out.new }
     ensures leaves { Leaves src.old src.new }
@@ -46,7 +45,9 @@ pub fn run<S: Source, W: Sink>(
     match request.task {
         Task::Show(parts) => list(src, store, request.caps, parts, out),
         Task::Find(wanted) => look_up(src, store, request.caps, wanted.bytes, out),
-        Task::Apply { section, layout } => write_applied(src, store, section, layout, out),
+        Task::Apply { section, layout } => {
+            write_applied(src, store, request.caps, section, layout, out)
+        }
     }
 }
 

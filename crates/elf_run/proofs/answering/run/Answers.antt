@@ -8,13 +8,13 @@ pub returns-in-Show-clause-cost : goal.returns-in-Show-clause-cost
 returns-in-Show-clause-cost g c = λ file held. rw (c.in-Show.is) (c.list.ensures.cost file held)
 
 pub returns-in-Apply-clause-text : goal.returns-in-Apply-clause-text
-returns-in-Apply-clause-text g c = λ file held. rw (c.in-Apply.is) (rw (c.requires.0) at (c.write_applied.ensures.text file held))
+returns-in-Apply-clause-text g c = λ file held. rw (c.in-Apply.is) (c.write_applied.ensures.text file held)
 
 pub returns-in-Apply-clause-cost : goal.returns-in-Apply-clause-cost
-returns-in-Apply-clause-cost g c = λ file held. rw (c.in-Apply.is) (rw (c.requires.0) at (c.write_applied.ensures.cost file held))
+returns-in-Apply-clause-cost g c = λ file held. rw (c.in-Apply.is) (c.write_applied.ensures.cost file held)
 
 pub returns-in-Show-clause-asks : goal.returns-in-Show-clause-asks
 returns-in-Show-clause-asks g c = rw (c.in-Show.is) c.list.ensures.asks
 
 pub returns-in-Apply-clause-asks : goal.returns-in-Apply-clause-asks
-returns-in-Apply-clause-asks g c = rw (c.in-Apply.is) (rw (c.requires.0) at c.write_applied.ensures.reads)
+returns-in-Apply-clause-asks g c = rw (c.in-Apply.is) c.write_applied.ensures.asks

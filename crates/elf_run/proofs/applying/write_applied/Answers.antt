@@ -1,17 +1,35 @@
-use Rattle.elf_model.specs.Apply.{applied}
+-- What was applied is the answer, or the budget ends it.
+use Rattle.std.proofs.Common.{rules, ◌≡◌, ap, sym, refl, ◌∙◌, Err}
+use Rattle.elf_source.specs.Source.{Seen}
 use Rattle.elf_source.proofs.GrowthLaws.{grows_put, grows_then}
+use Rattle.elf_model.specs.Apply.{applied}
+use Rattle.elf_apply.specs.declared.fault.ApplyFault.TheVariants.{Refused}
+use Rattle.elf_run.proofs.BudgetLaws.{answered_whole, section_refused, section_wrote}
 use Rattle.elf_run.proofs.FrontLaws.{front_of_answer}
 use Rattle.elf_run.proofs.applying.write_applied.Goals as goal
 
+pub returns-in-Ok-clause-text : goal.returns-in-Ok-clause-text
+returns-in-Ok-clause-text g c = ?
+
+pub returns-in-Ok-show_refusal-clause-text : goal.returns-in-Ok-show_refusal-clause-text
+returns-in-Ok-show_refusal-clause-text g c = ?
+
+pub returns-in-Err-clause-text : goal.returns-in-Err-clause-text
+returns-in-Err-clause-text g c = ?
+
 pub returns-in-Err-Source-clause-text : goal.returns-in-Err-Source-clause-text
 returns-in-Err-Source-clause-text g c = λ file held.
-    front_of_answer (applied file c.args.store.now.slots c.args.section c.args.layout.now)
-    (rw c.in-Err-Source.field-0-is at (c.in-Err-Source.ensures.text file held))
+    let now = ap (λ (seen : Seen). seen.file) c.limit.ensures.seen ∙ held in
+    answered_whole c.args.caps file _ _ _
+    (front_of_answer (applied file c.args.caps.headers c.args.section c.args.layout.now)
+    (rw (c.requires.0, c.in-Err-Source.field-0-is) at (c.in-Err-Source.ensures.text file now))) tt
 
 pub returns-in-Err-Out-clause-text : goal.returns-in-Err-Out-clause-text
 returns-in-Err-Out-clause-text g c = λ file held.
-    front_of_answer (applied file c.args.store.now.slots c.args.section c.args.layout.now)
-    (rw c.in-Err-Out.field-0-is at (c.in-Err-Out.ensures.text file held))
+    let now = ap (λ (seen : Seen). seen.file) c.limit.ensures.seen ∙ held in
+    answered_whole c.args.caps file _ _ _
+    (front_of_answer (applied file c.args.caps.headers c.args.section c.args.layout.now)
+    (rw (c.requires.0, c.in-Err-Out.field-0-is) at (c.in-Err-Out.ensures.text file now))) tt
 
 pub returns-in-Ok-show_refusal-clause-grows : goal.returns-in-Ok-show_refusal-clause-grows
 returns-in-Ok-show_refusal-clause-grows g c = grows_then c.apply.ensures.grows (grows_put _ _ c.show_refusal.ensures.puts)
