@@ -2,6 +2,7 @@
 use Rattle.std.proofs.Common.{◌≡◌, ℕ, ◌==◌, ◌||◌, nat_lt, not, Bool, true, false, if◌then◌else◌, List, [], ◌∷◌, ◌++◌, length, flat_map, Option, None, Some, Result, Ok, Err, refl, sym, ap, ◌∙◌, subst}
 use Rattle.elf_model.specs.Apply.{Patch, Change, Put, Fails, apply_checks, has_no_bytes, held_bytes, patches_of, and_patches, changes_of, section_changes, places_from, patched, target_of, before_entries, applied}
 use Rattle.elf_model.specs.ApplyLaws.{AllInside}
+use Rattle.elf_model.specs.Budget.{IsBudget}
 use Rattle.elf_model.specs.Bytes.{slice}
 use Rattle.elf_model.specs.Checks.{first_refusal, is_section_outside, header_checks, load_checks}
 use Rattle.elf_model.proofs.CheckSteps.{first_refusal-none, first_refusal-some}
@@ -13,17 +14,16 @@ use Rattle.elf_model.specs.declared.causes.Refusal.{Refusal}
 use Rattle.elf_model.proofs.ApplySteps.{applied-refused, applied-fault, applied-patched}
 use Rattle.elf_model.proofs.ChangeLaws.{changes_inside}
 use Rattle.elf_source.specs.Output.{Written, TakesFront}
-use Rattle.elf_source.specs.Source.{Counting}
-use Rattle.elf_headers.specs.Faults.{HeaderRead, ReadSays}
+use Rattle.elf_headers.specs.Faults.{HeaderRead}
 use Rattle.elf_headers.specs.Load.{Belongs, LoadedAs}
 use Rattle.elf_headers.specs.Store.{Stored}
 use Rattle.elf_headers.specs.declared.fault.Fault.{Fault}
 use Rattle.elf_headers.specs.declared.fault.Fault.TheVariants.{Refused as Refuses, Source as Unread}
-use Rattle.elf_apply.specs.Applied.{HeldIs, Applies, StandsFor, text_of}
+use Rattle.elf_apply.specs.Applied.{HeldIs, Applies, StandsFor, WritesOrWants, text_of}
 use Rattle.elf_apply.specs.Entries.{target_as}
 use Rattle.elf_apply.specs.Passes.{Checks, folded, rising}
 use Rattle.elf_apply.specs.Walk.{changes_all, changes_from, sections_of}
-use Rattle.elf_apply.specs.Windows.{WritesBytes, fault_as}
+use Rattle.elf_apply.specs.Windows.{fault_as}
 use Rattle.elf_apply.specs.declared.applying.Applied.{Applied}
 use Rattle.elf_apply.specs.declared.entry.Target.{Target as TargetCode}
 use Rattle.elf_apply.specs.declared.fault.ApplyFault.{ApplyFault}
@@ -146,7 +146,7 @@ module _ (file : List ℕ) (headers : ℕ) (target : TargetCode) (at : ℕ) (bel
       → Checks (Err fault) (folded rising (true, 0) (changes_all file target)) → Applies a a result entries the_answer
   check_failed a (Refuses refusal) result is h =
       let P : Result Applied ApplyFault → Type 0 = λ r. Applies a a r entries the_answer in
-      subst P (sym is) (applied-fault file headers target.section target.layout.now refusal stands.passed (sym (of_definition patches_of) ∙ folded_err rising (true, 0) refusal (changes_all file target) h), refl)
+      subst P (sym is) (λ other. applied-fault file headers target.section target.layout.now refusal stands.passed (sym (of_definition patches_of) ∙ folded_err rising (true, 0) refusal (changes_all file target) (h other)), refl)
   check_failed a (Unread fault offset) result is h =
       let P : Result Applied ApplyFault → Type 0 = λ r. Applies a a r entries the_answer in subst P (sym is) (front_none a (text_of the_answer))
 
@@ -159,8 +159,8 @@ module _ (file : List ℕ) (headers : ℕ) (target : TargetCode) (at : ℕ) (bel
       let within = changes_inside (target_of file target.section target.layout.now) patches (sym (of_definition patches_of) ∙ h) in
       let P : ℕ → Type 0 = λ n. AllInside n patches in subst P (sym (sym long ∙ ap length stands.bytes)) within
 
-pub writes_failed : (X : Type 0) (a b : Written) (fault : ApplyFault) (text : List ℕ) (entries : ℕ) (answer : Result (List ℕ) Refusal) → answer ≡ Ok text → WritesBytes {X = X} a b (Err fault) text → Applies a b (Err fault) entries answer
-writes_failed X a b (Refused refusal) text entries answer e h = absurd h
+pub writes_failed : (X : Type 0) (a b : Written) (fault : ApplyFault) (text : List ℕ) (entries : ℕ) (answer : Result (List ℕ) Refusal) → answer ≡ Ok text → WritesOrWants {X = X} a b (Err fault) text → Applies a b (Err fault) entries answer
+writes_failed X a b (Refused refusal) text entries answer e h = (λ other. absurd (other h.0), h.1)
 writes_failed X a b (Source fault at) text entries answer e h = let P : Result (List ℕ) Refusal → Type 0 = λ r. TakesFront a b (text_of r) in subst P (sym e) h
 writes_failed X a b (Out fault) text entries answer e h = let P : Result (List ℕ) Refusal → Type 0 = λ r. TakesFront a b (text_of r) in subst P (sym e) h
 
@@ -168,10 +168,10 @@ writes_failed X a b (Out fault) text entries answer e h = let P : Result (List �
 module _ (file : List ℕ) (headers section : ℕ) (layout : Layout) (entries : ℕ) where
   failed_before :
       (a : Written) (fault : Fault) (result : Result Applied ApplyFault) → result ≡ Err (fault_as fault)
-      → ((refusal : Refusal) → fault ≡ Refuses refusal → first_refusal (before_entries file headers section) ≡ Some refusal) → Applies a a result entries (applied file headers section layout)
+      → ((refusal : Refusal) → fault ≡ Refuses refusal → (IsBudget refusal → ⊥) → first_refusal (before_entries file headers section) ≡ Some refusal) → Applies a a result entries (applied file headers section layout)
   failed_before a (Refuses refusal) result is first =
       let P : Result Applied ApplyFault → Type 0 = λ r. Applies a a r entries (applied file headers section layout) in
-      subst P (sym is) (applied-refused file headers section layout refusal (first refusal refl), refl)
+      subst P (sym is) (λ other. applied-refused file headers section layout refusal (first refusal refl other), refl)
   failed_before a (Unread fault offset) result is first =
       let P : Result Applied ApplyFault → Type 0 = λ r. Applies a a r entries (applied file headers section layout) in
       subst P (sym is) (front_none a (text_of (applied file headers section layout)))
@@ -184,22 +184,20 @@ module _ (file : List ℕ) (headers section : ℕ) (layout : Layout) (entries : 
       first_refusal-none (header_checks file ++ load_checks file headers) (apply_checks file section) (first_refusal-none (header_checks file) (load_checks file headers) passed ∙ loads)
 
   pub header_failed :
-      (a : Written) (src now : Counting) (fault : Fault) (result : Result Applied ApplyFault) → result ≡ Err (fault_as fault) → ReadSays src now fault → HeaderRead file (Err fault) → Applies a a result entries (applied file headers section layout)
-  header_failed a src now fault result is says read = failed_before a fault result is (λ refusal same.
+      (a : Written) (fault : Fault) (result : Result Applied ApplyFault) → result ≡ Err (fault_as fault) → HeaderRead file (Err fault) → Applies a a result entries (applied file headers section layout)
+  header_failed a fault result is read = failed_before a fault result is (λ refusal same other.
       let P : Fault → Type 0 = λ f. HeaderRead file (Err f) in
-      let Q : Fault → Type 0 = λ f. ReadSays src now f in
-      before_load refusal (first_refusal-some (header_checks file) (load_checks file headers) refusal (subst P same read (subst Q same says))))
+      before_load refusal (first_refusal-some (header_checks file) (load_checks file headers) refusal (subst P same read other)))
 
   pub load_failed :
-      (a : Written) (src now : Counting) (fault : Fault) (result : Result Applied ApplyFault) (store : Stored) → result ≡ Err (fault_as fault) → ReadSays src now fault → first_refusal (header_checks file) ≡ None → store.slots ≡ headers → LoadedAs file (Err fault) store
+      (a : Written) (fault : Fault) (result : Result Applied ApplyFault) (store : Stored) → result ≡ Err (fault_as fault) → first_refusal (header_checks file) ≡ None → store.slots ≡ headers → LoadedAs file (Err fault) store
       → Applies a a result entries (applied file headers section layout)
-  load_failed a src now fault result store is says passed slots read = failed_before a fault result is (λ refusal same.
+  load_failed a fault result store is passed slots read = failed_before a fault result is (λ refusal same other.
       let P : Fault → Type 0 = λ f. LoadedAs file (Err f) store in
-      let Q : Fault → Type 0 = λ f. ReadSays src now f in
-      before_load refusal (first_refusal-none (header_checks file) (load_checks file headers) passed ∙ (ap (λ n. first_refusal (load_checks file n)) (sym slots) ∙ subst P same read (subst Q same says))))
+      before_load refusal (first_refusal-none (header_checks file) (load_checks file headers) passed ∙ (ap (λ n. first_refusal (load_checks file n)) (sym slots) ∙ subst P same read other)))
 
   pub request_failed :
       (a : Written) (fault : Fault) (result : Result Applied ApplyFault) → result ≡ Err (fault_as fault) → first_refusal (header_checks file) ≡ None → first_refusal (load_checks file headers) ≡ None → HeldIs file section (Err fault)
       → Applies a a result entries (applied file headers section layout)
-  request_failed a fault result is passed loads held = failed_before a fault result is (λ refusal same.
+  request_failed a fault result is passed loads held = failed_before a fault result is (λ refusal same other.
       let P : Fault → Type 0 = λ f. HeldIs file section (Err f) in before_request passed loads ∙ subst P same held)

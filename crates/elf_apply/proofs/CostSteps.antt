@@ -134,6 +134,10 @@ load_within file header size slots section layout passes is same passed = by_cas
         omega (arith, most, is.e_shnum)
     by_cases (Some refusal) some = let most = cost_least file slots section layout passes in omega (arith, most)
 
+-- a load asks for no more section headers than there are slots
+pub load_slots : (header : Ehdr) (size slots : ℕ) → load_cost header size slots ≤ 64 * slots
+load_slots header size slots = grind arith
+
 -- what a target's passes cost is what the definition has
 pub cost_stands : (file : List ℕ) (headers : ℕ) (target : Target) (at : ℕ) (passes : ℕ) → Belongs file target.file.loaded target.file.store.now → first_refusal (header_checks file ++ early_checks file headers) ≡ None
     → length (slice file at target.size) ≡ target.size → StandsFor file headers target at

@@ -280,19 +280,19 @@ module _ (t : Target) (header rela number : ℕ) (n : number ≡ r_type t.file r
 
 -- a fault of S, L or P is the entry's
 pub does_fault : (fault : Fault) (answer : Result ℕ Refusal) (change : Change) → ValueOrRefusal {X = ℕ} (Err fault) answer → ((refusal : Refusal) → answer ≡ Err refusal → change ≡ Fails refusal) → Does (Err fault) change
-does_fault (Refused refusal) answer change h f = f refusal h
+does_fault (Refused refusal) answer change h f = λ other. f refusal (h other)
 does_fault (Source fault at) answer change h f = tt
 
 pub does_refused :
     (result : Result Placed Fault) (change : Change) (at : ℕ) (cause : Cause) → result ≡ Err (Refused (record { at = at; cause = cause }))
     → change ≡ Fails (record { at = at; cause = cause }) → Does result change
-does_refused result change at cause e h = let P : Result Placed Fault → Type 0 = λ r. Does r change in subst P (sym e) h
+does_refused result change at cause e h = let P : Result Placed Fault → Type 0 = λ r. Does r change in subst P (sym e) (λ other. h)
 
 pub changes_refused :
     (result : Result (Option Placed) Fault) (changes : List Change) (at : ℕ) (cause : Cause) → result ≡ Err (Refused (record { at = at; cause = cause }))
     → changes ≡ Fails (record { at = at; cause = cause }) ∷ [] → Changes result changes
-changes_refused result changes at cause e h = let P : Result (Option Placed) Fault → Type 0 = λ r. Changes r changes in subst P (sym e) h
+changes_refused result changes at cause e h = let P : Result (Option Placed) Fault → Type 0 = λ r. Changes r changes in subst P (sym e) (λ other. h)
 
 pub changes_fault : (fault : Fault) (changes : List Change) (change : Change) → changes ≡ change ∷ [] → Does (Err fault) change → Changes (Err fault) changes
-changes_fault (Refused refusal) changes change e h = e ∙ ap (λ x. x ∷ []) h
+changes_fault (Refused refusal) changes change e h = λ other. e ∙ ap (λ x. x ∷ []) (h other)
 changes_fault (Source fault at) changes change e h = tt

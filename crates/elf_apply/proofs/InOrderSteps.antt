@@ -20,7 +20,7 @@ use Rattle.elf_apply.specs.declared.entry.Target.{Target as TargetCode}
 use Rattle.elf_apply.specs.declared.walk.Entries.{Entries}
 use Rattle.elf_apply.specs.declared.fault.ApplyFault.{ApplyFault}
 use Rattle.elf_apply.specs.declared.fault.ApplyFault.TheVariants.{Refused, Source, Out}
-use Rattle.elf_apply.proofs.WindowSteps.{and_is, window_more, window_stopped, take_more}
+use Rattle.elf_apply.proofs.WindowSteps.{IsNotBudget, and_is, window_more, window_stopped, take_more}
 use Rattle.elf_model.proofs.Slices.{slice-size, slice-slice, slice-rest}
 
 pub slice_split : (now : List ℕ) (low n k m : ℕ) → n ≡ k + m → slice now low n ≡ slice now low k ++ slice now (low + k) m
@@ -299,6 +299,8 @@ underway_start base h left patches a low none are inside rises =
     }
 
 -- a fault of the walk, by the change that it stands for
-pub finds_refusal : (file : List ℕ) (target : TargetCode) (old new : Entries) (fault : Fault) → FindsEntry file target old new (Err fault) → (refusal : Refusal) → fault ≡ Refuses refusal → (more : List Change) × (changes_left file target old ≡ Fails refusal ∷ more)
-finds_refusal file target old new (Refuses other) finds refusal e = let same : other ≡ refusal = cc in (finds.0, finds.1 ∙ ap (λ r. Fails r ∷ finds.0) same)
-finds_refusal file target old new (Unread fault at) finds refusal e = cc
+pub finds_refusal : (file : List ℕ) (target : TargetCode) (old new : Entries) (fault : Fault) → IsNotBudget fault → FindsEntry file target old new (Err fault) → (refusal : Refusal) → fault ≡ Refuses refusal → (more : List Change) × (changes_left file target old ≡ Fails refusal ∷ more)
+finds_refusal file target old new (Refuses other) wanted finds refusal e =
+    let same : other ≡ refusal = cc in
+    let found = finds wanted in (found.0, found.1 ∙ ap (λ r. Fails r ∷ found.0) same)
+finds_refusal file target old new (Unread fault at) wanted finds refusal e = cc

@@ -1,4 +1,5 @@
 pub mod ApplySteps
+pub mod BudgetSteps
 pub mod CostSteps
 pub mod EntrySteps
 pub mod InOrderSteps
@@ -7,6 +8,7 @@ pub mod Opened
 pub mod PassSteps
 pub mod ReadLaws
 pub mod RisingSteps
+pub mod RoomSteps
 pub mod SymbolSteps
 pub mod WalkSteps
 pub mod WindowSteps

@@ -31,7 +31,7 @@ address_in-miss items item section e = rw (e, address_in) refl
 
 pub named_fault : (table : List ℕ) (index at : ℕ) (items : List (List ℕ × ℕ)) (item : List ℕ × ℕ) (fault : Fault) → ValueOrCause {X = Bool} at (Err fault) (same table index item.0) → ValueOrCause {X = Option ℕ} at (Err fault) (address_named table index (item ∷ items))
 unfolding address_named
-named_fault table index at items item (Refused refusal) h = (h.0, rw (h.1, address_named) refl)
+named_fault table index at items item (Refused refusal) h = λ other. let said = h other in (said.0, rw (said.1, address_named) refl)
 named_fault table index at items item (Source fault offset) h = tt
 
 pub named_hit : (table : List ℕ) (index : ℕ) (items : List (List ℕ × ℕ)) (item : List ℕ × ℕ) → same table index item.0 ≡ Ok true → address_named table index (item ∷ items) ≡ Ok (Some item.1)

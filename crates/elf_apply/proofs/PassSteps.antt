@@ -30,7 +30,8 @@ module _ {A : Type 0} (step : A → Patch → A) (value : A) where
   folded-fails changes rest refusal answer e h = sym h ∙ ap (folded step value) e
 
   pub folded-fault : (file : List ℕ) (target : TargetCode) (old new : Entries) (fault : Fault) (answer : Result A Refusal) → FindsEntry file target old new (Err fault) → folded step value (changes_left file target old) ≡ answer → ValueOrRefusal (Err fault) answer
-  folded-fault file target old new (Refused refusal) answer finds h = folded-fails (changes_left file target old) finds.0 refusal answer finds.1 h
+  folded-fault file target old new (Refused refusal) answer finds h = λ other.
+      let found = finds other in folded-fails (changes_left file target old) found.0 refusal answer found.1 h
   folded-fault file target old new (Source fault at) answer finds h = tt
 
 -- the same fault of a check

@@ -7,7 +7,7 @@ use Rattle.elf_model.specs.Placing.{Layout, address_in, address_named, symbol_va
 use Rattle.elf_model.specs.declared.causes.Cause.{Cause}
 use Rattle.elf_model.specs.declared.causes.Refusal.{Refusal}
 use Rattle.elf_source.specs.Source.{Counting}
-use Rattle.elf_headers.specs.Faults.{IsOfCheck, ReadSays}
+use Rattle.elf_headers.specs.Faults.{IsOfCheck, Says}
 use Rattle.elf_headers.specs.declared.fault.Fault.{Fault}
 use Rattle.elf_headers.specs.declared.fault.Fault.TheVariants.{Refused, Source}
 use Rattle.std.specs.Prelude.{IfErr}
@@ -20,17 +20,17 @@ tells_as {X = X} result a b e h = let P : Result X Refusal → Type 0 = λ r. Va
 pub tells_refused :
     {X : Type 0} (result : Result X Fault) (answer : Result X Refusal) (at : ℕ) (cause : Cause)
     → result ≡ Err (Refused (record { at = at; cause = cause })) → answer ≡ Err (record { at = at; cause = cause }) → ValueOrRefusal result answer
-tells_refused {X = X} result answer at cause e h = let P : Result X Fault → Type 0 = λ r. ValueOrRefusal r answer in subst P (sym e) h
+tells_refused {X = X} result answer at cause e h = let P : Result X Fault → Type 0 = λ r. ValueOrRefusal r answer in subst P (sym e) (λ other. h)
 
 -- a check's refusal is no fault of a read
-pub check_says : {X : Type 0} (a b : Counting) (result : Result X Fault) → IfErr result IsOfCheck → IfErr result (ReadSays a b)
-check_says a b (Ok x) check = tt
-check_says a b (Err fault) check = checked_says a b fault check
+pub check_says : {X : Type 0} (a b : Counting) (n : ℕ) (result : Result X Fault) → IfErr result IsOfCheck → IfErr result (Says a b n)
+check_says a b n (Ok x) check = tt
+check_says a b n (Err fault) check = checked_says a b n fault check
 
 -- a fault of a comparison, in the place of a value
 pub named_fault_or : (fault : Fault) (at : ℕ) (answer : Result (Option ℕ) Cause) (other : Result ℕ Refusal) → ValueOrCause {X = Option ℕ} at (Err fault) answer → ValueOrRefusal {X = ℕ} (Err fault) (named_or at answer other)
-named_fault_or (Refused refusal) at answer other h =
-    ap (λ a. named_or at a other) h.1 ∙ ap (λ k. refusal_at {A = ℕ} k refusal.cause) (sym h.0)
+named_fault_or (Refused refusal) at answer other h = λ wanted.
+    let said = h wanted in ap (λ a. named_or at a other) said.1 ∙ ap (λ k. refusal_at {A = ℕ} k refusal.cause) (sym said.0)
 named_fault_or (Source fault offset) at answer other h = tt
 
 not_common : (index : ℕ) → (index == SHN_UNDEF) ≡ false → (index == SHN_COMMON) ≡ false → (index == SHN_UNDEF || index == SHN_COMMON) ≡ false

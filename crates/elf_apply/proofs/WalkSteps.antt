@@ -226,7 +226,7 @@ refers_here file new section here h = let P : ℕ → Type 0 = λ k. RefersTo fi
 -- a section was opened, or refused
 pub opened-fault : (file : List ℕ) (target : TargetCode) (old new : Entries) (fault : Fault) → old.cursor.left ≡ 0 → old.next < sections_of target → applies_to file target.section (section_at file old.next) ≡ true
     → Relocates file (section_at file old.next) (Err fault) → Walked file target old new (Err fault)
-opened-fault file target old new (Refused refusal) none below applies h =
+opened-fault file target old new (Refused refusal) none below applies h = λ other.
     left-refused file target old refusal none below (section_fault (target_as file target) (section_at file old.next) refusal applies h)
 opened-fault file target old new (Source fault at) none below applies h = absurd h
 
@@ -265,6 +265,11 @@ cost-failed target old new before after fault same f account =
     let is : unless_failed new.cursor.failed (new.cursor.left * beside_entry_cost target) ≡ 0 = rw f refl in
     omega (arith, rest, is, account)
 
+-- the bytes that are still to be read of a section are left to ask for
+pub unread-left : (target : TargetCode) (e : Entries) → unread_bytes e.cursor ≤ walk_left target e
+unfolding walk_left
+unread-left target e = omega arith
+
 -- reads by what was left to ask for
 pub reads-left : {a b : Counting} {n : ℕ} (left left' : ℕ) → Reads a b n → b.asked + left' ≤ a.asked + left → Reads a b left
 reads-left left left' reads account = Reads-to reads (omega (arith, account))
@@ -282,7 +287,8 @@ module _ (file : List ℕ) (target : TargetCode) (old new : Entries) (at : ℕ) 
   row-nothing h = left-row file target old new at next here index less place ∙ ap (λ l. l ++ changes_left file target new) h
 
   pub row-fails : (fault : Fault) (after : Entries) → Changes (Err fault) (entry_changes (target_as file target) (section_at file old.current) at) → Walked file target old after (Err fault)
-  row-fails (Refused refusal) after h = (changes_left file target new, left-row file target old new at next here index less place ∙ ap (λ l. l ++ changes_left file target new) h)
+  row-fails (Refused refusal) after h = λ other.
+      (changes_left file target new, left-row file target old new at next here index less place ∙ ap (λ l. l ++ changes_left file target new) (h other))
   row-fails (Source fault offset) after h = tt
 
 pub reads-row : (file : List ℕ) (holds : Option (List ℕ)) (old new : Entries) → GivesRow holds old.cursor new.cursor → holds ≡ Some file → new.linked ≡ old.linked → new.current ≡ old.current → ReadsEntries file old → ReadsEntries file new

@@ -5,6 +5,7 @@ use Rattle.std.proofs.Math.Nat.{mul-le-mul_right}
 use Rattle.std.proofs.Math.Seq.{take-add}
 use Rattle.elf_model.specs.Apply.{Patch, Change, Put, Fails, put, patched, patches_of, and_patches}
 use Rattle.elf_model.specs.ApplyLaws.{AllInside, clipped}
+use Rattle.elf_model.specs.Budget.{IsBudget}
 use Rattle.elf_model.specs.Bytes.{slice}
 use Rattle.elf_model.specs.declared.causes.Refusal.{Refusal}
 use Rattle.elf_model.proofs.PatchLaws.{window_patched, length_kept}
@@ -53,11 +54,20 @@ folds_ok value expected answer h e = cc
 pub front_none : (a : Written) (text : List ℕ) → TakesFront a a text
 front_none a text = record { front = []; rest = text; split = refl; takes = Takes-nothing a }
 
+-- a fault that is no refusal for want of budget
+abbrev pub IsNotBudget : Fault → Type 0
+IsNotBudget (Refuses refusal) = IsBudget refusal → ⊥
+IsNotBudget (Unread fault at) = Unit {0}
+
+pub not_budget : (a b : Counting) (fault : Fault) → ReadSays a b fault → IsNotBudget fault
+not_budget a b (Refuses refusal) says = says
+not_budget a b (Unread fault at) says = tt
+
 -- a pass failed: a refusal can't be, and a fault of the source leaves nothing written
 pub pass_failed : (X : Type 0) (a : Written) (fault : Fault) (result : Result X ApplyFault) (text value : List ℕ) (answer : Result (List ℕ) Refusal)
-    → result ≡ Err (fault_as fault) → answer ≡ Ok text → Folds {X = X} (Err fault) value answer → WritesBytes a a result text
-pass_failed X a (Refuses refusal) result text value answer is ok folds = cc
-pass_failed X a (Unread fault at) result text value answer is ok folds =
+    → result ≡ Err (fault_as fault) → answer ≡ Ok text → IsNotBudget fault → Folds {X = X} (Err fault) value answer → WritesBytes a a result text
+pass_failed X a (Refuses refusal) result text value answer is ok other folds = let refused = folds other in cc
+pass_failed X a (Unread fault at) result text value answer is ok other folds =
     let P : Result X ApplyFault → Type 0 = λ r. WritesBytes a a r text in subst P (sym is) (front_none a text)
 
 -- a read failed

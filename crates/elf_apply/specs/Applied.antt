@@ -1,15 +1,16 @@
 -- The section with its relocations applied.
-use Rattle.std.specs.Prelude.{ℕ, ◌≡◌, ◌+◌, ◌-◌, ◌*◌, ◌^◌, ◌/◌, ◌<◌, ◌≤◌, min, true, List, [], length, None, Some, Result, Ok, Err, IfErr}
+use Rattle.std.specs.Prelude.{ℕ, ◌≡◌, ◌+◌, ◌-◌, ◌*◌, ◌^◌, ◌/◌, ◌<◌, ◌≤◌, min, Bool, true, false, MatchBool, List, [], length, None, Some, Result, Ok, Err, IfErr}
 use Rattle.elf_model.specs.Apply.{applied, apply_checks, before_entries, held_bytes}
 use Rattle.elf_model.specs.ApplyCost.{apply_cost_by_order, entries_for, layout_names_cost, offsets_never_fall}
+use Rattle.elf_model.specs.Budget.{IsBudget}
 use Rattle.elf_model.specs.Bytes.{slice}
 use Rattle.elf_model.specs.Checks.{first_refusal, header_checks}
 use Rattle.elf_model.specs.Placing.{Layout}
 use Rattle.elf_model.specs.Records.{e_shnum, section_at}
 use Rattle.elf_model.specs.declared.causes.Refusal.{Refusal}
 use Rattle.elf_source.specs.Growth.{Grows}
-use Rattle.elf_source.specs.Output.{Written, Takes, TakesFront}
-use Rattle.elf_source.specs.Source.{Counting, Reads}
+use Rattle.elf_source.specs.Output.{Written, Takes, TakesFront, OutFails}
+use Rattle.elf_source.specs.Source.{Counting, Faults, Keeps}
 use Rattle.elf_headers.specs.Load.{IsOpen, Opened}
 use Rattle.elf_headers.specs.Store.{Stored}
 use Rattle.elf_headers.specs.declared.fault.Fault.{Fault}
@@ -18,8 +19,9 @@ use Rattle.elf_apply.specs.declared.applying.Applied.{Applied}
 use Rattle.elf_apply.specs.declared.entry.Target.{Target}
 use Rattle.elf_apply.specs.declared.fault.ApplyFault.{ApplyFault}
 use Rattle.elf_apply.specs.declared.fault.ApplyFault.TheVariants.{Refused, Source, Out}
+use Rattle.elf_apply.specs.InOrder.{Rises}
 use Rattle.elf_apply.specs.Walk.{walk_all}
-use Rattle.elf_apply.specs.Windows.{ApplyFaultSays, windows}
+use Rattle.elf_apply.specs.Windows.{OfPatches, WroteBytes, windows}
 
 -- where a section's bytes stand, or the first check that fails
 abbrev pub HeldIs : List ℕ → ℕ → Result (ℕ × ℕ) Fault → Type 0
@@ -32,12 +34,12 @@ abbrev pub text_of : Result (List ℕ) Refusal → List ℕ
 text_of (Ok text) = text
 text_of (Err refusal) = []
 
--- WHAT WAS WRITTEN of an answer: all its bytes, with their number and that of the entries; nothing where it is refused; a front
--- of them at a fault
+-- WHAT WAS WRITTEN of an answer: all its bytes, with their number and that of the entries; nothing where it is refused, or for
+-- want of budget; a front of them at a fault
 abbrev pub Applies : Written → Written → Result Applied ApplyFault → ℕ → Result (List ℕ) Refusal → Type 0
 Applies old new (Ok done) entries answer =
     (text : List ℕ) × (answer ≡ Ok text) × Takes old new text × (done.size ≡ length text) × (done.entries ≡ entries)
-Applies old new (Err (Refused refusal)) entries answer = (answer ≡ Err refusal) × (new ≡ old)
+Applies old new (Err (Refused refusal)) entries answer = ((IsBudget refusal → ⊥) → answer ≡ Err refusal) × (new ≡ old)
 Applies old new (Err (Source fault at)) entries answer = TakesFront old new (text_of answer)
 Applies old new (Err (Out fault)) entries answer = TakesFront old new (text_of answer)
 
@@ -45,6 +47,33 @@ Applies old new (Err (Out fault)) entries answer = TakesFront old new (text_of a
 abbrev pub WroteMost : Written → Written → Result Applied ApplyFault → ℕ → Type 0
 WroteMost old new (Ok done) most = (done.size ≤ most) × (new.written ≡ min (old.written + done.size) (2 ^ 128 - 1))
 WroteMost old new (Err fault) most = new.written ≤ old.written + most
+
+-- what a want of budget says: a limit was set, and so many bytes more would have passed it
+pub record OverBudget (src : Counting) (n : ℕ) : Type 0 where
+  pub most : ℕ
+  pub is_set : src.most ≡ Some most
+  pub above : most < src.asked + n
+
+-- a fault is for want of budget only where so many bytes more would have passed the limit
+abbrev pub WantsBudget : Counting → ℕ → ApplyFault → Type 0
+WantsBudget src n (Refused refusal) = IsBudget refusal → OverBudget src n
+WantsBudget src n (Source fault at) = Unit {0}
+WantsBudget src n (Out fault) = Unit {0}
+
+-- what a fault says of the source and the output, by reads of at most n bytes: a refusal for want of budget is at an offset
+-- of the source, and so many bytes more would have passed the limit; a fault of the source names the read that stopped, and
+-- at a fault of the output the sink has failed
+abbrev pub ApplySays : Counting → Counting → Written → ℕ → ApplyFault → Type 0
+ApplySays old new out n (Refused refusal) = IsBudget refusal → (refusal.at < old.seen.size) × OverBudget old n
+ApplySays old new out n (Source fault at) = Faults old.seen new.seen fault × (at ≡ new.stopped)
+ApplySays old new out n (Out fault) = OutFails out fault
+
+-- WHAT WAS ASKED FOR, for every source: at most n bytes more, and never past a limit that was set; the source is kept
+pub record ReadsWithin (old new : Counting) (n : ℕ) : Type 0 where
+  pub keeps : Keeps old.seen new.seen
+  pub grows : old.asked ≤ new.asked
+  pub at_most : new.asked ≤ old.asked + n
+  pub within : (most : ℕ) → old.most ≡ Some most → new.asked ≤ most
 
 -- a target stands for a section of the file whose bytes stand at an offset, and no check before its entries fails
 pub record StandsFor (file : List ℕ) (headers : ℕ) (target : Target) (at : ℕ) : Type 0 where
@@ -64,21 +93,52 @@ behind_ceiling size headers layout = (1 + (size + 63) / 64) * (headers * (size /
 abbrev pub apply_ceiling : ℕ → ℕ → Layout → ℕ
 apply_ceiling size headers layout = 64 + 64 * headers + behind_ceiling size headers layout
 
+-- how many passes through the entries write a section of so many bytes: one for each window, and at most one where the
+-- offsets of the entries never fall
+abbrev pub write_passes : Bool → ℕ → ℕ
+write_passes true size = min 1 (windows size)
+write_passes false size = windows size
+
+-- a limit has room for the passes that write a section, or they would pass it
+abbrev pub RoomFor : Counting → ℕ → Bool → Type 0
+RoomFor src n room = MatchBool room ((most : ℕ) → src.most ≡ Some most → src.asked + n ≤ most) (OverBudget src n)
+
+-- a section whose bytes stand at an offset may be written within a limit: the target's file is that of the source, and the
+-- bytes lie within the source, whose offsets fit
+pub record HasSection (src : Counting) (target : Target) (at : ℕ) : Type 0 where
+  pub opened : IsOpen src target.file.loaded target.file.store.now
+  pub within : at + target.size ≤ src.seen.size
+  pub fits : src.seen.size < 2 ^ 64
+
+-- a text was written, or a front of it, or nothing for want of budget
+abbrev pub WritesOrWants : {X : Type 0} → Written → Written → Result X ApplyFault → List ℕ → Type 0
+WritesOrWants old new (Ok x) text = Takes old new text
+WritesOrWants old new (Err (Refused refusal)) text = IsBudget refusal × (new ≡ old)
+WritesOrWants old new (Err (Source fault at)) text = TakesFront old new text
+WritesOrWants old new (Err (Out fault)) text = TakesFront old new text
+
+-- what a call did that writes a section whose entries were checked, unless a limit has no room for the passes
+pub record WritesWithin {X : Type 0} (before after : Counting) (old new : Written) (result : Result X ApplyFault) (target : Target) (at : ℕ) (rises : Bool) : Type 0 where
+  pub says : IfErr result (ApplySays before after new (passes_cost target (write_passes rises target.size)))
+  pub reads : ReadsWithin before after (passes_cost target (write_passes rises target.size))
+  pub grows : Grows old new
+  pub wrote : WroteBytes old new result target.size
+  pub text : (file : List ℕ) → before.seen.file ≡ Some file → OfPatches target at (λ patches text. (rises ≡ true → Rises 0 patches) → WritesOrWants old new result text) file
+
 -- what a call did that checks all entries and writes the section, whose bytes stand at an offset: two passes where the
 -- offsets of the entries never fall
 pub record AppliesTarget (before after : Counting) (old new : Written) (result : Result Applied ApplyFault) (target : Target) (at : ℕ) : Type 0 where
-  pub says : IfErr result (ApplyFaultSays before after new)
-  pub reads : Reads before after (passes_cost target (1 + windows target.size))
+  pub says : IfErr result (ApplySays before after new (passes_cost target (1 + windows target.size)))
+  pub reads : ReadsWithin before after (passes_cost target (1 + windows target.size))
   pub once : (file : List ℕ) → before.seen.file ≡ Some file → (headers : ℕ) → StandsFor file headers target at → offsets_never_fall file target.section ≡ true
-      → after.asked ≤ before.asked + passes_cost target 2
+      → (after.asked ≤ before.asked + passes_cost target 2) × IfErr result (WantsBudget before (passes_cost target 2))
   pub grows : Grows old new
   pub wrote : WroteMost old new result target.size
   pub text : (file : List ℕ) → before.seen.file ≡ Some file → (headers : ℕ) → StandsFor file headers target at
       → Applies old new result (length (entries_for file target.section)) (applied file headers target.section target.layout.now)
 
--- a section of a loaded file may be written: no limit is set, and the store has all section headers of the source's file
+-- a section of a loaded file may be written: the store has all section headers of the source's file
 pub record MayApply (src : Counting) (loaded : Opened) (store : Stored) : Type 0 where
-  pub unlimited : src.most ≡ None
   pub whole : store.loaded ≡ loaded.header.e_shnum
   pub few : store.loaded ≤ store.slots
   pub opened : IsOpen src loaded store
@@ -86,11 +146,23 @@ pub record MayApply (src : Counting) (loaded : Opened) (store : Stored) : Type 0
 
 -- what a call did that writes a section of a loaded file, for whose headers there are so many slots
 pub record AppliesLoaded (before after : Counting) (old new : Written) (result : Result Applied ApplyFault) (slots section : ℕ) (layout : Layout) : Type 0 where
-  pub says : IfErr result (ApplyFaultSays before after new)
-  pub reads : Reads before after (behind_ceiling before.seen.size slots layout)
+  pub says : IfErr result (ApplySays before after new (behind_ceiling before.seen.size slots layout))
+  pub reads : ReadsWithin before after (behind_ceiling before.seen.size slots layout)
   pub cost : (file : List ℕ) → before.seen.file ≡ Some file → first_refusal (header_checks file) ≡ None
       → 64 + 64 * e_shnum file + after.asked ≤ before.asked + apply_cost_by_order file slots section layout
+  pub enough : (file : List ℕ) → before.seen.file ≡ Some file → first_refusal (header_checks file) ≡ None
+      → IfErr result (WantsBudget before (apply_cost_by_order file slots section layout - (64 + 64 * e_shnum file)))
   pub grows : Grows old new
   pub wrote : WroteMost old new result before.seen.size
   pub text : (file : List ℕ) → before.seen.file ≡ Some file → first_refusal (header_checks file) ≡ None
       → Applies old new result (length (entries_for file section)) (applied file slots section layout)
+
+-- WHAT A CALL DID that writes a section of a file, for whose headers there are so many slots
+pub record AppliesFile (before after : Counting) (old new : Written) (result : Result Applied ApplyFault) (slots section : ℕ) (layout : Layout) : Type 0 where
+  pub says : IfErr result (ApplySays before after new (apply_ceiling before.seen.size slots layout))
+  pub text : (file : List ℕ) → before.seen.file ≡ Some file → Applies old new result (length (entries_for file section)) (applied file slots section layout)
+  pub enough : (file : List ℕ) → before.seen.file ≡ Some file → IfErr result (WantsBudget before (apply_cost_by_order file slots section layout))
+  pub cost : (file : List ℕ) → before.seen.file ≡ Some file → after.asked ≤ before.asked + apply_cost_by_order file slots section layout
+  pub reads : ReadsWithin before after (apply_ceiling before.seen.size slots layout)
+  pub grows : Grows old new
+  pub wrote : WroteMost old new result before.seen.size

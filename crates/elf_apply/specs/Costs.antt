@@ -1,41 +1,37 @@
 -- What a lookup by name answers, and what it costs.
-use Rattle.std.specs.Prelude.{ℕ, ◌≡◌, ◌+◌, List, length, sum_by, None, Some, Result, Ok, Err, IfErr}
+use Rattle.std.specs.Prelude.{ℕ, ◌≡◌, ◌+◌, List, length, sum_by, Some, Result, Ok, Err, IfErr}
+use Rattle.elf_model.specs.Budget.{IsBudget}
 use Rattle.elf_model.specs.Names.{pad64}
 use Rattle.elf_model.specs.declared.causes.Cause.{Cause}
 use Rattle.elf_model.specs.declared.causes.Refusal.{Refusal}
 use Rattle.elf_record.specs.Sym.{IsSym}
 use Rattle.elf_source.specs.Source.{Counting, Reads}
-use Rattle.elf_headers.specs.Faults.{ReadSays}
+use Rattle.elf_headers.specs.Faults.{Says}
 use Rattle.elf_headers.specs.declared.fault.Fault.{Fault}
 use Rattle.elf_headers.specs.declared.fault.Fault.TheVariants.{Refused, Source}
-use Rattle.elf_table.specs.Tables.{Strings, StringsWithin, strings_in}
+use Rattle.elf_table.specs.Tables.{strings_in}
 use Rattle.elf_apply.specs.declared.lookup.Symbol.{Symbol}
 
--- an answer, or a refusal at an offset for the cause
+-- an answer, or a refusal at an offset for the cause, unless it is for want of budget
 abbrev pub ValueOrCause : {X : Type 0} → ℕ → Result X Fault → Result X Cause → Type 0
 ValueOrCause at (Ok x) answer = answer ≡ Ok x
-ValueOrCause at (Err (Refused refusal)) answer = (refusal.at ≡ at) × (answer ≡ Err refusal.cause)
+ValueOrCause at (Err (Refused refusal)) answer = (IsBudget refusal → ⊥) → (refusal.at ≡ at) × (answer ≡ Err refusal.cause)
 ValueOrCause at (Err (Source fault offset)) answer = Unit {0}
 
--- an answer, or the refusal
+-- an answer, or the refusal, unless it is for want of budget
 abbrev pub ValueOrRefusal : {X : Type 0} → Result X Fault → Result X Refusal → Type 0
 ValueOrRefusal (Ok x) answer = answer ≡ Ok x
-ValueOrRefusal (Err (Refused refusal)) answer = answer ≡ Err refusal
+ValueOrRefusal (Err (Refused refusal)) answer = (IsBudget refusal → ⊥) → answer ≡ Err refusal
 ValueOrRefusal (Err (Source fault at)) answer = Unit {0}
 
 -- what a comparison with each of some names costs
 abbrev pub items_cost : List (List ℕ × ℕ) → ℕ
 items_cost items = sum_by (λ item. pad64 (length item.0 + 1)) items
 
--- names may be read: no limit is set, and their table lies within the source
-pub record MayConsult (src : Counting) (names : Strings) : Type 0 where
-  pub unlimited : src.most ≡ None
-  pub within : StringsWithin src.seen.size names
-
 -- what a call did that reads for an answer: it asked for at most n bytes, a fault says what is so, and this holds of the file
 pub record Consults {X : Type 0} (old new : Counting) (result : Result X Fault) (n : ℕ) (Told : List ℕ → Type 0) : Type 0 where
   pub reads : Reads old new n
-  pub says : IfErr result (ReadSays old new)
+  pub says : IfErr result (Says old new n)
   pub told : (file : List ℕ) → old.seen.file ≡ Some file → Told file
 
 -- the same where the answer is a value of a symbol, by the file and the strings of its name

@@ -1,5 +1,6 @@
 -- What a relocation entry stores, as the code has it, in the words of the definitions.
-use Rattle.std.specs.Prelude.{ℕ, ◌≡◌, ◌+◌, ◌≤◌, true, false, List, [], ◌∷◌, length, Option, None, Some, Result, Ok, Err, IfOk, IfErr, IfSome}
+use Rattle.std.specs.Prelude.{ℕ, ◌≡◌, ◌+◌, ◌≤◌, true, false, List, [], ◌∷◌, length, Option, None, Some, Result, Ok, Err, IfOk, IfErr}
+use Rattle.elf_model.specs.Budget.{IsBudget}
 use Rattle.elf_model.specs.Apply.{Target, Patch, Change, Put, Fails, named_value, symbol_checks}
 use Rattle.elf_model.specs.ApplyCost.{layout_names_cost}
 use Rattle.elf_model.specs.Checks.{first_refusal}
@@ -12,11 +13,11 @@ use Rattle.elf_record.specs.Rela.{IsRela}
 use Rattle.elf_record.specs.declared.rela.Rela.{Rela}
 use Rattle.elf_reloc.specs.Types.{patched_bytes}
 use Rattle.elf_source.specs.Source.{Counting, Reads}
-use Rattle.elf_headers.specs.Faults.{ReadSays}
+use Rattle.elf_headers.specs.Faults.{Says}
 use Rattle.elf_headers.specs.declared.fault.Fault.{Fault}
 use Rattle.elf_headers.specs.declared.fault.Fault.TheVariants.{Refused, Source}
 use Rattle.elf_table.specs.Relocations.{RefersTo}
-use Rattle.elf_table.specs.Tables.{Rows, Strings, SymbolsWithin}
+use Rattle.elf_table.specs.Tables.{Rows, Strings}
 use Rattle.elf_apply.specs.Costs.{ValueOrRefusal}
 use Rattle.elf_apply.specs.declared.entry.Placed.{Placed}
 use Rattle.elf_apply.specs.declared.entry.Target.{Target as TargetCode}
@@ -33,17 +34,17 @@ patch_as placed = record { at = placed.offset; bytes = patched_bytes placed.patc
 abbrev pub IsPlacedInside : ℕ → Placed → Type 0
 IsPlacedInside size placed = placed.offset + length (patched_bytes placed.patch) ≤ size
 
--- what an entry gives: nothing, bytes that are stored, or its fault
+-- what an entry gives: nothing, bytes that are stored, or its fault, unless that is for want of budget
 abbrev pub Changes : Result (Option Placed) Fault → List Change → Type 0
 Changes (Ok None) changes = changes ≡ []
 Changes (Ok (Some placed)) changes = changes ≡ Put (patch_as placed) ∷ []
-Changes (Err (Refused refusal)) changes = changes ≡ Fails refusal ∷ []
+Changes (Err (Refused refusal)) changes = (IsBudget refusal → ⊥) → changes ≡ Fails refusal ∷ []
 Changes (Err (Source fault at)) changes = Unit {0}
 
--- what an entry of a type gives: bytes that are stored, or its fault
+-- what an entry of a type gives: bytes that are stored, or its fault, unless that is for want of budget
 abbrev pub Does : Result Placed Fault → Change → Type 0
 Does (Ok placed) change = change ≡ Put (patch_as placed)
-Does (Err (Refused refusal)) change = change ≡ Fails refusal
+Does (Err (Refused refusal)) change = (IsBudget refusal → ⊥) → change ≡ Fails refusal
 Does (Err (Source fault at)) change = Unit {0}
 
 -- a value, or the cause of its absence at an offset
@@ -75,22 +76,17 @@ taken_place formula target rela =
       | false ↦ Ok 0
     ]
 
--- symbols may be read: no limit is set, and their table lies within the source
-pub record MayConsultLinked (src : Counting) (linked : Option (Rows × Strings)) : Type 0 where
-  pub unlimited : src.most ≡ None
-  pub within : IfSome linked (SymbolsWithin src.seen.size)
-
 -- what a call did that reads what an entry at an offset stores, bytes that lie inside the section
 pub record ConsultsEntry {X : Type 0} (old new : Counting) (result : Result X Fault) (target : TargetCode) (linked : Option (Rows × Strings)) (entry : Rela) (at : ℕ) (Inside : ℕ → X → Type 0) (Told : Target → ℕ → Type 0) : Type 0 where
   pub reads : Reads old new (24 + layout_names_cost target.layout.now)
-  pub says : IfErr result (ReadSays old new)
+  pub says : IfErr result (Says old new (24 + layout_names_cost target.layout.now))
   pub inside : IfOk result (Inside target.size)
   pub change : (file : List ℕ) (header : ℕ) → old.seen.file ≡ Some file → RefersTo file header linked → IsRela file at entry → Told (target_as file target) header
 
 -- what a call did that reads S or L for the entry at an offset, which names the symbol of an index; of symbol 0 it reads nothing
 pub record ConsultsTerm (old new : Counting) (result : Result ℕ Fault) (layout : Layout) (symbol : ℕ) (linked : Option (Rows × Strings)) (at : ℕ) (formula : Formula) : Type 0 where
   pub reads : Reads old new (24 + layout_names_cost layout)
-  pub says : IfErr result (ReadSays old new)
+  pub says : IfErr result (Says old new (24 + layout_names_cost layout))
   pub unnamed : symbol ≡ 0 → new ≡ old
   pub value : (file : List ℕ) (section size header : ℕ) → old.seen.file ≡ Some file → RefersTo file header linked → symbol ≡ r_sym file at
       → ValueOrRefusal result (term_of formula (record { file = file; section = section; size = size; layout = layout }) header at)

@@ -70,7 +70,7 @@ pub record Copies {X : Type 0} (before after : Counting) (old new : Written) (re
 
 -- so many bytes at an offset may be read: no limit is set, and they lie within the source, whose offsets fit
 pub record MayRead (src : Counting) (at n : ℕ) : Type 0 where
-  pub unlimited : src.most ≡ None
+  pub free : src.most ≡ None
   pub within : at + n ≤ src.seen.size
   pub fits : src.seen.size < 2 ^ 64
 

@@ -2,9 +2,10 @@
 use Rattle.std.specs.Prelude.{ℕ, ◌≡◌, ◌+◌, ◌^◌, ◌<◌, ◌≤◌, ◌&&◌, nat_le, Bool, true, List, [], ◌∷◌, None, Some, Result, Ok, Err, IfOk, IfErr}
 use Rattle.elf_model.specs.Apply.{Patch, Change, Put, Fails, put}
 use Rattle.elf_model.specs.ApplyLaws.{clipped}
+use Rattle.elf_model.specs.Budget.{IsBudget}
 use Rattle.elf_model.specs.declared.causes.Refusal.{Refusal}
 use Rattle.elf_source.specs.Source.{Counting, Reads}
-use Rattle.elf_headers.specs.Faults.{ReadSays}
+use Rattle.elf_headers.specs.Faults.{Says}
 use Rattle.elf_headers.specs.Load.{IsOpen}
 use Rattle.elf_headers.specs.declared.fault.Fault.{Fault}
 use Rattle.elf_headers.specs.declared.fault.Fault.TheVariants.{Refused, Source}
@@ -26,28 +27,28 @@ rising so_far patch = (so_far.0 && nat_le so_far.1 patch.at, patch.at)
 abbrev pub storing : ℕ → ℕ → List ℕ → Patch → List ℕ
 storing low n window patch = put (clipped low n patch) window
 
--- a pass has a value, or the first fault
+-- a pass has a value, or the first fault, unless it is refused for want of budget
 abbrev pub Folds : {X A : Type 0} → Result X Fault → A → Result A Refusal → Type 0
 Folds (Ok x) value answer = answer ≡ Ok value
-Folds (Err (Refused refusal)) value answer = answer ≡ Err refusal
+Folds (Err (Refused refusal)) value answer = (IsBudget refusal → ⊥) → answer ≡ Err refusal
 Folds (Err (Source fault at)) value answer = Unit {0}
 
--- the entries were checked: whether their offsets never fall, and the last one; or the first fault
+-- the entries were checked: whether their offsets never fall, and the last one; or the first fault, unless it is refused for
+-- want of budget
 abbrev pub Checks : Result Checked Fault → Result (Bool × ℕ) Refusal → Type 0
 Checks (Ok found) answer = answer ≡ Ok (found.rises, found.low)
-Checks (Err (Refused refusal)) answer = answer ≡ Err refusal
+Checks (Err (Refused refusal)) answer = (IsBudget refusal → ⊥) → answer ≡ Err refusal
 Checks (Err (Source fault at)) answer = Unit {0}
 
 -- what a pass did that checks all entries
 pub record ChecksAll (old new : Counting) (result : Result Checked Fault) (target : Target) : Type 0 where
   pub reads : Reads old new (walk_all target)
-  pub says : IfErr result (ReadSays old new)
+  pub says : IfErr result (Says old new (walk_all target))
   pub counted : IfOk result (λ found. found.entries ≡ entries_from target 0)
   pub checked : (file : List ℕ) → old.seen.file ≡ Some file → Checks result (folded rising (true, 0) (changes_all file target))
 
 -- a window of n bytes at an offset may be patched: it lies inside the section, and the entries may be read
 pub record MayPatch (src : Counting) (target : Target) (low n : ℕ) : Type 0 where
-  pub unlimited : src.most ≡ None
   pub opened : IsOpen src target.file.loaded target.file.store.now
   pub within : low + n ≤ target.size
   pub fits : target.size < 2 ^ 64

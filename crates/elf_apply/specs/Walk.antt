@@ -2,13 +2,14 @@
 use Rattle.std.specs.Prelude.{ℕ, ◌≡◌, ◌+◌, ◌-◌, ◌*◌, ◌^◌, ◌<◌, ◌≤◌, true, false, List, [], ◌∷◌, ◌++◌, flat_map, Option, None, Some, Result, Ok, Err, IfOk, IfErr, IfSome}
 use Rattle.elf_model.specs.Apply.{Change, Put, Fails, applies_to, entry_changes, places_from, section_changes}
 use Rattle.elf_model.specs.ApplyCost.{layout_names_cost}
+use Rattle.elf_model.specs.Budget.{IsBudget}
 use Rattle.elf_model.specs.Checks.{first_refusal, table_checks_of}
 use Rattle.elf_model.specs.Cost.{sum_over}
 use Rattle.elf_model.specs.Records.{sh_offset, section_at}
 use Rattle.elf_model.specs.Tables.{RELA_SIZE, entry_at, entry_count}
 use Rattle.elf_source.specs.Source.{Counting, Reads}
 use Rattle.elf_table.specs.Cursors.{HoldsRows, unread_bytes, unless_failed}
-use Rattle.elf_headers.specs.Faults.{IsOfCheck, ReadSays}
+use Rattle.elf_headers.specs.Faults.{IsOfCheck, Says}
 use Rattle.elf_headers.specs.Load.{Belongs, IsOpen, section_place}
 use Rattle.elf_table.specs.Relocations.{RefersTo}
 use Rattle.elf_headers.specs.Store.{row}
@@ -104,19 +105,19 @@ pub record ReadsEntries (file : List ℕ) (e : Entries) : Type 0 where
 abbrev pub CountsEntries : TargetCode → Entries → Entries → Type 0
 CountsEntries target old new = new.count + entries_from target new.next ≡ old.count + entries_from target old.next
 
--- a step of the walk
+-- a step of the walk; a refusal for want of budget says nothing of the entries
 abbrev pub Walked : List ℕ → TargetCode → Entries → Entries → Result Step Fault → Type 0
 Walked file target old new (Ok (Stores placed)) = (changes_left file target old ≡ Put (patch_as placed) ∷ changes_left file target new) × ReadsEntries file new
 Walked file target old new (Ok Nothing) = (changes_left file target old ≡ changes_left file target new) × ReadsEntries file new
 Walked file target old new (Ok End) = changes_left file target old ≡ []
-Walked file target old new (Err (Refused refusal)) = (rest : List Change) × (changes_left file target old ≡ Fails refusal ∷ rest)
+Walked file target old new (Err (Refused refusal)) = (IsBudget refusal → ⊥) → (rest : List Change) × (changes_left file target old ≡ Fails refusal ∷ rest)
 Walked file target old new (Err (Source fault at)) = Unit {0}
 
--- the next entry that stores bytes
+-- the next entry that stores bytes; a refusal for want of budget says nothing of the entries
 abbrev pub FindsEntry : List ℕ → TargetCode → Entries → Entries → Result (Option Placed) Fault → Type 0
 FindsEntry file target old new (Ok (Some placed)) = (changes_left file target old ≡ Put (patch_as placed) ∷ changes_left file target new) × ReadsEntries file new
 FindsEntry file target old new (Ok None) = changes_left file target old ≡ []
-FindsEntry file target old new (Err (Refused refusal)) = (rest : List Change) × (changes_left file target old ≡ Fails refusal ∷ rest)
+FindsEntry file target old new (Err (Refused refusal)) = (IsBudget refusal → ⊥) → (rest : List Change) × (changes_left file target old ≡ Fails refusal ∷ rest)
 FindsEntry file target old new (Err (Source fault at)) = Unit {0}
 
 abbrev pub StepInside : ℕ → Step → Type 0
@@ -138,14 +139,8 @@ abbrev pub FoundFewer : TargetCode → Entries → Entries → Option Placed →
 FoundFewer target old new (Some placed) = steps_left target new < steps_left target old
 FoundFewer target old new None = entries_from target new.next ≡ 0
 
--- the entries may be read: no limit is set, and the target's file is that of the source
-pub record MayPass (src : Counting) (target : TargetCode) : Type 0 where
-  pub unlimited : src.most ≡ None
-  pub opened : IsOpen src target.file.loaded target.file.store.now
-
--- a walk over them may go on
+-- a walk over the entries may go on: the target's file is that of the source
 pub record MayWalk (src : Counting) (target : TargetCode) (e : Entries) : Type 0 where
-  pub unlimited : src.most ≡ None
   pub opened : IsOpen src target.file.loaded target.file.store.now
   pub goes : Goes src.seen.size target e
 
@@ -160,7 +155,7 @@ pub record BeginsWalk (e : Entries) : Type 0 where
 -- what a call did that goes to the next entry that stores bytes
 pub record GoesToNext (before after : Counting) (target : TargetCode) (old new : Entries) (result : Result (Option Placed) Fault) : Type 0 where
   pub asks : AsksOf before after target old new
-  pub says : IfErr result (ReadSays before after)
+  pub says : IfErr result (Says before after (walk_left target old))
   pub goes : IfOk result (λ found. Goes before.seen.size target new)
   pub fewer : IfOk result (FoundFewer target old new)
   pub counts : IfOk result (λ found. CountsEntries target old new)
@@ -170,7 +165,7 @@ pub record GoesToNext (before after : Counting) (target : TargetCode) (old new :
 -- what a step did
 pub record GoesOneStep (before after : Counting) (target : TargetCode) (old new : Entries) (result : Result Step Fault) : Type 0 where
   pub asks : AsksOf before after target old new
-  pub says : IfErr result (ReadSays before after)
+  pub says : IfErr result (Says before after (walk_left target old))
   pub goes : IfOk result (λ step. Goes before.seen.size target new)
   pub fewer : IfOk result (StepFewer target old new)
   pub counts : IfOk result (λ step. CountsEntries target old new)

@@ -47,13 +47,13 @@ abbrev pub IsUnread : Fault → Type 0
 IsUnread (Refuses refusal) = ⊥
 IsUnread (Unread fault at) = Unit {0}
 
--- a section whose bytes stand at an offset may be written: the entries may be read, the bytes lie within the source, and
--- offsets up to a limit fit
-pub record MayWrite (src : Counting) (target : Target) (at limit : ℕ) : Type 0 where
-  pub unlimited : src.most ≡ None
+-- a section whose bytes stand at an offset may be written: no limit is set, the target's file is that of the source, the
+-- bytes lie within the source, and offsets up to a bound fit
+pub record MayWrite (src : Counting) (target : Target) (at bound : ℕ) : Type 0 where
+  pub free : src.most ≡ None
   pub opened : IsOpen src target.file.loaded target.file.store.now
   pub within : at + target.size ≤ src.seen.size
-  pub fits : limit < 2 ^ 64
+  pub fits : bound < 2 ^ 64
 
 -- what a call did that writes: it asked for at most n bytes and wrote m, or no more at a fault, which says what is so; and
 -- this holds of the file

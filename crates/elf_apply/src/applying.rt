@@ -5,14 +5,15 @@ ghost use Rattle.elf_model.specs.Apply.{applied, has_no_bytes};
 ghost use Rattle.elf_model.specs.ApplyCost.{apply_cost_by_order, entries_for};
 ghost use Rattle.elf_record.specs.Shdr.{IsShdr};
 ghost use Rattle.elf_source.specs.Growth.{Grows};
-ghost use Rattle.elf_source.specs.Source.{Reads};
 ghost use Rattle.elf_headers.specs.Faults.{IsOfCheck};
 ghost use Rattle.elf_headers.specs.Load.{Belongs};
-ghost use Rattle.elf_apply.specs.Applied.{Applies, AppliesLoaded, AppliesTarget, HeldIs};
-ghost use Rattle.elf_apply.specs.Applied.{MayApply, WroteMost, apply_ceiling};
+ghost use Rattle.elf_apply.specs.Applied.{Applies, AppliesFile, AppliesLoaded, AppliesTarget};
+ghost use Rattle.elf_apply.specs.Applied.{ApplySays, HasSection, HeldIs, MayApply, RoomFor};
+ghost use Rattle.elf_apply.specs.Applied.{ReadsWithin, WantsBudget, WritesWithin, WroteMost};
+ghost use Rattle.elf_apply.specs.Applied.{apply_ceiling, passes_cost, write_passes};
 ghost use Rattle.elf_apply.specs.InOrder.{Rises};
-ghost use Rattle.elf_apply.specs.Walk.{walk_all};
-ghost use Rattle.elf_apply.specs.Windows.{ApplyFaultSays, MayWrite, OfPatches, WritesBytes};
+ghost use Rattle.elf_apply.specs.Walk.{entries_from, walk_all};
+ghost use Rattle.elf_apply.specs.Windows.{MayWrite, OfPatches, WritesBytes};
 ghost use Rattle.elf_apply.specs.Windows.{WritesOut, windows};
 
 use crate::entry::Target;
@@ -20,11 +21,11 @@ use crate::fault::ApplyFault;
 use crate::in_order::write_in_order;
 use crate::layout::Layout;
 use crate::lookup::refused;
-use crate::passes::check;
+use crate::passes::{Checked, check};
 use crate::windows::write_windows;
 use elf_headers::ends_outside;
 use elf_record::numbers::{EM_X86_64, ET_REL, SHT_NOBITS, SHT_NULL};
-use elf_record::{Cause, Shdr};
+use elf_record::{Cause, Refusal, Shdr};
 use elf_source::{Counted, Out, Sink, Source};
 use elf_table::{Fault, File, HeaderStore, Loaded, header, load};
 
@@ -104,6 +105,55 @@ fn write_section<S: Source, W: Sink>(
     write_windows(src, target, at, out)
 }
 
+/// How many passes through the entries write so many bytes: one for each window, and at most one
+/// where the offsets of the entries never fall.
+fn write_passes(rises: bool, size: u64) -> u64
+    ensures { result ≡ write_passes rises size }
+{
+    let windows = size.div_ceil(64);
+    if rises { windows.min(1) } else { windows }
+}
+
+/// Whether what is left of a limit has room for what the passes that write may ask for at most.
+fn has_room<S: Source>(src: &Counted<S>, target: &Target<'_>, checked: &Checked) -> bool
+    requires { checked.now.entries ≡ entries_from target.now 0 }
+    ensures { RoomFor src.now (passes_cost target.now
+        (write_passes checked.now.rises target.now.size)) result }
+{
+    let Some(left) = src.left() else {
+        return true;
+    };
+    let each = 48 + target.layout.names_cost();
+    let passes = u128::from(write_passes(checked.rises, target.size));
+    let walks = passes.saturating_mul(checked.entries.saturating_mul(each));
+    walks.saturating_add(u128::from(target.size)) <= u128::from(left)
+}
+
+/// Writes the section, whose entries were checked and whose bytes stand at the file offset `at`.
+/// Where a limit has no room for it, it is refused before the first byte; else the limit is taken
+/// away, as the passes ask for no more than it has left.
+fn write_checked<S: Source, W: Sink>(
+    src: &mut Counted<S>,
+    target: &Target<'_>,
+    at: u64,
+    checked: &Checked,
+    out: &mut Out<W>,
+) -> Result<(), ApplyFault>
+    requires may { HasSection src.old target.now at }
+    requires counted { checked.now.entries ≡ entries_from target.now 0 }
+    ensures { WritesWithin src.old src.new out.old out.new result target.now at
+        checked.now.rises }
+{
+    if !has_room(src, target, checked) {
+        return Err(ApplyFault::Refused(Refusal {
+            at,
+            cause: Cause::Budget,
+        }));
+    }
+    src.limit(None);
+    write_section(src, target, at, checked.rises, out)
+}
+
 /// Checks all entries, and then writes the section, whose bytes stand at the file offset `at`.
 fn apply_target<S: Source, W: Sink>(
     src: &mut Counted<S>,
@@ -111,11 +161,11 @@ fn apply_target<S: Source, W: Sink>(
     at: u64,
     out: &mut Out<W>,
 ) -> Result<Applied, ApplyFault>
-    requires { MayWrite src.old target.now at src.old.seen.size }
+    requires { HasSection src.old target.now at }
     ensures { AppliesTarget src.old src.new out.old out.new result target.now at }
 {
     let checked = check(src, target)?;
-    write_section(src, target, at, checked.rises, out)?;
+    write_checked(src, target, at, &checked, out)?;
     Ok(Applied {
         size: target.size,
         entries: checked.entries,
@@ -152,7 +202,8 @@ fn apply_loaded<S: Source, W: Sink>(
 /// psABI, Relocation). A section of the type NOBITS or NULL has no bytes. The store is loaded with
 /// the file's section headers. All entries are checked before the first byte is written; then the
 /// section is written in one pass where their offsets never fall, and else window by window, 64
-/// bytes each.
+/// bytes each. Where a limit is set on the source no byte past it is asked for; afterwards no limit
+/// is set.
 ///
 /// # Errors
 /// The first refusal, with nothing written where the file is known: the header's and the load's;
@@ -161,7 +212,10 @@ fn apply_loaded<S: Source, W: Sink>(
 /// then, section by section of entries, its table's checks, and for each entry, at its offset,
 /// `Unsupported`, `PlaceOutside`, `BadLink`, `SymbolIndex`, `Undefined`, `Unplaced`, `Overflow`;
 /// the fault of a name that is compared is at its symbol's offset. A fault of the source or of the
-/// output: what went out is a front of the section. It never refuses for want of budget.
+/// output: what went out is a front of the section. `Budget`, with nothing written, only where a
+/// limit is set that the cost would pass: at the offset of the read that it has no room for, or at
+/// the section's own offset in the file where what is left of it is less than what the passes that
+/// write may ask for. Then more of the limit may be left unused.
 pub fn apply<S: Source, W: Sink>(
     src: &mut Counted<S>,
     store: &mut HeaderStore,
@@ -169,20 +223,41 @@ pub fn apply<S: Source, W: Sink>(
     layout: &Layout,
     out: &mut Out<W>,
 ) -> Result<Applied, ApplyFault>
-    // No limit is set.
-    requires unlimited { src.old.most ≡ None }
     ensures slots { store.new.slots ≡ store.old.slots }
-    ensures says { IfErr result (ApplyFaultSays src.old src.new out.new) }
+    ensures says { IfErr result (ApplySays src.old src.new out.new
+        (apply_ceiling src.old.seen.size store.old.slots layout.now)) }
     ensures text { (file : List ℕ) → src.old.seen.file ≡ Some file →
         Applies out.old out.new result (length (entries_for file section))
         (applied file store.old.slots section layout.now) }
+    // Never for want of budget where the cost fits.
+    ensures enough { (file : List ℕ) → src.old.seen.file ≡ Some file →
+        IfErr result (WantsBudget src.old
+        (apply_cost_by_order file store.old.slots section layout.now)) }
     ensures cost { (file : List ℕ) → src.old.seen.file ≡ Some file → src.new.asked
         ≤ src.old.asked + apply_cost_by_order file store.old.slots section layout.now }
-    // For every source.
-    ensures reads { Reads src.old src.new
+    // For every source; never past a limit that was set.
+    ensures reads { ReadsWithin src.old src.new
         (apply_ceiling src.old.seen.size store.old.slots layout.now) }
+    ensures free { src.new.most ≡ None }
     ensures grows { Grows out.old out.new }
     ensures wrote { WroteMost out.old out.new result src.old.seen.size }
+{
+    let result = apply_within(src, store, section, layout, out);
+    src.limit(None);
+    result
+}
+
+/// Writes the bytes of a section within the limit, where one is set.
+fn apply_within<S: Source, W: Sink>(
+    src: &mut Counted<S>,
+    store: &mut HeaderStore,
+    section: u16,
+    layout: &Layout,
+    out: &mut Out<W>,
+) -> Result<Applied, ApplyFault>
+    ensures slots { store.new.slots ≡ store.old.slots }
+    ensures applies { AppliesFile src.old src.new out.old out.new result store.old.slots section
+        layout.now }
 {
     let header = header(src)?;
     let loaded = load(src, store, &header)?;

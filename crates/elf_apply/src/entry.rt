@@ -4,9 +4,9 @@ ghost use Rattle.elf_model.specs.Apply.{change_of, entry_changes};
 ghost use Rattle.elf_model.specs.Records.{r_offset};
 ghost use Rattle.elf_model.specs.declared.causes.Cause.TheVariants.{Unplaced};
 ghost use Rattle.elf_reloc.specs.Types.{IsSized, IsWidth, formula_as, type_as};
+ghost use Rattle.elf_table.specs.Tables.{SymbolsWithin};
 ghost use Rattle.elf_apply.specs.Entries.{Changes, ConsultsEntry, ConsultsTerm, Does};
-ghost use Rattle.elf_apply.specs.Entries.{IsPlacedInside, MayConsultLinked};
-ghost use Rattle.elf_apply.specs.Entries.{target_as, taken_place, value_or};
+ghost use Rattle.elf_apply.specs.Entries.{IsPlacedInside, target_as, taken_place, value_or};
 
 use crate::layout::Layout;
 use crate::lookup::{Symbol, address_in, linkage_value, refused, symbol_value};
@@ -47,7 +47,7 @@ pub(crate) fn entry_change<S: Source>(
     at: u64,
     linked: Linked,
 ) -> Result<Option<Placed>, Fault>
-    requires { MayConsultLinked src.old linked }
+    requires within { IfSome linked (SymbolsWithin src.old.seen.size) }
     ensures { ConsultsEntry src.old src.new result target.now linked entry.now at
         (λ size found. IfSome found (IsPlacedInside size))
         (λ target header. Changes result (entry_changes target header at)) }
@@ -74,7 +74,7 @@ fn stored<S: Source>(
     linked: Linked,
     found: RelocationType,
 ) -> Result<Placed, Fault>
-    requires linked { MayConsultLinked src.old linked }
+    requires within { IfSome linked (SymbolsWithin src.old.seen.size) }
     requires width { IsWidth found.width }
     requires sized { IsSized found.range found.width }
     ensures { ConsultsEntry src.old src.new result target.now linked entry.now at IsPlacedInside
@@ -121,7 +121,7 @@ fn named_value<S: Source>(
     linked: Linked,
     formula: Formula,
 ) -> Result<u64, Fault>
-    requires { MayConsultLinked src.old linked }
+    requires within { IfSome linked (SymbolsWithin src.old.seen.size) }
     ensures { ConsultsTerm src.old src.new result layout.now symbol linked at
         (formula_as formula) }
 {

@@ -255,7 +255,7 @@ fn copy_page<S: Source, W: Sink>(
     page: &mut [u8],
     out: &mut Out<W>,
 ) -> Result<(), ApplyFault>
-    requires unlimited { src.old.most ≡ None }
+    requires free { src.old.most ≡ None }
     requires few { length page.old ≤ 4096 }
     requires within { at + length page.old ≤ src.old.seen.size }
     ensures { Copies src.old src.new out.old out.new result (length page.old) (λ file.

@@ -1,10 +1,11 @@
 //! The addresses that are given for sections, names and procedure linkage table entries.
-ghost use Rattle.std.specs.Prelude.{◌≡◌, ◌≤◌, ◌<◌, ℕ, List, [], length, MatchBool};
+ghost use Rattle.std.specs.Prelude.{◌≡◌, ◌≤◌, ◌<◌, ◌^◌, ℕ, List, [], length, MatchBool};
+ghost use Rattle.elf_model.specs.ApplyCost.{layout_names_cost};
 ghost use Rattle.elf_model.specs.Placing.{address_in};
 ghost use Rattle.elf_apply.specs.Layouts.{Adds, IsName, NamesOf, Pushes, HasKey, LacksKey};
 
 use crate::lookup::address_in;
-use crate::named::{Named, has_name};
+use crate::named::{Named, has_name, names_cost};
 use arrayvec::ArrayVec;
 use std::marker::Model;
 use thiserror::Error;
@@ -106,6 +107,14 @@ impl Layout {
         ensures { result.now ≡ self.now.linkage }
     {
         self.entries.as_slice()
+    }
+
+    /// How many bytes a comparison with each of the names may ask for.
+    pub(crate) fn names_cost(&self) -> u128
+        ensures value { result ≡ layout_names_cost self.now }
+        ensures few { result < 2 ^ 74 }
+    {
+        names_cost(self.definitions()) + names_cost(self.linkage())
     }
 
     /// Puts an item behind those of its sort. A name is copied; it has 1 to 255 bytes, none a NUL.

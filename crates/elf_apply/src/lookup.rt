@@ -6,9 +6,9 @@ ghost use Rattle.elf_model.specs.Placing.{placed_at, symbol_value, undefined_val
 ghost use Rattle.elf_model.specs.Records.{st_name};
 ghost use Rattle.elf_record.specs.Sym.{IsSym};
 ghost use Rattle.elf_headers.specs.Faults.{IsOfCheck};
-ghost use Rattle.elf_table.specs.Tables.{strings_in};
-ghost use Rattle.elf_apply.specs.Costs.{Consults, ConsultsSymbol, MayConsult};
-ghost use Rattle.elf_apply.specs.Costs.{ValueOrCause, ValueOrRefusal, items_cost};
+ghost use Rattle.elf_table.specs.Tables.{StringsWithin, strings_in};
+ghost use Rattle.elf_apply.specs.Costs.{Consults, ConsultsSymbol, ValueOrCause};
+ghost use Rattle.elf_apply.specs.Costs.{ValueOrRefusal, items_cost};
 
 use crate::layout::Layout;
 use crate::named::Named;
@@ -53,7 +53,7 @@ fn address_named<S: Source>(
     symbol: &Symbol,
     items: &[Named],
 ) -> Result<Option<u64>, Fault>
-    requires { MayConsult src.old symbol.now.names }
+    requires within { StringsWithin src.old.seen.size symbol.now.names }
     ensures { Consults src.old src.new result (items_cost items.now)
         (λ file. ValueOrCause symbol.now.at result (address_named
         (strings_in file symbol.now.names) symbol.now.fields.st_name items.now)) }
@@ -105,7 +105,7 @@ fn defined_value<S: Source>(
     symbol: &Symbol,
     entry: u64,
 ) -> Result<u64, Fault>
-    requires { MayConsult src.old symbol.now.names }
+    requires within { StringsWithin src.old.seen.size symbol.now.names }
     ensures { ConsultsSymbol src.old src.new result symbol.now
         (items_cost layout.now.definitions) (λ file strings. named_or symbol.now.at
         (address_named strings (st_name file symbol.now.at) layout.now.definitions)
@@ -126,7 +126,7 @@ pub(crate) fn symbol_value<S: Source>(
     symbol: &Symbol,
     entry: u64,
 ) -> Result<u64, Fault>
-    requires { MayConsult src.old symbol.now.names }
+    requires within { StringsWithin src.old.seen.size symbol.now.names }
     ensures { ConsultsSymbol src.old src.new result symbol.now
         (items_cost layout.now.definitions)
         (λ file strings. symbol_value file strings layout.now entry symbol.now.at) }
@@ -151,7 +151,7 @@ pub(crate) fn linkage_value<S: Source>(
     symbol: &Symbol,
     entry: u64,
 ) -> Result<u64, Fault>
-    requires { MayConsult src.old symbol.now.names }
+    requires within { StringsWithin src.old.seen.size symbol.now.names }
     ensures { ConsultsSymbol src.old src.new result symbol.now (layout_names_cost layout.now)
         (λ file strings. linkage_value file strings layout.now entry symbol.now.at) }
 {

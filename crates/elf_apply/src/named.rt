@@ -1,5 +1,6 @@
 //! A name with its address.
-ghost use Rattle.std.specs.Prelude.{◌≡◌, ◌≢◌, ◌≤◌, [], length, All, Any, MatchBool};
+ghost use Rattle.std.specs.Prelude.{◌≡◌, ◌≢◌, ◌≤◌, ◌<◌, ◌^◌, [], length, All, Any, MatchBool};
+ghost use Rattle.elf_apply.specs.Costs.{items_cost};
 ghost use Rattle.elf_apply.specs.Layouts.{HasKey, LacksKey};
 
 use std::marker::Model;
@@ -86,4 +87,19 @@ pub(crate) fn has_name(items: &[Named], name: &[u8]) -> bool
         }
     }
     false
+}
+
+/// How many bytes a comparison with each of some names may ask for: each name with its NUL, in whole
+/// pieces of 64.
+pub(crate) fn names_cost(items: &[Named]) -> u128
+    ensures value { result ≡ items_cost items.now }
+    ensures few { result < 2 ^ 73 }
+{
+    let mut cost = 0;
+    let mut i = 0;
+    while i < items.len() {
+        cost += 64 * (items[i].name().len() as u128 + 1).div_ceil(64);
+        i += 1;
+    }
+    cost
 }

@@ -2,10 +2,11 @@
 ghost use Rattle.std.specs.Prelude.{◌≡◌, ◌+◌, ◌<◌, ◌^◌, ◌&&◌, nat_le, length};
 ghost use Rattle.elf_model.specs.Apply.{put};
 ghost use Rattle.elf_model.specs.ApplyLaws.{clipped};
+ghost use Rattle.elf_headers.specs.Load.{IsOpen};
 ghost use Rattle.elf_apply.specs.Costs.{Consults};
 ghost use Rattle.elf_apply.specs.Entries.{patch_as};
 ghost use Rattle.elf_apply.specs.Passes.{ChecksAll, Folds, MayPatch, folded, storing};
-ghost use Rattle.elf_apply.specs.Walk.{MayPass, changes_all, walk_all};
+ghost use Rattle.elf_apply.specs.Walk.{changes_all, walk_all};
 
 use crate::entry::{Placed, Target};
 use crate::walk::Entries;
@@ -28,7 +29,7 @@ pub(crate) struct Checked {
 /// # Errors
 /// The first refusal, or a fault of the source.
 pub(crate) fn check<S: Source>(src: &mut Counted<S>, target: &Target<'_>) -> Result<Checked, Fault>
-    requires { MayPass src.old target.now }
+    requires opened { IsOpen src.old target.now.file.loaded target.now.file.store.now }
     ensures { ChecksAll src.old src.new result target.now }
 {
     let mut entries = Entries::new();

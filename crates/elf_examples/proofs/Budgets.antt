@@ -79,28 +79,16 @@ whole_answer file headers cap parts text fault text_is fault_is =
 -- what a budget allows is shown with the status of its fault
 pub allowed_shown : (budget : Option ℕ) (file : List ℕ) (headers cap parts : ℕ) (text : List ℕ) (fault : Option Refusal)
     → IsBudgeted budget file headers cap parts text fault → IsShown budget file headers cap parts (answer_by text fault)
-allowed_shown None file headers cap parts text fault is = whole_answer file headers cap parts text fault is.text_is is.fault_is
-allowed_shown (Some budget) file headers cap parts text fault (inl is) =
-    inl (whole_answer file headers cap parts text fault is.text_is is.fault_is)
-allowed_shown (Some budget) file headers cap parts text fault (inr is) = inr (is.0, ap status_of is.1.fault_is, (fault, is.1))
+allowed_shown budget file headers cap parts text fault is = record { fault = fault; listed = is; status_is = refl }
 
 -- what is shown a budget allows, and its status is that of its fault
 abbrev Allowed : Option ℕ → List ℕ → ℕ → ℕ → ℕ → Answer → Type 0
 Allowed budget file headers cap parts answer =
     (fault : Option Refusal) × IsBudgeted budget file headers cap parts answer.text fault × (answer.status ≡ status_of fault)
 
-whole_allowed : (file : List ℕ) (headers cap parts : ℕ) (answer : Answer) → answer ≡ show_answer file headers cap parts
-    → IsReport (items file headers cap parts) answer.text (report_fault file headers cap parts)
-whole_allowed file headers cap parts answer is = record { text_is = ap (λ a. a.text) is; fault_is = refl }
-
 pub shown_allowed : (budget : Option ℕ) (file : List ℕ) (headers cap parts : ℕ) (answer : Answer)
     → IsShown budget file headers cap parts answer → Allowed budget file headers cap parts answer
-shown_allowed None file headers cap parts answer is =
-    (report_fault file headers cap parts, whole_allowed file headers cap parts answer is, ap (λ a. a.status) is)
-shown_allowed (Some budget) file headers cap parts answer (inl is) =
-    (report_fault file headers cap parts, inl (whole_allowed file headers cap parts answer is), ap (λ a. a.status) is)
-shown_allowed (Some budget) file headers cap parts answer (inr (dear, status, (fault, cut))) =
-    (fault, inr (dear, cut), status ∙ sym (ap status_of cut.fault_is))
+shown_allowed budget file headers cap parts answer shown = (shown.fault, shown.listed, shown.status_is)
 
 whole_shown : (budget : Option ℕ) (file : List ℕ) (headers cap parts : ℕ) → IsShown budget file headers cap parts (show_answer file headers cap parts)
 whole_shown None file headers cap parts =

@@ -9,7 +9,7 @@ use Rattle.elf_headers.specs.Faults.{IsOfRead}
 use Rattle.elf_headers.specs.declared.fault.Fault.{Fault}
 use Rattle.elf_headers.specs.declared.fault.Fault.TheVariants.{Refused, Source}
 use Rattle.elf_source.specs.Source.{Counting}
-use Rattle.elf_headers.specs.Ledger.{Costs, stop_of}
+use Rattle.elf_headers.specs.Ledger.{Charges, why_stopped}
 use Rattle.elf_hash.specs.Lookups.{Compares, Looks, Walks, step_bytes, symbol_bytes, walk_bytes}
 use Rattle.elf_hash.specs.Tables.{IsTable}
 use Rattle.elf_hash.specs.declared.hash_table.HashTable.{HashTable}
@@ -122,7 +122,7 @@ module _ (file : List ℕ) (at : ℕ) (wanted : List ℕ) where
 -- and so it does what the lookup does
 pub looks :
     (file : List ℕ) (at : ℕ) (wanted : List ℕ) {old new : Counting} (spent : ℕ) (result : Result Lookup Fault)
-    → ((most : ℕ) → spent ≤ most → Costs old new (stop_of result) most) → Meets file at wanted spent result
+    → ((most : ℕ) → spent ≤ most → Charges old new (why_stopped result) most) → Meets file at wanted spent result
     → Looks file (looked_up file at wanted) old new result 4 (length wanted)
 looks file at wanted spent result costs meets = record { costs = costs _ meets.within; finds = meets.finds }
 

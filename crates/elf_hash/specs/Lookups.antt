@@ -11,7 +11,7 @@ use Rattle.elf_record.specs.declared.sym.Sym.{Sym}
 use Rattle.elf_source.specs.Source.{Counting}
 use Rattle.elf_headers.specs.declared.fault.Fault.{Fault}
 use Rattle.elf_headers.specs.declared.fault.Fault.TheVariants.{Refused, Source}
-use Rattle.elf_headers.specs.Ledger.{Costs, stop_of}
+use Rattle.elf_headers.specs.Ledger.{Charges, why_stopped}
 use Rattle.elf_hash.specs.declared.lookup.Lookup.{Lookup}
 use Rattle.elf_hash.specs.declared.lookup.Lookup.TheVariants.{Found, Absent}
 
@@ -56,7 +56,7 @@ Walks file looked (Err (Source fault at)) = Unit {0}
 
 -- WHAT A LOOKUP DOES in a known file: it costs a few bytes and a step for each name that it compares, and finds what it gives
 pub record Looks (file : List ℕ) (looked : Looked) (old new : Counting) (result : Result Lookup Fault) (few length : ℕ) : Type 0 where
-  pub costs : Costs old new (stop_of result) (few + looked.compared * step_bytes length)
+  pub costs : Charges old new (why_stopped result) (few + looked.compared * step_bytes length)
   pub finds : Walks file looked result
 
 -- a symbol's name is compared: the symbol where it is the wanted one, nothing where it is another, or a refusal at the symbol
@@ -76,5 +76,5 @@ pub record Passed (file : List ℕ) (headers : ℕ) : Type 0 where
 
 -- WHAT A LOOKUP OF A NAME DOES in a known file: it costs no more than the definition's, and finds what that gives
 pub record Finds (file : List ℕ) (headers : ℕ) (wanted : List ℕ) (old new : Counting) (result : Result Lookup Fault) : Type 0 where
-  pub costs : Costs old new (stop_of result) (find_cost file headers wanted)
+  pub costs : Charges old new (why_stopped result) (find_cost file headers wanted)
   pub finds : Walks file (looked file headers wanted) result

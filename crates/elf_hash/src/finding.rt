@@ -1,6 +1,6 @@
 //! The call that looks a name up.
 ghost use Rattle.std.specs.Prelude.{◌≡◌, ℕ, ◌/◌, ◌≤◌, length, IfOk};
-ghost use Rattle.elf_headers.specs.Ledger.{Did, stop_of};
+ghost use Rattle.elf_headers.specs.Ledger.{Did, why_stopped};
 ghost use Rattle.elf_hash.specs.Lookups.{Finds, Looks, Passed, behind_bytes, find_bytes, steps_of};
 ghost use Rattle.elf_model.specs.Find.{looked};
 ghost use Rattle.elf_headers.specs.Load.{Belongs};
@@ -35,7 +35,7 @@ pub fn find<S: Source>(
     wanted: &[u8],
 ) -> Result<Lookup, Fault>
     requires most { length wanted.now ≤ 4096 }
-    ensures did { Did src.old src.new (stop_of result)
+    ensures did { Did src.old src.new (why_stopped result)
         (find_bytes src.old.seen.size store.old.slots (length wanted.now))
         (λ file. Finds file store.old.slots wanted.now src.old src.new result) }
     ensures slots { store.new.slots ≡ store.old.slots }
@@ -50,7 +50,7 @@ pub fn find<S: Source>(
 fn find_in<S: Source>(src: &mut Counted<S>, file: &File<'_>, wanted: &[u8]) -> Result<Lookup, Fault>
     requires most { length wanted.now ≤ 4096 }
     requires size { file.now.loaded.size ≡ src.old.seen.size }
-    ensures did { Did src.old src.new (stop_of result)
+    ensures did { Did src.old src.new (why_stopped result)
         (behind_bytes (src.old.seen.size / 4) (length wanted.now))
         (λ bytes. (headers : ℕ) → Belongs bytes file.now.loaded file.now.store.now →
         Passed bytes headers →

@@ -1,6 +1,6 @@
 //! The walk along the chain of a name.
 ghost use Rattle.std.specs.Prelude.{◌≡◌, ℕ, ◌+◌, ◌*◌, ◌<◌, ◌≤◌, List, length, IfOk, IsTrue};
-ghost use Rattle.elf_headers.specs.Ledger.{Did, IsRead, stop_of};
+ghost use Rattle.elf_headers.specs.Ledger.{Did, IsRead, why_stopped};
 ghost use Rattle.elf_hash.specs.Lookups.{Compares, Looks, steps_of, symbol_bytes, walk_bytes};
 ghost use Rattle.elf_hash.specs.Tables.{HasCounts, IsSection, IsTable, Lies};
 ghost use Rattle.elf_model.specs.Bytes.{field};
@@ -24,7 +24,7 @@ pub(crate) fn counted<S: Source>(
     section: &HashSection,
 ) -> Result<HashTable, Fault>
     requires lies { Lies src.old.seen.size section.now }
-    ensures did { Did src.old src.new (stop_of result) 8
+    ensures did { Did src.old src.new (why_stopped result) 8
         (λ file. (at : ℕ) → IsSection file at section.now → HasCounts file at result) }
     ensures same { IfOk result (λ table. table.section ≡ section.now) }
 {
@@ -61,7 +61,7 @@ pub(crate) fn walk<S: Source>(
 ) -> Result<Lookup, Fault>
     requires most { length wanted.now ≤ 4096 }
     requires lies { Lies src.old.seen.size table.now.section }
-    ensures did { Did src.old src.new (stop_of result)
+    ensures did { Did src.old src.new (why_stopped result)
         (walk_bytes table.now.nchain (length wanted.now))
         (λ file. (at : ℕ) → IsTable file at table.now →
         Looks file (looked_up file at wanted.now) src.old src.new result 4 (length wanted.now)) }
@@ -118,7 +118,7 @@ fn named<S: Source>(
     requires most { length wanted.now ≤ 4096 }
     requires below { index < section.now.symbols.count }
     requires lies { Lies src.old.seen.size section.now }
-    ensures { Did src.old src.new (stop_of result) (symbol_bytes (length wanted.now))
+    ensures { Did src.old src.new (why_stopped result) (symbol_bytes (length wanted.now))
         (λ file. (at : ℕ) → IsSection file at section.now →
         Compares file at wanted.now index result) }
 {
@@ -135,7 +135,7 @@ fn named<S: Source>(
 /// A fault of the read, or a refusal for want of budget, at the offset.
 fn read_word<S: Source>(src: &mut Counted<S>, at: u64) -> Result<u32, Fault>
     requires { at + 4 ≤ src.old.seen.size }
-    ensures { Did src.old src.new (stop_of result) 4 (λ file. IsRead result (field file at 4)) }
+    ensures { Did src.old src.new (why_stopped result) 4 (λ file. IsRead result (field file at 4)) }
 {
     let mut bytes = [0; 4];
     fill(src, at, &mut bytes)?;

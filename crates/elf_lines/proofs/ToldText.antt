@@ -11,32 +11,32 @@ use Rattle.elf_model.specs.Text.{digit, hex}
 use Rattle.elf_model.specs.Lines.{name_byte_text}
 use Rattle.elf_source.specs.Output.{Written}
 use Rattle.elf_lines.specs.Pieces.{TakesBefore}
-use Rattle.elf_lines.specs.Told.{IsPlain, told, told_byte}
+use Rattle.elf_lines.specs.Told.{IsPlain, told_byte, told_text}
 use Rattle.elf_lines.proofs.Pieces.{TakesBefore-more, TakesBefore-then}
 
 -- the bytes that are left are the next byte and those behind it
-told-next : (text : List ℕ) (i : ℕ) → i < length text → told (drop i text) ≡ told_byte (get_or text i 0) ++ told (drop (i + 1) text)
-unfolding told
+told-next : (text : List ℕ) (i : ℕ) → i < length text → told_text (drop i text) ≡ told_byte (get_or text i 0) ++ told_text (drop (i + 1) text)
+unfolding told_text
 told-next text i inside = rw (add-one, drop-cons text i 0 inside) refl
 
 -- no bytes are left
-pub told-none : (items text : List ℕ) (i : ℕ) → length text ≤ i → items ++ told (drop i text) ≡ items
-unfolding told
+pub told-none : (items text : List ℕ) (i : ℕ) → length text ≤ i → items ++ told_text (drop i text) ≡ items
+unfolding told_text
 told-none items text i over = rw (drop_all i text over) (append-nil items)
 
 -- a byte is put behind a line that may have been begun anew
 pub told-more : {a b c : Written} {whole line room put : List ℕ} (text : List ℕ) (i : ℕ)
-    → i < length text → TakesBefore a b whole (line ++ told (drop i text))
+    → i < length text → TakesBefore a b whole (line ++ told_text (drop i text))
     → TakesBefore b c line room → put ≡ room ++ told_byte (get_or text i 0)
-    → TakesBefore a c whole (put ++ told (drop (i + 1) text))
+    → TakesBefore a c whole (put ++ told_text (drop (i + 1) text))
 told-more {a} {b} {c} {whole} {line} {room} {put} text i inside before made is =
     let byte = told_byte (get_or text i 0) in
-    let rest = told (drop (i + 1) text) in
-    let same : room ++ told (drop i text) ≡ put ++ rest =
+    let rest = told_text (drop (i + 1) text) in
+    let same : room ++ told_text (drop i text) ≡ put ++ rest =
     ap (λ xs. room ++ xs) (told-next text i inside)
     ∙ sym (append_assoc room byte rest)
     ∙ ap (λ xs. xs ++ rest) (sym is) in
-    rw (sym same) (TakesBefore-then before (TakesBefore-more (told (drop i text)) made))
+    rw (sym same) (TakesBefore-then before (TakesBefore-more (told_text (drop i text)) made))
 
 -- a hexadecimal digit is a printing character
 digit-plain : (n : ℕ) → n < 16 → IsPlain (digit n)
@@ -69,10 +69,10 @@ byte-plain byte = elim (cases_Bool (byte == 10)) [
 ]
 
 -- a text is told in plain bytes
-pub told-plain : (text : List ℕ) → All IsPlain (told text)
-unfolding told
+pub told-plain : (text : List ℕ) → All IsPlain (told_text text)
+unfolding told_text
 told-plain [] = All-nil IsPlain
-told-plain (byte ∷ bytes) = All-append IsPlain (told_byte byte) (told bytes) (byte-plain byte) (told-plain bytes)
+told-plain (byte ∷ bytes) = All-append IsPlain (told_byte byte) (told_text bytes) (byte-plain byte) (told-plain bytes)
 
 -- a plain byte that is no backslash stands as it is
 byte-stands : (byte : ℕ) → IsPlain byte → byte ≢ 0x5c → told_byte byte ≡ byte ∷ []
@@ -86,8 +86,8 @@ byte-stands byte (inr prints) other =
     rw (a, b, c, d) refl
 
 -- a plain text without a backslash stands as it is
-pub told-stands : (text : List ℕ) → All IsPlain text → All (λ byte. byte ≢ 0x5c) text → told text ≡ text
-unfolding told
+pub told-stands : (text : List ℕ) → All IsPlain text → All (λ byte. byte ≢ 0x5c) text → told_text text ≡ text
+unfolding told_text
 told-stands [] plain others = refl
 told-stands (byte ∷ bytes) plain others =
     rw (

@@ -8,9 +8,9 @@ unfoldable pub told_byte : ℕ → List ℕ
 told_byte byte = if byte == 10 then newline else name_byte_text byte
 
 -- the bytes of a text, each as it is told
-unfoldable pub told : List ℕ → List ℕ
-told [] = []
-told (byte ∷ bytes) = told_byte byte ++ told bytes
+unfoldable pub told_text : List ℕ → List ℕ
+told_text [] = []
+told_text (byte ∷ bytes) = told_byte byte ++ told_text bytes
 
 -- a byte on which no terminal acts but by beginning a line: a newline, or a printing ASCII character
 abbrev pub IsPlain : ℕ → Type 0

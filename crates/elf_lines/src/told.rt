@@ -2,7 +2,7 @@
 ghost use Rattle.std.specs.Prelude.{◌≡◌, ◌+◌, ◌≤◌, ◌≢◌, ◌++◌, All};
 ghost use Rattle.arrayvec.specs.ArrayVec.{array_vec_len};
 ghost use Rattle.elf_source.specs.Output.{Puts};
-ghost use Rattle.elf_lines.specs.Told.{IsPlain, told, told_byte};
+ghost use Rattle.elf_lines.specs.Told.{IsPlain, told_byte, told_text};
 
 use crate::columns::Line;
 use crate::named::{make_room, put_name_byte};
@@ -15,10 +15,10 @@ use elf_source::{Out, OutFault, Sink};
 /// # Errors
 /// A fault of the output, with a front of the text written.
 pub fn show_told<W: Sink>(text: &[u8], out: &mut Out<W>) -> Result<(), OutFault>
-    ensures puts { Puts out.old out.new result (told text.now) }
-    ensures plain { All IsPlain (told text.now) }
+    ensures puts { Puts out.old out.new result (told_text text.now) }
+    ensures plain { All IsPlain (told_text text.now) }
     ensures stands { All IsPlain text.now → All (λ byte. byte ≢ 0x5c) text.now →
-        told text.now ≡ text.now }
+        told_text text.now ≡ text.now }
 {
     let mut line = Line::new();
     for byte in text {

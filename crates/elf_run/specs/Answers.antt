@@ -52,14 +52,14 @@ pub record AnswersWithin (caps : Caps) (file : List ℕ) (cost : ℕ) (whole : A
   pub used : Used answer
 
 -- the answer of a lookup in a file
-abbrev pub AnswersLookup : List ℕ → Caps → List ℕ → Counting → Counting → Written → Written → Result ℕ RunFault → Type 0
-AnswersLookup file caps wanted before after old new result =
+abbrev pub GivesLookup : List ℕ → Caps → List ℕ → Counting → Counting → Written → Written → Result ℕ RunFault → Type 0
+GivesLookup file caps wanted before after old new result =
     let whole = find_answer file caps.headers wanted in
     AnswersWithin caps file (find_cost file caps.headers wanted) whole old new result (WholeOrUsedUp caps before after result whole)
 
 -- the answer of an applied section of a file
-abbrev pub AnswersApplied : List ℕ → Caps → ℕ → Layout → Written → Written → Result ℕ RunFault → Type 0
-AnswersApplied file caps section layout old new result =
+abbrev pub GivesSection : List ℕ → Caps → ℕ → Layout → Written → Written → Result ℕ RunFault → Type 0
+GivesSection file caps section layout old new result =
     AnswersWithin caps file (apply_cost_by_order file caps.headers section layout) (apply_answer file caps.headers section layout) old new result (λ answer. ⊤)
 
 -- no more is asked for than n bytes, and than the budget

@@ -11,13 +11,13 @@ use Rattle.elf_apply.specs.Applied.{apply_ceiling}
 use Rattle.elf_listing.specs.declared.end.RunFault.{RunFault}
 use Rattle.elf_words.specs.declared.requests.Task.{Task}
 use Rattle.elf_words.specs.declared.requests.Task.TheVariants.{Show, Find, Apply}
-use Rattle.elf_run.specs.Answers.{Answers, AnswersApplied, AnswersLookup, AsksAs, AsksUpTo}
+use Rattle.elf_run.specs.Answers.{Answers, GivesSection, GivesLookup, AsksAs, AsksUpTo}
 
 -- THE ANSWER: what a task gives of a file
 abbrev pub GivesAnswer : List ℕ → Caps → Task → Counting → Counting → Written → Written → Result ℕ RunFault → Type 0
 GivesAnswer file caps (Show parts) before after old new result = Answers file caps parts.0 before after old new result
-GivesAnswer file caps (Find wanted) before after old new result = AnswersLookup file caps wanted.bytes.now before after old new result
-GivesAnswer file caps (Apply section layout) before after old new result = AnswersApplied file caps section layout.now old new result
+GivesAnswer file caps (Find wanted) before after old new result = GivesLookup file caps wanted.bytes.now before after old new result
+GivesAnswer file caps (Apply section layout) before after old new result = GivesSection file caps section layout.now old new result
 
 -- what a task costs
 abbrev pub task_cost : List ℕ → Caps → Task → ℕ

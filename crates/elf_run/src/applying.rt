@@ -4,7 +4,7 @@ ghost use Rattle.elf_apply.specs.Applied.{apply_ceiling};
 ghost use Rattle.elf_model.specs.ApplyCost.{apply_cost_by_order};
 ghost use Rattle.elf_source.specs.Growth.{Grows};
 ghost use Rattle.elf_listing.specs.Reports.{FaultSays, Leaves};
-ghost use Rattle.elf_run.specs.Answers.{AnswersApplied, AsksUpTo};
+ghost use Rattle.elf_run.specs.Answers.{GivesSection, AsksUpTo};
 
 use elf_apply::{ApplyFault, Layout, apply};
 use elf_listing::{RunFault, show_refusal};
@@ -31,7 +31,7 @@ pub(crate) fn write_applied<S: Source, W: Sink>(
     ensures leaves { Leaves src.old src.new }
     ensures says { IfErr result (FaultSays src.old src.new out.new) }
     ensures text { (file : List ℕ) → src.old.seen.file ≡ Some file →
-        AnswersApplied file caps section layout.now out.old out.new result }
+        GivesSection file caps section layout.now out.old out.new result }
     ensures cost { (file : List ℕ) → src.old.seen.file ≡ Some file → src.new.asked
         ≤ src.old.asked + apply_cost_by_order file caps.headers section layout.now }
     // For every source.

@@ -6,7 +6,7 @@ ghost use Rattle.elf_model.specs.Hash.{Lookup as Looked};
 ghost use Rattle.elf_source.specs.Growth.{Grows};
 ghost use Rattle.elf_source.specs.Output.{OutFails};
 ghost use Rattle.elf_listing.specs.Reports.{FaultSays, Leaves};
-ghost use Rattle.elf_run.specs.Answers.{AnswersLookup, AsksUpTo};
+ghost use Rattle.elf_run.specs.Answers.{GivesLookup, AsksUpTo};
 ghost use Rattle.elf_run.specs.Lookups.{WroteLines, lookup_answer};
 
 use elf_hash::{Lookup, find};
@@ -35,7 +35,7 @@ pub(crate) fn look_up<S: Source, W: Sink>(
     ensures leaves { Leaves src.old src.new }
     ensures says { IfErr result (FaultSays src.old src.new out.new) }
     ensures text { (file : List ℕ) → src.old.seen.file ≡ Some file →
-        AnswersLookup file caps wanted.now src.old src.new out.old out.new result }
+        GivesLookup file caps wanted.now src.old src.new out.old out.new result }
     ensures cost { (file : List ℕ) → src.old.seen.file ≡ Some file →
         src.new.asked ≤ src.old.asked + find_cost file caps.headers wanted.now }
     // For every source.

@@ -8,6 +8,7 @@ use Rattle.elf_apply.proofs.EntrySteps.{term_zero, term_unlinked, term_beyond, t
 use Rattle.elf_apply.proofs.LookupSteps.{names_cost}
 use Rattle.elf_table.proofs.RelocationLaws.{refers, refers-nowhere}
 use Rattle.elf_apply.proofs.SymbolSteps.{tells_as, tells_refused}
+use Rattle.elf_apply.proofs.ReadLaws.{says_then}
 use Rattle.elf_apply.proofs.entry.named_value.Goals as goal
 
 abbrev the_target : List ℕ → ℕ → ℕ → Layout → Target
@@ -64,7 +65,9 @@ returns-else-takes_linkage g c = record {
   reads =
       let p = Reads-then c.symbol.ensures.reads c.symbol_value.ensures.reads in
       Reads-to p (omega (arith, p.at_most, names_cost c.args.layout.now));
-  says = search rules;
+  says =
+      let first = c.symbol.ensures.reads in
+      says_then c.args.src.now c.symbol.new.src c.symbol_value.new.src _ _ _ c.symbol_value.result first (omega (arith, first.at_most, names_cost c.args.layout.now)) c.symbol_value.ensures.says;
   unnamed = search rules;
   value = λ file section size header held linked symbol.
       let to = refers file header _ c.in-Some.found c.in-Some.is linked in

@@ -1,26 +1,25 @@
 use Rattle.std.proofs.Common.{rules, ap, Err, arith, ◌∙◌}
 use Rattle.std.proofs.lemmas.Result.{err_from_is_err_and}
 use Rattle.elf_apply.proofs.InOrderSteps.{unread_kept}
-use Rattle.elf_apply.proofs.ReadLaws.{unread}
+use Rattle.elf_apply.proofs.ReadLaws.{not_over, unread}
 use Rattle.elf_apply.proofs.WindowSteps.{fault_says, read_failed, front_written}
-use Rattle.elf_headers.proofs.LoadLaws.{unlimited}
 use Rattle.elf_apply.proofs.in_order.copy_page.Goals as goal
 
 pub returns-in_err-fill : goal.returns-in_err-fill
 returns-in_err-fill g c = record {
   says =
       let p = err_from_is_err_and c.from_residual.result c.from_residual.ensures.1 in
-      rw (p.1, p.2) (fault_says c.args.src.now c.fill.new.src c.args.out.now c.in_err-fill.field-0.0 (unlimited c.args.src.now c.fill.new.src _ c.in_err-fill.field-0.0 c.requires.unlimited c.in_err-fill.ensures.says));
+      rw (p.1, p.2) (fault_says c.args.src.now c.fill.new.src c.args.out.now c.in_err-fill.field-0.0 (not_over c.args.src.now c.fill.new.src _ c.in_err-fill.field-0.0 c.requires.free c.in_err-fill.ensures.says));
   kept =
       let p = err_from_is_err_and c.from_residual.result c.from_residual.ensures.1 in
-      rw (p.1) (unread_kept c.in_err-fill.field-0.0 p.0 p.2 (unread c.args.src.now c.fill.new.src _ _ c.in_err-fill.field-0.0 c.requires.unlimited c.in_err-fill.ensures.says c.in_err-fill.ensures.at));
+      rw (p.1) (unread_kept c.in_err-fill.field-0.0 p.0 p.2 (unread c.args.src.now c.fill.new.src _ _ c.in_err-fill.field-0.0 c.requires.free c.in_err-fill.ensures.says c.in_err-fill.ensures.at));
   reads = search rules;
   grows = search rules;
   wrote = search rules;
   text = λ file held.
       let p = err_from_is_err_and c.from_residual.result c.from_residual.ensures.1 in
       read_failed (Unit {0}) c.args.out.now c.in_err-fill.field-0.0 _ _ (p.1 ∙ ap Err p.2)
-      (unread c.args.src.now c.fill.new.src _ _ c.in_err-fill.field-0.0 c.requires.unlimited c.in_err-fill.ensures.says c.in_err-fill.ensures.at);
+      (unread c.args.src.now c.fill.new.src _ _ c.in_err-fill.field-0.0 c.requires.free c.in_err-fill.ensures.says c.in_err-fill.ensures.at);
 }
 
 pub returns-in_err-put : goal.returns-in_err-put

@@ -8,8 +8,8 @@ use Rattle.elf_model.specs.Bytes.{slice}
 use Rattle.elf_apply.specs.Walk.{walk_all, walk_left}
 use Rattle.elf_apply.specs.Entries.{patch_as}
 use Rattle.elf_apply.proofs.InOrderSteps.{underway_start, underway_first, underway_next, underway_stopped, underway_end, underway_failed, finds_refusal}
-use Rattle.elf_apply.proofs.ReadLaws.{ReadSays-then}
-use Rattle.elf_apply.proofs.WindowSteps.{fault_says}
+use Rattle.elf_apply.proofs.ReadLaws.{not_over, ReadSays-then}
+use Rattle.elf_apply.proofs.WindowSteps.{not_budget, fault_says}
 use Rattle.elf_source.proofs.GrowthLaws.{grows_not, grows_then}
 use Rattle.elf_model.proofs.Slices.{slice-size}
 use Rattle.elf_apply.proofs.in_order.write_in_order.Goals as goal
@@ -102,7 +102,7 @@ returns-in_err-placed g c = record {
   says =
       let p = err_from_is_err_and c.from_residual.result c.from_residual.ensures.1 in
       rw (p.1, p.2) (fault_says c.args.src.now c.next.new.src c.entries.out c.in_err-placed.field-0.0
-      (ReadSays-then c.args.src.now c.entries.src c.next.new.src _ c.in_err-placed.field-0.0 c.entries.invariant.reads_most c.in_err-placed.ensures.says));
+      (ReadSays-then c.args.src.now c.entries.src c.next.new.src _ c.in_err-placed.field-0.0 c.entries.invariant.reads_most (not_over c.entries.src c.next.new.src _ c.in_err-placed.field-0.0 (c.entries.invariant.reads_most.same_limit ∙ c.requires.free) c.in_err-placed.ensures.says)));
   reads = search rules;
   grows = c.entries.invariant.grows;
   wrote = search rules;
@@ -112,13 +112,14 @@ returns-in_err-placed g c = record {
       let way = known.left file held patches are inside rises in
       let base : List ℕ = slice file c.args.at c.args.target.now.size in
       underway_failed base (patched patches base) c.entries.held _ _ _ way (Unit {0}) c.in_err-placed.field-0.0 c.from_residual.result
-      (finds_refusal file c.args.target.now c.entries.entries c.next.new.self c.in_err-placed.field-0.0 (c.in_err-placed.ensures.finds file (known.reads_most.keeps.same_file ∙ held) (known.reads file held)))
+      (finds_refusal file c.args.target.now c.entries.entries c.next.new.self c.in_err-placed.field-0.0
+      (not_budget c.entries.src c.next.new.src _ (not_over c.entries.src c.next.new.src _ c.in_err-placed.field-0.0 (known.reads_most.same_limit ∙ c.requires.free) c.in_err-placed.ensures.says))
+      (c.in_err-placed.ensures.finds file (known.reads_most.keeps.same_file ∙ held) (known.reads file held)))
       (p.1 ∙ ap Err p.2);
 }
 
 pub next-requires : goal.next-requires
 next-requires g c = record {
-  unlimited = search rules;
   opened = still_open _ _ c.entries.invariant.reads_most c.requires.opened;
   goes = search rules;
 }

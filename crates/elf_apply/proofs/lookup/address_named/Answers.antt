@@ -2,8 +2,7 @@ use Rattle.elf_apply.specs.Costs.{items_cost}
 use Rattle.std.proofs.Common.{rules, ◌≤◌, drop, sym, ap, ◌∙◌, ◌+◌, arith, Ok, Some}
 use Rattle.elf_source.proofs.ReadsLaws.{Reads-then, Reads-to}
 use Rattle.elf_apply.proofs.LookupSteps.{step_hit, step_miss, step_fault, step_none, cost_step}
-use Rattle.elf_apply.proofs.ReadLaws.{refuses_answers}
-use Rattle.elf_headers.proofs.LoadLaws.{unlimited}
+use Rattle.elf_apply.proofs.ReadLaws.{Says-then, refuses_answers}
 use Rattle.elf_apply.proofs.lookup.address_named.Goals as goal
 
 pub returns-in-Ok-true : goal.returns-in-Ok-true
@@ -25,12 +24,14 @@ returns-in-Err g c = record {
       let known = c.loop-i.invariant in
       let cost = cost_step c.loop-i.i c.args.items.now c.index-items-i.result c.name.result.now c.loop-i-test.true c.index-items-i.is c.name.ensures.value in
       Reads-to (Reads-then known.reads c.equals.ensures.reads) (omega (arith, cost, known.asked, c.equals.ensures.reads.at_most));
-  says = search rules;
+  says =
+      let known = c.loop-i.invariant in
+      let cost = cost_step c.loop-i.i c.args.items.now c.index-items-i.result c.name.result.now c.loop-i-test.true c.index-items-i.is c.name.ensures.value in
+      Says-then c.args.src.now c.loop-i.src c.equals.new.src _ _ _ c.in-Err.fault known.reads (omega (arith, cost, known.asked)) c.in-Err.ensures.says;
   told = λ file held.
       let known = c.loop-i.invariant in
-      let says = unlimited c.loop-i.src c.equals.new.src _ c.in-Err.fault (known.reads.same_limit ∙ c.requires.unlimited) c.in-Err.ensures.says in
       step_fault _ c.args.symbol.now.fields.st_name c.args.symbol.now.at c.loop-i.i c.args.items.now c.index-items-i.result c.name.result.now c.in-Err.fault _ c.loop-i-test.true c.index-items-i.is c.name.ensures.value
-      (known.left file held) (refuses_answers c.loop-i.src c.equals.new.src _ c.in-Err.fault _ says (rw c.from-off.ensures at c.in-Err.ensures.compared file (known.reads.keeps.same_file ∙ held)));
+      (known.left file held) (refuses_answers _ c.in-Err.fault _ (rw c.from-off.ensures at c.in-Err.ensures.compared file (known.reads.keeps.same_file ∙ held)));
 }
 
 pub loop-i-preserved : goal.loop-i-preserved

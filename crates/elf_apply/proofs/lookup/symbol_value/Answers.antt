@@ -32,7 +32,7 @@ returns-in-Common g c = record {
 pub returns-in-Section : goal.returns-in-Section
 returns-in-Section g c = record {
   reads = search rules;
-  says = check_says c.args.src.now c.args.src.now c.placed_at.result c.placed_at.ensures.refusal;
+  says = check_says c.args.src.now c.args.src.now _ c.placed_at.result c.placed_at.ensures.refusal;
   told = λ file held decoded.
       tells_as c.placed_at.result _ _
       (value_placed file _ c.args.layout.now c.args.entry c.args.symbol.now.at _ decoded.st_shndx _ _ decoded.st_value c.in-Section.ensures

@@ -7,6 +7,7 @@ use Rattle.elf_apply.specs.Passes.{folded, rising}
 use Rattle.elf_apply.specs.Walk.{changes_left}
 use Rattle.elf_apply.specs.Entries.{patch_as}
 use Rattle.elf_apply.proofs.PassSteps.{folded-some, folded-none, folded-fault, checks_fault}
+use Rattle.elf_apply.proofs.ReadLaws.{Says-then}
 use Rattle.elf_apply.proofs.passes.check.Goals as goal
 
 pub entries-init : goal.entries-init
@@ -52,7 +53,7 @@ returns-in-Ok-None g c = record {
 pub returns-in-Err : goal.returns-in-Err
 returns-in-Err g c = record {
   reads = search rules;
-  says = search rules;
+  says = Says-then c.args.src.now c.entries.src c.next.new.src _ _ _ c.in-Err.fault c.entries.invariant.most (omega (arith, c.entries.invariant.asked)) c.in-Err.ensures.says;
   counted = search rules;
   checked = λ file held.
       let known = c.entries.invariant in
@@ -62,7 +63,6 @@ returns-in-Err g c = record {
 
 pub next-requires : goal.next-requires
 next-requires g c = record {
-  unlimited = search rules;
   opened = still_open _ _ c.entries.invariant.most c.requires.opened;
   goes = search rules;
 }

@@ -7,6 +7,7 @@ use Rattle.elf_apply.specs.Passes.{folded, storing}
 use Rattle.elf_apply.specs.Walk.{changes_left}
 use Rattle.elf_apply.specs.Entries.{patch_as}
 use Rattle.elf_apply.proofs.PassSteps.{folded-some, folded-none, folded-fault, folds-fault}
+use Rattle.elf_apply.proofs.ReadLaws.{Says-then}
 use Rattle.elf_apply.proofs.passes.patch_window.Goals as goal
 
 pub entries-init : goal.entries-init
@@ -51,7 +52,7 @@ returns-in-Ok-None g c = record {
 pub returns-in-Err : goal.returns-in-Err
 returns-in-Err g c = record {
   reads = search rules;
-  says = search rules;
+  says = Says-then c.args.src.now c.entries.src c.next.new.src _ _ _ c.in-Err.fault c.entries.invariant.most (omega (arith, c.entries.invariant.asked)) c.in-Err.ensures.says;
   told = λ file held.
       let known = c.entries.invariant in
       folds-fault (Unit {0}) c.in-Err.fault _ _ (folded-fault (storing c.args.low (length c.args.window.now)) c.entries.window file c.args.target.now c.entries.entries c.next.new.self c.in-Err.fault _
@@ -60,7 +61,6 @@ returns-in-Err g c = record {
 
 pub next-requires : goal.next-requires
 next-requires g c = record {
-  unlimited = search rules;
   opened = still_open _ _ c.entries.invariant.most c.requires.opened;
   goes = search rules;
 }

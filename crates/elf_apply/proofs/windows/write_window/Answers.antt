@@ -2,9 +2,8 @@ use Rattle.std.proofs.Common.{rules, ap, ◌∙◌, ◌+◌, ◌≤◌, arith, l
 use Rattle.std.proofs.lemmas.Result.{err_from_is_err_and}
 use Rattle.elf_headers.proofs.OpenLaws.{still_open}
 use Rattle.elf_apply.specs.Walk.{changes_all}
-use Rattle.elf_apply.proofs.ReadLaws.{unread, ReadSays-then}
-use Rattle.elf_apply.proofs.WindowSteps.{window_done, folds_ok, pass_failed, takes_as, front_as, read_failed, front_written, fault_says}
-use Rattle.elf_headers.proofs.LoadLaws.{unlimited}
+use Rattle.elf_apply.proofs.ReadLaws.{not_over, unread, ReadSays-then}
+use Rattle.elf_apply.proofs.WindowSteps.{window_done, folds_ok, pass_failed, not_budget, takes_as, front_as, read_failed, front_written, fault_says}
 use Rattle.elf_apply.proofs.windows.write_window.Goals as goal
 
 pub returns : goal.returns
@@ -43,7 +42,7 @@ pub returns-in_err-patch_window : goal.returns-in_err-patch_window
 returns-in_err-patch_window g c = record {
   says =
       let p = err_from_is_err_and c.from_residual-in_err-patch_window.result c.from_residual-in_err-patch_window.ensures.1 in
-      rw (p.1, p.2) (fault_says c.args.src.now c.patch_window.new.src c.args.out.now c.in_err-patch_window.field-0.0 (ReadSays-then c.args.src.now c.fill.new.src c.patch_window.new.src _ c.in_err-patch_window.field-0.0 c.fill.ensures.reads c.in_err-patch_window.ensures.says));
+      rw (p.1, p.2) (fault_says c.args.src.now c.patch_window.new.src c.args.out.now c.in_err-patch_window.field-0.0 (ReadSays-then c.args.src.now c.fill.new.src c.patch_window.new.src _ c.in_err-patch_window.field-0.0 c.fill.ensures.reads (not_over c.fill.new.src c.patch_window.new.src _ c.in_err-patch_window.field-0.0 (c.fill.ensures.reads.same_limit ∙ c.requires.may.free) c.in_err-patch_window.ensures.says)));
   reads = search rules;
   grows = search rules;
   wrote = search rules;
@@ -53,6 +52,7 @@ returns-in_err-patch_window g c = record {
       let long : c.args.at + c.args.target.now.size ≤ length file = omega (arith, belongs.size, c.requires.may.opened.size, c.requires.may.within) in
       let done = window_done file c.args.at c.args.target.now.size c.args.low (length c.args.window.now) (length c.fill.new.out) (changes_all file c.args.target.now) patches c.fill.new.out long c.requires.part (c.in_ok-fill.ensures.read file held) c.fill.auto.out are inside in
       pass_failed (Unit {0}) c.args.out.now c.in_err-patch_window.field-0.0 _ _ c.patch_window.new.window _ (p.1 ∙ ap Err p.2) done
+      (not_budget c.fill.new.src c.patch_window.new.src _ (not_over c.fill.new.src c.patch_window.new.src _ c.in_err-patch_window.field-0.0 (c.fill.ensures.reads.same_limit ∙ c.requires.may.free) c.in_err-patch_window.ensures.says))
       (c.in_err-patch_window.ensures.told file (c.fill.ensures.reads.keeps.same_file ∙ held));
 }
 
@@ -60,19 +60,18 @@ pub returns-in_err-fill : goal.returns-in_err-fill
 returns-in_err-fill g c = record {
   says =
       let p = err_from_is_err_and c.from_residual.result c.from_residual.ensures.1 in
-      rw (p.1, p.2) (fault_says c.args.src.now c.fill.new.src c.args.out.now c.in_err-fill.field-0.0 (unlimited c.args.src.now c.fill.new.src _ c.in_err-fill.field-0.0 c.requires.may.unlimited c.in_err-fill.ensures.says));
+      rw (p.1, p.2) (fault_says c.args.src.now c.fill.new.src c.args.out.now c.in_err-fill.field-0.0 (not_over c.args.src.now c.fill.new.src _ c.in_err-fill.field-0.0 c.requires.may.free c.in_err-fill.ensures.says));
   reads = search rules;
   grows = search rules;
   wrote = search rules;
   text = λ file held patches are inside.
       let p = err_from_is_err_and c.from_residual.result c.from_residual.ensures.1 in
       read_failed (Unit {0}) c.args.out.now c.in_err-fill.field-0.0 _ _ (p.1 ∙ ap Err p.2)
-      (unread c.args.src.now c.fill.new.src _ _ c.in_err-fill.field-0.0 c.requires.may.unlimited c.in_err-fill.ensures.says c.in_err-fill.ensures.at);
+      (unread c.args.src.now c.fill.new.src _ _ c.in_err-fill.field-0.0 c.requires.may.free c.in_err-fill.ensures.says c.in_err-fill.ensures.at);
 }
 
 pub patch_window-requires : goal.patch_window-requires
 patch_window-requires g c = record {
-  unlimited = search rules;
   opened = still_open _ _ c.fill.ensures.reads c.requires.may.opened;
   within = search rules;
   fits = search rules;

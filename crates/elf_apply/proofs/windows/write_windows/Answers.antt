@@ -63,7 +63,7 @@ windows-preserved g c =
 
 pub write_window-requires-clause-may : goal.write_window-requires-clause-may
 write_window-requires-clause-may g c = record {
-  unlimited = search rules;
+  free = search rules;
   opened = still_open _ _ c.windows.invariant.reads c.requires.opened;
   within = search rules;
   fits = search rules;

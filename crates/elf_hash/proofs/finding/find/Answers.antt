@@ -5,7 +5,7 @@ use Rattle.elf_model.specs.Checks.{first_refusal, load_checks}
 use Rattle.elf_hash.specs.Lookups.{Passed, behind_bytes}
 use Rattle.elf_headers.proofs.LoadLaws.{header_most, load_most}
 use Rattle.elf_hash.proofs.FindLaws.{cost_behind, find_least, finds_header, finds_load, load_slots, load_within}
-use Rattle.elf_headers.proofs.LedgerLaws.{Costs-then, Did-as, Did-of, Did-sized, Did-then}
+use Rattle.elf_headers.proofs.LedgerLaws.{Charges-then, Did-as, Did-of, Did-sized, Did-then}
 use Rattle.elf_hash.proofs.finding.find.Goals as goal
 
 pub returns-in_err-header-clause-did : goal.returns-in_err-header-clause-did
@@ -45,4 +45,4 @@ returns-clause-did g c =
     let passed : Passed file c.args.store.now.slots = record { header = told.0.0.0; load = load } in
     let behind = told.1 c.args.store.now.slots belongs passed in
     let cost = cost_behind file c.args.store.now.slots c.args.wanted.now passed in
-    record { costs = Costs-then _ (omega (arith, most, headers, cost, told.0.0.1.e_shnum)) loaded.costs behind.costs; finds = behind.finds })
+    record { costs = Charges-then _ (omega (arith, most, headers, cost, told.0.0.1.e_shnum)) loaded.costs behind.costs; finds = behind.finds })

@@ -6,7 +6,7 @@ use Rattle.elf_hash.specs.Lookups.{Looks}
 use Rattle.elf_hash.specs.declared.hash_section.HashSection.{HashSection}
 use Rattle.elf_hash.proofs.CostLaws.{walk_less}
 use Rattle.elf_hash.proofs.FindLaws.{finds_checks, finds_counts, finds_none, looked_there, not_some}
-use Rattle.elf_headers.proofs.LedgerLaws.{Costs-then, Did-as, Did-none, Did-stop, Did-then}
+use Rattle.elf_headers.proofs.LedgerLaws.{Charges-then, Did-as, Did-none, Did-stop, Did-then}
 use Rattle.elf_hash.proofs.finding.find_in.Goals as goal
 
 pub returns-in_default-clause-did : goal.returns-in_default-clause-did
@@ -53,4 +53,4 @@ returns-clause-did g c =
     let walked = told.1 _ counts.1 in
     let same = looked_there file headers c.args.wanted.now _ passed (sym (c.first_hash.ensures.first file belongs) ∙ c.in-Some.is) checks.0 counts.0 in
     subst (λ (l : Looked). Looks file l c.args.src.now c.walk.new.src c.walk.result 12 (length c.args.wanted.now)) (sym same)
-    (record { costs = Costs-then _ (omega arith) c.in_ok-table.ensures.did.costs walked.costs; finds = walked.finds }))
+    (record { costs = Charges-then _ (omega arith) c.in_ok-table.ensures.did.costs walked.costs; finds = walked.finds }))

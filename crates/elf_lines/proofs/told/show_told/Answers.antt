@@ -2,7 +2,7 @@
 use Rattle.std.proofs.Common.{drop}
 use Rattle.std.proofs.lemmas.Result.{err_from_is_err_and}
 use Rattle.elf_source.proofs.PutsLaws.{TakesFront-more}
-use Rattle.elf_lines.specs.Told.{told}
+use Rattle.elf_lines.specs.Told.{told_text}
 use Rattle.elf_lines.proofs.Pieces.{TakesBefore-front, Puts-rest}
 use Rattle.elf_lines.proofs.ToldText.{told-none, told-more, told-plain, told-stands}
 use Rattle.elf_lines.proofs.told.show_told.Goals as goal
@@ -11,7 +11,7 @@ pub returns-in_err-make_room : goal.returns-in_err-make_room
 returns-in_err-make_room g c =
     let p = err_from_is_err_and c.from_residual.result c.from_residual.ensures.1 in rw (p.1, p.2) (
     let stopped = c.in_err-make_room.ensures.puts in
-    let left = told (drop c.loop-byte.byte-index c.args.text.now) in
+    let left = told_text (drop c.loop-byte.byte-index c.args.text.now) in
     let front = TakesBefore-front c.loop-byte.invariant (TakesFront-more _ left stopped.0) in
     record { puts = (front, stopped.1); plain = told-plain c.args.text.now; stands = told-stands c.args.text.now })
 

@@ -3,8 +3,7 @@ use Rattle.std.proofs.lemmas.Grind.{common_steps}
 use Rattle.std.proofs.lemmas.Result.{err_from_is_err_and}
 use Rattle.elf_apply.specs.InOrder.{Holding}
 use Rattle.elf_apply.proofs.InOrderSteps.{midway_fill}
-use Rattle.elf_apply.proofs.ReadLaws.{unread}
-use Rattle.elf_headers.proofs.LoadLaws.{unlimited}
+use Rattle.elf_apply.proofs.ReadLaws.{not_over, unread}
 use Rattle.elf_apply.proofs.in_order.Held.read_on.Goals as goal
 
 pub returns : goal.returns
@@ -30,10 +29,10 @@ pub returns-in_err-fill : goal.returns-in_err-fill
 returns-in_err-fill g c = record {
   says =
       let p = err_from_is_err_and c.from_residual.result c.from_residual.ensures.1 in
-      rw (p.1, p.2) (unlimited c.args.src.now c.fill.new.src _ c.in_err-fill.field-0.0 c.requires.may.unlimited c.in_err-fill.ensures.says);
+      rw (p.1, p.2) (not_over c.args.src.now c.fill.new.src _ c.in_err-fill.field-0.0 c.requires.may.free c.in_err-fill.ensures.says);
   unread =
       let p = err_from_is_err_and c.from_residual.result c.from_residual.ensures.1 in
-      rw (p.1, p.2) (unread c.args.src.now c.fill.new.src _ _ c.in_err-fill.field-0.0 c.requires.may.unlimited c.in_err-fill.ensures.says c.in_err-fill.ensures.at);
+      rw (p.1, p.2) (unread c.args.src.now c.fill.new.src _ _ c.in_err-fill.field-0.0 c.requires.may.free c.in_err-fill.ensures.says c.in_err-fill.ensures.at);
   reads = search rules;
   asked_on = search rules;
   low = search rules;

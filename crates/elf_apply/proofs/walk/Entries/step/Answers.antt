@@ -1,8 +1,11 @@
-use Rattle.std.proofs.Common.{rules, ◌≡◌, ◌+◌, ◌*◌, refl, ap, ◌∙◌, arith}
+use Rattle.std.proofs.Common.{rules, ℕ, ◌≡◌, ◌+◌, ◌*◌, refl, ap, ◌∙◌, arith}
 use Rattle.elf_model.specs.Records.{section_at, sh_offset}
 use Rattle.elf_apply.proofs.Opened.{gave, given_row}
 use Rattle.elf_source.proofs.ReadsLaws.{Reads-then}
-use Rattle.elf_apply.proofs.WalkSteps.{asks-of, cost-row, cost-failed, steps-row, row-stores, row-nothing, row-fails, reads-row, same-walked}
+use Rattle.elf_apply.specs.Walk.{beside_entry_cost}
+use Rattle.elf_apply.proofs.ReadLaws.{Says-more, Says-then}
+use Rattle.elf_apply.proofs.SymbolSteps.{check_says}
+use Rattle.elf_apply.proofs.WalkSteps.{unread-left, asks-of, cost-row, cost-failed, steps-row, row-stores, row-nothing, row-fails, reads-row, same-walked}
 use Rattle.elf_apply.specs.declared.walk.Entries.{Entries}
 use Rattle.elf_apply.proofs.walk.Entries.step.Goals as goal
 
@@ -61,7 +64,12 @@ returns-in-Err-entry_change g c = record {
       let now : Entries = record { cursor = c.advance.new.self; linked = c.args.self.now.linked; current = c.args.self.now.current; next = c.args.self.now.next; count = c.args.self.now.count } in
       asks-of c.args.target.now c.args.self.now now (Reads-then c.in-Ok-true.ensures.reads c.entry_change.ensures.reads)
       (cost-row c.args.target.now c.args.self.now now _ _ _ refl gives.not_failed gives.still_not_failed gives.one_less c.in-Ok-true.ensures.account c.entry_change.ensures.reads.at_most);
-  says = search rules;
+  says =
+      let gives = gave _ _ _ _ c.in-Ok-true.field-0-test c.in-Ok-true.ensures.steps in
+      let now : Entries = record { cursor = c.advance.new.self; linked = c.args.self.now.linked; current = c.args.self.now.current; next = c.args.self.now.next; count = c.args.self.now.count } in
+      let own : ℕ = beside_entry_cost c.args.target.now in
+      let cost = cost-row c.args.target.now c.args.self.now now _ _ (c.advance.new.src.asked + own) refl gives.not_failed gives.still_not_failed gives.one_less c.in-Ok-true.ensures.account (omega arith) in
+      Says-then c.args.src.now c.advance.new.src c.entry_change.new.src _ own _ c.in-Err-entry_change.fault c.in-Ok-true.ensures.reads (omega (arith, cost)) c.in-Err-entry_change.ensures.says;
   goes = search rules;
   fewer = search rules;
   counts = search rules;
@@ -78,7 +86,7 @@ returns-in-Err-entry_change g c = record {
 pub returns-in-Ok-false : goal.returns-in-Ok-false
 returns-in-Ok-false g c = record {
   asks = search rules;
-  says = search rules;
+  says = check_says c.args.src.now c.advance.new.src _ c.open.result c.open.ensures.refusal;
   goes = search rules;
   fewer = search rules;
   counts = search rules;
@@ -93,7 +101,8 @@ returns-in-Err g c = record {
   asks =
       let now : Entries = record { cursor = c.advance.new.self; linked = c.args.self.now.linked; current = c.args.self.now.current; next = c.args.self.now.next; count = c.args.self.now.count } in
       asks-of c.args.target.now c.args.self.now now c.in-Err.ensures.reads (cost-failed c.args.target.now c.args.self.now now _ _ c.in-Err.fault refl c.in-Err.ensures.steps.failed c.in-Err.ensures.account);
-  says = search rules;
+  says =
+      Says-more c.args.src.now c.advance.new.src _ _ c.in-Err.fault (unread-left c.args.target.now c.args.self.now) (c.in-Err.ensures.says c.requires.goes.not_failed);
   goes = search rules;
   fewer = search rules;
   counts = search rules;

@@ -1,0 +1,26 @@
+use Rattle.std.proofs.Common.{rules, ◌≡◌, ◌∙◌, ap, refl, arith}
+use Rattle.elf_source.specs.Source.{Seen}
+use Rattle.elf_apply.specs.Walk.{walk_all}
+use Rattle.elf_apply.proofs.RoomSteps.{write_asks, open_free, spends_free, says_free, never_wants}
+use Rattle.elf_apply.proofs.applying.write_checked.Goals as goal
+
+pub write_section-requires : goal.write_section-requires
+write_section-requires g c = record {
+  free = c.limit.ensures.most;
+  opened = open_free c.args.src.now c.limit.new.self _ c.limit.ensures _ _ c.requires.may.opened;
+  within = omega (arith, c.requires.may.within, ap (λ (s : Seen). s.size) c.limit.ensures.seen);
+  fits = omega (arith, c.requires.may.fits, ap (λ (s : Seen). s.size) c.limit.ensures.seen);
+}
+
+pub returns : goal.returns
+returns g c = record {
+  says = says_free c.args.src.now c.limit.new.self _ c.limit.ensures c.write_section.new.src c.write_section.new.out _ c.write_section.result c.write_section.ensures.writes.says;
+  reads =
+      let asked = write_asks c.args.checked.now.rises c.args.target.now.size (walk_all c.args.target.now) c.limit.new.self.asked c.write_section.new.src.asked c.write_section.ensures.once c.write_section.ensures.writes.reads.at_most in
+      spends_free c.args.src.now c.limit.new.self _ c.limit.ensures c.write_section.new.src _ _ c.write_section.ensures.writes.reads asked c.if-not-has_room.ensures;
+  grows = search rules;
+  wrote = search rules;
+  text = λ file held patches are inside rises.
+      never_wants c.args.out.now c.write_section.new.out c.write_section.result _
+      (c.write_section.ensures.writes.text file (ap (λ (s : Seen). s.file) c.limit.ensures.seen ∙ held) patches are inside rises);
+}

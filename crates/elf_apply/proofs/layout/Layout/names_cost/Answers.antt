@@ -1,0 +1,8 @@
+use Rattle.std.proofs.Common.{ap, arith}
+use Rattle.elf_apply.specs.Costs.{items_cost}
+use Rattle.elf_apply.proofs.LookupSteps.{names_cost}
+use Rattle.elf_apply.proofs.layout.Layout.names_cost.Goals as goal
+
+pub returns-clause-value : goal.returns-clause-value
+returns-clause-value c =
+    omega (arith, names_cost c.args.self.now, c.names_cost.ensures.value, c.names_cost-2.ensures.value, ap items_cost c.definitions.ensures, ap items_cost c.linkage.ensures)
