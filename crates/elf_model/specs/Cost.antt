@@ -1,6 +1,6 @@
 -- How many bytes a listing asks for at most, and what it never passes. A record stands at an offset of some bytes: of
 -- the file, or of its own bytes alone, at 0.
-use Rattle.std.specs.Prelude.{ℕ, suc, zero, ◌+◌, ◌*◌, ◌/◌, ◌==◌, ◌&&◌, ◌||◌, not, if◌then◌else◌, Bool, List, [], ◌∷◌, ◌++◌, length}
+use Rattle.std.specs.Prelude.{ℕ, suc, zero, ◌+◌, ◌*◌, ◌/◌, ◌==◌, ◌&&◌, ◌||◌, not, if◌then◌else◌, Bool, List, [], ◌∷◌, length}
 use Rattle.elf_model.specs.Records.{FILE_HEADER_SIZE, SECTION_HEADER_SIZE, PROGRAM_HEADER_SIZE, e_shnum, e_phnum, e_shstrndx}
 use Rattle.elf_model.specs.Names.{name_bytes}
 use Rattle.elf_model.specs.Checks.{pass, before_headers}
