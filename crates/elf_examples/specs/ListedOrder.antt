@@ -91,6 +91,7 @@ SectionsAreCounted =
     × LoadStops (with_bytes 0x3a (little 2 65) (file_header 1 0 1 0)) 1 0x3a EntrySize
     × LoadStops (file_header 1 0 2 0) 2 0x28 TableOutside
     × LoadStops (file_header 1 0 1 1) 1 0x3e BadLink
+    × LoadStops (file_header 1 0 2 1 ++ zeros 64) 2 0x40 NotStrings
     × LoadPasses (with_bytes 0x3a (little 2 64 ++ little 2 0 ++ little 2 5) bare_header) 1
     × LoadStops (file_header 1 1 0 0) 1 0x3c ExtendedNumbering
 
