@@ -1,4 +1,6 @@
 //! Lines as a reader of a listing sees them.
+use crate::sources::printer_sink;
+use elf_fakes::Script;
 use elf_lines::{
     dynamic_front, note_front, relocation_front, section_front, segment_row, show_note, show_steps,
     show_symbol, show_told, symbol_front,
@@ -135,12 +137,14 @@ fn lines_are_written_with_their_names(rt: HostRuntime) {
 
 #[test]
 fn a_long_name_is_written_in_pieces(rt: HostRuntime) {
-    let mut buffer = [0; 1285];
-    let mut out = Out::new(SliceSink::new(&mut buffer));
+    let script = Script::new();
+    let mut out = Out::new(printer_sink(999, &script, rt.alloc()));
     let name = [0x7f; 300];
     assert!(rt; show_symbol(1, 1, &MAIN, &name, &mut out) == Ok(()));
-    let sink = out.into_inner();
-    let text = sink.written();
+    // Five times 256 bytes, and the rest.
+    assert!(rt; script.calls() == 6);
+    let printer = out.into_inner().into_inner();
+    let text = printer.written.as_slice();
     assert!(rt; text.len() == 1285);
     for k in 0..300 {
         assert!(rt; &text[84 + 4 * k..88 + 4 * k] == b"\\x7f".as_slice());

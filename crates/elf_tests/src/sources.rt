@@ -41,8 +41,12 @@ pub(crate) fn stream<'a>(
     StreamSource::new(Tape::new(length, most, script)).expect(rt, "a stream")
 }
 
-// A sink over a printer that takes at most `most` bytes at a write.
-fn printer_sink<'a>(most: usize, script: &'a Script, alloc: Global) -> WriteSink<Printer<'a>> {
+/// A sink over a printer that takes at most `most` bytes at a write.
+pub(crate) fn printer_sink<'a>(
+    most: usize,
+    script: &'a Script,
+    alloc: Global,
+) -> WriteSink<Printer<'a>> {
     WriteSink::new(Printer::new(most, script, alloc))
 }
 
@@ -229,7 +233,7 @@ fn a_long_text_is_written_whole(rt: HostRuntime) {
     let text = [b'x'; 70_000];
     let mut out = Out::new(printer_sink(999, &script, rt.alloc()));
     assert!(rt; out.put(&text) == Ok(()));
-    assert!(rt; out.written() == 70_000);
+    assert!(rt; out.written() == 70_000 && script.calls() == 71);
 }
 
 #[test]

@@ -53,6 +53,22 @@ fn long_reads_are_filled_to_their_end(rt: HostRuntime) {
 }
 
 #[test]
+fn reads_of_any_size_follow_one_another_anywhere(rt: HostRuntime) {
+    for start in [0, (1 << 32) - 70, 1 << 33, FAR - 4_288] {
+        let script = Script::new();
+        let mut source = stream(FAR, usize::MAX, &script, &rt);
+        let mut at = start;
+        for count in [1, 63, 64, 64, 4_096] {
+            let given = gives(&mut source, at, count, rt.alloc(), &rt);
+            assert!(rt; given, "{count} bytes");
+            at = at.saturating_add(count as u64);
+        }
+        // A seek to the end, one to the first byte, and one turn for each read.
+        assert!(rt; script.seeks() == 2 && script.calls() == 7, "from {start}");
+    }
+}
+
+#[test]
 fn a_read_asks_for_no_byte_behind_its_last(rt: HostRuntime) {
     for (length, most) in [(15, 9), (15, 2), (FAR, 9), (FAR, 2)] {
         let script = Script::new();
