@@ -148,6 +148,14 @@ fn a_long_name_is_shown_by_its_first_bytes(rt: HostRuntime) {
     assert!(rt; walk_twice(&bytes, 4, 1, &rt) == (Ok(1), Ok(0), 4096));
 }
 
+#[test]
+fn a_long_descriptor_is_passed_over(rt: HostRuntime) {
+    // A descriptor of 12,000 bytes, and behind it a note of nothing but its head.
+    let mut bytes = [0; 12_024];
+    bytes[4..6].copy_from_slice(&[0xe0, 0x2e]);
+    assert!(rt; walk_twice(&bytes, 4, 256, &rt) == (Ok(2), Ok(0), 4096 + 12));
+}
+
 // Goes over a table with one note, whose name has no NUL and is all that follows the head: the same
 // twice, where the read with the number `failing` fails, with how often the source was read.
 fn long_name_twice(
