@@ -1,5 +1,5 @@
-//! How often a source is read for names and symbols, in order and scattered, and what a fault in bytes
-//! that were read ahead leaves.
+//! How often a source is read for names and symbols, in order, with gaps, again and scattered, and
+//! what a fault in bytes that were read ahead leaves.
 use elf_fakes::Planned;
 use elf_names::{NameIndex, ReadAhead};
 use elf_source::{Counted, SourceFault};
@@ -49,16 +49,32 @@ fn names_in_order_take_few_reads(rt: HostRuntime) {
 }
 
 #[test]
-fn scattered_names_take_one_small_read_each(rt: HostRuntime) {
+fn names_with_gaps_take_few_reads(rt: HostRuntime) {
     let bytes = strings();
     let mut src = Counted::new(Planned::new(&bytes, 0));
     let mut ahead = ReadAhead::new();
-    for i in 1..151 {
-        let end = read_name(&mut ahead, &mut src, STRINGS as u64 - 104 * i, &rt);
+    for i in 0..150 {
+        let end = read_name(&mut ahead, &mut src, 104 * i, &rt);
         assert!(rt; end == Ok(NameEnd::Whole), "{i}");
     }
-    assert!(rt; src.asked() == 150 * 64);
-    assert!(rt; src.into_inner().reads == 150);
+    // The second stands 40 bytes behind the first read, and the fourth 80 behind the second, which
+    // gave the third. Each read takes twice as many bytes as the last, at most 4,096.
+    assert!(rt; src.into_inner().reads == 9);
+}
+
+#[test]
+fn scattered_names_behind_a_run_take_one_small_read_each(rt: HostRuntime) {
+    let bytes = strings();
+    let mut src = Counted::new(Planned::new(&bytes, 0));
+    let mut ahead = ReadAhead::new();
+    for i in 0..160 {
+        let off = if i < 10 { 8 * i } else { 616 * i % 15_000 };
+        let end = read_name(&mut ahead, &mut src, off, &rt);
+        assert!(rt; end == Ok(NameEnd::Whole), "{i}");
+    }
+    // 64 and 128 bytes for the run, 256 behind it, and then 64 each.
+    assert!(rt; src.asked() == 64 + 128 + 256 + 149 * 64);
+    assert!(rt; src.into_inner().reads == 152);
 }
 
 #[test]
@@ -85,14 +101,25 @@ fn a_fault_in_bytes_read_ahead_leaves_nothing_held(rt: HostRuntime) {
 /// How many symbols the tables here have.
 const SYMBOLS: u64 = 500;
 
-// The symbol at an index of a table whose bytes tell it, with what a name leaves of its credit.
-fn read_symbol(
+// Whether the symbol at an index of a table whose bytes tell it is read.
+fn gives_symbol(
     ahead: &mut ReadAhead,
     src: &mut Counted<Planned<'_>>,
     index: u64,
     rt: &impl Abort,
 ) -> bool {
     assert!(rt; src.length() == 24 * SYMBOLS && index < SYMBOLS);
+    let symbol = ahead.symbol(src, &Table::new(0, SYMBOLS, 24), index);
+    symbol.is_ok_and(|read| u64::from(read.st_name) == index)
+}
+
+// The same with what a name leaves of its credit.
+fn read_symbol(
+    ahead: &mut ReadAhead,
+    src: &mut Counted<Planned<'_>>,
+    index: u64,
+    rt: &impl Abort,
+) -> bool {
     let names = Names::new(0, 0);
     let unnamed = NameIndex {
         names,
@@ -101,8 +128,7 @@ fn read_symbol(
     };
     let mut name = NameBuf::new();
     let end = ahead.name(src, unnamed, Cap { bytes: 256 }, &mut name);
-    let symbol = ahead.symbol(src, &Table::new(0, SYMBOLS, 24), index);
-    end == Ok(NameEnd::Whole) && symbol.is_ok_and(|read| u64::from(read.st_name) == index)
+    end == Ok(NameEnd::Whole) && gives_symbol(ahead, src, index, rt)
 }
 
 // The bytes of those symbols.
@@ -124,6 +150,18 @@ fn symbols_in_order_take_few_reads(rt: HostRuntime) {
         assert!(rt; read_symbol(&mut ahead, &mut src, i, &rt), "{i}");
     }
     assert!(rt; src.asked() == 12_000);
+    assert!(rt; src.into_inner().reads == 10);
+}
+
+#[test]
+fn symbols_that_repeat_take_few_reads(rt: HostRuntime) {
+    let bytes = symbols();
+    let mut src = Counted::new(Planned::new(&bytes, 0));
+    let mut ahead = ReadAhead::new();
+    for i in 0..2 * SYMBOLS {
+        assert!(rt; gives_symbol(&mut ahead, &mut src, i / 2, &rt), "{i}");
+    }
+    // The second call for a symbol asks for nothing, and leaves its 24 bytes to the next read.
     assert!(rt; src.into_inner().reads == 10);
 }
 
