@@ -1,10 +1,13 @@
 //! Sections of many sizes, with entries at their ends, and sections without bytes.
 
 use crate::applying::{applied, refused};
-use elf_apply::{Applied, Layout};
+use elf_apply::{Applied, Layout, apply};
+use elf_fakes::{Planned, Printer, Script};
 use elf_fixtures::{one_call, rising_relocations, with_bytes};
 use elf_record::Cause;
+use elf_source::{Counted, Out, WriteSink};
 use elf_table::HeaderStore;
+use std::process::Abort;
 use std::test::Fail;
 
 /// The file whose offsets rise with a section of `size` bytes, each 7, and two entries of two
@@ -50,6 +53,28 @@ fn entries_at_the_end_of_many_sizes(rt: HostRuntime) -> Result<(), Fail> {
             assert!(rt; bytes[end..].iter().all(|byte| *byte == 9), "{size}");
         }
     }
+    Ok(())
+}
+
+/// How often the source is read, and how often the writer is called, where a file is applied.
+fn calls(file: &[u8], rt: &(impl Abort + AllocGlobal)) -> Result<(u32, u32), Fail> {
+    let mut store = HeaderStore::new(rt.alloc(), 3)?;
+    let script = Script::new();
+    let mut src = Counted::new(Planned::new(file, 0));
+    let mut out = Out::new(WriteSink::new(Printer::new(9999, &script, rt.alloc())));
+    let answer = apply(&mut src, &mut store, 1, &Layout::new(), &mut out);
+    assert!(rt; answer.is_ok());
+    Ok((src.into_inner().reads, script.calls()))
+}
+
+#[test]
+fn one_pass_reads_and_writes_by_pages(rt: HostRuntime) -> Result<(), Fail> {
+    // The two headers, the entries twice, and all 128 bytes at once. What stands before each of the
+    // last three entries is written, and then the rest.
+    assert!(rt; calls(rising_relocations(), &rt)? == (5, 4));
+    // 4,096 bytes, 1,901 up to the first entry, and the last three. What is copied is written as it
+    // is read, then the byte before the second entry, and then the rest.
+    assert!(rt; calls(&sized(6000, false), &rt)? == (4 + 3, 4));
     Ok(())
 }
 
