@@ -153,7 +153,9 @@ where
 }
 
 /// Carries a request out and writes what is left of the output. After a fault of the output nothing
-/// more is written.
+/// more is written. It is not made part of its caller, whose stack would hold the buffers of a listing
+/// twice, one for each kind of source.
+#[inline(never)]
 fn write_answer<S: Source + Drop, W: Write + Drop>(
     request: &Request<'_>,
     source: S,

@@ -45,3 +45,13 @@ fn a_file_is_read_where_a_seek_left_it(rt: HostRuntime) {
     assert!(rt; reader.seek(SeekFrom::End(0)).ok() == Some(64));
     assert!(rt; reader.read(&mut byte).ok() == Some(0));
 }
+
+#[test]
+fn a_short_read_goes_on_behind_its_last_byte(rt: HostRuntime) {
+    let mut reader = OffsetReader::new(Tape);
+    let mut bytes = [0; 2];
+    assert!(rt; reader.read(&mut bytes).ok() == Some(1));
+    assert!(rt; bytes[0] == 0x7f);
+    assert!(rt; reader.read(&mut bytes).ok() == Some(1));
+    assert!(rt; bytes[0] == 0x45);
+}
