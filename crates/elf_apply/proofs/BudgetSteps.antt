@@ -1,5 +1,5 @@
 -- What is asked for within a limit, and what a refusal for want of budget says, stage by stage.
-use Rattle.std.proofs.Common.{◌≡◌, ℕ, ◌+◌, ◌-◌, ◌*◌, ◌<◌, ◌≤◌, Bool, true, false, inl, inr, min, Some, Result, Ok, Err, refl, sym, ap, ◌∙◌, subst, arith}
+use Rattle.std.proofs.Common.{◌≡◌, ℕ, ◌+◌, ◌-◌, ◌*◌, ◌≤◌, Bool, true, false, inl, inr, min, Result, Ok, Err, sym, ◌∙◌, subst, arith}
 use Rattle.std.specs.Prelude.{IfErr, List}
 use Rattle.std.proofs.Math.Nat.{mul-le-mul_right}
 use Rattle.std.proofs.lemmas.Bool.{cases_Bool}
@@ -7,7 +7,7 @@ use Rattle.elf_model.specs.ApplyCost.{apply_cost, apply_cost_in_order, apply_cos
 use Rattle.elf_model.specs.Placing.{Layout}
 use Rattle.elf_model.proofs.ApplySteps.{cost_by_order-falls, cost_by_order-never_falls}
 use Rattle.elf_source.specs.Output.{Written}
-use Rattle.elf_source.specs.Source.{Seen, Counting, Faults, Limits, Reads}
+use Rattle.elf_source.specs.Source.{Counting, Reads}
 use Rattle.elf_source.proofs.ReadsLaws.{Faults-then, Keeps-then}
 use Rattle.elf_headers.specs.Faults.{IsOfCheck, Says}
 use Rattle.elf_headers.specs.declared.fault.Fault.{Fault}
@@ -38,8 +38,8 @@ spends_then k reads spends asked = record {
 }
 
 -- a want of budget, after reads and in a bound on all
-over_then : (a b : Counting) (n m k : ℕ) → a.most ≡ b.most → b.asked + m ≤ a.asked + k → OverBudget b m → OverBudget a k
-over_then a b n m k same within over = record { most = over.most; is_set = same ∙ over.is_set; above = omega (arith, over.above, within) }
+over_then : (a b : Counting) (m k : ℕ) → a.most ≡ b.most → b.asked + m ≤ a.asked + k → OverBudget b m → OverBudget a k
+over_then a b m k same within over = record { most = over.most; is_set = same ∙ over.is_set; above = omega (arith, over.above, within) }
 
 -- a fault of a read
 pub fault_applies : (a b : Counting) (out : Written) (n k : ℕ) (fault : Fault) → n ≤ k → Says a b n fault → ApplySays a b out k (fault_as fault)
@@ -68,13 +68,13 @@ check_wants a k (Unread fault at) check = tt
 
 -- the same after reads
 pub says_after : {a b : Counting} {n : ℕ} (c : Counting) (out : Written) (m k : ℕ) (fault : ApplyFault) → Reads a b n → b.asked + m ≤ a.asked + k → ApplySays b c out m fault → ApplySays a c out k fault
-says_after {a = a} {b = b} {n = n} c out m k (Refused refusal) reads within says = λ budget.
-    let said = says budget in (omega (arith, said.0, reads.keeps.same_size), over_then a b n m k (sym reads.same_limit) within said.1)
+says_after {a = a} {b = b} c out m k (Refused refusal) reads within says = λ budget.
+    let said = says budget in (omega (arith, said.0, reads.keeps.same_size), over_then a b m k (sym reads.same_limit) within said.1)
 says_after {a = a} {b = b} c out m k (Source fault at) reads within says = (Faults-then a.seen b.seen c.seen fault reads.keeps says.0, says.1)
 says_after c out m k (Out fault) reads within says = says
 
 pub wants_after : {a b : Counting} {n : ℕ} (m k : ℕ) (fault : ApplyFault) → Reads a b n → b.asked + m ≤ a.asked + k → WantsBudget b m fault → WantsBudget a k fault
-wants_after {a = a} {b = b} {n = n} m k (Refused refusal) reads within wants = λ budget. over_then a b n m k (sym reads.same_limit) within (wants budget)
+wants_after {a = a} {b = b} m k (Refused refusal) reads within wants = λ budget. over_then a b m k (sym reads.same_limit) within (wants budget)
 wants_after m k (Source fault at) reads within wants = tt
 wants_after m k (Out fault) reads within wants = tt
 

@@ -201,10 +201,6 @@ pub checked_below : (walk size before after : ℕ) → after ≤ before + walk �
 checked_below walk size before after h =
     let one : (1 + windows size) * walk ≡ walk + windows size * walk = omega arith in omega (arith, one, h)
 
-pub passes_sum : (walk size before middle after : ℕ) → middle ≤ before + walk → after ≤ middle + (windows size * walk + size) → after ≤ before + ((1 + windows size) * walk + size)
-passes_sum walk size before middle after h k =
-    let one : (1 + windows size) * walk ≡ walk + windows size * walk = omega arith in omega (arith, one, h, k)
-
 -- a bound by the order of the entries
 pub order_within :
     (file : List ℕ) (headers section : ℕ) (layout : Layout) (bound : ℕ)
@@ -217,9 +213,6 @@ order_within file headers section layout bound never falls = elim (cases_Bool (o
   | inr h ↦ let is = cost_by_order-falls file headers section layout h in omega (arith, is, falls)
 ]
 
--- the two passes where the offsets never fall
+-- one of the two passes where the offsets never fall
 pub checked_twice : (walk size before after : ℕ) → after ≤ before + walk → after ≤ before + (2 * walk + size)
 checked_twice walk size before after h = omega (arith, h)
-
-pub passes_twice : (walk size before middle after : ℕ) → middle ≤ before + walk → after ≤ middle + (walk + size) → after ≤ before + (2 * walk + size)
-passes_twice walk size before middle after h k = omega (arith, h, k)

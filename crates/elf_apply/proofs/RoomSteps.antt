@@ -31,8 +31,8 @@ sum_small zero exact size most pass walks all p w a small fits = omega (arith, p
 sum_small (suc k) exact size most pass walks all p w a small fits = elim (cases_lt (2 ^ 128 - 1) exact) [
   | inl high ↦ absurd (let one : suc k * pass ≡ pass + k * pass = omega arith in omega (arith, one, p, w, a, small, fits, high))
   | inr low ↦
-        let same : pass ≡ exact = omega (arith, p, low) in
-        let product = ap (λ n. suc k * n) same in omega (arith, product, w, a, small, fits)
+      let same : pass ≡ exact = omega (arith, p, low) in
+      let product = ap (λ n. suc k * n) same in omega (arith, product, w, a, small, fits)
 ]
 
 -- and never more than the exact ones
@@ -81,11 +81,11 @@ pub write_asks :
 write_asks false size walk before after once all = all
 write_asks true size walk before after once all = elim (cases_lt 0 size) [
   | inl some ↦
-        let one : min 1 (windows size) ≡ 1 = omega (arith, some) in
-        let product = ap (λ n. n * walk) one in omega (arith, product, once refl)
+      let one : min 1 (windows size) ≡ 1 = omega (arith, some) in
+      let product = ap (λ n. n * walk) one in omega (arith, product, once refl)
   | inr none ↦
-        let same : min 1 (windows size) ≡ windows size = omega (arith, none) in
-        let product = ap (λ n. n * walk) same in omega (arith, product, all)
+      let same : min 1 (windows size) ≡ windows size = omega (arith, none) in
+      let product = ap (λ n. n * walk) same in omega (arith, product, all)
 ]
 
 -- a limit was taken away

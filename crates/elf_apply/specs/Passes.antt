@@ -1,5 +1,5 @@
 -- What the passes over the entries calculate of the list of changes.
-use Rattle.std.specs.Prelude.{ℕ, ◌≡◌, ◌+◌, ◌^◌, ◌<◌, ◌≤◌, ◌&&◌, nat_le, Bool, true, List, [], ◌∷◌, None, Some, Result, Ok, Err, IfOk, IfErr}
+use Rattle.std.specs.Prelude.{ℕ, ◌≡◌, ◌+◌, ◌^◌, ◌<◌, ◌≤◌, ◌&&◌, nat_le, Bool, true, List, [], ◌∷◌, Some, Result, Ok, Err, IfOk, IfErr}
 use Rattle.elf_model.specs.Apply.{Patch, Change, Put, Fails, put}
 use Rattle.elf_model.specs.ApplyLaws.{clipped}
 use Rattle.elf_model.specs.Budget.{IsBudget}

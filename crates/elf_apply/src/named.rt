@@ -89,8 +89,8 @@ pub(crate) fn has_name(items: &[Named], name: &[u8]) -> bool
     false
 }
 
-/// How many bytes a comparison with each of some names may ask for: each name with its NUL, in whole
-/// pieces of 64.
+/// How many bytes a comparison with each of some names may ask for: for each as many as it has with
+/// its NUL, in whole pieces of 64.
 pub(crate) fn names_cost(items: &[Named]) -> u128
     ensures value { result ≡ items_cost items.now }
     ensures few { result < 2 ^ 73 }

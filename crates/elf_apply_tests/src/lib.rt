@@ -5,6 +5,8 @@
 #[cfg(test)]
 mod applying;
 #[cfg(test)]
+mod budgets;
+#[cfg(test)]
 mod faults;
 #[cfg(test)]
 mod layouts;

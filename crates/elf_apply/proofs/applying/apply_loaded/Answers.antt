@@ -78,8 +78,8 @@ returns g c = record {
       let same = ap (cost_with file c.args.store.now.slots c.args.section c.args.layout.now) (windows_same file c.args.store.now.slots now c.in_ok-found.found.0 long stands) in
       order_wants c.apply_target.result c.args.src.now file c.args.store.now.slots c.args.section c.args.layout.now (64 + 64 * e_shnum file)
       (λ never.
-          let once = c.apply_target.ensures.once file held c.args.store.now.slots stands never in
-          all_wants_after c.apply_target.result (passes_cost now 2) _ (Reads-none c.args.src.now 0) (omega (arith, twice)) once.1)
+      let once = c.apply_target.ensures.once file held c.args.store.now.slots stands never in
+      all_wants_after c.apply_target.result (passes_cost now 2) _ (Reads-none c.args.src.now 0) (omega (arith, twice)) once.1)
       (all_wants_after c.apply_target.result (passes_cost now (1 + windows c.in_ok-found.found.1)) _ (Reads-none c.args.src.now 0) (omega (arith, all, same))
       (all_wants c.apply_target.result c.args.src.now c.apply_target.new.src c.apply_target.new.out _ c.apply_target.ensures.says));
   grows = search rules;

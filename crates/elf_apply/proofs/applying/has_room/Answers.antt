@@ -1,7 +1,5 @@
-use Rattle.std.proofs.Common.{◌+◌, ◌*◌, ◌≡◌, min, ap, ◌∙◌, sym, arith}
-use Rattle.elf_model.specs.ApplyCost.{layout_names_cost}
-use Rattle.elf_apply.specs.Applied.{RoomFor, write_passes}
-use Rattle.elf_apply.specs.Walk.{walk_all}
+use Rattle.std.proofs.Common.{◌+◌, ◌*◌, min, ap, ◌∙◌, sym, arith}
+use Rattle.elf_apply.specs.Applied.{write_passes}
 use Rattle.elf_apply.proofs.RoomSteps.{room_for}
 use Rattle.elf_apply.proofs.applying.has_room.Goals as goal
 

@@ -1,4 +1,4 @@
-use Rattle.std.proofs.Common.{rules, ◌≡◌, ◌∙◌, ap, refl, arith}
+use Rattle.std.proofs.Common.{rules, ◌∙◌, ap, arith}
 use Rattle.elf_source.specs.Source.{Seen}
 use Rattle.elf_apply.specs.Walk.{walk_all}
 use Rattle.elf_apply.proofs.RoomSteps.{write_asks, open_free, spends_free, says_free, never_wants}

@@ -1,4 +1,4 @@
-use Rattle.std.proofs.Common.{ℕ, ◌≡◌, ◌+◌, ◌*◌, ◌/◌, length, arith, ap, sym, ◌∙◌}
+use Rattle.std.proofs.Common.{◌≡◌, ◌+◌, ◌*◌, length, arith, ap}
 use Rattle.elf_model.specs.Names.{pad64}
 use Rattle.elf_apply.specs.Costs.{items_cost}
 use Rattle.elf_apply.proofs.LookupSteps.{cost_step, drop-all}

@@ -1,0 +1,159 @@
+//! A limit on what may be asked for: the section whole, or a refusal and nothing written.
+ghost use Rattle.std.specs.Prelude.{◌≤◌};
+
+use crate::applying::{applied, placed, refused};
+use elf_apply::{Applied, ApplyFault, Item, Layout, apply};
+use elf_fixtures::{
+    falling_relocations, one_call, overlapping_relocations, rising_relocations, with_bytes,
+};
+use elf_record::Cause;
+use elf_source::{Counted, MemorySource, Out, SliceSink};
+use elf_table::HeaderStore;
+use std::process::Abort;
+use std::test::Fail;
+
+/// What a request within a limit answers: the answer, how many bytes were asked for, and the bytes
+/// of the output, which are 9 where nothing was written.
+type Limited = (Result<Applied, ApplyFault>, u128, [u8; 128]);
+
+/// Applies to section 1 of a file within a limit, of which none is left afterwards.
+fn limited(
+    rt: &impl Abort,
+    file: &[u8],
+    layout: &Layout,
+    store: &mut HeaderStore,
+    budget: u64,
+) -> Limited {
+    let mut bytes = [9; 128];
+    let mut src = Counted::new(MemorySource::new(file));
+    src.limit(Some(budget));
+    let mut out = Out::new(SliceSink::new(&mut bytes));
+    let answer = apply(&mut src, store, 1, layout, &mut out);
+    assert!(rt; src.left() == None);
+    let asked = src.asked();
+    (answer, asked, bytes)
+}
+
+/// Goes through the budgets up to a cost.
+fn check_budgets(rt: &impl Abort, file: &[u8], layout: &Layout, store: &mut HeaderStore, cost: u64)
+    requires { cost ≤ 10000 }
+{
+    let mut whole = [9; 128];
+    let (done, _, _) = applied(file, layout, store, &mut whole);
+    assert!(rt; done.is_ok());
+    for budget in 0..=cost {
+        let (answer, asked, bytes) = limited(rt, file, layout, store, budget);
+        assert!(rt; asked <= u128::from(budget), "{budget} bytes");
+        if let Err(ApplyFault::Refused(refusal)) = answer {
+            assert!(rt; refusal.cause == Cause::Budget);
+            assert!(rt; refusal.at < file.len() as u64);
+            assert!(rt; bytes == [9; 128], "{budget} bytes");
+            assert!(rt; budget < cost);
+        } else {
+            assert!(rt; answer == done);
+            assert!(rt; bytes == whole, "{budget} bytes");
+        }
+    }
+}
+
+/// The layout in which the call goes to its linkage entry.
+fn linked(rt: &impl Abort) -> Layout {
+    let mut layout = placed(0x1000, rt);
+    let address = 0x2000;
+    layout
+        .push(Item::Entry {
+            name: b"f",
+            address,
+        })
+        .expect(rt, "an entry");
+    layout
+}
+
+#[test]
+fn budgets_up_to_the_cost(rt: HostRuntime) -> Result<(), Fail> {
+    let mut store = HeaderStore::new(rt.alloc(), 5)?;
+    let layout = Layout::new();
+    let overlapping = overlapping_relocations();
+    check_budgets(&rt, overlapping, &layout, &mut store, 456);
+    check_budgets(&rt, rising_relocations(), &layout, &mut store, 768);
+    check_budgets(&rt, &falling_relocations(), &layout, &mut store, 960);
+    check_budgets(&rt, one_call(), &linked(&rt), &mut store, 613);
+    Ok(())
+}
+
+/// Checks the refusal within a budget, and how many bytes were asked for before.
+fn check_refused(
+    rt: &impl Abort,
+    file: &[u8],
+    layout: &Layout,
+    store: &mut HeaderStore,
+    row: (u64, u64, u128),
+) {
+    let (budget, at, wanted) = row;
+    let (answer, asked, bytes) = limited(rt, file, layout, store, budget);
+    assert!(rt; answer == refused(at, Cause::Budget), "{budget} bytes");
+    assert!(rt; asked == wanted, "{budget} bytes");
+    assert!(rt; bytes == [9; 128], "{budget} bytes");
+}
+
+#[test]
+fn a_refusal_names_the_read_or_the_section(rt: HostRuntime) -> Result<(), Fail> {
+    let mut store = HeaderStore::new(rt.alloc(), 3)?;
+    let layout = Layout::new();
+    let file = rising_relocations();
+    for row in [
+        (0, 0, 0),
+        (63, 0, 0),
+        (64, 0x120, 64),
+        (255, 0x120, 64),
+        (256, 0xc0, 256),
+        (351, 0xc0, 256),
+        (352, 0x40, 352),
+        (671, 0x40, 352),
+    ] {
+        check_refused(&rt, file, &layout, &mut store, row);
+    }
+    let (answer, asked, _) = limited(&rt, file, &layout, &mut store, 672);
+    assert!(rt; (answer.is_ok(), asked) == (true, 576));
+    Ok(())
+}
+
+#[test]
+fn windows_take_a_pass_each(rt: HostRuntime) -> Result<(), Fail> {
+    let mut store = HeaderStore::new(rt.alloc(), 3)?;
+    let layout = Layout::new();
+    let file = falling_relocations();
+    check_refused(&rt, &file, &layout, &mut store, (863, 0x40, 352));
+    let (answer, asked, _) = limited(&rt, &file, &layout, &mut store, 864);
+    assert!(rt; (answer.is_ok(), asked) == (true, 672));
+    Ok(())
+}
+
+#[test]
+fn each_entry_may_take_its_symbol_and_all_names(rt: HostRuntime) -> Result<(), Fail> {
+    let mut store = HeaderStore::new(rt.alloc(), 5)?;
+    let layout = linked(&rt);
+    check_refused(&rt, one_call(), &layout, &mut store, (384, 0x48, 384));
+    check_refused(&rt, one_call(), &layout, &mut store, (408, 0x78, 408));
+    check_refused(&rt, one_call(), &layout, &mut store, (433, 0x91, 432));
+    check_refused(&rt, one_call(), &layout, &mut store, (434, 0x40, 434));
+    check_refused(&rt, one_call(), &layout, &mut store, (550, 0x40, 434));
+    let (answer, asked, _) = limited(&rt, one_call(), &layout, &mut store, 551);
+    assert!(rt; (answer.is_ok(), asked) == (true, 489));
+    Ok(())
+}
+
+#[test]
+fn a_section_without_bytes_takes_no_pass_that_writes(rt: HostRuntime) -> Result<(), Fail> {
+    let mut store = HeaderStore::new(rt.alloc(), 5)?;
+    let layout = Layout::new();
+    let none = with_bytes(&with_bytes(one_call(), 0x50, &[0]), 0xdc, &[8]);
+    check_refused(&rt, &none, &layout, &mut store, (407, 0x48, 384));
+    let (answer, asked, _) = limited(&rt, &none, &layout, &mut store, 408);
+    let nothing = Applied {
+        size: 0,
+        entries: 1,
+    };
+    assert!(rt; (answer, asked) == (Ok(nothing), 408));
+    Ok(())
+}
