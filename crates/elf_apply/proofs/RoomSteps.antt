@@ -74,6 +74,20 @@ room_for src target bytes passes entries each size pass walks all is small count
     by_test false (inl fits) = let wrong = fits.0 in cc
     by_test false (inr over) = over_left src bytes _ _ refl is (sum_least passes (entries * each) size bytes pass walks all p w a over.1)
 
+-- a section that a limit has no room for has bytes
+pub some_size : (src : Counting) (rises : Bool) (size walk : ℕ) → OverBudget src (write_passes rises size * walk + size) → 0 < size
+some_size src rises size walk over = elim (cases_lt 0 size) [
+  | inl some ↦ some
+  | inr none ↦
+      let product = ap (λ n. n * walk) (no_pass rises none) in
+      let inside = (src.within over.most over.is_set).0 in
+      absurd (omega (arith, product, inside, over.above, none))
+]
+  where
+    no_pass : (r : Bool) → size ≤ 0 → write_passes r size ≡ 0
+    no_pass true none = omega (arith, none)
+    no_pass false none = omega (arith, none)
+
 -- what the passes that write ask for, by the order of the entries
 pub write_asks :
     (rises : Bool) (size walk before after : ℕ) → (rises ≡ true → after ≤ before + (walk + size)) → after ≤ before + (windows size * walk + size)

@@ -1,4 +1,4 @@
--- What the file header and a load ask for, and what a fault of theirs says where no limit is set.
+-- What the file header and a load ask for.
 use Rattle.std.proofs.Common.{◌≡◌, ℕ, ◌+◌, ◌*◌, ◌≤◌, List, length, None, Result, Ok, Err, refl, arith}
 use Rattle.std.specs.Prelude.{is_none}
 use Rattle.elf_model.specs.Checks.{first_refusal, length_checks, early_checks}
@@ -8,7 +8,7 @@ use Rattle.elf_record.specs.declared.ehdr.Ehdr.{Ehdr}
 use Rattle.elf_source.specs.Source.{Seen, Counting}
 use Rattle.elf_source.specs.Onward.{ReadsOnward}
 use Rattle.elf_source.proofs.OnwardLaws.{onward_none, onward_one}
-use Rattle.elf_headers.specs.Faults.{FillsOnce, Says, ReadSays}
+use Rattle.elf_headers.specs.Faults.{FillsOnce}
 use Rattle.elf_headers.specs.Load.{early_of, file_header_cost, load_cost}
 use Rattle.elf_headers.specs.declared.fault.Fault.{Fault}
 use Rattle.elf_headers.specs.declared.fault.Fault.TheVariants.{Refused, Source}
@@ -26,11 +26,6 @@ pub early_is : (file : List ℕ) (header : Ehdr) (size headers : ℕ) → IsEhdr
     → first_refusal (early_of header size headers) ≡ first_refusal (early_checks file headers)
 early_is file header size headers is same =
     rw (same, is.e_phnum, is.e_shstrndx, is.e_shnum, is.e_shoff, is.e_shentsize, is.e_phentsize, is.e_phoff) refl
-
--- without a limit nothing is refused for want of budget
-pub unlimited : (old new : Counting) (n : ℕ) (fault : Fault) → old.most ≡ None → Says old new n fault → ReadSays old new fault
-unlimited old new n (Refused refusal) none says = λ budget. let set = (says budget).1.is_set in cc
-unlimited old new n (Source fault at) none says = says
 
 -- one read is onward
 pub fills_onward : {X : Type 0} (one_read : Seen → ℕ → ℕ → Seen → Type 0) (old new : Seen) (at n low high : ℕ) (result : Result X Fault) → FillsOnce one_read old new at n result

@@ -51,4 +51,4 @@ pub record AsksWithin (caps : Caps) (parts : ℕ) (old new : Counting) (result :
 -- what is kept of the source: its size, its failures so far, its file; and no limit is left
 pub record Leaves (old new : Counting) : Type 0 where
   pub keeps : Keeps old.seen new.seen
-  pub unlimited : new.most ≡ None
+  pub free : new.most ≡ None

@@ -117,9 +117,9 @@ pub section_wrote : {a b : Written} {done : Applied} {entries : ℕ} (answer : R
 section_wrote answer wrote = rw wrote.1 (wrote.2, refl)
 
 -- what a refusal of a section says
-section_over : {s1 s2 : Counting} {out : Written} (n cost : ℕ) (refusal : Refusal) → ApplySays s1 s2 out n (RefusedApply refusal) → WantsBudget s1 cost (RefusedApply refusal)
+section_over : (s1 s2 : Counting) (out : Written) (n cost : ℕ) (refusal : Refusal) → ApplySays s1 s2 out n (RefusedApply refusal) → WantsBudget s1 cost (RefusedApply refusal)
     → IsBudget refusal → (refusal.at < s1.seen.size) × IsOver s1 cost
-section_over n cost refusal says wants budget = let over = wants budget in ((says budget).0, (over.most, over.is_set, over.above))
+section_over s1 s2 out n cost refusal says wants budget = let over = wants budget in ((says budget).0, (over.most, over.is_set, over.above))
 
 refused_section : (file : List ℕ) (headers section : ℕ) (layout : Layout) (refusal : Refusal) → applied file headers section layout ≡ Err refusal
     → apply_answer file headers section layout ≡ refused_answer refusal
@@ -127,10 +127,10 @@ refused_section file headers section layout refusal is = rw is refl
 
 -- a section was refused
 pub section_refused :
-    {a b : Written} {s2 : Counting} {out : Written} (caps : Caps) (file : List ℕ) (headers section : ℕ) (layout : Layout) (n cost : ℕ) (result : Result ℕ RunFault) (refusal : Refusal) (s0 s1 : Counting)
+    {a b : Written} (caps : Caps) (file : List ℕ) (headers section : ℕ) (layout : Layout) (n cost : ℕ) (result : Result ℕ RunFault) (refusal : Refusal) (s0 s1 s2 : Counting) (out : Written)
     → s0.asked ≤ 2 ^ 127 → Limits s0 s1 caps.budget → s0.seen.size ≡ length file → ApplySays s1 s2 out n (RefusedApply refusal) → WantsBudget s1 cost (RefusedApply refusal)
     → ((IsBudget refusal → ⊥) → applied file headers section layout ≡ Err refusal) → WroteAnswer a b result (refused_answer refusal)
-    → AnswersWithin caps file cost (apply_answer file headers section layout) a b result (λ answer. ⊤)
-section_refused {s2 = s2} {out = out} caps file headers section layout n cost result refusal s0 s1 small set sized says wants is wrote =
-    answered_refused caps file cost (apply_answer file headers section layout) result refusal s0 s1 small set sized (section_over {s2 = s2} {out = out} n cost refusal says wants)
+    → AnswersWithin caps file cost (apply_answer file headers section layout) a b result (λ answer. Unit {0})
+section_refused caps file headers section layout n cost result refusal s0 s1 s2 out small set sized says wants is wrote =
+    answered_refused caps file cost (apply_answer file headers section layout) result refusal s0 s1 small set sized (section_over s1 s2 out n cost refusal says wants)
     (λ other. refused_section file headers section layout refusal (is other)) wrote tt (λ budget. tt)

@@ -84,9 +84,7 @@ fn every_budget_of_a_lookup(rt: HostRuntime) -> Result<(), Fail> {
 }
 
 #[test]
-fn a_budget_ends_a_lookup_at_the_read_that_it_has_no_room_for(
-    rt: HostRuntime,
-) -> Result<(), Fail> {
+fn a_budget_ends_a_lookup_at_the_read_that_it_has_no_room_for(rt: HostRuntime) -> Result<(), Fail> {
     let file = hash_with_cycle();
     for (budget, text) in [
         (63, b"! 0000000000000000 budget\n".as_slice()),

@@ -41,7 +41,7 @@ impl<S: Source> Counted<S> {
     pub fn new(source: S) -> Self
         ensures seen { result.seen ≡ S.seen source }
         ensures asked { result.asked ≡ 0 }
-        ensures unlimited { result.most ≡ None }
+        ensures free { result.most ≡ None }
         ensures stopped { result.stopped ≡ 0 }
     {
         Counted {

@@ -1,7 +1,10 @@
-use Rattle.std.proofs.Common.{rules, ◌∙◌, ap, arith}
+use Rattle.std.proofs.Common.{refl, rules, ◌∙◌, ap, arith}
 use Rattle.elf_source.specs.Source.{Seen}
+use Rattle.elf_source.proofs.GrowthLaws.{grows_not}
+use Rattle.elf_source.proofs.ReadsLaws.{Reads-none}
 use Rattle.elf_apply.specs.Walk.{walk_all}
-use Rattle.elf_apply.proofs.RoomSteps.{write_asks, open_free, spends_free, says_free, never_wants}
+use Rattle.elf_apply.proofs.BudgetSteps.{spends_reads}
+use Rattle.elf_apply.proofs.RoomSteps.{some_size, write_asks, open_free, spends_free, says_free, never_wants}
 use Rattle.elf_apply.proofs.applying.write_checked.Goals as goal
 
 pub write_section-requires : goal.write_section-requires
@@ -10,6 +13,18 @@ write_section-requires g c = record {
   opened = open_free c.args.src.now c.limit.new.self _ c.limit.ensures _ _ c.requires.may.opened;
   within = omega (arith, c.requires.may.within, ap (λ (s : Seen). s.size) c.limit.ensures.seen);
   fits = omega (arith, c.requires.may.fits, ap (λ (s : Seen). s.size) c.limit.ensures.seen);
+}
+
+pub returns-then-not-has_room : goal.returns-then-not-has_room
+returns-then-not-has_room g c = record {
+  says =
+      let over = c.if-not-has_room.ensures in
+      let some = some_size c.args.src.now c.args.checked.now.rises c.args.target.now.size (walk_all c.args.target.now) over in
+      λ budget. (omega (arith, some, c.requires.may.within), over);
+  reads = spends_reads _ (Reads-none c.args.src.now 0) (omega arith);
+  grows = grows_not _;
+  wrote = omega arith;
+  text = λ file held patches are inside rises. (refl, refl);
 }
 
 pub returns : goal.returns
