@@ -12,6 +12,7 @@ mod loaded;
 mod loading;
 mod ranges;
 mod segment_loading;
+mod stop;
 mod store;
 
 pub use buffers::BUFFER_BYTES;
@@ -22,4 +23,5 @@ pub use filling::fill;
 pub use loaded::Loaded;
 pub use loading::load;
 pub use ranges::ends_outside;
+pub use stop::Stop;
 pub use store::HeaderStore;
