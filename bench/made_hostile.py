@@ -5,7 +5,8 @@
 
 makes them in a folder and prints the name and the description of each. All are ELF64,
 little-endian; the same bytes come each time. Together they take some 80 MB of disk; one has a
-length of 64 GB and takes no room, where the file system can.
+length of 64 GB and takes no room, where the file system can. Those of the last two sorts are made for
+a lookup, and for a section that is written with its relocations applied.
 """
 
 import collections
@@ -21,7 +22,7 @@ ENTRY = struct.Struct("<QQ")
 NOTE = struct.Struct("<III")
 VERSION_NEED = struct.Struct("<HHIII")
 REL, DYN = 1, 3
-PROGBITS, SYMTAB, STRTAB, RELA, DYNAMIC, NOTES, DYNSYM = 1, 2, 3, 4, 6, 7, 11
+PROGBITS, SYMTAB, STRTAB, RELA, HASH, DYNAMIC, NOTES, DYNSYM = 1, 2, 3, 4, 5, 6, 7, 11
 VERNEED, VERSYM = 0x6FFFFFFE, 0x6FFFFFFF
 PT_LOAD, PT_DYNAMIC = 1, 2
 DT_NULL, DT_NEEDED, DT_STRTAB, DT_STRSZ = 0, 1, 5, 10
@@ -33,8 +34,10 @@ MANY = 65000
 MORE_HEADERS = ("--headers", "65279")
 
 # A file: its name, what is in it, the options that elfsee gets beside its usual ones, its pieces by
-# their offsets, and its length where it is longer than they are.
-Hostile = collections.namedtuple("Hostile", "name says options pieces length")
+# their offsets, and its length where it is longer than they are; and what elfsee is to do with it,
+# with the words that come behind the file.
+Hostile = collections.namedtuple("Hostile", "name says options pieces length command words",
+                                 defaults=("show", ()))
 
 
 def header(kind=REL, phoff=0, phnum=0, shoff=0, shnum=0):
@@ -50,8 +53,8 @@ def symbols_section(offset, size, link, kind=SYMTAB):
     return section(kind, offset, size, link, 1, SYMBOL.size)
 
 
-def symbol(name=1, value=0):
-    return SYMBOL.pack(name, GLOBAL_FUNCTION, 0, ABSOLUTE, value, 0)
+def symbol(name=1, value=0, index=ABSOLUTE):
+    return SYMBOL.pack(name, GLOBAL_FUNCTION, 0, index, value, 0)
 
 
 def named(rows):
@@ -227,11 +230,86 @@ def versions_in_a_circle():
         kind=DYN)
 
 
+def words_of(*numbers):
+    return b"".join(map(struct.Struct("<I").pack, numbers))
+
+
+def of_hash(name, says, table, wanted, symbols=named(2), strings=b"\0a\0"):
+    """A library with a hash table in which a name is looked up."""
+    made = file(
+        name, says, [table, symbols, strings],
+        lambda table_at, symbols_at, strings_at: [
+            section(HASH, table_at, len(table), 2, 0, 4),
+            symbols_section(symbols_at, len(symbols), 3, DYNSYM),
+            section(STRTAB, strings_at, len(strings))],
+        kind=DYN)
+    return made._replace(command="find", words=(wanted,))
+
+
+def lookups():
+    """Hash tables that are made for one lookup in them."""
+    count, length = 1_000_003, 4000
+    # Each symbol's chain goes on far from it, and each name differs from the wanted one at its end.
+    around = words_of(*((row + 380_011) % count for row in range(count)))
+    far = b"".join(symbol(1 + row * 7919 % 60_000) for row in range(1, count))
+    yield of_hash(
+        "chain_through_all",
+        "a chain through a million symbols, none near the last, whose names differ from the wanted"
+        " one in its last byte of 4,001",
+        words_of(1, count, 1) + around, "n" * length + "x", bytes(SYMBOL.size) + far,
+        b"\0" + b"n" * (60_000 + length) + b"\0")
+    yield of_hash("chain_in_a_circle", "a chain from a symbol to itself",
+                  words_of(1, 2, 1, 0, 1), "b")
+    yield of_hash("no_buckets", "a hash table of no bucket", words_of(0, 2, 0, 1), "a")
+    yield of_hash("chains_past_the_table",
+                  "a hash table of 20 bytes that says it has 4,294,967,295 chains",
+                  words_of(1, 0xFFFFFFFF, 1, 0, 0), "a")
+
+
+def of_entries(name, says, content, entries, words, count=1, strings=b"\0a\0", **more):
+    """An object whose section 1 has relocation entries against one undefined symbol."""
+    symbols = bytes(SYMBOL.size) + symbol(1, 0, 0)
+
+    def sections(content_at, entries_at, symbols_at, strings_at):
+        table = section(RELA, entries_at, len(entries), 2, 1, RELOCATION.size)
+        return [section(PROGBITS, content_at, len(content)), symbols_section(symbols_at, 48, 3),
+                section(STRTAB, strings_at, len(strings)), *[table] * count]
+    made = file(name, says, [content, entries, symbols, strings], sections, **more)
+    return made._replace(command="apply", words=("1", *words))
+
+
+def applied_sections():
+    """Sections whose relocations are many, or in an order that is dear."""
+    size, absolute, given = 2_000_000, (1 << 32) + 1, "def:a=0x401000"
+    falling = b"".join(RELOCATION.pack(size - 8 - 6 * row, absolute, row) for row in range(300_000))
+    yield of_entries("falling_offsets",
+                     "300,000 relocation entries whose offsets fall, for a section of 2 MB",
+                     bytes(size), falling, (given,))
+    yield of_entries(
+        "shared_entries",
+        "65,000 section headers share one table of 1,000 relocation entries, all for one section",
+        bytes(8000),
+        b"".join(RELOCATION.pack(8 * row, absolute, row) for row in range(1000)), (given,), MANY,
+        options=MORE_HEADERS)
+    long_name = b"n" * 255
+    yield of_entries(
+        "names_like_the_layouts",
+        "100,000 relocation entries against a symbol whose name differs from 31 names of the layout"
+        " in its last bytes alone", bytes(800_000),
+        b"".join(RELOCATION.pack(8 * row, absolute, 0) for row in range(100_000)),
+        tuple(f"def:{'n' * 253}{row:02}=0x{row:x}" for row in range(31))
+        + (f"def:{'n' * 255}=0x401000",), strings=b"\0" + long_name + b"\0")
+    yield of_entries("place_near_2_to_64", "a relocation entry for the offset 2^64 - 4", bytes(48),
+                     RELOCATION.pack(2 ** 64 - 4, absolute, 0), (given,))
+
+
 def hostile_files():
     yield from many_rows()
     yield from long_names()
     yield from numbers()
     yield from entries_and_notes()
+    yield from lookups()
+    yield from applied_sections()
 
 
 def make_file(folder, hostile):
