@@ -23,11 +23,11 @@ use Rattle.elf_apply.specs.Applied.{HeldIs, Applies, StandsFor, WritesOrWants, t
 use Rattle.elf_apply.specs.Entries.{target_as}
 use Rattle.elf_apply.specs.Passes.{Checks, folded, rising}
 use Rattle.elf_apply.specs.Walk.{changes_all, changes_from, sections_of}
-use Rattle.elf_apply.specs.Windows.{fault_as}
+use Rattle.elf_headers.specs.Stops.{stop_of}
 use Rattle.elf_apply.specs.declared.applying.Applied.{Applied}
 use Rattle.elf_apply.specs.declared.entry.Target.{Target as TargetCode}
-use Rattle.elf_apply.specs.declared.fault.ApplyFault.{ApplyFault}
-use Rattle.elf_apply.specs.declared.fault.ApplyFault.TheVariants.{Refused, Source, Out}
+use Rattle.elf_headers.specs.declared.stop.Stop.{Stop}
+use Rattle.elf_headers.specs.declared.stop.Stop.TheVariants.{Refused, Source, Out}
 use Rattle.std.proofs.lemmas.Bool.{ne_eqb}
 use Rattle.elf_apply.proofs.WindowSteps.{front_none}
 
@@ -142,13 +142,13 @@ module _ (file : List ℕ) (headers : ℕ) (target : TargetCode) (at : ℕ) (bel
   of_definition f = ap f (changes_same file headers target at belongs long stands)
 
   pub check_failed :
-      (a : Written) (fault : Fault) (result : Result Applied ApplyFault) → result ≡ Err (fault_as fault)
+      (a : Written) (fault : Fault) (result : Result Applied Stop) → result ≡ Err (stop_of fault)
       → Checks (Err fault) (folded rising (true, 0) (changes_all file target)) → Applies a a result entries the_answer
   check_failed a (Refuses refusal) result is h =
-      let P : Result Applied ApplyFault → Type 0 = λ r. Applies a a r entries the_answer in
+      let P : Result Applied Stop → Type 0 = λ r. Applies a a r entries the_answer in
       subst P (sym is) (λ other. applied-fault file headers target.section target.layout.now refusal stands.passed (sym (of_definition patches_of) ∙ folded_err rising (true, 0) refusal (changes_all file target) (h other)), refl)
   check_failed a (Unread fault offset) result is h =
-      let P : Result Applied ApplyFault → Type 0 = λ r. Applies a a r entries the_answer in subst P (sym is) (front_none a (text_of the_answer))
+      let P : Result Applied Stop → Type 0 = λ r. Applies a a r entries the_answer in subst P (sym is) (front_none a (text_of the_answer))
 
   pub text_is : (patches : List Patch) → patches_of (changes_all file target) ≡ Ok patches → the_answer ≡ Ok (patched patches (slice file at target.size))
   text_is patches h =
@@ -159,7 +159,7 @@ module _ (file : List ℕ) (headers : ℕ) (target : TargetCode) (at : ℕ) (bel
       let within = changes_inside (target_of file target.section target.layout.now) patches (sym (of_definition patches_of) ∙ h) in
       let P : ℕ → Type 0 = λ n. AllInside n patches in subst P (sym (sym long ∙ ap length stands.bytes)) within
 
-pub writes_failed : (X : Type 0) (a b : Written) (fault : ApplyFault) (text : List ℕ) (entries : ℕ) (answer : Result (List ℕ) Refusal) → answer ≡ Ok text → WritesOrWants {X = X} a b (Err fault) text → Applies a b (Err fault) entries answer
+pub writes_failed : (X : Type 0) (a b : Written) (fault : Stop) (text : List ℕ) (entries : ℕ) (answer : Result (List ℕ) Refusal) → answer ≡ Ok text → WritesOrWants {X = X} a b (Err fault) text → Applies a b (Err fault) entries answer
 writes_failed X a b (Refused refusal) text entries answer e h = (λ other. absurd (other h.0), h.1)
 writes_failed X a b (Source fault at) text entries answer e h = let P : Result (List ℕ) Refusal → Type 0 = λ r. TakesFront a b (text_of r) in subst P (sym e) h
 writes_failed X a b (Out fault) text entries answer e h = let P : Result (List ℕ) Refusal → Type 0 = λ r. TakesFront a b (text_of r) in subst P (sym e) h
@@ -167,13 +167,13 @@ writes_failed X a b (Out fault) text entries answer e h = let P : Result (List �
 -- the whole request
 module _ (file : List ℕ) (headers section : ℕ) (layout : Layout) (entries : ℕ) where
   failed_before :
-      (a : Written) (fault : Fault) (result : Result Applied ApplyFault) → result ≡ Err (fault_as fault)
+      (a : Written) (fault : Fault) (result : Result Applied Stop) → result ≡ Err (stop_of fault)
       → ((refusal : Refusal) → fault ≡ Refuses refusal → (IsBudget refusal → ⊥) → first_refusal (before_entries file headers section) ≡ Some refusal) → Applies a a result entries (applied file headers section layout)
   failed_before a (Refuses refusal) result is first =
-      let P : Result Applied ApplyFault → Type 0 = λ r. Applies a a r entries (applied file headers section layout) in
+      let P : Result Applied Stop → Type 0 = λ r. Applies a a r entries (applied file headers section layout) in
       subst P (sym is) (λ other. applied-refused file headers section layout refusal (first refusal refl other), refl)
   failed_before a (Unread fault offset) result is first =
-      let P : Result Applied ApplyFault → Type 0 = λ r. Applies a a r entries (applied file headers section layout) in
+      let P : Result Applied Stop → Type 0 = λ r. Applies a a r entries (applied file headers section layout) in
       subst P (sym is) (front_none a (text_of (applied file headers section layout)))
 
   before_load : (refusal : Refusal) → first_refusal (header_checks file ++ load_checks file headers) ≡ Some refusal → first_refusal (before_entries file headers section) ≡ Some refusal
@@ -184,20 +184,20 @@ module _ (file : List ℕ) (headers section : ℕ) (layout : Layout) (entries : 
       first_refusal-none (header_checks file ++ load_checks file headers) (apply_checks file section) (first_refusal-none (header_checks file) (load_checks file headers) passed ∙ loads)
 
   pub header_failed :
-      (a : Written) (fault : Fault) (result : Result Applied ApplyFault) → result ≡ Err (fault_as fault) → HeaderRead file (Err fault) → Applies a a result entries (applied file headers section layout)
+      (a : Written) (fault : Fault) (result : Result Applied Stop) → result ≡ Err (stop_of fault) → HeaderRead file (Err fault) → Applies a a result entries (applied file headers section layout)
   header_failed a fault result is read = failed_before a fault result is (λ refusal same other.
       let P : Fault → Type 0 = λ f. HeaderRead file (Err f) in
       before_load refusal (first_refusal-some (header_checks file) (load_checks file headers) refusal (subst P same read other)))
 
   pub load_failed :
-      (a : Written) (fault : Fault) (result : Result Applied ApplyFault) (store : Stored) → result ≡ Err (fault_as fault) → first_refusal (header_checks file) ≡ None → store.slots ≡ headers → LoadedAs file (Err fault) store
+      (a : Written) (fault : Fault) (result : Result Applied Stop) (store : Stored) → result ≡ Err (stop_of fault) → first_refusal (header_checks file) ≡ None → store.slots ≡ headers → LoadedAs file (Err fault) store
       → Applies a a result entries (applied file headers section layout)
   load_failed a fault result store is passed slots read = failed_before a fault result is (λ refusal same other.
       let P : Fault → Type 0 = λ f. LoadedAs file (Err f) store in
       before_load refusal (first_refusal-none (header_checks file) (load_checks file headers) passed ∙ (ap (λ n. first_refusal (load_checks file n)) (sym slots) ∙ subst P same read other)))
 
   pub request_failed :
-      (a : Written) (fault : Fault) (result : Result Applied ApplyFault) → result ≡ Err (fault_as fault) → first_refusal (header_checks file) ≡ None → first_refusal (load_checks file headers) ≡ None → HeldIs file section (Err fault)
+      (a : Written) (fault : Fault) (result : Result Applied Stop) → result ≡ Err (stop_of fault) → first_refusal (header_checks file) ≡ None → first_refusal (load_checks file headers) ≡ None → HeldIs file section (Err fault)
       → Applies a a result entries (applied file headers section layout)
   request_failed a fault result is passed loads held = failed_before a fault result is (λ refusal same other.
       let P : Fault → Type 0 = λ f. HeldIs file section (Err f) in before_request passed loads ∙ subst P same held)

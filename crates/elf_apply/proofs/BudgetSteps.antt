@@ -13,9 +13,10 @@ use Rattle.elf_headers.specs.Faults.{IsOfCheck, Says}
 use Rattle.elf_headers.specs.declared.fault.Fault.{Fault}
 use Rattle.elf_headers.specs.declared.fault.Fault.TheVariants.{Refused as Refuses, Source as Unread}
 use Rattle.elf_apply.specs.Applied.{ApplySays, OverBudget, ReadsWithin, WantsBudget, write_passes}
-use Rattle.elf_apply.specs.Windows.{fault_as, windows}
-use Rattle.elf_apply.specs.declared.fault.ApplyFault.{ApplyFault}
-use Rattle.elf_apply.specs.declared.fault.ApplyFault.TheVariants.{Refused, Source, Out}
+use Rattle.elf_apply.specs.Windows.{windows}
+use Rattle.elf_headers.specs.Stops.{stop_of}
+use Rattle.elf_headers.specs.declared.stop.Stop.{Stop}
+use Rattle.elf_headers.specs.declared.stop.Stop.TheVariants.{Refused, Source, Out}
 
 -- what was asked for
 pub spends_reads : {a b : Counting} {n : ℕ} (k : ℕ) → Reads a b n → b.asked ≤ a.asked + k → ReadsWithin a b k
@@ -42,48 +43,48 @@ over_then : (a b : Counting) (m k : ℕ) → a.most ≡ b.most → b.asked + m �
 over_then a b m k same within over = record { most = over.most; is_set = same ∙ over.is_set; above = omega (arith, over.above, within) }
 
 -- a fault of a read
-pub fault_applies : (a b : Counting) (out : Written) (n k : ℕ) (fault : Fault) → n ≤ k → Says a b n fault → ApplySays a b out k (fault_as fault)
+pub fault_applies : (a b : Counting) (out : Written) (n k : ℕ) (fault : Fault) → n ≤ k → Says a b n fault → ApplySays a b out k (stop_of fault)
 fault_applies a b out n k (Refuses refusal) few says = λ budget.
     let said = says budget in
     let over = said.1 in (said.0, record { most = over.most; is_set = over.is_set; above = omega (arith, over.above, few) })
 fault_applies a b out n k (Unread fault at) few says = says
 
 -- a check's refusal is none
-pub check_applies : (a b : Counting) (out : Written) (k : ℕ) (fault : Fault) → IsOfCheck fault → ApplySays a b out k (fault_as fault)
+pub check_applies : (a b : Counting) (out : Written) (k : ℕ) (fault : Fault) → IsOfCheck fault → ApplySays a b out k (stop_of fault)
 check_applies a b out k (Refuses refusal) check = λ budget. absurd (check budget)
 check_applies a b out k (Unread fault at) check = absurd check
 
 -- a want of budget is what a fault says
-pub says_wants : (a b : Counting) (out : Written) (n : ℕ) (fault : ApplyFault) → ApplySays a b out n fault → WantsBudget a n fault
+pub says_wants : (a b : Counting) (out : Written) (n : ℕ) (fault : Stop) → ApplySays a b out n fault → WantsBudget a n fault
 says_wants a b out n (Refused refusal) says = λ budget. (says budget).1
 says_wants a b out n (Source fault at) says = tt
 says_wants a b out n (Out fault) says = tt
 
-pub fault_wants : (a b : Counting) (n k : ℕ) (out : Written) (fault : Fault) → n ≤ k → Says a b n fault → WantsBudget a k (fault_as fault)
-fault_wants a b n k out fault few says = says_wants a b out k (fault_as fault) (fault_applies a b out n k fault few says)
+pub fault_wants : (a b : Counting) (n k : ℕ) (out : Written) (fault : Fault) → n ≤ k → Says a b n fault → WantsBudget a k (stop_of fault)
+fault_wants a b n k out fault few says = says_wants a b out k (stop_of fault) (fault_applies a b out n k fault few says)
 
-pub check_wants : (a : Counting) (k : ℕ) (fault : Fault) → IsOfCheck fault → WantsBudget a k (fault_as fault)
+pub check_wants : (a : Counting) (k : ℕ) (fault : Fault) → IsOfCheck fault → WantsBudget a k (stop_of fault)
 check_wants a k (Refuses refusal) check = λ budget. absurd (check budget)
 check_wants a k (Unread fault at) check = tt
 
 -- the same after reads
-pub says_after : {a b : Counting} {n : ℕ} (c : Counting) (out : Written) (m k : ℕ) (fault : ApplyFault) → Reads a b n → b.asked + m ≤ a.asked + k → ApplySays b c out m fault → ApplySays a c out k fault
+pub says_after : {a b : Counting} {n : ℕ} (c : Counting) (out : Written) (m k : ℕ) (fault : Stop) → Reads a b n → b.asked + m ≤ a.asked + k → ApplySays b c out m fault → ApplySays a c out k fault
 says_after {a = a} {b = b} c out m k (Refused refusal) reads within says = λ budget.
     let said = says budget in (omega (arith, said.0, reads.keeps.same_size), over_then a b m k (sym reads.same_limit) within said.1)
 says_after {a = a} {b = b} c out m k (Source fault at) reads within says = (Faults-then a.seen b.seen c.seen fault reads.keeps says.0, says.1)
 says_after c out m k (Out fault) reads within says = says
 
-pub wants_after : {a b : Counting} {n : ℕ} (m k : ℕ) (fault : ApplyFault) → Reads a b n → b.asked + m ≤ a.asked + k → WantsBudget b m fault → WantsBudget a k fault
+pub wants_after : {a b : Counting} {n : ℕ} (m k : ℕ) (fault : Stop) → Reads a b n → b.asked + m ≤ a.asked + k → WantsBudget b m fault → WantsBudget a k fault
 wants_after {a = a} {b = b} m k (Refused refusal) reads within wants = λ budget. over_then a b m k (sym reads.same_limit) within (wants budget)
 wants_after m k (Source fault at) reads within wants = tt
 wants_after m k (Out fault) reads within wants = tt
 
 -- of an answer
-module _ {X : Type 0} (result : Result X ApplyFault) where
-  by_fault : {P Q : ApplyFault → Type 0} → ((fault : ApplyFault) → P fault → Q fault) → IfErr result P → IfErr result Q
+module _ {X : Type 0} (result : Result X Stop) where
+  by_fault : {P Q : Stop → Type 0} → ((fault : Stop) → P fault → Q fault) → IfErr result P → IfErr result Q
   by_fault {P = P} {Q = Q} step h = of_result result h
     where
-      of_result : (r : Result X ApplyFault) → IfErr r P → IfErr r Q
+      of_result : (r : Result X Stop) → IfErr r P → IfErr r Q
       of_result (Ok x) h = tt
       of_result (Err fault) h = step fault h
 

@@ -15,11 +15,12 @@ use Rattle.elf_headers.specs.declared.fault.Fault.{Fault}
 use Rattle.elf_headers.specs.declared.fault.Fault.TheVariants.{Refused as Refuses, Source as Unread}
 use Rattle.elf_apply.specs.InOrder.{Holding, Midway, Rises, UnderWay, IsNoRefusal}
 use Rattle.elf_apply.specs.Walk.{FindsEntry, changes_left}
-use Rattle.elf_apply.specs.Windows.{WritesBytes, IsUnread, fault_as}
+use Rattle.elf_apply.specs.Windows.{WritesBytes, IsUnread}
+use Rattle.elf_headers.specs.Stops.{stop_of}
 use Rattle.elf_apply.specs.declared.entry.Target.{Target as TargetCode}
 use Rattle.elf_apply.specs.declared.walk.Entries.{Entries}
-use Rattle.elf_apply.specs.declared.fault.ApplyFault.{ApplyFault}
-use Rattle.elf_apply.specs.declared.fault.ApplyFault.TheVariants.{Refused, Source, Out}
+use Rattle.elf_headers.specs.declared.stop.Stop.{Stop}
+use Rattle.elf_headers.specs.declared.stop.Stop.TheVariants.{Refused, Source, Out}
 use Rattle.elf_apply.proofs.WindowSteps.{IsNotBudget, and_is, window_more, window_stopped, take_more}
 use Rattle.elf_model.proofs.Slices.{slice-size, slice-slice, slice-rest}
 
@@ -150,28 +151,28 @@ module _ (file : List ℕ) (at size : ℕ) (now : List ℕ) (h after : Holding) 
       ∙ (ap (λ l. slice now h.low k ++ l) behind ∙ sym (slice_split now h.low (end - h.low) k (end - low) (omega (arith, there, at_low, more))))
 
 -- what is written is a front, and then more
-pub writes_then : (X : Type 0) (a b c : Written) (result : Result X ApplyFault) (xs ys : List ℕ) → Takes a b xs → WritesBytes b c result ys → WritesBytes a c result (xs ++ ys)
+pub writes_then : (X : Type 0) (a b c : Written) (result : Result X Stop) (xs ys : List ℕ) → Takes a b xs → WritesBytes b c result ys → WritesBytes a c result (xs ++ ys)
 writes_then X a b c (Ok x) xs ys before this = Takes-then xs ys before this
 writes_then X a b c (Err (Refused refusal)) xs ys before this = absurd this
 writes_then X a b c (Err (Source fault at)) xs ys before this = TakesFront-then xs ys before this
 writes_then X a b c (Err (Out fault)) xs ys before this = TakesFront-then xs ys before this
 
-pub writes_as : (X : Type 0) (a b : Written) (result : Result X ApplyFault) (xs ys : List ℕ) → xs ≡ ys → WritesBytes a b result xs → WritesBytes a b result ys
+pub writes_as : (X : Type 0) (a b : Written) (result : Result X Stop) (xs ys : List ℕ) → xs ≡ ys → WritesBytes a b result xs → WritesBytes a b result ys
 writes_as X a b result xs ys e h = let P : List ℕ → Type 0 = λ t. WritesBytes a b result t in subst P e h
 
 pub front_more : (a b : Written) (text xs ys : List ℕ) → text ≡ xs ++ ys → TakesFront a b xs → TakesFront a b text
 front_more a b text xs ys e h = let P : List ℕ → Type 0 = λ t. TakesFront a b t in subst P (sym e) (TakesFront-more xs ys h)
 
 -- all of it was written, and then a read failed
-pub unread_after : (X : Type 0) (a b : Written) (fault : Fault) (result : Result X ApplyFault) (text : List ℕ) → result ≡ Err (fault_as fault) → IsUnread fault → Takes a b text → WritesBytes a b result text
+pub unread_after : (X : Type 0) (a b : Written) (fault : Fault) (result : Result X Stop) (text : List ℕ) → result ≡ Err (stop_of fault) → IsUnread fault → Takes a b text → WritesBytes a b result text
 unread_after X a b (Refuses refusal) result text is un h = absurd un
 unread_after X a b (Unread fault at) result text is un h =
-    let P : Result X ApplyFault → Type 0 = λ r. WritesBytes a b r text in
+    let P : Result X Stop → Type 0 = λ r. WritesBytes a b r text in
     subst P (sym is) (record { front = text; rest = []; split = sym (append-nil text); takes = h })
 
-pub unread_kept : (fault : Fault) (other : ApplyFault) → other ≡ fault_as fault → IsUnread fault → IsNoRefusal other
+pub unread_kept : (fault : Fault) (other : Stop) → other ≡ stop_of fault → IsUnread fault → IsNoRefusal other
 unread_kept (Refuses refusal) other is un = absurd un
-unread_kept (Unread fault at) other is un = let P : ApplyFault → Type 0 = λ f. IsNoRefusal f in subst P (sym is) tt
+unread_kept (Unread fault at) other is un = let P : Stop → Type 0 = λ f. IsNoRefusal f in subst P (sym is) tt
 
 -- patches that never fall
 rises_less : (low high : ℕ) (patches : List Patch) → low ≤ high → Rises high patches → Rises low patches
@@ -246,7 +247,7 @@ module _ (base text : List ℕ) (h : Holding) (left : List Change) (a b : Writte
           takes = subst Q (sym (take_put known.now patch patch.at inside (omega arith)) ∙ ap (λ k. take k (put patch known.now)) (sym low)) all;
         }
 
-    pub underway_stopped : (X : Type 0) (c : Written) (fault : ApplyFault) → WritesBytes {X = X} b c (Err fault) (slice known.now h.low (patch.at - h.low)) → WritesBytes {X = X} a c (Err fault) text
+    pub underway_stopped : (X : Type 0) (c : Written) (fault : Stop) → WritesBytes {X = X} b c (Err fault) (slice known.now h.low (patch.at - h.low)) → WritesBytes {X = X} a c (Err fault) text
     underway_stopped X c fault this =
         let from : h.low ≤ patch.at = underway_first in
         let step : patch.at ≡ h.low + (patch.at - h.low) = omega arith in
@@ -265,20 +266,20 @@ module _ (base text : List ℕ) (h : Holding) (left : List Change) (a b : Writte
       let same : known.patches ≡ [] = cc in
       sym (ap (λ ps. patched ps known.now) same) ∙ known.ends
 
-  pub underway_end : (X : Type 0) (size : ℕ) (c : Written) (result : Result X ApplyFault) → left ≡ [] → length base ≡ size → h.low ≤ size → WritesBytes b c result (slice known.now h.low (size - h.low)) → WritesBytes a c result text
+  pub underway_end : (X : Type 0) (size : ℕ) (c : Written) (result : Result X Stop) → left ≡ [] → length base ≡ size → h.low ≤ size → WritesBytes b c result (slice known.now h.low (size - h.low)) → WritesBytes a c result text
   underway_end X size c result e sized le this =
       let step : size ≡ h.low + (size - h.low) = omega arith in
       let long : length known.now ≡ size = known.midway.long ∙ sized in
       writes_as X a c result _ _ (sym (take_more known.now h.low (size - h.low)) ∙ (ap (λ k. take k known.now) (sym step) ∙ (take_all size known.now (omega (arith, long)) ∙ now_is e)))
       (writes_then X a b c result (take h.low known.now) (slice known.now h.low (size - h.low)) known.takes this)
 
-  pub underway_failed : (X : Type 0) (fault : Fault) (result : Result X ApplyFault) (rest : (refusal : Refusal) → fault ≡ Refuses refusal → (more : List Change) × (left ≡ Fails refusal ∷ more)) → result ≡ Err (fault_as fault) → WritesBytes a b result text
+  pub underway_failed : (X : Type 0) (fault : Fault) (result : Result X Stop) (rest : (refusal : Refusal) → fault ≡ Refuses refusal → (more : List Change) × (left ≡ Fails refusal ∷ more)) → result ≡ Err (stop_of fault) → WritesBytes a b result text
   unfolding patches_of
   underway_failed X (Refuses refusal) result rest is =
       let found = rest refusal refl in
       let wrong : Err refusal ≡ Ok known.patches = sym (ap patches_of found.1) ∙ known.are in
       absurd (cc)
-  underway_failed X (Unread fault at) result rest is = let P : Result X ApplyFault → Type 0 = λ r. WritesBytes a b r text in subst P (sym is) underway_front
+  underway_failed X (Unread fault at) result rest is = let P : Result X Stop → Type 0 = λ r. WritesBytes a b r text in subst P (sym is) underway_front
 
 -- the begin
 pub underway_start : (base : List ℕ) (h : Holding) (left : List Change) (patches : List Patch) (a : Written) → h.low ≡ 0 → h.bytes ≡ [] → patches_of left ≡ Ok patches → AllInside (length base) patches → Rises 0 patches

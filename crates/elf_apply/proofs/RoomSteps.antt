@@ -14,8 +14,8 @@ use Rattle.elf_apply.specs.Applied.{ApplySays, OverBudget, RoomFor, ReadsWithin,
 use Rattle.elf_apply.specs.Walk.{beside_entry_cost, entries_from, walk_all}
 use Rattle.elf_apply.specs.Windows.{ApplyFaultSays, WritesBytes, windows}
 use Rattle.elf_apply.specs.declared.entry.Target.{Target}
-use Rattle.elf_apply.specs.declared.fault.ApplyFault.{ApplyFault}
-use Rattle.elf_apply.specs.declared.fault.ApplyFault.TheVariants.{Refused, Source, Out}
+use Rattle.elf_headers.specs.declared.stop.Stop.{Stop}
+use Rattle.elf_headers.specs.declared.stop.Stop.TheVariants.{Refused, Source, Out}
 
 -- what a pass asks for, by the number of entries and what each of them asks for
 walk_by : (target : Target) (entries each : ℕ) → entries ≡ entries_from target 0 → each ≡ 48 + layout_names_cost target.layout.now → entries * each ≡ walk_all target
@@ -119,7 +119,7 @@ module _ (a b : Counting) (bytes : Option ℕ) (limits : Limits a b bytes) where
     within = λ most set. let fits = room most set in omega (arith, limits.asked, asked, fits);
   }
 
-  pub says_free : {X : Type 0} (d : Counting) (out : Written) (n : ℕ) (result : Result X ApplyFault) → IfErr result (ApplyFaultSays b d out) → IfErr result (ApplySays a d out n)
+  pub says_free : {X : Type 0} (d : Counting) (out : Written) (n : ℕ) (result : Result X Stop) → IfErr result (ApplyFaultSays b d out) → IfErr result (ApplySays a d out n)
   says_free d out n (Ok x) says = tt
   says_free d out n (Err (Refused refusal)) says = λ budget. absurd (says budget)
   says_free d out n (Err (Source fault at)) says = (let P : Seen → Type 0 = λ s. Faults s d.seen fault in subst P limits.seen says.0, says.1)
@@ -135,14 +135,14 @@ module _ (a b d : Counting) (bytes : Option ℕ) (limits : Limits b d bytes) whe
     within = λ most set. let inside = spends.within most set in omega (arith, limits.asked, inside);
   }
 
-  pub says_last : {X : Type 0} (out : Written) (n : ℕ) (result : Result X ApplyFault) → IfErr result (ApplySays a b out n) → IfErr result (ApplySays a d out n)
+  pub says_last : {X : Type 0} (out : Written) (n : ℕ) (result : Result X Stop) → IfErr result (ApplySays a b out n) → IfErr result (ApplySays a d out n)
   says_last out n (Ok x) says = tt
   says_last out n (Err (Refused refusal)) says = says
   says_last out n (Err (Source fault at)) says = (let P : Seen → Type 0 = λ s. Faults a.seen s fault in subst P (sym limits.seen) says.0, says.1 ∙ sym limits.stopped)
   says_last out n (Err (Out fault)) says = says
 
 -- a text that was written, where nothing is refused
-pub never_wants : {X : Type 0} (old new : Written) (result : Result X ApplyFault) (text : List ℕ) → WritesBytes old new result text → WritesOrWants old new result text
+pub never_wants : {X : Type 0} (old new : Written) (result : Result X Stop) (text : List ℕ) → WritesBytes old new result text → WritesOrWants old new result text
 never_wants old new (Ok x) text h = h
 never_wants old new (Err (Refused refusal)) text h = absurd h
 never_wants old new (Err (Source fault at)) text h = h

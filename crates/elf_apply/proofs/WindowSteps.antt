@@ -16,10 +16,11 @@ use Rattle.elf_source.proofs.ReadsLaws.{Faults-then}
 use Rattle.elf_headers.specs.declared.fault.Fault.{Fault}
 use Rattle.elf_headers.specs.declared.fault.Fault.TheVariants.{Refused as Refuses, Source as Unread}
 use Rattle.elf_apply.specs.Passes.{folded, storing, Folds}
-use Rattle.elf_apply.specs.Windows.{WritesBytes, ApplyFaultSays, IsUnread, windows, fault_as}
+use Rattle.elf_apply.specs.Windows.{WritesBytes, ApplyFaultSays, IsUnread, windows}
+use Rattle.elf_headers.specs.Stops.{stop_of}
 use Rattle.elf_headers.specs.Faults.{ReadSays}
-use Rattle.elf_apply.specs.declared.fault.ApplyFault.{ApplyFault}
-use Rattle.elf_apply.specs.declared.fault.ApplyFault.TheVariants.{Refused, Source, Out}
+use Rattle.elf_headers.specs.declared.stop.Stop.{Stop}
+use Rattle.elf_headers.specs.declared.stop.Stop.TheVariants.{Refused, Source, Out}
 use Rattle.elf_model.proofs.Slices.{slice-size, slice-slice}
 
 -- a pass in a window is the patches' parts, stored one after another
@@ -64,27 +65,27 @@ not_budget a b (Refuses refusal) says = says
 not_budget a b (Unread fault at) says = tt
 
 -- a pass failed: a refusal can't be, and a fault of the source leaves nothing written
-pub pass_failed : (X : Type 0) (a : Written) (fault : Fault) (result : Result X ApplyFault) (text value : List ℕ) (answer : Result (List ℕ) Refusal)
-    → result ≡ Err (fault_as fault) → answer ≡ Ok text → IsNotBudget fault → Folds {X = X} (Err fault) value answer → WritesBytes a a result text
+pub pass_failed : (X : Type 0) (a : Written) (fault : Fault) (result : Result X Stop) (text value : List ℕ) (answer : Result (List ℕ) Refusal)
+    → result ≡ Err (stop_of fault) → answer ≡ Ok text → IsNotBudget fault → Folds {X = X} (Err fault) value answer → WritesBytes a a result text
 pass_failed X a (Refuses refusal) result text value answer is ok other folds = let refused = folds other in cc
 pass_failed X a (Unread fault at) result text value answer is ok other folds =
-    let P : Result X ApplyFault → Type 0 = λ r. WritesBytes a a r text in subst P (sym is) (front_none a text)
+    let P : Result X Stop → Type 0 = λ r. WritesBytes a a r text in subst P (sym is) (front_none a text)
 
 -- a read failed
-pub read_failed : (X : Type 0) (a : Written) (fault : Fault) (result : Result X ApplyFault) (text : List ℕ) → result ≡ Err (fault_as fault) → IsUnread fault → WritesBytes a a result text
+pub read_failed : (X : Type 0) (a : Written) (fault : Fault) (result : Result X Stop) (text : List ℕ) → result ≡ Err (stop_of fault) → IsUnread fault → WritesBytes a a result text
 read_failed X a (Refuses refusal) result text is unread = absurd unread
 read_failed X a (Unread fault at) result text is unread =
-    let P : Result X ApplyFault → Type 0 = λ r. WritesBytes a a r text in subst P (sym is) (front_none a text)
+    let P : Result X Stop → Type 0 = λ r. WritesBytes a a r text in subst P (sym is) (front_none a text)
 
 -- a fault of a read is one of a call that writes
-pub fault_says : (a b : Counting) (out : Written) (fault : Fault) → ReadSays a b fault → ApplyFaultSays a b out (fault_as fault)
+pub fault_says : (a b : Counting) (out : Written) (fault : Fault) → ReadSays a b fault → ApplyFaultSays a b out (stop_of fault)
 fault_says a b out (Refuses refusal) says = says
 fault_says a b out (Unread fault at) says = says
 
-pub says_as : (a b : Counting) (out : Written) (fault : Fault) (other : ApplyFault) → other ≡ fault_as fault → ReadSays a b fault → ApplyFaultSays a b out other
-says_as a b out fault other is says = let P : ApplyFault → Type 0 = λ f. ApplyFaultSays a b out f in subst P (sym is) (fault_says a b out fault says)
+pub says_as : (a b : Counting) (out : Written) (fault : Fault) (other : Stop) → other ≡ stop_of fault → ReadSays a b fault → ApplyFaultSays a b out other
+says_as a b out fault other is says = let P : Stop → Type 0 = λ f. ApplyFaultSays a b out f in subst P (sym is) (fault_says a b out fault says)
 
-pub FaultSays-then : (a b c : Counting) (n : ℕ) (out : Written) (fault : ApplyFault) → Reads a b n → ApplyFaultSays b c out fault → ApplyFaultSays a c out fault
+pub FaultSays-then : (a b c : Counting) (n : ℕ) (out : Written) (fault : Stop) → Reads a b n → ApplyFaultSays b c out fault → ApplyFaultSays a c out fault
 FaultSays-then a b c n out (Refused refusal) reads says = says
 FaultSays-then a b c n out (Source fault at) reads says = (Faults-then a.seen b.seen c.seen fault reads.keeps says.0, says.1)
 FaultSays-then a b c n out (Out fault) reads says = says
@@ -115,7 +116,7 @@ front_then a b c text done n before this =
     let P : List ℕ → Type 0 = λ t. TakesFront a c t in
     front_all a c text (done + n) (subst P (sym (take_more text done n)) (TakesFront-then (take done text) (slice text done n) before this))
 
-pub window_stopped : (X : Type 0) (a b c : Written) (text : List ℕ) (done n : ℕ) (fault : ApplyFault) → Takes a b (take done text) → WritesBytes {X = X} b c (Err fault) (slice text done n) → WritesBytes {X = X} a c (Err fault) text
+pub window_stopped : (X : Type 0) (a b c : Written) (text : List ℕ) (done n : ℕ) (fault : Stop) → Takes a b (take done text) → WritesBytes {X = X} b c (Err fault) (slice text done n) → WritesBytes {X = X} a c (Err fault) text
 window_stopped X a b c text done n (Refused refusal) before this = absurd this
 window_stopped X a b c text done n (Source fault at) before this = front_then a b c text done n before this
 window_stopped X a b c text done n (Out fault) before this = front_then a b c text done n before this

@@ -17,8 +17,8 @@ use Rattle.elf_headers.specs.declared.fault.Fault.{Fault}
 use Rattle.elf_headers.specs.declared.fault.Fault.TheVariants.{Refused as Refuses, Source as Unread}
 use Rattle.elf_apply.specs.declared.applying.Applied.{Applied}
 use Rattle.elf_apply.specs.declared.entry.Target.{Target}
-use Rattle.elf_apply.specs.declared.fault.ApplyFault.{ApplyFault}
-use Rattle.elf_apply.specs.declared.fault.ApplyFault.TheVariants.{Refused, Source, Out}
+use Rattle.elf_headers.specs.declared.stop.Stop.{Stop}
+use Rattle.elf_headers.specs.declared.stop.Stop.TheVariants.{Refused, Source, Out}
 use Rattle.elf_apply.specs.InOrder.{Rises}
 use Rattle.elf_apply.specs.Walk.{walk_all}
 use Rattle.elf_apply.specs.Windows.{OfPatches, WroteBytes, windows}
@@ -36,7 +36,7 @@ text_of (Err refusal) = []
 
 -- WHAT WAS WRITTEN of an answer: all its bytes, with their number and that of the entries; nothing where it is refused, or for
 -- want of budget; a front of them at a fault
-abbrev pub Applies : Written → Written → Result Applied ApplyFault → ℕ → Result (List ℕ) Refusal → Type 0
+abbrev pub Applies : Written → Written → Result Applied Stop → ℕ → Result (List ℕ) Refusal → Type 0
 Applies old new (Ok done) entries answer =
     (text : List ℕ) × (answer ≡ Ok text) × Takes old new text × (done.size ≡ length text) × (done.entries ≡ entries)
 Applies old new (Err (Refused refusal)) entries answer = ((IsBudget refusal → ⊥) → answer ≡ Err refusal) × (new ≡ old)
@@ -44,7 +44,7 @@ Applies old new (Err (Source fault at)) entries answer = TakesFront old new (tex
 Applies old new (Err (Out fault)) entries answer = TakesFront old new (text_of answer)
 
 -- HOW MANY BYTES WERE WRITTEN, for every source: as many as the answer says, or no more than so many at a fault
-abbrev pub WroteMost : Written → Written → Result Applied ApplyFault → ℕ → Type 0
+abbrev pub WroteMost : Written → Written → Result Applied Stop → ℕ → Type 0
 WroteMost old new (Ok done) most = (done.size ≤ most) × (new.written ≡ min (old.written + done.size) (2 ^ 128 - 1))
 WroteMost old new (Err fault) most = new.written ≤ old.written + most
 
@@ -55,7 +55,7 @@ pub record OverBudget (src : Counting) (n : ℕ) : Type 0 where
   pub above : most < src.asked + n
 
 -- a fault is for want of budget only where so many bytes more would have passed the limit
-abbrev pub WantsBudget : Counting → ℕ → ApplyFault → Type 0
+abbrev pub WantsBudget : Counting → ℕ → Stop → Type 0
 WantsBudget src n (Refused refusal) = IsBudget refusal → OverBudget src n
 WantsBudget src n (Source fault at) = Unit {0}
 WantsBudget src n (Out fault) = Unit {0}
@@ -63,7 +63,7 @@ WantsBudget src n (Out fault) = Unit {0}
 -- what a fault says of the source and the output, by reads of at most n bytes: a refusal for want of budget is at an offset
 -- of the source, and so many bytes more would have passed the limit; a fault of the source names the read that stopped, and
 -- at a fault of the output the sink has failed
-abbrev pub ApplySays : Counting → Counting → Written → ℕ → ApplyFault → Type 0
+abbrev pub ApplySays : Counting → Counting → Written → ℕ → Stop → Type 0
 ApplySays old new out n (Refused refusal) = IsBudget refusal → (refusal.at < old.seen.size) × OverBudget old n
 ApplySays old new out n (Source fault at) = Faults old.seen new.seen fault × (at ≡ new.stopped)
 ApplySays old new out n (Out fault) = OutFails out fault
@@ -111,14 +111,14 @@ pub record HasSection (src : Counting) (target : Target) (at : ℕ) : Type 0 whe
   pub fits : src.seen.size < 2 ^ 64
 
 -- a text was written, or a front of it, or nothing for want of budget
-abbrev pub WritesOrWants : {X : Type 0} → Written → Written → Result X ApplyFault → List ℕ → Type 0
+abbrev pub WritesOrWants : {X : Type 0} → Written → Written → Result X Stop → List ℕ → Type 0
 WritesOrWants old new (Ok x) text = Takes old new text
 WritesOrWants old new (Err (Refused refusal)) text = IsBudget refusal × (new ≡ old)
 WritesOrWants old new (Err (Source fault at)) text = TakesFront old new text
 WritesOrWants old new (Err (Out fault)) text = TakesFront old new text
 
 -- what a call did that writes a section whose entries were checked, unless a limit has no room for the passes
-pub record WritesWithin {X : Type 0} (before after : Counting) (old new : Written) (result : Result X ApplyFault) (target : Target) (at : ℕ) (rises : Bool) : Type 0 where
+pub record WritesWithin {X : Type 0} (before after : Counting) (old new : Written) (result : Result X Stop) (target : Target) (at : ℕ) (rises : Bool) : Type 0 where
   pub says : IfErr result (ApplySays before after new (passes_cost target (write_passes rises target.size)))
   pub reads : ReadsWithin before after (passes_cost target (write_passes rises target.size))
   pub grows : Grows old new
@@ -127,7 +127,7 @@ pub record WritesWithin {X : Type 0} (before after : Counting) (old new : Writte
 
 -- what a call did that checks all entries and writes the section, whose bytes stand at an offset: two passes where the
 -- offsets of the entries never fall
-pub record AppliesTarget (before after : Counting) (old new : Written) (result : Result Applied ApplyFault) (target : Target) (at : ℕ) : Type 0 where
+pub record AppliesTarget (before after : Counting) (old new : Written) (result : Result Applied Stop) (target : Target) (at : ℕ) : Type 0 where
   pub says : IfErr result (ApplySays before after new (passes_cost target (1 + windows target.size)))
   pub reads : ReadsWithin before after (passes_cost target (1 + windows target.size))
   pub once : (file : List ℕ) → before.seen.file ≡ Some file → (headers : ℕ) → StandsFor file headers target at → offsets_never_fall file target.section ≡ true
@@ -145,7 +145,7 @@ pub record MayApply (src : Counting) (loaded : Opened) (store : Stored) : Type 0
   pub fits : src.seen.size < 2 ^ 64
 
 -- what a call did that writes a section of a loaded file, for whose headers there are so many slots
-pub record AppliesLoaded (before after : Counting) (old new : Written) (result : Result Applied ApplyFault) (slots section : ℕ) (layout : Layout) : Type 0 where
+pub record AppliesLoaded (before after : Counting) (old new : Written) (result : Result Applied Stop) (slots section : ℕ) (layout : Layout) : Type 0 where
   pub says : IfErr result (ApplySays before after new (behind_ceiling before.seen.size slots layout))
   pub reads : ReadsWithin before after (behind_ceiling before.seen.size slots layout)
   pub cost : (file : List ℕ) → before.seen.file ≡ Some file → first_refusal (header_checks file) ≡ None
@@ -158,7 +158,7 @@ pub record AppliesLoaded (before after : Counting) (old new : Written) (result :
       → Applies old new result (length (entries_for file section)) (applied file slots section layout)
 
 -- WHAT A CALL DID that writes a section of a file, for whose headers there are so many slots
-pub record AppliesFile (before after : Counting) (old new : Written) (result : Result Applied ApplyFault) (slots section : ℕ) (layout : Layout) : Type 0 where
+pub record AppliesFile (before after : Counting) (old new : Written) (result : Result Applied Stop) (slots section : ℕ) (layout : Layout) : Type 0 where
   pub says : IfErr result (ApplySays before after new (apply_ceiling before.seen.size slots layout))
   pub text : (file : List ℕ) → before.seen.file ≡ Some file → Applies old new result (length (entries_for file section)) (applied file slots section layout)
   pub enough : (file : List ℕ) → before.seen.file ≡ Some file → IfErr result (WantsBudget before (apply_cost_by_order file slots section layout))

@@ -12,8 +12,8 @@ use Rattle.elf_headers.specs.declared.fault.Fault.{Fault}
 use Rattle.elf_apply.specs.Entries.{patch_as}
 use Rattle.elf_apply.specs.Windows.{ApplyFaultSays, IsUnread, WritesBytes, WroteBytes}
 use Rattle.elf_apply.specs.declared.entry.Placed.{Placed}
-use Rattle.elf_apply.specs.declared.fault.ApplyFault.{ApplyFault}
-use Rattle.elf_apply.specs.declared.fault.ApplyFault.TheVariants.{Refused, Source, Out}
+use Rattle.elf_headers.specs.declared.stop.Stop.{Stop}
+use Rattle.elf_headers.specs.declared.stop.Stop.TheVariants.{Refused, Source, Out}
 
 -- bytes of the section from an offset on, which were read and are not written yet
 pub record Holding : Type 0 where
@@ -54,13 +54,13 @@ pub record UnderWay (base text : List ℕ) (h : Holding) (left : List Change) (o
   pub takes : Takes old new (take h.low now)
 
 -- a fault that refuses nothing
-abbrev pub IsNoRefusal : ApplyFault → Type 0
+abbrev pub IsNoRefusal : Stop → Type 0
 IsNoRefusal (Refused refusal) = ⊥
 IsNoRefusal (Source fault at) = Unit {0}
 IsNoRefusal (Out fault) = Unit {0}
 
 -- what a call did that writes n bytes of the source as they stand, and refuses nothing; and this holds of the file
-pub record Copies {X : Type 0} (before after : Counting) (old new : Written) (result : Result X ApplyFault) (n : ℕ) (Text : List ℕ → Type 0) : Type 0 where
+pub record Copies {X : Type 0} (before after : Counting) (old new : Written) (result : Result X Stop) (n : ℕ) (Text : List ℕ → Type 0) : Type 0 where
   pub says : IfErr result (ApplyFaultSays before after new)
   pub kept : IfErr result IsNoRefusal
   pub reads : Reads before after n
@@ -87,7 +87,7 @@ pub record ReadsOn {X : Type 0} (before after : Counting) (result : Result X Fau
       → OnOk result (Midway (slice file at size) now new)
 
 -- what a call did that writes what stands of a section before an offset
-pub record WritesUpTo {X : Type 0} (before after : Counting) (past later : Written) (result : Result X ApplyFault) (old new : Holding) (at end : ℕ) : Type 0 where
+pub record WritesUpTo {X : Type 0} (before after : Counting) (past later : Written) (result : Result X Stop) (old new : Holding) (at end : ℕ) : Type 0 where
   pub says : IfErr result (ApplyFaultSays before after later)
   pub low : OnOk result (new.low ≡ end)
   pub long : OnOk result (length new.bytes ≡ end_of old - end)
@@ -102,7 +102,7 @@ pub record WritesUpTo {X : Type 0} (before after : Counting) (past later : Writt
 
 -- what a call did that writes what stands before an entry's bytes, and then stores those; where they begin before what is
 -- held, it refuses the entry
-pub record StoresEntry {X : Type 0} (before after : Counting) (past later : Written) (result : Result X ApplyFault) (old new : Holding) (at size : ℕ) (placed : Placed) : Type 0 where
+pub record StoresEntry {X : Type 0} (before after : Counting) (past later : Written) (result : Result X Stop) (old new : Holding) (at size : ℕ) (placed : Placed) : Type 0 where
   pub says : IfErr result (ApplyFaultSays before after later)
   pub low : OnOk result (new.low ≡ placed.offset)
   pub never : OnOk result (old.low ≤ placed.offset)

@@ -12,31 +12,27 @@ use Rattle.elf_headers.specs.declared.fault.Fault.{Fault}
 use Rattle.elf_headers.specs.declared.fault.Fault.TheVariants.{Refused as Refuses, Source as Unread}
 use Rattle.elf_apply.specs.Walk.{changes_all}
 use Rattle.elf_apply.specs.declared.entry.Target.{Target}
-use Rattle.elf_apply.specs.declared.fault.ApplyFault.{ApplyFault}
-use Rattle.elf_apply.specs.declared.fault.ApplyFault.TheVariants.{Refused, Source, Out}
+use Rattle.elf_headers.specs.declared.stop.Stop.{Stop}
+use Rattle.elf_headers.specs.declared.stop.Stop.TheVariants.{Refused, Source, Out}
 
 -- how many windows a section has
 abbrev pub windows : ℕ → ℕ
 windows size = (size + 63) / 64
 
-abbrev pub fault_as : Fault → ApplyFault
-fault_as (Refuses refusal) = Refused refusal
-fault_as (Unread fault at) = Source fault at
-
 -- what a fault says of the source and the output: a refusal is not for want of budget, a fault of the source names the read
 -- that stopped, and at a fault of the output the sink has failed
-abbrev pub ApplyFaultSays : Counting → Counting → Written → ApplyFault → Type 0
+abbrev pub ApplyFaultSays : Counting → Counting → Written → Stop → Type 0
 ApplyFaultSays old new out (Refused refusal) = IsBudget refusal → ⊥
 ApplyFaultSays old new out (Source fault at) = Faults old.seen new.seen fault × (at ≡ new.stopped)
 ApplyFaultSays old new out (Out fault) = OutFails out fault
 
 -- how many bytes were written: so many, or no more at a fault
-abbrev pub WroteBytes : {X : Type 0} → Written → Written → Result X ApplyFault → ℕ → Type 0
+abbrev pub WroteBytes : {X : Type 0} → Written → Written → Result X Stop → ℕ → Type 0
 WroteBytes old new (Ok x) n = new.written ≡ min (old.written + n) (2 ^ 128 - 1)
 WroteBytes old new (Err fault) n = new.written ≤ old.written + n
 
 -- a text was written, or a front of it; nothing is refused
-abbrev pub WritesBytes : {X : Type 0} → Written → Written → Result X ApplyFault → List ℕ → Type 0
+abbrev pub WritesBytes : {X : Type 0} → Written → Written → Result X Stop → List ℕ → Type 0
 WritesBytes old new (Ok x) text = Takes old new text
 WritesBytes old new (Err (Refused refusal)) text = ⊥
 WritesBytes old new (Err (Source fault at)) text = TakesFront old new text
@@ -57,7 +53,7 @@ pub record MayWrite (src : Counting) (target : Target) (at bound : ℕ) : Type 0
 
 -- what a call did that writes: it asked for at most n bytes and wrote m, or no more at a fault, which says what is so; and
 -- this holds of the file
-pub record WritesOut {X : Type 0} (before after : Counting) (old new : Written) (result : Result X ApplyFault) (n m : ℕ) (Text : List ℕ → Type 0) : Type 0 where
+pub record WritesOut {X : Type 0} (before after : Counting) (old new : Written) (result : Result X Stop) (n m : ℕ) (Text : List ℕ → Type 0) : Type 0 where
   pub says : IfErr result (ApplyFaultSays before after new)
   pub reads : Reads before after n
   pub grows : Grows old new

@@ -17,7 +17,6 @@ ghost use Rattle.elf_apply.specs.Windows.{MayWrite, OfPatches, WritesBytes};
 ghost use Rattle.elf_apply.specs.Windows.{WritesOut, windows};
 
 use crate::entry::Target;
-use crate::fault::ApplyFault;
 use crate::in_order::write_in_order;
 use crate::layout::Layout;
 use crate::lookup::refused;
@@ -27,7 +26,7 @@ use elf_headers::ends_outside;
 use elf_record::numbers::{EM_X86_64, ET_REL, SHT_NOBITS, SHT_NULL};
 use elf_record::{Cause, Refusal, Shdr};
 use elf_source::{Counted, Out, Sink, Source};
-use elf_table::{Fault, File, HeaderStore, Loaded, header, load};
+use elf_table::{Fault, File, HeaderStore, Loaded, Stop, header, load};
 
 /// What was applied.
 #[derive(Clone, Copy, Debug, PartialEq, Eq)]
@@ -90,7 +89,7 @@ fn write_section<S: Source, W: Sink>(
     at: u64,
     rises: bool,
     out: &mut Out<W>,
-) -> Result<(), ApplyFault>
+) -> Result<(), Stop>
     requires { MayWrite src.old target.now at src.old.seen.size }
     ensures once { rises ≡ true →
         src.new.asked ≤ src.old.asked + (walk_all target.now + target.now.size) }
@@ -138,14 +137,14 @@ fn write_checked<S: Source, W: Sink>(
     at: u64,
     checked: &Checked,
     out: &mut Out<W>,
-) -> Result<(), ApplyFault>
+) -> Result<(), Stop>
     requires may { HasSection src.old target.now at }
     requires counted { checked.now.entries ≡ entries_from target.now 0 }
     ensures { WritesWithin src.old src.new out.old out.new result target.now at
         checked.now.rises }
 {
     if !has_room(src, target, checked) {
-        return Err(ApplyFault::Refused(Refusal {
+        return Err(Stop::Refused(Refusal {
             at,
             cause: Cause::Budget,
         }));
@@ -160,7 +159,7 @@ fn apply_target<S: Source, W: Sink>(
     target: &Target<'_>,
     at: u64,
     out: &mut Out<W>,
-) -> Result<Applied, ApplyFault>
+) -> Result<Applied, Stop>
     requires { HasSection src.old target.now at }
     ensures { AppliesTarget src.old src.new out.old out.new result target.now at }
 {
@@ -180,7 +179,7 @@ fn apply_loaded<S: Source, W: Sink>(
     section: u16,
     layout: &Layout,
     out: &mut Out<W>,
-) -> Result<Applied, ApplyFault>
+) -> Result<Applied, Stop>
     requires { MayApply src.old loaded store.now }
     ensures { AppliesLoaded src.old src.new out.old out.new result store.now.slots section
         layout.now }
@@ -222,7 +221,7 @@ pub fn apply<S: Source, W: Sink>(
     section: u16,
     layout: &Layout,
     out: &mut Out<W>,
-) -> Result<Applied, ApplyFault>
+) -> Result<Applied, Stop>
     ensures slots { store.new.slots ≡ store.old.slots }
     ensures says { IfErr result (ApplySays src.old src.new out.new
         (apply_ceiling src.old.seen.size store.old.slots layout.now)) }
@@ -254,7 +253,7 @@ fn apply_within<S: Source, W: Sink>(
     section: u16,
     layout: &Layout,
     out: &mut Out<W>,
-) -> Result<Applied, ApplyFault>
+) -> Result<Applied, Stop>
     ensures slots { store.new.slots ≡ store.old.slots }
     ensures applies { AppliesFile src.old src.new out.old out.new result store.old.slots section
         layout.now }

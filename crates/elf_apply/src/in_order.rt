@@ -12,13 +12,12 @@ ghost use Rattle.elf_apply.specs.Walk.{walk_all};
 ghost use Rattle.elf_apply.specs.Windows.{MayWrite, OfPatches, WritesBytes, WritesOut};
 
 use crate::entry::{Placed, Target};
-use crate::fault::ApplyFault;
 use crate::passes::put_in;
 use crate::walk::Entries;
 use elf_record::{Cause, Refusal};
 use elf_reloc::Patch;
 use elf_source::{Counted, Out, OutFault, Sink, Source};
-use elf_table::{Fault, fill};
+use elf_table::{Fault, Stop, fill};
 use std::marker::Model;
 
 /// How many bytes are read at once.
@@ -157,7 +156,7 @@ impl Held {
         at: u64,
         end: u64,
         out: &mut Out<W>,
-    ) -> Result<(), ApplyFault>
+    ) -> Result<(), Stop>
         requires may { MayRead src.old at end }
         requires low { self.old.low ≤ end }
         requires held { at + end_of self.old ≤ src.old.seen.size }
@@ -181,7 +180,7 @@ impl Held {
         size: u64,
         placed: &Placed,
         out: &mut Out<W>,
-    ) -> Result<(), ApplyFault>
+    ) -> Result<(), Stop>
         requires may { MayRead src.old at size }
         requires inside { placed.now.offset + length (patch_as placed.now).bytes ≤ size }
         requires held { end_of self.old ≤ size }
@@ -189,7 +188,7 @@ impl Held {
             placed.now }
     {
         if placed.offset < self.low() {
-            return Err(ApplyFault::Refused(Refusal {
+            return Err(Stop::Refused(Refusal {
                 at: placed.at,
                 cause: Cause::PlaceOutside,
             }));
@@ -233,7 +232,7 @@ fn copy<S: Source, W: Sink>(
     at: u64,
     size: u64,
     out: &mut Out<W>,
-) -> Result<(), ApplyFault>
+) -> Result<(), Stop>
     requires { MayRead src.old at size }
     ensures { Copies src.old src.new out.old out.new result size (λ file.
         at + size ≤ length file → WritesBytes out.old out.new result (slice file at size)) }
@@ -254,7 +253,7 @@ fn copy_page<S: Source, W: Sink>(
     at: u64,
     page: &mut [u8],
     out: &mut Out<W>,
-) -> Result<(), ApplyFault>
+) -> Result<(), Stop>
     requires free { src.old.most ≡ None }
     requires few { length page.old ≤ 4096 }
     requires within { at + length page.old ≤ src.old.seen.size }
@@ -272,7 +271,7 @@ pub(crate) fn write_in_order<S: Source, W: Sink>(
     target: &Target<'_>,
     at: u64,
     out: &mut Out<W>,
-) -> Result<(), ApplyFault>
+) -> Result<(), Stop>
     requires { MayWrite src.old target.now at src.old.seen.size }
     ensures { WritesOut src.old src.new out.old out.new result
         (walk_all target.now + target.now.size) target.now.size (OfPatches target.now at

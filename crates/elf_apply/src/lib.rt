@@ -3,7 +3,6 @@
 
 mod applying;
 mod entry;
-mod fault;
 mod in_order;
 mod layout;
 mod lookup;
@@ -13,5 +12,4 @@ mod walk;
 mod windows;
 
 pub use applying::{Applied, apply};
-pub use fault::ApplyFault;
 pub use layout::{Item, Layout, LayoutFault};

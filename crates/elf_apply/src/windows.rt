@@ -5,10 +5,9 @@ ghost use Rattle.elf_apply.specs.Walk.{walk_all};
 ghost use Rattle.elf_apply.specs.Windows.{MayWrite, OfPatches, WritesBytes, WritesOut, windows};
 
 use crate::entry::Target;
-use crate::fault::ApplyFault;
 use crate::passes::patch_window;
 use elf_source::{Counted, Out, Sink, Source};
-use elf_table::fill;
+use elf_table::{Stop, fill};
 
 /// The size of a window in bytes.
 const WINDOW: usize = 64;
@@ -23,7 +22,7 @@ pub(crate) fn write_windows<S: Source, W: Sink>(
     target: &Target<'_>,
     at: u64,
     out: &mut Out<W>,
-) -> Result<(), ApplyFault>
+) -> Result<(), Stop>
     requires { MayWrite src.old target.now at (at + target.now.size) }
     ensures { WritesOut src.old src.new out.old out.new result
         (windows target.now.size * walk_all target.now + target.now.size) target.now.size
@@ -49,7 +48,7 @@ fn write_window<S: Source, W: Sink>(
     low: u64,
     window: &mut [u8],
     out: &mut Out<W>,
-) -> Result<(), ApplyFault>
+) -> Result<(), Stop>
     requires may { MayWrite src.old target.now at (at + target.now.size) }
     requires few { length window.old ≤ 64 }
     requires part { low + length window.old ≤ target.now.size }

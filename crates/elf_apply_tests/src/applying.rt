@@ -1,17 +1,17 @@
 //! The call and the overlapping entries, applied.
 
-use elf_apply::{Applied, ApplyFault, Item, Layout, apply};
+use elf_apply::{Applied, Item, Layout, apply};
 use elf_fixtures::{
     one_call, overlapping_in_other_order, overlapping_relocations, third_overflows, with_bytes,
 };
 use elf_record::{Cause, Refusal};
 use elf_source::{Counted, MemorySource, Out, SliceSink};
-use elf_table::HeaderStore;
+use elf_table::{HeaderStore, Stop};
 use std::process::Abort;
 use std::test::Fail;
 
 /// What a request answers: the answer, how many bytes were written, and how many asked for.
-pub(crate) type Answer = (Result<Applied, ApplyFault>, u128, u128);
+pub(crate) type Answer = (Result<Applied, Stop>, u128, u128);
 
 /// Applies to section 1 of a file, and writes the bytes to `bytes`.
 pub(crate) fn applied(
@@ -27,8 +27,8 @@ pub(crate) fn applied(
 }
 
 /// The refusal for a cause at an offset.
-pub(crate) fn refused(at: u64, cause: Cause) -> Result<Applied, ApplyFault> {
-    Err(ApplyFault::Refused(Refusal { at, cause }))
+pub(crate) fn refused(at: u64, cause: Cause) -> Result<Applied, Stop> {
+    Err(Stop::Refused(Refusal { at, cause }))
 }
 
 /// A layout with an address for section 1.

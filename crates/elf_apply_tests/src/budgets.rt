@@ -2,19 +2,19 @@
 ghost use Rattle.std.specs.Prelude.{◌≤◌};
 
 use crate::applying::{applied, placed, refused};
-use elf_apply::{Applied, ApplyFault, Item, Layout, apply};
+use elf_apply::{Applied, Item, Layout, apply};
 use elf_fixtures::{
     falling_relocations, one_call, overlapping_relocations, rising_relocations, with_bytes,
 };
 use elf_record::Cause;
 use elf_source::{Counted, MemorySource, Out, SliceSink};
-use elf_table::HeaderStore;
+use elf_table::{HeaderStore, Stop};
 use std::process::Abort;
 use std::test::Fail;
 
 /// What a request within a limit answers: the answer, how many bytes were asked for, and the bytes
 /// of the output, which are 9 where nothing was written.
-type Limited = (Result<Applied, ApplyFault>, u128, [u8; 128]);
+type Limited = (Result<Applied, Stop>, u128, [u8; 128]);
 
 /// Applies to section 1 of a file within a limit, of which none is left afterwards.
 fn limited(
@@ -44,7 +44,7 @@ fn check_budgets(rt: &impl Abort, file: &[u8], layout: &Layout, store: &mut Head
     for budget in 0..=cost {
         let (answer, asked, bytes) = limited(rt, file, layout, store, budget);
         assert!(rt; asked <= u128::from(budget), "{budget} bytes");
-        if let Err(ApplyFault::Refused(refusal)) = answer {
+        if let Err(Stop::Refused(refusal)) = answer {
             assert!(rt; refusal.cause == Cause::Budget);
             assert!(rt; refusal.at < file.len() as u64);
             assert!(rt; bytes == [9; 128], "{budget} bytes");

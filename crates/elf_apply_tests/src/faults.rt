@@ -1,10 +1,10 @@
 //! A source and an output that fail.
 
-use elf_apply::{ApplyFault, Layout, apply};
+use elf_apply::{Layout, apply};
 use elf_fakes::Planned;
 use elf_fixtures::{falling_relocations, overlapping_relocations};
 use elf_source::{Counted, MemorySource, Out, SliceSink, SourceFault};
-use elf_table::HeaderStore;
+use elf_table::{HeaderStore, Stop};
 use std::test::Fail;
 
 #[test]
@@ -22,7 +22,7 @@ fn each_read_may_fail(rt: HostRuntime) -> Result<(), Fail> {
                 assert!(rt; done.size == 128);
                 ended = true;
             }
-            Err(ApplyFault::Source { fault, at }) => {
+            Err(Stop::Source { fault, at }) => {
                 assert!(rt; !ended);
                 assert!(rt; (fault, at) == (SourceFault::Device, src.stopped()));
                 let written = out.written();
@@ -45,7 +45,7 @@ fn each_length_of_an_output_may_be_too_short(rt: HostRuntime) -> Result<(), Fail
         assert!(rt; room < 8);
         let mut out = Out::new(SliceSink::new(&mut bytes[..room]));
         let answer = apply(&mut src, &mut store, 1, &Layout::new(), &mut out);
-        let Err(ApplyFault::Out(fault)) = answer else {
+        let Err(Stop::Out(fault)) = answer else {
             assert!(rt; false, "no fault of the output");
             continue;
         };

@@ -1,11 +1,11 @@
 //! Entries whose offsets rise, and fall; and a source that answers otherwise in the second pass.
 
 use crate::applying::applied;
-use elf_apply::{Applied, ApplyFault, Layout, apply};
+use elf_apply::{Applied, Layout, apply};
 use elf_fixtures::{falling_relocations, rising_relocations};
 use elf_record::{Cause, Refusal};
 use elf_source::{Counted, Out, SliceSink, Source, SourceFault};
-use elf_table::HeaderStore;
+use elf_table::{HeaderStore, Stop};
 use std::test::Fail;
 
 /// A file for some reads, and then another of the same length.
@@ -107,7 +107,7 @@ fn an_entry_that_falls_back_is_refused(rt: HostRuntime) -> Result<(), Fail> {
                 at: 0x108,
                 cause: Cause::PlaceOutside,
             };
-            assert!(rt; fault == ApplyFault::Refused(last));
+            assert!(rt; fault == Stop::Refused(last));
             assert!(rt; out.written() == 126);
             assert!(rt; turns == 3, "{turns}");
             fell = fell.saturating_add(1);
