@@ -18,7 +18,7 @@ use Rattle.elf_headers.specs.Faults.{RefusalSays}
 use Rattle.elf_headers.specs.declared.caps.Caps.{Caps}
 use Rattle.elf_apply.specs.Applied.{Applies, ApplySays, WantsBudget}
 use Rattle.elf_apply.specs.declared.applying.Applied.{Applied}
-use Rattle.elf_apply.specs.declared.fault.ApplyFault.TheVariants.{Refused as RefusedApply}
+use Rattle.elf_headers.specs.declared.stop.Stop.TheVariants.{Refused as RefusedStop}
 use Rattle.elf_listing.specs.declared.end.RunFault.{RunFault}
 use Rattle.elf_run.specs.Answers.{AnswersWithin, IsUsedUp, EndsAt, WholeOrUsedUp, WroteAnswer}
 use Rattle.elf_run.proofs.AnswerLaws.{budget_line}
@@ -117,7 +117,7 @@ pub section_wrote : {a b : Written} {done : Applied} {entries : ℕ} (answer : R
 section_wrote answer wrote = rw wrote.1 (wrote.2, refl)
 
 -- what a refusal of a section says
-section_over : (s1 s2 : Counting) (out : Written) (n cost : ℕ) (refusal : Refusal) → ApplySays s1 s2 out n (RefusedApply refusal) → WantsBudget s1 cost (RefusedApply refusal)
+section_over : (s1 s2 : Counting) (out : Written) (n cost : ℕ) (refusal : Refusal) → ApplySays s1 s2 out n (RefusedStop refusal) → WantsBudget s1 cost (RefusedStop refusal)
     → IsBudget refusal → (refusal.at < s1.seen.size) × IsOver s1 cost
 section_over s1 s2 out n cost refusal says wants budget = let over = wants budget in ((says budget).0, (over.most, over.is_set, over.above))
 
@@ -128,7 +128,7 @@ refused_section file headers section layout refusal is = rw is refl
 -- a section was refused
 pub section_refused :
     {a b : Written} (caps : Caps) (file : List ℕ) (headers section : ℕ) (layout : Layout) (n cost : ℕ) (result : Result ℕ RunFault) (refusal : Refusal) (s0 s1 s2 : Counting) (out : Written)
-    → s0.asked ≤ 2 ^ 127 → Limits s0 s1 caps.budget → s0.seen.size ≡ length file → ApplySays s1 s2 out n (RefusedApply refusal) → WantsBudget s1 cost (RefusedApply refusal)
+    → s0.asked ≤ 2 ^ 127 → Limits s0 s1 caps.budget → s0.seen.size ≡ length file → ApplySays s1 s2 out n (RefusedStop refusal) → WantsBudget s1 cost (RefusedStop refusal)
     → ((IsBudget refusal → ⊥) → applied file headers section layout ≡ Err refusal) → WroteAnswer a b result (refused_answer refusal)
     → AnswersWithin caps file cost (apply_answer file headers section layout) a b result (λ answer. Unit {0})
 section_refused caps file headers section layout n cost result refusal s0 s1 s2 out small set sized says wants is wrote =

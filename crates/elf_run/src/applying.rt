@@ -6,10 +6,10 @@ ghost use Rattle.elf_source.specs.Growth.{Grows};
 ghost use Rattle.elf_listing.specs.Reports.{FaultSays, Leaves};
 ghost use Rattle.elf_run.specs.Answers.{GivesSection, AsksUpTo};
 
-use elf_apply::{ApplyFault, Layout, apply};
+use elf_apply::{Layout, apply};
 use elf_listing::{RunFault, show_refusal};
 use elf_source::{Counted, Out, Sink, Source};
-use elf_table::{Caps, HeaderStore};
+use elf_table::{Caps, HeaderStore, Stop};
 
 /// Writes a section's bytes with its relocations applied, or the line of the refusal. Answers the
 /// status: 0 where the section was written, 1 where it is refused. Where the caps have a budget no
@@ -41,11 +41,11 @@ pub(crate) fn write_applied<S: Source, W: Sink>(
     src.limit(caps.budget);
     match apply(src, store, section, layout, out) {
         Ok(_) => Ok(0),
-        Err(ApplyFault::Refused(refusal)) => match show_refusal(refusal, out) {
+        Err(Stop::Refused(refusal)) => match show_refusal(refusal, out) {
             Ok(()) => Ok(1),
             Err(fault) => Err(RunFault::Out(fault)),
         },
-        Err(ApplyFault::Source { fault, at }) => Err(RunFault::Source { fault, at }),
-        Err(ApplyFault::Out(fault)) => Err(RunFault::Out(fault)),
+        Err(Stop::Source { fault, at }) => Err(RunFault::Source { fault, at }),
+        Err(Stop::Out(fault)) => Err(RunFault::Out(fault)),
     }
 }

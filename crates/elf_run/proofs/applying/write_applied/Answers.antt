@@ -3,7 +3,7 @@ use Rattle.std.proofs.Common.{rules, ◌≡◌, ap, sym, refl, ◌∙◌, Err}
 use Rattle.elf_source.specs.Source.{Seen}
 use Rattle.elf_source.proofs.GrowthLaws.{grows_put, grows_then}
 use Rattle.elf_model.specs.Apply.{applied}
-use Rattle.elf_apply.specs.declared.fault.ApplyFault.TheVariants.{Refused}
+use Rattle.elf_headers.specs.declared.stop.Stop.TheVariants.{Refused}
 use Rattle.elf_run.proofs.BudgetLaws.{answered_whole, section_refused, section_wrote}
 use Rattle.elf_run.proofs.FrontLaws.{front_of_answer}
 use Rattle.elf_run.proofs.applying.write_applied.Goals as goal
