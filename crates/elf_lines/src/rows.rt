@@ -96,8 +96,6 @@ pub fn cause_word(cause: Cause) -> &'static str
         Cause::HashCycle => "hash-cycle",
         Cause::Unsupported => "unsupported",
         Cause::Overflow => "overflow",
-        Cause::LayoutFull => "layout-full",
-        Cause::LayoutRepeat => "layout-repeat",
         Cause::NotRel => "not-rel",
         Cause::Unplaced => "unplaced",
         Cause::Undefined => "undefined",

@@ -1,7 +1,7 @@
 -- Which refusals are for want of budget.
 use Rattle.std.proofs.Common.{◌≡◌, inl, inr, ◌⊎◌, refl}
 use Rattle.elf_model.specs.declared.causes.Cause.{Cause}
-use Rattle.elf_model.specs.declared.causes.Cause.TheVariants.{Short, NotElf, BadClass, BadData, BadVersion, ExtendedNumbering, TooManyHeaders, EntrySize, TableOutside, BadLink, NotStrings, SizeNotWhole, NameOutside, NameUnended, NoteCut, NoHash, HashShape, HashIndex, HashCycle, Unsupported, Overflow, LayoutFull, LayoutRepeat, NotRel, Unplaced, Undefined, PlaceOutside, SymbolIndex, TooLong, Budget, Unmapped}
+use Rattle.elf_model.specs.declared.causes.Cause.TheVariants.{Short, NotElf, BadClass, BadData, BadVersion, ExtendedNumbering, TooManyHeaders, EntrySize, TableOutside, BadLink, NotStrings, SizeNotWhole, NameOutside, NameUnended, NoteCut, NoHash, HashShape, HashIndex, HashCycle, Unsupported, Overflow, NotRel, Unplaced, Undefined, PlaceOutside, SymbolIndex, TooLong, Budget, Unmapped}
 
 -- whether a refusal is for want of budget
 pub is_budget : (cause : Cause) → (cause ≡ Budget) ⊎ (cause ≡ Budget → ⊥)
@@ -26,8 +26,6 @@ is_budget HashIndex = inr (λ e. cc)
 is_budget HashCycle = inr (λ e. cc)
 is_budget Unsupported = inr (λ e. cc)
 is_budget Overflow = inr (λ e. cc)
-is_budget LayoutFull = inr (λ e. cc)
-is_budget LayoutRepeat = inr (λ e. cc)
 is_budget NotRel = inr (λ e. cc)
 is_budget Unplaced = inr (λ e. cc)
 is_budget Undefined = inr (λ e. cc)

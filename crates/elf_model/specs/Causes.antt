@@ -1,7 +1,7 @@
 -- The word of each cause in a listing.
 use Rattle.std.specs.Prelude.{ℕ, List, codes}
 use Rattle.elf_model.specs.declared.causes.Cause.{Cause}
-use Rattle.elf_model.specs.declared.causes.Cause.TheVariants.{Short, NotElf, BadClass, BadData, BadVersion, ExtendedNumbering, TooManyHeaders, EntrySize, TableOutside, BadLink, NotStrings, SizeNotWhole, NameOutside, NameUnended, NoteCut, NoHash, HashShape, HashIndex, HashCycle, Unsupported, Overflow, LayoutFull, LayoutRepeat, NotRel, Unplaced, Undefined, PlaceOutside, SymbolIndex, TooLong, Budget, Unmapped}
+use Rattle.elf_model.specs.declared.causes.Cause.TheVariants.{Short, NotElf, BadClass, BadData, BadVersion, ExtendedNumbering, TooManyHeaders, EntrySize, TableOutside, BadLink, NotStrings, SizeNotWhole, NameOutside, NameUnended, NoteCut, NoHash, HashShape, HashIndex, HashCycle, Unsupported, Overflow, NotRel, Unplaced, Undefined, PlaceOutside, SymbolIndex, TooLong, Budget, Unmapped}
 
 -- a cause's word
 unfoldable pub cause_word : Cause → List ℕ
@@ -26,8 +26,6 @@ cause_word HashIndex = codes "hash-index"
 cause_word HashCycle = codes "hash-cycle"
 cause_word Unsupported = codes "unsupported"
 cause_word Overflow = codes "overflow"
-cause_word LayoutFull = codes "layout-full"
-cause_word LayoutRepeat = codes "layout-repeat"
 cause_word NotRel = codes "not-rel"
 cause_word Unplaced = codes "unplaced"
 cause_word Undefined = codes "undefined"

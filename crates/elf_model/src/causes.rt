@@ -47,10 +47,6 @@ pub enum Cause {
     Unsupported,
     /// A value that does not fit the bytes that it is to be stored in.
     Overflow,
-    /// A layout has no room for one more item of its kind.
-    LayoutFull,
-    /// A layout has an item of that kind and index or name already.
-    LayoutRepeat,
     /// The file is no relocatable file for x86-64.
     NotRel,
     /// A section has no address in the layout.

@@ -6,7 +6,7 @@ use Rattle.elf_model.specs.Lines.{header_line, segment_line, escaped}
 use Rattle.elf_model.specs.LineFronts.{section_front, symbol_front, relocation_front, dynamic_front}
 use Rattle.elf_model.specs.Causes.{cause_word}
 use Rattle.elf_model.specs.FixturesTables.{numbers_from}
-use Rattle.elf_model.specs.declared.causes.Cause.TheVariants.{Short, NotElf, BadClass, BadData, BadVersion, ExtendedNumbering, TooManyHeaders, EntrySize, TableOutside, BadLink, NotStrings, SizeNotWhole, NameOutside, NameUnended, NoteCut, NoHash, HashShape, HashIndex, HashCycle, Unsupported, Overflow, LayoutFull, LayoutRepeat, NotRel, Unplaced, Undefined, PlaceOutside, SymbolIndex, TooLong, Budget, Unmapped}
+use Rattle.elf_model.specs.declared.causes.Cause.TheVariants.{Short, NotElf, BadClass, BadData, BadVersion, ExtendedNumbering, TooManyHeaders, EntrySize, TableOutside, BadLink, NotStrings, SizeNotWhole, NameOutside, NameUnended, NoteCut, NoHash, HashShape, HashIndex, HashCycle, Unsupported, Overflow, NotRel, Unplaced, Undefined, PlaceOutside, SymbolIndex, TooLong, Budget, Unmapped}
 
 -- 128 bytes, each of which is its own place
 unfoldable pub places_as_bytes : List ℕ
@@ -146,13 +146,13 @@ CausesHaveWords =
     map cause_word
     (Short ∷ NotElf ∷ BadClass ∷ BadData ∷ BadVersion ∷ ExtendedNumbering ∷ TooManyHeaders ∷ EntrySize ∷ TableOutside ∷ BadLink
     ∷ NotStrings ∷ SizeNotWhole ∷ NameOutside ∷ NameUnended ∷ NoteCut ∷ NoHash ∷ HashShape ∷ HashIndex ∷ HashCycle
-    ∷ Unsupported ∷ Overflow ∷ LayoutFull ∷ LayoutRepeat ∷ NotRel ∷ Unplaced ∷ Undefined ∷ PlaceOutside ∷ SymbolIndex
+    ∷ Unsupported ∷ Overflow ∷ NotRel ∷ Unplaced ∷ Undefined ∷ PlaceOutside ∷ SymbolIndex
     ∷ TooLong ∷ Budget ∷ Unmapped ∷ [])
     ≡ codes "short" ∷ codes "not-elf" ∷ codes "class" ∷ codes "data" ∷ codes "version" ∷ codes "extended-numbering"
     ∷ codes "too-many-headers" ∷ codes "entry-size" ∷ codes "table-outside" ∷ codes "bad-link" ∷ codes "not-strings"
     ∷ codes "size-not-whole" ∷ codes "name-outside" ∷ codes "name-unended" ∷ codes "note-cut" ∷ codes "no-hash"
     ∷ codes "hash-shape" ∷ codes "hash-index" ∷ codes "hash-cycle" ∷ codes "unsupported" ∷ codes "overflow"
-    ∷ codes "layout-full" ∷ codes "layout-repeat" ∷ codes "not-rel" ∷ codes "unplaced" ∷ codes "undefined"
+    ∷ codes "not-rel" ∷ codes "unplaced" ∷ codes "undefined"
     ∷ codes "place-outside" ∷ codes "symbol-index" ∷ codes "too-long" ∷ codes "budget" ∷ codes "unmapped" ∷ []
 
 -- the first and the last printing character and their neighbours, and those of the backslash
