@@ -1,7 +1,6 @@
 -- What a lookup by name answers, and what it costs.
-use Rattle.std.specs.Prelude.{ℕ, ◌≡◌, ◌+◌, List, length, sum_by, Some, Result, Ok, Err, IfErr}
+use Rattle.std.specs.Prelude.{ℕ, ◌≡◌, List, Some, Result, Ok, Err, IfErr}
 use Rattle.elf_model.specs.Budget.{IsBudget}
-use Rattle.elf_model.specs.Names.{pad64}
 use Rattle.elf_model.specs.declared.causes.Cause.{Cause}
 use Rattle.elf_model.specs.declared.causes.Refusal.{Refusal}
 use Rattle.elf_record.specs.Sym.{IsSym}
@@ -23,10 +22,6 @@ abbrev pub ValueOrRefusal : {X : Type 0} → Result X Fault → Result X Refusal
 ValueOrRefusal (Ok x) answer = answer ≡ Ok x
 ValueOrRefusal (Err (Refused refusal)) answer = (IsBudget refusal → ⊥) → answer ≡ Err refusal
 ValueOrRefusal (Err (Source fault at)) answer = Unit {0}
-
--- what a comparison with each of some names costs
-abbrev pub items_cost : List (List ℕ × ℕ) → ℕ
-items_cost items = sum_by (λ item. pad64 (length item.0 + 1)) items
 
 -- what a call did that reads for an answer: it asked for at most n bytes, a fault says what is so, and this holds of the file
 pub record Consults {X : Type 0} (old new : Counting) (result : Result X Fault) (n : ℕ) (Told : List ℕ → Type 0) : Type 0 where

@@ -18,11 +18,11 @@ ghost use Rattle.elf_apply.specs.Windows.{WritesOut, windows};
 
 use crate::entry::Target;
 use crate::in_order::write_in_order;
-use crate::layout::Layout;
 use crate::lookup::refused;
 use crate::passes::{Checked, check};
 use crate::windows::write_windows;
 use elf_headers::ends_outside;
+use elf_layout::Layout;
 use elf_record::numbers::{EM_X86_64, ET_REL, SHT_NOBITS, SHT_NULL};
 use elf_record::{Cause, Refusal, Shdr};
 use elf_source::{Counted, Out, Sink, Source};

@@ -8,8 +8,8 @@ ghost use Rattle.elf_table.specs.Tables.{SymbolsWithin};
 ghost use Rattle.elf_apply.specs.Entries.{Changes, ConsultsEntry, ConsultsTerm, Does};
 ghost use Rattle.elf_apply.specs.Entries.{IsPlacedInside, target_as, taken_place, value_or};
 
-use crate::layout::Layout;
-use crate::lookup::{Symbol, address_in, linkage_value, refused, symbol_value};
+use crate::lookup::{Symbol, linkage_value, refused, symbol_value};
+use elf_layout::Layout;
 use elf_record::numbers::R_X86_64_NONE;
 use elf_record::{Cause, Rela};
 use elf_reloc::{Formula, Patch, RelocationType, relocation_type};
@@ -163,7 +163,7 @@ fn place_value(target: &Target<'_>, offset: u64, formula: Formula) -> Option<u64
     if !formula.takes_place() {
         return Some(0);
     }
-    match address_in(target.layout.sections(), target.section) {
+    match target.layout.section_address(target.section) {
         Some(address) => Some(address.wrapping_add(offset)),
         None => None,
     }

@@ -4,12 +4,9 @@
 mod applying;
 mod entry;
 mod in_order;
-mod layout;
 mod lookup;
-mod named;
 mod passes;
 mod walk;
 mod windows;
 
 pub use applying::{Applied, apply};
-pub use layout::{Item, Layout, LayoutFault};

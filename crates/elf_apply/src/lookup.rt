@@ -1,17 +1,17 @@
 //! The value of a symbol in a layout.
 ghost use Rattle.std.specs.Prelude.{◌≡◌, ℕ, List, Err, IfErr};
 ghost use Rattle.elf_model.specs.ApplyCost.{layout_names_cost};
-ghost use Rattle.elf_model.specs.Placing.{address_in, address_named, linkage_value, named_or};
+ghost use Rattle.elf_model.specs.Placing.{address_named, linkage_value, named_or};
 ghost use Rattle.elf_model.specs.Placing.{placed_at, symbol_value, undefined_value};
 ghost use Rattle.elf_model.specs.Records.{st_name};
 ghost use Rattle.elf_record.specs.Sym.{IsSym};
 ghost use Rattle.elf_headers.specs.Faults.{IsOfCheck};
 ghost use Rattle.elf_table.specs.Tables.{StringsWithin, strings_in};
+ghost use Rattle.elf_layout.specs.Layouts.{items_cost};
 ghost use Rattle.elf_apply.specs.Costs.{Consults, ConsultsSymbol, ValueOrCause};
-ghost use Rattle.elf_apply.specs.Costs.{ValueOrRefusal, items_cost};
+ghost use Rattle.elf_apply.specs.Costs.{ValueOrRefusal};
 
-use crate::layout::Layout;
-use crate::named::Named;
+use elf_layout::{Layout, Named};
 use elf_record::numbers::{SHN_UNDEF, STB_WEAK};
 use elf_record::{Cause, Place, Refusal, Sym};
 use elf_source::{Counted, Source};
@@ -30,20 +30,6 @@ pub(crate) fn refused<T>(at: u64, cause: Cause) -> Result<T, Fault>
     ensures { result ≡ Err (Fault.Refused (record { at = at; cause = cause })) }
 {
     Err(Fault::Refused(Refusal { at, cause }))
-}
-
-/// The address that is given for the section of an index, where there is one.
-pub(crate) fn address_in(items: &[(u16, u64)], section: u16) -> Option<u64>
-    ensures { result ≡ address_in items.now section }
-{
-    let mut i = 0;
-    while i < items.len() {
-        if items[i].0 == section {
-            return Some(items[i].1);
-        }
-        i += 1;
-    }
-    None
 }
 
 /// The address of the first item whose name is the symbol's, where there is one. Without items the
@@ -137,7 +123,7 @@ pub(crate) fn symbol_value<S: Source>(
         Place::Common => defined_value(src, layout, symbol, entry),
         Place::Section(section) => placed_at(
             entry,
-            address_in(layout.sections(), section),
+            layout.section_address(section),
             symbol.fields.st_value,
         ),
         Place::Reserved(_) => refused(entry, Cause::Unplaced),

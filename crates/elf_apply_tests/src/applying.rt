@@ -1,9 +1,10 @@
 //! The call and the overlapping entries, applied.
 
-use elf_apply::{Applied, Item, Layout, apply};
+use elf_apply::{Applied, apply};
 use elf_fixtures::{
     one_call, overlapping_in_other_order, overlapping_relocations, third_overflows, with_bytes,
 };
+use elf_layout::{Item, Layout};
 use elf_record::{Cause, Refusal};
 use elf_source::{Counted, MemorySource, Out, SliceSink};
 use elf_table::{HeaderStore, Stop};

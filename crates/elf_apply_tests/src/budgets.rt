@@ -2,10 +2,11 @@
 ghost use Rattle.std.specs.Prelude.{◌≤◌};
 
 use crate::applying::{applied, placed, refused};
-use elf_apply::{Applied, Item, Layout, apply};
+use elf_apply::{Applied, apply};
 use elf_fixtures::{
     falling_relocations, one_call, overlapping_relocations, rising_relocations, with_bytes,
 };
+use elf_layout::{Item, Layout};
 use elf_record::Cause;
 use elf_source::{Counted, MemorySource, Out, SliceSink};
 use elf_table::{HeaderStore, Stop};

@@ -1,8 +1,9 @@
 //! A source and an output that fail.
 
-use elf_apply::{Layout, apply};
+use elf_apply::apply;
 use elf_fakes::Planned;
 use elf_fixtures::{falling_relocations, overlapping_relocations};
+use elf_layout::Layout;
 use elf_source::{Counted, MemorySource, Out, SliceSink, SourceFault};
 use elf_table::{HeaderStore, Stop};
 use std::test::Fail;

@@ -1,6 +1,6 @@
 //! What a layout holds, and what it refuses.
 
-use elf_apply::{Item, Layout, LayoutFault};
+use elf_layout::{Item, Layout, LayoutFault};
 use std::test::Fail;
 
 #[test]

@@ -1,8 +1,9 @@
 //! Entries whose offsets rise, and fall; and a source that answers otherwise in the second pass.
 
 use crate::applying::applied;
-use elf_apply::{Applied, Layout, apply};
+use elf_apply::{Applied, apply};
 use elf_fixtures::{falling_relocations, rising_relocations};
+use elf_layout::Layout;
 use elf_record::{Cause, Refusal};
 use elf_source::{Counted, Out, SliceSink, Source, SourceFault};
 use elf_table::{HeaderStore, Stop};

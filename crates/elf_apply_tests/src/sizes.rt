@@ -1,9 +1,10 @@
 //! Sections of many sizes, with entries at their ends, and sections without bytes.
 
 use crate::applying::{applied, refused};
-use elf_apply::{Applied, Layout, apply};
+use elf_apply::{Applied, apply};
 use elf_fakes::{Planned, Printer, Script};
 use elf_fixtures::{one_call, rising_relocations, with_bytes};
+use elf_layout::Layout;
 use elf_record::Cause;
 use elf_source::{Counted, Out, WriteSink};
 use elf_table::HeaderStore;

@@ -5,7 +5,7 @@ use Rattle.elf_model.specs.Placing.{Layout}
 use Rattle.elf_reloc.specs.Types.{formula_as}
 use Rattle.elf_source.proofs.ReadsLaws.{Reads-then, Reads-to}
 use Rattle.elf_apply.proofs.EntrySteps.{term_zero, term_unlinked, term_beyond, term_found}
-use Rattle.elf_apply.proofs.LookupSteps.{names_cost}
+use Rattle.elf_layout.proofs.LayoutSteps.{names_cost}
 use Rattle.elf_table.proofs.RelocationLaws.{refers, refers-nowhere}
 use Rattle.elf_apply.proofs.SymbolSteps.{tells_as, tells_refused}
 use Rattle.elf_apply.proofs.ReadLaws.{says_then}

@@ -1,5 +1,4 @@
 use Rattle.std.proofs.Common.{sym, ap, ◌∙◌}
-use Rattle.elf_model.specs.Placing.{address_in}
 use Rattle.elf_reloc.specs.Types.{formula_as}
 use Rattle.elf_apply.specs.Entries.{target_as}
 use Rattle.elf_apply.proofs.EntrySteps.{place_none, place_found, place_missing}
@@ -12,9 +11,9 @@ returns-then-not-takes_place c = λ file at offset.
 pub returns-in-Some : goal.returns-in-Some
 returns-in-Some c = λ file at offset.
     place_found (target_as file c.args.target.now) at (formula_as c.args.formula) c.args.offset c.in-Some.address offset (sym c.takes_place.ensures ∙ c.if-not-takes_place.false)
-    (ap (λ l. address_in l c.args.target.now.section) (sym c.sections.ensures) ∙ sym c.in-Some.ensures)
+    (sym c.in-Some.ensures)
 
 pub returns-in-None : goal.returns-in-None
 returns-in-None c = λ file at offset.
     place_missing (target_as file c.args.target.now) at (formula_as c.args.formula) c.args.offset offset (sym c.takes_place.ensures ∙ c.if-not-takes_place.false)
-    (ap (λ l. address_in l c.args.target.now.section) (sym c.sections.ensures) ∙ sym c.in-None.ensures)
+    (sym c.in-None.ensures)

@@ -1,7 +1,8 @@
-use Rattle.elf_apply.specs.Costs.{items_cost}
+use Rattle.elf_layout.specs.Layouts.{items_cost}
 use Rattle.std.proofs.Common.{rules, ◌≤◌, drop, sym, ap, ◌∙◌, ◌+◌, arith, Ok, Some}
 use Rattle.elf_source.proofs.ReadsLaws.{Reads-then, Reads-to}
-use Rattle.elf_apply.proofs.LookupSteps.{step_hit, step_miss, step_fault, step_none, cost_step}
+use Rattle.elf_apply.proofs.LookupSteps.{step_hit, step_miss, step_fault, step_none}
+use Rattle.elf_layout.proofs.LayoutSteps.{cost_step}
 use Rattle.elf_apply.proofs.ReadLaws.{Says-then, refuses_answers}
 use Rattle.elf_apply.proofs.lookup.address_named.Goals as goal
 

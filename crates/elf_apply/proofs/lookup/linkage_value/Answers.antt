@@ -1,6 +1,6 @@
 use Rattle.std.proofs.Common.{rules, ◌∙◌, arith}
 use Rattle.elf_apply.proofs.SymbolSteps.{tells_as, linkage_found, linkage_none, linkage_fault}
-use Rattle.elf_apply.proofs.LookupSteps.{names_cost}
+use Rattle.elf_layout.proofs.LayoutSteps.{names_cost}
 use Rattle.elf_source.proofs.ReadsLaws.{Reads-then, Reads-to}
 use Rattle.elf_apply.proofs.ReadLaws.{Says-more, says_then}
 use Rattle.elf_apply.proofs.lookup.linkage_value.Goals as goal

@@ -1,5 +1,5 @@
 use Rattle.std.proofs.Common.{rules, sym, ap, ◌∙◌}
-use Rattle.elf_model.specs.Placing.{placed_at, address_in}
+use Rattle.elf_model.specs.Placing.{placed_at}
 use Rattle.elf_apply.proofs.SymbolSteps.{check_says, tells_as, tells_refused, value_absolute, value_undefined, value_common, value_placed, value_reserved}
 use Rattle.elf_apply.proofs.lookup.symbol_value.Goals as goal
 
@@ -36,7 +36,7 @@ returns-in-Section g c = record {
   told = λ file held decoded.
       tells_as c.placed_at.result _ _
       (value_placed file _ c.args.layout.now c.args.entry c.args.symbol.now.at _ decoded.st_shndx _ _ decoded.st_value c.in-Section.ensures
-      ∙ ap (λ a. placed_at c.args.entry a c.args.symbol.now.fields.st_value) (ap (λ l. address_in l c.in-Section.section) (sym c.sections.ensures) ∙ sym c.address_in.ensures))
+      ∙ ap (λ a. placed_at c.args.entry a c.args.symbol.now.fields.st_value) (sym c.section_address.ensures))
       c.placed_at.ensures.value;
 }
 

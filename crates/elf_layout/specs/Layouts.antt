@@ -1,10 +1,11 @@
--- What is put into a layout.
-use Rattle.std.specs.Prelude.{ℕ, ◌≡◌, ◌≢◌, ◌≤◌, ◌<◌, List, [], ◌∷◌, ◌++◌, length, All, Any, Result, Ok, Err}
+-- What is put into a layout, and what its names cost.
+use Rattle.std.specs.Prelude.{ℕ, ◌≡◌, ◌≢◌, ◌+◌, ◌≤◌, ◌<◌, List, [], ◌∷◌, ◌++◌, length, sum_by, All, Any, Result, Ok, Err}
+use Rattle.elf_model.specs.Names.{pad64}
 use Rattle.elf_model.specs.Placing.{Layout}
-use Rattle.elf_apply.specs.declared.layout.Item.{Item}
-use Rattle.elf_apply.specs.declared.layout.Item.TheVariants.{Section, Define, Entry}
-use Rattle.elf_apply.specs.declared.layout.LayoutFault.{LayoutFault}
-use Rattle.elf_apply.specs.declared.layout.LayoutFault.TheVariants.{Full, Repeat}
+use Rattle.elf_layout.specs.declared.layout.Item.{Item}
+use Rattle.elf_layout.specs.declared.layout.Item.TheVariants.{Section, Define, Entry}
+use Rattle.elf_layout.specs.declared.layout.LayoutFault.{LayoutFault}
+use Rattle.elf_layout.specs.declared.layout.LayoutFault.TheVariants.{Full, Repeat}
 
 -- a name that an item may have: 1 to 255 bytes, none a NUL
 abbrev pub IsName : List ℕ → Type 0
@@ -38,3 +39,7 @@ Pushes (Define name address) old new result =
     Adds 32 name.now address old.definitions new.definitions result × (new.sections ≡ old.sections) × (new.linkage ≡ old.linkage)
 Pushes (Entry name address) old new result =
     Adds 32 name.now address old.linkage new.linkage result × (new.sections ≡ old.sections) × (new.definitions ≡ old.definitions)
+
+-- what a comparison with each of some names costs
+abbrev pub items_cost : List (List ℕ × ℕ) → ℕ
+items_cost items = sum_by (λ item. pad64 (length item.0 + 1)) items

@@ -1,7 +1,7 @@
 -- What is left gives the answer.
 use Rattle.std.proofs.Common.{length, ◌-◌, ◌≡◌, ◌≤◌, drop}
 use Rattle.elf_model.specs.Placing.{address_in}
-use Rattle.elf_apply.proofs.lookup.address_in.Given as goal
+use Rattle.elf_layout.proofs.layout.address_in.Given as goal
 
 abbrev pub invariant-loop-i : goal.invariant-loop-i
 invariant-loop-i l = record {

@@ -1,7 +1,7 @@
 -- What the names before this one cost, and those that are left.
 use Rattle.std.proofs.Common.{length, ◌-◌, ◌≡◌, ◌+◌, ◌*◌, ◌≤◌, drop}
-use Rattle.elf_apply.specs.Costs.{items_cost}
-use Rattle.elf_apply.proofs.named.names_cost.Given as goal
+use Rattle.elf_layout.specs.Layouts.{items_cost}
+use Rattle.elf_layout.proofs.named.names_cost.Given as goal
 
 abbrev pub invariant-loop-i : goal.invariant-loop-i
 invariant-loop-i l = record {

@@ -1,7 +1,7 @@
 use Rattle.std.proofs.Common.{ap, arith}
-use Rattle.elf_apply.specs.Costs.{items_cost}
-use Rattle.elf_apply.proofs.LookupSteps.{names_cost}
-use Rattle.elf_apply.proofs.layout.Layout.names_cost.Goals as goal
+use Rattle.elf_layout.specs.Layouts.{items_cost}
+use Rattle.elf_layout.proofs.LayoutSteps.{names_cost}
+use Rattle.elf_layout.proofs.layout.Layout.names_cost.Goals as goal
 
 pub returns-clause-value : goal.returns-clause-value
 returns-clause-value c =

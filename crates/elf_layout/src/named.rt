@@ -1,16 +1,15 @@
 //! A name with its address.
 ghost use Rattle.std.specs.Prelude.{◌≡◌, ◌≢◌, ◌≤◌, ◌<◌, ◌^◌, [], length, All, Any, MatchBool};
-ghost use Rattle.elf_apply.specs.Costs.{items_cost};
-ghost use Rattle.elf_apply.specs.Layouts.{HasKey, LacksKey};
+ghost use Rattle.elf_layout.specs.Layouts.{HasKey, LacksKey, items_cost};
 
 use std::marker::Model;
 
 /// The most bytes that a name in a layout has.
-pub const NAME_BYTES: usize = 255;
+const NAME_BYTES: usize = 255;
 
-/// A name, which it holds itself, with the address that is given for it.
+/// A name of at most 255 bytes, which it holds itself, with the address that is given for it.
 #[derive(Drop)]
-pub(crate) struct Named {
+pub struct Named {
     bytes: [u8; NAME_BYTES],
     len: usize,
     address: u64,
@@ -55,7 +54,7 @@ impl Named {
     }
 
     /// The name.
-    pub(crate) fn name(&self) -> &[u8]
+    pub fn name(&self) -> &[u8]
         ensures value { result.now ≡ self.now.0 }
         ensures few { length self.now.0 ≤ 255 }
     {
@@ -69,8 +68,8 @@ impl Named {
         self.name() == name
     }
 
-    /// The address.
-    pub(crate) fn address(&self) -> u64
+    /// The address that is given for it.
+    pub fn address(&self) -> u64
         ensures { result ≡ self.now.1 }
     {
         self.address

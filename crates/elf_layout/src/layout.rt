@@ -1,10 +1,9 @@
 //! The addresses that are given for sections, names and procedure linkage table entries.
-ghost use Rattle.std.specs.Prelude.{◌≡◌, ◌≤◌, ◌<◌, ◌^◌, ℕ, List, [], length, MatchBool};
+ghost use Rattle.std.specs.Prelude.{◌≡◌, ◌≤◌, ◌<◌, ◌^◌, [], length, MatchBool};
 ghost use Rattle.elf_model.specs.ApplyCost.{layout_names_cost};
 ghost use Rattle.elf_model.specs.Placing.{address_in};
-ghost use Rattle.elf_apply.specs.Layouts.{Adds, IsName, NamesOf, Pushes, HasKey, LacksKey};
+ghost use Rattle.elf_layout.specs.Layouts.{Adds, IsName, NamesOf, Pushes, HasKey, LacksKey};
 
-use crate::lookup::address_in;
 use crate::named::{Named, has_name, names_cost};
 use arrayvec::ArrayVec;
 use std::marker::Model;
@@ -88,29 +87,30 @@ impl Layout {
         }
     }
 
-    /// The sections, by their index.
-    pub(crate) fn sections(&self) -> &[(u16, u64)]
-        ensures { result.now ≡ self.now.sections }
+    /// The address that is given for the section of an index, where there is one.
+    pub fn section_address(&self, section: u16) -> Option<u64>
+        ensures { result ≡ address_in self.now.sections section }
     {
-        self.sections.as_slice()
+        address_in(self.sections.as_slice(), section)
     }
 
-    /// The definitions.
-    pub(crate) fn definitions(&self) -> &[Named]
+    /// The definitions, in the order in which they were given.
+    pub fn definitions(&self) -> &[Named]
         ensures { result.now ≡ self.now.definitions }
     {
         self.definitions.as_slice()
     }
 
-    /// The procedure linkage table entries.
-    pub(crate) fn linkage(&self) -> &[Named]
+    /// The procedure linkage table entries, in the order in which they were given.
+    pub fn linkage(&self) -> &[Named]
         ensures { result.now ≡ self.now.linkage }
     {
         self.entries.as_slice()
     }
 
-    /// How many bytes a comparison with each of the names may ask for.
-    pub(crate) fn names_cost(&self) -> u128
+    /// How many bytes a comparison with each of the names may ask for: for each as many as it has
+    /// with its NUL, in whole pieces of 64.
+    pub fn names_cost(&self) -> u128
         ensures value { result ≡ layout_names_cost self.now }
         ensures few { result < 2 ^ 74 }
     {
@@ -150,6 +150,20 @@ fn push_section(
     }
     items.push((index, address));
     Ok(())
+}
+
+/// The address that is given for the section of an index, where there is one.
+fn address_in(items: &[(u16, u64)], section: u16) -> Option<u64>
+    ensures { result ≡ address_in items.now section }
+{
+    let mut i = 0;
+    while i < items.len() {
+        if items[i].0 == section {
+            return Some(items[i].1);
+        }
+        i += 1;
+    }
+    None
 }
 
 /// Whether one of some sections has this index.

@@ -1,6 +1,6 @@
 use Rattle.std.proofs.Common.{refl, sym, ◌∙◌, arith, get_or}
-use Rattle.elf_apply.proofs.LookupSteps.{address_hit, address_miss, address_none}
-use Rattle.elf_apply.proofs.lookup.address_in.Goals as goal
+use Rattle.elf_layout.proofs.LayoutSteps.{address_hit, address_miss, address_none}
+use Rattle.elf_layout.proofs.layout.address_in.Goals as goal
 
 pub returns-then-items-i : goal.returns-then-items-i
 returns-then-items-i c = sym (address_hit c.args.items.now c.loop-i.i c.args.section (0, 0) (get_or c.args.items.now c.loop-i.i (0, 0)) c.loop-i-test.true refl c.if-items-i.true) ∙ c.loop-i.invariant.left

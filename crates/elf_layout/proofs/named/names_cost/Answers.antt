@@ -1,8 +1,8 @@
 use Rattle.std.proofs.Common.{◌≡◌, ◌+◌, ◌*◌, length, arith, ap}
 use Rattle.elf_model.specs.Names.{pad64}
-use Rattle.elf_apply.specs.Costs.{items_cost}
-use Rattle.elf_apply.proofs.LookupSteps.{cost_step, drop-all}
-use Rattle.elf_apply.proofs.named.names_cost.Goals as goal
+use Rattle.elf_layout.specs.Layouts.{items_cost}
+use Rattle.elf_layout.proofs.LayoutSteps.{cost_step, drop-all}
+use Rattle.elf_layout.proofs.named.names_cost.Goals as goal
 
 pub loop-i-init : goal.loop-i-init
 loop-i-init c = record { within = omega arith; few = omega arith; left = omega arith }
