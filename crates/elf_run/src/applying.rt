@@ -6,7 +6,8 @@ ghost use Rattle.elf_source.specs.Growth.{Grows};
 ghost use Rattle.elf_listing.specs.Reports.{FaultSays, Leaves};
 ghost use Rattle.elf_run.specs.Answers.{GivesSection, AsksUpTo};
 
-use elf_apply::{Layout, apply};
+use elf_apply::apply;
+use elf_layout::Layout;
 use elf_listing::{RunFault, show_refusal};
 use elf_source::{Counted, Out, Sink, Source};
 use elf_table::{Caps, HeaderStore, Stop};

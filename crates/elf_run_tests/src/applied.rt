@@ -1,11 +1,11 @@
 //! Sections written with their relocations applied: the bytes, the refusals, the statuses, and what is
 //! asked for.
 use crate::requests::{carry_out, check_answer, check_outputs, check_reads, request};
-use elf_apply::{Item, Layout};
 use elf_fixtures::{
     falling_relocations, one_call, one_symbol_table, overlapping_in_other_order,
     overlapping_relocations, rising_relocations, third_overflows, with_bytes,
 };
+use elf_layout::{Item, Layout};
 use elf_source::TurnSource;
 use elf_table::HeaderStore;
 use elf_words::{Request, Task};

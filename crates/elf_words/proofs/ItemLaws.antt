@@ -12,7 +12,7 @@ use Rattle.std.proofs.lemmas.List.{get_or_default}
 use Rattle.std.proofs.lemmas.Str.Parse.{without_leading_plus_none}
 use Rattle.std.proofs.lemmas.Str.Pattern.{NoCharPasses-char, drop_at_char, starts_char}
 use Rattle.elf_words.specs.Items.{EQUALS, IsAddress, IsItemOf, IsParted, Spells, item_address}
-use Rattle.elf_apply.specs.declared.layout.Item.{Item}
+use Rattle.elf_layout.specs.declared.layout.Item.{Item}
 
 -- the clause of `rsplit_once` at `=`
 abbrev SplitsAtLast : List ℕ → Option (Bor (List ℕ) × Bor (List ℕ)) → Type 0

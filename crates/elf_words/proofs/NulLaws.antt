@@ -5,7 +5,7 @@ use Rattle.std.proofs.lemmas.List.{get_or_default}
 use Rattle.std.proofs.lemmas.List.Sums.{prefix_len_passes}
 use Rattle.memchr.specs.Find.{IsFirstByte, is_byte}
 use Rattle.elf_model.specs.Names.{nul_in}
-use Rattle.elf_apply.specs.Layouts.{IsName}
+use Rattle.elf_layout.specs.Layouts.{IsName}
 use Rattle.elf_model.proofs.Nuls.{none-free}
 use Rattle.elf_model.proofs.NameLoops.{nul_in-first, nul_in-nowhere}
 

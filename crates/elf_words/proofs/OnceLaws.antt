@@ -2,10 +2,10 @@
 use Rattle.std.proofs.Common.{◌≡◌, ℕ, List, [], ◌∷◌, ◌++◌, get_or, drop, Ok, Err, ap, sym, subst, ◌∙◌, arith, inl, inr}
 use Rattle.std.specs.Str.Parse.{digits_value}
 use Rattle.clap.specs.Walk.{Text}
-use Rattle.elf_apply.specs.Layouts.{HasKey, LacksKey, Pushes}
-use Rattle.elf_apply.specs.declared.layout.Item.{Item}
-use Rattle.elf_apply.specs.declared.layout.Item.TheVariants.{Section, Define, Entry}
-use Rattle.elf_apply.specs.declared.layout.LayoutFault.TheVariants.{Full, Repeat}
+use Rattle.elf_layout.specs.Layouts.{HasKey, LacksKey, Pushes}
+use Rattle.elf_layout.specs.declared.layout.Item.{Item}
+use Rattle.elf_layout.specs.declared.layout.Item.TheVariants.{Section, Define, Entry}
+use Rattle.elf_layout.specs.declared.layout.LayoutFault.TheVariants.{Full, Repeat}
 use Rattle.elf_model.specs.Placing.{Layout}
 use Rattle.elf_words.specs.Items.{IsAddress, IsItemOf, Spells, item_address}
 use Rattle.elf_words.specs.Layouts.{Lays, RefusesItem}

@@ -1,9 +1,9 @@
 -- The items of a layout, as words spell them.
 use Rattle.std.specs.Prelude.{ℕ, ◌≡◌, ◌≢◌, ◌≤◌, List, ◌∷◌, ◌++◌, length, All, codes}
 use Rattle.std.specs.Str.Parse.{IsNumeral, digits_value}
-use Rattle.elf_apply.specs.Layouts.{IsName}
-use Rattle.elf_apply.specs.declared.layout.Item.{Item}
-use Rattle.elf_apply.specs.declared.layout.Item.TheVariants.{Section, Define, Entry}
+use Rattle.elf_layout.specs.Layouts.{IsName}
+use Rattle.elf_layout.specs.declared.layout.Item.{Item}
+use Rattle.elf_layout.specs.declared.layout.Item.TheVariants.{Section, Define, Entry}
 
 -- `=`
 abbrev pub EQUALS : ℕ

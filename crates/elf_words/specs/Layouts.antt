@@ -1,9 +1,9 @@
 -- The layouts that words give.
 use Rattle.std.specs.Prelude.{◌≡◌, ◌⊎◌, List, [], ◌∷◌, Result, Ok, Err}
 use Rattle.clap.specs.Walk.{Text}
-use Rattle.elf_apply.specs.Layouts.{Pushes}
-use Rattle.elf_apply.specs.declared.layout.Item.{Item}
-use Rattle.elf_apply.specs.declared.layout.LayoutFault.TheVariants.{Full, Repeat}
+use Rattle.elf_layout.specs.Layouts.{Pushes}
+use Rattle.elf_layout.specs.declared.layout.Item.{Item}
+use Rattle.elf_layout.specs.declared.layout.LayoutFault.TheVariants.{Full, Repeat}
 use Rattle.elf_model.specs.Placing.{Layout}
 use Rattle.elf_words.specs.Items.{Spells}
 use Rattle.elf_words.specs.declared.requests.RequestFault.{RequestFault}

@@ -3,7 +3,7 @@ use crate::items::lay;
 use crate::tests::check_refused;
 use crate::{RequestFault, Task, request};
 use clap::error::ErrorKind;
-use elf_apply::{Item, Layout, LayoutFault};
+use elf_layout::{Item, Layout, LayoutFault};
 use elf_table::Caps;
 use std::alloc::{AllocError, Global};
 use std::process::Abort;

@@ -1,6 +1,6 @@
 //! Words that spell items, and words that spell none.
 use crate::items::item;
-use elf_apply::Item;
+use elf_layout::Item;
 use std::process::Abort;
 use std::test::Fail;
 

@@ -2,8 +2,8 @@
 ghost use Rattle.std.specs.Prelude.{◌≡◌, ◌≢◌, ◌≤◌, ◌^◌, ◌++◌, ℕ, List, IfErr, IfOk, IfSome};
 ghost use Rattle.std.specs.Prelude.{IsNone, length, Ok, Err};
 ghost use Rattle.std.specs.Str.Parse.{IsNumeral};
-ghost use Rattle.elf_apply.specs.Layouts.{IsName};
-ghost use Rattle.elf_apply.specs.declared.layout.Item.{Item};
+ghost use Rattle.elf_layout.specs.Layouts.{IsName};
+ghost use Rattle.elf_layout.specs.declared.layout.Item.{Item};
 ghost use Rattle.elf_words.specs.Items.{IsAddress, IsIndex, IsNumber, IsItemOf, IsParted};
 ghost use Rattle.elf_words.specs.Items.{Spells, item_address};
 ghost use Rattle.elf_words.specs.Layouts.{Lays, PutsItem, RefusesItem, no_items};
@@ -11,7 +11,7 @@ ghost use Rattle.clap.specs.Walk.{texts};
 
 use crate::names::has_nul;
 use crate::requests::RequestFault;
-use elf_apply::{Item, Layout, LayoutFault};
+use elf_layout::{Item, Layout, LayoutFault};
 
 /// The most bytes of a name in a layout.
 const NAME_BYTES: usize = 255;

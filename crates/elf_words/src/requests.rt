@@ -7,7 +7,7 @@ ghost use Rattle.elf_words.specs.Faults.{IsFaultOf};
 ghost use Rattle.elf_words.specs.declared.requests.RequestFault.TheVariants.{Memory};
 
 use clap::error::ErrorKind;
-use elf_apply::Layout;
+use elf_layout::Layout;
 use elf_record::Parts;
 use elf_table::Caps;
 use std::alloc::AllocError;

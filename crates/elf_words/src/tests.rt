@@ -1,7 +1,7 @@
 //! Words, and what they ask for.
 use crate::{RequestFault, Task, checked_name, request};
 use clap::error::ErrorKind;
-use elf_apply::Layout;
+use elf_layout::Layout;
 use elf_record::Parts;
 use elf_table::Caps;
 use std::process::Abort;

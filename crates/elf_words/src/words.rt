@@ -20,7 +20,7 @@ use crate::names::checked_name;
 use crate::requests::{Request, RequestFault, Task};
 use clap::error::ErrorKind;
 use clap::{ArgMatches, Command};
-use elf_apply::Layout;
+use elf_layout::Layout;
 use elf_record::Parts;
 use elf_table::Caps;
 use std::alloc::{AllocError, Global};

@@ -10,7 +10,7 @@ ghost use Rattle.std.specs.Prelude.{◌≡◌, ◌⊎◌, codes, IfErr};
 ghost use Rattle.elf_run.specs.Answers.{refused_line, refused_status};
 ghost use Rattle.elf_words.specs.declared.requests.RequestFault.{RequestFault};
 
-use elf_apply::Layout;
+use elf_layout::Layout;
 use elf_listing::{RunFault, show_told};
 use elf_run::{
     CANNOT_OPEN, Ending, NOT_UTF8, OUT_OF_MEMORY, READ_FAULT, WRITE_FAULT, outcome, refused, run,
