@@ -9,17 +9,15 @@ use elf_source::{Reader, ReaderFault};
 #[derive(Drop)]
 pub struct Pieces<'a> {
     bytes: &'a [u8],
-    place: u64,
     turns: u64,
     interrupted: u64,
 }
 
 impl<'a> Pieces<'a> {
-    /// A reader before the first of these bytes.
+    /// A reader of these bytes.
     pub fn new(bytes: &'a [u8]) -> Self {
         Pieces {
             bytes,
-            place: 0,
             turns: 0,
             interrupted: 0,
         }
@@ -28,7 +26,6 @@ impl<'a> Pieces<'a> {
     // Takes a turn, unless it is interrupted.
     fn turn(&mut self) -> Result<(), ReaderFault>
         ensures bytes { self.new.bytes ≡ self.old.bytes }
-        ensures place { self.new.place ≡ self.old.place }
         ensures turn { IsTurn self.old.interrupted self.new.interrupted result }
         ensures interrupted { IfErr result (λ fault. fault ≡ ReaderFault.Interrupted) }
     {
@@ -42,11 +39,9 @@ impl<'a> Pieces<'a> {
 }
 
 impl<'a> Reader for Pieces<'a> {
-    ghost use Rattle.std.specs.Prelude.{◌==◌, Some};
+    ghost use Rattle.std.specs.Prelude.{Some};
 
     ghost file = { λ r. Some r.bytes.now };
-
-    ghost stands = { λ r at. r.place == at };
 
     ghost interrupted = { λ r. r.interrupted };
 
@@ -55,21 +50,14 @@ impl<'a> Reader for Pieces<'a> {
         Ok(self.bytes.len() as u64)
     }
 
-    fn seek(&mut self, at: u64) -> Result<(), ReaderFault> {
+    fn read_at(&mut self, at: u64, out: &mut [u8]) -> Result<usize, ReaderFault> {
         self.turn()?;
-        self.place = at;
-        Ok(())
-    }
-
-    fn read(&mut self, out: &mut [u8]) -> Result<usize, ReaderFault> {
-        self.turn()?;
-        let start = self.place as usize;
+        let start = at as usize;
         if start >= self.bytes.len() {
             return Ok(0);
         }
         let count = out.len().min(7).min(self.bytes.len() - start);
         out[..count].copy_from_slice(&self.bytes[start..start + count]);
-        self.place += count as u64;
         Ok(count)
     }
 }

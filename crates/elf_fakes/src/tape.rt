@@ -1,10 +1,14 @@
 //! A reader of bytes that are never stored.
+ghost use Rattle.std.specs.Prelude.{◌≤◌, length};
+
 use crate::script::{Script, Trouble};
 use std::io;
 use std::io::{Error, ErrorKind, Read, Seek, SeekFrom};
+use std::os::unix::fs::FileExt;
 
-/// A reader of the letters from `a` to `z`, over and over, which are never stored. It gives at most so
-/// many bytes at a read. Where a call fails it stands elsewhere afterwards, unless it was interrupted.
+/// A reader of the letters from `a` to `z`, over and over, which are never stored, at the place where
+/// it stands or at an offset. It gives at most so many bytes at a read. Where a call fails it stands
+/// elsewhere afterwards, unless it was interrupted.
 #[derive(Drop)]
 pub struct Tape<'a> {
     length: u64,
@@ -36,6 +40,16 @@ impl<'a> Tape<'a> {
     fn stray(&mut self) {
         self.at = self.at.saturating_add(100);
     }
+
+    // Gives what stands at an offset into the front of `buf`, and answers how many bytes.
+    fn give(&self, at: u64, buf: &mut [u8]) -> usize
+        ensures { result ≤ length buf.new }
+    {
+        let left = self.length.saturating_sub(at);
+        let count = (buf.len().min(self.most) as u64).min(left) as usize;
+        write_from(&mut buf[..count], at);
+        count
+    }
 }
 
 impl<'a> Read for Tape<'a> {
@@ -49,11 +63,24 @@ impl<'a> Read for Tape<'a> {
             }
             None => {}
         }
-        let left = self.length.saturating_sub(self.at);
-        let count = (buf.len().min(self.most) as u64).min(left) as usize;
-        write_from(&mut buf[..count], self.at);
+        let count = self.give(self.at, buf);
         self.at = self.at.saturating_add(count as u64);
         Ok(count)
+    }
+}
+
+impl<'a> FileExt for Tape<'a> {
+    fn read_at(&self, buf: &mut [u8], offset: u64) -> io::Result<usize> {
+        self.script.ask_to(offset.saturating_add(buf.len() as u64));
+        match self.script.turn() {
+            Some(Trouble::Fails(kind)) => Err(Error::from(kind)),
+            Some(Trouble::Ends) => Ok(0),
+            None => Ok(self.give(offset, buf)),
+        }
+    }
+
+    fn write_at(&self, _buf: &[u8], _offset: u64) -> io::Result<usize> {
+        Ok(0)
     }
 }
 

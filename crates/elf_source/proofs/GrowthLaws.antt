@@ -1,5 +1,5 @@
 -- How calls that write follow one another.
-use Rattle.std.proofs.Common.{◌≡◌, ℕ, List, [], ◌++◌, Result, Ok, Err, refl}
+use Rattle.std.proofs.Common.{ℕ, List, [], ◌++◌, Result, Ok, Err}
 use Rattle.elf_source.specs.Growth.{Grows}
 use Rattle.elf_source.specs.Output.{Written, Takes, TakesFront, Puts}
 use Rattle.elf_source.specs.declared.faults.OutFault.{OutFault}

@@ -1,5 +1,5 @@
 -- Reads one behind the other, and then more of them.
-use Rattle.std.proofs.Common.{◌≡◌, ℕ, ◌+◌, ◌≤◌, List, [], ◌∷◌, ◌++◌, refl, sym, subst, arith}
+use Rattle.std.proofs.Common.{◌≡◌, ℕ, ◌+◌, ◌≤◌, List, [], ◌∷◌, ◌++◌, refl, subst, arith}
 use Rattle.elf_source.specs.Source.{Seen}
 use Rattle.elf_source.specs.Onward.{AreMade, AreOnward, ReadsOnward}
 

@@ -1,6 +1,9 @@
 //! Why a read or a write stopped.
 use thiserror::Error;
 
+/// How many interrupted turns of one call are a failure.
+pub(crate) const INTERRUPTED_TURNS: u8 = 64;
+
 /// Why a read of a source failed. The source may be asked again.
 #[derive(Clone, Copy, PartialEq, Eq, Debug, Error)]
 pub enum SourceFault {

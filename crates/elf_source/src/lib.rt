@@ -2,12 +2,13 @@
 #![tactic(auto)]
 
 mod counted;
-mod device;
 mod fail_source;
 mod faults;
 mod memory_source;
+mod offset_reader;
 mod output;
 mod reader;
+mod seek_reader;
 mod sink;
 mod slice_sink;
 mod source;
@@ -16,12 +17,13 @@ mod turn_source;
 mod write_sink;
 
 pub use counted::{Counted, READ_BYTES};
-pub use device::Device;
 pub use fail_source::FailSource;
 pub use faults::{AskFault, OutFault, ReaderFault, SinkFault, SourceFault};
 pub use memory_source::MemorySource;
+pub use offset_reader::OffsetReader;
 pub use output::Out;
 pub use reader::Reader;
+pub use seek_reader::SeekReader;
 pub use sink::Sink;
 pub use slice_sink::SliceSink;
 pub use source::Source;

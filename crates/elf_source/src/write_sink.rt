@@ -2,13 +2,10 @@
 ghost use Rattle.std.specs.Prelude.{◌≡◌, ◌<◌, ◌≤◌, false, length, take, IfSome, MatchOption};
 ghost use Rattle.std.specs.Io.KnownBytes.{Keeps, Appends};
 
-use crate::faults::SinkFault;
+use crate::faults::{INTERRUPTED_TURNS, SinkFault};
 use crate::sink::Sink;
 use std::io::{ErrorKind, Write};
 use std::marker::Model;
-
-// How many interrupted turns of one call are a failure.
-const INTERRUPTED_TURNS: u8 = 64;
 
 /// A sink over a writer. It tells its bytes where the writer does.
 #[derive(Drop)]

@@ -1,8 +1,8 @@
 //! What no clause says: that sources and sinks over a device fail only where it does, and then how.
 use elf_fakes::{Printer, Script, Tape, Trouble};
 use elf_source::{
-    Counted, Device, MemorySource, Out, OutFault, Sink, SinkFault, SliceSink, Source, SourceFault,
-    StreamSource, WriteSink,
+    Counted, MemorySource, OffsetReader, Out, OutFault, SeekReader, Sink, SinkFault, SliceSink,
+    Source, SourceFault, StreamSource, WriteSink,
 };
 use std::alloc::Global;
 use std::io::ErrorKind;
@@ -37,8 +37,19 @@ pub(crate) fn stream<'a>(
     most: usize,
     script: &'a Script,
     rt: &impl Abort,
-) -> StreamSource<Device<Tape<'a>>> {
+) -> StreamSource<SeekReader<Tape<'a>>> {
     StreamSource::new(Tape::new(length, most, script)).expect(rt, "a stream")
+}
+
+/// A stream over the same letters, which are read at offsets as a file of the system is.
+pub(crate) fn file_stream<'a>(
+    length: u64,
+    most: usize,
+    script: &'a Script,
+    rt: &impl Abort,
+) -> StreamSource<OffsetReader<Tape<'a>>> {
+    let reader = OffsetReader::new(Tape::new(length, most, script));
+    StreamSource::over(reader).expect(rt, "a stream")
 }
 
 /// A sink over a printer that takes at most `most` bytes at a write.

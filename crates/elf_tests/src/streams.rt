@@ -1,7 +1,7 @@
 //! What no clause says of a stream: that each byte is the reader's own at its offset, however far
 //! it lies and however much is asked for; that a fault of the reader is told, and leaves no place
 //! behind from which the next read would go on; and how often the reader is asked.
-use crate::sources::{FAILS, fill_at, stream};
+use crate::sources::{FAILS, file_stream, fill_at, stream};
 use elf_fakes::{Script, Trouble, stands_at};
 use elf_source::{Counted, Source, SourceFault};
 use std::alloc::Global;
@@ -197,4 +197,59 @@ fn a_counted_read_asks_the_reader_once(rt: HostRuntime) {
     assert!(rt; source.fill(10, &mut [255; 2]) == Ok(()));
     assert!(rt; source.fill(12, &mut [255; 2]) == Ok(()));
     assert!(rt; script.calls() == 4 && source.asked() == 4);
+}
+
+#[test]
+fn a_file_is_read_at_offsets_and_never_sought(rt: HostRuntime) {
+    let script = Script::new();
+    let mut source = file_stream(FAR, 9, &script, &rt);
+    assert!(rt; source.length() == FAR);
+    for (at, calls) in [
+        (0, 2),
+        (1 << 31, 3),
+        ((1 << 33) + 5, 4),
+        (FAR - 2, 5),
+        (16, 6),
+    ] {
+        let given = gives_two(&mut source, at, &rt);
+        assert!(rt; given && script.calls() == calls, "at {at}");
+    }
+    assert!(rt; script.seeks() == 1);
+}
+
+#[test]
+fn a_short_turn_of_a_file_goes_on_behind_its_last_byte(rt: HostRuntime) {
+    for (most, calls) in [(1, 71), (7, 11), (64, 3), (70, 2)] {
+        let script = Script::new();
+        let mut source = file_stream(FAR, most, &script, &rt);
+        let given = gives(&mut source, 11, 70, rt.alloc(), &rt);
+        assert!(rt; given && script.calls() == calls, "{most} bytes");
+        assert!(rt; script.asked_to() == 81, "{most} bytes");
+    }
+}
+
+#[test]
+fn a_fault_of_a_file_is_told_and_leaves_the_next_read_alone(rt: HostRuntime) {
+    let device = Err(SourceFault::Device);
+    for well in 0..3 {
+        for (trouble, want) in [(FAILS, device), (Trouble::Ends, Err(SourceFault::Ended))] {
+            let script = Script::new();
+            let mut source = file_stream(FAR, 1, &script, &rt);
+            script.go_wrong(well, trouble);
+            let answer = fill_at(&mut source, 10, &mut [255; 3], &rt);
+            assert!(rt;
+                answer == want && script.calls() == well + 2,
+                "{well} calls before"
+            );
+            assert!(rt; gives_two(&mut source, 11, &rt));
+        }
+    }
+    for (interrupted, want) in [(63, Ok(())), (64, device)] {
+        let script = Script::new();
+        let mut source = file_stream(FAR, 1, &script, &rt);
+        script.interrupt(0, interrupted, 0);
+        let answer = fill_at(&mut source, 10, &mut [255; 2], &rt);
+        assert!(rt; answer == want, "{interrupted} interruptions");
+        assert!(rt; gives_two(&mut source, 10, &rt));
+    }
 }

@@ -1,10 +1,7 @@
 //! elfsee lists ELF64 files, safely and in bounded memory.
 #![tactic(auto)]
 
-mod offset_reader;
 mod sample;
-#[cfg(test)]
-mod tests;
 
 ghost use Rattle.std.specs.Prelude.{◌≡◌, ◌⊎◌, codes, IfErr};
 ghost use Rattle.elf_run.specs.Answers.{refused_line, refused_status};
@@ -15,10 +12,9 @@ use elf_listing::{RunFault, show_told};
 use elf_run::{
     CANNOT_OPEN, Ending, NOT_UTF8, OUT_OF_MEMORY, READ_FAULT, WRITE_FAULT, outcome, refused, run,
 };
-use elf_source::{Counted, Device, MemorySource, Out, Source, StreamSource, WriteSink};
+use elf_source::{Counted, MemorySource, OffsetReader, Out, Source, StreamSource, WriteSink};
 use elf_table::HeaderStore;
 use elf_words::{Request, RequestFault, request};
-use offset_reader::OffsetReader;
 use sample::sample;
 use std::alloc::{AllocError, Global};
 use std::fs::File;
@@ -33,9 +29,6 @@ const OUTPUT_BYTES: usize = 65_536;
 
 /// How many bytes of what is told of words are kept before they are written.
 const TOLD_BYTES: usize = 4_096;
-
-/// A file that is read at offsets.
-type FileReader<F> = Device<OffsetReader<F>>;
 
 fn main(rt: HostRuntime) -> ExitCode {
     let (status, line) = match answer(&rt, rt.stderr()) {
@@ -135,7 +128,7 @@ fn tell<W: Write + Drop>(alloc: Global, told: &clap::Error, errors: W) -> Result
 
 /// Opens a file that can be read at an offset. Folders, pipes and sockets are not opened, so that
 /// opening never waits.
-fn open<R: Files>(rt: &R, path: &str) -> Result<StreamSource<FileReader<R::File>>, Ending>
+fn open<R: Files>(rt: &R, path: &str) -> Result<StreamSource<OffsetReader<R::File>>, Ending>
 where
     R::File: FileExt,
 {
@@ -149,7 +142,7 @@ where
     let Ok(file) = fs::open(rt, path) else {
         return Err(CANNOT_OPEN);
     };
-    StreamSource::new(OffsetReader::new(file)).map_err(|_| READ_FAULT)
+    StreamSource::over(OffsetReader::new(file)).map_err(|_| READ_FAULT)
 }
 
 /// Carries a request out and writes what is left of the output. After a fault of the output nothing

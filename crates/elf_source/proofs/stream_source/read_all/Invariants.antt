@@ -1,15 +1,15 @@
--- What was read so far is the file's, and the reader stands behind it.
-use Rattle.std.proofs.Common.{◌≡◌, ◌+◌, ◌-◌, ◌≤◌, ℕ, List, Some, length, take, drop, IsTrue}
+-- What was read so far is the file's.
+use Rattle.std.proofs.Common.{◌≡◌, ◌+◌, ◌-◌, ◌≤◌, ◌<◌, ℕ, List, Some, length, take, drop}
 use Rattle.elf_source.proofs.stream_source.read_all.Given as goal
 
 abbrev pub invariant-loop-got : goal.invariant-loop-got
 invariant-loop-got g l = record {
   within : l.got ≤ length l.out;
+  few : l.interrupted < 64;
   same : g.R.Reader.file l.reader ≡ g.R.Reader.file l.fn.reader;
-  few : g.R.Reader.interrupted l.reader + l.turns.left ≤ g.R.Reader.interrupted l.fn.reader + l.fn.turns.left;
-  stands : (at : ℕ) → IsTrue (g.R.Reader.stands l.fn.reader at) → IsTrue (g.R.Reader.stands l.reader (at + l.got));
-  filled : (file : List ℕ) (at : ℕ) → g.R.Reader.file l.fn.reader ≡ Some file → IsTrue (g.R.Reader.stands l.fn.reader at) → take l.got l.out ≡ take l.got (drop at file);
+  counted : g.R.Reader.interrupted l.reader ≤ g.R.Reader.interrupted l.fn.reader + l.interrupted;
+  filled : (file : List ℕ) → g.R.Reader.file l.fn.reader ≡ Some file → take l.got l.out ≡ take l.got (drop l.at file);
 }
 
 abbrev pub decreases-loop-got : goal.decreases-loop-got
-decreases-loop-got g l = (length l.initial.out - l.got) + l.turns.left
+decreases-loop-got g l = (length l.initial.out - l.got) + (64 - l.interrupted)

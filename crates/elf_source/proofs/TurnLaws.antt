@@ -1,11 +1,10 @@
 -- What reads in turns come to.
-use Rattle.std.proofs.Common.{◌≡◌, ℕ, ◌+◌, ◌≤◌, List, ◌++◌, length, take, drop, sym, ap, ◌∙◌, subst, Result, Err, IfErr, length-take-le}
+use Rattle.std.proofs.Common.{◌≡◌, ℕ, ◌+◌, ◌≤◌, List, ◌++◌, length, take, drop, sym, ap, ◌∙◌, Result, Ok, Err, IfErr, refl, length-take-le}
 use Rattle.std.proofs.Math.Seq.{take-add, take-append-add}
 use Rattle.std.proofs.lemmas.List.{drop-drop, take-append-le}
-use Rattle.elf_source.specs.Reader.{Filled}
 use Rattle.elf_source.specs.Source.{Seen, IsHonest, Faults}
 use Rattle.elf_source.specs.declared.faults.SourceFault.{SourceFault}
-use Rattle.elf_source.specs.declared.faults.SourceFault.TheVariants.{Ended}
+use Rattle.elf_source.specs.declared.faults.SourceFault.TheVariants.{Device, Ended}
 use borrow.Rule.Slice.PartMut.{put_mid, post_of}
 
 -- the first bytes of a buffer, and some of those that a turn put behind them
@@ -27,9 +26,9 @@ filled-then file out part at got count room within some before turn =
     ∙ ap (λ rest. take got (drop at file) ++ rest) (turn ∙ ap (take count) (sym (drop-drop got at file)))
     ∙ sym (take-add got count (drop at file))
 
--- a reader that ended, though its file went on, gives no file: so its source isn't honest
-pub ended-is_known : (old new : Seen) (result : Result (Unit {0}) SourceFault) → result ≡ Err Ended
-    → (IsHonest new → (file : List ℕ) × (at : ℕ) × (out : List ℕ) × Filled file at out result) → IfErr result (Faults old new)
-ended-is_known old new result is read =
-    let Q : Result (Unit {0}) SourceFault → Type 0 = λ r. IfErr r (Faults old new) in
-    subst Q (sym is) (λ honest. let found = read honest in subst (λ (r : Result (Unit {0}) SourceFault). Filled found.0 found.1 found.2 r) is found.3)
+-- a source whose reads fail only at `Device`, where it is honest, isn't honest at any other fault
+pub ended-is_known : (old new : Seen) (result : Result (Unit {0}) SourceFault) → (result ≡ Err Device → ⊥)
+    → (IsHonest new → IfErr result (λ fault. fault ≡ Device)) → IfErr result (Faults old new)
+ended-is_known old new (Ok x) other fails = tt
+ended-is_known old new (Err Device) other fails = absurd (other refl)
+ended-is_known old new (Err Ended) other fails = λ honest. search fails
