@@ -1,24 +1,24 @@
 -- What the tables of a loaded file ask for, by the section headers in the store.
-use Rattle.std.proofs.Common.{◌≡◌, ℕ, ◌+◌, ◌*◌, ◌/◌, ◌%◌, ◌<◌, ◌≤◌, ◌==◌, ◌&&◌, ◌||◌, not, nat_lt, if◌then◌else◌, Bool, true, false, List, [], ◌∷◌, length, drop, Option, None, Some, Result, Ok, refl, sym, ap, ◌∙◌, arith}
-use Rattle.std.proofs.lemmas.Bool.{eqb-true, ltb-false}
+use Rattle.std.proofs.Common.{◌≡◌, ℕ, ◌+◌, ◌*◌, ◌/◌, ◌%◌, ◌<◌, ◌≤◌, ◌==◌, ◌&&◌, ◌||◌, ◌⊎◌, inl, inr, not, if◌then◌else◌, Bool, true, false, List, [], ◌∷◌, length, Option, None, Some, Result, Ok, refl, sym, ap, ◌∙◌, arith}
+use Rattle.std.proofs.lemmas.Bool.{cases_Bool, eqb-true}
 use Rattle.std.specs.Prelude.{is_none}
-use Rattle.elf_model.specs.Checks.{Check, first_refusal, pass, refuse, is_outside, header_checks, early_checks, section_name_checks, is_symbol_table, table_checks_of, whole_checks_of}
+use Rattle.elf_model.specs.Checks.{Check, first_refusal, pass, refuse, is_outside, header_checks, early_checks, section_name_checks, range_checks_of, table_checks_of, whole_checks_of}
 use Rattle.elf_model.specs.Cost.{sum_over, cost_where, table_cost, kinds_cost, is_loadable, sections_cost, segments_cost, tables_cost, behind_header, cost, ceiling}
 use Rattle.elf_model.specs.Listing.{has, has_tables, SECTIONS, SEGMENTS, NOTES, DYNAMIC}
 use Rattle.elf_model.specs.CostLaws.{kind_by_kind}
 use Rattle.elf_model.specs.Names.{name_bytes}
-use Rattle.elf_model.specs.TableKinds.{symbols, relocations, section_notes, section_dynamic, segment_notes, segment_dynamic, section_kinds, segment_kinds}
-use Rattle.elf_model.specs.Numbers.{SHT_RELA, SHT_DYNAMIC, SHT_NOTE, PT_NOTE, PT_DYNAMIC, PN_XNUM, SHN_XINDEX}
-use Rattle.elf_model.specs.Records.{e_shnum, e_phnum, e_shstrndx, sh_type, sh_offset, sh_size, p_type, p_offset, p_filesz, section_at, segment_at}
-use Rattle.elf_model.specs.declared.causes.Cause.TheVariants.{ExtendedNumbering, SizeNotWhole, TableOutside, TooManyHeaders}
-use Rattle.elf_model.specs.declared.causes.Refusal.{Refusal}
+use Rattle.elf_model.specs.TableKinds.{TableKind, symbols, relocations, section_notes, section_dynamic, segment_notes, segment_dynamic, section_kinds, segment_kinds}
+use Rattle.elf_model.specs.Numbers.{PT_DYNAMIC}
+use Rattle.elf_model.specs.Records.{e_shnum, e_phnum, sh_offset, sh_size, p_type, p_offset, p_filesz, section_at, segment_at}
+use Rattle.elf_model.specs.declared.causes.Cause.TheVariants.{SizeNotWhole, TableOutside}
 use Rattle.elf_model.proofs.CheckSteps.{first_refusal-none, passes_front}
-use Rattle.elf_model.proofs.CostLemmas.{cost_where-le, sum_over-le, sums_grow, tables_by, headers_none}
+use Rattle.elf_model.proofs.CostLemmas.{cost_where-le, cost_where-within, sum_over-le, sums_grow, tables_by, headers_none}
 use Rattle.elf_model.proofs.StoreLemmas.{rows_cost, segments_cost_rows, by_kind, any_rows, any_segments, sections_counted, places_decide_nothing}
 use Rattle.elf_record.specs.Ehdr.{IsEhdr}
 use Rattle.elf_record.specs.declared.ehdr.Ehdr.{Ehdr}
 use Rattle.elf_headers.specs.Load.{Opened, Belongs, IsOpened, early_of, load_cost}
-use Rattle.elf_table.specs.Sections.{answered, bytes_of, rows, table_of, checked}
+use Rattle.elf_table.specs.Sections.{bytes_of, rows, table_of, checked}
+use Rattle.elf_table.proofs.RelocationLaws.{passed_first}
 use Rattle.elf_headers.specs.Store.{Stored, HoldsSegments, row, segment_bytes}
 use Rattle.elf_table.specs.Tables.{Rows, Strings}
 use Rattle.elf_table.specs.Views.{dynamic_of}
@@ -42,104 +42,74 @@ name_where (Some strings) false cap is = omega arith
 pub name_within : (names : Option Strings) (index cap : ℕ) → (index ≡ 0 → names ≡ None) → name_cost names cap ≤ cost_where (not (index == 0)) (name_bytes cap)
 name_within names index cap is = name_where names (index == 0) cap (λ e. is (eqb-true index 0 e))
 
--- a table that was answered passes its checks, and counts
-rows_within : (counts : Bool) (first : Option Refusal) (at n entry each_entry : ℕ) (table : Rows) → (first ≡ None → counts ≡ true)
-    → answered first (rows at n entry) ≡ Ok table → table.count * each_entry ≤ cost_where counts (n * each_entry)
-rows_within true None at n entry each_entry table h k = let t : rows at n entry ≡ table = cc in rw (ap (λ (r : Rows). r.count) (sym t)) (omega arith)
-rows_within false None at n entry each_entry table h k = let wrong : false ≡ true = h refl in cc
-rows_within counts (Some refusal) at n entry each_entry table h k = cc
+-- what the entries of a table ask for that was answered, behind checks or empty, is within what its header counts for
+within_kind : (kind : TableKind) (bytes : List ℕ) (size cap n : ℕ) (checks : List Check) (none some table : Rows) → kind.has_table bytes 0 ≡ true
+    → (first_refusal checks ≡ None → pass (kind.checks.own bytes 0 size) ≡ true) → ((n == 0) ≡ true → none.count ≡ 0) → some.count ≡ kind.entries bytes 0
+    → (elim (n == 0) as (λ _. Result Rows Fault) [ true ↦ Ok none | false ↦ checked checks some ]) ≡ Ok table
+    → table.count * kind.entry_cost cap ≤ table_cost kind bytes 0 size cap
+unfolding table_cost
+within_kind kind bytes size cap n checks none some table has same zero count h = rw has (by_cases (n == 0) zero h)
+  where
+    by_cases : (empty : Bool) → (empty ≡ true → none.count ≡ 0) → (elim empty as (λ _. Result Rows Fault) [ true ↦ Ok none | false ↦ checked checks some ]) ≡ Ok table
+        → table.count * kind.entry_cost cap ≤ cost_where (pass (kind.checks.own bytes 0 size)) (kind.entries bytes 0 * kind.entry_cost cap)
+    by_cases true zero h = let is : none ≡ table = cc in rw (ap (λ (r : Rows). r.count) (sym is) ∙ zero refl) (omega arith)
+    by_cases false zero h = let p = passed_first (first_refusal checks) some table h in rw (same p.0, ap (λ (r : Rows). r.count) (sym p.1) ∙ count) (omega arith)
 
-entries_by_cases : (empty counts : Bool) (checks : List Check) (at n entry each_entry : ℕ) (table : Rows) → (first_refusal checks ≡ None → counts ≡ true)
-    → (elim empty as (λ _. Result Rows Fault) [ true ↦ Ok (rows at 0 entry) | false ↦ checked checks (rows at n entry) ]) ≡ Ok table
-    → table.count * each_entry ≤ cost_where counts (n * each_entry)
-entries_by_cases true counts checks at n entry each_entry table h k =
-    let t : rows at 0 entry ≡ table = cc in let none : table.count ≡ 0 = ap (λ (r : Rows). r.count) (sym t) in rw none (omega arith)
-entries_by_cases false counts checks at n entry each_entry table h k = rows_within counts (first_refusal checks) at n entry each_entry table h k
+-- the entries of a section
+pub section_within : (kind : TableKind) (bytes : List ℕ) (size place cap entry : ℕ) (table : Rows) → kind.has_table bytes 0 ≡ true
+    → kind.checks.own bytes 0 size ≡ table_checks_of bytes 0 size 0 entry → kind.entries bytes 0 ≡ sh_size bytes 0 / entry
+    → Ok table ≡ table_of bytes 0 size place entry → table.count * kind.entry_cost cap ≤ table_cost kind bytes 0 size cap
+section_within kind bytes size place cap entry table has own entries h =
+    within_kind kind bytes size cap (sh_size bytes 0) (table_checks_of bytes 0 size place entry) (rows (sh_offset bytes 0) 0 entry) (rows (sh_offset bytes 0) (sh_size bytes 0 / entry) entry) table has
+    (λ none. ap pass own ∙ (places_decide_nothing bytes 0 size 0 place entry ∙ ap is_none none)) (λ _. refl) (sym entries) (sym h)
 
--- and so is what its entries ask for within what the table counts for
-table_within : (bytes : List ℕ) (at size place entry each_entry : ℕ) (table : Rows) → Ok table ≡ table_of bytes at size place entry
-    → table.count * each_entry ≤ cost_where (pass (table_checks_of bytes at size at entry)) (sh_size bytes at / entry * each_entry)
-table_within bytes at size place entry each_entry table h =
-    entries_by_cases (sh_size bytes at == 0) (pass (table_checks_of bytes at size at entry)) (table_checks_of bytes at size place entry) (sh_offset bytes at) (sh_size bytes at / entry) entry each_entry table
-    (λ none. places_decide_nothing bytes at size at place entry ∙ ap is_none none) (sym h)
-
-pub symbols_within : (bytes : List ℕ) (size place cap : ℕ) (table : Rows) → is_symbol_table bytes 0 ≡ true → Ok table ≡ table_of bytes 0 size place 24
-    → table.count * (24 + name_bytes cap) ≤ table_cost symbols bytes 0 size cap
-unfolding table_cost symbols
-symbols_within bytes size place cap table kind h =
-    let within = table_within bytes 0 size place 24 (24 + name_bytes cap) table h in rw kind within
-
-pub relocations_within : (bytes : List ℕ) (size place cap : ℕ) (table : Rows) → sh_type bytes 0 ≡ SHT_RELA → Ok table ≡ table_of bytes 0 size place 24
-    → table.count * (24 + (24 + name_bytes cap)) ≤ table_cost relocations bytes 0 size cap
-unfolding table_cost relocations
-relocations_within bytes size place cap table kind h =
-    let within = table_within bytes 0 size place 24 (24 + (24 + name_bytes cap)) table h in rw kind within
-
-pub section_dynamic_within : (bytes : List ℕ) (size place most : ℕ) (table : Rows) → sh_type bytes 0 ≡ SHT_DYNAMIC → Ok table ≡ table_of bytes 0 size place 16
-    → table.count * (16 + name_bytes most) ≤ table_cost section_dynamic bytes 0 size most
-unfolding table_cost section_dynamic
-section_dynamic_within bytes size place most table kind h =
-    let within = table_within bytes 0 size place 16 (16 + name_bytes most) table h in rw kind within
-
--- a range that was answered counts, each of its bytes
-range_by_cases : (empty outside : Bool) (size : ℕ) (at offset : ℕ) (table : Rows)
-    → (elim empty as (λ _. Result Rows Fault) [ true ↦ Ok (rows offset 0 1) | false ↦ checked (refuse outside at TableOutside ∷ []) (rows offset size 1) ]) ≡ Ok table
-    → table.count ≤ cost_where (pass (refuse outside 0 TableOutside ∷ [])) (size * 1)
-range_by_cases true outside size at offset table h = let t : rows offset 0 1 ≡ table = cc in let none : table.count ≡ 0 = ap (λ (r : Rows). r.count) (sym t) in rw none (omega arith)
-range_by_cases false true size at offset table h = cc
-range_by_cases false false size at offset table h = let t : rows offset size 1 ≡ table = cc in let all : table.count ≡ size = ap (λ (r : Rows). r.count) (sym t) in omega (arith, all)
-
-pub section_notes_within : (bytes : List ℕ) (size place most : ℕ) (table : Rows) → sh_type bytes 0 ≡ SHT_NOTE → Ok table ≡ bytes_of size (sh_offset bytes 0) (sh_size bytes 0) place
-    → table.count ≤ table_cost section_notes bytes 0 size most
-unfolding table_cost section_notes
-section_notes_within bytes size place most table kind h =
-    let within = range_by_cases (sh_size bytes 0 == 0) (is_outside size (sh_offset bytes 0) (sh_size bytes 0)) (sh_size bytes 0) place (sh_offset bytes 0) table (sym h) in rw kind within
-
-pub segment_notes_within : (bytes : List ℕ) (size place most : ℕ) (table : Rows) → p_type bytes 0 ≡ PT_NOTE → Ok table ≡ bytes_of size (p_offset bytes 0) (p_filesz bytes 0) place
-    → table.count ≤ table_cost segment_notes bytes 0 size most
-unfolding table_cost segment_notes
-segment_notes_within bytes size place most table kind h =
-    let within = range_by_cases (p_filesz bytes 0 == 0) (is_outside size (p_offset bytes 0) (p_filesz bytes 0)) (p_filesz bytes 0) place (p_offset bytes 0) table (sym h) in rw kind within
-
--- the dynamic entries of a segment that were answered count, and the place that a refusal would name decides nothing
+-- where checks pass that name one place, they pass that name another
 whole_by_cases : (broken outside : Bool) (place : ℕ) → first_refusal (refuse broken place SizeNotWhole ∷ refuse outside place TableOutside ∷ []) ≡ None
     → pass (refuse broken 0 SizeNotWhole ∷ refuse outside 0 TableOutside ∷ []) ≡ true
 whole_by_cases true outside place h = cc
 whole_by_cases false true place h = cc
 whole_by_cases false false place h = refl
 
-segment_by_cases : (empty counts : Bool) (checks : List Check) (at size each_entry : ℕ) (table : Rows) → empty ≡ (size == 0) → (first_refusal checks ≡ None → counts ≡ true)
-    → checked (if empty then [] else checks) (rows at (size / 16) 16) ≡ Ok table → table.count * each_entry ≤ cost_where counts (size / 16 * each_entry)
-segment_by_cases true counts checks at size each_entry table e h k =
-    let zero : size ≡ 0 = eqb-true size 0 (sym e) in
-    let t : rows at (size / 16) 16 ≡ table = cc in
-    let none : table.count ≡ 0 = ap (λ (r : Rows). r.count) (sym t) ∙ ap (λ n. n / 16) zero in
-    rw none (omega arith)
-segment_by_cases false counts checks at size each_entry table e h k = rows_within counts (first_refusal checks) at (size / 16) 16 each_entry table h k
+-- the bytes of a range
+pub range_within : (kind : TableKind) (bytes : List ℕ) (size offset n place cap : ℕ) (table : Rows) → kind.has_table bytes 0 ≡ true
+    → kind.checks.own bytes 0 size ≡ range_checks_of size offset n 0 → kind.entries bytes 0 ≡ n → kind.entry_cost cap ≡ 1
+    → Ok table ≡ bytes_of size offset n place → table.count ≤ table_cost kind bytes 0 size cap
+range_within kind bytes size offset n place cap table has own entries one h =
+    let within = within_kind kind bytes size cap n (range_checks_of size offset n place) (rows offset 0 1) (rows offset n 1) table has
+    (λ none. ap pass own ∙ whole_by_cases false (is_outside size offset n) place none) (λ _. refl) (sym entries) (sym h) in
+    let each : table.count * kind.entry_cost cap ≡ table.count * 1 = ap (λ k. table.count * k) one in
+    omega (arith, within, each)
 
-pub segment_dynamic_within : (bytes : List ℕ) (size place most : ℕ) (table : Rows) → p_type bytes 0 ≡ PT_DYNAMIC → Ok table ≡ dynamic_of bytes 0 size place
-    → table.count * (32 + name_bytes most) ≤ table_cost segment_dynamic bytes 0 size most
-unfolding table_cost segment_dynamic
-segment_dynamic_within bytes size place most table kind h =
-    let broken = not (p_filesz bytes 0 % 16 == 0) in
-    let outside = is_outside size (p_offset bytes 0) (p_filesz bytes 0) in
-    let within = segment_by_cases (p_filesz bytes 0 == 0) (pass (whole_checks_of size (p_offset bytes 0) (p_filesz bytes 0) 0 16)) (whole_checks_of size (p_offset bytes 0) (p_filesz bytes 0) place 16)
-    (p_offset bytes 0) (p_filesz bytes 0) (32 + name_bytes most) table refl (whole_by_cases broken outside place) (sym h) in
-    rw kind within
+-- the dynamic entries of a segment
+pub segment_within : (bytes : List ℕ) (size place cap : ℕ) (table : Rows) → (p_type bytes 0 == PT_DYNAMIC) ≡ true → Ok table ≡ dynamic_of bytes 0 size place
+    → table.count * (32 + name_bytes cap) ≤ table_cost segment_dynamic bytes 0 size cap
+unfolding segment_dynamic
+segment_within bytes size place cap table kind h =
+    let n = p_filesz bytes 0 in
+    let all = rows (p_offset bytes 0) (n / 16) 16 in
+    within_kind segment_dynamic bytes size cap n (whole_checks_of size (p_offset bytes 0) n place 16) all all table kind
+    (whole_by_cases (not (n % 16 == 0)) (is_outside size (p_offset bytes 0) n) place) (λ empty. ap (λ k. k / 16) (eqb-true n 0 empty)) refl
+    (unless_by_cases (n == 0) (whole_checks_of size (p_offset bytes 0) n place 16) all ∙ sym h)
+  where
+    unless_by_cases : (empty : Bool) (checks : List Check) (all : Rows)
+        → (elim empty as (λ _. Result Rows Fault) [ true ↦ Ok all | false ↦ checked checks all ]) ≡ checked (if empty then [] else checks) all
+    unless_by_cases true checks all = refl
+    unless_by_cases false checks all = refl
 
--- the tables of all sections are among those of all kinds
-sections_among : (loaded : Opened) (store : Stored) (most parts : ℕ)
-    → asked_cost parts Symbols loaded store most + asked_cost parts Relocations loaded store most + asked_cost parts SectionNotes loaded store most + asked_cost parts SectionDynamic loaded store most
-    ≤ sum_over (λ i. kinds_cost section_kinds (row store i) 0 loaded.size most parts) 0 store.loaded
-unfolding kind_by_kind symbols relocations section_notes section_dynamic
-sections_among loaded store most parts = let sum = by_kind section_kinds (row store) (λ i. 0) loaded.size most parts store.loaded in omega arith
+-- what the tables ask for that the headers in the store describe
+abbrev pub sections_sum : Opened → Stored → ℕ → ℕ → ℕ
+sections_sum loaded store most parts = sum_over (λ i. kinds_cost section_kinds (row store i) 0 loaded.size most parts) 0 store.loaded
 
--- and those of all segments
-segments_among : (loaded : Opened) (store : Stored) (most parts : ℕ)
-    → asked_cost parts SegmentNotes loaded store most + asked_cost parts SegmentDynamic loaded store most
-    ≤ sum_over (λ i. kinds_cost segment_kinds (segment_bytes store i) 0 loaded.size most parts) 0 store.segments
-unfolding kind_by_kind segment_notes segment_dynamic
-segments_among loaded store most parts = let sum = by_kind segment_kinds (segment_bytes store) (λ i. 0) loaded.size most parts store.segments in omega arith
+abbrev pub segments_sum : Opened → Stored → ℕ → ℕ → ℕ
+segments_sum loaded store most parts = sum_over (λ i. kinds_cost segment_kinds (segment_bytes store i) 0 loaded.size most parts) 0 store.segments
+
+-- the names of so many sections, where the parts have them, and the program headers, once, where any part wants them
+abbrev pub names_asked : Opened → ℕ → ℕ → ℕ → ℕ
+names_asked loaded count most parts = cost_where (has parts SECTIONS && not (loaded.header.e_shstrndx == 0)) (count * name_bytes most)
+
+abbrev pub segments_asked : Opened → ℕ → ℕ
+segments_asked loaded parts =
+    cost_where (has parts SEGMENTS || (loaded.header.e_shnum == 0 && (has parts NOTES || has parts DYNAMIC))) (56 * loaded.header.e_phnum)
 
 -- the names of all sections
 names_listed : (asked named : Bool) (n count : ℕ) → cost_where asked (sum_over (λ i. cost_where named n) 0 count) ≤ cost_where (asked && named) (count * n)
@@ -163,227 +133,140 @@ sum_of_none amount count none = rw none refl
 
 -- what is listed asks for the names, the program headers, and the tables of all kinds
 listed_parts : (loaded : Opened) (store : Stored) (most parts : ℕ)
-    → tables_listed parts loaded store most
-    ≤ cost_where (has parts SECTIONS && not (loaded.header.e_shstrndx == 0)) (store.loaded * name_bytes most) + segments_listed parts loaded
-    + sum_over (λ i. kinds_cost section_kinds (row store i) 0 loaded.size most parts) 0 store.loaded
-    + sum_over (λ i. kinds_cost segment_kinds (segment_bytes store i) 0 loaded.size most parts) 0 store.segments
+    → view_cost parts loaded + tables_listed parts loaded store most
+    ≤ names_asked loaded store.loaded most parts + segments_asked loaded parts + sections_sum loaded store most parts + segments_sum loaded store most parts
+unfolding kind_by_kind symbols relocations section_notes section_dynamic segment_notes segment_dynamic
 listed_parts loaded store most parts =
-    let names : asked_cost parts Headers loaded store most ≤ cost_where (has parts SECTIONS && not (loaded.header.e_shstrndx == 0)) (store.loaded * name_bytes most) =
-    names_listed (has parts SECTIONS) (not (loaded.header.e_shstrndx == 0)) (name_bytes most) store.loaded in
-    let sections = sections_among loaded store most parts in
-    let segments = segments_among loaded store most parts in
-    omega (arith, names, sections, segments)
+    let names = names_listed (has parts SECTIONS) (not (loaded.header.e_shstrndx == 0)) (name_bytes most) store.loaded in
+    let once = segments_once (loaded.header.e_shnum == 0) (has parts SEGMENTS) (has parts NOTES) (has parts DYNAMIC) (56 * loaded.header.e_phnum) in
+    let sections = by_kind section_kinds (row store) (λ i. 0) loaded.size most parts store.loaded in
+    let segments = by_kind segment_kinds (segment_bytes store) (λ i. 0) loaded.size most parts store.segments in
+    omega (arith, names, once, sections, segments)
 
--- no more program headers are in the store than the file has
-viewed_few : (parts : ℕ) (loaded : Opened) (store : Stored) → store.segments ≡ viewed parts loaded → store.segments ≤ loaded.header.e_phnum
-viewed_few parts loaded store view = by_cases (needs_view parts loaded) view
+-- all program headers are in the store, or none
+viewed_is : (parts : ℕ) (loaded : Opened) → (viewed parts loaded ≡ 0) ⊎ (viewed parts loaded ≡ loaded.header.e_phnum)
+viewed_is parts loaded = by_cases (needs_view parts loaded)
   where
-    by_cases : (needs : Bool) → store.segments ≡ (if needs then loaded.header.e_phnum else 0) → store.segments ≤ loaded.header.e_phnum
-    by_cases true h = omega arith
-    by_cases false h = omega arith
+    by_cases : (needs : Bool) → ((if needs then loaded.header.e_phnum else 0) ≡ 0) ⊎ ((if needs then loaded.header.e_phnum else 0) ≡ loaded.header.e_phnum)
+    by_cases true = inr refl
+    by_cases false = inl refl
 
-few_segments : (file : List ℕ) (loaded : Opened) (store : Stored) (most parts : ℕ) → Belongs file loaded store → HoldsSegments file store → store.segments ≡ viewed parts loaded
-    → sum_over (λ i. kinds_cost segment_kinds (segment_bytes store i) 0 loaded.size most parts) 0 store.segments
-    ≤ sum_over (λ i. kinds_cost segment_kinds file (segment_at file i) (length file) most parts) 0 (e_phnum file)
-few_segments file loaded store most parts belongs held view = by_cases (needs_view parts loaded) view
-  where
-    by_cases : (needs : Bool) → store.segments ≡ (if needs then loaded.header.e_phnum else 0)
-        → sum_over (λ i. kinds_cost segment_kinds (segment_bytes store i) 0 loaded.size most parts) 0 store.segments
-        ≤ sum_over (λ i. kinds_cost segment_kinds file (segment_at file i) (length file) most parts) 0 (e_phnum file)
-    by_cases true h =
-        let count : store.segments ≡ e_phnum file = h ∙ belongs.header.e_phnum in
-        let tables = segments_cost_rows file (segment_bytes store) most parts (λ i below. held i (omega (arith, count))) in
-        let all : sum_over (λ i. kinds_cost segment_kinds (segment_bytes store i) 0 loaded.size most parts) 0 store.segments
-        ≡ sum_over (λ i. kinds_cost segment_kinds file (segment_at file i) (length file) most parts) 0 (e_phnum file) =
-        ap (λ n. sum_over (λ i. kinds_cost segment_kinds (segment_bytes store i) 0 n most parts) 0 store.segments) belongs.size
-        ∙ (ap (sum_over (λ i. kinds_cost segment_kinds (segment_bytes store i) 0 (length file) most parts) 0) count ∙ tables) in
-        omega (arith, all)
-    by_cases false h =
-        let none = sum_of_none (λ i. kinds_cost segment_kinds (segment_bytes store i) 0 loaded.size most parts) store.segments h in
-        omega (arith, none)
+pub viewed_all : (parts : ℕ) (loaded : Opened) (store : Stored) → store.segments ≡ viewed parts loaded → 0 < store.segments → store.segments ≡ loaded.header.e_phnum
+viewed_all parts loaded store view some = elim (viewed_is parts loaded) [ inl none ↦ absurd (omega arith) | inr all ↦ view ∙ all ]
 
 -- the tables of the headers in the store are those of the file
-tables_within : (file : List ℕ) (loaded : Opened) (store : Stored) (most parts : ℕ) → Belongs file loaded store → HoldsSegments file store → store.segments ≡ viewed parts loaded
-    → sum_over (λ i. kinds_cost section_kinds (row store i) 0 loaded.size most parts) 0 store.loaded
-    + sum_over (λ i. kinds_cost segment_kinds (segment_bytes store i) 0 loaded.size most parts) 0 store.segments
-    ≤ tables_cost file most parts
-unfolding tables_cost
-tables_within file loaded store most parts belongs held view = by_cases (e_shnum file == 0) refl
-  where
-    count : store.loaded ≡ e_shnum file
-    count = belongs.count ∙ belongs.header.e_shnum
+module _ (file : List ℕ) (loaded : Opened) (store : Stored) (most parts : ℕ) (belongs : Belongs file loaded store) (held : HoldsSegments file store)
+    (view : store.segments ≡ viewed parts loaded) where
+  few_segments : segments_sum loaded store most parts ≤ sum_over (λ i. kinds_cost segment_kinds file (segment_at file i) (length file) most parts) 0 (e_phnum file)
+  few_segments = elim (viewed_is parts loaded) [
+    | inl none ↦
+        let zero = sum_of_none (λ i. kinds_cost segment_kinds (segment_bytes store i) 0 loaded.size most parts) store.segments (view ∙ none) in
+        omega (arith, zero)
+    | inr all ↦
+        let count : store.segments ≡ e_phnum file = view ∙ (all ∙ belongs.header.e_phnum) in
+        let tables = segments_cost_rows file (segment_bytes store) most parts (λ i below. held i (omega (arith, count))) in
+        let same : segments_sum loaded store most parts ≡ sum_over (λ i. kinds_cost segment_kinds file (segment_at file i) (length file) most parts) 0 (e_phnum file) = rw (count, belongs.size) tables in
+        omega (arith, same)
+  ]
 
-    by_cases : (none : Bool) → (e_shnum file == 0) ≡ none
-        → sum_over (λ i. kinds_cost section_kinds (row store i) 0 loaded.size most parts) 0 store.loaded
-        + sum_over (λ i. kinds_cost segment_kinds (segment_bytes store i) 0 loaded.size most parts) 0 store.segments
-        ≤ tables_cost file most parts
-    by_cases true h =
-        let zero = sum_of_none (λ i. kinds_cost section_kinds (row store i) 0 loaded.size most parts) store.loaded (count ∙ eqb-true (e_shnum file) 0 h) in
-        let same = ap (tables_by file most parts) (headers_none file h) in
-        let sum = few_segments file loaded store most parts belongs held view in
-        omega (arith, zero, same, sum)
-    by_cases false h =
-        let sectioned : (loaded.header.e_shnum == 0) ≡ false = ap (λ n. n == 0) belongs.header.e_shnum ∙ h in
-        let zero = sum_of_none (λ i. kinds_cost segment_kinds (segment_bytes store i) 0 loaded.size most parts) store.segments (view ∙ viewed_none parts loaded sectioned) in
-        let tables = rows_cost file (row store) most parts (λ i below. belongs.rows i (omega (arith, count))) in
-        let all : sum_over (λ i. kinds_cost section_kinds (row store i) 0 loaded.size most parts) 0 store.loaded
-        ≡ sum_over (λ i. kinds_cost section_kinds file (section_at file i) (length file) most parts) 0 (e_shnum file) =
-        ap (λ n. sum_over (λ i. kinds_cost section_kinds (row store i) 0 n most parts) 0 store.loaded) belongs.size
-        ∙ (ap (sum_over (λ i. kinds_cost section_kinds (row store i) 0 (length file) most parts) 0) count ∙ tables) in
-        let counted = sections_counted file most parts in
-        omega (arith, zero, all, counted)
-
--- what is listed of a file that was loaded is within its cost
-pub listed_within : (file : List ℕ) (loaded : Opened) (store : Stored) (most parts : ℕ) → Belongs file loaded store → HoldsSegments file store → store.segments ≡ viewed parts loaded
-    → 64 * store.loaded + (view_cost parts loaded + tables_listed parts loaded store most) ≤ sections_cost file most parts + segments_cost file parts + tables_cost file most parts
-unfolding sections_cost segments_cost
-listed_within file loaded store most parts belongs held view =
-    let count : store.loaded ≡ e_shnum file = belongs.count ∙ belongs.header.e_shnum in
-    let tables = tables_within file loaded store most parts belongs held view in
-    let listed = listed_parts loaded store most parts in
-    let same : cost_where (has parts SECTIONS && not (loaded.header.e_shstrndx == 0)) (store.loaded * name_bytes most)
-    ≡ cost_where (has parts SECTIONS && not (e_shstrndx file == 0)) (e_shnum file * name_bytes most) = rw (count, belongs.header.e_shstrndx) refl in
-    let once = segments_once (loaded.header.e_shnum == 0) (has parts SEGMENTS) (has parts NOTES) (has parts DYNAMIC) (56 * loaded.header.e_phnum) in
-    let segments : cost_where (has parts SEGMENTS || (loaded.header.e_shnum == 0 && (has parts NOTES || has parts DYNAMIC))) (56 * loaded.header.e_phnum)
-    ≡ cost_where (has parts SEGMENTS || (e_shnum file == 0 && (has parts NOTES || has parts DYNAMIC))) (56 * e_phnum file) = rw (belongs.header.e_phnum, belongs.header.e_shnum) refl in
-    omega (arith, count, tables, listed, same, once, segments)
-
--- and whatever the store holds, within the ceiling
-pub listed_below : (loaded : Opened) (store : Stored) (most parts : ℕ) → store.loaded ≡ loaded.header.e_shnum → store.loaded ≤ store.slots → loaded.header.e_phnum ≤ store.slots
-    → store.segments ≡ viewed parts loaded
-    → 64 + (64 * store.loaded + (view_cost parts loaded + tables_listed parts loaded store most)) ≤ ceiling loaded.size store.slots most
-listed_below loaded store most parts count few some view = by_cases (loaded.header.e_shnum == 0) refl
-  where
-    by_cases : (none : Bool) → (loaded.header.e_shnum == 0) ≡ none
-        → 64 + (64 * store.loaded + (view_cost parts loaded + tables_listed parts loaded store most)) ≤ ceiling loaded.size store.slots most
-    by_cases true h =
-        let zero : store.loaded ≡ 0 = count ∙ eqb-true loaded.header.e_shnum 0 h in
-        let none = sum_of_none (λ i. kinds_cost section_kinds (row store i) 0 loaded.size most parts) store.loaded zero in
-        let names : cost_where (has parts SECTIONS && not (loaded.header.e_shstrndx == 0)) (store.loaded * name_bytes most) ≤ store.loaded * name_bytes most =
-        cost_where-le (has parts SECTIONS && not (loaded.header.e_shstrndx == 0)) (store.loaded * name_bytes most) in
-        let unnamed : store.loaded * name_bytes most ≡ 0 = rw zero (omega arith) in
-        let listed = listed_parts loaded store most parts in
-        let once = segments_once (loaded.header.e_shnum == 0) (has parts SEGMENTS) (has parts NOTES) (has parts DYNAMIC) (56 * loaded.header.e_phnum) in
-        let asked = cost_where-le (has parts SEGMENTS || (loaded.header.e_shnum == 0 && (has parts NOTES || has parts DYNAMIC))) (56 * loaded.header.e_phnum) in
-        let within = viewed_few parts loaded store view in
-        let more = sums_grow (λ i. kinds_cost segment_kinds (segment_bytes store i) 0 loaded.size most parts) 0 store.segments loaded.header.e_phnum within in
-        let all = any_segments (segment_bytes store) loaded.size store.slots most parts loaded.header.e_phnum some in
-        omega (arith, zero, none, names, unnamed, listed, once, asked, more, all)
-    by_cases false h =
-        let zero = sum_of_none (λ i. kinds_cost segment_kinds (segment_bytes store i) 0 loaded.size most parts) store.segments (view ∙ viewed_none parts loaded h) in
-        let names = cost_where-le (has parts SECTIONS && not (loaded.header.e_shstrndx == 0)) (store.loaded * name_bytes most) in
-        let listed = listed_parts loaded store most parts in
-        let once = segments_once (loaded.header.e_shnum == 0) (has parts SEGMENTS) (has parts NOTES) (has parts DYNAMIC) (56 * loaded.header.e_phnum) in
-        let asked = cost_where-le (has parts SEGMENTS || (loaded.header.e_shnum == 0 && (has parts NOTES || has parts DYNAMIC))) (56 * loaded.header.e_phnum) in
-        let all = any_rows (row store) loaded.size store.slots most parts store.loaded loaded.header.e_phnum few some in
-        omega (arith, zero, names, listed, once, asked, all)
+  tables_within : sections_sum loaded store most parts + segments_sum loaded store most parts ≤ tables_cost file most parts
+  unfolding tables_cost
+  tables_within =
+      let count : store.loaded ≡ e_shnum file = belongs.count ∙ belongs.header.e_shnum in
+      elim (cases_Bool (e_shnum file == 0)) [
+        | inl none ↦
+            let zero = sum_of_none (λ i. kinds_cost section_kinds (row store i) 0 loaded.size most parts) store.loaded (count ∙ eqb-true (e_shnum file) 0 none) in
+            let same = ap (tables_by file most parts) (headers_none file none) in
+            omega (arith, zero, same, few_segments)
+        | inr some ↦
+            let unviewed = view ∙ viewed_none parts loaded (ap (λ n. n == 0) belongs.header.e_shnum ∙ some) in
+            let zero = sum_of_none (λ i. kinds_cost segment_kinds (segment_bytes store i) 0 loaded.size most parts) store.segments unviewed in
+            let tables = rows_cost file (row store) most parts (λ i below. belongs.rows i (omega (arith, count))) in
+            let same : sections_sum loaded store most parts ≡ sum_over (λ i. kinds_cost section_kinds (row store i) 0 (length file) most parts) 0 (e_shnum file) = rw (count, belongs.size) refl in
+            omega (arith, zero, same, tables, sections_counted file most parts)
+      ]
 
 pub slots_below : (size headers cap : ℕ) → 64 + 64 * headers ≤ ceiling size headers cap
 slots_below size headers cap =
     let all = any_rows (λ i. []) size headers cap 0 headers 0 (omega arith) (omega arith) in omega arith
 
-pub loadable : (file : List ℕ) (headers : ℕ) → first_refusal (header_checks file) ≡ None → first_refusal (early_checks file headers) ≡ None → is_loadable file headers ≡ true
-unfolding is_loadable
-loadable file headers passed early = rw (first_refusal-none (header_checks file) (early_checks file headers) passed ∙ early) refl
+-- the section headers with their names, and the program headers
+headers_within : (file : List ℕ) (loaded : Opened) (most parts : ℕ) → IsEhdr file 0 loaded.header
+    → 64 * loaded.header.e_shnum + names_asked loaded loaded.header.e_shnum most parts + segments_asked loaded parts ≤ sections_cost file most parts + segments_cost file parts
+unfolding sections_cost segments_cost
+headers_within file loaded most parts is = rw (is.e_shnum, is.e_phnum, is.e_shstrndx) (omega arith)
 
-headers_within : (file : List ℕ) (cap parts : ℕ) → 64 * e_shnum file ≤ sections_cost file cap parts
-unfolding sections_cost
-headers_within file cap parts = omega arith
+-- where the checks before the load and the first of the load pass, what is asked for behind the header counts
+loadable : (file : List ℕ) (headers : ℕ) → first_refusal (header_checks file) ≡ None → pass (early_checks file headers) ≡ true → is_loadable file headers ≡ true
+unfolding is_loadable
+loadable file headers passed early = ap is_none (first_refusal-none (header_checks file) (early_checks file headers) passed) ∙ early
 
 -- a load asks for the section headers where the checks before them pass, and for nothing else
 pub load_within : (file : List ℕ) (header : Ehdr) (size slots cap parts : ℕ) → IsEhdr file 0 header → size ≡ length file → first_refusal (header_checks file) ≡ None → has_tables parts ≡ true
     → load_cost header size slots ≤ behind_header file slots cap parts
-load_within file header size slots cap parts is same passed tables = by_cases (first_refusal (early_of header size slots)) refl
-  where
-    by_cases : (first : Option Refusal) → first ≡ first_refusal (early_of header size slots) → cost_where (is_none first) (64 * header.e_shnum) ≤ behind_header file slots cap parts
-    by_cases None none =
-        let early : first_refusal (early_checks file slots) ≡ None = sym (none ∙ early_is file header size slots is same) in
-        rw (tables, loadable file slots passed early) (omega (arith, headers_within file cap parts, is.e_shnum))
-    by_cases (Some refusal) some = omega arith
-
--- where checks pass the fourth does
-fourth_passes : (p q r s : Bool) (w x y z : Refusal) (rest : List Check)
-    → first_refusal (record { fails = p; refusal = w } ∷ record { fails = q; refusal = x } ∷ record { fails = r; refusal = y } ∷ record { fails = s; refusal = z } ∷ rest) ≡ None → s ≡ false
-fourth_passes true q r s w x y z rest h = cc
-fourth_passes false true r s w x y z rest h = cc
-fourth_passes false false true s w x y z rest h = cc
-fourth_passes false false false true w x y z rest h = cc
-fourth_passes false false false false w x y z rest h = refl
-
--- the load checks leave no more section headers than slots
-few_sections : (header : Ehdr) (size slots : ℕ) → first_refusal (early_of header size slots) ≡ None → header.e_shnum ≤ slots
-few_sections header size slots passes =
-    ltb-false slots header.e_shnum
-    (fourth_passes (header.e_phnum == PN_XNUM) (header.e_shstrndx == SHN_XINDEX) (header.e_shnum == 0 && not (header.e_shoff == 0)) (nat_lt slots header.e_shnum)
-    (record { at = 0x38; cause = ExtendedNumbering }) (record { at = 0x3e; cause = ExtendedNumbering }) (record { at = 0x3c; cause = ExtendedNumbering }) (record { at = 0x3c; cause = TooManyHeaders })
-    (drop 4 (early_of header size slots)) passes)
+load_within file header size slots cap parts is same passed tables =
+    cost_where-within (pass (early_of header size slots)) (64 * header.e_shnum) _ (λ early.
+    let headers = headers_within file (record { size = size; header = header }) cap parts is in
+    rw (tables, loadable file slots passed (ap is_none (sym (early_is file header size slots is same)) ∙ early)) (omega (arith, headers)))
 
 pub load_below : (header : Ehdr) (size slots cap : ℕ) → 64 + load_cost header size slots ≤ ceiling size slots cap
-load_below header size slots cap = by_cases (first_refusal (early_of header size slots)) refl
-  where
-    by_cases : (first : Option Refusal) → first ≡ first_refusal (early_of header size slots) → 64 + cost_where (is_none first) (64 * header.e_shnum) ≤ ceiling size slots cap
-    by_cases None none = omega (arith, few_sections header size slots (sym none), slots_below size slots cap)
-    by_cases (Some refusal) some = omega (arith, slots_below size slots cap)
+load_below header size slots cap = let few : load_cost header size slots ≤ 64 * slots = grind arith in omega (arith, few, slots_below size slots cap)
 
--- a file that was loaded is listed within its cost
-pub loaded_within : (file : List ℕ) (loaded : Opened) (store : Stored) (slots cap parts : ℕ) → Belongs file loaded store → store.slots ≡ slots
-    → HoldsSegments file store → store.segments ≡ viewed parts loaded
-    → first_refusal (header_checks file) ≡ None → has_tables parts ≡ true → 64 * loaded.header.e_shnum + (view_cost parts loaded + tables_listed parts loaded store cap) ≤ behind_header file slots cap parts
-loaded_within file loaded store slots cap parts belongs same held view passed tables =
-    let early : first_refusal (early_checks file slots) ≡ None = ap (λ n. first_refusal (early_checks file n)) (sym same) ∙ passes_front (early_checks file store.slots) (section_name_checks file) belongs.passes in
-    rw (tables, loadable file slots passed early) (omega (arith, listed_within file loaded store cap parts belongs held view, belongs.count))
+-- a file that was loaded is listed within its cost, and its headers alone are read within it
+module _ (file : List ℕ) (loaded : Opened) (store : Stored) (slots cap parts : ℕ) (belongs : Belongs file loaded store)
+    (same : store.slots ≡ slots) where
+  loads : first_refusal (header_checks file) ≡ None → is_loadable file slots ≡ true
+  loads passed = rw (← same) (loadable file store.slots passed (ap is_none (passes_front (early_checks file store.slots) (section_name_checks file) belongs.passes)))
+
+  pub loaded_within : HoldsSegments file store → store.segments ≡ viewed parts loaded → first_refusal (header_checks file) ≡ None → has_tables parts ≡ true
+      → 64 * loaded.header.e_shnum + (view_cost parts loaded + tables_listed parts loaded store cap) ≤ behind_header file slots cap parts
+  loaded_within held view passed tables =
+      let within = tables_within file loaded store cap parts belongs held view in
+      let headers = headers_within file loaded cap parts belongs.header in
+      let listed = listed_parts loaded store cap parts in
+      let names = ap (λ n. names_asked loaded n cap parts) belongs.count in
+      rw (tables, loads passed) (omega (arith, within, headers, listed, names))
+
+  pub view_within : first_refusal (header_checks file) ≡ None → has_tables parts ≡ true → 64 * loaded.header.e_shnum + view_cost parts loaded ≤ behind_header file slots cap parts
+  view_within passed tables =
+      let once = segments_once (loaded.header.e_shnum == 0) (has parts SEGMENTS) (has parts NOTES) (has parts DYNAMIC) (56 * loaded.header.e_phnum) in
+      let headers = headers_within file loaded cap parts belongs.header in
+      rw (tables, loads passed) (omega (arith, once, headers))
 
 -- and within the ceiling, whatever the source is
 pub loaded_below : (loaded : Opened) (store : Stored) (size slots cap parts : ℕ) → loaded.size ≡ size → store.slots ≡ slots → store.loaded ≡ loaded.header.e_shnum
     → loaded.header.e_shnum ≤ slots → loaded.header.e_phnum ≤ slots → store.segments ≡ viewed parts loaded
     → 64 + (64 * loaded.header.e_shnum + (view_cost parts loaded + tables_listed parts loaded store cap)) ≤ ceiling size slots cap
 loaded_below loaded store size slots cap parts same slotted count few some view =
-    let below = listed_below loaded store cap parts count (omega (arith, count, slotted)) (omega (arith, slotted)) view in
-    let at_size : ceiling loaded.size store.slots cap ≡ ceiling size slots cap = ap (λ n. ceiling n store.slots cap) same ∙ ap (λ n. ceiling size n cap) slotted in
-    omega (arith, below, at_size, count)
+    let listed = listed_parts loaded store cap parts in
+    let names = cost_where-le (has parts SECTIONS && not (loaded.header.e_shstrndx == 0)) (store.loaded * name_bytes cap) in
+    let asked = cost_where-le (has parts SEGMENTS || (loaded.header.e_shnum == 0 && (has parts NOTES || has parts DYNAMIC))) (56 * loaded.header.e_phnum) in
+    rw (← same) (elim (cases_Bool (loaded.header.e_shnum == 0)) [
+      | inl none ↦
+          let zero : store.loaded ≡ 0 = count ∙ eqb-true loaded.header.e_shnum 0 none in
+          let tables = sum_of_none (λ i. kinds_cost section_kinds (row store i) 0 loaded.size cap parts) store.loaded zero in
+          let unnamed : store.loaded * name_bytes cap ≡ 0 = rw zero (omega arith) in
+          let within = cost_where-le (needs_view parts loaded) loaded.header.e_phnum in
+          let more = sums_grow (λ i. kinds_cost segment_kinds (segment_bytes store i) 0 loaded.size cap parts) 0 store.segments loaded.header.e_phnum (omega (arith, within, view)) in
+          let all = any_segments (segment_bytes store) loaded.size slots cap parts loaded.header.e_phnum some in
+          omega (arith, zero, count, tables, names, unnamed, listed, asked, more, all)
+      | inr sectioned ↦
+          let zero = sum_of_none (λ i. kinds_cost segment_kinds (segment_bytes store i) 0 loaded.size cap parts) store.segments (view ∙ viewed_none parts loaded sectioned) in
+          let all = any_rows (row store) loaded.size slots cap parts store.loaded loaded.header.e_phnum (omega (arith, count)) some in
+          omega (arith, zero, count, names, listed, asked, all)
+    ])
+
+pub view_below : (loaded : Opened) (size slots cap parts : ℕ) → loaded.header.e_shnum ≤ slots → loaded.header.e_phnum ≤ slots
+    → 64 + (64 * loaded.header.e_shnum + view_cost parts loaded) ≤ ceiling size slots cap
+view_below loaded size slots cap parts few some =
+    let store : Stored = record { slots = slots; loaded = loaded.header.e_shnum; rows = []; segments = viewed parts loaded; segment_rows = [] } in
+    let below = loaded_below (record { size = size; header = loaded.header }) store size slots cap parts refl refl refl few some refl in
+    omega (arith, below)
 
 -- a load leaves no more headers than slots
 pub few_headers : (loaded : Opened) (header : Ehdr) (size : ℕ) (store : Stored) {slots : ℕ} → IsOpened loaded size header store → store.slots ≡ slots
     → (loaded.header.e_shnum ≤ slots) × (loaded.header.e_phnum ≤ slots)
-few_headers loaded header size store opened same =
-    let sections = ap (λ (h : Ehdr). h.e_shnum) opened.same_header in
-    let segments = ap (λ (h : Ehdr). h.e_phnum) opened.same_header in
-    (omega (arith, sections, opened.passes.few, same), omega (arith, segments, opened.passes.few_segments, same))
-
--- where program headers are loaded all are
-pub viewed_all : (parts : ℕ) (loaded : Opened) (store : Stored) → store.segments ≡ viewed parts loaded → 0 < store.segments → store.segments ≡ loaded.header.e_phnum
-viewed_all parts loaded store view some = by_cases (needs_view parts loaded) view
-  where
-    by_cases : (needs : Bool) → store.segments ≡ (if needs then loaded.header.e_phnum else 0) → store.segments ≡ loaded.header.e_phnum
-    by_cases true h = h
-    by_cases false h = absurd (impossible h)
-      where
-        impossible : store.segments ≡ 0 → ⊥
-        impossible h = omega (arith, h, some)
-
--- the headers alone are within both
-pub view_within : (file : List ℕ) (loaded : Opened) (store : Stored) (slots cap parts : ℕ) → Belongs file loaded store → store.slots ≡ slots
-    → first_refusal (header_checks file) ≡ None → has_tables parts ≡ true → 64 * loaded.header.e_shnum + view_cost parts loaded ≤ behind_header file slots cap parts
-unfolding sections_cost segments_cost
-view_within file loaded store slots cap parts belongs same passed tables =
-    let early : first_refusal (early_checks file slots) ≡ None = ap (λ n. first_refusal (early_checks file n)) (sym same) ∙ passes_front (early_checks file store.slots) (section_name_checks file) belongs.passes in
-    let once = segments_once (loaded.header.e_shnum == 0) (has parts SEGMENTS) (has parts NOTES) (has parts DYNAMIC) (56 * loaded.header.e_phnum) in
-    let segments : cost_where (has parts SEGMENTS || (loaded.header.e_shnum == 0 && (has parts NOTES || has parts DYNAMIC))) (56 * loaded.header.e_phnum)
-    ≡ cost_where (has parts SEGMENTS || (e_shnum file == 0 && (has parts NOTES || has parts DYNAMIC))) (56 * e_phnum file) = rw (belongs.header.e_phnum, belongs.header.e_shnum) refl in
-    rw (tables, loadable file slots passed early) (omega (arith, headers_within file cap parts, belongs.header.e_shnum, once, segments))
-
-pub view_below : (loaded : Opened) (size slots cap parts : ℕ) → loaded.header.e_shnum ≤ slots → loaded.header.e_phnum ≤ slots
-    → 64 + (64 * loaded.header.e_shnum + view_cost parts loaded) ≤ ceiling size slots cap
-view_below loaded size slots cap parts few some = by_cases (loaded.header.e_shnum == 0) refl
-  where
-    by_cases : (none : Bool) → (loaded.header.e_shnum == 0) ≡ none → 64 + (64 * loaded.header.e_shnum + view_cost parts loaded) ≤ ceiling size slots cap
-    by_cases true h =
-        let zero : loaded.header.e_shnum ≡ 0 = eqb-true loaded.header.e_shnum 0 h in
-        let asked : view_cost parts loaded ≤ 56 * loaded.header.e_phnum = cost_where-le (needs_view parts loaded) (56 * loaded.header.e_phnum) in
-        omega (arith, zero, asked, some, slots_below size slots cap)
-    by_cases false h =
-        let none : view_cost parts loaded ≡ 0 = rw h refl in
-        omega (arith, none, few, slots_below size slots cap)
+few_headers loaded header size store opened same = rw (opened.same_header, ← same) (opened.passes.few, opened.passes.few_segments)
 
 pub cost_is : (file : List ℕ) (headers cap parts : ℕ) → cost file headers cap parts ≡ 64 + behind_header file headers cap parts
 unfolding cost

@@ -1,30 +1,32 @@
 -- The checks of the table and the first pass over its entries stand before the entries.
-use Rattle.std.proofs.Common.{rules, ◌≡◌, ◌*◌, ◌≤◌, Err, refl, sym, ap, ◌∙◌, arith}
+use Rattle.std.proofs.Common.{rules, ◌≡◌, ◌*◌, refl, sym, ap, ◌∙◌, arith}
+use Rattle.std.proofs.lemmas.Bool.{eq-eqb, ne_eqb}
 use Rattle.std.proofs.lemmas.Result.{err_from_is_err_and}
-use Rattle.elf_model.specs.Cost.{table_cost}
 use Rattle.elf_model.specs.TableKinds.{segment_dynamic}
 use Rattle.elf_headers.specs.Store.{segment_bytes}
 use Rattle.elf_table.specs.Tables.{size_of}
 use Rattle.elf_headers.specs.Load.{Views}
 use Rattle.elf_headers.proofs.OpenLaws.{still_open}
 use Rattle.elf_names.proofs.HeldLaws.{still_held}
-use Rattle.elf_listing.proofs.RowLaws.{Writes-as, Stopped-first, Stopped-unread-first}
-use Rattle.elf_listing.proofs.SectionCosts.{segment_dynamic_within}
-use Rattle.elf_listing.proofs.SectionShown.{no_segment_dynamic, segment_dynamic_fault, segment_dynamic_pass}
+use Rattle.elf_listing.proofs.RowLaws.{Writes-as, Stopped-unread-first}
+use Rattle.elf_listing.proofs.SectionCosts.{segment_within}
+use Rattle.elf_listing.proofs.SectionShown.{no_table, segment_passes, table_fails, table_passes, whole_fails}
 use Rattle.elf_listing.proofs.SegmentShown.{views}
-use Rattle.elf_listing.proofs.ShowLaws.{Whole-none, Spent-behind, Spent-fault}
+use Rattle.elf_listing.proofs.ShowLaws.{Spent-behind, Spent-fault}
 use Rattle.elf_listing.proofs.ViewedLaws.{still_viewed}
 use Rattle.elf_source.proofs.GrowthLaws.{grows_not}
 use Rattle.elf_listing.proofs.ListsLaws.{Lists-nothing, Lists-refused}
 use Rattle.elf_listing.proofs.listing.Listing.segment_dynamic.Goals as goal
 
 pub returns-then-segment-ne-PT_DYNAMIC : goal.returns-then-segment-ne-PT_DYNAMIC
+unfolding segment_dynamic
 returns-then-segment-ne-PT_DYNAMIC g c = Lists-nothing _ _ _ _ (λ file held.
     let viewed = views file _ _ _ (c.args.self.now.loaded.belongs file held) c.args.self.now.viewed held (omega (arith, c.requires)) in
     let stands = c.segment.ensures.stands file (rw (c.view-view.ensures.loaded, c.view-view.ensures.store) viewed) in
-    rw (no_segment_dynamic file c.args.self.now.cap.bytes c.args.segment (λ same. c.if-segment-ne-PT_DYNAMIC.true (stands.p_type ∙ same))) (Whole-none _))
+    no_table segment_dynamic file _ _ _ _ (ne_eqb _ _ (λ same. c.if-segment-ne-PT_DYNAMIC.true (stands.p_type ∙ same))))
 
 pub returns-in_err-table : goal.returns-in_err-table
+unfolding segment_dynamic
 returns-in_err-table g c =
     let p = err_from_is_err_and c.from_residual.result c.from_residual.ensures.1 in
     rw (p.1, p.2) (Lists-refused _ _ _ _ (search rules) (λ file held.
@@ -32,8 +34,7 @@ returns-in_err-table g c =
     let view : Views file c.view-view.result.loaded c.view-view.result.store.now = rw (c.view-view.ensures.loaded, c.view-view.ensures.store) viewed in
     let stands = c.segment.ensures.stands file view in
     let kind = sym stands.p_type ∙ c.if-segment-ne-PT_DYNAMIC.false in
-    Stopped-first _ _ _ (λ refusal is other.
-    segment_dynamic_fault file c.args.self.now.cap.bytes c.args.segment refusal kind (sym (c.in_err-table.ensures.held file view) ∙ ap (λ fault. Err fault) is))))
+    table_fails segment_dynamic file _ _ _ (eq-eqb _ _ kind) _ _ (whole_fails file _ _ (sym (c.in_err-table.ensures.held file view)))))
 
 pub invariant_of-self : goal.invariant_of-self
 invariant_of-self g c = record {
@@ -43,27 +44,26 @@ invariant_of-self g c = record {
 }
 
 pub returns-in_err-told : goal.returns-in_err-told
+unfolding segment_dynamic
 returns-in_err-told g c = record {
   grows = grows_not _;
   keeps = record { same_src = refl; same_out = refl; same_file = refl; same_cap = refl };
   spent =
       let p = err_from_is_err_and c.from_residual-in_err-told.result c.from_residual-in_err-told.ensures.1 in
       let f = c.args.self.now.file in
-      let most = c.args.self.now.cap.bytes in
       let fields = rw c.view-view.ensures.store at c.segment.ensures.fields in
       let kind = sym fields.p_type ∙ c.if-segment-ne-PT_DYNAMIC.false in
       let value = rw (c.view-view.ensures.store, c.view-view.ensures.loaded) at c.in_ok-table.ensures.value in
-      let within = segment_dynamic_within (segment_bytes f.store.now c.args.segment) f.loaded.size _ most _ kind value in
-      let entry = c.in_ok-table.ensures.entry in
-      let bytes : size_of c.in_ok-table.table ≡ c.in_ok-table.table.count * 16 = ap (λ n. c.in_ok-table.table.count * n) entry in
-      let all : size_of c.in_ok-table.table ≤ table_cost segment_dynamic (segment_bytes f.store.now c.args.segment) 0 f.loaded.size most = omega (arith, within, bytes) in
-      rw (p.1, p.2) (Spent-fault _ _ _ _ _ _ _ all c.in_err-told.ensures.reads c.in_err-told.ensures.says);
+      let within = segment_within (segment_bytes f.store.now c.args.segment) f.loaded.size _ c.args.self.now.cap.bytes _ (eq-eqb _ _ kind) value in
+      let bytes : size_of c.in_ok-table.table ≡ c.in_ok-table.table.count * 16 = ap (λ n. c.in_ok-table.table.count * n) c.in_ok-table.ensures.entry in
+      rw (p.1, p.2) (Spent-fault _ _ _ _ _ _ _ (omega (arith, within, bytes)) c.in_err-told.ensures.reads c.in_err-told.ensures.says);
   shows = λ file held.
       let p = err_from_is_err_and c.from_residual-in_err-told.result c.from_residual-in_err-told.ensures.1 in
       rw (p.1, p.2) (Stopped-unread-first _ _ _ c.in_err-told.ensures.fault);
 }
 
 pub returns : goal.returns
+unfolding segment_dynamic
 returns g c = record {
   grows = search rules;
   keeps = record {
@@ -74,18 +74,17 @@ returns g c = record {
   };
   spent =
       let f = c.args.self.now.file in
-      let most = c.args.self.now.cap.bytes in
       let fields = rw c.view-view.ensures.store at c.segment.ensures.fields in
       let kind = sym fields.p_type ∙ c.if-segment-ne-PT_DYNAMIC.false in
       let value = rw (c.view-view.ensures.store, c.view-view.ensures.loaded) at c.in_ok-table.ensures.value in
-      let within = segment_dynamic_within (segment_bytes f.store.now c.args.segment) f.loaded.size _ most _ kind value in
+      let within = segment_within (segment_bytes f.store.now c.args.segment) f.loaded.size _ c.args.self.now.cap.bytes _ (eq-eqb _ _ kind) value in
       let bytes : size_of c.in_ok-table.table ≡ c.in_ok-table.table.count * 16 = ap (λ n. c.in_ok-table.table.count * n) c.in_ok-table.ensures.entry in
       Spent-behind _ _ _ _ _ _ _ _ _ _ (omega (arith, within, bytes)) c.in_ok-told.ensures.reads c.rows.ensures.spent;
   shows = λ file held.
       let viewed = views file _ _ _ (c.args.self.now.loaded.belongs file held) c.args.self.now.viewed held (omega (arith, c.requires)) in
       let view : Views file c.view-view.result.loaded c.view-view.result.store.now = rw (c.view-view.ensures.loaded, c.view-view.ensures.store) viewed in
-      let stands = c.segment.ensures.stands file view in
-      let kind = sym stands.p_type ∙ c.if-segment-ne-PT_DYNAMIC.false in
-      Writes-as _ _ _ (segment_dynamic_pass file c.args.self.now.cap.bytes c.args.segment _ _ kind (sym (c.in_ok-table.ensures.held file view)) (c.in_ok-told.ensures.values file held))
+      let kind = sym (c.segment.ensures.stands file view).p_type ∙ c.if-segment-ne-PT_DYNAMIC.false in
+      let found = segment_passes file c.args.self.now.cap.bytes _ _ _ (sym (c.in_ok-table.ensures.held file view)) (c.in_ok-told.ensures.values file held) in
+      Writes-as _ _ _ (table_passes segment_dynamic file c.args.self.now.cap.bytes c.args.segment _ (eq-eqb _ _ kind) found.0 ∙ found.1)
       (c.rows.ensures.shows file (c.dynamic_strings.ensures.reads.keeps.same_file ∙ held) (λ some. view));
 }
