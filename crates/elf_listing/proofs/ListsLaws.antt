@@ -19,7 +19,7 @@ use Rattle.elf_listing.proofs.ShowLaws.{Spent-failed, Spent-then, Spent-within}
 SameFile-not : {S W : Type 0} {s : Sources S} {w : Sinks W} (a : Listing S W s w) → SameFile a a
 SameFile-not a = record { same_src = refl; same_out = refl; same_file = refl; same_cap = refl }
 
-SameFile-then : {S W : Type 0} {s : Sources S} {w : Sinks W} {a b c : Listing S W s w} → SameFile a b → SameFile b c → SameFile a c
+pub SameFile-then : {S W : Type 0} {s : Sources S} {w : Sinks W} {a b c : Listing S W s w} → SameFile a b → SameFile b c → SameFile a c
 SameFile-then p q = record {
   same_src = q.same_src ∙ p.same_src;
   same_out = q.same_out ∙ p.same_out;

@@ -1,91 +1,64 @@
 -- The parts one behind the other.
-use Rattle.std.proofs.Common.{rules, ◌∙◌}
+use Rattle.std.proofs.Common.{ℕ, ◌+◌, List, ◌++◌}
 use Rattle.std.proofs.lemmas.Result.{err_from_is_err_and}
-use Rattle.elf_listing.proofs.FileShown.{tables_are}
-use Rattle.elf_listing.proofs.RowLaws.{Writes-as}
-use Rattle.elf_listing.proofs.ShowLaws.{Whole-then, Writes-then, Stopped-then, Stopped-more}
-use Rattle.elf_source.proofs.GrowthLaws.{grows_then}
+use Rattle.elf_model.specs.Listing.{Item}
+use Rattle.elf_headers.specs.declared.caps.Cap.{Cap}
+use Rattle.elf_table.specs.declared.file.File.{File}
+use Rattle.elf_listing.specs.Parts.{segments_listed}
+use Rattle.elf_listing.specs.declared.parts.Part.{Part}
+use Rattle.elf_listing.specs.declared.parts.Part.TheVariants.{Symbols, Relocations, SectionNotes, SegmentNotes, SectionDynamic, SegmentDynamic}
+use Rattle.elf_listing.proofs.FileShown.{segment_part, tables_are}
+use Rattle.elf_listing.proofs.PartsLaws.{Parts-as, Parts-more, Parts-then, cost_asked, items_asked}
 use Rattle.elf_listing.proofs.listing.Listing.tables.Goals as goal
 
+-- what the program headers ask for, and their items; and those of two parts
+abbrev segments_cost : ℕ → File → Cap → ℕ
+segments_cost parts f cap = segments_listed parts f.loaded
+
+abbrev segments_shown : ℕ → File → Cap → List ℕ → List Item
+segments_shown parts f cap file = segment_part file parts
+
+abbrev pair_cost : ℕ → Part → Part → File → Cap → ℕ
+pair_cost parts first second f cap = cost_asked parts first f cap + cost_asked parts second f cap
+
+abbrev pair_items : ℕ → Part → Part → File → Cap → List ℕ → List Item
+pair_items parts first second f cap file = items_asked parts first f cap file ++ items_asked parts second f cap file
+
 pub returns-in_err-part : goal.returns-in_err-part
-returns-in_err-part g c = record {
-  grows = search rules;
-  keeps = search rules;
-  spent = search rules;
-  shows = λ file held.
-      let p = err_from_is_err_and c.from_residual.result c.from_residual.ensures.1 in
-      let f = c.args.self.now.file in
-      rw (p.1, p.2, tables_are file c.args.self.now.cap.bytes c.args.parts.0 f.loaded f.store.now (c.args.self.now.loaded.belongs file held) c.requires)
-      (Stopped-more _ _ _ _ _ (Stopped-more _ _ _ _ _ (Stopped-more _ _ _ _ _ (Stopped-more _ _ _ _ _ (c.in_err-part.ensures.shows file held)))));
-}
+returns-in_err-part g c =
+    let p = err_from_is_err_and c.from_residual.result c.from_residual.ensures.1 in
+    rw (p.1, p.2)
+    (Parts-as (λ file held. tables_are file _ _ _ _ (c.args.self.now.loaded.belongs file held) c.requires)
+    (Parts-more _ _ _ (Parts-more _ _ _ (Parts-more _ _ _ (Parts-more _ _ _ c.in_err-part.ensures)))))
 
 pub returns-in_err-segments : goal.returns-in_err-segments
-returns-in_err-segments g c = record {
-  grows = grows_then c.in_ok-part.ensures.grows c.in_err-segments.ensures.grows;
-  keeps = search rules;
-  spent = search rules;
-  shows = λ file held.
-      let p = err_from_is_err_and c.from_residual-in_err-segments.result c.from_residual-in_err-segments.ensures.1 in
-      let f = c.args.self.now.file in
-      let first = c.in_ok-part.ensures.shows file held in
-      let second = c.in_err-segments.ensures.shows file (search rules) in
-      rw (p.1, p.2, tables_are file c.args.self.now.cap.bytes c.args.parts.0 f.loaded f.store.now (c.args.self.now.loaded.belongs file held) c.requires)
-      (Stopped-more _ _ _ _ _ (Stopped-more _ _ _ _ _ (Stopped-more _ _ _ _ _ (Stopped-then _ _ _ _ _ _ first second))));
-}
+returns-in_err-segments g c =
+    let p = err_from_is_err_and c.from_residual-in_err-segments.result c.from_residual-in_err-segments.ensures.1 in
+    rw (p.1, p.2)
+    (Parts-as (λ file held. tables_are file _ _ _ _ (c.args.self.now.loaded.belongs file held) c.requires)
+    (Parts-more _ _ _ (Parts-more _ _ _ (Parts-more _ _ _ (Parts-then _ (segments_cost c.args.parts.0) (segments_shown c.args.parts.0) c.in_ok-part.ensures c.in_err-segments.ensures)))))
 
 pub returns-in_err-pair : goal.returns-in_err-pair
-returns-in_err-pair g c = record {
-  grows = grows_then c.in_ok-part.ensures.grows (grows_then c.in_ok-segments.ensures.grows c.in_err-pair.ensures.grows);
-  keeps = search rules;
-  spent = search rules;
-  shows = λ file held.
-      let p = err_from_is_err_and c.from_residual-in_err-pair.result c.from_residual-in_err-pair.ensures.1 in
-      let f = c.args.self.now.file in
-      let first = c.in_ok-part.ensures.shows file held in
-      let second = c.in_ok-segments.ensures.shows file (search rules) in
-      let cap = c.in_ok-segments.ensures.keeps.same_cap ∙ c.in_ok-part.ensures.keeps.same_cap in
-      let same = c.in_ok-segments.ensures.keeps.same_file ∙ c.in_ok-part.ensures.keeps.same_file in
-      let third = rw (cap, same) at (c.in_err-pair.ensures.shows file (search rules)) in
-      rw (p.1, p.2, tables_are file c.args.self.now.cap.bytes c.args.parts.0 f.loaded f.store.now (c.args.self.now.loaded.belongs file held) c.requires)
-      (Stopped-more _ _ _ _ _ (Stopped-more _ _ _ _ _ (Stopped-then _ _ _ _ _ _ (Whole-then first second) third)));
-}
+returns-in_err-pair g c =
+    let p = err_from_is_err_and c.from_residual-in_err-pair.result c.from_residual-in_err-pair.ensures.1 in
+    let second = Parts-then _ (segments_cost c.args.parts.0) (segments_shown c.args.parts.0) c.in_ok-part.ensures c.in_ok-segments.ensures in
+    rw (p.1, p.2)
+    (Parts-as (λ file held. tables_are file _ _ _ _ (c.args.self.now.loaded.belongs file held) c.requires)
+    (Parts-more _ _ _ (Parts-more _ _ _ (Parts-then _ (pair_cost c.args.parts.0 Symbols Relocations) (pair_items c.args.parts.0 Symbols Relocations) second c.in_err-pair.ensures))))
 
 pub returns-in_err-pair-2 : goal.returns-in_err-pair-2
-returns-in_err-pair-2 g c = record {
-  grows =
-      grows_then c.in_ok-part.ensures.grows (grows_then c.in_ok-segments.ensures.grows (grows_then c.in_ok-pair.ensures.grows c.in_err-pair-2.ensures.grows));
-  keeps = search rules;
-  spent = search rules;
-  shows = λ file held.
-      let p = err_from_is_err_and c.from_residual-in_err-pair-2.result c.from_residual-in_err-pair-2.ensures.1 in
-      let f = c.args.self.now.file in
-      let first = c.in_ok-part.ensures.shows file held in
-      let second = c.in_ok-segments.ensures.shows file (search rules) in
-      let cap = c.in_ok-segments.ensures.keeps.same_cap ∙ c.in_ok-part.ensures.keeps.same_cap in
-      let same = c.in_ok-segments.ensures.keeps.same_file ∙ c.in_ok-part.ensures.keeps.same_file in
-      let third = rw (cap, same) at (c.in_ok-pair.ensures.shows file (search rules)) in
-      let fourth = rw (c.in_ok-pair.ensures.keeps.same_cap ∙ cap, c.in_ok-pair.ensures.keeps.same_file ∙ same) at (c.in_err-pair-2.ensures.shows file (search rules)) in
-      rw (p.1, p.2, tables_are file c.args.self.now.cap.bytes c.args.parts.0 f.loaded f.store.now (c.args.self.now.loaded.belongs file held) c.requires)
-      (Stopped-more _ _ _ _ _ (Stopped-then _ _ _ _ _ _ (Whole-then (Whole-then first second) third) fourth));
-}
+returns-in_err-pair-2 g c =
+    let p = err_from_is_err_and c.from_residual-in_err-pair-2.result c.from_residual-in_err-pair-2.ensures.1 in
+    let second = Parts-then _ (segments_cost c.args.parts.0) (segments_shown c.args.parts.0) c.in_ok-part.ensures c.in_ok-segments.ensures in
+    let third = Parts-then _ (pair_cost c.args.parts.0 Symbols Relocations) (pair_items c.args.parts.0 Symbols Relocations) second c.in_ok-pair.ensures in
+    rw (p.1, p.2)
+    (Parts-as (λ file held. tables_are file _ _ _ _ (c.args.self.now.loaded.belongs file held) c.requires)
+    (Parts-more _ _ _ (Parts-then _ (pair_cost c.args.parts.0 SectionNotes SegmentNotes) (pair_items c.args.parts.0 SectionNotes SegmentNotes) third c.in_err-pair-2.ensures)))
 
 pub returns : goal.returns
-returns g c = record {
-  grows =
-      grows_then c.in_ok-part.ensures.grows (grows_then c.in_ok-segments.ensures.grows (grows_then c.in_ok-pair.ensures.grows (grows_then c.in_ok-pair-2.ensures.grows c.pair-3.ensures.grows)));
-  keeps = search rules;
-  spent = search rules;
-  shows = λ file held.
-      let f = c.args.self.now.file in
-      let first = c.in_ok-part.ensures.shows file held in
-      let second = c.in_ok-segments.ensures.shows file (search rules) in
-      let cap = c.in_ok-segments.ensures.keeps.same_cap ∙ c.in_ok-part.ensures.keeps.same_cap in
-      let same = c.in_ok-segments.ensures.keeps.same_file ∙ c.in_ok-part.ensures.keeps.same_file in
-      let third = rw (cap, same) at (c.in_ok-pair.ensures.shows file (search rules)) in
-      let cap' = c.in_ok-pair.ensures.keeps.same_cap ∙ cap in
-      let same' = c.in_ok-pair.ensures.keeps.same_file ∙ same in
-      let fourth = rw (cap', same') at (c.in_ok-pair-2.ensures.shows file (search rules)) in
-      let fifth = rw (c.in_ok-pair-2.ensures.keeps.same_cap ∙ cap', c.in_ok-pair-2.ensures.keeps.same_file ∙ same') at (c.pair-3.ensures.shows file (search rules)) in
-      Writes-as _ _ _ (tables_are file c.args.self.now.cap.bytes c.args.parts.0 f.loaded f.store.now (c.args.self.now.loaded.belongs file held) c.requires)
-      (Writes-then _ _ _ _ _ _ (Whole-then (Whole-then (Whole-then first second) third) fourth) fifth);
-}
+returns g c =
+    let second = Parts-then _ (segments_cost c.args.parts.0) (segments_shown c.args.parts.0) c.in_ok-part.ensures c.in_ok-segments.ensures in
+    let third = Parts-then _ (pair_cost c.args.parts.0 Symbols Relocations) (pair_items c.args.parts.0 Symbols Relocations) second c.in_ok-pair.ensures in
+    let fourth = Parts-then _ (pair_cost c.args.parts.0 SectionNotes SegmentNotes) (pair_items c.args.parts.0 SectionNotes SegmentNotes) third c.in_ok-pair-2.ensures in
+    Parts-as (λ file held. tables_are file _ _ _ _ (c.args.self.now.loaded.belongs file held) c.requires)
+    (Parts-then _ (pair_cost c.args.parts.0 SectionDynamic SegmentDynamic) (pair_items c.args.parts.0 SectionDynamic SegmentDynamic) fourth c.pair-3.ensures)

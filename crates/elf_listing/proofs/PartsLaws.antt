@@ -1,0 +1,70 @@
+-- What calls of a listing did one behind another.
+use Rattle.std.proofs.Common.{◌≡◌, ℕ, ◌+◌, ◌-◌, ◌<◌, List, ◌++◌, Some, Result, Ok, Err, ap, ◌∙◌, arith, zero-add}
+use Rattle.elf_model.specs.Cost.{sum_over}
+use Rattle.elf_model.specs.Listing.{Item, each}
+use Rattle.elf_model.proofs.CostLemmas.{last_cost, sums_split}
+use Rattle.elf_model.proofs.ListingLemmas.{rows_split}
+use Rattle.elf_source.specs.declared.source.Source.{Ghosts as Sources}
+use Rattle.elf_source.specs.declared.sink.Sink.{Ghosts as Sinks}
+use Rattle.elf_source.proofs.GrowthLaws.{grows_then}
+use Rattle.elf_headers.specs.declared.caps.Cap.{Cap}
+use Rattle.elf_table.specs.declared.file.File.{File}
+use Rattle.elf_listing.specs.HeadersListed.{asked_items}
+use Rattle.elf_listing.specs.Parts.{asked_cost}
+use Rattle.elf_listing.specs.Shows.{Lists, Shows}
+use Rattle.elf_listing.specs.declared.listing.Listing.{Listing}
+use Rattle.elf_listing.specs.declared.parts.Part.{Part}
+use Rattle.elf_listing.specs.declared.stop.Stop.{Stop}
+use Rattle.elf_listing.proofs.EachLaws.{each-more}
+use Rattle.elf_listing.proofs.ListsLaws.{Lists-within, SameFile-then}
+use Rattle.elf_listing.proofs.RowLaws.{Writes-as}
+use Rattle.elf_listing.proofs.ShowLaws.{Spent-then, Stopped-more, Writes-then}
+
+-- what a part asks for, and its items, where the parts have it
+abbrev pub cost_asked : ℕ → Part → File → Cap → ℕ
+cost_asked parts part f cap = asked_cost parts part f.loaded f.store.now cap.bytes
+
+abbrev pub items_asked : ℕ → Part → File → Cap → List ℕ → List Item
+items_asked parts part f cap file = asked_items parts part f.store.now cap.bytes file
+
+module _ {S W X : Type 0} {s : Sources S} {w : Sinks W} where
+  -- the same items
+  pub Parts-as : {a b : Listing S W s w} {result : Result X Stop} {n : ℕ} {xs ys : List ℕ → List Item}
+      → ((file : List ℕ) → a.src.now.seen.file ≡ Some file → ys file ≡ xs file) → Lists a b result n (Shows a b result xs) → Lists a b result n (Shows a b result ys)
+  Parts-as same p = Lists-within _ _ _ _ _ _ _ (omega arith) p (λ file held. Writes-as _ _ _ (same file held) (p.shows file held))
+
+  -- a part was shown, and then another, whose cost and items the file and the cap tell
+  pub Parts-then : {a b c : Listing S W s w} {x : X} {result : Result X Stop} {n : ℕ} (xs : List ℕ → List Item) (m : File → Cap → ℕ) (ys : File → Cap → List ℕ → List Item)
+      → Lists a b (Ok x) n (Shows a b (Ok x) xs) → Lists b c result (m b.file b.cap) (Shows b c result (ys b.file b.cap))
+      → Lists a c result (n + m a.file a.cap) (Shows a c result (λ file. xs file ++ ys a.file a.cap file))
+  Parts-then xs m ys p q = record {
+    grows = grows_then p.grows q.grows;
+    keeps = SameFile-then p.keeps q.keeps;
+    spent = rw (← p.keeps.same_file, ← p.keeps.same_cap) (Spent-then _ _ _ _ _ _ _ _ _ _ _ (omega arith) p.spent.0 q.spent);
+    shows = λ file held.
+        let shown = rw (p.keeps.same_file, p.keeps.same_cap) at (q.shows file (p.spent.0.reads.keeps.same_file ∙ held)) in
+        Writes-then _ _ _ _ _ _ (p.shows file held) shown;
+  }
+
+  -- a part stopped, and nothing behind it was shown
+  pub Parts-more : {a b : Listing S W s w} {stop : Stop} {n : ℕ} (m : ℕ) (xs ys : List ℕ → List Item)
+      → Lists {X = X} a b (Err stop) n (Shows {X = X} a b (Err stop) xs) → Lists {X = X} a b (Err stop) (n + m) (Shows {X = X} a b (Err stop) (λ file. xs file ++ ys file))
+  Parts-more m xs ys p = Lists-within _ _ _ _ _ _ _ (omega arith) p (λ file held. Stopped-more _ _ _ _ _ (p.shows file held))
+
+  -- some headers were shown, and then the next
+  pub headers_then : {a b c : Listing S W s w} {x : X} {result : Result X Stop} (amount : File → Cap → ℕ → ℕ) (row : Cap → List ℕ → ℕ → List Item) (i : ℕ)
+      → Lists a b (Ok x) (sum_over (amount a.file a.cap) 0 i) (Shows a b (Ok x) (λ file. each (row a.cap file) 0 i))
+      → Lists b c result (amount b.file b.cap i) (Shows b c result (λ file. row b.cap file i))
+      → Lists a c result (sum_over (amount a.file a.cap) 0 (i + 1)) (Shows a c result (λ file. each (row a.cap file) 0 (i + 1)))
+  headers_then {a = a} amount row i p q =
+      let cost = amount a.file a.cap in
+      rw (last_cost cost 0 i ∙ ap (λ n. sum_over cost 0 i + cost n) (zero-add i))
+      (Parts-as (λ file held. each-more (row a.cap file) i) (Parts-then _ (λ f cap. amount f cap i) (λ f cap file. row cap file i) p q))
+
+  -- the last of them stopped, and none behind it was shown
+  pub headers_stopped : {a b : Listing S W s w} {stop : Stop} (amount : ℕ → ℕ) (row : List ℕ → ℕ → List Item) (i count : ℕ) → i < count
+      → Lists {X = X} a b (Err stop) (sum_over amount 0 (i + 1)) (Shows {X = X} a b (Err stop) (λ file. each (row file) 0 (i + 1)))
+      → Lists {X = X} a b (Err stop) (sum_over amount 0 count) (Shows {X = X} a b (Err stop) (λ file. each (row file) 0 count))
+  headers_stopped amount row i count below p =
+      let all : count ≡ i + 1 + (count - (i + 1)) = omega arith in
+      rw (all, sums_split amount 0 (i + 1) (count - (i + 1))) (Parts-as (λ file held. rows_split (row file) 0 (i + 1) (count - (i + 1))) (Parts-more _ _ _ p))
