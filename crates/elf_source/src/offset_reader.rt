@@ -8,8 +8,8 @@ use crate::seek_reader::why;
 use std::io::{Seek, SeekFrom};
 use std::os::unix::fs::FileExt;
 
-/// A reader over a file that is read at offsets: each turn is one call of the system, and none seeks.
-/// No file of it is known: that it gives what it holds is its user's premise.
+/// A reader over a file that is read at offsets: each turn is one call of the system, and only the
+/// length is sought. No file of it is known: that it gives what it holds is its user's premise.
 #[derive(Drop)]
 pub struct OffsetReader<F> {
     inner: F,
