@@ -1,10 +1,10 @@
 //! What a listing wrote, and how it ended.
 
 use elf_lines::show_refusal;
-use elf_listing::{End, RunFault, show};
+use elf_listing::show;
 use elf_record::{Cause, Parts, Refusal};
 use elf_source::{Counted, MemorySource, Out, Source, WriteSink};
-use elf_table::{Caps, HeaderStore};
+use elf_table::{Caps, HeaderStore, Stop};
 use std::process::Abort;
 use std::test::Fail;
 
@@ -19,7 +19,7 @@ pub(crate) const HEADER: &str =
 #[derive(Drop)]
 pub(crate) struct Listed {
     pub(crate) text: Vec<u8>,
-    pub(crate) end: Result<End, RunFault>,
+    pub(crate) end: Result<(), Stop>,
     pub(crate) asked: u128,
     pub(crate) stopped: u64,
 }
@@ -52,7 +52,7 @@ pub(crate) fn list_whole(
     caps: Caps,
 ) -> Result<Vec<u8>, Fail> {
     let listed = list(rt, MemorySource::new(file), store, caps)?;
-    assert!(rt; listed.end == Ok(End::Listed));
+    assert!(rt; listed.end == Ok(()));
     Ok(listed.text)
 }
 
@@ -76,6 +76,9 @@ pub(crate) fn check_refused(
         rest = &rest[bytes.len()..];
     }
     assert!(rt; rest == line.as_slice(), "the refusal at {at}");
-    assert!(rt; listed.end == Ok(End::Refused(refusal)), "the end at {at}");
+    assert!(rt;
+        listed.end == Err(Stop::Refused(refusal)),
+        "the end at {at}"
+    );
     Ok(())
 }

@@ -4,9 +4,8 @@ use crate::listing::{list, list_whole};
 use elf_fixtures::{
     hash_with_cycle, library_without_sections, note_segment, one_call, one_symbol_table,
 };
-use elf_listing::{End, RunFault};
 use elf_source::{FailSource, MemorySource, SourceFault};
-use elf_table::{Caps, HeaderStore};
+use elf_table::{Caps, HeaderStore, Stop};
 use std::process::Abort;
 use std::test::Fail;
 
@@ -32,10 +31,7 @@ fn fail_at_each_read(
         let listed = list(rt, source, &mut store, caps)?;
         let fault = SourceFault::Device;
         let at = listed.stopped;
-        assert!(rt;
-            listed.end == Err(RunFault::Source { fault, at }),
-            "read {k}"
-        );
+        assert!(rt; listed.end == Err(Stop::Source { fault, at }), "read {k}");
         assert!(rt; whole.starts_with(&listed.text), "read {k}");
         assert!(rt; listed.text.len() < whole.len(), "read {k}");
         let again = list_whole(rt, file, &mut store, caps)?;
@@ -43,7 +39,7 @@ fn fail_at_each_read(
     }
     let source = FailSource::new(MemorySource::new(file), reads);
     let listed = list(rt, source, &mut store, caps)?;
-    assert!(rt; listed.end == Ok(End::Listed));
+    assert!(rt; listed.end == Ok(()));
     assert!(rt; listed.text == whole);
     Ok(())
 }

@@ -2,9 +2,9 @@
 
 use crate::listing::{ALL, list_whole};
 use elf_fixtures::{hash_with_cycle, one_call, one_symbol_table};
-use elf_listing::{RunFault, show};
+use elf_listing::show;
 use elf_source::{Counted, MemorySource, Out, OutFault, SliceSink};
-use elf_table::{Caps, HeaderStore};
+use elf_table::{Caps, HeaderStore, Stop};
 use std::process::Abort;
 use std::test::Fail;
 
@@ -33,7 +33,7 @@ fn fail_at_each_write(
         let end = show(&mut src, &mut store, caps, ALL, &mut out);
         let written = length as u128;
         assert!(rt;
-            end == Err(RunFault::Out(OutFault { written })),
+            end == Err(Stop::Out(OutFault { written })),
             "{length} bytes"
         );
         assert!(rt;

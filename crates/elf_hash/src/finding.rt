@@ -5,10 +5,10 @@ ghost use Rattle.elf_hash.specs.Lookups.{Finds, Looks, Passed, behind_bytes, fin
 ghost use Rattle.elf_model.specs.Find.{looked};
 ghost use Rattle.elf_headers.specs.Load.{Belongs};
 
-use crate::checks::{checked, first_hash, refused};
+use crate::checks::{checked, first_hash};
 use crate::lookup::Lookup;
 use crate::walk::{counted, walk};
-use elf_headers::{Fault, HeaderStore, header, load};
+use elf_headers::{Fault, HeaderStore, header, load, refused};
 use elf_record::Cause;
 use elf_source::{Counted, Source};
 use elf_table::File;

@@ -6,11 +6,10 @@ ghost use Rattle.elf_hash.specs.Tables.{HasCounts, IsSection, IsTable, Lies};
 ghost use Rattle.elf_model.specs.Bytes.{field};
 ghost use Rattle.elf_model.specs.Hash.{is_index, looked_up};
 
-use crate::checks::refused;
 use crate::hash_section::HashSection;
 use crate::hash_table::HashTable;
 use crate::lookup::Lookup;
-use elf_headers::{Fault, fill};
+use elf_headers::{Fault, fill, refused};
 use elf_record::{Cause, Sym, word};
 use elf_source::{Counted, Source};
 

@@ -1,12 +1,28 @@
 -- The caps of a listing.
 use Rattle.std.specs.Prelude.{ℕ, ◌≡◌, ◌≤◌, Option, None, Some}
+use Rattle.elf_headers.specs.declared.caps.Cap.{Cap}
 use Rattle.elf_headers.specs.declared.caps.Caps.{Caps}
+use Rattle.elf_headers.specs.declared.caps.Limits.{Limits}
 
--- what the caps may be
-abbrev pub IsPermitted : ℕ → ℕ → Type 0
-IsPermitted headers name = (1 ≤ headers) × (headers ≤ 65279) × (1 ≤ name) × (name ≤ 4096)
+-- how many headers may be permitted
+abbrev pub AreHeaders : ℕ → Type 0
+AreHeaders headers = (1 ≤ headers) × (headers ≤ 65279)
+
+-- how many bytes of a name may be shown
+abbrev pub AreNameBytes : ℕ → Type 0
+AreNameBytes bytes = (1 ≤ bytes) × (bytes ≤ 4096)
+
+-- a cap of so many bytes is given where they may be shown, and not else
+abbrev pub PermitsName : ℕ → Option Cap → Type 0
+PermitsName bytes None = AreNameBytes bytes → ⊥
+PermitsName bytes (Some cap) = cap.bytes ≡ bytes
+
+-- limits with this number and this budget are given where the number is permitted, and not else
+abbrev pub PermitsHeaders : ℕ → Option ℕ → Option Limits → Type 0
+PermitsHeaders headers budget None = AreHeaders headers → ⊥
+PermitsHeaders headers budget (Some limits) = (limits.headers ≡ headers) × (limits.budget ≡ budget)
 
 -- caps with these numbers and no budget are given where the numbers are permitted, and not else
 abbrev pub Permits : ℕ → ℕ → Option Caps → Type 0
-Permits headers name None = IsPermitted headers name → ⊥
-Permits headers name (Some caps) = (caps.headers ≡ headers) × (caps.name.bytes ≡ name) × (caps.budget ≡ None)
+Permits headers name None = AreHeaders headers × AreNameBytes name → ⊥
+Permits headers name (Some caps) = (caps.limits.headers ≡ headers) × (caps.name.bytes ≡ name) × (caps.limits.budget ≡ None)

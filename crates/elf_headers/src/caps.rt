@@ -15,22 +15,59 @@ pub struct Cap {
     pub ghost most: { bytes ≤ 4096 },
 }
 
-/// The caps of a listing: how many section headers, and as many program headers, are permitted, how
-/// many bytes of a name are shown, and how many bytes may be read, where that is limited.
+impl Cap {
+    ghost use Rattle.elf_headers.specs.Permitted.{PermitsName};
+
+    /// The cap of 1 to 4,096 bytes of a name; None for other numbers.
+    pub fn new(bytes: u16) -> Option<Cap>
+        ensures { PermitsName bytes result }
+    {
+        if bytes == 0 || bytes > MOST_NAME {
+            return None;
+        }
+        Some(Cap { bytes })
+    }
+}
+
+/// The limits on what is read of a file: how many section headers, and as many program headers, are
+/// permitted, and how many bytes may be read, where that is limited.
 #[derive(Clone, Copy, Debug, PartialEq, Eq)]
-pub struct Caps {
+pub struct Limits {
     /// The number of headers.
     pub headers: u16,
-    /// The number of bytes of a name.
-    pub name: Cap,
     /// The number of bytes that may be read.
     pub budget: Option<u64>,
     pub ghost some: { 1 ≤ headers },
     pub ghost most: { headers ≤ 65279 },
 }
 
+impl Limits {
+    ghost use Rattle.elf_headers.specs.Permitted.{PermitsHeaders};
+
+    /// The limits of 1 to 65,279 headers and of a read budget, where there is one; None for other
+    /// numbers of headers.
+    pub fn new(headers: u16, budget: Option<u64>) -> Option<Limits>
+        ensures { PermitsHeaders headers budget result }
+    {
+        if headers == 0 || headers > MOST_HEADERS {
+            return None;
+        }
+        Some(Limits { headers, budget })
+    }
+}
+
+/// The caps of a listing: the limits on what is read of its file, and how many bytes of a name are
+/// shown.
+#[derive(Clone, Copy, Debug, PartialEq, Eq)]
+pub struct Caps {
+    /// The limits on what is read.
+    pub limits: Limits,
+    /// The number of bytes of a name.
+    pub name: Cap,
+}
+
 impl Caps {
-    ghost use Rattle.std.specs.Prelude.{◌≡◌, None, Some};
+    ghost use Rattle.std.specs.Prelude.{◌≡◌, Some};
     ghost use Rattle.elf_headers.specs.Permitted.{Permits};
 
     /// The caps of 1 to 65,279 headers and 1 to 4,096 bytes of a name, with no limit on what is
@@ -38,34 +75,31 @@ impl Caps {
     pub fn new(headers: u16, name: u16) -> Option<Caps>
         ensures { Permits headers name result }
     {
-        if headers == 0 || headers > MOST_HEADERS || name == 0 || name > MOST_NAME {
-            return None;
-        }
-        Some(Caps {
-            headers,
-            name: Cap { bytes: name },
-            budget: None,
-        })
+        let limits = Limits::new(headers, None)?;
+        let name = Cap::new(name)?;
+        Some(Caps { limits, name })
     }
 
     /// The same caps with a read budget: so many bytes may be read, and no more.
     pub fn with_budget(self, bytes: u64) -> Caps
-        ensures headers { result.headers ≡ self.headers }
+        ensures headers { result.limits.headers ≡ self.limits.headers }
         ensures name { result.name ≡ self.name }
-        ensures budget { result.budget ≡ Some bytes }
+        ensures budget { result.limits.budget ≡ Some bytes }
     {
         Caps {
-            headers: self.headers,
+            limits: Limits {
+                headers: self.limits.headers,
+                budget: Some(bytes),
+            },
             name: self.name,
-            budget: Some(bytes),
         }
     }
 
     /// How many headers are permitted, 1 to 65,279.
     pub fn headers(&self) -> u16
-        ensures { result ≡ self.now.headers }
+        ensures { result ≡ self.now.limits.headers }
     {
-        self.headers
+        self.limits.headers
     }
 
     /// How many bytes of a name are shown, 1 to 4,096.
@@ -77,8 +111,8 @@ impl Caps {
 
     /// How many bytes may be read, where that is limited.
     pub fn budget(&self) -> Option<u64>
-        ensures { result ≡ self.now.budget }
+        ensures { result ≡ self.now.limits.budget }
     {
-        self.budget
+        self.limits.budget
     }
 }

@@ -1,5 +1,7 @@
 //! Why a read of a file's structure stops.
-use elf_record::Refusal;
+ghost use Rattle.std.specs.Prelude.{◌≡◌, Err};
+
+use elf_record::{Cause, Refusal};
 use elf_source::SourceFault;
 use thiserror::Error;
 
@@ -17,4 +19,11 @@ pub enum Fault {
         /// The offset, in bytes, that was asked for.
         at: u64,
     },
+}
+
+/// The refusal for a cause at a file offset.
+pub fn refused<T>(at: u64, cause: Cause) -> Result<T, Fault>
+    ensures { result ≡ Err (Fault.Refused (record { at = at; cause = cause })) }
+{
+    Err(Fault::Refused(Refusal { at, cause }))
 }

@@ -16,8 +16,8 @@ mod stop;
 mod store;
 
 pub use buffers::BUFFER_BYTES;
-pub use caps::{Cap, Caps};
-pub use fault::Fault;
+pub use caps::{Cap, Caps, Limits};
+pub use fault::{Fault, refused};
 pub use file_header::header;
 pub use filling::fill;
 pub use loaded::Loaded;

@@ -1,5 +1,5 @@
 -- What a listing asks for within its budget.
-use Rattle.std.proofs.Common.{◌≡◌, ℕ, ◌+◌, ◌^◌, ◌<◌, ◌≤◌, false, Option, None, Some, Result, Ok, refl, sym, ap, ◌∙◌, arith}
+use Rattle.std.proofs.Common.{subst, ◌≡◌, ℕ, ◌+◌, ◌^◌, ◌<◌, ◌≤◌, false, Option, None, Some, Result, Err, refl, sym, ap, ◌∙◌, arith}
 use Rattle.std.specs.Prelude.{IfSome}
 use Rattle.elf_model.specs.Checks.{first_refusal, length_checks}
 use Rattle.elf_model.specs.Cost.{ceiling}
@@ -9,18 +9,19 @@ use Rattle.elf_source.specs.Source.{Seen, Counting, Reads, Limits, OverLimit, co
 use Rattle.elf_source.proofs.LimitLaws.{late_budget, within_budget}
 use Rattle.elf_headers.specs.Faults.{RefusalSays}
 use Rattle.elf_headers.specs.declared.caps.Caps.{Caps}
-use Rattle.elf_listing.specs.Reports.{AsksWithin}
-use Rattle.elf_listing.specs.declared.end.End.{End}
-use Rattle.elf_listing.specs.declared.end.End.TheVariants.{Refused}
-use Rattle.elf_listing.specs.declared.end.RunFault.{RunFault}
+use Rattle.elf_headers.specs.declared.stop.Stop.{Stop}
+use Rattle.elf_headers.specs.declared.stop.Stop.TheVariants.{Refused, Source, Out}
+use Rattle.elf_source.specs.Output.{Written}
+use Rattle.elf_listing.specs.Reports.{AsksWithin, FaultSays, TellsStop}
+use Rattle.elf_listing.specs.Shows.{StopSays}
 
-pub asks_within : (caps : Caps) (parts : ℕ) (s0 s1 s2 s3 : Counting) (n : ℕ) (result : Result End RunFault) → s0.asked ≤ 2 ^ 127 → Limits s0 s1 caps.budget
-    → Reads s1 s2 (ceiling s1.seen.size caps.headers caps.name.bytes) → Limits s2 s3 None
+pub asks_within : {X : Type 0} (caps : Caps) (parts : ℕ) (s0 s1 s2 s3 : Counting) (n : ℕ) (result : Result X Stop) → s0.asked ≤ 2 ^ 127 → Limits s0 s1 caps.limits.budget
+    → Reads s1 s2 (ceiling s1.seen.size caps.limits.headers caps.name.bytes) → Limits s2 s3 None
     → ((refusal : Refusal) → first_refusal (length_checks s1.seen.size) ≡ Some refusal → s2 ≡ s1) → (has_tables parts ≡ false → s2.asked ≤ s1.asked + 64)
-    → ((refusal : Refusal) → result ≡ Ok (Refused refusal) → RefusalSays s1 s2 n refusal) → AsksWithin caps parts s0 s3 result
+    → ((refusal : Refusal) → result ≡ Err (Refused refusal) → RefusalSays s1 s2 n refusal) → AsksWithin caps parts s0 s3 result
 asks_within caps parts s0 s1 s2 s3 n result small set reads unset unread alone late =
-    let same = ap (λ (seen : Seen). ceiling seen.size caps.headers caps.name.bytes) set.seen in
-    let within : IfSome caps.budget (λ bytes. s2.asked ≤ s0.asked + bytes) = within_budget caps.budget s0 s1 s2 set reads.same_limit in
+    let same = ap (λ (seen : Seen). ceiling seen.size caps.limits.headers caps.name.bytes) set.seen in
+    let within : IfSome caps.limits.budget (λ bytes. s2.asked ≤ s0.asked + bytes) = within_budget caps.limits.budget s0 s1 s2 set reads.same_limit in
     record {
       ceiling = omega (arith, reads.at_most, set.asked, unset.asked, same);
       unread = λ refusal first.
@@ -29,7 +30,27 @@ asks_within caps parts s0 s1 s2 s3 n result small set reads unset unread alone l
       alone = λ none. omega (arith, alone none, set.asked, unset.asked);
       budget = rw unset.asked within;
       late = λ refusal is budget.
-          let over = late_budget caps.budget s0 s1 s2 n small set (late refusal is budget).1 in
+          let over = late_budget caps.limits.budget s0 s1 s2 n small set (late refusal is budget).1 in
           (over.0, over.1, omega (arith, over.2, unset.asked));
       place = λ refusal is budget. (late refusal is budget).2 ∙ sym unset.stopped;
     }
+
+-- a refusal that was told is the one that stopped the call
+pub told_late : (s1 s2 : Counting) (a b out : Written) (n : ℕ) (stop told : Stop) → TellsStop a b stop told → StopSays s1 s2 out n stop
+    → (refusal : Refusal) → told ≡ Refused refusal → RefusalSays s1 s2 n refusal
+told_late s1 s2 a b out n (Refused first) (Refused same) tells says refusal is =
+    let all : first ≡ refusal = cc in subst (λ (r : Refusal). RefusalSays s1 s2 n r) all says
+told_late s1 s2 a b out n (Refused first) (Source cause at) tells says refusal is = absurd tells
+told_late s1 s2 a b out n (Refused first) (Out cause) tells says refusal is = cc
+told_late s1 s2 a b out n (Source cause at) told tells says refusal is = let other = tells.1 in cc
+told_late s1 s2 a b out n (Out cause) told tells says refusal is = let other = tells.1 in cc
+
+-- what was told of a stop says of the source and the output what the stop did
+pub told_says : (s0 s1 s2 s3 : Counting) (a b : Written) (n : ℕ) (budget : Option ℕ) (stop told : Stop) → Limits s0 s1 budget → Limits s2 s3 None
+    → TellsStop a b stop told → StopSays s1 s2 a n stop → FaultSays s0 s3 b told
+told_says s0 s1 s2 s3 a b n budget (Refused first) (Refused same) set unset tells says = tt
+told_says s0 s1 s2 s3 a b n budget (Refused first) (Source cause at) set unset tells says = absurd tells
+told_says s0 s1 s2 s3 a b n budget (Refused first) (Out cause) set unset tells says = tells.0
+told_says s0 s1 s2 s3 a b n budget (Source cause at) told set unset tells says =
+    rw (tells.1, unset.seen, unset.stopped, sym set.seen) says
+told_says s0 s1 s2 s3 a b n budget (Out cause) told set unset tells says = rw (tells.0, tells.1) says

@@ -10,9 +10,9 @@ use Rattle.elf_headers.specs.declared.fault.Fault.TheVariants.{Refused, Source}
 use Rattle.elf_table.specs.declared.names.NameEnd.{NameEnd}
 use Rattle.elf_table.specs.declared.names.NameEnd.TheVariants.{Whole}
 use Rattle.elf_listing.specs.Shows.{SameFile, Fetches, Lists}
-use Rattle.elf_listing.specs.Stops.{stop_of}
+use Rattle.elf_headers.specs.Stops.{stop_of}
 use Rattle.elf_listing.specs.declared.listing.Listing.{Listing}
-use Rattle.elf_listing.specs.declared.stop.Stop.{Stop}
+use Rattle.elf_headers.specs.declared.stop.Stop.{Stop}
 use Rattle.elf_listing.proofs.ShowLaws.{Spent-failed, Spent-then, Spent-within}
 
 -- it is of the same file as before

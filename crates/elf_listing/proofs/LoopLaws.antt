@@ -12,9 +12,9 @@ use Rattle.elf_headers.specs.declared.fault.Fault.{Fault}
 use Rattle.elf_table.specs.declared.row.Row.{Row}
 use Rattle.elf_listing.specs.Kinds.{row_size, own_cost, rows_cost, IsRowOf}
 use Rattle.elf_listing.specs.Shows.{WroteItems, Stopped}
-use Rattle.elf_listing.specs.Stops.{stop_of}
+use Rattle.elf_headers.specs.Stops.{stop_of}
 use Rattle.elf_listing.specs.declared.rows.Kind.{Kind}
-use Rattle.elf_listing.specs.declared.stop.Stop.{Stop}
+use Rattle.elf_headers.specs.declared.stop.Stop.{Stop}
 use Rattle.elf_listing.proofs.EachLaws.{each-none, each-more, each-front}
 use Rattle.elf_listing.proofs.ShowLaws.{Whole-none, Whole-then, Stopped-then, Stopped-more, Stopped-unread}
 

@@ -22,8 +22,8 @@ use Rattle.elf_table.specs.declared.names.NameEnd.{NameEnd}
 use Rattle.elf_table.specs.declared.names.NameEnd.TheVariants.{Whole as NameWhole, Cut as NameCut}
 use Rattle.elf_listing.specs.Notes.{IsNote, WrittenBefore, note_items}
 use Rattle.elf_listing.specs.Shows.{WroteItems, Front, Stopped, cut_of}
-use Rattle.elf_listing.specs.Stops.{stop_of}
-use Rattle.elf_listing.specs.declared.stop.Stop.{Stop}
+use Rattle.elf_headers.specs.Stops.{stop_of}
+use Rattle.elf_headers.specs.declared.stop.Stop.{Stop}
 use Rattle.elf_listing.proofs.ShowLaws.{Whole-none, Whole-then, Stopped-then, Stopped-more}
 
 -- what is left where no note is, and where no note stands

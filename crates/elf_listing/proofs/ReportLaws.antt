@@ -15,10 +15,10 @@ use Rattle.elf_source.proofs.LimitLaws.{budget_below}
 use Rattle.elf_source.proofs.PutsLaws.{Takes-then, TakesFront-then, TakesFront-more, TakesFront-all}
 use Rattle.elf_headers.specs.Faults.{RefusalSays}
 use Rattle.elf_headers.specs.declared.caps.Caps.{Caps}
-use Rattle.elf_listing.specs.Reports.{Reports}
-use Rattle.elf_listing.specs.Shows.{WroteItems, Front, IsNext, EndsRefused}
-use Rattle.elf_listing.specs.declared.end.End.TheVariants.{Listed, Refused}
-use Rattle.elf_listing.specs.declared.end.RunFault.{RunFault}
+use Rattle.elf_headers.specs.declared.stop.Stop.{Stop}
+use Rattle.elf_headers.specs.declared.stop.Stop.TheVariants.{Refused, Source, Out}
+use Rattle.elf_listing.specs.Reports.{Reports, Wrote, WroteRefusal, TellsStop}
+use Rattle.elf_listing.specs.Shows.{WroteItems, Front, IsNext, EndsRefused, Stopped, StopSays}
 use Rattle.elf_listing.proofs.EachLaws.{lines_front}
 
 -- a report is what is listed, within every budget
@@ -28,30 +28,42 @@ report_listed None file headers cap parts text fault is = is
 report_listed (Some budget) file headers cap parts text fault is = inl is
 
 -- a listing without a fault is its report
-pub whole_report : {a b : Written} (file : List ℕ) (caps : Caps) (parts : ℕ) → WroteItems a b (items file caps.headers caps.name.bytes parts) → Reports file caps parts a b (Ok Listed)
+pub whole_report : {a b : Written} (file : List ℕ) (caps : Caps) (parts : ℕ) → WroteItems a b (items file caps.limits.headers caps.name.bytes parts) → Reports {X = Unit {0}} file caps parts a b (Ok tt)
 whole_report file caps parts whole =
-    let all : List Item = items file caps.headers caps.name.bytes parts in
+    let all : List Item = items file caps.limits.headers caps.name.bytes parts in
     let text : lines_of all ≡ report_of all = sym (ap (λ end. lines_of all ++ end_text end) whole.no_fault ∙ append-nil (lines_of all)) in
     record {
       text = lines_of all;
       fault = None;
-      listed = report_listed caps.budget file caps.headers caps.name.bytes parts (lines_of all) None (record { text_is = text; fault_is = sym whole.no_fault });
+      listed = report_listed caps.limits.budget file caps.limits.headers caps.name.bytes parts (lines_of all) None (record { text_is = text; fault_is = sym whole.no_fault });
       wrote = (whole.takes, refl);
     }
 
+-- a fault that is no refusal
+abbrev IsFault : Stop → Type 0
+IsFault (Refused refusal) = ⊥
+IsFault (Source cause at) = Unit {0}
+IsFault (Out cause) = Unit {0}
+
+wrote_front : {a b : Written} (stop : Stop) (text : List ℕ) (fault : Option Refusal) → IsFault stop → TakesFront a b text → Wrote {X = Unit {0}} a b (Err stop) text fault
+wrote_front (Refused refusal) text fault is front = absurd is
+wrote_front (Source cause at) text fault is front = front
+wrote_front (Out cause) text fault is front = front
+
 -- a front of a listing is a front of its report
-pub front_report : {a b : Written} (file : List ℕ) (caps : Caps) (parts : ℕ) (fault : RunFault) → TakesFront a b (lines_of (items file caps.headers caps.name.bytes parts)) → Reports file caps parts a b (Err fault)
-front_report file caps parts fault front =
-    let all : List Item = items file caps.headers caps.name.bytes parts in
+front_report : {a b : Written} (file : List ℕ) (caps : Caps) (parts : ℕ) (stop : Stop) → IsFault stop → TakesFront a b (lines_of (items file caps.limits.headers caps.name.bytes parts))
+    → Reports {X = Unit {0}} file caps parts a b (Err stop)
+front_report file caps parts stop is front =
+    let all : List Item = items file caps.limits.headers caps.name.bytes parts in
     record {
       text = report_of all;
       fault = fault_of all;
-      listed = report_listed caps.budget file caps.headers caps.name.bytes parts (report_of all) (fault_of all) (record { text_is = refl; fault_is = refl });
-      wrote = TakesFront-more (lines_of all) (end_text (fault_of all)) front;
+      listed = report_listed caps.limits.budget file caps.limits.headers caps.name.bytes parts (report_of all) (fault_of all) (record { text_is = refl; fault_is = refl });
+      wrote = wrote_front stop (report_of all) (fault_of all) is (TakesFront-more (lines_of all) (end_text (fault_of all)) front);
     }
 
 -- whole lines of a listing are a front of its lines
-pub front_lines : {a b : Written} (all : List Item) → Front a b all → TakesFront a b (lines_of all)
+front_lines : {a b : Written} (all : List Item) → Front a b all → TakesFront a b (lines_of all)
 front_lines all front =
     let more = lines_front front.front front.rest in
     let split = ap lines_of front.split ∙ more.1 in
@@ -68,12 +80,12 @@ ended refusal all ends next =
 
 -- the text of a listing that ended in a refusal
 ended_listed : {a b : Written} (file : List ℕ) (caps : Caps) (parts : ℕ) (refusal : Refusal) (before limited after : Counting) → before.asked ≤ 2 ^ 127
-    → Limits before limited caps.budget → before.seen.size ≡ length file → RefusalSays limited after (cost file caps.headers caps.name.bytes parts) refusal
-    → (ends : EndsRefused a b refusal (items file caps.headers caps.name.bytes parts))
-    → IsBudgeted caps.budget file caps.headers caps.name.bytes parts (lines_of ends.front.front ++ refusal_line refusal) (Some refusal)
+    → Limits before limited caps.limits.budget → before.seen.size ≡ length file → RefusalSays limited after (cost file caps.limits.headers caps.name.bytes parts) refusal
+    → (ends : EndsRefused a b refusal (items file caps.limits.headers caps.name.bytes parts))
+    → IsBudgeted caps.limits.budget file caps.limits.headers caps.name.bytes parts (lines_of ends.front.front ++ refusal_line refusal) (Some refusal)
 ended_listed file caps parts refusal before limited after small limits sized says ends = by_cause (is_budget refusal.cause)
   where
-    cut : (budget : Option ℕ) → caps.budget ≡ budget → IsBudget refusal → IsBudgeted budget file caps.headers caps.name.bytes parts (lines_of ends.front.front ++ refusal_line refusal) (Some refusal)
+    cut : (budget : Option ℕ) → caps.limits.budget ≡ budget → IsBudget refusal → IsBudgeted budget file caps.limits.headers caps.name.bytes parts (lines_of ends.front.front ++ refusal_line refusal) (Some refusal)
     cut None none for_budget =
         let over = (says for_budget).1 in
         let most = limits.most ∙ ap (option_map (counted before.asked)) none in
@@ -88,7 +100,7 @@ ended_listed file caps parts refusal before limited after small limits sized say
         let fits = limits.small budget some in
         let size = ap (λ seen. seen.size) limits.seen in
         inr (
-          budget_below budget before.asked over.most (cost file caps.headers caps.name.bytes parts) small (sym is) fits (omega (arith, over.above, same)),
+          budget_below budget before.asked over.most (cost file caps.limits.headers caps.name.bytes parts) small (sym is) fits (omega (arith, over.above, same)),
           record {
             front = ends.front.front;
             rest = ends.front.rest;
@@ -103,30 +115,37 @@ ended_listed file caps parts refusal before limited after small limits sized say
         )
 
     by_cause : (refusal.cause ≡ Budget) ⊎ (refusal.cause ≡ Budget → ⊥)
-        → IsBudgeted caps.budget file caps.headers caps.name.bytes parts (lines_of ends.front.front ++ refusal_line refusal) (Some refusal)
-    by_cause (inl for_budget) = cut caps.budget refl for_budget
+        → IsBudgeted caps.limits.budget file caps.limits.headers caps.name.bytes parts (lines_of ends.front.front ++ refusal_line refusal) (Some refusal)
+    by_cause (inl for_budget) = cut caps.limits.budget refl for_budget
     by_cause (inr other) =
-        let all : List Item = items file caps.headers caps.name.bytes parts in
+        let all : List Item = items file caps.limits.headers caps.name.bytes parts in
         let is = ended refusal all ends (ends.next other) in
-        report_listed caps.budget file caps.headers caps.name.bytes parts _ _
+        report_listed caps.limits.budget file caps.limits.headers caps.name.bytes parts _ _
         (record { text_is = sym (ap (λ lines. lines ++ end_text (fault_of all)) is.0 ∙ ap (λ end. lines_of ends.front.front ++ end_text end) is.1); fault_is = sym is.1 })
 
-pub ended_report : {a b c : Written} (file : List ℕ) (caps : Caps) (parts : ℕ) (refusal : Refusal) (before limited after : Counting) → before.asked ≤ 2 ^ 127
-    → Limits before limited caps.budget → before.seen.size ≡ length file → RefusalSays limited after (cost file caps.headers caps.name.bytes parts) refusal
-    → EndsRefused a b refusal (items file caps.headers caps.name.bytes parts) → Takes b c (refusal_line refusal) → Reports file caps parts a c (Ok (Refused refusal))
-ended_report file caps parts refusal before limited after small limits sized says ends line = record {
+-- a listing that ended in a refusal, whose line was told
+ended_report : {a b c : Written} (file : List ℕ) (caps : Caps) (parts : ℕ) (refusal : Refusal) (told : Stop) (before limited after : Counting) → before.asked ≤ 2 ^ 127
+    → Limits before limited caps.limits.budget → before.seen.size ≡ length file → RefusalSays limited after (cost file caps.limits.headers caps.name.bytes parts) refusal
+    → EndsRefused a b refusal (items file caps.limits.headers caps.name.bytes parts) → WroteRefusal b c refusal told → Reports {X = Unit {0}} file caps parts a c (Err told)
+ended_report {a} {b} {c} file caps parts refusal told before limited after small limits sized says ends line = record {
   text = lines_of ends.front.front ++ refusal_line refusal;
   fault = Some refusal;
   listed = ended_listed file caps parts refusal before limited after small limits sized says ends;
-  wrote = (Takes-then (lines_of ends.front.front) (refusal_line refusal) ends.front.takes line, refl);
+  wrote = wrote told line;
 }
+  where
+    wrote : (told : Stop) → WroteRefusal b c refusal told → Wrote {X = Unit {0}} a c (Err told) (lines_of ends.front.front ++ refusal_line refusal) (Some refusal)
+    wrote (Refused same) line = (Takes-then (lines_of ends.front.front) (refusal_line refusal) ends.front.takes line.1, ap Some line.0)
+    wrote (Source cause at) line = absurd line
+    wrote (Out cause) line = TakesFront-then (lines_of ends.front.front) (refusal_line refusal) ends.front.takes line.1
 
-pub ended_fault : {a b c : Written} (file : List ℕ) (caps : Caps) (parts : ℕ) (refusal : Refusal) (fault : RunFault) (before limited after : Counting) → before.asked ≤ 2 ^ 127
-    → Limits before limited caps.budget → before.seen.size ≡ length file → RefusalSays limited after (cost file caps.headers caps.name.bytes parts) refusal
-    → EndsRefused a b refusal (items file caps.headers caps.name.bytes parts) → TakesFront b c (refusal_line refusal) → Reports file caps parts a c (Err fault)
-ended_fault file caps parts refusal fault before limited after small limits sized says ends line = record {
-  text = lines_of ends.front.front ++ refusal_line refusal;
-  fault = Some refusal;
-  listed = ended_listed file caps parts refusal before limited after small limits sized says ends;
-  wrote = TakesFront-then (lines_of ends.front.front) (refusal_line refusal) ends.front.takes line;
-}
+-- a listing that stopped, and what was told of that
+pub stopped_report : {a c : Written} (b : Written) (file : List ℕ) (caps : Caps) (parts : ℕ) (stop told : Stop) (before limited after : Counting) (out : Written) → before.asked ≤ 2 ^ 127
+    → Limits before limited caps.limits.budget → before.seen.size ≡ length file → StopSays limited after out (cost file caps.limits.headers caps.name.bytes parts) stop
+    → Stopped a b stop (items file caps.limits.headers caps.name.bytes parts) → TellsStop b c stop told → Reports {X = Unit {0}} file caps parts a c (Err told)
+stopped_report b file caps parts (Refused refusal) told before limited after out small limits sized says ends tells =
+    ended_report file caps parts refusal told before limited after small limits sized says ends tells
+stopped_report b file caps parts (Source cause at) told before limited after out small limits sized says ends tells =
+    rw (tells.0, tells.1) (front_report file caps parts (Source cause at) tt (front_lines _ ends))
+stopped_report b file caps parts (Out cause) told before limited after out small limits sized says ends tells =
+    rw (tells.0, tells.1) (front_report file caps parts (Out cause) tt ends)

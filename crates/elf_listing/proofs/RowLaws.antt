@@ -20,8 +20,8 @@ use Rattle.elf_headers.specs.declared.fault.Fault.TheVariants.{Refused, Source}
 use Rattle.elf_table.specs.declared.names.NameEnd.{NameEnd}
 use Rattle.elf_table.specs.declared.names.NameEnd.TheVariants.{Whole as NameWhole, Cut as NameCut}
 use Rattle.elf_listing.specs.Shows.{WroteItems, Front, EndsRefused, Stopped, Writes, cut_of}
-use Rattle.elf_listing.specs.Stops.{stop_of}
-use Rattle.elf_listing.specs.declared.stop.Stop.{Stop}
+use Rattle.elf_headers.specs.Stops.{stop_of}
+use Rattle.elf_headers.specs.declared.stop.Stop.{Stop}
 
 -- the same items
 pub Writes-as : {X : Type 0} (a b : Written) (result : Result X Stop) {xs ys : List Item} → xs ≡ ys → Writes a b result ys → Writes a b result xs

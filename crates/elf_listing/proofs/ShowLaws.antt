@@ -11,10 +11,10 @@ use Rattle.elf_model.specs.declared.causes.Refusal.{Refusal}
 use Rattle.elf_headers.specs.declared.fault.Fault.{Fault}
 use Rattle.elf_headers.specs.declared.fault.Fault.TheVariants.{Refused as Refuses, Source as Unread}
 use Rattle.elf_model.specs.Listing.{Item, lines_of}
-use Rattle.elf_listing.specs.Stops.{stop_of}
+use Rattle.elf_headers.specs.Stops.{stop_of}
 use Rattle.elf_listing.specs.Shows.{WroteItems, Front, Stopped, Writes, StopSays, IsOfOutput, Costs, Spent}
-use Rattle.elf_listing.specs.declared.stop.Stop.{Stop}
-use Rattle.elf_listing.specs.declared.stop.Stop.TheVariants.{Refused, Source, Out}
+use Rattle.elf_headers.specs.declared.stop.Stop.{Stop}
+use Rattle.elf_headers.specs.declared.stop.Stop.TheVariants.{Refused, Source, Out}
 use Rattle.elf_model.proofs.ListingLemmas.{listings_append}
 use Rattle.elf_listing.proofs.EachLaws.{lines_front}
 

@@ -19,7 +19,7 @@ use Rattle.elf_headers.specs.declared.fault.Fault.{Fault}
 use Rattle.elf_headers.specs.declared.fault.Fault.TheVariants.{Refused}
 use Rattle.elf_table.specs.declared.names.NameEnd.{NameEnd}
 use Rattle.elf_listing.specs.Shows.{Stopped}
-use Rattle.elf_listing.specs.Stops.{stop_of}
+use Rattle.elf_headers.specs.Stops.{stop_of}
 use Rattle.elf_listing.specs.Strings.{FoundAs, ToldRead, told_by, told_name}
 use Rattle.elf_listing.proofs.RowLaws.{Ends-first, Stopped-name}
 

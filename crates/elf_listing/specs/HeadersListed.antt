@@ -11,7 +11,7 @@ use Rattle.elf_listing.specs.Parts.{asked_cost, bit_of, header_cost, header_coun
 use Rattle.elf_listing.specs.Shows.{Lists, Shows}
 use Rattle.elf_listing.specs.declared.listing.Listing.{Listing}
 use Rattle.elf_listing.specs.declared.parts.Part.{Part}
-use Rattle.elf_listing.specs.declared.stop.Stop.{Stop}
+use Rattle.elf_headers.specs.declared.stop.Stop.{Stop}
 
 -- a part of the header of an index
 abbrev pub ListsHeader : {S W X : Type 0} {s : Sources S} {w : Sinks W} → Part → Listing S W s w → Listing S W s w → Result X Stop → ℕ → Type 0

@@ -18,7 +18,7 @@ use Rattle.elf_listing.specs.Strings.{strings_told, AreWithin, AreOf}
 use Rattle.elf_listing.specs.declared.listing.Listing.{Listing}
 use Rattle.elf_listing.specs.declared.rows.Kind.{Kind}
 use Rattle.elf_listing.specs.declared.rows.Kind.TheVariants.{Segments, Symbols, Relocations, Dynamic}
-use Rattle.elf_listing.specs.declared.stop.Stop.{Stop}
+use Rattle.elf_headers.specs.declared.stop.Stop.{Stop}
 
 -- the size of a row in bytes
 abbrev pub row_size : Kind → ℕ

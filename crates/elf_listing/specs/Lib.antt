@@ -6,6 +6,5 @@ pub mod Parts
 pub mod Reports
 pub mod RowCursors
 pub mod Shows
-pub mod Stops
 pub mod Strings
 pub mod Viewed

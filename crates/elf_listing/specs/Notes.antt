@@ -13,7 +13,7 @@ use Rattle.elf_source.specs.declared.sink.Sink.{Ghosts as Sinks}
 use Rattle.elf_table.specs.Tables.{Rows}
 use Rattle.elf_listing.specs.Shows.{Lists, Shows, WroteItems, Writes}
 use Rattle.elf_listing.specs.declared.listing.Listing.{Listing}
-use Rattle.elf_listing.specs.declared.stop.Stop.{Stop}
+use Rattle.elf_headers.specs.declared.stop.Stop.{Stop}
 
 -- a row shows a note: its head, its name as it is shown, the first bytes of its descriptor
 pub record IsNote (cap : ℕ) (note : Note) (row : NoteRow) (name : List ℕ) : Type 0 where

@@ -18,8 +18,8 @@ use Rattle.elf_headers.specs.declared.fault.Fault.{Fault as Failure}
 use Rattle.elf_table.specs.declared.names.NameEnd.{NameEnd}
 use Rattle.elf_table.specs.declared.names.NameEnd.TheVariants.{Whole as NameWhole, Cut as NameCut}
 use Rattle.elf_listing.specs.declared.listing.Listing.{Listing}
-use Rattle.elf_listing.specs.declared.stop.Stop.{Stop}
-use Rattle.elf_listing.specs.declared.stop.Stop.TheVariants.{Refused, Source, Out}
+use Rattle.elf_headers.specs.declared.stop.Stop.{Stop}
+use Rattle.elf_headers.specs.declared.stop.Stop.TheVariants.{Refused, Source, Out}
 
 -- the lines of all items were written, and none is a fault
 pub record WroteItems (old new : Written) (items : List Item) : Type 0 where

@@ -10,16 +10,15 @@ ghost use Rattle.elf_listing.specs.declared.dynamic_row.EntryStrings.TheVariants
 ghost use Rattle.elf_listing.specs.declared.rows.Kind.TheVariants.{Dynamic};
 
 use crate::listing::Listing;
-use crate::relocation_row::refused;
 use crate::row::whole_row;
-use crate::stop::Stop;
+use elf_headers::refused;
 use elf_lines::dynamic_front;
 use elf_names::NameIndex;
 use elf_note::DynStrings;
 use elf_record::numbers::{DT_NEEDED, DT_RPATH, DT_RUNPATH, DT_SONAME};
 use elf_record::{Cause, Dyn};
 use elf_source::{Sink, Source};
-use elf_table::{Fault, NameEnd, Names, Row, SegmentView};
+use elf_table::{Fault, NameEnd, Names, Row, SegmentView, Stop};
 
 /// Where the strings of dynamic entries are looked for.
 #[derive(Clone, Copy)]

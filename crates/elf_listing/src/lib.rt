@@ -3,7 +3,6 @@
 
 mod buffers;
 mod dynamic_row;
-mod end;
 mod headers;
 mod listing;
 mod names;
@@ -16,12 +15,12 @@ mod rows;
 mod sections;
 mod segments;
 mod showing;
-mod stop;
+mod telling;
 
 pub use buffers::FIXED_BYTES;
 pub use elf_lines::{
     cause_word, dynamic_front, note_front, relocation_front, section_front, segment_row, show_note,
     show_refusal, show_steps, show_symbol, show_told, symbol_front,
 };
-pub use end::{End, RunFault};
 pub use showing::show;
+pub use telling::show_stop;

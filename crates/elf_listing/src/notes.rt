@@ -5,11 +5,10 @@ ghost use Rattle.elf_listing.specs.Notes.{ListsNote, ListsNotes};
 
 use crate::listing::Listing;
 use crate::row::is_cut;
-use crate::stop::Stop;
 use elf_lines::show_note;
 use elf_note::{NoteCursor, NoteRow};
 use elf_source::{Sink, Source};
-use elf_table::Table;
+use elf_table::{Stop, Table};
 
 impl<S: Source, W: Sink> Listing<'_, '_, '_, S, W> {
     /// Shows the notes of a table of single bytes, an `N` line each, up to the place where no note

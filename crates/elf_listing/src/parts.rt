@@ -7,10 +7,10 @@ ghost use Rattle.elf_listing.specs.Viewed.{viewed};
 
 use crate::listing::Listing;
 use crate::rows::Kind;
-use crate::stop::Stop;
 use bitflags::Flags;
 use elf_record::Parts;
 use elf_source::{Sink, Source};
+use elf_table::Stop;
 
 /// A part of a listing that goes through the headers in the store: through the section headers, or
 /// through the program headers of a file that has none.

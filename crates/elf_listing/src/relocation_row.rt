@@ -1,5 +1,5 @@
 //! The row of a relocation entry, shown.
-ghost use Rattle.std.specs.Prelude.{◌≡◌, Err, IfSome};
+ghost use Rattle.std.specs.Prelude.{IfSome};
 ghost use Rattle.elf_table.specs.Tables.{SymbolsWithin};
 ghost use Rattle.elf_listing.specs.Fetched.{FetchesSymbol};
 ghost use Rattle.elf_listing.specs.Kinds.{ListsRow, RowFits};
@@ -7,12 +7,12 @@ ghost use Rattle.elf_listing.specs.declared.rows.Kind.TheVariants.{Relocations};
 
 use crate::listing::Listing;
 use crate::row::whole_row;
-use crate::stop::Stop;
+use elf_headers::refused;
 use elf_lines::relocation_front;
 use elf_names::NameIndex;
-use elf_record::{Cause, Refusal, Rela};
+use elf_record::{Cause, Rela};
 use elf_source::{Sink, Source};
-use elf_table::{Fault, NameEnd, Names, Row, Table};
+use elf_table::{Fault, NameEnd, Names, Row, Stop, Table};
 
 /// Symbols with the string table of their names.
 type Linked = Option<(Table, Names)>;
@@ -63,11 +63,4 @@ impl<S: Source, W: Sink> Listing<'_, '_, '_, S, W> {
             at: symbols.place(index),
         })
     }
-}
-
-/// The refusal for a cause at a file offset.
-pub(crate) fn refused<T>(at: u64, cause: Cause) -> Result<T, Fault>
-    ensures { result ≡ Err (Fault.Refused (record { at = at; cause = cause })) }
-{
-    Err(Fault::Refused(Refusal { at, cause }))
 }

@@ -5,12 +5,11 @@ ghost use Rattle.elf_listing.specs.Shows.{ListsLine, cut_of};
 ghost use Rattle.elf_listing.specs.declared.rows.Kind.TheVariants.{Segments, Symbols};
 
 use crate::listing::Listing;
-use crate::stop::Stop;
 use elf_lines::{Line, segment_row, show_named, symbol_front};
 use elf_names::NameIndex;
 use elf_record::{Phdr, Sym};
 use elf_source::{Sink, Source};
-use elf_table::{NameEnd, Names, Row};
+use elf_table::{NameEnd, Names, Row, Stop};
 
 impl<S: Source, W: Sink> Listing<'_, '_, '_, S, W> {
     /// Shows the row of a program header: its `P` line.

@@ -4,9 +4,8 @@ ghost use Rattle.elf_listing.specs.Kinds.{IsTableOf, ListsRow, ListsRows, RowFit
 use crate::dynamic_row::EntryStrings;
 use crate::listing::Listing;
 use crate::row_cursor::RowCursor;
-use crate::stop::Stop;
 use elf_source::{Sink, Source};
-use elf_table::{Names, Row, Table};
+use elf_table::{Names, Row, Stop, Table};
 
 /// What the rows of a table are listed as.
 #[derive(Clone, Copy)]

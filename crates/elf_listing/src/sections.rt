@@ -8,12 +8,11 @@ ghost use Rattle.elf_listing.specs.declared.parts.Part.TheVariants.{SectionNotes
 use crate::dynamic_row::EntryStrings;
 use crate::listing::Listing;
 use crate::rows::Kind;
-use crate::stop::Stop;
 use elf_lines::section_front;
 use elf_record::numbers::{SHT_DYNAMIC, SHT_NOTE, SHT_RELA};
 use elf_record::sizes::DYNAMIC_BYTES;
 use elf_source::{Sink, Source};
-use elf_table::holds_symbols;
+use elf_table::{Stop, holds_symbols};
 
 impl<S: Source, W: Sink> Listing<'_, '_, '_, S, W> {
     /// Shows the row of a section header: its `S` line with its name, or the name's refusal at the

@@ -7,12 +7,11 @@ ghost use Rattle.elf_listing.specs.declared.parts.Part.TheVariants.{SegmentDynam
 use crate::dynamic_row::EntryStrings;
 use crate::listing::Listing;
 use crate::rows::Kind;
-use crate::stop::Stop;
 use elf_lines::segment_row;
 use elf_note::dynamic_strings;
 use elf_record::numbers::{PT_DYNAMIC, PT_NOTE};
 use elf_source::{Sink, Source};
-use elf_table::SegmentView;
+use elf_table::{SegmentView, Stop};
 
 impl<'f, S: Source, W: Sink> Listing<'_, '_, 'f, S, W> {
     /// The file with its program headers, where they are loaded.

@@ -19,15 +19,14 @@ ghost use Rattle.elf_headers.specs.Store.{HoldsSegments};
 ghost use Rattle.elf_listing.specs.Reports.{Reports, FaultSays, AsksWithin, Leaves};
 ghost use Rattle.elf_listing.specs.Shows.{Costs, IsOfOutput, Writes};
 
-use crate::end::{End, RunFault};
 use crate::listing::Listing;
-use crate::stop::Stop;
+use crate::telling::show_stop;
 use bitflags::Flags;
-use elf_lines::{header_row, show_refusal};
+use elf_lines::header_row;
 use elf_names::ReadAhead;
 use elf_record::{Ehdr, Parts};
 use elf_source::{Counted, Out, Sink, Source};
-use elf_table::{Cap, Caps, Fault, File, HeaderStore, Loaded, NameBuf, header, load};
+use elf_table::{Cap, Caps, Fault, File, HeaderStore, Loaded, NameBuf, Stop, header, load};
 
 /// All parts but the file header's.
 const TABLES: Parts = Parts(126);
@@ -42,16 +41,17 @@ const TABLES: Parts = Parts(126);
 /// afterwards no limit is set.
 ///
 /// # Errors
-/// A fault of the source, with the offset that was asked for, or of the output, with the number of
-/// bytes that it took. What went out is a front of the listing, and the store may be loaded again.
+/// A refusal of the file, or for want of budget: its line was written, as the last one. A fault of
+/// the source, with the offset that was asked for, or of the output, with the number of bytes that
+/// it took: what went out is a front of the listing. The store may be loaded again.
 pub fn show<S: Source, W: Sink>(
     src: &mut Counted<S>,
     store: &mut HeaderStore,
     caps: Caps,
     parts: Parts,
     out: &mut Out<W>,
-) -> Result<End, RunFault>
-    requires { (store.old.slots ≡ caps.headers) × (src.old.asked ≤ 2 ^ 127) }
+) -> Result<(), Stop>
+    requires { (store.old.slots ≡ caps.limits.headers) × (src.old.asked ≤ 2 ^ 127) }
     ensures slots { store.new.slots ≡ store.old.slots }
     ensures grows { Grows out.old out.new }
     ensures leaves { Leaves src.old src.new }
@@ -59,21 +59,16 @@ pub fn show<S: Source, W: Sink>(
     ensures text { (file : List ℕ) → src.old.seen.file ≡ Some file →
         Reports file caps parts.0 out.old out.new result }
     ensures cost { (file : List ℕ) → src.old.seen.file ≡ Some file →
-        src.new.asked ≤ src.old.asked + cost file caps.headers caps.name.bytes parts.0 }
+        src.new.asked ≤ src.old.asked + cost file caps.limits.headers caps.name.bytes parts.0 }
     // For every source.
     ensures asks { AsksWithin caps parts.0 src.old src.new result }
 {
-    src.limit(caps.budget);
-    let end = list(src, store, caps.name, parts, out);
+    src.limit(caps.limits.budget);
+    let listed = list(src, store, caps.name, parts, out);
     src.limit(None);
-    match end {
-        Ok(()) => Ok(End::Listed),
-        Err(Stop::Refused(refusal)) => match show_refusal(refusal, out) {
-            Ok(()) => Ok(End::Refused(refusal)),
-            Err(fault) => Err(RunFault::Out(fault)),
-        },
-        Err(Stop::Source { fault, at }) => Err(RunFault::Source { fault, at }),
-        Err(Stop::Out(fault)) => Err(RunFault::Out(fault)),
+    match listed {
+        Ok(()) => Ok(()),
+        Err(stop) => Err(show_stop(stop, out)),
     }
 }
 

@@ -8,9 +8,9 @@ use elf_fixtures::{
     hash_with_cycle, library_without_sections, needed_library, note_segment, one_call,
     one_symbol_table, overlapping_relocations, tables_over_headers, with_bytes,
 };
-use elf_listing::{End, show};
+use elf_listing::show;
 use elf_record::Parts;
-use elf_run::run;
+use elf_run::{outcome, run};
 use elf_source::{Counted, Out, WriteSink};
 use elf_table::{Caps, HeaderStore};
 use elf_words::{Request, Task};
@@ -31,19 +31,24 @@ pub(crate) fn listed(
     let mut store = HeaderStore::new(rt.alloc(), caps.headers())?;
     let request = Request {
         file: None,
-        caps,
-        task: Task::Show(parts),
+        limits: caps.limits,
+        task: Task::Show {
+            parts,
+            name: caps.name,
+        },
     };
     let mut src = Counted::new(Planned::new(file, 0));
     let mut out = Out::new(WriteSink::new(Vec::new(rt.alloc())));
-    let status = run(&request, &mut src, &mut store, &mut out)?;
+    let answer = run(&request, &mut src, &mut store, &mut out);
+    let (status, line) = outcome(&answer);
+    assert!(rt; line.is_empty());
     let mut again = Out::new(WriteSink::new(Vec::new(rt.alloc())));
     assert!(rt; src.left() == None);
     let planned = src.into_inner();
     assert!(rt; planned.largest <= 4096);
     let mut src = Counted::new(Planned::new(file, 0));
-    let end = show(&mut src, &mut store, caps, parts, &mut again)?;
-    assert!(rt; (end == End::Listed) == (status == 0));
+    let end = show(&mut src, &mut store, caps, parts, &mut again);
+    assert!(rt; end.is_ok() == (status == 0) && end.err() == answer.err());
     let text = out.into_inner().into_inner();
     assert!(rt; again.into_inner().into_inner() == text);
     assert!(rt; src.left() == None);

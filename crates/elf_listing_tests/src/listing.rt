@@ -6,11 +6,10 @@ use elf_fixtures::{
     hash_with_cycle, named_section, one_call, one_load, one_symbol_table, overlapping_relocations,
     tables_over_headers, with_bytes,
 };
-use elf_listing::RunFault;
 use elf_record::Parts;
-use elf_run::run;
+use elf_run::{outcome, run};
 use elf_source::{Counted, MemorySource, Out, SliceSink, SourceFault};
-use elf_table::{Caps, HeaderStore};
+use elf_table::{Caps, HeaderStore, Stop};
 use elf_words::{Request, Task};
 use std::process::Abort;
 use std::test::Fail;
@@ -51,10 +50,14 @@ fn check_listing(
     let mut out = Out::new(SliceSink::new(&mut buffer));
     let request = Request {
         file: None,
-        caps,
-        task: Task::Show(parts),
+        limits: caps.limits,
+        task: Task::Show {
+            parts,
+            name: caps.name,
+        },
     };
-    assert!(rt; run(&request, &mut src, &mut store, &mut out) == Ok(status));
+    let answer = run(&request, &mut src, &mut store, &mut out);
+    assert!(rt; outcome(&answer) == (status, ""));
     assert!(rt; src.asked() <= cost);
     check_text(rt, out.into_inner().written(), text);
     Ok(())
@@ -192,8 +195,11 @@ fn tables_may_overlap_the_section_headers(rt: HostRuntime) -> Result<(), Fail> {
     let parts = Parts::SYMBOLS;
     let request = Request {
         file: None,
-        caps,
-        task: Task::Show(parts),
+        limits: caps.limits,
+        task: Task::Show {
+            parts,
+            name: caps.name,
+        },
     };
     assert!(rt; run(&request, &mut src, &mut store, &mut out) == Ok(0));
     assert!(rt; src.asked() <= 3552);
@@ -266,8 +272,11 @@ fn check_cost(
     let parts = LISTED;
     let request = Request {
         file: None,
-        caps,
-        task: Task::Show(parts),
+        limits: caps.limits,
+        task: Task::Show {
+            parts,
+            name: caps.name,
+        },
     };
     assert!(rt; run(&request, &mut src, &mut store, &mut out) == Ok(0));
     assert!(rt; src.asked() <= cost);
@@ -292,12 +301,15 @@ fn a_fault_leaves_the_lines_before_it(rt: HostRuntime) -> Result<(), Fail> {
     let parts = LISTED;
     let request = Request {
         file: None,
-        caps,
-        task: Task::Show(parts),
+        limits: caps.limits,
+        task: Task::Show {
+            parts,
+            name: caps.name,
+        },
     };
     let answer = run(&request, &mut src, &mut store, &mut out);
     let fault = SourceFault::Device;
-    assert!(rt; answer == Err(RunFault::Source { fault, at: 0x70 }));
+    assert!(rt; answer == Err(Stop::Source { fault, at: 0x70 }));
     check_text(&rt, out.into_inner().written(), &[HEADER, SECTIONS]);
     assert!(rt; src.into_inner().reads == 4);
     Ok(())

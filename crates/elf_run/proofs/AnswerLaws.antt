@@ -1,19 +1,21 @@
 -- What a listing's report is as the answer of a run.
-use Rattle.std.proofs.Common.{◌≡◌, ◌⊎◌, ℕ, List, ◌++◌, Option, None, Some, Ok, Err, ap, sym, ◌∙◌, inl, inr, refl}
+use Rattle.std.proofs.Common.{◌≡◌, ℕ, ◌+◌, ◌≤◌, List, ◌++◌, Option, None, Some, Result, Ok, Err, ap, sym, ◌∙◌, inl, inr, refl}
+use Rattle.std.specs.Prelude.{IfErr}
 use Rattle.elf_model.specs.Answer.{Answer, IsShown, status_of, show_answer}
 use Rattle.elf_model.specs.Budget.{IsBudget, IsBudgeted, IsReport}
-use Rattle.elf_model.specs.Lines.{refusal_line}
-use Rattle.elf_model.specs.Listing.{lines_of}
+use Rattle.elf_model.specs.Cost.{cost}
+use Rattle.elf_model.specs.Listing.{Item, end_text, lines_of}
 use Rattle.elf_model.specs.Report.{items, report}
-use Rattle.elf_model.specs.declared.causes.Cause.TheVariants.{Budget}
 use Rattle.elf_model.specs.declared.causes.Refusal.{Refusal}
+use Rattle.elf_source.specs.Growth.{Grows}
 use Rattle.elf_source.specs.Source.{Counting}
 use Rattle.elf_source.specs.Output.{Written}
-use Rattle.elf_listing.specs.Reports.{Reports, AsksWithin}
-use Rattle.elf_listing.specs.declared.end.End.TheVariants.{Listed, Refused}
-use Rattle.elf_listing.specs.declared.end.RunFault.{RunFault}
 use Rattle.elf_headers.specs.declared.caps.Caps.{Caps}
-use Rattle.elf_run.specs.Answers.{Answers, IsUsedUp, EndsAt}
+use Rattle.elf_headers.specs.declared.stop.Stop.{Stop}
+use Rattle.elf_headers.specs.declared.stop.Stop.TheVariants.{Refused, Source, Out}
+use Rattle.elf_listing.specs.Reports.{Reports, AsksWithin, FaultSays, Leaves, Wrote}
+use Rattle.elf_run.specs.Answers.{EndsIn, WholeOrUsedUp, WroteAnswer}
+use Rattle.elf_run.specs.Requests.{RunsShow}
 
 abbrev answer_of : List ℕ → Option Refusal → Answer
 answer_of text fault = record { text = text; status = status_of fault }
@@ -23,67 +25,77 @@ report_shown : (file : List ℕ) (headers cap parts : ℕ) (text : List ℕ) (fa
 report_shown file headers cap parts text fault is =
     ap (λ t. answer_of t fault) is.text_is ∙ ap (λ f. answer_of (report file headers cap parts) f) is.fault_is
 
--- what is listed is the text of the answer, and its fault tells the status
-listed_shown : (budget : Option ℕ) (file : List ℕ) (headers cap parts : ℕ) (text : List ℕ) (fault : Option Refusal) → IsBudgeted budget file headers cap parts text fault
-    → IsShown budget file headers cap parts (answer_of text fault)
-listed_shown budget file headers cap parts text fault is = record { fault = fault; listed = is; status_is = refl }
+-- a report whose fault is not for want of budget is the whole answer
+whole_report : (budget : Option ℕ) (file : List ℕ) (headers cap parts : ℕ) (text : List ℕ) (fault : Option Refusal) → IsBudgeted budget file headers cap parts text fault
+    → ((refusal : Refusal) → fault ≡ Some refusal → IsBudget refusal → ⊥) → answer_of text fault ≡ show_answer file headers cap parts
+whole_report None file headers cap parts text fault is other = report_shown file headers cap parts text fault is
+whole_report (Some budget) file headers cap parts text fault (inl is) other = report_shown file headers cap parts text fault is
+whole_report (Some budget) file headers cap parts text fault (inr is) other = absurd (other is.1.refusal is.1.fault_is is.1.for_budget)
 
--- a text is cut short by a refusal for want of budget, whose line is its last
-abbrev IsCutAt : List ℕ → Option Refusal → Refusal → Type 0
-IsCutAt text fault refusal = (fault ≡ Some refusal) × IsBudget refusal × ((lines : List ℕ) × (text ≡ lines ++ refusal_line refusal))
+-- the line of its fault ends a report
+report_ends : (all : List Item) (text : List ℕ) (fault : Option Refusal) (refusal : Refusal) → Some refusal ≡ fault → IsReport all text fault → EndsIn refusal text
+report_ends all text fault refusal some is = (lines_of all, is.text_is ∙ ap (λ end. lines_of all ++ end_text end) (sym (some ∙ is.fault_is)))
 
--- an answer within a budget is the whole one, or it is cut short
-whole_or_cut : (budget : Option ℕ) (file : List ℕ) (headers cap parts : ℕ) (text : List ℕ) (fault : Option Refusal) → IsBudgeted budget file headers cap parts text fault
-    → (answer_of text fault ≡ show_answer file headers cap parts) ⊎ ((refusal : Refusal) × IsCutAt text fault refusal)
-whole_or_cut None file headers cap parts text fault is = inl (report_shown file headers cap parts text fault is)
-whole_or_cut (Some budget) file headers cap parts text fault (inl is) = inl (report_shown file headers cap parts text fault is)
-whole_or_cut (Some budget) file headers cap parts text fault (inr is) = inr (is.1.refusal, (is.1.fault_is, is.1.for_budget, (lines_of is.1.front, is.1.text_is)))
+ends_in : (budget : Option ℕ) (file : List ℕ) (headers cap parts : ℕ) (text : List ℕ) (fault : Option Refusal) (refusal : Refusal) → Some refusal ≡ fault
+    → IsBudgeted budget file headers cap parts text fault → EndsIn refusal text
+ends_in None file headers cap parts text fault refusal some is = report_ends (items file headers cap parts) text fault refusal some is
+ends_in (Some budget) file headers cap parts text fault refusal some (inl is) = report_ends (items file headers cap parts) text fault refusal some is
+ends_in (Some budget) file headers cap parts text fault refusal some (inr is) =
+    let same : is.1.refusal ≡ refusal = let two = some ∙ is.1.fault_is in cc in (lines_of is.1.front, rw same at is.1.text_is)
 
-some_same : (one other : Refusal) → Some one ≡ Some other → one ≡ other
-some_same one other is = cc
+-- what a task answers that lists
+abbrev pub listed_status : Result (Unit {0}) Stop → Result ℕ Stop
+listed_status (Ok x) = Ok 0
+listed_status (Err stop) = Err stop
 
-no_cut : (fault : Option Refusal) (refusal : Refusal) → None ≡ fault → fault ≡ Some refusal → ⊥
-no_cut fault refusal none some = cc
+module _ (file : List ℕ) (caps : Caps) (parts : ℕ) (s t : Counting) (a b : Written) (text : List ℕ) (fault : Option Refusal)
+    (is : IsBudgeted caps.limits.budget file caps.limits.headers caps.name.bytes parts text fault) where
+  wrote_as : (result : Result (Unit {0}) Stop) → Wrote a b result text fault → WroteAnswer a b (listed_status result) (answer_of text fault)
+  wrote_as (Ok x) wrote = (wrote.0, ap status_of wrote.1)
+  wrote_as (Err (Refused refusal)) wrote =
+      (wrote.0, ap status_of wrote.1, ends_in caps.limits.budget file caps.limits.headers caps.name.bytes parts text fault refusal wrote.1 is)
+  wrote_as (Err (Source cause at)) wrote = wrote
+  wrote_as (Err (Out cause)) wrote = wrote
 
-listed_whole : {A : Type 0} (text : List ℕ) (fault : Option Refusal) → None ≡ fault → A ⊎ ((refusal : Refusal) × IsCutAt text fault refusal) → A
-listed_whole text fault none (inl whole) = whole
-listed_whole text fault none (inr (refusal, cut)) = absurd (no_cut fault refusal none cut.0)
+  whole_or_used : (result : Result (Unit {0}) Stop) → Wrote a b result text fault → AsksWithin caps parts s t result
+      → WholeOrUsedUp caps.limits.budget s t (listed_status result) (show_answer file caps.limits.headers caps.name.bytes parts) (answer_of text fault)
+  whole_or_used (Ok x) wrote asks =
+      whole_report caps.limits.budget file caps.limits.headers caps.name.bytes parts text fault is (λ refusal some budget. let none = wrote.1 in cc)
+  whole_or_used (Err (Refused refusal)) wrote asks = (
+    λ budget. (asks.late refusal refl budget, asks.place refusal refl budget),
+    λ other. whole_report caps.limits.budget file caps.limits.headers caps.name.bytes parts text fault is (λ same some budget.
+        let one : same ≡ refusal = let two = wrote.1 in cc in other (ap (λ (r : Refusal). r.cause) (sym one) ∙ budget)),
+  )
+  whole_or_used (Err (Source cause at)) wrote asks = tt
+  whole_or_used (Err (Out cause)) wrote asks = tt
 
--- the line of a refusal for want of budget, by its offset
-pub budget_line : (refusal : Refusal) (at : ℕ) → IsBudget refusal → refusal.at ≡ at → refusal ≡ record { at = at; cause = Budget }
-budget_line refusal at budget place = rw (budget, place) refl
+-- what is asked for, and what a fault says, are those of the listing
+asks_as : {s t : Counting} (caps : Caps) (parts : ℕ) (result : Result (Unit {0}) Stop) → AsksWithin caps parts s t result → AsksWithin caps parts s t (listed_status result)
+asks_as caps parts (Ok x) asks =
+    record { ceiling = asks.ceiling; unread = asks.unread; alone = asks.alone; budget = asks.budget; late = λ refusal is. cc; place = λ refusal is. cc }
+asks_as caps parts (Err stop) asks =
+    record { ceiling = asks.ceiling; unread = asks.unread; alone = asks.alone; budget = asks.budget; late = λ refusal is. asks.late refusal cc; place = λ refusal is. asks.place refusal cc }
 
-refused_used : {A : Type 0} {a b : Counting} (caps : Caps) (parts : ℕ) (refusal : Refusal) (text : List ℕ) (fault : Option Refusal) → AsksWithin caps parts a b (Ok (Refused refusal)) → Some refusal ≡ fault
-    → A ⊎ ((other : Refusal) × IsCutAt text fault other) → A ⊎ (IsUsedUp caps a b × EndsAt b.stopped text)
-refused_used caps parts refusal text fault asks is (inl whole) = inl whole
-refused_used {b = b} caps parts refusal text fault asks is (inr (other, cut)) =
-    let same = some_same refusal other (is ∙ cut.0) in
-    let budget = ap (λ (r : Refusal). r.cause) same ∙ cut.1 in
-    let line = budget_line other b.stopped cut.1 (ap (λ (r : Refusal). r.at) (sym same) ∙ asks.place refusal refl budget) in
-    inr (asks.late refusal refl budget, (cut.2.0, cut.2.1 ∙ ap (λ r. cut.2.0 ++ refusal_line r) line))
+says_as : (s t : Counting) (out : Written) (result : Result (Unit {0}) Stop) → IfErr result (FaultSays s t out) → IfErr (listed_status result) (FaultSays s t out)
+says_as s t out (Ok x) says = says
+says_as s t out (Err stop) says = says
 
-pub listed_answer : {s t : Counting} {a b : Written} (file : List ℕ) (caps : Caps) (parts : ℕ) → Reports file caps parts a b (Ok Listed) → Answers file caps parts s t a b (Ok 0)
-listed_answer file caps parts reports = record {
-  answer = answer_of reports.text reports.fault;
-  shown = listed_shown caps.budget file caps.headers caps.name.bytes parts reports.text reports.fault reports.listed;
-  wrote = (reports.wrote.0, ap status_of reports.wrote.1);
-  used = inl (listed_whole reports.text reports.fault reports.wrote.1 (whole_or_cut caps.budget file caps.headers caps.name.bytes parts reports.text reports.fault reports.listed));
-}
-
-pub refused_answer : {s t : Counting} {a b : Written} (file : List ℕ) (caps : Caps) (parts : ℕ) (refusal : Refusal) → AsksWithin caps parts s t (Ok (Refused refusal))
-    → Reports file caps parts a b (Ok (Refused refusal)) → Answers file caps parts s t a b (Ok 1)
-refused_answer file caps parts refusal asks reports = record {
-  answer = answer_of reports.text reports.fault;
-  shown = listed_shown caps.budget file caps.headers caps.name.bytes parts reports.text reports.fault reports.listed;
-  wrote = (reports.wrote.0, ap status_of reports.wrote.1);
-  used = refused_used caps parts refusal reports.text reports.fault asks reports.wrote.1
-      (whole_or_cut caps.budget file caps.headers caps.name.bytes parts reports.text reports.fault reports.listed);
-}
-
-pub stopped_answer : {s t : Counting} {a b : Written} (file : List ℕ) (caps : Caps) (parts : ℕ) (fault : RunFault) → Reports file caps parts a b (Err fault) → Answers file caps parts s t a b (Err fault)
-stopped_answer file caps parts fault reports = record {
-  answer = answer_of reports.text reports.fault;
-  shown = listed_shown caps.budget file caps.headers caps.name.bytes parts reports.text reports.fault reports.listed;
-  wrote = reports.wrote;
-  used = tt;
+-- a listing, as a task
+pub show_runs : {s t : Counting} {a b : Written} (caps : Caps) (parts : ℕ) (result : Result (Unit {0}) Stop) → Grows a b → Leaves s t → IfErr result (FaultSays s t b)
+    → AsksWithin caps parts s t result → ((file : List ℕ) → s.seen.file ≡ Some file → t.asked ≤ s.asked + cost file caps.limits.headers caps.name.bytes parts)
+    → ((file : List ℕ) → s.seen.file ≡ Some file → Reports file caps parts a b result) → RunsShow caps parts s t a b (listed_status result)
+show_runs {s} {t} {a} {b} caps parts result grows leaves says asks costs reports = record {
+  grows = grows;
+  leaves = leaves;
+  says = says_as s t b result says;
+  asks = asks_as caps parts result asks;
+  cost = costs;
+  text = λ file held.
+      let it = reports file held in
+      record {
+        answer = answer_of it.text it.fault;
+        permitted = record { fault = it.fault; listed = it.listed; status_is = refl };
+        wrote = wrote_as file caps parts s t a b it.text it.fault it.listed result it.wrote;
+        holds = whole_or_used file caps parts s t a b it.text it.fault it.listed result it.wrote asks;
+      };
 }

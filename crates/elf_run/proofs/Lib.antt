@@ -1,3 +1,2 @@
 pub mod AnswerLaws
-pub mod BudgetLaws
-pub mod FrontLaws
+pub mod TaskLaws

@@ -1,32 +1,66 @@
--- What a request gives, and what it asks for.
-use Rattle.std.specs.Prelude.{ℕ, List, length, Result}
-use Rattle.elf_model.specs.Cost.{cost}
+-- What a request does: what it gives of a file, what it costs, and what it asks for.
+use Rattle.std.specs.Prelude.{ℕ, ◌≡◌, ◌≤◌, ◌+◌, ⊤, List, length, Option, Some, Result, IfErr, IfSome}
+use Rattle.elf_model.specs.Answer.{IsShown, show_answer}
 use Rattle.elf_model.specs.ApplyCost.{apply_cost_by_order}
+use Rattle.elf_model.specs.Cost.{cost}
 use Rattle.elf_model.specs.Find.{find_cost}
+use Rattle.elf_model.specs.FindApplyAnswer.{IsAnswered, apply_answer, find_answer}
+use Rattle.elf_model.specs.Placing.{Layout}
+use Rattle.elf_source.specs.Growth.{Grows}
 use Rattle.elf_source.specs.Source.{Counting}
 use Rattle.elf_source.specs.Output.{Written}
 use Rattle.elf_headers.specs.declared.caps.Caps.{Caps}
+use Rattle.elf_headers.specs.declared.caps.Limits.{Limits}
+use Rattle.elf_headers.specs.declared.stop.Stop.{Stop}
 use Rattle.elf_hash.specs.Lookups.{find_bytes}
 use Rattle.elf_apply.specs.Applied.{apply_ceiling}
-use Rattle.elf_listing.specs.declared.end.RunFault.{RunFault}
+use Rattle.elf_listing.specs.Reports.{AsksWithin, FaultSays, Leaves}
 use Rattle.elf_words.specs.declared.requests.Task.{Task}
 use Rattle.elf_words.specs.declared.requests.Task.TheVariants.{Show, Find, Apply}
-use Rattle.elf_run.specs.Answers.{Answers, GivesSection, GivesLookup, AsksAs, AsksUpTo}
+use Rattle.elf_run.specs.Answers.{Answers, WholeOrUsedUp}
 
--- THE ANSWER: what a task gives of a file
-abbrev pub GivesAnswer : List ℕ → Caps → Task → Counting → Counting → Written → Written → Result ℕ RunFault → Type 0
-GivesAnswer file caps (Show parts) before after old new result = Answers file caps parts.0 before after old new result
-GivesAnswer file caps (Find wanted) before after old new result = GivesLookup file caps wanted.bytes.now before after old new result
-GivesAnswer file caps (Apply section layout) before after old new result = GivesSection file caps section layout.now old new result
+-- no more is asked for than n bytes, and than the budget
+pub record AsksUpTo (budget : Option ℕ) (old new : Counting) (n : ℕ) : Type 0 where
+  pub most : new.asked ≤ old.asked + n
+  pub within : IfSome budget (λ bytes. new.asked ≤ old.asked + bytes)
 
--- what a task costs
-abbrev pub task_cost : List ℕ → Caps → Task → ℕ
-task_cost file caps (Show parts) = cost file caps.headers caps.name.bytes parts.0
-task_cost file caps (Find wanted) = find_cost file caps.headers wanted.bytes.now
-task_cost file caps (Apply section layout) = apply_cost_by_order file caps.headers section layout.now
+-- WHAT A TASK DID. For every source: what was written stays, the source is kept and no limit is left, a fault says what is so,
+-- and this is asked for. Where the file is known: it gives this of it, and asks for no more than this costs
+pub record Runs (old new : Counting) (before after : Written) (result : Result ℕ Stop) (Asks : Type 0) (costs : List ℕ → ℕ) (Gives : List ℕ → Type 0) : Type 0 where
+  pub grows : Grows before after
+  pub leaves : Leaves old new
+  pub says : IfErr result (FaultSays old new after)
+  pub asks : Asks
+  pub cost : (file : List ℕ) → old.seen.file ≡ Some file → new.asked ≤ old.asked + costs file
+  pub text : (file : List ℕ) → old.seen.file ≡ Some file → Gives file
 
--- WHAT IS ASKED FOR, for every source
-abbrev pub AsksFor : Caps → Task → Counting → Counting → Result ℕ RunFault → Type 0
-AsksFor caps (Show parts) old new result = AsksAs caps parts.0 old new result
-AsksFor caps (Find wanted) old new result = AsksUpTo caps old new (find_bytes old.seen.size caps.headers (length wanted.bytes.now))
-AsksFor caps (Apply section layout) old new result = AsksUpTo caps old new (apply_ceiling old.seen.size caps.headers layout.now)
+-- a listing, by its caps and its parts
+abbrev pub RunsShow : Caps → ℕ → Counting → Counting → Written → Written → Result ℕ Stop → Type 0
+RunsShow caps parts old new before after result =
+    Runs old new before after result (AsksWithin caps parts old new result) (λ file. cost file caps.limits.headers caps.name.bytes parts)
+    (λ file. Answers before after result (IsShown caps.limits.budget file caps.limits.headers caps.name.bytes parts)
+    (WholeOrUsedUp caps.limits.budget old new result (show_answer file caps.limits.headers caps.name.bytes parts)))
+
+-- a lookup of a name
+abbrev pub RunsFind : Limits → List ℕ → Counting → Counting → Written → Written → Result ℕ Stop → Type 0
+RunsFind limits wanted old new before after result =
+    Runs old new before after result (AsksUpTo limits.budget old new (find_bytes old.seen.size limits.headers (length wanted)))
+    (λ file. find_cost file limits.headers wanted)
+    (λ file. Answers before after result
+    (IsAnswered limits.budget (length file) (find_cost file limits.headers wanted) (find_answer file limits.headers wanted))
+    (WholeOrUsedUp limits.budget old new result (find_answer file limits.headers wanted)))
+
+-- a section with its relocations applied
+abbrev pub RunsApply : Limits → ℕ → Layout → Counting → Counting → Written → Written → Result ℕ Stop → Type 0
+RunsApply limits section layout old new before after result =
+    Runs old new before after result (AsksUpTo limits.budget old new (apply_ceiling old.seen.size limits.headers layout))
+    (λ file. apply_cost_by_order file limits.headers section layout)
+    (λ file. Answers before after result
+    (IsAnswered limits.budget (length file) (apply_cost_by_order file limits.headers section layout) (apply_answer file limits.headers section layout))
+    (λ answer. ⊤))
+
+-- a task, within its limits
+abbrev pub RunsTask : Limits → Task → Counting → Counting → Written → Written → Result ℕ Stop → Type 0
+RunsTask limits (Show parts name) old new before after result = RunsShow (record { limits = limits; name = name }) parts.0 old new before after result
+RunsTask limits (Find wanted) old new before after result = RunsFind limits wanted.bytes.now old new before after result
+RunsTask limits (Apply section layout) old new before after result = RunsApply limits section layout.now old new before after result

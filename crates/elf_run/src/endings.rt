@@ -2,7 +2,7 @@
 ghost use Rattle.std.specs.Prelude.{◌≡◌};
 ghost use Rattle.elf_run.specs.Answers.{exit_status, error_line, refused_status, refused_line};
 
-use elf_listing::RunFault;
+use elf_table::Stop;
 use elf_words::RequestFault;
 
 /// An exit status, and a line for standard error, which is empty where there is nothing to say.
@@ -35,15 +35,17 @@ pub const READ_FAULT: Ending = (3, "elfsee: read fault");
 /// The output can't be written.
 pub const WRITE_FAULT: Ending = (3, "elfsee: write fault");
 
-/// The exit status of a run, and its line on standard error, which is empty for a status of 0 or 1.
-pub fn outcome(answer: &Result<u8, RunFault>) -> Ending
+/// The exit status of a run, which is 1 for a refusal, and its line on standard error, which is empty
+/// for a status of 0 or 1.
+pub fn outcome(answer: &Result<u8, Stop>) -> Ending
     ensures status { result.0 ≡ exit_status answer.now }
     ensures line { result.1.now ≡ error_line answer.now }
 {
     match answer {
         Ok(status) => (*status, ""),
-        Err(RunFault::Source { .. }) => READ_FAULT,
-        Err(RunFault::Out(_)) => WRITE_FAULT,
+        Err(Stop::Refused(_)) => (1, ""),
+        Err(Stop::Source { .. }) => READ_FAULT,
+        Err(Stop::Out(_)) => WRITE_FAULT,
     }
 }
 

@@ -1,60 +1,44 @@
 //! A name looked up.
-ghost use Rattle.std.specs.Prelude.{◌≡◌, ◌+◌, ◌^◌, ◌≤◌, ℕ, List, length, Some, IfErr};
-ghost use Rattle.elf_hash.specs.Lookups.{AnswersLookup as Looks, find_bytes};
-ghost use Rattle.elf_model.specs.Find.{find_cost};
+ghost use Rattle.std.specs.Prelude.{◌≡◌, ◌^◌, ◌≤◌, ℕ, List, length, IfErr};
+ghost use Rattle.elf_hash.specs.Lookups.{AnswersLookup as Looks};
 ghost use Rattle.elf_model.specs.Hash.{Lookup as Looked};
 ghost use Rattle.elf_source.specs.Growth.{Grows};
-ghost use Rattle.elf_source.specs.Output.{OutFails};
-ghost use Rattle.elf_listing.specs.Reports.{FaultSays, Leaves};
-ghost use Rattle.elf_run.specs.Answers.{GivesLookup, AsksUpTo};
-ghost use Rattle.elf_run.specs.Lookups.{WroteLines, lookup_answer};
+ghost use Rattle.elf_listing.specs.Shows.{IsOfOutput};
+ghost use Rattle.elf_run.specs.Answers.{WroteAnswer};
+ghost use Rattle.elf_run.specs.Lookups.{lookup_answer};
+ghost use Rattle.elf_run.specs.Requests.{RunsFind};
 
 use elf_hash::{Lookup, find};
-use elf_listing::{RunFault, show_refusal, show_steps, show_symbol};
-use elf_source::{Counted, Out, OutFault, Sink, Source};
-use elf_table::{Caps, Fault, HeaderStore};
+use elf_listing::{show_steps, show_stop, show_symbol};
+use elf_source::{Counted, Out, Sink, Source};
+use elf_table::{HeaderStore, Limits, Stop};
 
 /// Looks a name up in a file by its hash table: writes the symbol's line and how many names were
 /// compared, or that number alone where there is no such symbol, or the line of the refusal. Answers
 /// the status: 0 where the symbol was found, else 1. The name has at most 4,096 bytes and no NUL.
-/// Where the caps have a budget no more is read; afterwards no limit is set.
+/// Where there is a budget no more is read; afterwards no limit is set.
 ///
 /// # Errors
-/// A fault of the source, with nothing written, or of the output, with a front of the text written.
+/// A refusal, whose line was written, a fault of the source, with nothing written, or of the
+/// output, with a front of the text written.
 pub(crate) fn look_up<S: Source, W: Sink>(
     src: &mut Counted<S>,
     store: &mut HeaderStore,
-    caps: Caps,
+    limits: Limits,
     wanted: &[u8],
     out: &mut Out<W>,
-) -> Result<u8, RunFault>
-    requires caps { (store.old.slots ≡ caps.headers) × (src.old.asked ≤ 2 ^ 127) }
+) -> Result<u8, Stop>
+    requires slots { (store.old.slots ≡ limits.headers) × (src.old.asked ≤ 2 ^ 127) }
     requires most { length wanted.now ≤ 4096 }
     ensures slots { store.new.slots ≡ store.old.slots }
-    ensures grows { Grows out.old out.new }
-    ensures leaves { Leaves src.old src.new }
-    ensures says { IfErr result (FaultSays src.old src.new out.new) }
-    ensures text { (file : List ℕ) → src.old.seen.file ≡ Some file →
-        GivesLookup file caps wanted.now src.old src.new out.old out.new result }
-    ensures cost { (file : List ℕ) → src.old.seen.file ≡ Some file →
-        src.new.asked ≤ src.old.asked + find_cost file caps.headers wanted.now }
-    // For every source.
-    ensures asks { AsksUpTo caps src.old src.new
-        (find_bytes src.old.seen.size caps.headers (length wanted.now)) }
+    ensures runs { RunsFind limits wanted.now src.old src.new out.old out.new result }
 {
-    src.limit(caps.budget);
+    src.limit(limits.budget);
     let found = find(src, store, wanted);
     src.limit(None);
     match found {
-        Ok(lookup) => match show_lookup(&lookup, wanted, out) {
-            Ok(status) => Ok(status),
-            Err(fault) => Err(RunFault::Out(fault)),
-        },
-        Err(Fault::Refused(refusal)) => match show_refusal(refusal, out) {
-            Ok(()) => Ok(1),
-            Err(fault) => Err(RunFault::Out(fault)),
-        },
-        Err(Fault::Source { fault, at }) => Err(RunFault::Source { fault, at }),
+        Ok(lookup) => show_lookup(&lookup, wanted, out),
+        Err(fault) => Err(show_stop(fault.into(), out)),
     }
 }
 
@@ -62,12 +46,12 @@ pub(crate) fn look_up<S: Source, W: Sink>(
 ///
 /// # Errors
 /// A fault of the output, with a front of the lines written.
-#[tactic(auto, using(crate::proofs::FrontLaws::front_then))]
-fn show_lookup<W: Sink>(lookup: &Lookup, wanted: &[u8], out: &mut Out<W>) -> Result<u8, OutFault>
+#[tactic(auto, using(crate::proofs::TaskLaws::front_then))]
+fn show_lookup<W: Sink>(lookup: &Lookup, wanted: &[u8], out: &mut Out<W>) -> Result<u8, Stop>
     ensures grows { Grows out.old out.new }
-    ensures fails { IfErr result (OutFails out.new) }
+    ensures fails { IfErr result (IsOfOutput out.new) }
     ensures text { (file : List ℕ) (looked : Looked) → Looks file looked lookup.now →
-        WroteLines out.old out.new result (lookup_answer file wanted.now looked) }
+        WroteAnswer out.old out.new result (lookup_answer file wanted.now looked) }
 {
     match lookup {
         Lookup::Found {

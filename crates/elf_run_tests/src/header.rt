@@ -3,13 +3,13 @@ ghost use Rattle.std.specs.Prelude.{◌≡◌, ◌≤◌, IfOk};
 
 use elf_fakes::{Ending, Pieces, Planned};
 use elf_fixtures::{bare_header, with_bytes};
-use elf_listing::{End, FIXED_BYTES, RunFault, show};
+use elf_listing::{FIXED_BYTES, show};
 use elf_record::{Cause, Parts, Refusal};
 use elf_run::{outcome, refused, run};
 use elf_source::{
     Counted, MemorySource, Out, OutFault, SliceSink, SourceFault, StreamSource, WriteSink,
 };
-use elf_table::{Caps, HeaderStore};
+use elf_table::{Caps, HeaderStore, Stop};
 use elf_words::{Request, RequestFault, Task};
 use std::process::Abort;
 use std::test::Fail;
@@ -20,7 +20,7 @@ const BARE_LINE: &str =
 
 /// A store of one slot, and the caps for it.
 fn one_slot(rt: &impl AllocGlobal) -> Result<(HeaderStore, Caps), Fail>
-    ensures { IfOk result (λ both. (both.0.slots ≡ 1) × (both.1.headers ≡ 1)) }
+    ensures { IfOk result (λ both. (both.0.slots ≡ 1) × (both.1.limits.headers ≡ 1)) }
 {
     let store = HeaderStore::new(rt.alloc(), 1)?;
     let caps = Caps::new(1, 256).ok_or("caps")?;
@@ -33,7 +33,7 @@ fn check_listing(
     file: &[u8],
     parts: Parts,
     text: &str,
-    end: End,
+    end: Result<(), Stop>,
     asked: u128,
 ) -> Result<(), Fail> {
     let (mut store, caps) = one_slot(rt)?;
@@ -41,7 +41,7 @@ fn check_listing(
     let mut src = Counted::new(MemorySource::new(file));
     let mut out = Out::new(SliceSink::new(&mut buffer));
     let answer = show(&mut src, &mut store, caps, parts, &mut out);
-    assert!(rt; answer == Ok(end), "the end of {text}");
+    assert!(rt; answer == end, "the end of {text}");
     assert!(rt;
         out.into_inner().written() == text.as_bytes(),
         "the text {text}"
@@ -50,23 +50,16 @@ fn check_listing(
     Ok(())
 }
 
-fn refusal(at: u64, cause: Cause) -> End {
-    End::Refused(Refusal { at, cause })
+fn refusal(at: u64, cause: Cause) -> Result<(), Stop> {
+    Err(Stop::Refused(Refusal { at, cause }))
 }
 
 #[test]
 fn a_header_is_listed(rt: HostRuntime) -> Result<(), Fail> {
-    check_listing(
-        &rt,
-        bare_header(),
-        Parts::HEADER,
-        BARE_LINE,
-        End::Listed,
-        64,
-    )?;
-    check_listing(&rt, bare_header(), Parts(15), BARE_LINE, End::Listed, 64)?;
-    check_listing(&rt, bare_header(), Parts(0x80), "", End::Listed, 64)?;
-    check_listing(&rt, bare_header(), Parts::SECTIONS, "", End::Listed, 64)
+    check_listing(&rt, bare_header(), Parts::HEADER, BARE_LINE, Ok(()), 64)?;
+    check_listing(&rt, bare_header(), Parts(15), BARE_LINE, Ok(()), 64)?;
+    check_listing(&rt, bare_header(), Parts(0x80), "", Ok(()), 64)?;
+    check_listing(&rt, bare_header(), Parts::SECTIONS, "", Ok(()), 64)
 }
 
 #[test]
@@ -98,7 +91,7 @@ fn extended_numbering_lists_under_header_alone(rt: HostRuntime) -> Result<(), Fa
     let file = with_bytes(bare_header(), 56, &[0xff, 0xff]);
     let line =
         "H REL     62 0000000000000000 0000000000000000 0000000000000000 00000000 65535     0     0\n";
-    check_listing(&rt, &file, Parts::HEADER, line, End::Listed, 64)?;
+    check_listing(&rt, &file, Parts::HEADER, line, Ok(()), 64)?;
     let refused = refusal(0x38, Cause::ExtendedNumbering);
     let text = "! 0000000000000038 extended-numbering\n";
     check_listing(&rt, &file, Parts::SYMBOLS, text, refused, 64)
@@ -111,7 +104,7 @@ fn too_long_is_refused_unread(rt: HostRuntime) -> Result<(), Fail> {
     let mut src = Counted::new(Ending { length: 1 << 63 });
     let mut out = Out::new(SliceSink::new(&mut buffer));
     let answer = show(&mut src, &mut store, caps, Parts::SECTIONS, &mut out);
-    assert!(rt; answer == Ok(refusal(1 << 63, Cause::TooLong)));
+    assert!(rt; answer == refusal(1 << 63, Cause::TooLong));
     assert!(rt; out.into_inner().written() == b"! 8000000000000000 too-long\n".as_slice());
     assert!(rt; src.asked() == 0);
     Ok(())
@@ -125,7 +118,7 @@ fn a_failing_read_writes_nothing(rt: HostRuntime) -> Result<(), Fail> {
     let mut out = Out::new(SliceSink::new(&mut buffer));
     let answer = show(&mut src, &mut store, caps, Parts::HEADER, &mut out);
     let fault = SourceFault::Device;
-    assert!(rt; answer == Err(RunFault::Source { fault, at: 0 }));
+    assert!(rt; answer == Err(Stop::Source { fault, at: 0 }));
     assert!(rt; out.into_inner().written().is_empty());
     assert!(rt; src.asked() == 64);
     assert!(rt; src.into_inner().reads == 1);
@@ -138,7 +131,7 @@ fn check_run(
     rt: &(impl Abort + AllocGlobal),
     room: usize,
     text: &str,
-    answer: Result<u8, RunFault>,
+    answer: Result<u8, Stop>,
 ) -> Result<(), Fail>
     requires { room ≤ 256 }
 {
@@ -147,8 +140,11 @@ fn check_run(
     let parts = Parts::HEADER;
     let asked = Request {
         file: None,
-        caps,
-        task: Task::Show(parts),
+        limits: caps.limits,
+        task: Task::Show {
+            parts,
+            name: caps.name,
+        },
     };
     let mut src = Counted::new(MemorySource::new(bare_header()));
     let mut out = Out::new(SliceSink::new(&mut buffer[..room]));
@@ -160,9 +156,9 @@ fn check_run(
 #[test]
 fn output_that_ends_early(rt: HostRuntime) -> Result<(), Fail> {
     check_run(&rt, 256, BARE_LINE, Ok(0))?;
-    let fault = Err(RunFault::Out(OutFault { written: 10 }));
+    let fault = Err(Stop::Out(OutFault { written: 10 }));
     check_run(&rt, 10, "H REL     ", fault)?;
-    let fault = Err(RunFault::Out(OutFault { written: 0 }));
+    let fault = Err(Stop::Out(OutFault { written: 0 }));
     check_run(&rt, 0, "", fault)
 }
 
@@ -172,7 +168,7 @@ fn a_writer_gets_the_line(rt: HostRuntime) -> Result<(), Fail> {
     let mut src = Counted::new(MemorySource::new(bare_header()));
     let mut out = Out::new(WriteSink::new(Vec::new(rt.alloc())));
     let answer = show(&mut src, &mut store, caps, Parts::HEADER, &mut out);
-    assert!(rt; answer == Ok(End::Listed));
+    assert!(rt; answer == Ok(()));
     assert!(rt; out.into_inner().into_inner().as_slice() == BARE_LINE.as_bytes());
     Ok(())
 }
@@ -180,10 +176,13 @@ fn a_writer_gets_the_line(rt: HostRuntime) -> Result<(), Fail> {
 #[test]
 fn endings(rt: HostRuntime) {
     let fault = SourceFault::Ended;
-    let read = Err(RunFault::Source { fault, at: 0 });
-    let write = Err(RunFault::Out(OutFault { written: 3 }));
+    let read = Err(Stop::Source { fault, at: 0 });
+    let write = Err(Stop::Out(OutFault { written: 3 }));
     assert!(rt; outcome(&Ok(0)) == (0, ""));
     assert!(rt; outcome(&Ok(1)) == (1, ""));
+    let (at, cause) = (0, Cause::Short);
+    let refused_file = Err(Stop::Refused(Refusal { at, cause }));
+    assert!(rt; outcome(&refused_file) == (1, ""));
     assert!(rt; outcome(&read) == (3, "elfsee: read fault"));
     assert!(rt; outcome(&write) == (3, "elfsee: write fault"));
     assert!(rt; refused(&RequestFault::BadItem) == (2, "elfsee: bad item"));
@@ -199,7 +198,7 @@ fn a_stream_lists_as_memory_does(rt: HostRuntime) -> Result<(), Fail> {
     let mut src = Counted::new(StreamSource::over(Pieces::new(bare_header()))?);
     let mut out = Out::new(SliceSink::new(&mut buffer));
     let answer = show(&mut src, &mut store, caps, Parts(15), &mut out);
-    assert!(rt; answer == Ok(End::Listed));
+    assert!(rt; answer == Ok(()));
     assert!(rt; out.into_inner().written() == BARE_LINE.as_bytes());
     assert!(rt; src.asked() == 64);
     Ok(())

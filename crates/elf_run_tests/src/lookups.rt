@@ -95,7 +95,7 @@ fn a_budget_ends_a_lookup_at_the_read_that_it_has_no_room_for(rt: HostRuntime) -
         (355, b"! 0000000000000070 budget\n".as_slice()),
     ] {
         let mut wanted = lookup(4, "b")?;
-        wanted.caps = wanted.caps.with_budget(budget);
+        wanted.limits.budget = Some(budget);
         check_answer(&rt, &wanted, file, text, 1, u128::from(budget))?;
     }
     Ok(())

@@ -2,22 +2,21 @@
 
 ghost use Rattle.std.specs.Prelude.{◌≤◌};
 
-use elf_listing::RunFault;
 use elf_run::{outcome, run};
 use elf_source::{
     Counted, FailSource, MemorySource, Out, OutFault, SliceSink, Source, SourceFault, WriteSink,
 };
-use elf_table::{Caps, HeaderStore};
+use elf_table::{HeaderStore, Limits, Stop};
 use elf_words::{Request, Task};
 use std::process::Abort;
 use std::test::Fail;
 
 /// A request with so many headers permitted.
 pub(crate) fn request(headers: u16, task: Task<'_>) -> Result<Request<'_>, Fail> {
-    let caps = Caps::new(headers, 256).ok_or("caps")?;
+    let limits = Limits::new(headers, None).ok_or("limits")?;
     Ok(Request {
         file: None,
-        caps,
+        limits,
         task,
     })
 }
@@ -26,7 +25,7 @@ pub(crate) fn request(headers: u16, task: Task<'_>) -> Result<Request<'_>, Fail>
 #[derive(Drop)]
 pub(crate) struct Finished {
     pub(crate) text: Vec<u8>,
-    pub(crate) answer: Result<u8, RunFault>,
+    pub(crate) answer: Result<u8, Stop>,
     pub(crate) asked: u128,
     pub(crate) stopped: u64,
 }
@@ -86,16 +85,14 @@ pub(crate) fn check_budgets(
     let mut store = HeaderStore::new(rt.alloc(), request.headers())?;
     let whole = carry_out(rt, request, MemorySource::new(file), &mut store);
     for budget in 0..=cost {
-        let within = Request {
-            file: None,
-            caps: request.caps.with_budget(budget),
-            task: request.task,
-        };
+        let mut within = *request;
+        within.limits.budget = Some(budget);
         let answered = carry_out(rt, &within, MemorySource::new(file), &mut store);
         assert!(rt; answered.asked <= u128::from(budget), "{budget} bytes");
         if answered.text != whole.text {
             assert!(rt; budget < cost);
-            assert!(rt; answered.answer == Ok(1), "{budget} bytes");
+            assert!(rt; outcome(&answered.answer) == (1, ""), "{budget} bytes");
+            assert!(rt; matches!(answered.answer, Err(Stop::Refused(_))));
             assert!(rt; answered.text.len() == "! 0000000000000000 budget\n".len());
             assert!(rt; answered.text.ends_with(b" budget\n".as_slice()));
         }
@@ -120,7 +117,7 @@ pub(crate) fn check_reads(
         let failed = carry_out(rt, request, source, &mut store);
         let (fault, at) = (SourceFault::Device, *at);
         assert!(rt;
-            failed.answer == Err(RunFault::Source { fault, at }),
+            failed.answer == Err(Stop::Source { fault, at }),
             "read {k}"
         );
         assert!(rt; failed.stopped == at, "read {k}");
@@ -154,7 +151,7 @@ pub(crate) fn check_outputs(
         let answer = run(request, &mut src, &mut store, &mut out);
         let written = room as u128;
         assert!(rt;
-            answer == Err(RunFault::Out(OutFault { written })),
+            answer == Err(Stop::Out(OutFault { written })),
             "{room} bytes"
         );
         assert!(rt; outcome(&answer) == (3, "elfsee: write fault"));

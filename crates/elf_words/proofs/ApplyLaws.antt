@@ -3,9 +3,9 @@ use Rattle.std.proofs.Common.{◌≡◌, ℕ, ◌<◌, ◌^◌, List, Option, No
 use Rattle.std.specs.Prelude.{IfSome}
 use Rattle.std.specs.Borrow.{Bor}
 use Rattle.clap.specs.Walk.{Row, Text, one_of}
-use Rattle.elf_headers.specs.declared.caps.Caps.{Caps}
+use Rattle.elf_headers.specs.declared.caps.Limits.{Limits}
 use Rattle.elf_model.specs.Placing.{Layout}
-use Rattle.elf_words.specs.Asked.{AreReadingCaps, AsksNothing, ComesTo, HasFault, HasNumber, IsApplying, IsFileNamed, IsTask, item_words}
+use Rattle.elf_words.specs.Asked.{AreLimits, AsksNothing, ComesTo, HasFault, HasNumber, IsApplying, IsFileNamed, IsTask, item_words}
 use Rattle.elf_words.specs.Layouts.{Lays, no_items}
 use Rattle.elf_words.specs.declared.requests.Request.{Request}
 use Rattle.elf_words.specs.declared.requests.RequestFault.{RequestFault}
@@ -35,35 +35,37 @@ faultless rows layout lays Memory has = laid (item_words rows) no_items layout M
 faultless rows layout lays (Told told) has = laid (item_words rows) no_items layout (Told told) lays has.1
 
 -- only an applying is asked for by `apply`
-only_applying : (rows : List Row) (caps : Caps) (file : Option (Bor Text)) (task : Task) → IsTask (codes "apply") rows caps file task
-    → (section : ℕ) × (layout : Layout) × IsApplying (codes "apply") rows caps file section layout
-only_applying rows caps None (Show parts) (are, parts_are, is) = cc
-only_applying rows caps (Some path) (Show parts) (are, parts_are, is) = let e = is.0 in cc
-only_applying rows caps file (Find wanted) is = let e = is.find in cc
-only_applying rows caps file (Apply section layout) is = (section, layout.now, is)
+only_applying : (rows : List Row) (file : Option (Bor Text)) (task : Task) → IsTask (codes "apply") rows file task
+    → (section : ℕ) × (layout : Layout) × IsApplying (codes "apply") rows file section layout
+only_applying rows None (Show parts name) (are, parts_are, is) = cc
+only_applying rows (Some path) (Show parts name) (are, parts_are, is) = let e = is.0 in cc
+only_applying rows file (Find wanted) is = let e = is.find in cc
+only_applying rows file (Apply section layout) is = (section, layout.now, is)
 
 -- there is no section with the index that is given
 pub no_section : (rows : List Row) (layout : Layout) → Lays no_items (item_words rows) (Ok layout)
     → ((value : ℕ) → value < 2 ^ 16 → HasNumber (one_of (codes "SECTION") rows) (Some value) → ⊥) → AsksNothing (Some (codes "apply", rows))
 no_section rows layout lays none = record {
   nothing = λ request asks.
-      let is = only_applying rows request.caps request.file request.task asks in
+      let is = only_applying rows request.file request.task asks.1 in
       none is.0 is.2.small is.2.index;
   faultless = faultless rows layout lays;
 }
 
--- what an applying comes to, by whether there are a file and caps
+-- what an applying comes to, by whether there are a file and limits
 pub applied : (rows : List Row) (section : ℕ) (layout : Bor Layout) (r : Option Request) → Lays no_items (item_words rows) (Ok layout.now) → section < 2 ^ 16
     → HasNumber (one_of (codes "SECTION") rows) (Some section) → IfSome r (λ request. request.task ≡ Apply section layout)
-    → IfSome r (λ request. IsFileNamed rows request.file) → IfSome r (λ request. AreReadingCaps rows request.caps)
-    → (r ≡ None → (file : Option (Bor Text)) (caps : Caps) → IsFileNamed rows file → AreReadingCaps rows caps → ⊥)
+    → IfSome r (λ request. IsFileNamed rows request.file) → IfSome r (λ request. AreLimits rows request.limits)
+    → (r ≡ None → (file : Option (Bor Text)) (limits : Limits) → IsFileNamed rows file → AreLimits rows limits → ⊥)
     → ComesTo (Some (codes "apply", rows)) (Ok r)
-applied rows section layout None lays small index task file caps none = record {
+applied rows section layout None lays small index task file limits none = record {
   nothing = λ request asks.
-      let is = only_applying rows request.caps request.file request.task asks in
-      none refl request.file request.caps is.2.path is.2.limits;
+      let is = only_applying rows request.file request.task asks.1 in
+      none refl request.file request.limits is.2.path asks.0;
   faultless = faultless rows layout.now lays;
 }
-applied rows section layout (Some request) lays small index task file caps none =
-    subst (λ t. IsTask (codes "apply") rows request.caps request.file t) (sym task)
-    record { apply = refl; limits = caps; path = file; index = index; small = small; items = lays }
+applied rows section layout (Some request) lays small index task file limits none = (
+  limits,
+  subst (λ t. IsTask (codes "apply") rows request.file t) (sym task)
+      record { apply = refl; path = file; index = index; small = small; items = lays },
+)

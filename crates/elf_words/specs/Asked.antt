@@ -13,7 +13,8 @@ use Rattle.elf_model.specs.NameLaws.{IsWanted}
 use Rattle.elf_model.specs.Text.{name_of as name_in_table}
 use Rattle.elf_model.specs.Listing.{HEADER, SECTIONS, SEGMENTS, SYMBOLS, RELOCS, NOTES, DYNAMIC}
 use Rattle.elf_record.specs.declared.parts.Parts.{Parts}
-use Rattle.elf_headers.specs.declared.caps.Caps.{Caps}
+use Rattle.elf_headers.specs.declared.caps.Cap.{Cap}
+use Rattle.elf_headers.specs.declared.caps.Limits.{Limits}
 use Rattle.elf_words.specs.CommandLine.{Words, program}
 use Rattle.elf_model.specs.Placing.{Layout}
 use Rattle.elf_words.specs.Layouts.{Lays, no_items}
@@ -48,14 +49,13 @@ HasNumber None value = value ≡ None
 HasNumber (Some text) value = SpellsNumber text × (value ≡ Some (decimal_value text))
 
 -- how many headers are permitted and how many bytes may be read, by the values of the options
-pub record AreLimits (rows : List Row) (caps : Caps) : Type 0 where
-  pub headers : HasNumber (one_of (codes "headers") rows) (Some caps.headers)
-  pub budget : HasNumber (one_of (codes "max-read") rows) caps.budget
+pub record AreLimits (rows : List Row) (limits : Limits) : Type 0 where
+  pub headers : HasNumber (one_of (codes "headers") rows) (Some limits.headers)
+  pub budget : HasNumber (one_of (codes "max-read") rows) limits.budget
 
--- the caps of a listing, by the values of the options
-pub record AreCaps (rows : List Row) (caps : Caps) : Type 0 where
-  pub limits : AreLimits rows caps
-  pub names : HasNumber (one_of (codes "names") rows) (Some caps.name.bytes)
+-- how many bytes of a name are shown, by the value of the option
+abbrev pub IsNameCap : List Row → Cap → Type 0
+IsNameCap rows cap = HasNumber (one_of (codes "names") rows) (Some cap.bytes)
 
 -- the part with this name, or without a name all seven
 abbrev pub AreParts : Option Text → Parts → Type 0
@@ -72,15 +72,9 @@ abbrev pub IsFileNamed : List Row → Option (Bor Text) → Type 0
 IsFileNamed rows None = ⊥
 IsFileNamed rows (Some path) = first_of (codes "FILE") rows ≡ Some path.now
 
--- the caps of what is no listing, which shows no name that is cut
-pub record AreReadingCaps (rows : List Row) (caps : Caps) : Type 0 where
-  pub limits : AreLimits rows caps
-  pub names : caps.name.bytes ≡ 256
-
 -- a lookup in the file whose path stands among the values, of the name that stands there too
-pub record IsFinding (command : Text) (rows : List Row) (caps : Caps) (file : Option (Bor Text)) (wanted : Wanted) : Type 0 where
+pub record IsFinding (command : Text) (rows : List Row) (file : Option (Bor Text)) (wanted : Wanted) : Type 0 where
   pub find : command ≡ codes "find"
-  pub limits : AreReadingCaps rows caps
   pub path : IsFileNamed rows file
   pub word : first_of (codes "NAME") rows ≡ Some wanted.bytes.now
 
@@ -90,25 +84,24 @@ item_words rows = unwrap_or (all_of (codes "ITEM") rows) []
 
 -- the section with this index, below 2^16, is written, of the file whose path stands among the values, in the layout that the
 -- words give
-pub record IsApplying (command : Text) (rows : List Row) (caps : Caps) (file : Option (Bor Text)) (section : ℕ) (layout : Layout) : Type 0 where
+pub record IsApplying (command : Text) (rows : List Row) (file : Option (Bor Text)) (section : ℕ) (layout : Layout) : Type 0 where
   pub apply : command ≡ codes "apply"
-  pub limits : AreReadingCaps rows caps
   pub path : IsFileNamed rows file
   pub index : HasNumber (one_of (codes "SECTION") rows) (Some section)
   pub small : section < 2 ^ 16
   pub items : Lays no_items (item_words rows) (Ok layout)
 
--- a task with its caps and its file, by the values of the options
-abbrev pub IsTask : Text → List Row → Caps → Option (Bor Text) → Task → Type 0
-IsTask command rows caps file (Show parts) =
-    AreCaps rows caps × AreParts (first_of (codes "only") rows) parts × IsOfFile command rows file
-IsTask command rows caps file (Find wanted) = IsFinding command rows caps file wanted
-IsTask command rows caps file (Apply section layout) = IsApplying command rows caps file section layout.now
+-- a task with its file, by the values of the options
+abbrev pub IsTask : Text → List Row → Option (Bor Text) → Task → Type 0
+IsTask command rows file (Show parts name) =
+    IsNameCap rows name × AreParts (first_of (codes "only") rows) parts × IsOfFile command rows file
+IsTask command rows file (Find wanted) = IsFinding command rows file wanted
+IsTask command rows file (Apply section layout) = IsApplying command rows file section layout.now
 
 -- a command with the values of its arguments asks for just this
 abbrev pub AsksBy : Option (Text × List Row) → Request → Type 0
 AsksBy None request = ⊥
-AsksBy (Some (command, rows)) request = IsTask command rows request.caps request.file request.task
+AsksBy (Some (command, rows)) request = AreLimits rows request.limits × IsTask command rows request.file request.task
 
 -- a lookup of a name that can't be looked for: it has not 1 to 4,096 bytes, or a NUL
 abbrev pub NamesBadly : Text → List Row → Type 0

@@ -4,7 +4,7 @@ use crate::tests::check_refused;
 use crate::{RequestFault, Task, request};
 use clap::error::ErrorKind;
 use elf_layout::{Item, Layout, LayoutFault};
-use elf_table::Caps;
+use elf_table::Limits;
 use std::alloc::{AllocError, Global};
 use std::process::Abort;
 use std::test::Fail;
@@ -16,10 +16,10 @@ fn asked(
     headers: u16,
     index: u16,
 ) -> Result<Layout, Fail> {
-    let caps = Caps::new(headers, 256).ok_or("caps")?;
+    let limits = Limits::new(headers, None).ok_or("limits")?;
     let mut layout = Layout::new();
     let asked = request(rt.alloc(), words, &mut layout)?;
-    assert!(rt; asked.file == Some("f") && asked.caps == caps);
+    assert!(rt; asked.file == Some("f") && asked.limits == limits);
     match asked.task {
         Task::Apply { section, .. } => assert!(rt; section == index),
         _ => return Err("an applying".into()),

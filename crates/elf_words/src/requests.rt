@@ -9,18 +9,17 @@ ghost use Rattle.elf_words.specs.declared.requests.RequestFault.TheVariants.{Mem
 use clap::error::ErrorKind;
 use elf_layout::Layout;
 use elf_record::Parts;
-use elf_table::Caps;
+use elf_table::{Cap, Limits};
 use std::alloc::AllocError;
 use thiserror::Error;
 
-/// What is asked for: which file, how much of it may be read and shown, and what is done with it.
+/// What is asked for: which file, how much of it may be read, and what is done with it.
 #[derive(Clone, Copy)]
 pub struct Request<'a> {
     /// The file's path, or none for the sample, which is a file that the program carries.
     pub file: Option<&'a str>,
-    /// How many headers are permitted and how many bytes may be read; and of a listing how many
-    /// bytes of a name are shown, which are 256 of the other tasks.
-    pub caps: Caps,
+    /// How many headers are permitted, and how many bytes may be read.
+    pub limits: Limits,
     /// What is done with the file.
     pub task: Task<'a>,
 }
@@ -28,8 +27,13 @@ pub struct Request<'a> {
 /// What is done with a file.
 #[derive(Clone, Copy)]
 pub enum Task<'a> {
-    /// These parts of it are listed.
-    Show(Parts),
+    /// Parts of it are listed.
+    Show {
+        /// The parts.
+        parts: Parts,
+        /// How many bytes of a name are shown.
+        name: Cap,
+    },
     /// A name is looked up in it.
     Find(Wanted<'a>),
     /// One of its sections is written, with its relocations applied.
@@ -55,11 +59,11 @@ impl<'a> Request<'a> {
 
     /// How many slots the header store needs, 1 to 65,279.
     pub fn headers(&self) -> u16
-        ensures value { result ≡ self.now.caps.headers }
+        ensures value { result ≡ self.now.limits.headers }
         ensures some { 1 ≤ result }
         ensures few { result ≤ 65279 }
     {
-        self.caps.headers
+        self.limits.headers
     }
 }
 

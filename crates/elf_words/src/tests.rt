@@ -3,7 +3,7 @@ use crate::{RequestFault, Task, checked_name, request};
 use clap::error::ErrorKind;
 use elf_layout::Layout;
 use elf_record::Parts;
-use elf_table::Caps;
+use elf_table::{Caps, Limits};
 use std::process::Abort;
 use std::test::Fail;
 
@@ -20,9 +20,10 @@ fn check(
 ) -> Result<(), Fail> {
     let mut layout = Layout::new();
     let asked = request(rt.alloc(), words, &mut layout)?;
-    assert!(rt; asked.file == file && asked.caps == caps);
+    let limits = asked.limits;
+    assert!(rt; asked.file == file && limits == caps.limits);
     match asked.task {
-        Task::Show(shown) => assert!(rt; shown == parts),
+        Task::Show { parts: shown, name } => assert!(rt; shown == parts && name == caps.name),
         _ => assert!(rt; false, "a listing"),
     }
     Ok(())
@@ -194,7 +195,7 @@ fn an_option_given_twice_is_refused(rt: HostRuntime) {
 
 #[test]
 fn a_name_is_looked_up(rt: HostRuntime) -> Result<(), Fail> {
-    let caps = Caps::new(7, 256).ok_or("caps")?;
+    let limits = Limits::new(7, None).ok_or("limits")?;
     for words in [
         ["find", "--headers", "7", "f", "main"],
         ["find", "f", "--headers", "7", "main"],
@@ -203,7 +204,7 @@ fn a_name_is_looked_up(rt: HostRuntime) -> Result<(), Fail> {
     ] {
         let mut layout = Layout::new();
         let asked = request(rt.alloc(), words.as_slice(), &mut layout)?;
-        assert!(&rt; asked.file == Some("f") && asked.caps == caps);
+        assert!(&rt; asked.file == Some("f") && asked.limits == limits);
         match asked.task {
             Task::Find(wanted) => assert!(&rt; wanted.bytes == b"main".as_slice()),
             _ => assert!(&rt; false, "a lookup"),

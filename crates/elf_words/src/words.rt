@@ -5,14 +5,15 @@ ghost use Rattle.std.specs.Borrow.{Bor};
 ghost use Rattle.clap.specs.Walk.{Text, first_of, one_of, rows_of};
 ghost use Rattle.clap.specs.Words.{found_of, subcommand_rows_of};
 ghost use Rattle.elf_model.specs.Text.{name_of};
-ghost use Rattle.elf_words.specs.Asked.{AreCaps, AreLimits, AreParts, AreReadingCaps, ComesTo};
-ghost use Rattle.elf_words.specs.Asked.{HasNumber, IsFileNamed, WordsAsk, WordsRefused, is_part};
+ghost use Rattle.elf_words.specs.Asked.{AreLimits, AreParts, ComesTo, HasNumber, IsFileNamed};
+ghost use Rattle.elf_words.specs.Asked.{IsNameCap, WordsAsk, WordsRefused, is_part};
 ghost use Rattle.elf_words.specs.Asked.{item_words, part_names};
 ghost use Rattle.elf_words.specs.Layouts.{Lays, no_items};
 ghost use Rattle.elf_words.specs.Faults.{IsUnasked};
 ghost use Rattle.elf_words.specs.declared.requests.Task.TheVariants.{Show};
 ghost use Rattle.elf_record.specs.declared.parts.Parts.{Parts};
-ghost use Rattle.elf_headers.specs.declared.caps.Caps.{Caps};
+ghost use Rattle.elf_headers.specs.declared.caps.Cap.{Cap};
+ghost use Rattle.elf_headers.specs.declared.caps.Limits.{Limits};
 
 use crate::command_line::command_line;
 use crate::items::lay;
@@ -22,7 +23,7 @@ use clap::error::ErrorKind;
 use clap::{ArgMatches, Command};
 use elf_layout::Layout;
 use elf_record::Parts;
-use elf_table::Caps;
+use elf_table::{Cap, Limits};
 use std::alloc::{AllocError, Global};
 use std::convert::AsStr;
 
@@ -33,9 +34,6 @@ static PARTS: [&str; 7] = [
 
 /// All parts of a listing.
 const WHOLE: Parts = Parts(127);
-
-/// The name bytes in the caps of what is no listing, which no name is cut to.
-const NAME_BYTES: u16 = 256;
 
 /// Reads the words of a command line, without the program's name.
 ///
@@ -113,20 +111,23 @@ fn listing_of_file<'a>(options: &ArgMatches<'a>) -> Option<Request<'a>>
 /// A listing of a file, or of the sample where there is none, with the options that are asked for.
 fn listing<'a>(file: Option<&'a str>, options: &ArgMatches<'a>) -> Option<Request<'a>>
     ensures file { IfSome result (λ request. request.file ≡ file.entry) }
-    ensures task { IfSome result (λ request. (parts : Parts) × (request.task ≡ Show parts)
+    ensures task { IfSome result (λ request. (parts : Parts) × (name : Cap)
+        × (request.task ≡ Show parts name) × IsNameCap (rows_of (found_of options.now)) name
         × AreParts (first_of (codes "only") (rows_of (found_of options.now))) parts) }
-    ensures caps { IfSome result (λ request.
-        AreCaps (rows_of (found_of options.now)) request.caps) }
-    ensures none { result ≡ None → (caps : Caps) (parts : Parts)
-        → AreCaps (rows_of (found_of options.now)) caps
+    ensures limits { IfSome result (λ request.
+        AreLimits (rows_of (found_of options.now)) request.limits) }
+    ensures none { result ≡ None → (limits : Limits) (name : Cap) (parts : Parts)
+        → AreLimits (rows_of (found_of options.now)) limits
+        → IsNameCap (rows_of (found_of options.now)) name
         → AreParts (first_of (codes "only") (rows_of (found_of options.now))) parts → ⊥ }
 {
-    let caps = caps_of(options)?;
+    let limits = limits_of(options)?;
+    let name = name_cap_of(options)?;
     let parts = parts_of(options)?;
     Some(Request {
         file,
-        caps,
-        task: Task::Show(parts),
+        limits,
+        task: Task::Show { parts, name },
     })
 }
 
@@ -189,45 +190,39 @@ fn in_file<'a>(options: &ArgMatches<'a>, task: Task<'a>) -> Option<Request<'a>>
     ensures task { IfSome result (λ request. request.task ≡ task.entry) }
     ensures file { IfSome result (λ request.
         IsFileNamed (rows_of (found_of options.now)) request.file) }
-    ensures caps { IfSome result (λ request.
-        AreReadingCaps (rows_of (found_of options.now)) request.caps) }
-    ensures none { result ≡ None → (file : Option (Bor Text)) (caps : Caps)
+    ensures limits { IfSome result (λ request.
+        AreLimits (rows_of (found_of options.now)) request.limits) }
+    ensures none { result ≡ None → (file : Option (Bor Text)) (limits : Limits)
         → IsFileNamed (rows_of (found_of options.now)) file
-        → AreReadingCaps (rows_of (found_of options.now)) caps → ⊥ }
+        → AreLimits (rows_of (found_of options.now)) limits → ⊥ }
 {
     let path = text_of(options, "FILE")?;
-    let caps = caps_naming(options, NAME_BYTES)?;
+    let limits = limits_of(options)?;
     Some(Request {
         file: Some(path),
-        caps,
+        limits,
         task,
     })
 }
 
-/// The caps that the options ask for.
-fn caps_of(options: &ArgMatches<'_>) -> Option<Caps>
-    ensures some { IfSome result (AreCaps (rows_of (found_of options.now))) }
-    ensures none { result ≡ None → (caps : Caps)
-        → AreCaps (rows_of (found_of options.now)) caps → ⊥ }
-{
-    let names = small_number_of(options, "names")?;
-    caps_naming(options, names)
-}
-
-/// The caps with so many bytes of a name, and else what the options ask for.
-fn caps_naming(options: &ArgMatches<'_>, names: u16) -> Option<Caps>
+/// The limits that the options ask for.
+fn limits_of(options: &ArgMatches<'_>) -> Option<Limits>
     ensures some { IfSome result (AreLimits (rows_of (found_of options.now))) }
-    ensures named { IfSome result (λ caps. caps.name.bytes ≡ names) }
-    ensures none { result ≡ None → (caps : Caps) →
-        AreLimits (rows_of (found_of options.now)) caps → caps.name.bytes ≡ names → ⊥ }
+    ensures none { result ≡ None → (limits : Limits)
+        → AreLimits (rows_of (found_of options.now)) limits → ⊥ }
 {
     let headers = small_number_of(options, "headers")?;
     let budget = number_of(options, "max-read")?;
-    let caps = Caps::new(headers, names)?;
-    Some(match budget {
-        Some(bytes) => caps.with_budget(bytes),
-        None => caps,
-    })
+    Limits::new(headers, budget)
+}
+
+/// How many bytes of a name are shown, by the options.
+fn name_cap_of(options: &ArgMatches<'_>) -> Option<Cap>
+    ensures some { IfSome result (IsNameCap (rows_of (found_of options.now))) }
+    ensures none { result ≡ None → (cap : Cap)
+        → IsNameCap (rows_of (found_of options.now)) cap → ⊥ }
+{
+    Cap::new(small_number_of(options, "names")?)
 }
 
 /// The parts that the options ask for.

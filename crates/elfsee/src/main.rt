@@ -8,12 +8,12 @@ ghost use Rattle.elf_run.specs.Answers.{refused_line, refused_status};
 ghost use Rattle.elf_words.specs.declared.requests.RequestFault.{RequestFault};
 
 use elf_layout::Layout;
-use elf_listing::{RunFault, show_told};
+use elf_listing::show_told;
 use elf_run::{
     CANNOT_OPEN, Ending, NOT_UTF8, OUT_OF_MEMORY, READ_FAULT, WRITE_FAULT, outcome, refused, run,
 };
 use elf_source::{Counted, MemorySource, OffsetReader, Out, Source, StreamSource, WriteSink};
-use elf_table::HeaderStore;
+use elf_table::{HeaderStore, Stop};
 use elf_words::{Request, RequestFault, request};
 use sample::sample;
 use std::alloc::{AllocError, Global};
@@ -155,19 +155,19 @@ fn write_answer<S: Source + Drop, W: Write + Drop>(
     mut store: HeaderStore,
     output: BufWriter<W>,
 ) -> Ending
-    requires { store.slots ≡ request.now.caps.headers }
+    requires { store.slots ≡ request.now.limits.headers }
 {
     let mut src = Counted::new(source);
     let mut out = Out::new(WriteSink::new(output));
     let answer = run(request, &mut src, &mut store, &mut out);
     let mut output = out.into_inner().into_inner();
-    if let Err(RunFault::Out(_)) = answer {
+    if let Err(Stop::Out(_)) = answer {
         let _ = output.into_parts();
         return outcome(&answer);
     }
     if output.flush().is_err() {
         let _ = output.into_parts();
-        if answer.is_ok() {
+        if !matches!(answer, Err(Stop::Source { .. })) {
             return WRITE_FAULT;
         }
     }

@@ -1,39 +1,43 @@
 -- What the lookup gives is the answer, or the budget ends it.
-use Rattle.std.proofs.Common.{rules, ◌≡◌, List, [], ap, sym, inl, refl, ◌∙◌, Err}
-use Rattle.elf_source.specs.Source.{Seen}
-use Rattle.elf_source.proofs.PutsLaws.{Takes-nothing, TakesFront-all}
+use Rattle.std.proofs.Common.{ℕ, length, rules, ◌≡◌, ap, sym, ◌∙◌, Ok, Err, arith}
+use Rattle.elf_source.proofs.LimitLaws.{within_budget}
 use Rattle.elf_model.specs.Find.{looked}
-use Rattle.elf_headers.specs.declared.fault.Fault.TheVariants.{Refused}
-use Rattle.elf_run.proofs.BudgetLaws.{answered_whole, lookup_refused}
+use Rattle.elf_hash.specs.Lookups.{find_bytes}
+use Rattle.elf_headers.specs.Stops.{stop_of}
+use Rattle.elf_listing.proofs.AskLaws.{told_says}
+use Rattle.elf_listing.proofs.ShowLaws.{StopSays-fault}
+use Rattle.elf_run.proofs.TaskLaws.{answered_stop, answered_whole, lookup_stops, lookup_used, looked_whole, runs, says_output}
 use Rattle.elf_run.proofs.finding.look_up.Goals as goal
 
-pub returns-in-Ok-show_lookup-clause-text : goal.returns-in-Ok-show_lookup-clause-text
-returns-in-Ok-show_lookup-clause-text g c = λ file held.
-    let now = ap (λ (seen : Seen). seen.file) c.limit.ensures.seen ∙ held in
-    let finds = rw (c.requires.caps.0) at (c.in-Ok.ensures.did.known file now).finds in
-    answered_whole c.args.caps file _ _ _ (c.in-Ok-show_lookup.ensures.text file (looked file c.args.caps.headers c.args.wanted.now) finds) (inl refl)
+pub returns-in-Ok-clause-runs : goal.returns-in-Ok-clause-runs
+returns-in-Ok-clause-runs g c =
+    let set = c.limit.ensures in
+    let unset = c.limit-2.ensures in
+    let found : c.find-found.result ≡ Ok c.in-Ok.lookup = search rules in
+    let reads = c.find-found.ensures.did.costs.reads in
+    let most = rw (c.requires.slots.0, set.seen) at reads.at_most in
+    runs c.args.limits.budget c.args.src.now c.limit.new.self c.limit-2.new.self _ _ set c.show_lookup.ensures.grows (rw (unset.seen) reads.keeps) unset.most (omega (arith, most, unset.asked))
+    (rw (unset.asked) (within_budget c.args.limits.budget c.args.src.now c.limit.new.self c.find-found.new.src set reads.same_limit)) (says_output c.args.src.now c.limit-2.new.self c.show_lookup.new.out c.show_lookup.result c.show_lookup.ensures.fails) (λ file now.
+    let finds = rw (c.requires.slots.0, found) at (c.find-found.ensures.did.known file now) in (
+      omega (arith, finds.costs.reads.at_most, unset.asked),
+      answered_whole _ _ _ _ _ (c.show_lookup.ensures.text file (looked file c.args.limits.headers c.args.wanted.now) finds.finds) (looked_whole c.args.limits.budget c.args.src.now c.limit-2.new.self c.show_lookup.new.out c.show_lookup.result _ c.show_lookup.ensures.fails),
+    ))
 
-pub returns-in-Err-clause-text : goal.returns-in-Err-clause-text
-returns-in-Err-clause-text g c = λ file held.
-    let now = ap (λ (seen : Seen). seen.file) c.limit.ensures.seen ∙ held in
-    let finds = rw (c.requires.caps.0) at (c.in-Ok.ensures.did.known file now).finds in
-    answered_whole c.args.caps file _ _ _ (c.in-Err.ensures.text file (looked file c.args.caps.headers c.args.wanted.now) finds) tt
-
-pub returns-in-Ok-show_refusal-clause-text : goal.returns-in-Ok-show_refusal-clause-text
-returns-in-Ok-show_refusal-clause-text g c = λ file held.
-    let now = ap (λ (seen : Seen). seen.file) c.limit.ensures.seen ∙ held in
-    let end : c.find-found.result ≡ Err (Refused c.in-Err-Refused.refusal) = search rules in
-    let finds = rw (c.requires.caps.0, end) at (c.find-found.ensures.did.known file now) in
-    lookup_refused c.args.caps file _ _ _ _ c.in-Err-Refused.refusal _ _ _ _ c.requires.caps.1 c.limit.ensures c.limit-2.ensures
-    (sym (c.args.src.now.seen.sized file held)) finds.costs.says finds.finds (c.in-Ok-show_refusal.ensures.puts.0, refl)
-
-pub returns-in-Err-show_refusal-clause-text : goal.returns-in-Err-show_refusal-clause-text
-returns-in-Err-show_refusal-clause-text g c = λ file held.
-    let now = ap (λ (seen : Seen). seen.file) c.limit.ensures.seen ∙ held in
-    let end : c.find-found.result ≡ Err (Refused c.in-Err-Refused.refusal) = search rules in
-    let finds = rw (c.requires.caps.0, end) at (c.find-found.ensures.did.known file now) in
-    lookup_refused c.args.caps file _ _ _ _ c.in-Err-Refused.refusal _ _ _ _ c.requires.caps.1 c.limit.ensures c.limit-2.ensures
-    (sym (c.args.src.now.seen.sized file held)) finds.costs.says finds.finds c.in-Err-show_refusal.ensures.puts.0
-
-pub returns-in-Err-Source-clause-text : goal.returns-in-Err-Source-clause-text
-returns-in-Err-Source-clause-text g c = λ file held. answered_whole c.args.caps file _ _ _ (TakesFront-all [] _ (Takes-nothing _)) tt
+pub returns-in-Err-clause-runs : goal.returns-in-Err-clause-runs
+returns-in-Err-clause-runs g c =
+    let set = c.limit.ensures in
+    let unset = c.limit-2.ensures in
+    let found : c.find-found.result ≡ Err c.in-Err.fault = search rules in
+    let reads = c.find-found.ensures.did.costs.reads in
+    let most = rw (c.requires.slots.0, set.seen) at reads.at_most in
+    let says = rw (found) at c.find-found.ensures.did.costs.says in
+    let n : ℕ = find_bytes c.limit.new.self.seen.size c.args.store.now.slots (length c.args.wanted.now) in
+    let tells = rw (c.into.ensures) at c.show_stop.ensures.tells in
+    runs c.args.limits.budget c.args.src.now c.limit.new.self c.limit-2.new.self _ _ set c.show_stop.ensures.grows (rw (unset.seen) reads.keeps) unset.most (omega (arith, most, unset.asked))
+    (rw (unset.asked) (within_budget c.args.limits.budget c.args.src.now c.limit.new.self c.find-found.new.src set reads.same_limit)) (told_says c.args.src.now c.limit.new.self c.find-found.new.src c.limit-2.new.self c.args.out.now c.show_stop.new.out n c.args.limits.budget (stop_of c.in-Err.fault) c.show_stop.result set unset tells (StopSays-fault c.limit.new.self c.find-found.new.src c.args.out.now c.in-Err.fault n n (omega arith) says)) (λ file now.
+    let finds = rw (c.requires.slots.0, found) at (c.find-found.ensures.did.known file now) in
+    let stops = lookup_stops c.limit.new.self c.find-found.new.src c.args.out.now file c.args.limits.headers c.args.wanted.now _ c.in-Err.fault finds.costs.says finds.finds in (
+      omega (arith, finds.costs.reads.at_most, unset.asked),
+      answered_stop c.args.out.now c.args.limits.budget _ _ _ (stop_of c.in-Err.fault) c.show_stop.result c.args.src.now c.limit.new.self c.requires.slots.1 set (c.limit.new.self.seen.sized file now) stops tells
+          (λ answer. lookup_used c.args.out.now c.show_stop.new.out c.args.limits.budget c.args.src.now c.limit.new.self c.find-found.new.src c.limit-2.new.self _ c.in-Err.fault c.show_stop.result _ answer c.requires.slots.1 set unset finds.costs.says tells),
+    ))

@@ -18,4 +18,4 @@ returns-in_err-show_symbol-in-Found-clause-text g c = λ file looked answers.
     let p = err_from_is_err_and c.from_residual.result c.from_residual.ensures.1 in
     let found = rw c.in-Found.is at answers in
     let puts = rw c.from.ensures at (c.in_err-show_symbol-in-Found.ensures.puts file found.0 found.2) in
-    rw (p.1, found.1) (TakesFront-more _ _ puts.0)
+    rw (p.1, p.2, found.1) (TakesFront-more _ _ puts.0)

@@ -18,4 +18,4 @@ returns-in_default c = no_section _ c.in_ok-layout.layout.now c.in_ok-layout.ens
 
 pub returns : goal.returns
 returns c = applied _ c.in-Some.section c.in_ok-layout.layout c.in_file.result c.in_ok-layout.ensures.laid (search rules) c.in-Some.ensures.some c.in_file.ensures.task
-    c.in_file.ensures.file c.in_file.ensures.caps c.in_file.ensures.none
+    c.in_file.ensures.file c.in_file.ensures.limits c.in_file.ensures.none
