@@ -1,11 +1,15 @@
-//! Tests of requests carried out: the file header's listing, lookups and applied sections, and how
-//! they end.
+//! Tests of requests carried out: whole answers, every budget up to a cost, each read and each write
+//! failing in turn, files that change between reads, and how a run ends.
 #![tactic(auto)]
 
 #[cfg(test)]
 mod applied;
 #[cfg(test)]
-mod header;
+mod budgets;
+#[cfg(test)]
+mod endings;
+#[cfg(test)]
+mod listings;
 #[cfg(test)]
 mod lookups;
 #[cfg(test)]

@@ -1,15 +1,19 @@
 //! Requests carried out on files in memory, and where each read fails or the output ends early.
 
-ghost use Rattle.std.specs.Prelude.{◌≤◌};
+ghost use Rattle.std.specs.Prelude.{◌<◌, ◌≤◌};
 
+use elf_record::Parts;
 use elf_run::{outcome, run};
 use elf_source::{
     Counted, FailSource, MemorySource, Out, OutFault, SliceSink, Source, SourceFault, WriteSink,
 };
-use elf_table::{HeaderStore, Limits, Stop};
+use elf_table::{Cap, HeaderStore, Limits, Stop};
 use elf_words::{Request, Task};
 use std::process::Abort;
 use std::test::Fail;
+
+/// All parts of a listing.
+pub(crate) const LISTED: Parts = Parts(127);
 
 /// A request with so many headers permitted.
 pub(crate) fn request(headers: u16, task: Task<'_>) -> Result<Request<'_>, Fail> {
@@ -21,6 +25,24 @@ pub(crate) fn request(headers: u16, task: Task<'_>) -> Result<Request<'_>, Fail>
     })
 }
 
+/// A listing of some parts, with names of 63 bytes.
+pub(crate) fn listing(headers: u16, parts: Parts) -> Result<Request<'static>, Fail> {
+    let name = Cap::new(63).ok_or("cap")?;
+    request(headers, Task::Show { parts, name })
+}
+
+/// The same request within a budget.
+pub(crate) fn within<'a>(request: &Request<'a>, budget: u64) -> Request<'a> {
+    Request {
+        file: None,
+        limits: Limits {
+            headers: request.limits.headers,
+            budget: Some(budget),
+        },
+        task: request.task,
+    }
+}
+
 /// What was written, how it ended, how many bytes were asked for, and where the last read stopped.
 #[derive(Drop)]
 pub(crate) struct Finished {
@@ -30,17 +52,18 @@ pub(crate) struct Finished {
     pub(crate) stopped: u64,
 }
 
-/// Carries a request out on what a source gives.
+/// Carries a request out on what a source gives. No limit is left.
 pub(crate) fn carry_out<S: Source + Drop>(
     rt: &(impl Abort + AllocGlobal),
     request: &Request<'_>,
     source: S,
     store: &mut HeaderStore,
 ) -> Finished {
-    assert!(rt; store.slots() == request.headers());
+    assert!(rt; store.slots() == request.limits.headers);
     let mut src = Counted::new(source);
     let mut out = Out::new(WriteSink::new(Vec::new(rt.alloc())));
     let answer = run(request, &mut src, store, &mut out);
+    assert!(rt; src.left() == None);
     Finished {
         text: out.into_inner().into_inner(),
         answer,
@@ -59,45 +82,57 @@ pub(crate) fn check_answer(
     status: u8,
     cost: u128,
 ) -> Result<(), Fail> {
-    let mut store = HeaderStore::new(rt.alloc(), request.headers())?;
-    let Finished {
-        text: written,
-        answer,
-        asked,
-        ..
-    } = carry_out(rt, request, MemorySource::new(file), &mut store);
-    assert!(rt; outcome(&answer) == (status, ""), "status {status}");
-    assert!(rt; written.as_slice() == text, "status {status}");
-    assert!(rt; asked <= cost, "{asked} bytes");
+    let mut store = HeaderStore::new(rt.alloc(), request.limits.headers)?;
+    let finished = carry_out(rt, request, MemorySource::new(file), &mut store);
+    assert!(rt; outcome(&finished.answer) == (status, ""), "status {status}");
+    assert!(rt; finished.text.as_slice() == text, "status {status}");
+    assert!(rt; finished.asked <= cost, "{cost} bytes");
     Ok(())
 }
 
-/// Carries a request out within every budget up to what it costs. It is answered whole, or, within less
-/// than its cost, by the line of the budget alone; and no more is asked for than the budget.
+/// Carries a request out within the budgets up to what it costs: the multiples of a step, and the last
+/// 64. It is answered whole, or, within less than its cost, by the line of the budget: behind whole lines
+/// of a listing, else alone. No more is asked for than the budget.
 pub(crate) fn check_budgets(
     rt: &(impl Abort + AllocGlobal),
     request: &Request<'_>,
     file: &[u8],
     cost: u64,
+    step: u64,
 ) -> Result<(), Fail>
     requires few { cost ≤ 100000 }
+    requires steps { 0 < step }
 {
-    let mut store = HeaderStore::new(rt.alloc(), request.headers())?;
+    let mut store = HeaderStore::new(rt.alloc(), request.limits.headers)?;
     let whole = carry_out(rt, request, MemorySource::new(file), &mut store);
+    let lists = matches!(request.task, Task::Show { .. });
     for budget in 0..=cost {
-        let mut within = *request;
-        within.limits.budget = Some(budget);
+        if budget % step != 0 && budget + 64 < cost {
+            continue;
+        }
+        let within = within(request, budget);
         let answered = carry_out(rt, &within, MemorySource::new(file), &mut store);
         assert!(rt; answered.asked <= u128::from(budget), "{budget} bytes");
         if answered.text != whole.text {
-            assert!(rt; budget < cost);
+            assert!(rt; budget < cost, "within {budget} bytes");
             assert!(rt; outcome(&answered.answer) == (1, ""), "{budget} bytes");
-            assert!(rt; matches!(answered.answer, Err(Stop::Refused(_))));
-            assert!(rt; answered.text.len() == "! 0000000000000000 budget\n".len());
-            assert!(rt; answered.text.ends_with(b" budget\n".as_slice()));
+            let front = front_before_budget(rt, &answered.text);
+            assert!(rt; front.is_empty() || (lists && front.ends_with(b"\n".as_slice())));
+            assert!(rt; front.is_empty() || whole.text.starts_with(front));
+            assert!(rt; answered.asked + 4096 > u128::from(budget) || !lists);
         }
     }
     Ok(())
+}
+
+/// What stands before the line of the budget, which ends a text.
+fn front_before_budget<'a>(rt: &impl Abort, text: &'a [u8]) -> &'a [u8] {
+    let length = "! 0000000000000000 budget\n".len();
+    assert!(rt; text.len() >= length);
+    let (front, last) = text.split_at(text.len() - length);
+    assert!(rt; last.starts_with(b"! ".as_slice()));
+    assert!(rt; last.ends_with(b" budget\n".as_slice()));
+    front
 }
 
 /// Carries a request out with its first read failing, then its second, and so on until none fails:
@@ -110,7 +145,7 @@ pub(crate) fn check_reads(
     offsets: &[u64],
     unwritten: usize,
 ) -> Result<(), Fail> {
-    let mut store = HeaderStore::new(rt.alloc(), request.headers())?;
+    let mut store = HeaderStore::new(rt.alloc(), request.limits.headers)?;
     let whole = carry_out(rt, request, MemorySource::new(file), &mut store);
     for (k, at) in offsets.iter().enumerate() {
         let source = FailSource::new(MemorySource::new(file), k as u64);
@@ -140,14 +175,14 @@ pub(crate) fn check_outputs(
     request: &Request<'_>,
     file: &[u8],
 ) -> Result<(), Fail> {
-    let mut store = HeaderStore::new(rt.alloc(), request.headers())?;
+    let mut store = HeaderStore::new(rt.alloc(), request.limits.headers)?;
     let whole = carry_out(rt, request, MemorySource::new(file), &mut store).text;
-    let mut buffer = [0; 256];
-    assert!(rt; whole.len() <= 256);
+    let mut buffer = [0; 2048];
+    assert!(rt; whole.len() <= 2048);
     for room in 0..whole.len() {
         let mut src = Counted::new(MemorySource::new(file));
         let mut out = Out::new(SliceSink::new(&mut buffer[..room]));
-        assert!(rt; store.slots() == request.headers());
+        assert!(rt; store.slots() == request.limits.headers);
         let answer = run(request, &mut src, &mut store, &mut out);
         let written = room as u128;
         assert!(rt;

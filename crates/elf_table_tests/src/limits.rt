@@ -1,12 +1,10 @@
 //! Reads that run out of a limit name the offset that was asked for.
 use crate::answers::refused;
 use crate::loads::{open, two_pages};
-use crate::tables::rows_given;
-use elf_fakes::Planned;
 use elf_names::{NameIndex, ReadAhead};
 use elf_record::Cause;
 use elf_source::{Counted, MemorySource};
-use elf_table::{Cap, Cursor, Fault, HeaderStore, NameBuf, NameEnd, Names, Table};
+use elf_table::{Cap, Fault, HeaderStore, NameBuf, NameEnd, Names};
 use std::test::Fail;
 
 #[test]
@@ -29,34 +27,6 @@ fn a_load_past_its_limit_names_its_page_and_is_tried_again(rt: HostRuntime) -> R
         assert!(rt; src.left() == Some(0) && store.loaded() == 65);
     }
     Ok(())
-}
-
-#[test]
-fn a_cursor_past_its_limit_fails_the_same_for_good(rt: HostRuntime) {
-    let bytes = [7; 4104];
-    let mut src = Counted::new(Planned::new(&bytes, 0));
-    src.limit(Some(4103));
-    let mut cursor = Cursor::new(Table::new(0, 171, 24));
-    let answer = rows_given(&mut cursor, &mut src, &rt);
-    assert!(rt; answer == refused(4080, Cause::Budget));
-    assert!(rt; src.left() == Some(23) && src.asked() == 4080);
-    src.limit(None);
-    let answer = rows_given(&mut cursor, &mut src, &rt);
-    assert!(rt; answer == refused(4080, Cause::Budget));
-    assert!(rt; src.asked() == 4080);
-    assert!(rt; src.into_inner().reads == 1);
-}
-
-#[test]
-fn a_symbol_past_its_limit_is_refused_at_its_place(rt: HostRuntime) {
-    let bytes = [0; 72];
-    let table = Table::new(0, 3, 24);
-    let mut src = Counted::new(MemorySource::new(&bytes));
-    src.limit(Some(47));
-    assert!(rt; table.symbol(&mut src, 1).is_ok());
-    let answer = table.symbol(&mut src, 2);
-    assert!(rt; answer == refused(48, Cause::Budget));
-    assert!(rt; src.left() == Some(23));
 }
 
 // The answers where a long name of a string table at 20 is read, and where it is compared, each

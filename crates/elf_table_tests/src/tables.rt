@@ -1,14 +1,14 @@
-//! Worked rows, and how often a source is asked.
+//! How often a source is asked for rows.
 ghost use Rattle.std.specs.Prelude.{◌≡◌};
 ghost use Rattle.elf_table.specs.Tables.{RowsWithin};
 
 use elf_fakes::Planned;
-use elf_source::{Counted, MemorySource, Source, SourceFault};
+use elf_source::{Counted, Source, SourceFault};
 use elf_table::{Cursor, Fault, Table};
 use std::process::Abort;
 
 /// How many rows of 24 bytes a cursor gives, each with its index and offset.
-pub(crate) fn rows_given<S: Source>(
+fn rows_given<S: Source>(
     cursor: &mut Cursor,
     src: &mut Counted<S>,
     rt: &impl Abort,
@@ -61,18 +61,6 @@ fn a_failed_cursor_fails_the_same_for_good(rt: HostRuntime) {
         at: 4080,
     };
     assert!(rt; walk_twice(171, 2, &rt) == (Err(fault), Err(fault), 2, 4104));
-}
-
-#[test]
-fn a_symbol_is_read_by_its_index(rt: HostRuntime) {
-    let mut bytes = [0; 72];
-    bytes[24] = 5;
-    bytes[48] = 9;
-    let table = Table::new(0, 3, 24);
-    let mut src = Counted::new(MemorySource::new(&bytes));
-    let symbol = table.symbol(&mut src, 1);
-    assert!(rt; matches!(&symbol, Ok(symbol) if symbol.st_name == 5));
-    assert!(rt; src.asked() == 24);
 }
 
 #[test]

@@ -1,16 +1,11 @@
-//! Tests of sources, sinks, records, lines and relocation values, in a crate of their own: a crate
-//! with tests is proved twice.
+//! Tests of what no clause says of sources, sinks and lines: readers and writers that give or take
+//! little, are interrupted, fail or end, and how often they are called. They are in a crate of their
+//! own, since a crate with tests is proved twice.
 #![tactic(auto)]
 
 #[cfg(test)]
-mod limits;
-#[cfg(test)]
 mod lines;
-#[cfg(test)]
-mod records;
 #[cfg(test)]
 mod sources;
 #[cfg(test)]
 mod streams;
-#[cfg(test)]
-mod values;

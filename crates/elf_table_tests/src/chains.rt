@@ -1,13 +1,12 @@
-//! Names that are longer than a piece, and one chain of all symbols.
+//! How often a source is read for a lookup along a chain of all symbols.
 ghost use Rattle.std.specs.Prelude.{◌<◌};
 
-use crate::looking::{Looked, look_in};
 use elf_fakes::Planned;
 use elf_fixtures::bare_header;
-use elf_hash::Lookup;
-use elf_headers::HeaderStore;
+use elf_hash::find;
 use elf_record::{Ehdr, Shdr, Sym};
-use elf_source::MemorySource;
+use elf_source::Counted;
+use elf_table::HeaderStore;
 use std::process::Abort;
 use std::test::Fail;
 
@@ -82,69 +81,14 @@ fn one_chain(rt: &impl Abort) -> [u8; SIZE] {
     file
 }
 
-/// How many bytes a lookup asks for that finds a symbol at so many steps: the file header, the
-/// section headers, the counts; and for each step a word, a symbol, and a name with its NUL.
-fn asked_at(steps: u32) -> u128 {
-    64 + 256 + 8 + u128::from(steps) * (4 + 24 + 101)
-}
-
-#[test]
-fn each_symbol_of_a_long_chain_is_found_and_read_once(rt: HostRuntime) -> Result<(), Fail> {
-    let file = one_chain(&rt);
-    let mut store = HeaderStore::new(rt.alloc(), 4)?;
-    for index in 1..SYMBOLS {
-        let wanted = name(index);
-        let Looked { answer, asked, .. } = look_in(
-            &rt,
-            MemorySource::new(&file),
-            &mut store,
-            &wanted,
-        );
-        let Ok(
-            Lookup::Found {
-                index: found,
-                steps,
-                symbol,
-                ..
-            },
-        ) = answer
-        else {
-            return Err("no symbol".into());
-        };
-        assert!(rt; found == index as u32 && steps == index as u32, "{index}");
-        assert!(rt; symbol.st_name == 1 + 101 * (found - 1), "{index}");
-        assert!(rt; asked == asked_at(steps), "{index}");
-    }
-    Ok(())
-}
-
-#[test]
-fn a_name_behind_all_others_is_absent(rt: HostRuntime) -> Result<(), Fail> {
-    let file = one_chain(&rt);
-    let mut store = HeaderStore::new(rt.alloc(), 4)?;
-    let looked = look_in(&rt, MemorySource::new(&file), &mut store, &name(99));
-    assert!(rt; looked.answer == Ok(Lookup::Absent { steps: 40 }));
-    // The word behind the last symbol too.
-    assert!(rt; looked.asked == 64 + 256 + 8 + 40 * (4 + 24 + 101) + 4);
-    assert!(rt; looked.asked <= 76 + 256 + 40 * (28 + 128));
-    // A front of all names, and more than any.
-    let looked = look_in(&rt, MemorySource::new(&file), &mut store, &[b'n'; 98]);
-    assert!(rt; looked.answer == Ok(Lookup::Absent { steps: 40 }));
-    let looked = look_in(&rt, MemorySource::new(&file), &mut store, &[b'n'; 4096]);
-    assert!(rt; looked.answer == Ok(Lookup::Absent { steps: 40 }));
-    assert!(rt; looked.asked <= 76 + 256 + 40 * (28 + 4160));
-    Ok(())
-}
-
 #[test]
 fn a_lookup_reads_word_by_word(rt: HostRuntime) -> Result<(), Fail> {
     let file = one_chain(&rt);
     let mut store = HeaderStore::new(rt.alloc(), 4)?;
-    let mut source = Planned::new(&file, 0);
-    let mut src = elf_source::Counted::new(source);
-    let answer = elf_hash::find(&mut src, &mut store, &name(40));
+    let mut src = Counted::new(Planned::new(&file, 0));
+    let answer = find(&mut src, &mut store, &name(40));
     assert!(rt; answer.is_ok());
-    source = src.into_inner();
+    let source = src.into_inner();
     // The file header, the section headers, two counts, the bucket's word; a symbol, a name and a
     // word for each step but the last.
     assert!(rt; source.reads == 5 + 3 * 40 - 1 && source.largest == 256);

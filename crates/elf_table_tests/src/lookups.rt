@@ -1,9 +1,43 @@
 //! Lookups in sources that answer otherwise at each read, and in those that fail.
-use crate::looking::{cost, look_in};
 use elf_fixtures::{hash_with_cycle, hash_with_end, with_bytes};
-use elf_headers::{Fault, HeaderStore};
-use elf_source::{FailSource, MemorySource, SourceFault, TurnSource};
+use elf_hash::{Lookup, find};
+use elf_source::{Counted, FailSource, MemorySource, Source, SourceFault, TurnSource};
+use elf_table::{Fault, HeaderStore};
+use std::process::Abort;
 use std::test::Fail;
+
+/// What a lookup answered, how many bytes it asked for, and where its last read stopped.
+#[derive(Drop)]
+struct Looked {
+    answer: Result<Lookup, Fault>,
+    asked: u128,
+    stopped: u64,
+}
+
+/// Looks a name up in what a source gives.
+fn look_in<S: Source + Drop>(
+    rt: &impl Abort,
+    source: S,
+    store: &mut HeaderStore,
+    wanted: &[u8],
+) -> Looked {
+    let mut src = Counted::new(source);
+    assert!(rt; wanted.len() <= 4096);
+    let answer = find(&mut src, store, wanted);
+    assert!(rt; src.left() == None);
+    Looked {
+        answer,
+        asked: src.asked(),
+        stopped: src.stopped(),
+    }
+}
+
+/// How many bytes a lookup may ask for in a file with four sections, once it has compared so many
+/// names with one of so many bytes.
+fn cost(compared: u32, length: u32) -> u128 {
+    let pieces = (u128::from(length) + 1 + 63) / 64;
+    76 + 64 * 4 + u128::from(compared) * (28 + 64 * pieces)
+}
 
 #[test]
 fn a_file_that_changes_between_reads_is_asked_for_no_more(rt: HostRuntime) -> Result<(), Fail> {

@@ -1,7 +1,6 @@
-//! Entries whose offsets rise, and fall; and a source that answers otherwise in the second pass.
+//! A source whose entries rise in the first pass, and fall in the second.
 
-use crate::applying::applied;
-use elf_apply::{Applied, apply};
+use elf_apply::apply;
 use elf_fixtures::{falling_relocations, rising_relocations};
 use elf_layout::Layout;
 use elf_record::{Cause, Refusal};
@@ -40,52 +39,6 @@ impl<'a> Source for Turning<'a> {
         self.turns = self.turns.saturating_sub(1);
         Ok(())
     }
-}
-
-const WHOLE: Applied = Applied {
-    size: 128,
-    entries: 4,
-};
-
-/// The section with the four entries applied.
-fn wanted() -> [u8; 128] {
-    let mut bytes = [0; 128];
-    bytes[0] = 2;
-    bytes[1] = 1;
-    bytes[62] = 4;
-    bytes[63] = 6;
-    bytes[64] = 5;
-    bytes[126] = 8;
-    bytes[127] = 7;
-    bytes
-}
-
-#[test]
-fn rising_offsets_take_one_pass(rt: HostRuntime) -> Result<(), Fail> {
-    let mut store = HeaderStore::new(rt.alloc(), 3)?;
-    let mut bytes = [9; 128];
-    let (answer, written, asked) = applied(
-        rising_relocations(),
-        &Layout::new(),
-        &mut store,
-        &mut bytes,
-    );
-    assert!(rt; (answer, written) == (Ok(WHOLE), 128));
-    assert!(rt; bytes == wanted());
-    assert!(rt; asked == 64 + 192 + 2 * 4 * 24 + 128, "{asked}");
-    Ok(())
-}
-
-#[test]
-fn falling_offsets_take_windows(rt: HostRuntime) -> Result<(), Fail> {
-    let mut store = HeaderStore::new(rt.alloc(), 3)?;
-    let mut bytes = [9; 128];
-    let file = falling_relocations();
-    let (answer, written, asked) = applied(&file, &Layout::new(), &mut store, &mut bytes);
-    assert!(rt; (answer, written) == (Ok(WHOLE), 128));
-    assert!(rt; bytes == wanted());
-    assert!(rt; asked == 64 + 192 + 3 * 4 * 24 + 128, "{asked}");
-    Ok(())
 }
 
 #[test]

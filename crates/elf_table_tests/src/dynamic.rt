@@ -1,11 +1,10 @@
-//! Worked tables of dynamic entries, and how often a source is asked.
+//! How often a source is asked for dynamic entries.
 ghost use Rattle.std.specs.Prelude.{◌≡◌};
 ghost use Rattle.elf_table.specs.Tables.{RowsWithin};
 
 use elf_fakes::Planned;
-use elf_fixtures::repeated_tags;
-use elf_note::{DynCursor, DynStrings, dynamic_rows, dynamic_strings};
-use elf_source::{Counted, MemorySource, Source, SourceFault};
+use elf_note::{DynCursor, dynamic_rows};
+use elf_source::{Counted, Source, SourceFault};
 use elf_table::{Fault, Table};
 use std::process::Abort;
 
@@ -44,15 +43,6 @@ fn walk_twice(
 }
 
 #[test]
-fn entries_end_with_the_first_null(rt: HostRuntime) {
-    for (count, given) in [(0, 0), (1, 1), (3, 3), (4, 4), (5, 4)] {
-        let reads = if count == 0 { 0 } else { 1 };
-        let answer = walk_twice(&repeated_tags()[..16 * count], 0, &rt);
-        assert!(rt; answer == (Ok(given), Ok(0), reads), "{count} entries");
-    }
-}
-
-#[test]
 fn entries_are_read_by_pages(rt: HostRuntime) {
     let null = [0; 4096];
     assert!(rt; walk_twice(&null, 0, &rt) == (Ok(1), Ok(0), 1));
@@ -71,45 +61,4 @@ fn a_failed_cursor_over_entries_fails_the_same_for_good(rt: HostRuntime) {
         let answer = walk_twice(&others, failing, &rt);
         assert!(rt; answer == (Err(fault), Err(fault), failing), "{failing}");
     }
-}
-
-// Where so many of these entries say that their string table is, and how many bytes were asked for.
-fn strings_of(count: u64, rt: &impl Abort) -> (Result<DynStrings, Fault>, u128) {
-    assert!(rt; count <= 5);
-    let mut src = Counted::new(MemorySource::new(repeated_tags()));
-    let answer = dynamic_strings(Table::new(0, count, 16), &mut src);
-    (answer, src.asked())
-}
-
-#[test]
-fn the_first_values_before_a_null_tell_where_strings_are(rt: HostRuntime) {
-    let none = DynStrings {
-        address: None,
-        size: None,
-    };
-    let known = DynStrings {
-        address: Some(2),
-        size: None,
-    };
-    assert!(rt; strings_of(0, &rt) == (Ok(none), 0));
-    assert!(rt; strings_of(1, &rt) == (Ok(none), 16));
-    assert!(rt; strings_of(3, &rt) == (Ok(known), 48));
-    assert!(rt; strings_of(5, &rt) == (Ok(known), 80));
-}
-
-#[test]
-fn the_values_of_strings_are_those_of_their_tags(rt: HostRuntime) {
-    let mut src = Counted::new(MemorySource::new(repeated_tags()));
-    let answer = dynamic_strings(Table::new(64, 1, 16), &mut src);
-    let size_alone = DynStrings {
-        address: None,
-        size: Some(5),
-    };
-    assert!(rt; answer == Ok(size_alone));
-    let fault = Fault::Source {
-        fault: SourceFault::Device,
-        at: 16,
-    };
-    let mut src = Counted::new(Planned::new(repeated_tags(), 1));
-    assert!(rt; dynamic_strings(Table::new(16, 2, 16), &mut src) == Err(fault));
 }
