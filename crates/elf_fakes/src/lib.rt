@@ -11,5 +11,5 @@ mod tape;
 pub use pieces::Pieces;
 pub use printer::Printer;
 pub use script::{Script, Trouble};
-pub use sources::{Ending, Planned};
+pub use sources::Planned;
 pub use tape::{Tape, stands_at};

@@ -1,4 +1,4 @@
-//! Sources that fail, or end.
+//! A source that fails.
 ghost use Rattle.std.specs.Prelude.{◌≡◌};
 
 use elf_source::{Source, SourceFault};
@@ -60,29 +60,5 @@ impl<'a> Source for Planned<'a> {
         let start = at as usize;
         out.copy_from_slice(&self.bytes[start..start + out.len()]);
         Ok(())
-    }
-}
-
-/// A source that is never honest: it has a length in bytes, and each read ends.
-#[derive(Drop)]
-pub struct Ending {
-    /// Its length in bytes.
-    pub length: u64,
-}
-
-impl Source for Ending {
-    ghost use Rattle.std.specs.Prelude.{◌≡◌};
-    ghost use Rattle.elf_source.specs.Source.{unknown};
-
-    ghost seen = { λ s. unknown s.length 0 };
-
-    ghost one_read = { λ before _ _ after. after ≡ before };
-
-    fn length(&self) -> u64 {
-        self.length
-    }
-
-    fn fill(&mut self, _at: u64, _out: &mut [u8]) -> Result<(), SourceFault> {
-        Err(SourceFault::Ended)
     }
 }
