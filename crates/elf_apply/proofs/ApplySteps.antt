@@ -4,7 +4,7 @@ use Rattle.elf_model.specs.Apply.{Patch, Change, Put, Fails, apply_checks, has_n
 use Rattle.elf_model.specs.ApplyLaws.{AllInside}
 use Rattle.elf_model.specs.Budget.{IsBudget}
 use Rattle.elf_model.specs.Bytes.{slice}
-use Rattle.elf_model.specs.Checks.{first_refusal, is_section_outside, header_checks, load_checks}
+use Rattle.elf_model.specs.Checks.{refuse, first_refusal, is_outside, is_section_outside, header_checks, load_checks}
 use Rattle.elf_model.proofs.CheckSteps.{first_refusal-none, first_refusal-some}
 use Rattle.elf_model.specs.Placing.{Layout}
 use Rattle.elf_model.specs.Records.{e_type, e_machine, e_shnum, sh_offset, sh_size, section_at}
@@ -14,6 +14,8 @@ use Rattle.elf_model.specs.declared.causes.Refusal.{Refusal}
 use Rattle.elf_model.proofs.ApplySteps.{applied-refused, applied-fault, applied-patched}
 use Rattle.elf_model.proofs.ChangeLaws.{changes_inside}
 use Rattle.elf_source.specs.Output.{Written, TakesFront}
+use Rattle.elf_record.specs.Ehdr.{IsEhdr}
+use Rattle.elf_record.specs.declared.ehdr.Ehdr.{Ehdr}
 use Rattle.elf_headers.specs.Faults.{HeaderRead}
 use Rattle.elf_headers.specs.Load.{Belongs, LoadedAs}
 use Rattle.elf_headers.specs.Store.{Stored}
@@ -28,75 +30,38 @@ use Rattle.elf_apply.specs.declared.applying.Applied.{Applied}
 use Rattle.elf_apply.specs.declared.entry.Target.{Target as TargetCode}
 use Rattle.elf_headers.specs.declared.stop.Stop.{Stop}
 use Rattle.elf_headers.specs.declared.stop.Stop.TheVariants.{Refused, Source, Out}
-use Rattle.std.proofs.lemmas.Bool.{ne_eqb}
 use Rattle.elf_apply.proofs.WindowSteps.{front_none}
 
--- the check of a section's range, unless it has no bytes
-abbrev last_checks : ℕ → Bool → Bool → Option Refusal
-last_checks at none out = elim none [ true ↦ None | false ↦ elim out [ true ↦ Some (record { at = at; cause = TableOutside }) | false ↦ None ] ]
-
--- the checks of the request
-module _ (file : List ℕ) (section : ℕ) where
-  pub checks_type : (type : ℕ) → type ≡ e_type file → (type ≡ 1 → ⊥) → first_refusal (apply_checks file section) ≡ Some (record { at = 0x10; cause = NotRel })
+-- the checks of the request, by what each of them finds
+module _ (file : List ℕ) (section : ℕ) (header stored : Ehdr) (same : header ≡ stored) (is : IsEhdr file 0 stored) where
+  pub checks_by :
+      (a b x y z : Bool) → (header.e_type == 1) ≡ a → (header.e_machine == 62) ≡ b → not (section == 0 || not (nat_lt section header.e_shnum)) ≡ x
+      → has_no_bytes file (section_at file section) ≡ y → is_section_outside file (section_at file section) ≡ z
+      → first_refusal (apply_checks file section)
+      ≡ first_refusal (refuse (not a) 0x10 NotRel ∷ refuse (not b) 0x12 NotRel ∷ refuse (not x) 0x3c BadLink ∷ (if y then [] else (refuse z (section_at file section) TableOutside ∷ [])))
   unfolding apply_checks
-  checks_type type t other = let wrong : (e_type file == 1) ≡ false = ap (λ k. k == 1) (sym t) ∙ ne_eqb type 1 other in rw (wrong, apply_checks) refl
-
-  pub checks_machine : (type machine : ℕ) → type ≡ e_type file → type ≡ 1 → machine ≡ e_machine file → (machine ≡ 62 → ⊥) → first_refusal (apply_checks file section) ≡ Some (record { at = 0x12; cause = NotRel })
-  unfolding apply_checks
-  checks_machine type machine t is m other =
-      let right : e_type file ≡ 1 = sym t ∙ is in
-      let wrong : (e_machine file == 62) ≡ false = ap (λ k. k == 62) (sym m) ∙ ne_eqb machine 62 other in rw (right, apply_checks) (rw (wrong, apply_checks) refl)
-
-  checks_rest : (type machine count : ℕ) (bad : Bool) (answer : Option Refusal) → type ≡ e_type file → type ≡ 1 → machine ≡ e_machine file → machine ≡ 62 → count ≡ e_shnum file → (section == 0 || not (nat_lt section count)) ≡ bad
-      → (elim bad as (λ _. Option Refusal) [ true ↦ Some (record { at = 0x3c; cause = BadLink }) | false ↦ elim (has_no_bytes file (section_at file section)) [ true ↦ None | false ↦ elim (is_section_outside file (section_at file section)) [ true ↦ Some (record { at = section_at file section; cause = TableOutside }) | false ↦ None ] ] ]) ≡ answer
-      → first_refusal (apply_checks file section) ≡ answer
-  unfolding apply_checks
-  checks_rest type machine count bad answer t is m is' n b e =
-      let right : e_type file ≡ 1 = sym t ∙ is in
-      let right' : e_machine file ≡ 62 = sym m ∙ is' in
-      let third : (section == 0 || not (nat_lt section (e_shnum file))) ≡ bad = ap (λ k. section == 0 || not (nat_lt section k)) (sym n) ∙ b in
-      rw (right, apply_checks) (rw (right', apply_checks) (rw (third, apply_checks) (by_cases bad (has_no_bytes file (section_at file section)) (is_section_outside file (section_at file section)) ∙ e)))
+  checks_by a b x y z ea eb ex ey ez =
+      let type : (e_type file == 1) ≡ a = ap (λ k. k == 1) (sym (ap (λ (h : Ehdr). h.e_type) same ∙ is.e_type)) ∙ ea in
+      let machine : (e_machine file == 62) ≡ b = ap (λ k. k == 62) (sym (ap (λ (h : Ehdr). h.e_machine) same ∙ is.e_machine)) ∙ eb in
+      let count : e_shnum file ≡ header.e_shnum = sym (ap (λ (h : Ehdr). h.e_shnum) same ∙ is.e_shnum) in
+      let index : (section == 0 || not (nat_lt section (e_shnum file))) ≡ not x = twice _ ∙ ap not (ap (λ k. not (section == 0 || not (nat_lt section k))) count ∙ ex) in
+      rw (type, apply_checks) (rw (machine, apply_checks) (rw (index, apply_checks) (rw (ey, apply_checks) (rw (ez, apply_checks) refl))))
     where
-      by_cases : (x y z : Bool) → first_refusal (record { fails = x; refusal = record { at = 0x3c; cause = BadLink } } ∷ (if y then [] else (record { fails = z; refusal = record { at = section_at file section; cause = TableOutside } } ∷ [])))
-          ≡ (elim x as (λ _. Option Refusal) [ true ↦ Some (record { at = 0x3c; cause = BadLink }) | false ↦ elim y [ true ↦ None | false ↦ elim z [ true ↦ Some (record { at = section_at file section; cause = TableOutside }) | false ↦ None ] ] ])
-      by_cases true y z = refl
-      by_cases false true z = refl
-      by_cases false false true = refl
-      by_cases false false false = refl
+      twice : (b : Bool) → b ≡ not (not b)
+      twice true = refl
+      twice false = refl
 
-  pub checks_index : (type machine count : ℕ) → type ≡ e_type file → type ≡ 1 → machine ≡ e_machine file → machine ≡ 62 → count ≡ e_shnum file → not (section == 0 || not (nat_lt section count)) ≡ false
-      → first_refusal (apply_checks file section) ≡ Some (record { at = 0x3c; cause = BadLink })
-  checks_index type machine count t is m is' n bad = checks_rest type machine count true _ t is m is' n (negated (section == 0 || not (nat_lt section count)) bad) refl
-    where
-      negated : (b : Bool) → not b ≡ false → b ≡ true
-      negated true h = refl
-      negated false h = cc
+-- whether the section's range ends outside the file, by the fields of its header
+pub outside_by : (file : List ℕ) (at size offset bytes : ℕ) (out found : Bool) → size ≡ length file → offset ≡ sh_offset file at → bytes ≡ sh_size file at → out ≡ is_outside size offset bytes → out ≡ found → is_section_outside file at ≡ found
+outside_by file at size offset bytes out found s o b is same = rw (sym s, sym o, sym b) (sym is ∙ same)
 
-  checks_good : (type machine count : ℕ) (none out : Bool) (answer : Option Refusal) → type ≡ e_type file → type ≡ 1 → machine ≡ e_machine file → machine ≡ 62 → count ≡ e_shnum file → not (section == 0 || not (nat_lt section count)) ≡ true
-      → has_no_bytes file (section_at file section) ≡ none → is_section_outside file (section_at file section) ≡ out → last_checks (section_at file section) none out ≡ answer
-      → first_refusal (apply_checks file section) ≡ answer
-  checks_good type machine count none out answer t is m is' n good h o e =
-      checks_rest type machine count false answer t is m is' n (negated (section == 0 || not (nat_lt section count)) good)
-      (ap (λ x. last_checks (section_at file section) x (is_section_outside file (section_at file section))) h ∙ (ap (last_checks (section_at file section) none) o ∙ e))
-    where
-      negated : (b : Bool) → not b ≡ true → b ≡ false
-      negated true h = cc
-      negated false h = refl
+pub held_none : (file : List ℕ) (at : ℕ) → has_no_bytes file at ≡ true → slice file 0 0 ≡ held_bytes file at
+unfolding held_bytes
+held_none file at h = rw (h, held_bytes) refl
 
-  pub checks_none : (type machine count : ℕ) → type ≡ e_type file → type ≡ 1 → machine ≡ e_machine file → machine ≡ 62 → count ≡ e_shnum file → not (section == 0 || not (nat_lt section count)) ≡ true
-      → has_no_bytes file (section_at file section) ≡ true → HeldIs file section (Ok (0, 0))
-  unfolding held_bytes
-  checks_none type machine count t is m is' n good h = (checks_good type machine count true _ None t is m is' n good h refl refl, rw (h, held_bytes) refl)
-
-  pub checks_outside : (type machine count : ℕ) → type ≡ e_type file → type ≡ 1 → machine ≡ e_machine file → machine ≡ 62 → count ≡ e_shnum file → not (section == 0 || not (nat_lt section count)) ≡ true
-      → has_no_bytes file (section_at file section) ≡ false → is_section_outside file (section_at file section) ≡ true → first_refusal (apply_checks file section) ≡ Some (record { at = section_at file section; cause = TableOutside })
-  checks_outside type machine count t is m is' n good h o = checks_good type machine count false true _ t is m is' n good h o refl
-
-  pub checks_held : (type machine count at size : ℕ) → type ≡ e_type file → type ≡ 1 → machine ≡ e_machine file → machine ≡ 62 → count ≡ e_shnum file → not (section == 0 || not (nat_lt section count)) ≡ true
-      → has_no_bytes file (section_at file section) ≡ false → is_section_outside file (section_at file section) ≡ false → at ≡ sh_offset file (section_at file section) → size ≡ sh_size file (section_at file section) → HeldIs file section (Ok (at, size))
-  unfolding held_bytes
-  checks_held type machine count at size t is m is' n good h o a s =
-      (checks_good type machine count false false None t is m is' n good h o refl, rw (h, held_bytes) (ap (λ k. slice file k size) a ∙ ap (slice file (sh_offset file (section_at file section))) s))
+pub held_some : (file : List ℕ) (at offset size : ℕ) → has_no_bytes file at ≡ false → offset ≡ sh_offset file at → size ≡ sh_size file at → slice file offset size ≡ held_bytes file at
+unfolding held_bytes
+held_some file at offset size h o s = rw (h, held_bytes) (ap (λ k. slice file k size) o ∙ ap (slice file (sh_offset file at)) s)
 
 pub held_refused : (file : List ℕ) (section : ℕ) (result : Result (ℕ × ℕ) Fault) (at : ℕ) (cause : Cause) → result ≡ Err (Refuses (record { at = at; cause = cause })) → first_refusal (apply_checks file section) ≡ Some (record { at = at; cause = cause }) → HeldIs file section result
 held_refused file section result at cause e h = let P : Result (ℕ × ℕ) Fault → Type 0 = λ r. HeldIs file section r in subst P (sym e) h

@@ -212,7 +212,3 @@ order_within file headers section layout bound never falls = elim (cases_Bool (o
   | inl h ↦ let is = cost_by_order-never_falls file headers section layout h in let within = never h in omega (arith, is, within)
   | inr h ↦ let is = cost_by_order-falls file headers section layout h in omega (arith, is, falls)
 ]
-
--- one of the two passes where the offsets never fall
-pub checked_twice : (walk size before after : ℕ) → after ≤ before + walk → after ≤ before + (2 * walk + size)
-checked_twice walk size before after h = omega (arith, h)

@@ -11,6 +11,8 @@ use Rattle.elf_model.specs.declared.causes.Refusal.{Refusal}
 use Rattle.elf_model.proofs.PatchLaws.{window_put, length_kept, final_below, kept_above}
 use Rattle.elf_source.specs.Output.{Written, Takes, TakesFront}
 use Rattle.elf_source.proofs.PutsLaws.{Takes-nothing, Takes-then, TakesFront-then, TakesFront-more}
+use Rattle.elf_source.specs.Source.{Counting}
+use Rattle.elf_headers.specs.Faults.{ReadSays}
 use Rattle.elf_headers.specs.declared.fault.Fault.{Fault}
 use Rattle.elf_headers.specs.declared.fault.Fault.TheVariants.{Refused as Refuses, Source as Unread}
 use Rattle.elf_apply.specs.InOrder.{Holding, Midway, Rises, UnderWay, IsNoRefusal}
@@ -21,7 +23,7 @@ use Rattle.elf_apply.specs.declared.entry.Target.{Target as TargetCode}
 use Rattle.elf_apply.specs.declared.walk.Entries.{Entries}
 use Rattle.elf_headers.specs.declared.stop.Stop.{Stop}
 use Rattle.elf_headers.specs.declared.stop.Stop.TheVariants.{Refused, Source, Out}
-use Rattle.elf_apply.proofs.WindowSteps.{IsNotBudget, and_is, window_more, window_stopped, take_more}
+use Rattle.elf_apply.proofs.WindowSteps.{and_is, window_more, window_stopped, take_more}
 use Rattle.elf_model.proofs.Slices.{slice-size, slice-slice, slice-rest}
 
 pub slice_split : (now : List ℕ) (low n k m : ℕ) → n ≡ k + m → slice now low n ≡ slice now low k ++ slice now (low + k) m
@@ -300,8 +302,8 @@ underway_start base h left patches a low none are inside rises =
     }
 
 -- a fault of the walk, by the change that it stands for
-pub finds_refusal : (file : List ℕ) (target : TargetCode) (old new : Entries) (fault : Fault) → IsNotBudget fault → FindsEntry file target old new (Err fault) → (refusal : Refusal) → fault ≡ Refuses refusal → (more : List Change) × (changes_left file target old ≡ Fails refusal ∷ more)
-finds_refusal file target old new (Refuses other) wanted finds refusal e =
+pub finds_refusal : (file : List ℕ) (target : TargetCode) (old new : Entries) (fault : Fault) (a b : Counting) → ReadSays a b fault → FindsEntry file target old new (Err fault) → (refusal : Refusal) → fault ≡ Refuses refusal → (more : List Change) × (changes_left file target old ≡ Fails refusal ∷ more)
+finds_refusal file target old new (Refuses other) a b wanted finds refusal e =
     let same : other ≡ refusal = cc in
     let found = finds wanted in (found.0, found.1 ∙ ap (λ r. Fails r ∷ found.0) same)
-finds_refusal file target old new (Unread fault at) wanted finds refusal e = cc
+finds_refusal file target old new (Unread fault at) a b wanted finds refusal e = cc

@@ -55,20 +55,11 @@ folds_ok value expected answer h e = cc
 pub front_none : (a : Written) (text : List ℕ) → TakesFront a a text
 front_none a text = record { front = []; rest = text; split = refl; takes = Takes-nothing a }
 
--- a fault that is no refusal for want of budget
-abbrev pub IsNotBudget : Fault → Type 0
-IsNotBudget (Refuses refusal) = IsBudget refusal → ⊥
-IsNotBudget (Unread fault at) = Unit {0}
-
-pub not_budget : (a b : Counting) (fault : Fault) → ReadSays a b fault → IsNotBudget fault
-not_budget a b (Refuses refusal) says = says
-not_budget a b (Unread fault at) says = tt
-
 -- a pass failed: a refusal can't be, and a fault of the source leaves nothing written
-pub pass_failed : (X : Type 0) (a : Written) (fault : Fault) (result : Result X Stop) (text value : List ℕ) (answer : Result (List ℕ) Refusal)
-    → result ≡ Err (stop_of fault) → answer ≡ Ok text → IsNotBudget fault → Folds {X = X} (Err fault) value answer → WritesBytes a a result text
-pass_failed X a (Refuses refusal) result text value answer is ok other folds = let refused = folds other in cc
-pass_failed X a (Unread fault at) result text value answer is ok other folds =
+pub pass_failed : (X : Type 0) (b c : Counting) (a : Written) (fault : Fault) (result : Result X Stop) (text value : List ℕ) (answer : Result (List ℕ) Refusal)
+    → result ≡ Err (stop_of fault) → answer ≡ Ok text → ReadSays b c fault → Folds {X = X} (Err fault) value answer → WritesBytes a a result text
+pass_failed X b c a (Refuses refusal) result text value answer is ok other folds = let refused = folds other in cc
+pass_failed X b c a (Unread fault at) result text value answer is ok other folds =
     let P : Result X Stop → Type 0 = λ r. WritesBytes a a r text in subst P (sym is) (front_none a text)
 
 -- a read failed
@@ -81,9 +72,6 @@ read_failed X a (Unread fault at) result text is unread =
 pub fault_says : (a b : Counting) (out : Written) (fault : Fault) → ReadSays a b fault → ApplyFaultSays a b out (stop_of fault)
 fault_says a b out (Refuses refusal) says = says
 fault_says a b out (Unread fault at) says = says
-
-pub says_as : (a b : Counting) (out : Written) (fault : Fault) (other : Stop) → other ≡ stop_of fault → ReadSays a b fault → ApplyFaultSays a b out other
-says_as a b out fault other is says = let P : Stop → Type 0 = λ f. ApplyFaultSays a b out f in subst P (sym is) (fault_says a b out fault says)
 
 pub FaultSays-then : (a b c : Counting) (n : ℕ) (out : Written) (fault : Stop) → Reads a b n → ApplyFaultSays b c out fault → ApplyFaultSays a c out fault
 FaultSays-then a b c n out (Refused refusal) reads says = says
@@ -121,17 +109,16 @@ window_stopped X a b c text done n (Refused refusal) before this = absurd this
 window_stopped X a b c text done n (Source fault at) before this = front_then a b c text done n before this
 window_stopped X a b c text done n (Out fault) before this = front_then a b c text done n before this
 
--- all windows
-pub windows_end : (a b : Written) (patches : List Patch) (base : List ℕ) (done size : ℕ) → length base ≡ size → AllInside size patches → size ≤ done → Takes a b (take done (patched patches base)) → Takes a b (patched patches base)
-windows_end a b patches base done size long inside past h =
-    let all : AllInside (length base) patches = rw long inside in
-    let kept : length (patched patches base) ≡ size = length_kept patches base all ∙ long in
-    let P : List ℕ → Type 0 = λ t. Takes a b t in subst P (take_all done (patched patches base) (omega arith)) h
-
 -- a patched section is as long as the section
 pub length_patched : (patches : List Patch) (base : List ℕ) (size : ℕ) → length base ≡ size → AllInside size patches → length (patched patches base) ≡ size
 length_patched patches base size long inside =
     let all : AllInside (length base) patches = rw long inside in length_kept patches base all ∙ long
+
+-- all windows
+pub windows_end : (a b : Written) (patches : List Patch) (base : List ℕ) (done size : ℕ) → length base ≡ size → AllInside size patches → size ≤ done → Takes a b (take done (patched patches base)) → Takes a b (patched patches base)
+windows_end a b patches base done size long inside past h =
+    let kept = length_patched patches base size long inside in
+    let P : List ℕ → Type 0 = λ t. Takes a b t in subst P (take_all done (patched patches base) (omega (arith, kept, past))) h
 
 -- the account
 pub windows_account : (size done count next walk before after start bound : ℕ) → done < size → count ≡ min (size - done) 64 → next ≡ done + count → after ≤ before + (walk + count)

@@ -22,14 +22,3 @@ abbrev pub ValueOrRefusal : {X : Type 0} → Result X Fault → Result X Refusal
 ValueOrRefusal (Ok x) answer = answer ≡ Ok x
 ValueOrRefusal (Err (Refused refusal)) answer = (IsBudget refusal → ⊥) → answer ≡ Err refusal
 ValueOrRefusal (Err (Source fault at)) answer = Unit {0}
-
--- what a call did that reads for an answer: it asked for at most n bytes, a fault says what is so, and this holds of the file
-pub record Consults {X : Type 0} (old new : Counting) (result : Result X Fault) (n : ℕ) (Told : List ℕ → Type 0) : Type 0 where
-  pub reads : Reads old new n
-  pub says : IfErr result (Says old new n)
-  pub told : (file : List ℕ) → old.seen.file ≡ Some file → Told file
-
--- the same where the answer is a value of a symbol, by the file and the strings of its name
-abbrev pub ConsultsSymbol : Counting → Counting → Result ℕ Fault → Symbol → ℕ → (List ℕ → List ℕ → Result ℕ Refusal) → Type 0
-ConsultsSymbol old new result symbol n value =
-    Consults old new result n (λ file. IsSym file symbol.at symbol.fields → ValueOrRefusal result (value file (strings_in file symbol.names)))

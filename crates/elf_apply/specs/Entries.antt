@@ -75,18 +75,3 @@ taken_place formula target rela =
       | true ↦ place_value target.file target.layout target.section rela
       | false ↦ Ok 0
     ]
-
--- what a call did that reads what an entry at an offset stores, bytes that lie inside the section
-pub record ConsultsEntry {X : Type 0} (old new : Counting) (result : Result X Fault) (target : TargetCode) (linked : Option (Rows × Strings)) (entry : Rela) (at : ℕ) (Inside : ℕ → X → Type 0) (Told : Target → ℕ → Type 0) : Type 0 where
-  pub reads : Reads old new (24 + layout_names_cost target.layout.now)
-  pub says : IfErr result (Says old new (24 + layout_names_cost target.layout.now))
-  pub inside : IfOk result (Inside target.size)
-  pub change : (file : List ℕ) (header : ℕ) → old.seen.file ≡ Some file → RefersTo file header linked → IsRela file at entry → Told (target_as file target) header
-
--- what a call did that reads S or L for the entry at an offset, which names the symbol of an index; of symbol 0 it reads nothing
-pub record ConsultsTerm (old new : Counting) (result : Result ℕ Fault) (layout : Layout) (symbol : ℕ) (linked : Option (Rows × Strings)) (at : ℕ) (formula : Formula) : Type 0 where
-  pub reads : Reads old new (24 + layout_names_cost layout)
-  pub says : IfErr result (Says old new (24 + layout_names_cost layout))
-  pub unnamed : symbol ≡ 0 → new ≡ old
-  pub value : (file : List ℕ) (section size header : ℕ) → old.seen.file ≡ Some file → RefersTo file header linked → symbol ≡ r_sym file at
-      → ValueOrRefusal result (term_of formula (record { file = file; section = section; size = size; layout = layout }) header at)

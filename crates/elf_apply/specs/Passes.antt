@@ -40,13 +40,6 @@ Checks (Ok found) answer = answer ≡ Ok (found.rises, found.low)
 Checks (Err (Refused refusal)) answer = (IsBudget refusal → ⊥) → answer ≡ Err refusal
 Checks (Err (Source fault at)) answer = Unit {0}
 
--- what a pass did that checks all entries
-pub record ChecksAll (old new : Counting) (result : Result Checked Fault) (target : Target) : Type 0 where
-  pub reads : Reads old new (walk_all target)
-  pub says : IfErr result (Says old new (walk_all target))
-  pub counted : IfOk result (λ found. found.entries ≡ entries_from target 0)
-  pub checked : (file : List ℕ) → old.seen.file ≡ Some file → Checks result (folded rising (true, 0) (changes_all file target))
-
 -- a window of n bytes at an offset may be patched: it lies inside the section, and the entries may be read
 pub record MayPatch (src : Counting) (target : Target) (low n : ℕ) : Type 0 where
   pub opened : IsOpen src target.file.loaded target.file.store.now

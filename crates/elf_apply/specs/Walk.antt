@@ -151,33 +151,3 @@ pub record BeginsWalk (e : Entries) : Type 0 where
   pub none : (target : TargetCode) → e.count + entries_from target e.next ≡ entries_from target 0
   pub reads : (file : List ℕ) → ReadsEntries file e
   pub changes : (file : List ℕ) (target : TargetCode) → changes_left file target e ≡ changes_all file target
-
--- what a call did that goes to the next entry that stores bytes
-pub record GoesToNext (before after : Counting) (target : TargetCode) (old new : Entries) (result : Result (Option Placed) Fault) : Type 0 where
-  pub asks : AsksOf before after target old new
-  pub says : IfErr result (Says before after (walk_left target old))
-  pub goes : IfOk result (λ found. Goes before.seen.size target new)
-  pub fewer : IfOk result (FoundFewer target old new)
-  pub counts : IfOk result (λ found. CountsEntries target old new)
-  pub inside : IfOk result (FoundInside target.size)
-  pub finds : (file : List ℕ) → before.seen.file ≡ Some file → ReadsEntries file old → FindsEntry file target old new result
-
--- what a step did
-pub record GoesOneStep (before after : Counting) (target : TargetCode) (old new : Entries) (result : Result Step Fault) : Type 0 where
-  pub asks : AsksOf before after target old new
-  pub says : IfErr result (Says before after (walk_left target old))
-  pub goes : IfOk result (λ step. Goes before.seen.size target new)
-  pub fewer : IfOk result (StepFewer target old new)
-  pub counts : IfOk result (λ step. CountsEntries target old new)
-  pub inside : IfOk result (StepInside target.size)
-  pub walked : (file : List ℕ) → before.seen.file ≡ Some file → ReadsEntries file old → Walked file target old new result
-
--- what a step to the next section did, which reads nothing
-pub record GoesToSection (target : TargetCode) (old new : Entries) (result : Result Step Fault) : Type 0 where
-  pub goes : IfOk result (λ step. Goes target.file.loaded.size target new)
-  pub refusal : IfErr result IsOfCheck
-  pub fewer : IfOk result (StepFewer target old new)
-  pub counts : IfOk result (λ step. CountsEntries target old new)
-  pub inside : IfOk result (StepInside target.size)
-  pub left : walk_left target new ≤ walk_left target old
-  pub walked : (file : List ℕ) → Belongs file target.file.loaded target.file.store.now → ReadsEntries file old → Walked file target old new result

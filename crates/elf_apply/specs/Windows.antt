@@ -51,15 +51,6 @@ pub record MayWrite (src : Counting) (target : Target) (at bound : ℕ) : Type 0
   pub within : at + target.size ≤ src.seen.size
   pub fits : bound < 2 ^ 64
 
--- what a call did that writes: it asked for at most n bytes and wrote m, or no more at a fault, which says what is so; and
--- this holds of the file
-pub record WritesOut {X : Type 0} (before after : Counting) (old new : Written) (result : Result X Stop) (n m : ℕ) (Text : List ℕ → Type 0) : Type 0 where
-  pub says : IfErr result (ApplyFaultSays before after new)
-  pub reads : Reads before after n
-  pub grows : Grows old new
-  pub wrote : WroteBytes old new result m
-  pub text : (file : List ℕ) → before.seen.file ≡ Some file → Text file
-
 -- where all entries store patches inside the section, whose bytes stand at an offset, this holds of them and of its bytes
 -- with the patches
 abbrev pub OfPatches : Target → ℕ → (List Patch → List ℕ → Type 0) → List ℕ → Type 0

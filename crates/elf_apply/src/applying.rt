@@ -5,6 +5,7 @@ ghost use Rattle.elf_model.specs.Apply.{applied, has_no_bytes};
 ghost use Rattle.elf_model.specs.ApplyCost.{apply_cost_by_order, entries_for};
 ghost use Rattle.elf_record.specs.Shdr.{IsShdr};
 ghost use Rattle.elf_source.specs.Growth.{Grows};
+ghost use Rattle.elf_source.specs.Source.{Reads};
 ghost use Rattle.elf_headers.specs.Faults.{IsOfCheck};
 ghost use Rattle.elf_headers.specs.Load.{Belongs};
 ghost use Rattle.elf_apply.specs.Applied.{Applies, AppliesFile, AppliesLoaded, AppliesTarget};
@@ -13,8 +14,8 @@ ghost use Rattle.elf_apply.specs.Applied.{ReadsWithin, WantsBudget, WritesWithin
 ghost use Rattle.elf_apply.specs.Applied.{apply_ceiling, passes_cost, write_passes};
 ghost use Rattle.elf_apply.specs.InOrder.{Rises};
 ghost use Rattle.elf_apply.specs.Walk.{entries_from, walk_all};
-ghost use Rattle.elf_apply.specs.Windows.{MayWrite, OfPatches, WritesBytes};
-ghost use Rattle.elf_apply.specs.Windows.{WritesOut, windows};
+ghost use Rattle.elf_apply.specs.Windows.{ApplyFaultSays, MayWrite, OfPatches, WritesBytes};
+ghost use Rattle.elf_apply.specs.Windows.{WroteBytes, windows};
 
 use crate::entry::Target;
 use crate::in_order::write_in_order;
@@ -93,10 +94,14 @@ fn write_section<S: Source, W: Sink>(
     requires { MayWrite src.old target.now at src.old.seen.size }
     ensures once { rises ≡ true →
         src.new.asked ≤ src.old.asked + (walk_all target.now + target.now.size) }
-    ensures writes { WritesOut src.old src.new out.old out.new result
-        (windows target.now.size * walk_all target.now + target.now.size) target.now.size
-        (OfPatches target.now at (λ patches text. (rises ≡ true → Rises 0 patches) →
-        WritesBytes out.old out.new result text)) }
+    ensures says { IfErr result (ApplyFaultSays src.old src.new out.new) }
+    ensures reads { Reads src.old src.new
+        (windows target.now.size * walk_all target.now + target.now.size) }
+    ensures grows { Grows out.old out.new }
+    ensures wrote { WroteBytes out.old out.new result target.now.size }
+    ensures text { (file : List ℕ) → src.old.seen.file ≡ Some file → OfPatches target.now at
+        (λ patches text. (rises ≡ true → Rises 0 patches) →
+        WritesBytes out.old out.new result text) file }
 {
     if rises && target.size > 0 {
         return write_in_order(src, target, at, out);

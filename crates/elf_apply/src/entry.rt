@@ -1,12 +1,18 @@
 //! What a relocation entry stores.
-ghost use Rattle.std.specs.Prelude.{◌≡◌, ◌+◌, ℕ, List, Some, IfSome, nat_lt};
+ghost use Rattle.std.specs.Prelude.{◌≡◌, ◌+◌, ℕ, List, Some, IfErr, IfOk, IfSome, nat_lt};
 ghost use Rattle.elf_model.specs.Apply.{change_of, entry_changes};
-ghost use Rattle.elf_model.specs.Records.{r_offset};
+ghost use Rattle.elf_model.specs.ApplyCost.{layout_names_cost};
+ghost use Rattle.elf_model.specs.Records.{r_offset, r_sym};
 ghost use Rattle.elf_model.specs.declared.causes.Cause.TheVariants.{Unplaced};
 ghost use Rattle.elf_reloc.specs.Types.{IsSized, IsWidth, formula_as, type_as};
+ghost use Rattle.elf_record.specs.Rela.{IsRela};
+ghost use Rattle.elf_source.specs.Source.{Reads};
+ghost use Rattle.elf_headers.specs.Faults.{Says};
+ghost use Rattle.elf_table.specs.Relocations.{RefersTo};
 ghost use Rattle.elf_table.specs.Tables.{SymbolsWithin};
-ghost use Rattle.elf_apply.specs.Entries.{Changes, ConsultsEntry, ConsultsTerm, Does};
-ghost use Rattle.elf_apply.specs.Entries.{IsPlacedInside, target_as, taken_place, value_or};
+ghost use Rattle.elf_apply.specs.Costs.{ValueOrRefusal};
+ghost use Rattle.elf_apply.specs.Entries.{Changes, Does, IsPlacedInside, target_as};
+ghost use Rattle.elf_apply.specs.Entries.{taken_place, term_of, value_or};
 
 use crate::lookup::{Symbol, linkage_value, refused, symbol_value};
 use elf_layout::Layout;
@@ -48,9 +54,13 @@ pub(crate) fn entry_change<S: Source>(
     linked: Linked,
 ) -> Result<Option<Placed>, Fault>
     requires within { IfSome linked (SymbolsWithin src.old.seen.size) }
-    ensures { ConsultsEntry src.old src.new result target.now linked entry.now at
-        (λ size found. IfSome found (IsPlacedInside size))
-        (λ target header. Changes result (entry_changes target header at)) }
+    ensures reads { Reads src.old src.new (24 + layout_names_cost target.now.layout.now) }
+    ensures says { IfErr result
+        (Says src.old src.new (24 + layout_names_cost target.now.layout.now)) }
+    ensures inside { IfOk result (λ found. IfSome found (IsPlacedInside target.now.size)) }
+    ensures change { (file : List ℕ) (header : ℕ) → src.old.seen.file ≡ Some file →
+        RefersTo file header linked → IsRela file at entry.now →
+        Changes result (entry_changes (target_as file target.now) header at) }
 {
     let kind = entry.kind();
     if kind == R_X86_64_NONE {
@@ -77,8 +87,13 @@ fn stored<S: Source>(
     requires within { IfSome linked (SymbolsWithin src.old.seen.size) }
     requires width { IsWidth found.width }
     requires sized { IsSized found.range found.width }
-    ensures { ConsultsEntry src.old src.new result target.now linked entry.now at IsPlacedInside
-        (λ target header. Does result (change_of target header at (Some (type_as found)))) }
+    ensures reads { Reads src.old src.new (24 + layout_names_cost target.now.layout.now) }
+    ensures says { IfErr result
+        (Says src.old src.new (24 + layout_names_cost target.now.layout.now)) }
+    ensures inside { IfOk result (IsPlacedInside target.now.size) }
+    ensures change { (file : List ℕ) (header : ℕ) → src.old.seen.file ≡ Some file →
+        RefersTo file header linked → IsRela file at entry.now → Does result
+        (change_of (target_as file target.now) header at (Some (type_as found))) }
 {
     let offset = entry.r_offset;
     if ends_past(offset, found.width, target.size) {
@@ -122,8 +137,17 @@ fn named_value<S: Source>(
     formula: Formula,
 ) -> Result<u64, Fault>
     requires within { IfSome linked (SymbolsWithin src.old.seen.size) }
-    ensures { ConsultsTerm src.old src.new result layout.now symbol linked at
-        (formula_as formula) }
+    ensures reads { Reads src.old src.new (24 + layout_names_cost layout.now) }
+    ensures says { IfErr result (Says src.old src.new (24 + layout_names_cost layout.now)) }
+    ensures unnamed { symbol ≡ 0 → src.new ≡ src.old }
+    ensures value { (file : List ℕ) (section : ℕ) (size : ℕ) (header : ℕ) →
+        src.old.seen.file ≡ Some file → RefersTo file header linked → symbol ≡ r_sym file at →
+        ValueOrRefusal result (term_of (formula_as formula) (record {
+          file = file;
+          section = section;
+          size = size;
+          layout = layout.now;
+        }) header at) }
 {
     if symbol == 0 {
         return Ok(0);

@@ -1,15 +1,21 @@
 //! The section with its relocations applied, in one pass over entries whose offsets never fall.
-ghost use Rattle.std.specs.Prelude.{◌≡◌, ◌+◌, ◌^◌, ◌<◌, ◌≤◌, None, [], length, take, drop};
+ghost use Rattle.std.specs.Prelude.{◌≡◌, ◌+◌, ◌-◌, ◌^◌, ◌<◌, ◌≤◌, ℕ, List, None, Some, []};
+ghost use Rattle.std.specs.Prelude.{Err, IfErr, OnOk, length, take, drop};
 ghost use Rattle.elf_model.specs.Apply.{put};
 ghost use Rattle.elf_model.specs.ApplyLaws.{clipped};
 ghost use Rattle.elf_model.specs.Bytes.{slice};
+ghost use Rattle.elf_model.specs.declared.causes.Cause.TheVariants.{PlaceOutside};
 ghost use Rattle.elf_reloc.specs.Types.{patched_bytes};
+ghost use Rattle.elf_source.specs.Growth.{Grows};
 ghost use Rattle.elf_source.specs.Output.{Puts};
+ghost use Rattle.elf_source.specs.Source.{Reads};
+ghost use Rattle.elf_headers.specs.Faults.{ReadSays};
 ghost use Rattle.elf_apply.specs.Entries.{patch_as};
-ghost use Rattle.elf_apply.specs.InOrder.{Copies, IsHeldFrom, MayRead, ReadsOn, Rises};
-ghost use Rattle.elf_apply.specs.InOrder.{StoresEntry, WritesUpTo, end_of};
+ghost use Rattle.elf_apply.specs.InOrder.{IsHeldFrom, IsNoRefusal, MayRead, Midway, Rises};
+ghost use Rattle.elf_apply.specs.InOrder.{end_of};
 ghost use Rattle.elf_apply.specs.Walk.{walk_all};
-ghost use Rattle.elf_apply.specs.Windows.{MayWrite, OfPatches, WritesBytes, WritesOut};
+ghost use Rattle.elf_apply.specs.Windows.{ApplyFaultSays, IsUnread, MayWrite, OfPatches};
+ghost use Rattle.elf_apply.specs.Windows.{WritesBytes, WroteBytes};
 
 use crate::entry::{Placed, Target};
 use crate::passes::put_in;
@@ -117,7 +123,17 @@ impl Held {
         requires few { width ≤ 8 }
         requires inside { self.old.low + width ≤ size }
         requires held { end_of self.old ≤ size }
-        ensures { ReadsOn src.old src.new result self.old self.new at size width }
+        ensures says { IfErr result (ReadSays src.old src.new) }
+        ensures unread { IfErr result IsUnread }
+        ensures reads { Reads src.old src.new (size - end_of self.old) }
+        ensures asked_on { OnOk result
+            (src.new.asked + end_of self.old ≤ src.old.asked + end_of self.new) }
+        ensures low { self.new.low ≡ self.old.low }
+        ensures long { OnOk result (width ≤ length self.new.bytes) }
+        ensures held { OnOk result (end_of self.new ≤ size) }
+        ensures bytes { (file : List ℕ) → src.old.seen.file ≡ Some file → (now : List ℕ) →
+            at + size ≤ length file → Midway (slice file at size) now self.old →
+            OnOk result (Midway (slice file at size) now self.new) }
     {
         let count = self.count;
         if count >= width {
@@ -160,7 +176,21 @@ impl Held {
         requires may { MayRead src.old at end }
         requires low { self.old.low ≤ end }
         requires held { at + end_of self.old ≤ src.old.seen.size }
-        ensures { WritesUpTo src.old src.new out.old out.new result self.old self.new at end }
+        ensures says { IfErr result (ApplyFaultSays src.old src.new out.new) }
+        ensures low { OnOk result (self.new.low ≡ end) }
+        ensures long { OnOk result (length self.new.bytes ≡ end_of self.old - end) }
+        ensures kept { IfErr result IsNoRefusal }
+        ensures reads { Reads src.old src.new (end - end_of self.old) }
+        ensures grows { Grows out.old out.new }
+        ensures wrote { WroteBytes out.old out.new result (end - self.old.low) }
+        ensures text { (file : List ℕ) → src.old.seen.file ≡ Some file → (size : ℕ) →
+            (now : List ℕ) → at + size ≤ length file → end ≤ size →
+            Midway (slice file at size) now self.old →
+            WritesBytes out.old out.new result (slice now self.old.low (end - self.old.low)) }
+        ensures still { (file : List ℕ) → src.old.seen.file ≡ Some file → (size : ℕ) →
+            (now : List ℕ) → at + size ≤ length file → end ≤ size →
+            Midway (slice file at size) now self.old →
+            OnOk result (Midway (slice file at size) now self.new) }
     {
         let ready = (end - self.low()).min(self.len() as u64);
         self.release(ready as usize, out)?;
@@ -184,8 +214,26 @@ impl Held {
         requires may { MayRead src.old at size }
         requires inside { placed.now.offset + length (patch_as placed.now).bytes ≤ size }
         requires held { end_of self.old ≤ size }
-        ensures { StoresEntry src.old src.new out.old out.new result self.old self.new at size
-            placed.now }
+        ensures says { IfErr result (ApplyFaultSays src.old src.new out.new) }
+        ensures low { OnOk result (self.new.low ≡ placed.now.offset) }
+        ensures never { OnOk result (self.old.low ≤ placed.now.offset) }
+        ensures fallen { placed.now.offset < self.old.low →
+            (result ≡ Err (Stop.Refused (record { at = placed.now.at; cause = PlaceOutside })))
+            × (src.new ≡ src.old) × (out.new ≡ out.old) }
+        ensures kept { self.old.low ≤ placed.now.offset → IfErr result IsNoRefusal }
+        ensures held { OnOk result (end_of self.new ≤ size) }
+        ensures reads { Reads src.old src.new (size - end_of self.old) }
+        ensures asked_on { OnOk result
+            (src.new.asked + end_of self.old ≤ src.old.asked + end_of self.new) }
+        ensures grows { Grows out.old out.new }
+        ensures wrote { WroteBytes out.old out.new result (placed.now.offset - self.old.low) }
+        ensures text { (file : List ℕ) → src.old.seen.file ≡ Some file → (now : List ℕ) →
+            at + size ≤ length file → self.old.low ≤ placed.now.offset →
+            Midway (slice file at size) now self.old → WritesBytes out.old out.new result
+            (slice now self.old.low (placed.now.offset - self.old.low)) }
+        ensures still { (file : List ℕ) → src.old.seen.file ≡ Some file → (now : List ℕ) →
+            at + size ≤ length file → Midway (slice file at size) now self.old → OnOk result
+            (Midway (slice file at size) (put (patch_as placed.now) now) self.new) }
     {
         if placed.offset < self.low() {
             return Err(Stop::Refused(Refusal {
@@ -234,8 +282,13 @@ fn copy<S: Source, W: Sink>(
     out: &mut Out<W>,
 ) -> Result<(), Stop>
     requires { MayRead src.old at size }
-    ensures { Copies src.old src.new out.old out.new result size (λ file.
-        at + size ≤ length file → WritesBytes out.old out.new result (slice file at size)) }
+    ensures says { IfErr result (ApplyFaultSays src.old src.new out.new) }
+    ensures kept { IfErr result IsNoRefusal }
+    ensures reads { Reads src.old src.new size }
+    ensures grows { Grows out.old out.new }
+    ensures wrote { WroteBytes out.old out.new result size }
+    ensures text { (file : List ℕ) → src.old.seen.file ≡ Some file →
+        at + size ≤ length file → WritesBytes out.old out.new result (slice file at size) }
 {
     let mut done = 0;
     'pages: while done < size {
@@ -257,8 +310,13 @@ fn copy_page<S: Source, W: Sink>(
     requires free { src.old.most ≡ None }
     requires few { length page.old ≤ 4096 }
     requires within { at + length page.old ≤ src.old.seen.size }
-    ensures { Copies src.old src.new out.old out.new result (length page.old) (λ file.
-        WritesBytes out.old out.new result (slice file at (length page.old))) }
+    ensures says { IfErr result (ApplyFaultSays src.old src.new out.new) }
+    ensures kept { IfErr result IsNoRefusal }
+    ensures reads { Reads src.old src.new (length page.old) }
+    ensures grows { Grows out.old out.new }
+    ensures wrote { WroteBytes out.old out.new result (length page.old) }
+    ensures text { (file : List ℕ) → src.old.seen.file ≡ Some file →
+        WritesBytes out.old out.new result (slice file at (length page.old)) }
 {
     fill(src, at, page)?;
     out.put(page)?;
@@ -273,9 +331,12 @@ pub(crate) fn write_in_order<S: Source, W: Sink>(
     out: &mut Out<W>,
 ) -> Result<(), Stop>
     requires { MayWrite src.old target.now at src.old.seen.size }
-    ensures { WritesOut src.old src.new out.old out.new result
-        (walk_all target.now + target.now.size) target.now.size (OfPatches target.now at
-        (λ patches text. Rises 0 patches → WritesBytes out.old out.new result text)) }
+    ensures says { IfErr result (ApplyFaultSays src.old src.new out.new) }
+    ensures reads { Reads src.old src.new (walk_all target.now + target.now.size) }
+    ensures grows { Grows out.old out.new }
+    ensures wrote { WroteBytes out.old out.new result target.now.size }
+    ensures text { (file : List ℕ) → src.old.seen.file ≡ Some file → OfPatches target.now at
+        (λ patches text. Rises 0 patches → WritesBytes out.old out.new result text) file }
 {
     let size = target.size;
     let mut entries = Entries::new();

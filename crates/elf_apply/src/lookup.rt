@@ -1,15 +1,15 @@
 //! The value of a symbol in a layout.
-ghost use Rattle.std.specs.Prelude.{◌≡◌, ℕ, List, Err, IfErr};
+ghost use Rattle.std.specs.Prelude.{◌≡◌, ℕ, List, Some, Err, IfErr};
 ghost use Rattle.elf_model.specs.ApplyCost.{layout_names_cost};
 ghost use Rattle.elf_model.specs.Placing.{address_named, linkage_value, named_or};
 ghost use Rattle.elf_model.specs.Placing.{placed_at, symbol_value, undefined_value};
 ghost use Rattle.elf_model.specs.Records.{st_name};
 ghost use Rattle.elf_record.specs.Sym.{IsSym};
-ghost use Rattle.elf_headers.specs.Faults.{IsOfCheck};
+ghost use Rattle.elf_source.specs.Source.{Reads};
+ghost use Rattle.elf_headers.specs.Faults.{IsOfCheck, Says};
 ghost use Rattle.elf_table.specs.Tables.{StringsWithin, strings_in};
 ghost use Rattle.elf_layout.specs.Layouts.{items_cost};
-ghost use Rattle.elf_apply.specs.Costs.{Consults, ConsultsSymbol, ValueOrCause};
-ghost use Rattle.elf_apply.specs.Costs.{ValueOrRefusal};
+ghost use Rattle.elf_apply.specs.Costs.{ValueOrCause, ValueOrRefusal};
 
 use elf_layout::{Layout, Named};
 use elf_record::numbers::{SHN_UNDEF, STB_WEAK};
@@ -40,9 +40,11 @@ fn address_named<S: Source>(
     items: &[Named],
 ) -> Result<Option<u64>, Fault>
     requires within { StringsWithin src.old.seen.size symbol.now.names }
-    ensures { Consults src.old src.new result (items_cost items.now)
-        (λ file. ValueOrCause symbol.now.at result (address_named
-        (strings_in file symbol.now.names) symbol.now.fields.st_name items.now)) }
+    ensures reads { Reads src.old src.new (items_cost items.now) }
+    ensures says { IfErr result (Says src.old src.new (items_cost items.now)) }
+    ensures told { (file : List ℕ) → src.old.seen.file ≡ Some file →
+        ValueOrCause symbol.now.at result (address_named
+        (strings_in file symbol.now.names) symbol.now.fields.st_name items.now) }
 {
     let off = u64::from(symbol.fields.st_name);
     let mut i = 0;
@@ -92,9 +94,12 @@ fn defined_value<S: Source>(
     entry: u64,
 ) -> Result<u64, Fault>
     requires within { StringsWithin src.old.seen.size symbol.now.names }
-    ensures { ConsultsSymbol src.old src.new result symbol.now
-        (items_cost layout.now.definitions) (λ file strings. named_or symbol.now.at
-        (address_named strings (st_name file symbol.now.at) layout.now.definitions)
+    ensures reads { Reads src.old src.new (items_cost layout.now.definitions) }
+    ensures says { IfErr result (Says src.old src.new (items_cost layout.now.definitions)) }
+    ensures told { (file : List ℕ) → src.old.seen.file ≡ Some file →
+        IsSym file symbol.now.at symbol.now.fields → ValueOrRefusal result
+        (named_or symbol.now.at (address_named (strings_in file symbol.now.names)
+        (st_name file symbol.now.at) layout.now.definitions)
         (undefined_value file entry symbol.now.at)) }
 {
     match address_named(src, symbol, layout.definitions()) {
@@ -113,9 +118,11 @@ pub(crate) fn symbol_value<S: Source>(
     entry: u64,
 ) -> Result<u64, Fault>
     requires within { StringsWithin src.old.seen.size symbol.now.names }
-    ensures { ConsultsSymbol src.old src.new result symbol.now
-        (items_cost layout.now.definitions)
-        (λ file strings. symbol_value file strings layout.now entry symbol.now.at) }
+    ensures reads { Reads src.old src.new (items_cost layout.now.definitions) }
+    ensures says { IfErr result (Says src.old src.new (items_cost layout.now.definitions)) }
+    ensures told { (file : List ℕ) → src.old.seen.file ≡ Some file →
+        IsSym file symbol.now.at symbol.now.fields → ValueOrRefusal result
+        (symbol_value file (strings_in file symbol.now.names) layout.now entry symbol.now.at) }
 {
     match symbol.fields.place() {
         Place::Absolute => Ok(symbol.fields.st_value),
@@ -138,8 +145,11 @@ pub(crate) fn linkage_value<S: Source>(
     entry: u64,
 ) -> Result<u64, Fault>
     requires within { StringsWithin src.old.seen.size symbol.now.names }
-    ensures { ConsultsSymbol src.old src.new result symbol.now (layout_names_cost layout.now)
-        (λ file strings. linkage_value file strings layout.now entry symbol.now.at) }
+    ensures reads { Reads src.old src.new (layout_names_cost layout.now) }
+    ensures says { IfErr result (Says src.old src.new (layout_names_cost layout.now)) }
+    ensures told { (file : List ℕ) → src.old.seen.file ≡ Some file →
+        IsSym file symbol.now.at symbol.now.fields → ValueOrRefusal result
+        (linkage_value file (strings_in file symbol.now.names) layout.now entry symbol.now.at) }
 {
     match address_named(src, symbol, layout.linkage()) {
         Ok(Some(address)) => Ok(address),

@@ -1,12 +1,14 @@
 //! The passes over the relocation entries for a section.
-ghost use Rattle.std.specs.Prelude.{◌≡◌, ◌+◌, ◌<◌, ◌^◌, ◌&&◌, nat_le, length};
+ghost use Rattle.std.specs.Prelude.{◌≡◌, ◌+◌, ◌<◌, ◌^◌, ◌&&◌, nat_le, ℕ, List, Some, IfErr, IfOk};
+ghost use Rattle.std.specs.Prelude.{length, true};
 ghost use Rattle.elf_model.specs.Apply.{put};
 ghost use Rattle.elf_model.specs.ApplyLaws.{clipped};
+ghost use Rattle.elf_source.specs.Source.{Reads};
+ghost use Rattle.elf_headers.specs.Faults.{Says};
 ghost use Rattle.elf_headers.specs.Load.{IsOpen};
-ghost use Rattle.elf_apply.specs.Costs.{Consults};
 ghost use Rattle.elf_apply.specs.Entries.{patch_as};
-ghost use Rattle.elf_apply.specs.Passes.{ChecksAll, Folds, MayPatch, folded, storing};
-ghost use Rattle.elf_apply.specs.Walk.{changes_all, walk_all};
+ghost use Rattle.elf_apply.specs.Passes.{Checks, Folds, MayPatch, folded, rising, storing};
+ghost use Rattle.elf_apply.specs.Walk.{changes_all, entries_from, walk_all};
 
 use crate::entry::{Placed, Target};
 use crate::walk::Entries;
@@ -30,7 +32,11 @@ pub(crate) struct Checked {
 /// The first refusal, or a fault of the source.
 pub(crate) fn check<S: Source>(src: &mut Counted<S>, target: &Target<'_>) -> Result<Checked, Fault>
     requires opened { IsOpen src.old target.now.file.loaded target.now.file.store.now }
-    ensures { ChecksAll src.old src.new result target.now }
+    ensures reads { Reads src.old src.new (walk_all target.now) }
+    ensures says { IfErr result (Says src.old src.new (walk_all target.now)) }
+    ensures counted { IfOk result (λ found. found.entries ≡ entries_from target.now 0) }
+    ensures checked { (file : List ℕ) → src.old.seen.file ≡ Some file →
+        Checks result (folded rising (true, 0) (changes_all file target.now)) }
 {
     let mut entries = Entries::new();
     let mut rises = true;
@@ -71,9 +77,10 @@ pub(crate) fn patch_window<S: Source>(
     window: &mut [u8],
 ) -> Result<(), Fault>
     requires { MayPatch src.old target.now low (length window.old) }
-    ensures { Consults src.old src.new result (walk_all target.now) (λ file. Folds result
-        window.new (folded (storing low (length window.old)) window.old
-        (changes_all file target.now))) }
+    ensures reads { Reads src.old src.new (walk_all target.now) }
+    ensures says { IfErr result (Says src.old src.new (walk_all target.now)) }
+    ensures told { (file : List ℕ) → src.old.seen.file ≡ Some file → Folds result window.new
+        (folded (storing low (length window.old)) window.old (changes_all file target.now)) }
 {
     let mut entries = Entries::new();
     'entries: loop {

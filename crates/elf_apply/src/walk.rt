@@ -1,9 +1,12 @@
 //! The walk over the relocation entries for a section.
-ghost use Rattle.std.specs.Prelude.{◌≡◌, ℕ, List, length};
+ghost use Rattle.std.specs.Prelude.{◌≡◌, ◌≤◌, ℕ, List, length, Some, IfErr, IfOk};
 ghost use Rattle.elf_model.specs.Apply.{applies_to};
 ghost use Rattle.elf_record.specs.Shdr.{IsShdr};
-ghost use Rattle.elf_apply.specs.Walk.{BeginsWalk, Goes, GoesOneStep, GoesToNext, GoesToSection};
-ghost use Rattle.elf_apply.specs.Walk.{MayWalk};
+ghost use Rattle.elf_headers.specs.Faults.{IsOfCheck, Says};
+ghost use Rattle.elf_headers.specs.Load.{Belongs};
+ghost use Rattle.elf_apply.specs.Walk.{AsksOf, BeginsWalk, CountsEntries, FindsEntry, FoundFewer};
+ghost use Rattle.elf_apply.specs.Walk.{FoundInside, Goes, MayWalk, ReadsEntries, StepFewer};
+ghost use Rattle.elf_apply.specs.Walk.{StepInside, Walked, walk_left};
 
 use crate::entry::{Linked, Placed, Target, entry_change};
 use elf_record::numbers::SHT_RELA;
@@ -63,7 +66,14 @@ impl Entries {
         target: &Target<'_>,
     ) -> Result<Option<Placed>, Fault>
         requires { MayWalk src.old target.now self.old }
-        ensures { GoesToNext src.old src.new target.now self.old self.new result }
+        ensures asks { AsksOf src.old src.new target.now self.old self.new }
+        ensures says { IfErr result (Says src.old src.new (walk_left target.now self.old)) }
+        ensures goes { IfOk result (λ found. Goes src.old.seen.size target.now self.new) }
+        ensures fewer { IfOk result (FoundFewer target.now self.old self.new) }
+        ensures counts { IfOk result (λ found. CountsEntries target.now self.old self.new) }
+        ensures inside { IfOk result (FoundInside target.now.size) }
+        ensures finds { (file : List ℕ) → src.old.seen.file ≡ Some file →
+            ReadsEntries file self.old → FindsEntry file target.now self.old self.new result }
     {
         'steps: loop {
             match self.step(src, target) {
@@ -78,7 +88,14 @@ impl Entries {
     /// One step: an entry, or a section.
     fn step<S: Source>(&mut self, src: &mut Counted<S>, target: &Target<'_>) -> Result<Step, Fault>
         requires { MayWalk src.old target.now self.old }
-        ensures { GoesOneStep src.old src.new target.now self.old self.new result }
+        ensures asks { AsksOf src.old src.new target.now self.old self.new }
+        ensures says { IfErr result (Says src.old src.new (walk_left target.now self.old)) }
+        ensures goes { IfOk result (λ step. Goes src.old.seen.size target.now self.new) }
+        ensures fewer { IfOk result (StepFewer target.now self.old self.new) }
+        ensures counts { IfOk result (λ step. CountsEntries target.now self.old self.new) }
+        ensures inside { IfOk result (StepInside target.now.size) }
+        ensures walked { (file : List ℕ) → src.old.seen.file ≡ Some file →
+            ReadsEntries file self.old → Walked file target.now self.old self.new result }
     {
         match self.cursor.advance(src) {
             Ok(true) => {
@@ -99,7 +116,16 @@ impl Entries {
     fn open(&mut self, target: &Target<'_>) -> Result<Step, Fault>
         requires goes { Goes target.now.file.loaded.size target.now self.old }
         requires none { self.old.cursor.left ≡ 0 }
-        ensures { GoesToSection target.now self.old self.new result }
+        ensures goes { IfOk result
+            (λ step. Goes target.now.file.loaded.size target.now self.new) }
+        ensures refusal { IfErr result IsOfCheck }
+        ensures fewer { IfOk result (StepFewer target.now self.old self.new) }
+        ensures counts { IfOk result (λ step. CountsEntries target.now self.old self.new) }
+        ensures inside { IfOk result (StepInside target.now.size) }
+        ensures left { walk_left target.now self.new ≤ walk_left target.now self.old }
+        ensures walked { (file : List ℕ) →
+            Belongs file target.now.file.loaded target.now.file.store.now →
+            ReadsEntries file self.old → Walked file target.now self.old self.new result }
     {
         let section = self.next;
         if section >= target.file.sections() {

@@ -8,7 +8,7 @@ use Rattle.elf_apply.specs.Passes.{rising}
 use Rattle.elf_apply.specs.Walk.{walk_all}
 use Rattle.elf_apply.proofs.ApplySteps.{check_failed, text_is, all_inside, writes_failed, folded_ok}
 use Rattle.elf_apply.proofs.BudgetSteps.{all_sum, checked_most, fault_applies, fault_wants, says_after, says_wants, spends_reads, spends_then, twice_sum, wants_after}
-use Rattle.elf_apply.proofs.CostSteps.{checked_below, checked_twice, entries_are}
+use Rattle.elf_apply.proofs.CostSteps.{checked_below, entries_are}
 use Rattle.elf_apply.proofs.RisingSteps.{target_never_falls, target_rises}
 use Rattle.elf_apply.proofs.WindowSteps.{length_patched}
 use Rattle.elf_model.proofs.Slices.{slice-size}
@@ -29,7 +29,7 @@ returns-in_err-checked g c = record {
   reads = spends_reads _ c.check.ensures.reads (checked_below (walk_all c.args.target.now) c.args.target.now.size _ _ c.check.ensures.reads.at_most);
   once = λ file held headers stands never.
       let p = err_from_is_err_and c.from_residual.result c.from_residual.ensures.1 in (
-        checked_twice (walk_all c.args.target.now) c.args.target.now.size _ _ c.check.ensures.reads.at_most,
+        omega (arith, c.check.ensures.reads.at_most),
         rw (p.1, p.2) (fault_wants c.args.src.now c.check.new.src _ _ c.args.out.now c.in_err-checked.field-0.0 (omega arith) c.in_err-checked.ensures.says),
       );
   grows = search rules;

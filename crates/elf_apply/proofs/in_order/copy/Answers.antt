@@ -9,28 +9,30 @@ use Rattle.elf_source.proofs.GrowthLaws.{grows_then}
 use Rattle.elf_model.proofs.Slices.{slice-size, slice-slice}
 use Rattle.elf_apply.proofs.in_order.copy.Goals as goal
 
-pub returns-in_err-copy_page : goal.returns-in_err-copy_page
-returns-in_err-copy_page g c = record {
-  says =
-      let p = err_from_is_err_and c.from_residual.result c.from_residual.ensures.1 in
-      rw (p.1, p.2) (FaultSays-then c.args.src.now c.pages.src c.copy_page.new.src _ c.copy_page.new.out c.in_err-copy_page.field-0.0 c.pages.invariant.reads c.in_err-copy_page.ensures.says);
-  kept = search rules;
-  reads = search rules;
-  grows = grows_then c.pages.invariant.grows c.copy_page.ensures.grows;
-  wrote =
-      let p = err_from_is_err_and c.from_residual.result c.from_residual.ensures.1 in
-      let count = c.min-count.ensures in
-      let few = short_take c.min-count.result 4096 (omega (arith, count)) in
-      rw (p.1) (omega (arith, c.pages.invariant.wrote, c.in_err-copy_page.ensures.wrote, few, c.pages-test.true, count));
-  text = λ file held long.
-      let p = err_from_is_err_and c.from_residual.result c.from_residual.ensures.1 in
-      let known = c.pages.invariant in
-      let count = c.min-count.ensures in
-      let few = short_take c.min-count.result 4096 (omega (arith, count)) in
-      let one = c.in_err-copy_page.ensures.text file (known.reads.keeps.same_file ∙ held) in
-      rw (p.1, p.2) (window_stopped (Unit {0}) _ _ _ (slice file c.args.at c.args.size) c.pages.done c.min-count.result c.in_err-copy_page.field-0.0 (known.text file held long)
-      (writes_as (Unit {0}) c.pages.out c.copy_page.new.out (Err c.in_err-copy_page.field-0.0) _ _ (ap (slice file (c.args.at + c.pages.done)) few ∙ sym (slice-slice file c.args.at c.args.size c.pages.done c.min-count.result (omega (arith, c.pages-test.true, count)))) one));
-}
+pub returns-in_err-copy_page-clause-says : goal.returns-in_err-copy_page-clause-says
+returns-in_err-copy_page-clause-says g c =
+    let p = err_from_is_err_and c.from_residual.result c.from_residual.ensures.1 in
+    rw (p.1, p.2) (FaultSays-then c.args.src.now c.pages.src c.copy_page.new.src _ c.copy_page.new.out c.in_err-copy_page.field-0.0 c.pages.invariant.reads c.in_err-copy_page.ensures.says)
+
+pub returns-in_err-copy_page-clause-grows : goal.returns-in_err-copy_page-clause-grows
+returns-in_err-copy_page-clause-grows g c = grows_then c.pages.invariant.grows c.copy_page.ensures.grows
+
+pub returns-in_err-copy_page-clause-wrote : goal.returns-in_err-copy_page-clause-wrote
+returns-in_err-copy_page-clause-wrote g c =
+    let p = err_from_is_err_and c.from_residual.result c.from_residual.ensures.1 in
+    let count = c.min-count.ensures in
+    let few = short_take c.min-count.result 4096 (omega (arith, count)) in
+    rw (p.1) (omega (arith, c.pages.invariant.wrote, c.in_err-copy_page.ensures.wrote, few, c.pages-test.true, count))
+
+pub returns-in_err-copy_page-clause-text : goal.returns-in_err-copy_page-clause-text
+returns-in_err-copy_page-clause-text g c = λ file held long.
+    let p = err_from_is_err_and c.from_residual.result c.from_residual.ensures.1 in
+    let known = c.pages.invariant in
+    let count = c.min-count.ensures in
+    let few = short_take c.min-count.result 4096 (omega (arith, count)) in
+    let one = c.in_err-copy_page.ensures.text file (known.reads.keeps.same_file ∙ held) in
+    rw (p.1, p.2) (window_stopped (Unit {0}) _ _ _ (slice file c.args.at c.args.size) c.pages.done c.min-count.result c.in_err-copy_page.field-0.0 (known.text file held long)
+    (writes_as (Unit {0}) c.pages.out c.copy_page.new.out (Err c.in_err-copy_page.field-0.0) _ _ (ap (slice file (c.args.at + c.pages.done)) few ∙ sym (slice-slice file c.args.at c.args.size c.pages.done c.min-count.result (omega (arith, c.pages-test.true, count)))) one))
 
 pub pages-preserved : goal.pages-preserved
 pages-preserved g c =
@@ -49,14 +51,10 @@ pages-preserved g c =
           (c.in_ok-copy_page.ensures.text file (known.reads.keeps.same_file ∙ held)));
     }
 
-pub returns : goal.returns
-returns g c = record {
-  says = search rules;
-  kept = search rules;
-  reads = search rules;
-  grows = c.pages.invariant.grows;
-  wrote = search rules;
-  text = λ file held long.
-      takes_as _ _ _ _ (take_all c.pages.done (slice file c.args.at c.args.size) (omega (arith, slice-size file c.args.at c.args.size long, c.pages-test.false)))
-      (c.pages.invariant.text file held long);
-}
+pub returns-clause-grows : goal.returns-clause-grows
+returns-clause-grows g c = c.pages.invariant.grows
+
+pub returns-clause-text : goal.returns-clause-text
+returns-clause-text g c = λ file held long.
+    takes_as _ _ _ _ (take_all c.pages.done (slice file c.args.at c.args.size) (omega (arith, slice-size file c.args.at c.args.size long, c.pages-test.false)))
+    (c.pages.invariant.text file held long)

@@ -9,7 +9,7 @@ use Rattle.elf_apply.specs.Walk.{walk_all, walk_left}
 use Rattle.elf_apply.specs.Entries.{patch_as}
 use Rattle.elf_apply.proofs.InOrderSteps.{underway_start, underway_first, underway_next, underway_stopped, underway_end, underway_failed, finds_refusal}
 use Rattle.elf_apply.proofs.ReadLaws.{not_over, ReadSays-then}
-use Rattle.elf_apply.proofs.WindowSteps.{not_budget, fault_says}
+use Rattle.elf_apply.proofs.WindowSteps.{fault_says}
 use Rattle.elf_source.proofs.GrowthLaws.{grows_not, grows_then}
 use Rattle.elf_model.proofs.Slices.{slice-size}
 use Rattle.elf_apply.proofs.in_order.write_in_order.Goals as goal
@@ -60,63 +60,57 @@ entries-preserved g c =
           (c.in_ok-store-in-Some.ensures.still file later way.now long way.midway);
     }
 
-pub returns-in_err-store-in-Some : goal.returns-in_err-store-in-Some
-returns-in_err-store-in-Some g c = record {
-  says = search rules;
-  reads = search rules;
-  grows = grows_then c.entries.invariant.grows c.store.ensures.grows;
-  wrote = search rules;
-  text = λ file held patches are inside rises.
-      let p = err_from_is_err_and c.from_residual-in_err-store-in-Some.result c.from_residual-in_err-store-in-Some.ensures.1 in
-      let known = c.entries.invariant in
-      let fits = rw c.in-Some.is at c.in_ok-placed.ensures.inside in
-      let finds = rw c.in-Some.is at c.in_ok-placed.ensures.finds file (known.reads_most.keeps.same_file ∙ held) (known.reads file held) in
-      let way = known.left file held patches are inside rises in
-      let later = c.next.ensures.asks.reads.keeps.same_file ∙ (known.reads_most.keeps.same_file ∙ held) in
-      let base : List ℕ = slice file c.args.at c.args.target.now.size in
-      let long : c.args.at + c.args.target.now.size ≤ length file = (let belongs = c.requires.opened.belongs file held in omega (arith, belongs.size, c.requires.opened.size, c.requires.within)) in
-      let first = underway_first base (patched patches base) c.entries.held _ _ _ way (patch_as c.in-Some.placed) _ finds.0 in
-      rw (p.1, p.2) (underway_stopped base (patched patches base) c.entries.held _ _ _ way (patch_as c.in-Some.placed) _ finds.0 (Unit {0}) c.store.new.out c.in_err-store-in-Some.field-0.0
-      (c.in_err-store-in-Some.ensures.text file later way.now long first way.midway));
-}
+pub returns-in_err-store-in-Some-clause-grows : goal.returns-in_err-store-in-Some-clause-grows
+returns-in_err-store-in-Some-clause-grows g c = grows_then c.entries.invariant.grows c.store.ensures.grows
 
-pub returns-in-None : goal.returns-in-None
-returns-in-None g c = record {
-  says = search rules;
-  reads = search rules;
-  grows = grows_then c.entries.invariant.grows c.advance.ensures.grows;
-  wrote = search rules;
-  text = λ file held patches are inside rises.
-      let known = c.entries.invariant in
-      let finds = rw c.in-None.is at c.in_ok-placed.ensures.finds file (known.reads_most.keeps.same_file ∙ held) (known.reads file held) in
-      let way = known.left file held patches are inside rises in
-      let later = c.next.ensures.asks.reads.keeps.same_file ∙ (known.reads_most.keeps.same_file ∙ held) in
-      let base : List ℕ = slice file c.args.at c.args.target.now.size in
-      let long : c.args.at + c.args.target.now.size ≤ length file = (let belongs = c.requires.opened.belongs file held in omega (arith, belongs.size, c.requires.opened.size, c.requires.within)) in
-      underway_end base (patched patches base) c.entries.held _ _ _ way (Unit {0}) c.args.target.now.size c.advance.new.out c.advance.result finds
-      (slice-size file c.args.at c.args.target.now.size long) (omega (arith, known.within)) (c.advance.ensures.text file later c.args.target.now.size way.now long (omega arith) way.midway);
-}
+pub returns-in_err-store-in-Some-clause-text : goal.returns-in_err-store-in-Some-clause-text
+returns-in_err-store-in-Some-clause-text g c = λ file held patches are inside rises.
+    let p = err_from_is_err_and c.from_residual-in_err-store-in-Some.result c.from_residual-in_err-store-in-Some.ensures.1 in
+    let known = c.entries.invariant in
+    let fits = rw c.in-Some.is at c.in_ok-placed.ensures.inside in
+    let finds = rw c.in-Some.is at c.in_ok-placed.ensures.finds file (known.reads_most.keeps.same_file ∙ held) (known.reads file held) in
+    let way = known.left file held patches are inside rises in
+    let later = c.next.ensures.asks.reads.keeps.same_file ∙ (known.reads_most.keeps.same_file ∙ held) in
+    let base : List ℕ = slice file c.args.at c.args.target.now.size in
+    let long : c.args.at + c.args.target.now.size ≤ length file = (let belongs = c.requires.opened.belongs file held in omega (arith, belongs.size, c.requires.opened.size, c.requires.within)) in
+    let first = underway_first base (patched patches base) c.entries.held _ _ _ way (patch_as c.in-Some.placed) _ finds.0 in
+    rw (p.1, p.2) (underway_stopped base (patched patches base) c.entries.held _ _ _ way (patch_as c.in-Some.placed) _ finds.0 (Unit {0}) c.store.new.out c.in_err-store-in-Some.field-0.0
+    (c.in_err-store-in-Some.ensures.text file later way.now long first way.midway))
 
-pub returns-in_err-placed : goal.returns-in_err-placed
-returns-in_err-placed g c = record {
-  says =
-      let p = err_from_is_err_and c.from_residual.result c.from_residual.ensures.1 in
-      rw (p.1, p.2) (fault_says c.args.src.now c.next.new.src c.entries.out c.in_err-placed.field-0.0
-      (ReadSays-then c.args.src.now c.entries.src c.next.new.src _ c.in_err-placed.field-0.0 c.entries.invariant.reads_most (not_over c.entries.src c.next.new.src _ c.in_err-placed.field-0.0 (c.entries.invariant.reads_most.same_limit ∙ c.requires.free) c.in_err-placed.ensures.says)));
-  reads = search rules;
-  grows = c.entries.invariant.grows;
-  wrote = search rules;
-  text = λ file held patches are inside rises.
-      let p = err_from_is_err_and c.from_residual.result c.from_residual.ensures.1 in
-      let known = c.entries.invariant in
-      let way = known.left file held patches are inside rises in
-      let base : List ℕ = slice file c.args.at c.args.target.now.size in
-      underway_failed base (patched patches base) c.entries.held _ _ _ way (Unit {0}) c.in_err-placed.field-0.0 c.from_residual.result
-      (finds_refusal file c.args.target.now c.entries.entries c.next.new.self c.in_err-placed.field-0.0
-      (not_budget c.entries.src c.next.new.src _ (not_over c.entries.src c.next.new.src _ c.in_err-placed.field-0.0 (known.reads_most.same_limit ∙ c.requires.free) c.in_err-placed.ensures.says))
-      (c.in_err-placed.ensures.finds file (known.reads_most.keeps.same_file ∙ held) (known.reads file held)))
-      (p.1 ∙ ap Err p.2);
-}
+pub returns-in-None-clause-grows : goal.returns-in-None-clause-grows
+returns-in-None-clause-grows g c = grows_then c.entries.invariant.grows c.advance.ensures.grows
+
+pub returns-in-None-clause-text : goal.returns-in-None-clause-text
+returns-in-None-clause-text g c = λ file held patches are inside rises.
+    let known = c.entries.invariant in
+    let finds = rw c.in-None.is at c.in_ok-placed.ensures.finds file (known.reads_most.keeps.same_file ∙ held) (known.reads file held) in
+    let way = known.left file held patches are inside rises in
+    let later = c.next.ensures.asks.reads.keeps.same_file ∙ (known.reads_most.keeps.same_file ∙ held) in
+    let base : List ℕ = slice file c.args.at c.args.target.now.size in
+    let long : c.args.at + c.args.target.now.size ≤ length file = (let belongs = c.requires.opened.belongs file held in omega (arith, belongs.size, c.requires.opened.size, c.requires.within)) in
+    underway_end base (patched patches base) c.entries.held _ _ _ way (Unit {0}) c.args.target.now.size c.advance.new.out c.advance.result finds
+    (slice-size file c.args.at c.args.target.now.size long) (omega (arith, known.within)) (c.advance.ensures.text file later c.args.target.now.size way.now long (omega arith) way.midway)
+
+pub returns-in_err-placed-clause-says : goal.returns-in_err-placed-clause-says
+returns-in_err-placed-clause-says g c =
+    let p = err_from_is_err_and c.from_residual.result c.from_residual.ensures.1 in
+    rw (p.1, p.2) (fault_says c.args.src.now c.next.new.src c.entries.out c.in_err-placed.field-0.0
+    (ReadSays-then c.args.src.now c.entries.src c.next.new.src _ c.in_err-placed.field-0.0 c.entries.invariant.reads_most (not_over c.entries.src c.next.new.src _ c.in_err-placed.field-0.0 (c.entries.invariant.reads_most.same_limit ∙ c.requires.free) c.in_err-placed.ensures.says)))
+
+pub returns-in_err-placed-clause-grows : goal.returns-in_err-placed-clause-grows
+returns-in_err-placed-clause-grows g c = c.entries.invariant.grows
+
+pub returns-in_err-placed-clause-text : goal.returns-in_err-placed-clause-text
+returns-in_err-placed-clause-text g c = λ file held patches are inside rises.
+    let p = err_from_is_err_and c.from_residual.result c.from_residual.ensures.1 in
+    let known = c.entries.invariant in
+    let way = known.left file held patches are inside rises in
+    let base : List ℕ = slice file c.args.at c.args.target.now.size in
+    underway_failed base (patched patches base) c.entries.held _ _ _ way (Unit {0}) c.in_err-placed.field-0.0 c.from_residual.result
+    (finds_refusal file c.args.target.now c.entries.entries c.next.new.self c.in_err-placed.field-0.0 c.entries.src c.next.new.src
+    (not_over c.entries.src c.next.new.src _ c.in_err-placed.field-0.0 (known.reads_most.same_limit ∙ c.requires.free) c.in_err-placed.ensures.says)
+    (c.in_err-placed.ensures.finds file (known.reads_most.keeps.same_file ∙ held) (known.reads file held)))
+    (p.1 ∙ ap Err p.2)
 
 pub next-requires : goal.next-requires
 next-requires g c = record {

@@ -39,27 +39,20 @@ entries-preserved g c =
           ∙ folded-some rising (c.entries.rises, c.entries.low) _ _ (patch_as c.in-Ok-Some.placed) _ finds.0 (known.left file held);
     }
 
-pub returns-in-Ok-None : goal.returns-in-Ok-None
-returns-in-Ok-None g c = record {
-  reads = search rules;
-  says = search rules;
-  counted = search rules;
-  checked = λ file held.
-      let known = c.entries.invariant in
-      let finds = rw c.in-Ok-None.field-0-is at c.in-Ok-None.ensures.finds file (known.most.keeps.same_file ∙ held) (known.reads file held) in
-      folded-none rising (c.entries.rises, c.entries.low) _ _ finds (known.left file held);
-}
+pub returns-in-Ok-None-clause-checked : goal.returns-in-Ok-None-clause-checked
+returns-in-Ok-None-clause-checked g c = λ file held.
+    let known = c.entries.invariant in
+    let finds = rw c.in-Ok-None.field-0-is at c.in-Ok-None.ensures.finds file (known.most.keeps.same_file ∙ held) (known.reads file held) in
+    folded-none rising (c.entries.rises, c.entries.low) _ _ finds (known.left file held)
 
-pub returns-in-Err : goal.returns-in-Err
-returns-in-Err g c = record {
-  reads = search rules;
-  says = Says-then c.args.src.now c.entries.src c.next.new.src _ _ _ c.in-Err.fault c.entries.invariant.most (omega (arith, c.entries.invariant.asked)) c.in-Err.ensures.says;
-  counted = search rules;
-  checked = λ file held.
-      let known = c.entries.invariant in
-      checks_fault c.in-Err.fault _ (folded-fault rising (c.entries.rises, c.entries.low) file c.args.target.now c.entries.entries c.next.new.self c.in-Err.fault _
-      (c.in-Err.ensures.finds file (known.most.keeps.same_file ∙ held) (known.reads file held)) (known.left file held));
-}
+pub returns-in-Err-clause-says : goal.returns-in-Err-clause-says
+returns-in-Err-clause-says g c = Says-then c.args.src.now c.entries.src c.next.new.src _ _ _ c.in-Err.fault c.entries.invariant.most (omega (arith, c.entries.invariant.asked)) c.in-Err.ensures.says
+
+pub returns-in-Err-clause-checked : goal.returns-in-Err-clause-checked
+returns-in-Err-clause-checked g c = λ file held.
+    let known = c.entries.invariant in
+    checks_fault c.in-Err.fault _ (folded-fault rising (c.entries.rises, c.entries.low) file c.args.target.now c.entries.entries c.next.new.self c.in-Err.fault _
+    (c.in-Err.ensures.finds file (known.most.keeps.same_file ∙ held) (known.reads file held)) (known.left file held))
 
 pub next-requires : goal.next-requires
 next-requires g c = record {

@@ -39,25 +39,20 @@ entries-preserved g c =
           ∙ folded-some (storing c.args.low (length c.args.window.now)) c.entries.window _ _ (patch_as c.in-Ok-Some.placed) _ finds.0 (known.left file held);
     }
 
-pub returns-in-Ok-None : goal.returns-in-Ok-None
-returns-in-Ok-None g c = record {
-  reads = search rules;
-  says = search rules;
-  told = λ file held.
-      let known = c.entries.invariant in
-      let finds = rw c.in-Ok-None.field-0-is at c.in-Ok-None.ensures.finds file (known.most.keeps.same_file ∙ held) (known.reads file held) in
-      folded-none (storing c.args.low (length c.args.window.now)) c.entries.window _ _ finds (known.left file held);
-}
+pub returns-in-Ok-None-clause-told : goal.returns-in-Ok-None-clause-told
+returns-in-Ok-None-clause-told g c = λ file held.
+    let known = c.entries.invariant in
+    let finds = rw c.in-Ok-None.field-0-is at c.in-Ok-None.ensures.finds file (known.most.keeps.same_file ∙ held) (known.reads file held) in
+    folded-none (storing c.args.low (length c.args.window.now)) c.entries.window _ _ finds (known.left file held)
 
-pub returns-in-Err : goal.returns-in-Err
-returns-in-Err g c = record {
-  reads = search rules;
-  says = Says-then c.args.src.now c.entries.src c.next.new.src _ _ _ c.in-Err.fault c.entries.invariant.most (omega (arith, c.entries.invariant.asked)) c.in-Err.ensures.says;
-  told = λ file held.
-      let known = c.entries.invariant in
-      folds-fault (Unit {0}) c.in-Err.fault _ _ (folded-fault (storing c.args.low (length c.args.window.now)) c.entries.window file c.args.target.now c.entries.entries c.next.new.self c.in-Err.fault _
-      (c.in-Err.ensures.finds file (known.most.keeps.same_file ∙ held) (known.reads file held)) (known.left file held));
-}
+pub returns-in-Err-clause-says : goal.returns-in-Err-clause-says
+returns-in-Err-clause-says g c = Says-then c.args.src.now c.entries.src c.next.new.src _ _ _ c.in-Err.fault c.entries.invariant.most (omega (arith, c.entries.invariant.asked)) c.in-Err.ensures.says
+
+pub returns-in-Err-clause-told : goal.returns-in-Err-clause-told
+returns-in-Err-clause-told g c = λ file held.
+    let known = c.entries.invariant in
+    folds-fault (Unit {0}) c.in-Err.fault _ _ (folded-fault (storing c.args.low (length c.args.window.now)) c.entries.window file c.args.target.now c.entries.entries c.next.new.self c.in-Err.fault _
+    (c.in-Err.ensures.finds file (known.most.keeps.same_file ∙ held) (known.reads file held)) (known.left file held))
 
 pub next-requires : goal.next-requires
 next-requires g c = record {

@@ -3,72 +3,57 @@ use Rattle.std.proofs.lemmas.Result.{err_from_is_err_and}
 use Rattle.elf_headers.proofs.OpenLaws.{still_open}
 use Rattle.elf_apply.specs.Walk.{changes_all}
 use Rattle.elf_apply.proofs.ReadLaws.{not_over, unread, ReadSays-then}
-use Rattle.elf_apply.proofs.WindowSteps.{window_done, folds_ok, pass_failed, not_budget, takes_as, front_as, read_failed, front_written, fault_says}
+use Rattle.elf_apply.proofs.WindowSteps.{window_done, folds_ok, pass_failed, takes_as, front_as, read_failed, front_written, fault_says}
 use Rattle.elf_apply.proofs.windows.write_window.Goals as goal
 
-pub returns : goal.returns
-returns g c = record {
-  says = search rules;
-  reads = search rules;
-  grows = search rules;
-  wrote = search rules;
-  text = λ file held patches are inside.
-      let belongs = c.requires.may.opened.belongs file held in
-      let long : c.args.at + c.args.target.now.size ≤ length file = omega (arith, belongs.size, c.requires.may.opened.size, c.requires.may.within) in
-      let done = window_done file c.args.at c.args.target.now.size c.args.low (length c.args.window.now) (length c.fill.new.out) (changes_all file c.args.target.now) patches c.fill.new.out long c.requires.part (c.in_ok-fill.ensures.read file held) c.fill.auto.out are inside in
-      let same = folds_ok c.patch_window.new.window _ _ (c.in_ok-patch_window.ensures.told file (c.fill.ensures.reads.keeps.same_file ∙ held)) done in
-      takes_as _ _ _ _ same c.in_ok-put.ensures.puts.0;
-}
+pub returns-clause-text : goal.returns-clause-text
+returns-clause-text g c = λ file held patches are inside.
+    let belongs = c.requires.may.opened.belongs file held in
+    let long : c.args.at + c.args.target.now.size ≤ length file = omega (arith, belongs.size, c.requires.may.opened.size, c.requires.may.within) in
+    let done = window_done file c.args.at c.args.target.now.size c.args.low (length c.args.window.now) (length c.fill.new.out) (changes_all file c.args.target.now) patches c.fill.new.out long c.requires.part (c.in_ok-fill.ensures.read file held) c.fill.auto.out are inside in
+    let same = folds_ok c.patch_window.new.window _ _ (c.in_ok-patch_window.ensures.told file (c.fill.ensures.reads.keeps.same_file ∙ held)) done in
+    takes_as _ _ _ _ same c.in_ok-put.ensures.puts.0
 
-pub returns-in_err-put : goal.returns-in_err-put
-returns-in_err-put g c = record {
-  says = search rules;
-  reads = search rules;
-  grows = search rules;
-  wrote =
-      let p = err_from_is_err_and c.from_residual-in_err-put.result c.from_residual-in_err-put.ensures.1 in
-      let more = front_written _ _ _ c.in_err-put.ensures.puts.0 in
-      rw (p.1) (omega (arith, more, c.patch_window.auto.window, c.fill.auto.out));
-  text = λ file held patches are inside.
-      let p = err_from_is_err_and c.from_residual-in_err-put.result c.from_residual-in_err-put.ensures.1 in
-      let belongs = c.requires.may.opened.belongs file held in
-      let long : c.args.at + c.args.target.now.size ≤ length file = omega (arith, belongs.size, c.requires.may.opened.size, c.requires.may.within) in
-      let done = window_done file c.args.at c.args.target.now.size c.args.low (length c.args.window.now) (length c.fill.new.out) (changes_all file c.args.target.now) patches c.fill.new.out long c.requires.part (c.in_ok-fill.ensures.read file held) c.fill.auto.out are inside in
-      let same = folds_ok c.patch_window.new.window _ _ (c.in_ok-patch_window.ensures.told file (c.fill.ensures.reads.keeps.same_file ∙ held)) done in
-      rw (p.1, p.2) (front_as _ _ _ _ same c.in_err-put.ensures.puts.0);
-}
+pub returns-in_err-put-clause-wrote : goal.returns-in_err-put-clause-wrote
+returns-in_err-put-clause-wrote g c =
+    let p = err_from_is_err_and c.from_residual-in_err-put.result c.from_residual-in_err-put.ensures.1 in
+    let more = front_written _ _ _ c.in_err-put.ensures.puts.0 in
+    rw (p.1) (omega (arith, more, c.patch_window.auto.window, c.fill.auto.out))
 
-pub returns-in_err-patch_window : goal.returns-in_err-patch_window
-returns-in_err-patch_window g c = record {
-  says =
-      let p = err_from_is_err_and c.from_residual-in_err-patch_window.result c.from_residual-in_err-patch_window.ensures.1 in
-      rw (p.1, p.2) (fault_says c.args.src.now c.patch_window.new.src c.args.out.now c.in_err-patch_window.field-0.0 (ReadSays-then c.args.src.now c.fill.new.src c.patch_window.new.src _ c.in_err-patch_window.field-0.0 c.fill.ensures.reads (not_over c.fill.new.src c.patch_window.new.src _ c.in_err-patch_window.field-0.0 (c.fill.ensures.reads.same_limit ∙ c.requires.may.free) c.in_err-patch_window.ensures.says)));
-  reads = search rules;
-  grows = search rules;
-  wrote = search rules;
-  text = λ file held patches are inside.
-      let p = err_from_is_err_and c.from_residual-in_err-patch_window.result c.from_residual-in_err-patch_window.ensures.1 in
-      let belongs = c.requires.may.opened.belongs file held in
-      let long : c.args.at + c.args.target.now.size ≤ length file = omega (arith, belongs.size, c.requires.may.opened.size, c.requires.may.within) in
-      let done = window_done file c.args.at c.args.target.now.size c.args.low (length c.args.window.now) (length c.fill.new.out) (changes_all file c.args.target.now) patches c.fill.new.out long c.requires.part (c.in_ok-fill.ensures.read file held) c.fill.auto.out are inside in
-      pass_failed (Unit {0}) c.args.out.now c.in_err-patch_window.field-0.0 _ _ c.patch_window.new.window _ (p.1 ∙ ap Err p.2) done
-      (not_budget c.fill.new.src c.patch_window.new.src _ (not_over c.fill.new.src c.patch_window.new.src _ c.in_err-patch_window.field-0.0 (c.fill.ensures.reads.same_limit ∙ c.requires.may.free) c.in_err-patch_window.ensures.says))
-      (c.in_err-patch_window.ensures.told file (c.fill.ensures.reads.keeps.same_file ∙ held));
-}
+pub returns-in_err-put-clause-text : goal.returns-in_err-put-clause-text
+returns-in_err-put-clause-text g c = λ file held patches are inside.
+    let p = err_from_is_err_and c.from_residual-in_err-put.result c.from_residual-in_err-put.ensures.1 in
+    let belongs = c.requires.may.opened.belongs file held in
+    let long : c.args.at + c.args.target.now.size ≤ length file = omega (arith, belongs.size, c.requires.may.opened.size, c.requires.may.within) in
+    let done = window_done file c.args.at c.args.target.now.size c.args.low (length c.args.window.now) (length c.fill.new.out) (changes_all file c.args.target.now) patches c.fill.new.out long c.requires.part (c.in_ok-fill.ensures.read file held) c.fill.auto.out are inside in
+    let same = folds_ok c.patch_window.new.window _ _ (c.in_ok-patch_window.ensures.told file (c.fill.ensures.reads.keeps.same_file ∙ held)) done in
+    rw (p.1, p.2) (front_as _ _ _ _ same c.in_err-put.ensures.puts.0)
 
-pub returns-in_err-fill : goal.returns-in_err-fill
-returns-in_err-fill g c = record {
-  says =
-      let p = err_from_is_err_and c.from_residual.result c.from_residual.ensures.1 in
-      rw (p.1, p.2) (fault_says c.args.src.now c.fill.new.src c.args.out.now c.in_err-fill.field-0.0 (not_over c.args.src.now c.fill.new.src _ c.in_err-fill.field-0.0 c.requires.may.free c.in_err-fill.ensures.says));
-  reads = search rules;
-  grows = search rules;
-  wrote = search rules;
-  text = λ file held patches are inside.
-      let p = err_from_is_err_and c.from_residual.result c.from_residual.ensures.1 in
-      read_failed (Unit {0}) c.args.out.now c.in_err-fill.field-0.0 _ _ (p.1 ∙ ap Err p.2)
-      (unread c.args.src.now c.fill.new.src _ _ c.in_err-fill.field-0.0 c.requires.may.free c.in_err-fill.ensures.says c.in_err-fill.ensures.at);
-}
+pub returns-in_err-patch_window-clause-says : goal.returns-in_err-patch_window-clause-says
+returns-in_err-patch_window-clause-says g c =
+    let p = err_from_is_err_and c.from_residual-in_err-patch_window.result c.from_residual-in_err-patch_window.ensures.1 in
+    rw (p.1, p.2) (fault_says c.args.src.now c.patch_window.new.src c.args.out.now c.in_err-patch_window.field-0.0 (ReadSays-then c.args.src.now c.fill.new.src c.patch_window.new.src _ c.in_err-patch_window.field-0.0 c.fill.ensures.reads (not_over c.fill.new.src c.patch_window.new.src _ c.in_err-patch_window.field-0.0 (c.fill.ensures.reads.same_limit ∙ c.requires.may.free) c.in_err-patch_window.ensures.says)))
+
+pub returns-in_err-patch_window-clause-text : goal.returns-in_err-patch_window-clause-text
+returns-in_err-patch_window-clause-text g c = λ file held patches are inside.
+    let p = err_from_is_err_and c.from_residual-in_err-patch_window.result c.from_residual-in_err-patch_window.ensures.1 in
+    let belongs = c.requires.may.opened.belongs file held in
+    let long : c.args.at + c.args.target.now.size ≤ length file = omega (arith, belongs.size, c.requires.may.opened.size, c.requires.may.within) in
+    let done = window_done file c.args.at c.args.target.now.size c.args.low (length c.args.window.now) (length c.fill.new.out) (changes_all file c.args.target.now) patches c.fill.new.out long c.requires.part (c.in_ok-fill.ensures.read file held) c.fill.auto.out are inside in
+    pass_failed (Unit {0}) c.fill.new.src c.patch_window.new.src c.args.out.now c.in_err-patch_window.field-0.0 _ _ c.patch_window.new.window _ (p.1 ∙ ap Err p.2) done
+    (not_over c.fill.new.src c.patch_window.new.src _ c.in_err-patch_window.field-0.0 (c.fill.ensures.reads.same_limit ∙ c.requires.may.free) c.in_err-patch_window.ensures.says)
+    (c.in_err-patch_window.ensures.told file (c.fill.ensures.reads.keeps.same_file ∙ held))
+
+pub returns-in_err-fill-clause-says : goal.returns-in_err-fill-clause-says
+returns-in_err-fill-clause-says g c =
+    let p = err_from_is_err_and c.from_residual.result c.from_residual.ensures.1 in
+    rw (p.1, p.2) (fault_says c.args.src.now c.fill.new.src c.args.out.now c.in_err-fill.field-0.0 (not_over c.args.src.now c.fill.new.src _ c.in_err-fill.field-0.0 c.requires.may.free c.in_err-fill.ensures.says))
+
+pub returns-in_err-fill-clause-text : goal.returns-in_err-fill-clause-text
+returns-in_err-fill-clause-text g c = λ file held patches are inside.
+    let p = err_from_is_err_and c.from_residual.result c.from_residual.ensures.1 in
+    read_failed (Unit {0}) c.args.out.now c.in_err-fill.field-0.0 _ _ (p.1 ∙ ap Err p.2)
+    (unread c.args.src.now c.fill.new.src _ _ c.in_err-fill.field-0.0 c.requires.may.free c.in_err-fill.ensures.says c.in_err-fill.ensures.at)
 
 pub patch_window-requires : goal.patch_window-requires
 patch_window-requires g c = record {

@@ -23,24 +23,24 @@ windows-init g c = record {
   text = λ file held patches are inside. takes_start _ (patched patches (slice file c.args.at c.args.target.now.size));
 }
 
-pub returns-in_err-write_window : goal.returns-in_err-write_window
-returns-in_err-write_window g c = record {
-  says = search rules;
-  reads =
-      let known = c.windows.invariant in
-      let count = c.min-count.ensures in
-      let few = short_take c.min-count.result 64 (omega (arith, count)) in
-      let asked = windows_account c.args.target.now.size c.windows.done c.min-count.result _ (walk_all c.args.target.now) c.windows.src.asked c.write_window.new.src.asked 0 _ c.windows-test.true count refl
-      (omega (arith, c.write_window.ensures.reads.at_most, few)) known.asked in
-      Reads-to (Reads-then known.reads c.write_window.ensures.reads) (omega (arith, asked));
-  grows = grows_then c.windows.invariant.grows c.write_window.ensures.grows;
-  wrote = search rules;
-  text = λ file held patches are inside.
-      let known = c.windows.invariant in
-      let p = err_from_is_err_and c.from_residual.result c.from_residual.ensures.1 in
-      rw (p.1, p.2) (window_stopped (Unit {0}) _ _ _ (patched patches (slice file c.args.at c.args.target.now.size)) c.windows.done _ c.in_err-write_window.field-0.0 (known.text file held patches are inside)
-      (c.in_err-write_window.ensures.text file (known.reads.keeps.same_file ∙ held) patches are inside));
-}
+pub returns-in_err-write_window-clause-reads : goal.returns-in_err-write_window-clause-reads
+returns-in_err-write_window-clause-reads g c =
+    let known = c.windows.invariant in
+    let count = c.min-count.ensures in
+    let few = short_take c.min-count.result 64 (omega (arith, count)) in
+    let asked = windows_account c.args.target.now.size c.windows.done c.min-count.result _ (walk_all c.args.target.now) c.windows.src.asked c.write_window.new.src.asked 0 _ c.windows-test.true count refl
+    (omega (arith, c.write_window.ensures.reads.at_most, few)) known.asked in
+    Reads-to (Reads-then known.reads c.write_window.ensures.reads) (omega (arith, asked))
+
+pub returns-in_err-write_window-clause-grows : goal.returns-in_err-write_window-clause-grows
+returns-in_err-write_window-clause-grows g c = grows_then c.windows.invariant.grows c.write_window.ensures.grows
+
+pub returns-in_err-write_window-clause-text : goal.returns-in_err-write_window-clause-text
+returns-in_err-write_window-clause-text g c = λ file held patches are inside.
+    let known = c.windows.invariant in
+    let p = err_from_is_err_and c.from_residual.result c.from_residual.ensures.1 in
+    rw (p.1, p.2) (window_stopped (Unit {0}) _ _ _ (patched patches (slice file c.args.at c.args.target.now.size)) c.windows.done _ c.in_err-write_window.field-0.0 (known.text file held patches are inside)
+    (c.in_err-write_window.ensures.text file (known.reads.keeps.same_file ∙ held) patches are inside))
 
 pub windows-preserved : goal.windows-preserved
 windows-preserved g c =
@@ -69,14 +69,11 @@ write_window-requires-clause-may g c = record {
   fits = search rules;
 }
 
-pub returns : goal.returns
-returns g c = record {
-  says = search rules;
-  reads = search rules;
-  grows = c.windows.invariant.grows;
-  wrote = search rules;
-  text = λ file held patches are inside.
-      let known = c.windows.invariant in
-      windows_end _ _ patches (slice file c.args.at c.args.target.now.size) c.windows.done c.args.target.now.size (slice-size file c.args.at c.args.target.now.size (let belongs = c.requires.opened.belongs file held in omega (arith, belongs.size, c.requires.opened.size, c.requires.within))) inside
-      (omega (arith, c.windows-test.false)) (known.text file held patches are inside);
-}
+pub returns-clause-grows : goal.returns-clause-grows
+returns-clause-grows g c = c.windows.invariant.grows
+
+pub returns-clause-text : goal.returns-clause-text
+returns-clause-text g c = λ file held patches are inside.
+    let known = c.windows.invariant in
+    windows_end _ _ patches (slice file c.args.at c.args.target.now.size) c.windows.done c.args.target.now.size (slice-size file c.args.at c.args.target.now.size (let belongs = c.requires.opened.belongs file held in omega (arith, belongs.size, c.requires.opened.size, c.requires.within))) inside
+    (omega (arith, c.windows-test.false)) (known.text file held patches are inside)

@@ -8,87 +8,65 @@ use Rattle.elf_source.proofs.GrowthLaws.{grows_put, grows_then}
 use Rattle.elf_model.proofs.Slices.{slice-size}
 use Rattle.elf_apply.proofs.in_order.Held.advance.Goals as goal
 
-pub returns-in_err-release : goal.returns-in_err-release
-returns-in_err-release g c = record {
-  says = search rules;
-  low = search rules;
-  long = search rules;
-  kept = search rules;
-  reads = search rules;
-  grows = search rules;
-  wrote =
-      let p = err_from_is_err_and c.from_residual.result c.from_residual.ensures.1 in
-      let more = front_written _ _ _ c.in_err-release.ensures.puts.0 in
-      rw (p.1) (omega (arith, more, length-take c.min-ready.result c.args.self.now.bytes, c.min-ready.ensures, c.low.ensures));
-  text = λ file held size now long within midway.
-      let p = err_from_is_err_and c.from_residual.result c.from_residual.ensures.1 in
-      let k : ℕ = c.min-ready.result in
-      let low : ℕ = c.args.self.now.low in
-      let few : k ≤ length c.args.self.now.bytes = omega (arith, c.min-ready.ensures, c.len.ensures.value) in
-      let less : k ≤ c.args.end - low = omega (arith, c.min-ready.ensures, c.low.ensures) in
-      let puts = c.in_err-release.ensures.puts in
-      let part = front_part (slice file c.args.at size) now c.args.self.now k few midway in
-      let rest : ℕ = c.args.end - low - k in
-      rw (p.1, p.2) (front_more _ _ (slice now low (c.args.end - low)) (take k c.args.self.now.bytes) (slice now (low + k) rest)
-      (slice_split now low (c.args.end - low) k rest (omega (arith, less)) ∙ ap (λ l. l ++ slice now (low + k) rest) (sym part)) puts.0);
-  still = search rules;
-}
+pub returns-in_err-release-clause-wrote : goal.returns-in_err-release-clause-wrote
+returns-in_err-release-clause-wrote g c =
+    let p = err_from_is_err_and c.from_residual.result c.from_residual.ensures.1 in
+    let more = front_written _ _ _ c.in_err-release.ensures.puts.0 in
+    rw (p.1) (omega (arith, more, length-take c.min-ready.result c.args.self.now.bytes, c.min-ready.ensures, c.low.ensures))
 
-pub returns-in_err-copy : goal.returns-in_err-copy
-returns-in_err-copy g c = record {
-  says = search rules;
-  low = search rules;
-  long = search rules;
-  kept = search rules;
-  reads = search rules;
-  grows = grows_then (grows_put _ _ c.release.ensures.puts) c.copy.ensures.grows;
-  wrote = search rules;
-  text = λ file held size now long within midway.
-      let p = err_from_is_err_and c.from_residual-in_err-copy.result c.from_residual-in_err-copy.ensures.1 in
-      let is : c.min-ready.result ≡ min (c.args.end - c.args.self.now.low) (length c.args.self.now.bytes) = omega (arith, c.min-ready.ensures, c.low.ensures, c.len.ensures.value) in
-      let text = gone_text file c.args.at size now c.args.self.now c.release.new.self c.min-ready.result c.args.end c.low-low.result is c.requires.low c.release.ensures.rest.low c.release.ensures.rest.bytes c.low-low.ensures c.if-low-end.true within midway in
-      rw (p.1, p.2) (writes_as (Unit {0}) c.args.out.now c.copy.new.out (Err c.in_err-copy.field-0.0) _ _ text
-      (writes_then (Unit {0}) c.args.out.now c.release.new.out c.copy.new.out (Err c.in_err-copy.field-0.0) _ _
-      c.in_ok-release.ensures.puts.0 (c.in_err-copy.ensures.text file held (omega (arith, long, within, c.if-low-end.true)))));
-  still = search rules;
-}
+pub returns-in_err-release-clause-text : goal.returns-in_err-release-clause-text
+returns-in_err-release-clause-text g c = λ file held size now long within midway.
+    let p = err_from_is_err_and c.from_residual.result c.from_residual.ensures.1 in
+    let k : ℕ = c.min-ready.result in
+    let low : ℕ = c.args.self.now.low in
+    let few : k ≤ length c.args.self.now.bytes = omega (arith, c.min-ready.ensures, c.len.ensures.value) in
+    let less : k ≤ c.args.end - low = omega (arith, c.min-ready.ensures, c.low.ensures) in
+    let puts = c.in_err-release.ensures.puts in
+    let part = front_part (slice file c.args.at size) now c.args.self.now k few midway in
+    let rest : ℕ = c.args.end - low - k in
+    rw (p.1, p.2) (front_more _ _ (slice now low (c.args.end - low)) (take k c.args.self.now.bytes) (slice now (low + k) rest)
+    (slice_split now low (c.args.end - low) k rest (omega (arith, less)) ∙ ap (λ l. l ++ slice now (low + k) rest) (sym part)) puts.0)
 
-pub returns-in_ok-copy : goal.returns-in_ok-copy
-returns-in_ok-copy g c = record {
-  says = search rules;
-  low = search rules;
-  long = search rules;
-  kept = search rules;
-  reads = search rules;
-  grows = grows_then (grows_put _ _ c.release.ensures.puts) c.copy.ensures.grows;
-  wrote = search rules;
-  text = λ file held size now long within midway.
-      let is : c.min-ready.result ≡ min (c.args.end - c.args.self.now.low) (length c.args.self.now.bytes) = omega (arith, c.min-ready.ensures, c.low.ensures, c.len.ensures.value) in
-      let text = gone_text file c.args.at size now c.args.self.now c.release.new.self c.min-ready.result c.args.end c.low-low.result is c.requires.low c.release.ensures.rest.low c.release.ensures.rest.bytes c.low-low.ensures c.if-low-end.true within midway in
-      takes_as _ _ _ _ text (Takes-then _ _ c.in_ok-release.ensures.puts.0 (c.in_ok-copy.ensures.text file held (omega (arith, long, within, c.if-low-end.true))));
-  still = λ file held size now long within midway.
-      let is : c.min-ready.result ≡ min (c.args.end - c.args.self.now.low) (length c.args.self.now.bytes) = omega (arith, c.min-ready.ensures, c.low.ensures, c.len.ensures.value) in
-      let base : List ℕ = slice file c.args.at size in
-      let sized : length base ≡ size = slice-size file c.args.at size long in
-      let none = all_gone file c.args.at size now c.args.self.now c.release.new.self c.min-ready.result c.args.end c.low-low.result is c.requires.low c.release.ensures.rest.low c.release.ensures.rest.bytes c.low-low.ensures c.if-low-end.true in
-      midway_jump base now c.release.new.self c.jump.new.self none c.jump.ensures.bytes (omega (arith, c.jump.ensures.low, c.low-low.ensures, c.if-low-end.true)) (omega (arith, c.jump.ensures.low, sized, within))
-      (midway_skip base now c.args.self.now c.release.new.self c.min-ready.result (omega (arith, is)) c.release.ensures.rest.low c.release.ensures.rest.bytes midway);
-}
+pub returns-in_err-copy-clause-grows : goal.returns-in_err-copy-clause-grows
+returns-in_err-copy-clause-grows g c = grows_then (grows_put _ _ c.release.ensures.puts) c.copy.ensures.grows
 
-pub returns-else-low-end : goal.returns-else-low-end
-returns-else-low-end g c = record {
-  says = search rules;
-  low = search rules;
-  long =
-      omega (arith, ap length c.release.ensures.rest.bytes, length-drop c.min-ready.result c.args.self.now.bytes, c.min-ready.ensures, c.len.ensures.value, c.low.ensures, c.low-low.ensures, c.release.ensures.rest.low, c.if-low-end.false, c.requires.low);
-  kept = search rules;
-  reads = search rules;
-  grows = search rules;
-  wrote = search rules;
-  text = λ file held size now long within midway.
-      let few : c.min-ready.result ≤ length c.args.self.now.bytes = omega (arith, c.min-ready.ensures, c.len.ensures.value) in
-      let all : c.min-ready.result ≡ c.args.end - c.args.self.now.low = omega (arith, c.min-ready.ensures, c.low.ensures, c.low-low.ensures, c.release.ensures.rest.low, c.if-low-end.false, c.requires.low) in
-      takes_as _ _ _ _ (front_part (slice file c.args.at size) now c.args.self.now c.min-ready.result few midway ∙ ap (slice now c.args.self.now.low) all) c.in_ok-release.ensures.puts.0;
-  still = λ file held size now long within midway.
-      midway_skip (slice file c.args.at size) now c.args.self.now c.release.new.self c.min-ready.result (omega (arith, c.min-ready.ensures, c.len.ensures.value)) c.release.ensures.rest.low c.release.ensures.rest.bytes midway;
-}
+pub returns-in_err-copy-clause-text : goal.returns-in_err-copy-clause-text
+returns-in_err-copy-clause-text g c = λ file held size now long within midway.
+    let p = err_from_is_err_and c.from_residual-in_err-copy.result c.from_residual-in_err-copy.ensures.1 in
+    let is : c.min-ready.result ≡ min (c.args.end - c.args.self.now.low) (length c.args.self.now.bytes) = omega (arith, c.min-ready.ensures, c.low.ensures, c.len.ensures.value) in
+    let text = gone_text file c.args.at size now c.args.self.now c.release.new.self c.min-ready.result c.args.end c.low-low.result is c.requires.low c.release.ensures.rest.low c.release.ensures.rest.bytes c.low-low.ensures c.if-low-end.true within midway in
+    rw (p.1, p.2) (writes_as (Unit {0}) c.args.out.now c.copy.new.out (Err c.in_err-copy.field-0.0) _ _ text
+    (writes_then (Unit {0}) c.args.out.now c.release.new.out c.copy.new.out (Err c.in_err-copy.field-0.0) _ _
+    c.in_ok-release.ensures.puts.0 (c.in_err-copy.ensures.text file held (omega (arith, long, within, c.if-low-end.true)))))
+
+pub returns-in_ok-copy-clause-grows : goal.returns-in_ok-copy-clause-grows
+returns-in_ok-copy-clause-grows g c = grows_then (grows_put _ _ c.release.ensures.puts) c.copy.ensures.grows
+
+pub returns-in_ok-copy-clause-text : goal.returns-in_ok-copy-clause-text
+returns-in_ok-copy-clause-text g c = λ file held size now long within midway.
+    let is : c.min-ready.result ≡ min (c.args.end - c.args.self.now.low) (length c.args.self.now.bytes) = omega (arith, c.min-ready.ensures, c.low.ensures, c.len.ensures.value) in
+    let text = gone_text file c.args.at size now c.args.self.now c.release.new.self c.min-ready.result c.args.end c.low-low.result is c.requires.low c.release.ensures.rest.low c.release.ensures.rest.bytes c.low-low.ensures c.if-low-end.true within midway in
+    takes_as _ _ _ _ text (Takes-then _ _ c.in_ok-release.ensures.puts.0 (c.in_ok-copy.ensures.text file held (omega (arith, long, within, c.if-low-end.true))))
+
+pub returns-in_ok-copy-clause-still : goal.returns-in_ok-copy-clause-still
+returns-in_ok-copy-clause-still g c = λ file held size now long within midway.
+    let is : c.min-ready.result ≡ min (c.args.end - c.args.self.now.low) (length c.args.self.now.bytes) = omega (arith, c.min-ready.ensures, c.low.ensures, c.len.ensures.value) in
+    let base : List ℕ = slice file c.args.at size in
+    let sized : length base ≡ size = slice-size file c.args.at size long in
+    let none = all_gone file c.args.at size now c.args.self.now c.release.new.self c.min-ready.result c.args.end c.low-low.result is c.requires.low c.release.ensures.rest.low c.release.ensures.rest.bytes c.low-low.ensures c.if-low-end.true in
+    midway_jump base now c.release.new.self c.jump.new.self none c.jump.ensures.bytes (omega (arith, c.jump.ensures.low, c.low-low.ensures, c.if-low-end.true)) (omega (arith, c.jump.ensures.low, sized, within))
+    (midway_skip base now c.args.self.now c.release.new.self c.min-ready.result (omega (arith, is)) c.release.ensures.rest.low c.release.ensures.rest.bytes midway)
+
+pub returns-else-low-end-clause-long : goal.returns-else-low-end-clause-long
+returns-else-low-end-clause-long g c =
+    omega (arith, ap length c.release.ensures.rest.bytes, length-drop c.min-ready.result c.args.self.now.bytes, c.min-ready.ensures, c.len.ensures.value, c.low.ensures, c.low-low.ensures, c.release.ensures.rest.low, c.if-low-end.false, c.requires.low)
+
+pub returns-else-low-end-clause-text : goal.returns-else-low-end-clause-text
+returns-else-low-end-clause-text g c = λ file held size now long within midway.
+    let few : c.min-ready.result ≤ length c.args.self.now.bytes = omega (arith, c.min-ready.ensures, c.len.ensures.value) in
+    let all : c.min-ready.result ≡ c.args.end - c.args.self.now.low = omega (arith, c.min-ready.ensures, c.low.ensures, c.low-low.ensures, c.release.ensures.rest.low, c.if-low-end.false, c.requires.low) in
+    takes_as _ _ _ _ (front_part (slice file c.args.at size) now c.args.self.now c.min-ready.result few midway ∙ ap (slice now c.args.self.now.low) all) c.in_ok-release.ensures.puts.0
+
+pub returns-else-low-end-clause-still : goal.returns-else-low-end-clause-still
+returns-else-low-end-clause-still g c = λ file held size now long within midway.
+    midway_skip (slice file c.args.at size) now c.args.self.now c.release.new.self c.min-ready.result (omega (arith, c.min-ready.ensures, c.len.ensures.value)) c.release.ensures.rest.low c.release.ensures.rest.bytes midway

@@ -6,37 +6,22 @@ use Rattle.elf_apply.proofs.InOrderSteps.{midway_fill}
 use Rattle.elf_apply.proofs.ReadLaws.{not_over, unread}
 use Rattle.elf_apply.proofs.in_order.Held.read_on.Goals as goal
 
-pub returns : goal.returns
-returns g c = record {
-  says = search rules;
-  unread = search rules;
-  reads = search rules;
-  asked_on = search (rules, common_steps);
-  low = search rules;
-  long = grind (arith, common_steps);
-  held = grind (arith, common_steps);
-  bytes = λ file held now long midway.
-      let low = ap (λ (h : Holding). h.low) c.self.view_is in
-      let bytes = ap (λ (h : Holding). length h.bytes) c.self.view_is in
-      let counted : length c.args.self.now.bytes ≡ c.self.inside.count = omega (arith, bytes, c.self.invariant, c.self.told, length-take c.self.inside.count (drop c.self.inside.from c.self.inside.bytes), length-drop c.self.inside.from c.self.inside.bytes) in
-      let page : List ℕ = c.moved-page.result in
-      midway_fill file c.args.at c.args.size now c.args.self.now c.self.inside.low c.self.inside.count (c.self.inside.count + c.min-more.result) page c.fill.new.out
-      (ap (λ (l : List ℕ). record { low = c.self.inside.low; bytes = l }) c.moved-page.ensures.begins ∙ c.self.view_is) (omega arith) (omega (arith, c.moved-page.ensures.long, c.min-more.ensures, c.self.invariant))
-      c.fill.auto.out (c.in_ok-fill.ensures.read file held) long (omega (arith, low, counted, c.requires.held, c.min-more.ensures)) midway;
-}
+pub returns-clause-bytes : goal.returns-clause-bytes
+returns-clause-bytes g c = λ file held now long midway.
+    let low = ap (λ (h : Holding). h.low) c.self.view_is in
+    let bytes = ap (λ (h : Holding). length h.bytes) c.self.view_is in
+    let counted : length c.args.self.now.bytes ≡ c.self.inside.count = omega (arith, bytes, c.self.invariant, c.self.told, length-take c.self.inside.count (drop c.self.inside.from c.self.inside.bytes), length-drop c.self.inside.from c.self.inside.bytes) in
+    let page : List ℕ = c.moved-page.result in
+    midway_fill file c.args.at c.args.size now c.args.self.now c.self.inside.low c.self.inside.count (c.self.inside.count + c.min-more.result) page c.fill.new.out
+    (ap (λ (l : List ℕ). record { low = c.self.inside.low; bytes = l }) c.moved-page.ensures.begins ∙ c.self.view_is) (omega arith) (omega (arith, c.moved-page.ensures.long, c.min-more.ensures, c.self.invariant))
+    c.fill.auto.out (c.in_ok-fill.ensures.read file held) long (omega (arith, low, counted, c.requires.held, c.min-more.ensures)) midway
 
-pub returns-in_err-fill : goal.returns-in_err-fill
-returns-in_err-fill g c = record {
-  says =
-      let p = err_from_is_err_and c.from_residual.result c.from_residual.ensures.1 in
-      rw (p.1, p.2) (not_over c.args.src.now c.fill.new.src _ c.in_err-fill.field-0.0 c.requires.may.free c.in_err-fill.ensures.says);
-  unread =
-      let p = err_from_is_err_and c.from_residual.result c.from_residual.ensures.1 in
-      rw (p.1, p.2) (unread c.args.src.now c.fill.new.src _ _ c.in_err-fill.field-0.0 c.requires.may.free c.in_err-fill.ensures.says c.in_err-fill.ensures.at);
-  reads = search rules;
-  asked_on = search rules;
-  low = search rules;
-  long = search rules;
-  held = search rules;
-  bytes = search rules;
-}
+pub returns-in_err-fill-clause-says : goal.returns-in_err-fill-clause-says
+returns-in_err-fill-clause-says g c =
+    let p = err_from_is_err_and c.from_residual.result c.from_residual.ensures.1 in
+    rw (p.1, p.2) (not_over c.args.src.now c.fill.new.src _ c.in_err-fill.field-0.0 c.requires.may.free c.in_err-fill.ensures.says)
+
+pub returns-in_err-fill-clause-unread : goal.returns-in_err-fill-clause-unread
+returns-in_err-fill-clause-unread g c =
+    let p = err_from_is_err_and c.from_residual.result c.from_residual.ensures.1 in
+    rw (p.1, p.2) (unread c.args.src.now c.fill.new.src _ _ c.in_err-fill.field-0.0 c.requires.may.free c.in_err-fill.ensures.says c.in_err-fill.ensures.at)

@@ -7,47 +7,30 @@ use Rattle.elf_apply.proofs.ReadLaws.{ReadSays-then}
 use Rattle.elf_apply.proofs.WindowSteps.{fault_says}
 use Rattle.elf_apply.proofs.in_order.Held.store.Goals as goal
 
-pub returns-in_err-read_on : goal.returns-in_err-read_on
-returns-in_err-read_on g c = record {
-  says =
-      let p = err_from_is_err_and c.from_residual-in_err-read_on.result c.from_residual-in_err-read_on.ensures.1 in
-      rw (p.1, p.2) (fault_says c.args.src.now c.read_on.new.src c.advance.new.out c.in_err-read_on.field-0.0 (ReadSays-then c.args.src.now c.advance.new.src c.read_on.new.src _ c.in_err-read_on.field-0.0 c.advance.ensures.reads c.in_err-read_on.ensures.says));
-  low = search rules;
-  never = search rules;
-  fallen = search rules;
-  kept = λ low.
-      let p = err_from_is_err_and c.from_residual-in_err-read_on.result c.from_residual-in_err-read_on.ensures.1 in
-      rw (p.1) (unread_kept c.in_err-read_on.field-0.0 p.0 p.2 c.in_err-read_on.ensures.unread);
-  held = search rules;
-  reads = search rules;
-  asked_on = search rules;
-  grows = search rules;
-  wrote = search rules;
-  text = λ file held now long low midway.
-      let p = err_from_is_err_and c.from_residual-in_err-read_on.result c.from_residual-in_err-read_on.ensures.1 in
-      unread_after (Unit {0}) _ _ c.in_err-read_on.field-0.0 _ _ (p.1 ∙ ap Err p.2) c.in_err-read_on.ensures.unread (c.in_ok-advance.ensures.text file held c.args.size now long (omega (arith, c.requires.inside)) midway);
-  still = search rules;
-}
+pub returns-in_err-read_on-clause-says : goal.returns-in_err-read_on-clause-says
+returns-in_err-read_on-clause-says g c =
+    let p = err_from_is_err_and c.from_residual-in_err-read_on.result c.from_residual-in_err-read_on.ensures.1 in
+    rw (p.1, p.2) (fault_says c.args.src.now c.read_on.new.src c.advance.new.out c.in_err-read_on.field-0.0 (ReadSays-then c.args.src.now c.advance.new.src c.read_on.new.src _ c.in_err-read_on.field-0.0 c.advance.ensures.reads c.in_err-read_on.ensures.says))
 
-pub returns : goal.returns
-returns g c = record {
-  says = search rules;
-  low = search rules;
-  never = search rules;
-  fallen = search rules;
-  kept = search rules;
-  held = search rules;
-  reads = search rules;
-  asked_on = search rules;
-  grows = search rules;
-  wrote = search rules;
-  text = λ file held now long low midway.
-      c.in_ok-advance.ensures.text file held c.args.size now long (omega (arith, c.requires.inside)) midway;
-  still = λ file held now long midway.
-      let first = c.in_ok-advance.ensures.still file held c.args.size now long (omega (arith, c.requires.inside)) midway in
-      let low : c.advance.new.self.low ≡ c.args.placed.now.offset = c.in_ok-advance.ensures.low in
-      let width = c.width_of.ensures.value in
-      let read = c.in_ok-read_on.ensures.bytes file (c.advance.ensures.reads.keeps.same_file ∙ held) now long first in
-      midway_patch (slice file c.args.at c.args.size) now c.read_on.new.self c.patch.new.self (patch_as c.args.placed.now) (omega (arith, c.read_on.ensures.low, low)) (omega (arith, c.read_on.ensures.low, low, width, c.in_ok-read_on.ensures.long))
-      c.patch.ensures.low c.patch.ensures.bytes c.patch.ensures.long read;
-}
+pub returns-in_err-read_on-clause-kept : goal.returns-in_err-read_on-clause-kept
+returns-in_err-read_on-clause-kept g c = λ low.
+    let p = err_from_is_err_and c.from_residual-in_err-read_on.result c.from_residual-in_err-read_on.ensures.1 in
+    rw (p.1) (unread_kept c.in_err-read_on.field-0.0 p.0 p.2 c.in_err-read_on.ensures.unread)
+
+pub returns-in_err-read_on-clause-text : goal.returns-in_err-read_on-clause-text
+returns-in_err-read_on-clause-text g c = λ file held now long low midway.
+    let p = err_from_is_err_and c.from_residual-in_err-read_on.result c.from_residual-in_err-read_on.ensures.1 in
+    unread_after (Unit {0}) _ _ c.in_err-read_on.field-0.0 _ _ (p.1 ∙ ap Err p.2) c.in_err-read_on.ensures.unread (c.in_ok-advance.ensures.text file held c.args.size now long (omega (arith, c.requires.inside)) midway)
+
+pub returns-clause-text : goal.returns-clause-text
+returns-clause-text g c = λ file held now long low midway.
+    c.in_ok-advance.ensures.text file held c.args.size now long (omega (arith, c.requires.inside)) midway
+
+pub returns-clause-still : goal.returns-clause-still
+returns-clause-still g c = λ file held now long midway.
+    let first = c.in_ok-advance.ensures.still file held c.args.size now long (omega (arith, c.requires.inside)) midway in
+    let low : c.advance.new.self.low ≡ c.args.placed.now.offset = c.in_ok-advance.ensures.low in
+    let width = c.width_of.ensures.value in
+    let read = c.in_ok-read_on.ensures.bytes file (c.advance.ensures.reads.keeps.same_file ∙ held) now long first in
+    midway_patch (slice file c.args.at c.args.size) now c.read_on.new.self c.patch.new.self (patch_as c.args.placed.now) (omega (arith, c.read_on.ensures.low, low)) (omega (arith, c.read_on.ensures.low, low, width, c.in_ok-read_on.ensures.long))
+    c.patch.ensures.low c.patch.ensures.bytes c.patch.ensures.long read

@@ -9,13 +9,5 @@ step-requires g c = record {
   goes = search rules;
 }
 
-pub returns-in-Err : goal.returns-in-Err
-returns-in-Err g c = record {
-  asks = search rules;
-  says = Says-then c.args.src.now c.steps.src c.step.new.src _ _ _ c.in-Err.fault c.steps.invariant.reads_most (omega (arith, c.steps.invariant.asked)) c.in-Err.ensures.says;
-  goes = search rules;
-  fewer = search rules;
-  counts = search rules;
-  inside = search rules;
-  finds = search rules;
-}
+pub returns-in-Err-clause-says : goal.returns-in-Err-clause-says
+returns-in-Err-clause-says g c = Says-then c.args.src.now c.steps.src c.step.new.src _ _ _ c.in-Err.fault c.steps.invariant.reads_most (omega (arith, c.steps.invariant.asked)) c.in-Err.ensures.says

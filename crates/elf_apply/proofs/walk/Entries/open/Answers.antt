@@ -5,74 +5,66 @@ use Rattle.elf_apply.specs.Walk.{sections_of}
 use Rattle.elf_apply.proofs.WalkSteps.{entries-end, entries-next, entries-other, entries-table, left-end, left-passed, section_none, cost-passed, cost-opened, steps-passed, steps-opened, opened-fault, opened-rows}
 use Rattle.elf_apply.proofs.walk.Entries.open.Goals as goal
 
-pub returns-then-section-sections : goal.returns-then-section-sections
-returns-then-section-sections c = record {
-  goes = search rules;
-  refusal = search rules;
-  fewer = entries-end c.args.target.now c.args.self.now.next (omega (arith, c.if-section-sections.true, c.sections.ensures));
-  counts = search rules;
-  inside = search rules;
-  left = search rules;
-  walked = λ file belongs reads.
-      left-end file c.args.target.now c.args.self.now c.requires.none (omega (arith, c.if-section-sections.true, c.sections.ensures));
-}
+pub returns-then-section-sections-clause-fewer : goal.returns-then-section-sections-clause-fewer
+returns-then-section-sections-clause-fewer c = entries-end c.args.target.now c.args.self.now.next (omega (arith, c.if-section-sections.true, c.sections.ensures))
 
-pub returns-then-not-applies : goal.returns-then-not-applies
-returns-then-not-applies c = record {
-  goes = search rules;
-  refusal = search rules;
-  fewer = steps-passed c.args.target.now c.args.self.now _ refl refl (omega (arith, c.if-section-sections.false, c.sections.ensures));
-  counts =
-      let below : c.args.self.now.next < sections_of c.args.target.now = omega (arith, c.if-section-sections.false, c.sections.ensures) in
-      omega (arith, entries-next c.args.target.now c.args.self.now.next below, entries-other c.args.target.now c.args.self.now.next (sym (c.applies.ensures _ 0 c.section-header.ensures.fields) ∙ c.if-not-applies.true));
-  inside = search rules;
-  left = cost-passed c.args.target.now c.args.self.now _ refl refl (omega (arith, c.if-section-sections.false, c.sections.ensures));
-  walked = λ file belongs reads.
-      let stands = c.section-header.ensures.stands file belongs in (
-        left-passed file c.args.target.now c.args.self.now _ c.requires.none c.requires.none refl (omega (arith, c.if-section-sections.false, c.sections.ensures))
-            (section_none (target_as file c.args.target.now) (section_at file c.args.self.now.next) (sym (c.applies.ensures file (section_at file c.args.self.now.next) stands) ∙ c.if-not-applies.true)),
-        record { agrees = reads.agrees; links = reads.links; placed = reads.placed },
-      );
-}
+pub returns-then-section-sections-clause-walked : goal.returns-then-section-sections-clause-walked
+returns-then-section-sections-clause-walked c = λ file belongs reads.
+    left-end file c.args.target.now c.args.self.now c.requires.none (omega (arith, c.if-section-sections.true, c.sections.ensures))
 
-pub returns-in-Ok : goal.returns-in-Ok
-returns-in-Ok c = record {
-  goes = search rules;
-  refusal = search rules;
-  fewer = steps-opened c.args.target.now c.args.self.now _ c.in-Ok.found.0 c.new-self.ensures.left c.in-Ok.ensures.entry c.in-Ok.ensures.within refl (omega (arith, c.if-section-sections.false, c.sections.ensures));
-  counts =
-      let below : c.args.self.now.next < sections_of c.args.target.now = omega (arith, c.if-section-sections.false, c.sections.ensures) in
-      omega (
-        arith,
-        entries-next c.args.target.now c.args.self.now.next below,
-        entries-table c.args.target.now c.args.self.now.next c.in-Ok.found.0 (sym (c.applies.ensures _ 0 c.section-header.ensures.fields) ∙ c.if-not-applies.false) c.in-Ok.ensures.table,
-        c.len.ensures,
-        c.from.ensures,
-      );
-  inside = search rules;
-  left =
-      let n = c.new-self.ensures in
-      let size : c.in-Ok.found.0.count * c.in-Ok.found.0.entry ≡ c.in-Ok.found.0.count * 24 = ap (λ k. c.in-Ok.found.0.count * k) c.in-Ok.ensures.entry in
-      let left : c.new-self.result.left * 24 ≡ c.in-Ok.found.0.count * 24 = ap (λ k. k * 24) n.left in
-      cost-opened c.args.target.now c.args.self.now _ n.failed (n.unread ∙ (size ∙ sym left)) refl (omega (arith, c.if-section-sections.false, c.sections.ensures))
-      (n.left ∙ entries-table c.args.target.now c.args.self.now.next c.in-Ok.found.0 (sym (c.applies.ensures _ 0 c.section-header.ensures.fields) ∙ c.if-not-applies.false) c.in-Ok.ensures.table);
-  walked = λ file belongs reads.
-      let stands = c.section-header.ensures.stands file belongs in
-      opened-rows file c.args.target.now c.args.self.now _ c.in-Ok.found.0 c.new-self.ensures.table c.new-self.ensures.index c.new-self.ensures.left c.new-self.ensures.held refl refl
-      c.requires.none (omega (arith, c.if-section-sections.false, c.sections.ensures)) (sym (c.applies.ensures file (section_at file c.args.self.now.next) stands) ∙ c.if-not-applies.false)
-      (c.in-Ok.ensures.held file belongs);
-}
+pub returns-then-not-applies-clause-fewer : goal.returns-then-not-applies-clause-fewer
+returns-then-not-applies-clause-fewer c = steps-passed c.args.target.now c.args.self.now _ refl refl (omega (arith, c.if-section-sections.false, c.sections.ensures))
 
-pub returns-in-Err : goal.returns-in-Err
-returns-in-Err c = record {
-  goes = search rules;
-  refusal = search rules;
-  fewer = search rules;
-  counts = search rules;
-  inside = search rules;
-  left = cost-passed c.args.target.now c.args.self.now _ refl refl (omega (arith, c.if-section-sections.false, c.sections.ensures));
-  walked = λ file belongs reads.
-      let stands = c.section-header.ensures.stands file belongs in
-      opened-fault file c.args.target.now c.args.self.now (record { cursor = c.args.self.now.cursor; linked = c.args.self.now.linked; current = c.args.self.now.current; next = c.args.self.now.next + 1; count = c.args.self.now.count }) c.in-Err.fault c.requires.none (omega (arith, c.if-section-sections.false, c.sections.ensures))
-      (sym (c.applies.ensures file (section_at file c.args.self.now.next) stands) ∙ c.if-not-applies.false) (c.in-Err.ensures.held file belongs);
-}
+pub returns-then-not-applies-clause-counts : goal.returns-then-not-applies-clause-counts
+returns-then-not-applies-clause-counts c =
+    let below : c.args.self.now.next < sections_of c.args.target.now = omega (arith, c.if-section-sections.false, c.sections.ensures) in
+    omega (arith, entries-next c.args.target.now c.args.self.now.next below, entries-other c.args.target.now c.args.self.now.next (sym (c.applies.ensures _ 0 c.section-header.ensures.fields) ∙ c.if-not-applies.true))
+
+pub returns-then-not-applies-clause-left : goal.returns-then-not-applies-clause-left
+returns-then-not-applies-clause-left c = cost-passed c.args.target.now c.args.self.now _ refl refl (omega (arith, c.if-section-sections.false, c.sections.ensures))
+
+pub returns-then-not-applies-clause-walked : goal.returns-then-not-applies-clause-walked
+returns-then-not-applies-clause-walked c = λ file belongs reads.
+    let stands = c.section-header.ensures.stands file belongs in (
+      left-passed file c.args.target.now c.args.self.now _ c.requires.none c.requires.none refl (omega (arith, c.if-section-sections.false, c.sections.ensures))
+          (section_none (target_as file c.args.target.now) (section_at file c.args.self.now.next) (sym (c.applies.ensures file (section_at file c.args.self.now.next) stands) ∙ c.if-not-applies.true)),
+      record { agrees = reads.agrees; links = reads.links; placed = reads.placed },
+    )
+
+pub returns-in-Ok-clause-fewer : goal.returns-in-Ok-clause-fewer
+returns-in-Ok-clause-fewer c = steps-opened c.args.target.now c.args.self.now _ c.in-Ok.found.0 c.new-self.ensures.left c.in-Ok.ensures.entry c.in-Ok.ensures.within refl (omega (arith, c.if-section-sections.false, c.sections.ensures))
+
+pub returns-in-Ok-clause-counts : goal.returns-in-Ok-clause-counts
+returns-in-Ok-clause-counts c =
+    let below : c.args.self.now.next < sections_of c.args.target.now = omega (arith, c.if-section-sections.false, c.sections.ensures) in
+    omega (
+      arith,
+      entries-next c.args.target.now c.args.self.now.next below,
+      entries-table c.args.target.now c.args.self.now.next c.in-Ok.found.0 (sym (c.applies.ensures _ 0 c.section-header.ensures.fields) ∙ c.if-not-applies.false) c.in-Ok.ensures.table,
+      c.len.ensures,
+      c.from.ensures,
+    )
+
+pub returns-in-Ok-clause-left : goal.returns-in-Ok-clause-left
+returns-in-Ok-clause-left c =
+    let n = c.new-self.ensures in
+    let size : c.in-Ok.found.0.count * c.in-Ok.found.0.entry ≡ c.in-Ok.found.0.count * 24 = ap (λ k. c.in-Ok.found.0.count * k) c.in-Ok.ensures.entry in
+    let left : c.new-self.result.left * 24 ≡ c.in-Ok.found.0.count * 24 = ap (λ k. k * 24) n.left in
+    cost-opened c.args.target.now c.args.self.now _ n.failed (n.unread ∙ (size ∙ sym left)) refl (omega (arith, c.if-section-sections.false, c.sections.ensures))
+    (n.left ∙ entries-table c.args.target.now c.args.self.now.next c.in-Ok.found.0 (sym (c.applies.ensures _ 0 c.section-header.ensures.fields) ∙ c.if-not-applies.false) c.in-Ok.ensures.table)
+
+pub returns-in-Ok-clause-walked : goal.returns-in-Ok-clause-walked
+returns-in-Ok-clause-walked c = λ file belongs reads.
+    let stands = c.section-header.ensures.stands file belongs in
+    opened-rows file c.args.target.now c.args.self.now _ c.in-Ok.found.0 c.new-self.ensures.table c.new-self.ensures.index c.new-self.ensures.left c.new-self.ensures.held refl refl
+    c.requires.none (omega (arith, c.if-section-sections.false, c.sections.ensures)) (sym (c.applies.ensures file (section_at file c.args.self.now.next) stands) ∙ c.if-not-applies.false)
+    (c.in-Ok.ensures.held file belongs)
+
+pub returns-in-Err-clause-left : goal.returns-in-Err-clause-left
+returns-in-Err-clause-left c = cost-passed c.args.target.now c.args.self.now _ refl refl (omega (arith, c.if-section-sections.false, c.sections.ensures))
+
+pub returns-in-Err-clause-walked : goal.returns-in-Err-clause-walked
+returns-in-Err-clause-walked c = λ file belongs reads.
+    let stands = c.section-header.ensures.stands file belongs in
+    opened-fault file c.args.target.now c.args.self.now (record { cursor = c.args.self.now.cursor; linked = c.args.self.now.linked; current = c.args.self.now.current; next = c.args.self.now.next + 1; count = c.args.self.now.count }) c.in-Err.fault c.requires.none (omega (arith, c.if-section-sections.false, c.sections.ensures))
+    (sym (c.applies.ensures file (section_at file c.args.self.now.next) stands) ∙ c.if-not-applies.false) (c.in-Err.ensures.held file belongs)
