@@ -1,5 +1,5 @@
 -- Applying to a section of a loaded file, stage by stage.
-use Rattle.std.proofs.Common.{◌≡◌, ℕ, ◌==◌, ◌||◌, nat_lt, not, Bool, true, false, if◌then◌else◌, List, [], ◌∷◌, ◌++◌, length, flat_map, Option, None, Some, Result, Ok, Err, refl, sym, ap, ◌∙◌, subst}
+use Rattle.std.proofs.Common.{◌≡◌, ℕ, ◌==◌, ◌||◌, nat_lt, not, Bool, true, false, if◌then◌else◌, List, [], ◌∷◌, ◌++◌, length, flat_map, None, Some, Result, Ok, Err, refl, sym, ap, ◌∙◌, subst}
 use Rattle.elf_model.specs.Apply.{Patch, Change, Put, Fails, apply_checks, has_no_bytes, held_bytes, patches_of, and_patches, changes_of, section_changes, places_from, patched, target_of, before_entries, applied}
 use Rattle.elf_model.specs.ApplyLaws.{AllInside}
 use Rattle.elf_model.specs.Budget.{IsBudget}

@@ -5,7 +5,6 @@ use Rattle.std.proofs.Math.Nat.{mul-le-mul_right}
 use Rattle.std.proofs.Math.Seq.{take-add}
 use Rattle.elf_model.specs.Apply.{Patch, Change, Put, Fails, put, patched, patches_of, and_patches}
 use Rattle.elf_model.specs.ApplyLaws.{AllInside, clipped}
-use Rattle.elf_model.specs.Budget.{IsBudget}
 use Rattle.elf_model.specs.Bytes.{slice}
 use Rattle.elf_model.specs.declared.causes.Refusal.{Refusal}
 use Rattle.elf_model.proofs.PatchLaws.{window_patched, length_kept}

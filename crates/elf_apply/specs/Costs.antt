@@ -1,15 +1,10 @@
 -- What a lookup by name answers, and what it costs.
-use Rattle.std.specs.Prelude.{ℕ, ◌≡◌, List, Some, Result, Ok, Err, IfErr}
+use Rattle.std.specs.Prelude.{ℕ, ◌≡◌, Result, Ok, Err}
 use Rattle.elf_model.specs.Budget.{IsBudget}
 use Rattle.elf_model.specs.declared.causes.Cause.{Cause}
 use Rattle.elf_model.specs.declared.causes.Refusal.{Refusal}
-use Rattle.elf_record.specs.Sym.{IsSym}
-use Rattle.elf_source.specs.Source.{Counting, Reads}
-use Rattle.elf_headers.specs.Faults.{Says}
 use Rattle.elf_headers.specs.declared.fault.Fault.{Fault}
 use Rattle.elf_headers.specs.declared.fault.Fault.TheVariants.{Refused, Source}
-use Rattle.elf_table.specs.Tables.{strings_in}
-use Rattle.elf_apply.specs.declared.lookup.Symbol.{Symbol}
 
 -- an answer, or a refusal at an offset for the cause, unless it is for want of budget
 abbrev pub ValueOrCause : {X : Type 0} → ℕ → Result X Fault → Result X Cause → Type 0

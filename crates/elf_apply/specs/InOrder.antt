@@ -1,17 +1,10 @@
 -- One pass over entries whose offsets never fall: what is held, and how far the section has come.
-use Rattle.std.specs.Prelude.{ℕ, ◌≡◌, ◌+◌, ◌-◌, ◌^◌, ◌<◌, ◌≤◌, List, [], ◌∷◌, length, take, drop, None, Some, Result, Ok, Err, IfErr, OnOk}
-use Rattle.elf_model.specs.Apply.{Patch, Change, patches_of, patched, put}
+use Rattle.std.specs.Prelude.{ℕ, ◌≡◌, ◌+◌, ◌^◌, ◌<◌, ◌≤◌, List, [], ◌∷◌, length, take, drop, None, Ok}
+use Rattle.elf_model.specs.Apply.{Patch, Change, patches_of, patched}
 use Rattle.elf_model.specs.ApplyLaws.{AllInside}
 use Rattle.elf_model.specs.Bytes.{slice}
-use Rattle.elf_model.specs.declared.causes.Cause.TheVariants.{PlaceOutside}
-use Rattle.elf_source.specs.Growth.{Grows}
 use Rattle.elf_source.specs.Output.{Written, Takes}
-use Rattle.elf_source.specs.Source.{Counting, Reads}
-use Rattle.elf_headers.specs.Faults.{ReadSays}
-use Rattle.elf_headers.specs.declared.fault.Fault.{Fault}
-use Rattle.elf_apply.specs.Entries.{patch_as}
-use Rattle.elf_apply.specs.Windows.{ApplyFaultSays, IsUnread, WritesBytes, WroteBytes}
-use Rattle.elf_apply.specs.declared.entry.Placed.{Placed}
+use Rattle.elf_source.specs.Source.{Counting}
 use Rattle.elf_headers.specs.declared.stop.Stop.{Stop}
 use Rattle.elf_headers.specs.declared.stop.Stop.TheVariants.{Refused, Source, Out}
 

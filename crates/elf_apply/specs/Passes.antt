@@ -1,15 +1,13 @@
 -- What the passes over the entries calculate of the list of changes.
-use Rattle.std.specs.Prelude.{ℕ, ◌≡◌, ◌+◌, ◌^◌, ◌<◌, ◌≤◌, ◌&&◌, nat_le, Bool, true, List, [], ◌∷◌, Some, Result, Ok, Err, IfOk, IfErr}
+use Rattle.std.specs.Prelude.{ℕ, ◌≡◌, ◌+◌, ◌^◌, ◌<◌, ◌≤◌, ◌&&◌, nat_le, Bool, List, [], ◌∷◌, Result, Ok, Err}
 use Rattle.elf_model.specs.Apply.{Patch, Change, Put, Fails, put}
 use Rattle.elf_model.specs.ApplyLaws.{clipped}
 use Rattle.elf_model.specs.Budget.{IsBudget}
 use Rattle.elf_model.specs.declared.causes.Refusal.{Refusal}
-use Rattle.elf_source.specs.Source.{Counting, Reads}
-use Rattle.elf_headers.specs.Faults.{Says}
+use Rattle.elf_source.specs.Source.{Counting}
 use Rattle.elf_headers.specs.Load.{IsOpen}
 use Rattle.elf_headers.specs.declared.fault.Fault.{Fault}
 use Rattle.elf_headers.specs.declared.fault.Fault.TheVariants.{Refused, Source}
-use Rattle.elf_apply.specs.Walk.{changes_all, entries_from, walk_all}
 use Rattle.elf_apply.specs.declared.entry.Target.{Target}
 use Rattle.elf_apply.specs.declared.passes.Checked.{Checked}
 

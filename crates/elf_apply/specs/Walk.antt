@@ -1,5 +1,5 @@
 -- The walk over the relocation entries for a section: what is left of it, and what a step of it does.
-use Rattle.std.specs.Prelude.{ℕ, ◌≡◌, ◌+◌, ◌-◌, ◌*◌, ◌^◌, ◌<◌, ◌≤◌, true, false, List, [], ◌∷◌, ◌++◌, flat_map, Option, None, Some, Result, Ok, Err, IfOk, IfErr, IfSome}
+use Rattle.std.specs.Prelude.{ℕ, ◌≡◌, ◌+◌, ◌-◌, ◌*◌, ◌^◌, ◌<◌, ◌≤◌, true, false, List, [], ◌∷◌, ◌++◌, flat_map, Option, None, Some, Result, Ok, Err, IfSome}
 use Rattle.elf_model.specs.Apply.{Change, Put, Fails, applies_to, entry_changes, places_from, section_changes}
 use Rattle.elf_model.specs.ApplyCost.{layout_names_cost}
 use Rattle.elf_model.specs.Budget.{IsBudget}
@@ -9,8 +9,7 @@ use Rattle.elf_model.specs.Records.{sh_offset, section_at}
 use Rattle.elf_model.specs.Tables.{RELA_SIZE, entry_at, entry_count}
 use Rattle.elf_source.specs.Source.{Counting, Reads}
 use Rattle.elf_table.specs.Cursors.{HoldsRows, unread_bytes, unless_failed}
-use Rattle.elf_headers.specs.Faults.{IsOfCheck, Says}
-use Rattle.elf_headers.specs.Load.{Belongs, IsOpen, section_place}
+use Rattle.elf_headers.specs.Load.{IsOpen, section_place}
 use Rattle.elf_table.specs.Relocations.{RefersTo}
 use Rattle.elf_headers.specs.Store.{row}
 use Rattle.elf_table.specs.Tables.{RowsWithin, SymbolsWithin}

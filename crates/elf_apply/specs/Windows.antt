@@ -1,11 +1,10 @@
 -- What a call that writes a section with its relocations applied did.
-use Rattle.std.specs.Prelude.{ℕ, ◌≡◌, ◌+◌, ◌-◌, ◌^◌, ◌/◌, ◌<◌, ◌≤◌, min, List, None, Some, Result, Ok, Err, IfErr}
+use Rattle.std.specs.Prelude.{ℕ, ◌≡◌, ◌+◌, ◌-◌, ◌^◌, ◌/◌, ◌<◌, ◌≤◌, min, List, None, Result, Ok, Err}
 use Rattle.elf_model.specs.Apply.{Patch, patches_of, patched}
 use Rattle.elf_model.specs.ApplyLaws.{AllInside}
 use Rattle.elf_model.specs.Budget.{IsBudget}
 use Rattle.elf_model.specs.Bytes.{slice}
-use Rattle.elf_source.specs.Growth.{Grows}
-use Rattle.elf_source.specs.Source.{Counting, Faults, Reads}
+use Rattle.elf_source.specs.Source.{Counting, Faults}
 use Rattle.elf_source.specs.Output.{Written, Takes, TakesFront, OutFails}
 use Rattle.elf_headers.specs.Load.{IsOpen}
 use Rattle.elf_headers.specs.declared.fault.Fault.{Fault}

@@ -1,4 +1,4 @@
-use Rattle.std.proofs.Common.{rules, ◌%◌, ◌∷◌, [], sym, ap, ◌∙◌}
+use Rattle.std.proofs.Common.{◌%◌, ◌∷◌, [], sym, ap, ◌∙◌}
 use Rattle.elf_model.specs.Numbers.{R_X86_64_NONE}
 use Rattle.elf_reloc.specs.Types.{types_as}
 use Rattle.elf_apply.specs.Entries.{target_as}

@@ -1,4 +1,4 @@
-use Rattle.std.proofs.Common.{sym, ap, ◌∙◌}
+use Rattle.std.proofs.Common.{sym, ◌∙◌}
 use Rattle.elf_reloc.specs.Types.{formula_as}
 use Rattle.elf_apply.specs.Entries.{target_as}
 use Rattle.elf_apply.proofs.EntrySteps.{place_none, place_found, place_missing}

@@ -1,4 +1,4 @@
-use Rattle.std.proofs.Common.{rules, ap, Err, arith, ◌∙◌}
+use Rattle.std.proofs.Common.{ap, Err, arith, ◌∙◌}
 use Rattle.std.proofs.lemmas.Result.{err_from_is_err_and}
 use Rattle.elf_apply.proofs.InOrderSteps.{unread_kept}
 use Rattle.elf_apply.proofs.ReadLaws.{not_over, unread}

@@ -1,5 +1,5 @@
 use Rattle.elf_layout.specs.Layouts.{items_cost}
-use Rattle.std.proofs.Common.{rules, ◌≤◌, drop, sym, ap, ◌∙◌, ◌+◌, arith, Ok, Some, true, false}
+use Rattle.std.proofs.Common.{◌≤◌, drop, sym, ap, ◌∙◌, ◌+◌, arith, Ok, Some, true, false}
 use Rattle.elf_source.proofs.ReadsLaws.{Reads-then, Reads-to}
 use Rattle.elf_apply.proofs.LookupSteps.{step_by, step_fault, step_none}
 use Rattle.elf_layout.proofs.LayoutSteps.{cost_step}

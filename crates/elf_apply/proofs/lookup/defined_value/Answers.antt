@@ -1,4 +1,3 @@
-use Rattle.std.proofs.Common.{rules}
 use Rattle.elf_apply.proofs.SymbolSteps.{check_says}
 use Rattle.elf_apply.proofs.lookup.defined_value.Goals as goal
 

@@ -1,4 +1,4 @@
-use Rattle.std.proofs.Common.{rules, ◌∙◌, arith}
+use Rattle.std.proofs.Common.{◌∙◌, arith}
 use Rattle.elf_apply.proofs.SymbolSteps.{tells_as, linkage_found, linkage_none, linkage_fault}
 use Rattle.elf_layout.proofs.LayoutSteps.{names_cost}
 use Rattle.elf_source.proofs.ReadsLaws.{Reads-then, Reads-to}

@@ -1,4 +1,4 @@
-use Rattle.std.proofs.Common.{rules, sym, ap, ◌∙◌}
+use Rattle.std.proofs.Common.{sym, ap, ◌∙◌}
 use Rattle.elf_model.specs.Placing.{placed_at}
 use Rattle.elf_apply.proofs.SymbolSteps.{check_says, tells_as, tells_refused, value_absolute, value_undefined, value_common, value_placed, value_reserved}
 use Rattle.elf_apply.proofs.lookup.symbol_value.Goals as goal

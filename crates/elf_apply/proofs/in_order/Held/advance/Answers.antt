@@ -1,4 +1,4 @@
-use Rattle.std.proofs.Common.{rules, sym, ap, ◌∙◌, ◌+◌, ◌-◌, ◌≤◌, ◌++◌, arith, length, length-take, length-drop, min, List, ℕ, ◌≡◌, take, Err}
+use Rattle.std.proofs.Common.{sym, ap, ◌∙◌, ◌+◌, ◌-◌, ◌≤◌, ◌++◌, arith, length, length-take, length-drop, min, List, ℕ, ◌≡◌, take, Err}
 use Rattle.std.proofs.lemmas.Result.{err_from_is_err_and}
 use Rattle.elf_source.proofs.PutsLaws.{Takes-then}
 use Rattle.elf_model.specs.Bytes.{slice}

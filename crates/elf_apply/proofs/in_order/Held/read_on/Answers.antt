@@ -1,5 +1,4 @@
-use Rattle.std.proofs.Common.{rules, ap, ◌∙◌, ◌+◌, ◌≡◌, arith, length, length-take, length-drop, drop, ℕ, List}
-use Rattle.std.proofs.lemmas.Grind.{common_steps}
+use Rattle.std.proofs.Common.{ap, ◌∙◌, ◌+◌, ◌≡◌, arith, length, length-take, length-drop, drop, ℕ, List}
 use Rattle.std.proofs.lemmas.Result.{err_from_is_err_and}
 use Rattle.elf_apply.specs.InOrder.{Holding}
 use Rattle.elf_apply.proofs.InOrderSteps.{midway_fill}

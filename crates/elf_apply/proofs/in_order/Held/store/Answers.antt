@@ -1,4 +1,4 @@
-use Rattle.std.proofs.Common.{rules, ap, ◌∙◌, arith, ◌≡◌, Err}
+use Rattle.std.proofs.Common.{ap, ◌∙◌, arith, ◌≡◌, Err}
 use Rattle.std.proofs.lemmas.Result.{err_from_is_err_and}
 use Rattle.elf_model.specs.Bytes.{slice}
 use Rattle.elf_apply.specs.Entries.{patch_as}

@@ -1,4 +1,4 @@
-use Rattle.std.proofs.Common.{rules, ℕ, ◌≡◌, ◌+◌, ◌*◌, refl, ap, ◌∙◌, arith}
+use Rattle.std.proofs.Common.{ℕ, ◌≡◌, ◌+◌, ◌*◌, refl, ap, ◌∙◌, arith}
 use Rattle.elf_model.specs.Records.{section_at, sh_offset}
 use Rattle.elf_apply.proofs.Opened.{gave, given_row}
 use Rattle.elf_source.proofs.ReadsLaws.{Reads-then}
