@@ -14,7 +14,7 @@ use Rattle.elf_listing.specs.Parts.{asked_cost}
 use Rattle.elf_listing.specs.Shows.{Lists, Shows}
 use Rattle.elf_listing.specs.declared.listing.Listing.{Listing}
 use Rattle.elf_listing.specs.declared.parts.Part.{Part}
-use Rattle.elf_listing.specs.declared.stop.Stop.{Stop}
+use Rattle.elf_headers.specs.declared.stop.Stop.{Stop}
 use Rattle.elf_listing.proofs.EachLaws.{each-more}
 use Rattle.elf_listing.proofs.ListsLaws.{Lists-within, SameFile-then}
 use Rattle.elf_listing.proofs.RowLaws.{Writes-as}

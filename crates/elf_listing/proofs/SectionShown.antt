@@ -29,7 +29,7 @@ use Rattle.elf_headers.specs.declared.fault.Fault.{Fault}
 use Rattle.elf_headers.specs.declared.fault.Fault.TheVariants.{Refused, Source}
 use Rattle.elf_listing.specs.Parts.{shown_in}
 use Rattle.elf_listing.specs.Shows.{Stopped, WroteItems}
-use Rattle.elf_listing.specs.Stops.{stop_of}
+use Rattle.elf_headers.specs.Stops.{stop_of}
 use Rattle.elf_listing.proofs.RowLaws.{Stopped-first}
 use Rattle.elf_listing.proofs.ShowLaws.{Whole-none}
 
