@@ -1,9 +1,10 @@
 -- What is held of a file.
-use Rattle.std.proofs.Common.{◌≡◌, ℕ, ◌+◌, ◌-◌, ◌≤◌, List, Some, length, min, ap, sym, ◌∙◌, arith}
+use Rattle.std.proofs.Common.{◌≡◌, ℕ, ◌+◌, ◌-◌, ◌≤◌, List, Result, length, min, ap, sym, ◌∙◌, arith}
 use Rattle.elf_model.specs.Bytes.{slice}
 use Rattle.elf_model.proofs.Slices.{slice-slice}
 use Rattle.elf_source.specs.Source.{Counting, Reads}
-use Rattle.elf_names.specs.Ahead.{Held, HeldAhead, IsOf, Agrees, AgreesWith, Spends, reach}
+use Rattle.elf_headers.specs.declared.fault.Fault.{Fault}
+use Rattle.elf_names.specs.Ahead.{Held, HeldAhead, IsOf, AgreesWith, ReadsAhead, reach}
 
 -- a part of what is held is the file's
 pub part-of_file : (file part : List ℕ) (h : Held) (at count : ℕ) → IsOf file h → h.at ≤ at → at + count ≤ reach h → part ≡ slice h.bytes (at - h.at) count
@@ -20,10 +21,9 @@ piece-of_file file part h at place most agrees same begins ends size is =
     part-of_file file part h place (length part) agrees begins (omega arith) (is ∙ ap (slice h.bytes (place - h.at)) (sym size))
     ∙ ap (λ (x : ℕ). slice file x (length part)) same
 
--- what is held stays that of a source that is read on credit
-pub still_ahead : {a b : Counting} {x y n : ℕ} (old new : HeldAhead) → Spends a b x y n
-    → ((file : List ℕ) → a.seen.file ≡ Some file → Agrees file old → Agrees file new) → AgreesWith a.seen.file old → AgreesWith b.seen.file new
-still_ahead old new p stays held = λ file is. let before = sym p.reads.keeps.same_file ∙ is in stays file before (held file before)
+-- what is held stays that of a source that is read ahead of
+pub still_ahead : {a b : Counting} {n left : ℕ} {X : Type 0} {result : Result X Fault} (old new : HeldAhead) → ReadsAhead a b old new result n left → AgreesWith a.seen.file old → AgreesWith b.seen.file new
+still_ahead old new p held = λ file is. let before = sym p.costs.spends.reads.keeps.same_file ∙ is in p.agrees file before (held file before)
 
 -- and of one that is read beside it
 pub still_held : {a b : Counting} {n : ℕ} (now : HeldAhead) → Reads a b n → AgreesWith a.seen.file now → AgreesWith b.seen.file now

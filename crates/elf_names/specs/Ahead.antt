@@ -1,7 +1,9 @@
 -- What is held of a file ahead of the rows that want it, and what may still be asked for.
-use Rattle.std.specs.Prelude.{ℕ, ◌≡◌, ◌+◌, ◌-◌, ◌≤◌, List, length, Option, Some}
+use Rattle.std.specs.Prelude.{ℕ, ◌≡◌, ◌+◌, ◌-◌, ◌≤◌, List, [], length, Option, Some, Result, IfErr}
 use Rattle.elf_model.specs.Bytes.{slice}
 use Rattle.elf_source.specs.Source.{Counting, Reads}
+use Rattle.elf_headers.specs.Faults.{IsAt, Says}
+use Rattle.elf_headers.specs.declared.fault.Fault.{Fault}
 
 -- some bytes from an offset on
 pub record Held : Type 0 where
@@ -20,6 +22,10 @@ IsOf file h = h.bytes ≡ slice file h.at (length h.bytes)
 abbrev pub StaysOf : Option (List ℕ) → Held → Held → Type 0
 StaysOf file old new = (bytes : List ℕ) → file ≡ Some bytes → IsOf bytes old → IsOf bytes new
 
+-- a fault of a read at an offset, after which nothing is held
+abbrev pub LosesAt : ℕ → Held → Fault → Type 0
+LosesAt at new fault = IsAt at fault × (new.bytes ≡ [])
+
 -- what is held of names and of symbols, and how many bytes may be asked for on credit
 pub record HeldAhead : Type 0 where
   pub names : Held
@@ -35,11 +41,27 @@ pub record Agrees (file : List ℕ) (a : HeldAhead) : Type 0 where
 abbrev pub AgreesWith : Option (List ℕ) → HeldAhead → Type 0
 AgreesWith file a = (bytes : List ℕ) → file ≡ Some bytes → Agrees bytes a
 
+-- what is told of the source's file, where that is known and what is held is of it
+abbrev pub WhereAgrees : Option (List ℕ) → HeldAhead → (List ℕ → Type 0) → Type 0
+WhereAgrees file a tells = (bytes : List ℕ) → file ≡ Some bytes → Agrees bytes a → tells bytes
+
 -- WHAT READS ON CREDIT DO, fault or not: with n bytes more of it, what was asked for and what may still be asked for come to
 -- no more than before
 pub record Spends (old new : Counting) (before after n : ℕ) : Type 0 where
   pub reads : Reads old new (before + n)
   pub account : new.asked + after ≤ old.asked + (before + n)
+
+-- what a call costs that reads on credit, with n bytes more of it, where so many bytes are left of what it reads in: a fault
+-- says what is so, and no byte behind them is asked for
+pub record OnCredit {X : Type 0} (old new : Counting) (before after : ℕ) (result : Result X Fault) (n left : ℕ) : Type 0 where
+  pub spends : Spends old new before after n
+  pub says : IfErr result (Says old new (before + n))
+  pub not_past : new.asked ≤ old.asked + left
+
+-- WHAT A CALL DOES THAT READS AHEAD: what it costs, and what is held stays the file's
+pub record ReadsAhead {X : Type 0} (old new : Counting) (before after : HeldAhead) (result : Result X Fault) (n left : ℕ) : Type 0 where
+  pub costs : OnCredit old new before.credit after.credit result n left
+  pub agrees : WhereAgrees old.seen.file before (λ file. Agrees file after)
 
 -- so many bytes are held from an offset on; what was asked for, and what of the credit was spent, is no more than what is
 -- held from there on

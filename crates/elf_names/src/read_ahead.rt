@@ -1,14 +1,14 @@
 //! Names and symbols that rows refer to, read ahead.
-ghost use Rattle.std.specs.Prelude.{◌≡◌, ℕ, ◌+◌, ◌-◌, ◌*◌, ◌^◌, ◌<◌, ◌≤◌, List, [], length, min};
-ghost use Rattle.std.specs.Prelude.{Some, IfErr, IfOk};
+ghost use Rattle.std.specs.Prelude.{◌≡◌, ℕ, ◌+◌, ◌-◌, ◌*◌, ◌^◌, ◌<◌, ◌≤◌, [], length, min};
+ghost use Rattle.std.specs.Prelude.{IfErr, IfOk};
 ghost use Rattle.elf_model.specs.Bytes.{slice};
 ghost use Rattle.elf_model.specs.Names.{shown, name_bytes};
 ghost use Rattle.elf_record.specs.Sym.{IsSym};
 ghost use Rattle.elf_table.specs.Cursors.{row_at};
-ghost use Rattle.elf_headers.specs.Faults.{Says, IsAt, IsOfRead};
+ghost use Rattle.elf_headers.specs.Faults.{IsOfRead};
 ghost use Rattle.elf_table.specs.NamesRead.{NameRead, Searched};
 ghost use Rattle.elf_table.specs.Tables.{RowsWithin, StringsWithin, strings_in};
-ghost use Rattle.elf_names.specs.Ahead.{Agrees, Spends};
+ghost use Rattle.elf_names.specs.Ahead.{LosesAt, ReadsAhead, WhereAgrees};
 
 use crate::name_index::NameIndex;
 use crate::stretch::Stretch;
@@ -78,17 +78,11 @@ impl ReadAhead {
         name: &mut NameBuf,
     ) -> Result<NameEnd, Fault>
         requires { StringsWithin src.old.seen.size index.names }
-        ensures spends { Spends src.old src.new self.old.credit self.new.credit
-            (name_bytes cap.bytes) }
-        ensures says { IfErr result
-            (Says src.old src.new (self.old.credit + name_bytes cap.bytes)) }
+        ensures ahead { ReadsAhead src.old src.new self.old self.new result (name_bytes cap.bytes)
+            (index.names.size - index.off) }
         ensures forgets { IfErr result (λ fault. IsOfRead fault → self.new.names.bytes ≡ []) }
-        ensures not_past { src.new.asked ≤ src.old.asked + (index.names.size - index.off) }
-        ensures agrees { (file : List ℕ) → src.old.seen.file ≡ Some file →
-            Agrees file self.old → Agrees file self.new }
-        ensures read { (file : List ℕ) → src.old.seen.file ≡ Some file → Agrees file self.old →
-            NameRead index.at result name.new
-            (shown (strings_in file index.names) index.off cap.bytes) }
+        ensures read { WhereAgrees src.old.seen.file self.old (λ file. NameRead index.at result
+            name.new (shown (strings_in file index.names) index.off cap.bytes)) }
     {
         name.clear();
         self.credit = self.credit.saturating_add(name_cost(cap));
@@ -126,15 +120,11 @@ impl ReadAhead {
         requires rows { table.now.entry ≡ 24 }
         requires below { index < table.now.count }
         requires within { RowsWithin src.old.seen.size table.now }
-        ensures spends { Spends src.old src.new self.old.credit self.new.credit 24 }
-        ensures says { IfErr result (Says src.old src.new (self.old.credit + 24)) }
-        ensures at { IfErr result (IsAt (row_at table.now index)) }
-        ensures forgets { IfErr result (λ _. self.new.symbols.bytes ≡ []) }
-        ensures not_past { src.new.asked ≤ src.old.asked + (table.now.count - index) * 24 }
-        ensures agrees { (file : List ℕ) → src.old.seen.file ≡ Some file →
-            Agrees file self.old → Agrees file self.new }
-        ensures read { (file : List ℕ) → src.old.seen.file ≡ Some file → Agrees file self.old →
-            IfOk result (IsSym file (row_at table.now index)) }
+        ensures ahead { ReadsAhead src.old src.new self.old self.new result 24
+            ((table.now.count - index) * 24) }
+        ensures loses { IfErr result (LosesAt (row_at table.now index) self.new.symbols) }
+        ensures read { WhereAgrees src.old.seen.file self.old (λ file.
+            IfOk result (IsSym file (row_at table.now index))) }
     {
         self.credit = self.credit.saturating_add(SYMBOL_BYTES);
         let at = table.place(index);
@@ -158,15 +148,11 @@ impl ReadAhead {
         requires inside { index.off + want ≤ index.names.size }
         requires within { StringsWithin src.old.seen.size index.names }
         requires paid { want ≤ self.old.credit }
-        ensures spends { Spends src.old src.new self.old.credit self.new.credit 0 }
-        ensures says { IfErr result (Says src.old src.new self.old.credit) }
-        ensures fault { IfErr result IsOfRead }
-        ensures forgets { IfErr result (λ _. self.new.names.bytes ≡ []) }
-        ensures not_past { src.new.asked ≤ src.old.asked + (index.names.size - index.off) }
-        ensures agrees { (file : List ℕ) → src.old.seen.file ≡ Some file →
-            Agrees file self.old → Agrees file self.new }
-        ensures searched { (file : List ℕ) → src.old.seen.file ≡ Some file → Agrees file self.old →
-            Searched (slice file (index.names.at + index.off) want) cap.bytes result name.new }
+        ensures ahead { ReadsAhead src.old src.new self.old self.new result 0
+            (index.names.size - index.off) }
+        ensures loses { IfErr result (λ fault. IsOfRead fault × (self.new.names.bytes ≡ [])) }
+        ensures searched { WhereAgrees src.old.seen.file self.old (λ file. Searched
+            (slice file (index.names.at + index.off) want) cap.bytes result name.new) }
     {
         let end = index.names.at() + index.names.size();
         let start = index.names.at() + index.off;

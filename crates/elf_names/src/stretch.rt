@@ -1,8 +1,7 @@
 //! A stretch of a file that is held.
 ghost use Rattle.std.specs.Prelude.{◌≡◌, ℕ, ◌+◌, ◌-◌, ◌^◌, ◌<◌, ◌≤◌, [], length, min, IfErr, OnOk};
 ghost use Rattle.elf_model.specs.Bytes.{slice};
-ghost use Rattle.elf_headers.specs.Faults.{Says, IsAt};
-ghost use Rattle.elf_names.specs.Ahead.{BringsHeld, Spends, StaysOf, reach};
+ghost use Rattle.elf_names.specs.Ahead.{BringsHeld, LosesAt, OnCredit, StaysOf, reach};
 
 use elf_source::{Counted, Source};
 use elf_table::{Fault, fill};
@@ -71,13 +70,9 @@ impl<const N: usize> Stretch<N> {
         requires room { count ≤ N }
         requires paid { count ≤ credit.old }
         requires inside { at + count ≤ end }
-        requires ends { end < 2 ^ 64 }
         requires within { end ≤ src.old.seen.size }
-        ensures spends { Spends src.old src.new credit.old credit.new 0 }
-        ensures says { IfErr result (Says src.old src.new credit.old) }
-        ensures fault { IfErr result (IsAt at) }
-        ensures forgets { IfErr result (λ _. self.new.bytes ≡ []) }
-        ensures not_past { src.new.asked ≤ src.old.asked + (end - at) }
+        ensures costs { OnCredit src.old src.new credit.old credit.new result 0 (end - at) }
+        ensures loses { IfErr result (LosesAt at self.new) }
         ensures agrees { StaysOf src.old.seen.file self.old self.new }
         ensures brings { OnOk result
             (BringsHeld self.new at count src.old.asked src.new.asked credit.old credit.new) }

@@ -6,7 +6,7 @@ use Rattle.elf_listing.proofs.listing.Listing.read_name.Goals as goal
 
 pub invariant_of-self : goal.invariant_of-self
 invariant_of-self g c = record {
-  loaded = still_open _ _ c.name.ensures.spends.reads c.args.self.now.loaded;
-  viewed = still_viewed _ _ c.name.ensures.spends.reads c.args.self.now.viewed;
-  held = still_ahead _ _ c.name.ensures.spends c.name.ensures.agrees c.args.self.now.held;
+  loaded = still_open _ _ c.name.ensures.ahead.costs.spends.reads c.args.self.now.loaded;
+  viewed = still_viewed _ _ c.name.ensures.ahead.costs.spends.reads c.args.self.now.viewed;
+  held = still_ahead _ _ c.name.ensures.ahead c.args.self.now.held;
 }

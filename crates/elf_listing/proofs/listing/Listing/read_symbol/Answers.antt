@@ -47,12 +47,12 @@ returns g c = record {
       let named = named_there file c.args.self.now.cap.bytes header c.args.at c.args.symbol (ne_eqb c.args.symbol 0 c.if-symbol-eq0.false) to.0 (omega (arith, below, to.1.counted)) in
       let decoded = c.in_ok-entry.ensures.read file held (c.args.self.now.held file held) in
       let place = found_there file c.args.self.now.cap.bytes header c.args.symbol _ _ _ c.in-Some.found.0 c.in-Some.found.1 to.1 (omega (arith, below)) c.from-index.ensures c.place.ensures (c.from.ensures ∙ decoded.st_name) in
-      read_as _ _ _ _ (named ∙ place) (c.read_name.ensures.read file (c.in_ok-entry.ensures.spends.reads.keeps.same_file ∙ held));
+      read_as _ _ _ _ (named ∙ place) (c.read_name.ensures.read file (c.in_ok-entry.ensures.ahead.costs.spends.reads.keeps.same_file ∙ held));
 }
 
 pub invariant_of-self-2 : goal.invariant_of-self-2
 invariant_of-self-2 g c = record {
-  loaded = still_open _ _ c.symbol.ensures.spends.reads c.args.self.now.loaded;
-  viewed = still_viewed _ _ c.symbol.ensures.spends.reads c.args.self.now.viewed;
-  held = still_ahead _ _ c.symbol.ensures.spends c.symbol.ensures.agrees c.args.self.now.held;
+  loaded = still_open _ _ c.symbol.ensures.ahead.costs.spends.reads c.args.self.now.loaded;
+  viewed = still_viewed _ _ c.symbol.ensures.ahead.costs.spends.reads c.args.self.now.viewed;
+  held = still_ahead _ _ c.symbol.ensures.ahead c.args.self.now.held;
 }
