@@ -1,2 +1,3 @@
 pub mod DynCursors
 pub mod NoteCursors
+pub mod WindowCalls

@@ -3,11 +3,10 @@ ghost use Rattle.std.specs.Prelude.{◌≡◌, ℕ, ◌+◌, ◌-◌, ◌^◌, �
 ghost use Rattle.std.specs.Prelude.{Some, IfErr, OnOk, IfOk};
 ghost use Rattle.elf_model.specs.Bytes.{slice};
 ghost use Rattle.elf_model.specs.Notes.{to_next};
-ghost use Rattle.elf_source.specs.Onward.{ReadsOnward};
-ghost use Rattle.elf_source.specs.Source.{Reads};
-ghost use Rattle.elf_headers.specs.Faults.{IsOfRead, Says};
-ghost use Rattle.elf_table.specs.Windows.{HoldsBytes, StillHolds, RangeWithin, MovesOn, bytes_left, frontier};
+ghost use Rattle.elf_headers.specs.Faults.{IsOfRead};
+ghost use Rattle.elf_table.specs.Windows.{HoldsBytes, RangeWithin, bytes_left};
 ghost use Rattle.elf_note.specs.NoteCursors.{PassesNote, StopsNote, TellsNote, notes_left, note_cut};
+ghost use Rattle.elf_note.specs.WindowCalls.{HasLeft, Through};
 
 use crate::naming::read_name;
 use crate::sizes::{gap_between, padding};
@@ -54,14 +53,9 @@ pub(crate) fn next_note<S: Source>(
     requires small { align ≤ 8 }
     requires page { 32 ≤ window.old.page }
     requires within { RangeWithin src.old.seen.size window.old }
-    ensures reads { Reads src.old src.new window.old.unread }
-    ensures says { IfErr result (Says src.old src.new window.old.unread) }
+    ensures went { Through S.one_read src.old src.new window.old window.new result }
     ensures stops { IfErr result (StopsNote window.old.at) }
-    ensures moves { MovesOn window.old window.new src.old.asked src.new.asked }
-    ensures onward { ReadsOnward S.one_read src.old.seen src.new.seen
-        (frontier window.old) (frontier window.new) }
     ensures passes { IfOk result (PassesNote (bytes_left window.old) (bytes_left window.new)) }
-    ensures agrees { StillHolds src.old.seen.file window.old window.new }
     ensures tells { (file : List ℕ) → src.old.seen.file ≡ Some file → HoldsBytes file window.old →
         TellsNote align cap.bytes window.old.at name.new desc.new
         (notes_left align file window.old) (notes_left align file window.new) result }
@@ -109,18 +103,12 @@ fn read_rest<S: Source>(
     requires few { length desc.old ≤ 32 }
     requires page { 32 ≤ window.old.page }
     requires part { length desc.old ≤ size }
-    requires enough { size ≤ bytes_left window.old }
+    requires left { HasLeft src.old.seen.size window.old size }
     requires ends { start + size < 2 ^ 64 }
-    requires within { RangeWithin src.old.seen.size window.old }
-    ensures reads { Reads src.old src.new window.old.unread }
-    ensures says { IfErr result (Says src.old src.new window.old.unread) }
+    ensures went { Through S.one_read src.old src.new window.old window.new result }
     ensures fault { IfErr result IsOfRead }
-    ensures moves { MovesOn window.old window.new src.old.asked src.new.asked }
-    ensures onward { ReadsOnward S.one_read src.old.seen src.new.seen
-        (frontier window.old) (frontier window.new) }
     ensures at { OnOk result (window.new.at ≡ window.old.at + size
         + min (to_next align (start + size)) (bytes_left window.old - size)) }
-    ensures agrees { StillHolds src.old.seen.file window.old window.new }
     ensures read { (file : List ℕ) → src.old.seen.file ≡ Some file → HoldsBytes file window.old →
         OnOk result (desc.new ≡ slice file window.old.at (length desc.old)) }
 {

@@ -1,11 +1,10 @@
 //! The end of a table of notes.
 ghost use Rattle.std.specs.Prelude.{◌≡◌, ℕ, ◌≤◌, List, Some, IfErr, OnOk, IfOk};
 ghost use Rattle.elf_model.specs.Notes.{are_zeros};
-ghost use Rattle.elf_source.specs.Onward.{ReadsOnward};
-ghost use Rattle.elf_source.specs.Source.{Reads};
-ghost use Rattle.elf_headers.specs.Faults.{IsOfRead, Says};
-ghost use Rattle.elf_table.specs.Windows.{HoldsBytes, StillHolds, RangeWithin, MovesOn, bytes_left, frontier};
+ghost use Rattle.elf_headers.specs.Faults.{IsOfRead};
+ghost use Rattle.elf_table.specs.Windows.{HoldsBytes, RangeWithin, bytes_left};
 ghost use Rattle.elf_note.specs.NoteCursors.{rest};
+ghost use Rattle.elf_note.specs.WindowCalls.{Through};
 
 use elf_source::{Counted, Source};
 use elf_table::{Fault, WINDOW_BYTES, Window};
@@ -21,14 +20,9 @@ pub(crate) fn ends_in_zeros<S: Source>(
 ) -> Result<bool, Fault>
     requires few { bytes_left window.old ≤ window.old.page }
     requires within { RangeWithin src.old.seen.size window.old }
-    ensures reads { Reads src.old src.new window.old.unread }
-    ensures says { IfErr result (Says src.old src.new window.old.unread) }
+    ensures went { Through S.one_read src.old src.new window.old window.new result }
     ensures fault { IfErr result IsOfRead }
-    ensures moves { MovesOn window.old window.new src.old.asked src.new.asked }
-    ensures onward { ReadsOnward S.one_read src.old.seen src.new.seen
-        (frontier window.old) (frontier window.new) }
     ensures passed { OnOk result (bytes_left window.new ≡ 0) }
-    ensures agrees { StillHolds src.old.seen.file window.old window.new }
     ensures zeros { (file : List ℕ) → src.old.seen.file ≡ Some file → HoldsBytes file window.old →
         IfOk result (λ zeros. zeros ≡ are_zeros (rest file window.old)) }
 {

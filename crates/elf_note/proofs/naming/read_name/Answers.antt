@@ -19,8 +19,12 @@ returns-clause-read g c = λ file h a note e l.
     ]) (search rules) e l
     (c.in_ok-found.ensures.searched file h a)
 
-pub returns-then-size-from-clause-onward : goal.returns-then-size-from-clause-onward
-returns-then-size-from-clause-onward g c = onward_more _ _ _ _ _ _ (omega (arith, c.skip.ensures.end, c.skip.ensures.unread)) c.search_name.ensures.onward
+pub returns-then-size-from-clause-went : goal.returns-then-size-from-clause-went
+returns-then-size-from-clause-went g c =
+    let onward = onward_more _ _ _ _ _ _ (omega (arith, c.skip.ensures.end, c.skip.ensures.unread)) c.search_name.ensures.onward in
+    record { reads = search rules; says = search rules; moves = search rules; onward = onward; agrees = search rules }
 
-pub returns-clause-onward : goal.returns-clause-onward
-returns-clause-onward g c = onward_more _ _ _ _ _ _ (omega (arith, c.skip.ensures.end, c.skip.ensures.unread)) c.search_name.ensures.onward
+pub returns-clause-went : goal.returns-clause-went
+returns-clause-went g c =
+    let onward = onward_more _ _ _ _ _ _ (omega (arith, c.skip.ensures.end, c.skip.ensures.unread)) c.search_name.ensures.onward in
+    record { reads = search rules; says = search rules; moves = search rules; onward = onward; agrees = search rules }

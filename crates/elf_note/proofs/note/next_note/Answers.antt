@@ -30,7 +30,7 @@ returns-then-left-from-clause-tells g c = λ file h a f.
     let some = within (omega arith) in
     let ends : range_end w ≤ length file = omega arith in
     let stands : IsNoteHead file w.at head = c.decode-head.ensures.stands file w.at (c.in_ok-take.ensures.taken file h a) in
-    let tm = c.in_ok-take.ensures.moves.same_end in
+    let tm = c.in_ok-take.ensures.went.moves.same_end in
     let ta = c.in_ok-take.ensures.at in
     let lf = c.left-2.ensures.value in
     let gap = c.gap_between-gap.ensures.value in
@@ -40,21 +40,15 @@ returns-then-left-from-clause-tells g c = λ file h a f.
     let few : bytes_left w < 12 + head.namesz + c.gap_between-gap.result + head.descsz = omega arith in
     left-short c.args.align file w head stands ends many (rw gap at few)
 
-pub returns-clause-agrees : goal.returns-clause-agrees
-returns-clause-agrees g c = λ file h a.
-    let h1 = c.in_ok-take.ensures.reads.keeps.same_file ∙ h in
-    let h2 = c.in_ok-name_end.ensures.reads.keeps.same_file ∙ h1 in
-    c.in_ok-read_rest.ensures.agrees file h2 (c.skip.ensures.agrees file (c.in_ok-name_end.ensures.agrees file h1 (c.in_ok-take.ensures.agrees file h a)))
-
 pub returns-clause-tells : goal.returns-clause-tells
 returns-clause-tells g c = λ file h a.
     let w = c.args.window.now in
     let head = c.decode-head.result in
     let gp = c.gap_between-gap.result in
-    let h1 = c.in_ok-take.ensures.reads.keeps.same_file ∙ h in
-    let h2 = c.in_ok-name_end.ensures.reads.keeps.same_file ∙ h1 in
-    let a1 = c.in_ok-take.ensures.agrees file h a in
-    let a2 = c.skip.ensures.agrees file (c.in_ok-name_end.ensures.agrees file h1 a1) in
+    let h1 = c.in_ok-take.ensures.went.reads.keeps.same_file ∙ h in
+    let h2 = c.in_ok-name_end.ensures.went.reads.keeps.same_file ∙ h1 in
+    let a1 = c.in_ok-take.ensures.went.agrees file h a in
+    let a2 = c.skip.ensures.agrees file (c.in_ok-name_end.ensures.went.agrees file h1 a1) in
     let many : 12 ≤ bytes_left w = search rules in
     let within = c.requires.within in
     let sized = c.args.src.now.seen.sized file h in
@@ -63,7 +57,7 @@ returns-clause-tells g c = λ file h a.
     let stands : IsNoteHead file w.at head = c.decode-head.ensures.stands file w.at (c.in_ok-take.ensures.taken file h a) in
     let gap = c.gap_between-gap.ensures.value in
     let ta : c.take.new.window.at ≡ w.at + 12 = c.in_ok-take.ensures.at in
-    let te : range_end c.take.new.window ≡ range_end w = c.in_ok-take.ensures.moves.same_end in
+    let te : range_end c.take.new.window ≡ range_end w = c.in_ok-take.ensures.went.moves.same_end in
     let lf : c.left-2.result ≡ bytes_left c.take.new.window = c.left-2.ensures.value in
     let f1 : c.from.result ≡ head.namesz = c.from.ensures in
     let f2 : c.from-2.result ≡ head.descsz = c.from-2.ensures in
@@ -71,13 +65,13 @@ returns-clause-tells g c = λ file h a.
     let f4 : c.from-4.result ≡ head.descsz = c.from-4.ensures in
     let test : c.from.result + gp + c.from-2.result ≤ c.left-2.result = c.if-left-from.false in
     let na : c.read_name.new.window.at ≡ c.take.new.window.at + c.from-3.result = c.in_ok-name_end.ensures.at in
-    let ne : range_end c.read_name.new.window ≡ range_end c.take.new.window = c.in_ok-name_end.ensures.moves.same_end in
+    let ne : range_end c.read_name.new.window ≡ range_end c.take.new.window = c.in_ok-name_end.ensures.went.moves.same_end in
     let sa : c.skip.new.self.at ≡ c.read_name.new.window.at + gp = c.skip.ensures.at in
     let se : range_end c.skip.new.self ≡ range_end c.read_name.new.window = c.skip.ensures.end in
     let da : c.at-desc_at.result ≡ c.skip.new.self.at = c.at-desc_at.ensures.value in
     let at0 : c.at-at.result ≡ w.at = c.at-at.ensures.value in
     let sh : c.min-shown.result ≡ min c.from-4.result 32 = c.min-shown.ensures in
-    let re : range_end c.read_rest.new.window ≡ range_end c.skip.new.self = c.in_ok-read_rest.ensures.moves.same_end in
+    let re : range_end c.read_rest.new.window ≡ range_end c.skip.new.self = c.in_ok-read_rest.ensures.went.moves.same_end in
     let fit : 12 + head.namesz + gp + head.descsz ≤ bytes_left w = omega arith in
     let place : c.at-desc_at.result ≡ w.at + (12 + head.namesz + gp) = omega arith in
     let start : c.at-desc_at.result - c.at-at.result ≡ 12 + head.namesz + gp = omega arith in
@@ -95,15 +89,28 @@ returns-clause-tells g c = λ file h a.
     (λ note n l. c.in_ok-name_end.ensures.read file h1 a1 note (n ∙ ap (λ (x : ℕ). slice file x head.namesz) (sym ta) ∙ ap (slice file c.take.new.window.at) (sym f3)) (l ∙ sym f3))
     (rw gap at place) (sh ∙ ap (λ (x : ℕ). min x 32) f4) (take_at c.read_rest.new.desc _ c.min-shown.result size ∙ rest)
 
-pub returns-in_err-name_end-clause-onward : goal.returns-in_err-name_end-clause-onward
-returns-in_err-name_end-clause-onward g c = onward_then _ _ _ _ _ _ _ _ (omega arith) c.take.ensures.onward c.read_name.ensures.onward
+pub returns-in_err-name_end-clause-went : goal.returns-in_err-name_end-clause-went
+returns-in_err-name_end-clause-went g c =
+    let onward = onward_then _ _ _ _ _ _ _ _ (omega arith) c.take.ensures.went.onward c.read_name.ensures.went.onward in
+    record { reads = search rules; says = search rules; moves = search rules; onward = onward; agrees = search rules }
 
-pub returns-in_err-read_rest-clause-onward : goal.returns-in_err-read_rest-clause-onward
-returns-in_err-read_rest-clause-onward g c =
-    let named = onward_then _ _ _ _ _ _ _ _ (omega arith) c.take.ensures.onward c.read_name.ensures.onward in
-    onward_then _ _ _ _ _ _ _ _ (omega (arith, c.skip.ensures.end, c.skip.ensures.unread)) named c.read_rest.ensures.onward
+pub returns-in_err-read_rest-clause-went : goal.returns-in_err-read_rest-clause-went
+returns-in_err-read_rest-clause-went g c =
+    let named = onward_then _ _ _ _ _ _ _ _ (omega arith) c.take.ensures.went.onward c.read_name.ensures.went.onward in
+    let onward = onward_then _ _ _ _ _ _ _ _ (omega (arith, c.skip.ensures.end, c.skip.ensures.unread)) named c.read_rest.ensures.went.onward in
+    record { reads = search rules; says = search rules; moves = search rules; onward = onward; agrees = search rules }
 
-pub returns-clause-onward : goal.returns-clause-onward
-returns-clause-onward g c =
-    let named = onward_then _ _ _ _ _ _ _ _ (omega arith) c.take.ensures.onward c.read_name.ensures.onward in
-    onward_then _ _ _ _ _ _ _ _ (omega (arith, c.skip.ensures.end, c.skip.ensures.unread)) named c.read_rest.ensures.onward
+pub returns-clause-went : goal.returns-clause-went
+returns-clause-went g c =
+    let named = onward_then _ _ _ _ _ _ _ _ (omega arith) c.take.ensures.went.onward c.read_name.ensures.went.onward in
+    let onward = onward_then _ _ _ _ _ _ _ _ (omega (arith, c.skip.ensures.end, c.skip.ensures.unread)) named c.read_rest.ensures.went.onward in
+    record {
+      reads = search rules;
+      says = search rules;
+      moves = search rules;
+      onward = onward;
+      agrees = λ file h a.
+          let h1 = c.in_ok-take.ensures.went.reads.keeps.same_file ∙ h in
+          let h2 = c.in_ok-name_end.ensures.went.reads.keeps.same_file ∙ h1 in
+          c.in_ok-read_rest.ensures.went.agrees file h2 (c.skip.ensures.agrees file (c.in_ok-name_end.ensures.went.agrees file h1 (c.in_ok-take.ensures.went.agrees file h a)));
+    }
