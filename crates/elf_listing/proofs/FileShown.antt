@@ -1,6 +1,6 @@
 -- The items of a whole listing: the file header's, and what stands behind it.
-use Rattle.std.proofs.lemmas.Bool.{eqb-true}
-use Rattle.std.proofs.Common.{◌≡◌, ℕ, ◌==◌, ◌||◌, Bool, true, List, [], ◌∷◌, ◌++◌, None, Err, false, sym, ap, ◌∙◌, refl, append-nil, append_assoc}
+use Rattle.std.proofs.lemmas.Bool.{cases_Bool, eqb-true, or_left, or_right}
+use Rattle.std.proofs.Common.{◌≡◌, ℕ, ◌==◌, ◌||◌, inl, inr, true, List, [], ◌∷◌, ◌++◌, None, Err, false, sym, ap, ◌∙◌, refl, append-nil, append_assoc}
 use Rattle.elf_model.specs.Budget.{IsBudget}
 use Rattle.elf_model.specs.Checks.{first_refusal, header_checks, load_checks}
 use Rattle.elf_model.specs.Lines.{header_line}
@@ -61,11 +61,7 @@ abbrev pub segment_part : List ℕ → ℕ → List Item
 segment_part file parts = where_asked parts SEGMENTS (each (segment_row file) 0 (e_phnum file))
 
 nothing_asked : (parts part : ℕ) → where_asked parts part [] ≡ []
-nothing_asked parts part = by_cases (has parts part)
-  where
-    by_cases : (b : Bool) → (elim b as (λ _. List Item) [ true ↦ [] | false ↦ [] ]) ≡ []
-    by_cases true = refl
-    by_cases false = refl
+nothing_asked parts part = elim (cases_Bool (has parts part)) [ inl asked ↦ rw (asked, where_asked) refl | inr other ↦ rw (other, where_asked) refl ]
 
 -- a part of no header
 none_of : (file : List ℕ) (most parts : ℕ) (part : Part) (count : ℕ) → count ≡ 0 → of_headers file most parts part count ≡ []
@@ -74,12 +70,10 @@ none_of file most parts part count none = rw none (nothing_asked parts (bit_of p
 
 -- a part whose number of headers matters only where it is asked for
 asked_same : (parts part : ℕ) (items : ℕ → List Item) (n m : ℕ) → (has parts part ≡ true → n ≡ m) → where_asked parts part (items n) ≡ where_asked parts part (items m)
-asked_same parts part items n m same = by_cases (has parts part) same
-  where
-    by_cases : (b : Bool) → (b ≡ true → n ≡ m)
-        → (elim b as (λ _. List Item) [ true ↦ items n | false ↦ [] ]) ≡ (elim b as (λ _. List Item) [ true ↦ items m | false ↦ [] ])
-    by_cases true h = ap items (h refl)
-    by_cases false h = refl
+asked_same parts part items n m same = elim (cases_Bool (has parts part)) [
+  | inl asked ↦ ap (λ k. where_asked parts part (items k)) (same asked)
+  | inr other ↦ rw (other, where_asked) refl
+]
 
 kinds_of_sections : (file : List ℕ) (most parts : ℕ) → kinds_rows section_kinds (by_sections file) file most parts
     ≡ of_headers file most parts Symbols (e_shnum file) ++ (of_headers file most parts Relocations (e_shnum file)
@@ -92,28 +86,13 @@ kinds_of_segments : (file : List ℕ) (most parts : ℕ) → kinds_rows segment_
 unfolding kinds_rows segment_notes segment_dynamic
 kinds_of_segments file most parts = refl
 
-sections_alone : (y r n m d e : List Item) → m ≡ [] → e ≡ [] → y ++ (r ++ (n ++ (d ++ []))) ≡ ((y ++ r) ++ (n ++ m)) ++ (d ++ e)
-sections_alone y r n m d e p q =
-    rw (p, q) (sym (append_assoc y r (n ++ (d ++ []))) ∙ (sym (append_assoc (y ++ r) n (d ++ [])) ∙ ap (λ x. ((y ++ r) ++ x) ++ (d ++ [])) (sym (append-nil n))))
+sections_alone : (y r n d : List Item) → y ++ (r ++ (n ++ (d ++ []))) ≡ ((y ++ r) ++ (n ++ [])) ++ (d ++ [])
+sections_alone y r n d = simp (append_assoc, append-nil)
 
-segments_alone : (y r n m d e : List Item) → y ≡ [] → r ≡ [] → n ≡ [] → d ≡ [] → m ++ (e ++ []) ≡ ((y ++ r) ++ (n ++ m)) ++ (d ++ e)
-segments_alone y r n m d e a b c f = rw (a, b, c, f) (ap (λ x. m ++ x) (append-nil e))
-
-needs_notes : (segments dynamic : Bool) → (segments || (true || dynamic)) ≡ true
-needs_notes true dynamic = refl
-needs_notes false dynamic = refl
-
-needs_dynamic : (segments notes : Bool) → (segments || (notes || true)) ≡ true
-needs_dynamic true notes = refl
-needs_dynamic false true = refl
-needs_dynamic false false = refl
-
--- where the notes, or the dynamic entries, of a file without sections are asked for, its program headers are loaded
-viewed_notes : (parts : ℕ) (loaded : Opened) → (loaded.header.e_shnum == 0) ≡ true → has parts NOTES ≡ true → viewed parts loaded ≡ loaded.header.e_phnum
-viewed_notes parts loaded none asked = rw (none, asked, needs_notes (has parts SEGMENTS) (has parts DYNAMIC)) refl
-
-viewed_dynamic : (parts : ℕ) (loaded : Opened) → (loaded.header.e_shnum == 0) ≡ true → has parts DYNAMIC ≡ true → viewed parts loaded ≡ loaded.header.e_phnum
-viewed_dynamic parts loaded none asked = rw (none, asked, needs_dynamic (has parts SEGMENTS) (has parts NOTES)) refl
+-- where a part wants the program headers of a file without sections, they are loaded
+viewed_where : (parts : ℕ) (loaded : Opened) → (loaded.header.e_shnum == 0) ≡ true → (has parts SEGMENTS || (has parts NOTES || has parts DYNAMIC)) ≡ true
+    → viewed parts loaded ≡ loaded.header.e_phnum
+viewed_where parts loaded none asked = rw (none, asked) refl
 
 pub viewed_none : (parts : ℕ) (loaded : Opened) → (loaded.header.e_shnum == 0) ≡ false → viewed parts loaded ≡ 0
 viewed_none parts loaded some = rw some refl
@@ -127,42 +106,28 @@ kinds_are : (file : List ℕ) (most parts : ℕ) (loaded : Opened) (store : Stor
     ≡ ((of_headers file most parts Symbols store.loaded ++ of_headers file most parts Relocations store.loaded)
     ++ (of_headers file most parts SectionNotes store.loaded ++ of_headers file most parts SegmentNotes store.segments))
     ++ (of_headers file most parts SectionDynamic store.loaded ++ of_headers file most parts SegmentDynamic store.segments)
-kinds_are file most parts loaded store belongs view = by_cases (e_shnum file == 0) refl
-  where
-    count : store.loaded ≡ e_shnum file
-    count = belongs.count ∙ belongs.header.e_shnum
-
-    sections : (part : Part) → of_headers file most parts part (e_shnum file) ≡ of_headers file most parts part store.loaded
-    sections part = ap (of_headers file most parts part) (sym count)
-
-    by_cases : (none : Bool) → (e_shnum file == 0) ≡ none → kinds_rows (table_headers file).kinds (table_headers file) file most parts
-        ≡ ((of_headers file most parts Symbols store.loaded ++ of_headers file most parts Relocations store.loaded)
-        ++ (of_headers file most parts SectionNotes store.loaded ++ of_headers file most parts SegmentNotes store.segments))
-        ++ (of_headers file most parts SectionDynamic store.loaded ++ of_headers file most parts SegmentDynamic store.segments)
-    by_cases true h =
-        let zero : store.loaded ≡ 0 = count ∙ eqb-true (e_shnum file) 0 h in
-        let unsectioned : (loaded.header.e_shnum == 0) ≡ true = ap (λ n. n == 0) belongs.header.e_shnum ∙ h in
-        let notes = asked_same parts NOTES (λ n. part_items SegmentNotes most n file) (e_phnum file) store.segments
-        (λ asked. sym (view ∙ (viewed_notes parts loaded unsectioned asked ∙ belongs.header.e_phnum))) in
-        let dynamic = asked_same parts DYNAMIC (λ n. part_items SegmentDynamic most n file) (e_phnum file) store.segments
-        (λ asked. sym (view ∙ (viewed_dynamic parts loaded unsectioned asked ∙ belongs.header.e_phnum))) in
-        ap (λ (headers : TableHeaders). kinds_rows headers.kinds headers file most parts) (headers_none file h)
-        ∙ (kinds_of_segments file most parts
-        ∙ (ap (λ x. x ++ (of_headers file most parts SegmentDynamic (e_phnum file) ++ [])) notes
-        ∙ (ap (λ x. of_headers file most parts SegmentNotes store.segments ++ (x ++ [])) dynamic
-        ∙ segments_alone (of_headers file most parts Symbols store.loaded) (of_headers file most parts Relocations store.loaded) (of_headers file most parts SectionNotes store.loaded)
-        (of_headers file most parts SegmentNotes store.segments) (of_headers file most parts SectionDynamic store.loaded) (of_headers file most parts SegmentDynamic store.segments) (none_of file most parts Symbols store.loaded zero) (none_of file most parts Relocations store.loaded zero)
-        (none_of file most parts SectionNotes store.loaded zero) (none_of file most parts SectionDynamic store.loaded zero))))
-    by_cases false h =
-        let sectioned : (loaded.header.e_shnum == 0) ≡ false = ap (λ n. n == 0) belongs.header.e_shnum ∙ h in
-        let zero : store.segments ≡ 0 = view ∙ viewed_none parts loaded sectioned in
-        ap (λ (headers : TableHeaders). kinds_rows headers.kinds headers file most parts) (headers_some file h)
-        ∙ (kinds_of_sections file most parts
-        ∙ (sections_alone (of_headers file most parts Symbols (e_shnum file)) (of_headers file most parts Relocations (e_shnum file)) (of_headers file most parts SectionNotes (e_shnum file))
-        (of_headers file most parts SegmentNotes store.segments) (of_headers file most parts SectionDynamic (e_shnum file)) (of_headers file most parts SegmentDynamic store.segments) (none_of file most parts SegmentNotes store.segments zero) (none_of file most parts SegmentDynamic store.segments zero)
-        ∙ ap (λ n. ((of_headers file most parts Symbols n ++ of_headers file most parts Relocations n)
-        ++ (of_headers file most parts SectionNotes n ++ of_headers file most parts SegmentNotes store.segments))
-        ++ (of_headers file most parts SectionDynamic n ++ of_headers file most parts SegmentDynamic store.segments)) (sym count)))
+kinds_are file most parts loaded store belongs view =
+    let count : store.loaded ≡ e_shnum file = belongs.count ∙ belongs.header.e_shnum in
+    elim (cases_Bool (e_shnum file == 0)) [
+      | inl none ↦
+          let zero : store.loaded ≡ 0 = count ∙ eqb-true (e_shnum file) 0 none in
+          let all = viewed_where parts loaded (ap (λ n. n == 0) belongs.header.e_shnum ∙ none) in
+          let notes = asked_same parts NOTES (λ n. part_items SegmentNotes most n file) (e_phnum file) store.segments
+          (λ asked. sym (view ∙ (all (or_right _ _ (or_left _ _ asked)) ∙ belongs.header.e_phnum))) in
+          let dynamic = asked_same parts DYNAMIC (λ n. part_items SegmentDynamic most n file) (e_phnum file) store.segments
+          (λ asked. sym (view ∙ (all (or_right _ _ (or_right _ _ asked)) ∙ belongs.header.e_phnum))) in
+          ap (λ (headers : TableHeaders). kinds_rows headers.kinds headers file most parts) (headers_none file none)
+          ∙ (kinds_of_segments file most parts
+          ∙ rw (notes, dynamic, none_of file most parts Symbols store.loaded zero, none_of file most parts Relocations store.loaded zero, none_of file most parts SectionNotes store.loaded zero, none_of file most parts SectionDynamic store.loaded zero)
+          (ap (λ x. of_headers file most parts SegmentNotes store.segments ++ x) (append-nil (of_headers file most parts SegmentDynamic store.segments))))
+      | inr some ↦
+          let zero : store.segments ≡ 0 = view ∙ viewed_none parts loaded (ap (λ n. n == 0) belongs.header.e_shnum ∙ some) in
+          let rows = λ (part : Part). of_headers file most parts part (e_shnum file) in
+          ap (λ (headers : TableHeaders). kinds_rows headers.kinds headers file most parts) (headers_some file some)
+          ∙ (kinds_of_sections file most parts
+          ∙ rw (count, none_of file most parts SegmentNotes store.segments zero, none_of file most parts SegmentDynamic store.segments zero)
+          (sections_alone (rows Symbols) (rows Relocations) (rows SectionNotes) (rows SectionDynamic)))
+    ]
 
 behind : (a b c d : List Item) → a ++ ((b ++ c) ++ d) ≡ ((a ++ b) ++ c) ++ d
 behind a b c d = sym (append_assoc a (b ++ c) d) ∙ ap (λ x. x ++ d) (sym (append_assoc a b c))

@@ -1,4 +1,4 @@
--- The loops of a listing: over a cursor's rows, and over the sections.
+-- The loop of a listing over a cursor's rows.
 use Rattle.std.proofs.Common.{◌≡◌, ℕ, ◌+◌, ◌*◌, ◌<◌, ◌≤◌, List, [], Option, None, Some, refl, sym, ap, ◌∙◌, arith, zero-add}
 use Rattle.elf_model.specs.Bytes.{slice}
 use Rattle.elf_model.specs.Cost.{sum_over}
@@ -77,13 +77,3 @@ given_row {old = old} {new = new} {row = row} file kind table gives lends held a
       bytes = lends.its_bytes ∙ (gives.exact file held agrees ∙ (ap (λ (p : ℕ). slice file p old.table.entry) (sym moved) ∙ ap (λ (n : ℕ). slice file row.at n) whole));
       here = moved ∙ (ap (λ (n : ℕ). old.table.at + old.index * n) whole ∙ (ap (λ (p : ℕ). p + old.index * row_size kind) from_ ∙ ap (λ (i : ℕ). table.at + i * row_size kind) (sym index)));
     }
-
--- one section's cost more
-pub sum_step : (amount : ℕ → ℕ) (i start before after : ℕ) → before ≤ start + sum_over amount 0 i → after ≤ before + amount i → after ≤ start + sum_over amount 0 (i + 1)
-sum_step amount i start before after h k =
-    let last : sum_over amount 0 (i + 1) ≡ sum_over amount 0 i + amount i = last_cost amount 0 i ∙ ap (λ n. sum_over amount 0 i + amount n) (zero-add i) in
-    omega arith
-
--- some of the costs are within all
-pub sum_within : (amount : ℕ → ℕ) (i count start after : ℕ) → i < count → after ≤ start + sum_over amount 0 (i + 1) → after ≤ start + sum_over amount 0 count
-sum_within amount i count start after below h = let more = sums_grow amount 0 (i + 1) count (omega arith) in omega arith

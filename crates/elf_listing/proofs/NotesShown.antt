@@ -1,5 +1,5 @@
 -- The notes of a table, by what is left of them.
-use Rattle.std.proofs.Common.{◌≡◌, ℕ, ◌+◌, zero, suc, List, [], ◌∷◌, ◌++◌, inl, inr, length, drop, refl, sym, ap, ◌∙◌, arith, append_assoc, append-nil, zero-add}
+use Rattle.std.proofs.Common.{◌≡◌, ℕ, ◌+◌, zero, suc, List, [], ◌∷◌, ◌++◌, inl, inr, length, drop, refl, sym, ap, ◌∙◌, arith, append_assoc, append-nil, add-zero, zero-add}
 use Rattle.elf_model.specs.Bytes.{slice}
 use Rattle.elf_model.specs.LineFronts.{note_front}
 use Rattle.elf_model.specs.Lines.{note_line}
@@ -52,10 +52,6 @@ before_more all left next later is before more = record {
   whole = Whole-then before.whole more;
 }
 
--- no item is left
-pub before_end : {a b : Written} (all left : List Item) → left ≡ [] → WrittenBefore a b all left → WroteItems a b all
-before_end all left none before = rw (before.split ∙ ap (λ (x : List Item). before.done ++ x) none ∙ append-nil before.done) before.whole
-
 -- what is written next stopped
 pub before_stopped : (a b c : Written) (stop : Stop) (all left next later : List Item) → left ≡ next ++ later → WrittenBefore a b all left → Stopped b c stop next → Stopped a c stop all
 before_stopped a b c stop all left next later is before more =
@@ -83,7 +79,8 @@ before_fault a b fault cap index at all left (inr is) cut before =
 
 -- behind the last note
 pub before_none : {a b : Written} (cap index : ℕ) (all : List Item) (left : Walk) → left ≡ no_notes → WrittenBefore a b all (note_items cap index left) → WroteItems a b all
-before_none cap index all left none before = before_end all (note_items cap index left) (ap (note_items cap index) none ∙ none_left cap index) before
+before_none cap index all left none before =
+    rw (before.split ∙ ap (λ (x : List Item). before.done ++ x) (ap (note_items cap index) none ∙ none_left cap index) ∙ append-nil before.done) before.whole
 
 -- a note as a row of a cursor shows it
 pub note_of : (align cap at : ℕ) (note : Note) (c : NoteReading) (row : NoteRow) (name : List ℕ) → ShowsNote c row → IsFound align cap at note c.found name c.descriptor → IsNote cap note row name
@@ -134,8 +131,5 @@ rows_shifted a cap index offset (suc most) place rest = step (λ n xs. rows_shif
 
 pub table_rows : (a cap index at : ℕ) (table : List ℕ) → note_items cap index (notes_from a at table) ≡ walk_rows cap index at (walked a table)
 table_rows a cap index at table =
-    ap (λ (x : ℕ). note_items cap index (notes_from a x table)) (sym (plus_zero at)) ∙ rows_shifted a cap index at (suc (length table)) 0 table
+    ap (λ (x : ℕ). note_items cap index (notes_from a x table)) (sym (add-zero at)) ∙ rows_shifted a cap index at (suc (length table)) 0 table
     ∙ ap (walk_rows cap index at) (sym (walked-is a table))
-  where
-    plus_zero : (x : ℕ) → x + 0 ≡ x
-    plus_zero x = omega arith

@@ -72,27 +72,18 @@ name_at file cap at table = shown table (d_un file at) cap
 pub told_none : (strings : ℕ → Result (List ℕ) Refusal) (file : List ℕ) (most at : ℕ) → is_string_tag (d_tag file at) ≡ false → told_name strings file most at ≡ Ok no_name
 told_none strings file most at none = ap (λ tells. told_by tells (strings at) (name_at file most at)) none
 
-told_as : (strings : ℕ → Result (List ℕ) Refusal) (file : List ℕ) (most at : ℕ) (table : Result (List ℕ) Refusal) → strings at ≡ table → is_string_tag (d_tag file at) ≡ true
-    → told_name strings file most at ≡ told_by true table (name_at file most at)
-told_as strings file most at table same tells =
-    ap (λ b. told_by b (strings at) (name_at file most at)) tells ∙ ap (λ t. told_by true t (name_at file most at)) same
-
 -- one whose string table is refused
 pub told_refused : (strings : ℕ → Result (List ℕ) Refusal) (file name : List ℕ) (most at : ℕ) (fault : Fault) (table : Result (List ℕ) Refusal) → strings at ≡ table
     → is_string_tag (d_tag file at) ≡ true → FoundAs file (Err fault) table → ToldRead at (Err fault) name (told_name strings file most at)
 told_refused strings file name most at fault (Ok table) same tells found = absurd found
-told_refused strings file name most at fault (Err refusal) same tells found =
-    let P : Result (Result Shown Cause) Refusal → Type 0 = λ told. ToldRead at (Err fault) name told in
-    subst P (sym (told_as strings file most at (Err refusal) same tells)) (ap (λ (f : Fault). Err f) found)
+told_refused strings file name most at fault (Err refusal) same tells found = rw (tells, same) (ap (λ (f : Fault). Err f) found)
 
 -- one whose string was read in its table
 pub told_read : (strings : ℕ → Result (List ℕ) Refusal) (file name : List ℕ) (most at off : ℕ) (names : Strings) (result : Result NameEnd Fault) (table : Result (List ℕ) Refusal) → strings at ≡ table
     → is_string_tag (d_tag file at) ≡ true → FoundAs file (Ok names) table → off ≡ d_un file at → NameRead at result name (shown (strings_in file names) off most)
     → ToldRead at result name (told_name strings file most at)
 told_read strings file name most at off names result (Ok table) same tells found is read =
-    let P : Result Shown Cause → Type 0 = λ answer. NameRead at result name answer in
-    let Q : Result (Result Shown Cause) Refusal → Type 0 = λ told. ToldRead at result name told in
-    subst Q (sym (told_as strings file most at (Ok table) same tells)) (subst P (ap (λ t. shown t off most) found ∙ ap (λ n. shown table n most) is) read)
+    let here : strings_in file names ≡ table = found in rw (tells, same, ← here, ← is) read
 told_read strings file name most at off names result (Err refusal) same tells found is read = absurd found
 
 -- a string table that a segment loads is the one that is told
@@ -105,11 +96,3 @@ pub found_mapped : (file : List ℕ) (address size at : ℕ) → FoundAs file (s
 unfolding strings_at
 found_mapped file address size at =
     found_by_cases file (first_refusal (mapped_checks file address size at)) (record { at = mapped_place file address size; size = size })
-
-pub no_address : (file : List ℕ) (size : Option ℕ) (at : ℕ) → FoundAs file (Err (Refused (record { at = at; cause = Unmapped }))) (strings_at file at None size)
-unfolding strings_at
-no_address file size at = refl
-
-pub no_size : (file : List ℕ) (address at : ℕ) → FoundAs file (Err (Refused (record { at = at; cause = Unmapped }))) (strings_at file at (Some address) None)
-unfolding strings_at
-no_size file address at = refl
