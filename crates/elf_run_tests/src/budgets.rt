@@ -32,7 +32,13 @@ fn every_budget_over_notes(rt: HostRuntime) -> Result<(), Fail> {
 #[test]
 fn every_budget_over_dynamic_entries(rt: HostRuntime) -> Result<(), Fail> {
     check_budgets(&rt, &listing(3, LISTED)?, needed_library(), 496, 1)?;
-    check_budgets(&rt, &listing(2, LISTED)?, library_without_sections(), 560, 1)?;
+    check_budgets(
+        &rt,
+        &listing(2, LISTED)?,
+        library_without_sections(),
+        560,
+        1,
+    )?;
     check_budgets(&rt, &listing(4, LISTED)?, &BOTH_VIEWS, 608, 1)
 }
 
@@ -89,7 +95,14 @@ fn a_budget_ends_the_listing(rt: HostRuntime) -> Result<(), Fail> {
         (64, header),
     ] {
         let asked = within(&whole, budget);
-        check_answer(&rt, &asked, one_symbol_table(), text.as_bytes(), 1, u128::from(budget))?;
+        check_answer(
+            &rt,
+            &asked,
+            one_symbol_table(),
+            text.as_bytes(),
+            1,
+            u128::from(budget),
+        )?;
     }
     Ok(())
 }
@@ -98,7 +111,14 @@ fn a_budget_ends_the_listing(rt: HostRuntime) -> Result<(), Fail> {
 fn the_files_own_refusal_comes_before_the_budget(rt: HostRuntime) -> Result<(), Fail> {
     let whole = listing(3, LISTED)?;
     let short = b"! 000000000000003f short\n";
-    check_answer(&rt, &within(&whole, 0), &one_symbol_table()[..63], short, 1, 0)?;
+    check_answer(
+        &rt,
+        &within(&whole, 0),
+        &one_symbol_table()[..63],
+        short,
+        1,
+        0,
+    )?;
     let file = with_bytes(one_symbol_table(), 0, &[0]);
     let no_elf = b"! 0000000000000000 not-elf\n";
     check_answer(&rt, &within(&whole, 64), &file, no_elf, 1, 64)
@@ -125,7 +145,12 @@ fn a_budget_is_used_before_it_ends_a_listing(rt: HostRuntime) -> Result<(), Fail
     let file = many_symbols();
     let whole = listing(3, LISTED)?;
     let mut store = HeaderStore::new(rt.alloc(), 3)?;
-    let finished = carry_out(&rt, &within(&whole, 8000), Planned::new(&file, 0), &mut store);
+    let finished = carry_out(
+        &rt,
+        &within(&whole, 8000),
+        Planned::new(&file, 0),
+        &mut store,
+    );
     assert!(rt; finished.asked > 3904 && finished.asked <= 8000);
     check_budgets(&rt, &whole, &file, 64 + 192 + 9600 + 400 * 64, 997)
 }

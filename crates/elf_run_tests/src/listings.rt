@@ -51,7 +51,11 @@ fn every_set_of_parts_is_listed(rt: HostRuntime) -> Result<(), Fail> {
 
 #[test]
 fn each_read_of_a_listing_fails_in_turn(rt: HostRuntime) -> Result<(), Fail> {
-    let [three, four, five] = [listing(3, LISTED)?, listing(4, LISTED)?, listing(5, LISTED)?];
+    let [three, four, five] = [
+        listing(3, LISTED)?,
+        listing(4, LISTED)?,
+        listing(5, LISTED)?,
+    ];
     // The file header, the section headers; symbols with their names; the relocation entries, the
     // symbols and the names that they refer to.
     let offsets = [0, 0x78, 0x40, 0x70];
@@ -67,7 +71,13 @@ fn each_read_without_sections_fails_in_turn(rt: HostRuntime) -> Result<(), Fail>
     let offsets = [0, 0x40, 0x78];
     check_reads(&rt, &listing(1, LISTED)?, note_segment(), &offsets, 1)?;
     let offsets = [0, 0x40, 0xb0, 0xb0, 0xf1];
-    check_reads(&rt, &listing(2, LISTED)?, library_without_sections(), &offsets, 1)
+    check_reads(
+        &rt,
+        &listing(2, LISTED)?,
+        library_without_sections(),
+        &offsets,
+        1,
+    )
 }
 
 #[test]

@@ -84,7 +84,10 @@ pub(crate) fn check_answer(
 ) -> Result<(), Fail> {
     let mut store = HeaderStore::new(rt.alloc(), request.limits.headers)?;
     let finished = carry_out(rt, request, MemorySource::new(file), &mut store);
-    assert!(rt; outcome(&finished.answer) == (status, ""), "status {status}");
+    assert!(rt;
+        outcome(&finished.answer) == (status, ""),
+        "status {status}"
+    );
     assert!(rt; finished.text.as_slice() == text, "status {status}");
     assert!(rt; finished.asked <= cost, "{cost} bytes");
     Ok(())
