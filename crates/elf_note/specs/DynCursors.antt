@@ -1,10 +1,12 @@
 -- What a cursor over dynamic entries gives, entry by entry.
-use Rattle.std.specs.Prelude.{ℕ, suc, ◌≡◌, ◌==◌, Bool, true, false, if◌then◌else◌, List, ◌⊎◌, Option, None, Some, Result, Ok, Err}
+use Rattle.std.specs.Prelude.{ℕ, suc, ◌≡◌, ◌==◌, ◌+◌, ◌≤◌, Bool, true, false, if◌then◌else◌, List, [], ◌⊎◌, Option, None, Some, Result, Ok, Err}
 use Rattle.elf_model.specs.Dynamic.{dynamic_count, listed_value}
 use Rattle.elf_model.specs.Numbers.{DT_NULL, DT_STRSZ, DT_STRTAB}
 use Rattle.elf_model.specs.Records.{d_tag, d_un}
-use Rattle.elf_table.specs.Cursors.{Reading, HoldsRows, FailsRows, GivesRow, ShowsRow, next_row}
-use Rattle.elf_table.specs.Tables.{Rows}
+use Rattle.elf_source.specs.Onward.{ReadsOnward}
+use Rattle.elf_source.specs.Source.{Seen, Counting}
+use Rattle.elf_table.specs.Cursors.{Reading, HoldsRows, FailsRows, GivesRow, ShowsRow, asked_to, next_row, unread_bytes}
+use Rattle.elf_table.specs.Tables.{Rows, size_of}
 use Rattle.elf_headers.specs.declared.fault.Fault.{Fault}
 use Rattle.elf_table.specs.declared.row.Row.{Row}
 use Rattle.elf_note.specs.declared.string_values.DynStrings.{DynStrings}
@@ -17,6 +19,23 @@ pub record Entries : Type 0 where
 -- how many entries of a file a cursor still gives: those up to and with the first DT_NULL, or all
 abbrev pub entries_left : List ℕ → Entries → ℕ
 entries_left file d = if d.ended then 0 else dynamic_count file (next_row d.cursor) d.cursor.left
+
+-- a cursor before the first entry of a table
+pub record StartsEntries (table : Rows) (d : Entries) : Type 0 where
+  pub its_table : d.cursor.table ≡ table
+  pub index : d.cursor.index ≡ 0
+  pub left : d.cursor.left ≡ table.count
+  pub unread : d.cursor.unread ≡ size_of table
+  pub held : d.cursor.held ≡ []
+  pub not_failed : d.cursor.failed ≡ None
+  pub not_ended : d.ended ≡ false
+  pub entries : (file : List ℕ) → entries_left file d ≡ dynamic_count file table.at table.count
+
+-- what every step keeps, fault or not: what was asked for, onward, is no longer unread; a cursor that had failed is as it was
+pub record KeepsEntries (one_read : Seen → ℕ → ℕ → Seen → Type 0) (before after : Counting) (old new : Entries) : Type 0 where
+  pub account : after.asked + unread_bytes new.cursor ≤ before.asked + unread_bytes old.cursor
+  pub onward : ReadsOnward one_read before.seen after.seen (asked_to old.cursor) (asked_to new.cursor)
+  pub unchanged : (fault : Fault) → old.cursor.failed ≡ Some fault → new ≡ old
 
 -- a step that gives the next entry; it is the last where its tag is DT_NULL
 pub record GivesEntry (file : Option (List ℕ)) (old new : Entries) : Type 0 where

@@ -1,3 +1,4 @@
 pub mod DynCursors
 pub mod NoteCursors
+pub mod Steps
 pub mod WindowCalls

@@ -4,11 +4,13 @@ use Rattle.elf_model.specs.Bytes.{slice}
 use Rattle.elf_model.specs.Lines.{SHOWN_DESCRIPTOR}
 use Rattle.elf_model.specs.Names.{Shown}
 use Rattle.elf_model.specs.Names.Shown.{Whole as ShownWhole, Cut as ShownCut}
-use Rattle.elf_model.specs.Notes.{Note, Walk, walk_from, with_note, descriptor_start, to_next, note_shown}
+use Rattle.elf_model.specs.Notes.{Note, Walk, walk_from, with_note, descriptor_start, to_next, note_align, note_shown}
 use Rattle.elf_model.specs.declared.causes.Cause.TheVariants.{NoteCut}
+use Rattle.elf_source.specs.Onward.{ReadsOnward}
+use Rattle.elf_source.specs.Source.{Seen, Counting}
 use Rattle.elf_headers.specs.Faults.{IsOfRead}
 use Rattle.elf_table.specs.Tables.{Rows}
-use Rattle.elf_table.specs.Windows.{Ahead, HoldsBytes, StillHolds, MovesOn, bytes_left}
+use Rattle.elf_table.specs.Windows.{Ahead, HoldsBytes, StillHolds, MovesOn, bytes_left, frontier}
 use Rattle.elf_headers.specs.declared.fault.Fault.{Fault}
 use Rattle.elf_headers.specs.declared.fault.Fault.TheVariants.{Refused}
 use Rattle.elf_table.specs.declared.names.NameEnd.{NameEnd}
@@ -25,6 +27,13 @@ pub record NoteReading : Type 0 where
   pub found : Found
   pub descriptor : List ℕ
   pub failed : Option Fault
+
+-- a cursor before the first note of a table, whose header tells an alignment
+pub record StartsNotes (table : Rows) (align : ℕ) (c : NoteReading) : Type 0 where
+  pub its_table : c.table ≡ table
+  pub its_align : c.align ≡ note_align align
+  pub ahead : c.ahead ≡ record { at = table.at; held = []; unread = table.count; page = 4096 }
+  pub not_failed : c.failed ≡ None
 
 -- the bytes of a file that are left
 abbrev pub rest : List ℕ → Ahead → List ℕ
@@ -104,11 +113,14 @@ StepTells file cap old new name (Ok true) =
 StepTells file cap old new name (Ok false) = notes_left old.align file old.ahead ≡ no_notes
 StepTells file cap old new name (Err fault) = old.failed ≡ None → fault ≡ note_cut old.ahead.at → notes_left old.align file old.ahead ≡ cut_at old.ahead.at
 
--- what every step keeps, fault or not
-pub record KeepsNotes (old new : NoteReading) (before after : ℕ) : Type 0 where
+-- what every step keeps, fault or not: the table and the alignment, and no byte is asked for twice; a cursor that had failed
+-- is as it was
+pub record KeepsNotes (one_read : Seen → ℕ → ℕ → Seen → Type 0) (before after : Counting) (old new : NoteReading) : Type 0 where
   pub same_table : new.table ≡ old.table
   pub same_align : new.align ≡ old.align
-  pub moves : MovesOn old.ahead new.ahead before after
+  pub moves : MovesOn old.ahead new.ahead before.asked after.asked
+  pub onward : ReadsOnward one_read before.seen after.seen (frontier old.ahead) (frontier new.ahead)
+  pub unchanged : (fault : Fault) → old.failed ≡ Some fault → new ≡ old
 
 -- a step of a cursor, where it answers whether it gave a note
 pub record AdvancesNote (file : Option (List ℕ)) (cap : ℕ) (old new : NoteReading) (name : List ℕ) (result : Result Bool Fault) : Type 0 where

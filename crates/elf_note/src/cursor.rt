@@ -1,13 +1,8 @@
 //! A cursor over the notes of a table.
-ghost use Rattle.std.specs.Prelude.{◌≡◌, ℕ, ◌+◌, ◌≤◌, List, [], length, None, Some, Err, IfErr};
-ghost use Rattle.elf_model.specs.Notes.{note_align};
-ghost use Rattle.elf_source.specs.Onward.{ReadsOnward};
-ghost use Rattle.elf_source.specs.Source.{Reads};
-ghost use Rattle.elf_headers.specs.Faults.{Says};
+ghost use Rattle.std.specs.Prelude.{◌≡◌, ◌≤◌, length};
 ghost use Rattle.elf_table.specs.Tables.{RowsWithin};
-ghost use Rattle.elf_table.specs.Windows.{frontier};
-ghost use Rattle.elf_headers.specs.declared.fault.Fault.{Fault};
-ghost use Rattle.elf_note.specs.NoteCursors.{AdvancesNote, KeepsNotes, ShowsNote};
+ghost use Rattle.elf_note.specs.NoteCursors.{AdvancesNote, KeepsNotes, ShowsNote, StartsNotes};
+ghost use Rattle.elf_note.specs.Steps.{StepReads};
 
 use crate::note::{Found, SHOWN_DESCRIPTOR, next_note};
 use crate::row::NoteRow;
@@ -55,11 +50,7 @@ impl NoteCursor {
     /// 8 bytes where `align` is 8, else to 4, from the table's start on.
     pub fn new(table: Table, align: u64) -> NoteCursor
         requires { table.entry ≡ 1 }
-        ensures table { result.table ≡ table }
-        ensures align { result.align ≡ note_align align }
-        ensures ahead { result.ahead
-            ≡ record { at = table.at; held = []; unread = table.count; page = 4096 } }
-        ensures failed { result.failed ≡ None }
+        ensures { StartsNotes table align result }
     {
         let _ = table.entry();
         NoteCursor {
@@ -89,15 +80,9 @@ impl NoteCursor {
         name: &mut NameBuf,
     ) -> Result<bool, Fault>
         requires { RowsWithin src.old.seen.size self.old.table }
-        ensures reads { Reads src.old src.new self.old.ahead.unread }
-        ensures says { self.old.failed ≡ None →
-            IfErr result (Says src.old src.new self.old.ahead.unread) }
-        ensures keeps { KeepsNotes self.old self.new src.old.asked src.new.asked }
-        ensures onward { ReadsOnward S.one_read src.old.seen src.new.seen
-            (frontier self.old.ahead) (frontier self.new.ahead) }
+        ensures asks { StepReads src.old src.new self.old.ahead.unread self.old.failed result }
+        ensures keeps { KeepsNotes S.one_read src.old src.new self.old self.new }
         ensures steps { AdvancesNote src.old.seen.file cap.bytes self.old self.new name.new result }
-        ensures again { (fault : Fault) → self.old.failed ≡ Some fault →
-            (result ≡ Err fault) × (src.new ≡ src.old) × (self.new ≡ self.old) }
     {
         if let Some(fault) = self.failed {
             return Err(fault);
@@ -140,17 +125,13 @@ impl NoteCursor {
 }
 
 impl NoteCursor {
-    ghost use Rattle.std.specs.Prelude.{◌≡◌, ⊤, None, Some, Err, IfErr};
+    ghost use Rattle.std.specs.Prelude.{⊤};
     ghost use mathlib.Core.Option.{none};
     ghost use denote.Follow.{follows_so};
     ghost use Rattle.std.specs.Borrow.{sem};
-    ghost use Rattle.elf_source.specs.Source.{Reads};
-    ghost use Rattle.elf_headers.specs.Faults.{Says};
     ghost use Rattle.elf_table.specs.Tables.{RowsWithin};
-    ghost use Rattle.elf_table.specs.Windows.{frontier};
-    ghost use Rattle.elf_source.specs.Onward.{ReadsOnward};
-    ghost use Rattle.elf_headers.specs.declared.fault.Fault.{Fault};
     ghost use Rattle.elf_note.specs.NoteCursors.{KeepsNotes, StepsNote};
+    ghost use Rattle.elf_note.specs.Steps.{StepReads};
     ghost use Rattle.elf_note.specs.contracts.cursor.NoteCursor.{the_row};
 
     /// The next note, lent from the cursor until the next call, or None at the table's end. Its
@@ -165,16 +146,10 @@ impl NoteCursor {
         name: &mut NameBuf,
     ) -> Result<Option<NoteRow<'_>>, Fault>
         requires { RowsWithin src.old.seen.size self.old.table }
-        ensures reads { Reads src.old src.new self.old.ahead.unread }
-        ensures says { self.old.failed ≡ None →
-            IfErr result (Says src.old src.new self.old.ahead.unread) }
-        ensures again { (fault : Fault) → self.old.failed ≡ Some fault →
-            (result ≡ Err fault) × (src.new ≡ src.old) }
+        ensures asks { StepReads src.old src.new self.old.ahead.unread self.old.failed result }
         ensures* after { sem 𝓛 (follows_so the_row the_row self.entry.ghost_name none (λ _ _. ⊤)
-            (λ new. KeepsNotes self.old new src.old.asked src.new.asked
-            × StepsNote src.old.seen.file cap.bytes self.old new name.new result
-            × ReadsOnward S.one_read src.old.seen src.new.seen
-            (frontier self.old.ahead) (frontier new.ahead))) }
+            (λ new. KeepsNotes S.one_read src.old src.new self.old new
+            × StepsNote src.old.seen.file cap.bytes self.old new name.new result)) }
     {
         if !self.advance(src, cap, name)? {
             return Ok(None);

@@ -1,18 +1,13 @@
 //! A cursor over the dynamic entries of a table.
-ghost use Rattle.std.specs.Prelude.{◌≡◌, ◌==◌, ℕ, ◌+◌, ◌<◌, ◌≤◌, List, [], length, false};
-ghost use Rattle.std.specs.Prelude.{None, Some, Err, IfErr};
+ghost use Rattle.std.specs.Prelude.{◌≡◌, ◌==◌, ℕ, ◌<◌, List, length};
 ghost use Rattle.elf_model.specs.Bytes.{slice};
-ghost use Rattle.elf_model.specs.Dynamic.{dynamic_count};
 ghost use Rattle.elf_model.specs.Numbers.{DT_NULL};
 ghost use Rattle.elf_model.specs.Records.{d_tag};
 ghost use Rattle.elf_record.specs.Dyn.{IsDyn};
-ghost use Rattle.elf_source.specs.Onward.{ReadsOnward};
-ghost use Rattle.elf_source.specs.Source.{Reads};
-ghost use Rattle.elf_table.specs.Cursors.{ShowsRow, asked_to, unread_bytes};
-ghost use Rattle.elf_headers.specs.Faults.{Says};
-ghost use Rattle.elf_table.specs.Tables.{RowsWithin, size_of};
-ghost use Rattle.elf_headers.specs.declared.fault.Fault.{Fault};
-ghost use Rattle.elf_note.specs.DynCursors.{AdvancesEntries, entries_left};
+ghost use Rattle.elf_table.specs.Cursors.{ShowsRow, unread_bytes};
+ghost use Rattle.elf_table.specs.Tables.{RowsWithin};
+ghost use Rattle.elf_note.specs.DynCursors.{AdvancesEntries, KeepsEntries, StartsEntries};
+ghost use Rattle.elf_note.specs.Steps.{StepReads};
 
 use elf_record::Dyn;
 use elf_record::numbers::DT_NULL;
@@ -44,15 +39,7 @@ impl Model for DynCursor {
 /// A cursor before the first entry of `table`, whose rows have 16 bytes (gABI 5, Dynamic Section).
 pub fn dynamic_rows(table: Table) -> DynCursor
     requires { table.entry ≡ 16 }
-    ensures table { result.cursor.table ≡ table }
-    ensures index { result.cursor.index ≡ 0 }
-    ensures left { result.cursor.left ≡ table.count }
-    ensures unread { result.cursor.unread ≡ size_of table }
-    ensures held { result.cursor.held ≡ [] }
-    ensures failed { result.cursor.failed ≡ None }
-    ensures ended { result.ended ≡ false }
-    ensures entries { (file : List ℕ) →
-        entries_left file result ≡ dynamic_count file table.at table.count }
+    ensures { StartsEntries table result }
 {
     DynCursor {
         cursor: Cursor::new(table),
@@ -70,16 +57,10 @@ impl DynCursor {
     /// each call answers the same and reads nothing.
     pub fn advance<S: Source>(&mut self, src: &mut Counted<S>) -> Result<bool, Fault>
         requires { RowsWithin src.old.seen.size self.old.cursor.table }
-        ensures reads { Reads src.old src.new (unread_bytes self.old.cursor) }
-        ensures says { self.old.cursor.failed ≡ None →
-            IfErr result (Says src.old src.new (unread_bytes self.old.cursor)) }
-        ensures account { src.new.asked + unread_bytes self.new.cursor
-            ≤ src.old.asked + unread_bytes self.old.cursor }
-        ensures onward { ReadsOnward S.one_read src.old.seen src.new.seen
-            (asked_to self.old.cursor) (asked_to self.new.cursor) }
+        ensures asks { StepReads src.old src.new (unread_bytes self.old.cursor)
+            self.old.cursor.failed result }
+        ensures keeps { KeepsEntries S.one_read src.old src.new self.old self.new }
         ensures steps { AdvancesEntries src.old.seen.file self.old self.new result }
-        ensures again { (fault : Fault) → self.old.cursor.failed ≡ Some fault →
-            (result ≡ Err fault) × (src.new ≡ src.old) × (self.new ≡ self.old) }
     {
         if self.ended {
             return Ok(false);
@@ -102,17 +83,14 @@ impl DynCursor {
 }
 
 impl DynCursor {
-    ghost use Rattle.std.specs.Prelude.{◌≡◌, ◌+◌, ◌≤◌, ⊤, None, Some, Err, IfErr};
+    ghost use Rattle.std.specs.Prelude.{⊤};
     ghost use mathlib.Core.Option.{none};
     ghost use denote.Follow.{follows_so};
     ghost use Rattle.std.specs.Borrow.{sem};
-    ghost use Rattle.elf_source.specs.Onward.{ReadsOnward};
-    ghost use Rattle.elf_source.specs.Source.{Reads};
-    ghost use Rattle.elf_table.specs.Cursors.{asked_to, unread_bytes};
-    ghost use Rattle.elf_headers.specs.Faults.{Says};
+    ghost use Rattle.elf_table.specs.Cursors.{unread_bytes};
     ghost use Rattle.elf_table.specs.Tables.{RowsWithin};
-    ghost use Rattle.elf_headers.specs.declared.fault.Fault.{Fault};
-    ghost use Rattle.elf_note.specs.DynCursors.{StepsEntries};
+    ghost use Rattle.elf_note.specs.DynCursors.{KeepsEntries, StepsEntries};
+    ghost use Rattle.elf_note.specs.Steps.{StepReads};
     ghost use Rattle.elf_note.specs.contracts.dynamic.DynCursor.{the_row};
 
     /// The row of the next entry, lent from the cursor's window until the next call, or None behind
@@ -122,17 +100,11 @@ impl DynCursor {
     /// As for [`DynCursor::advance`].
     pub fn next<S: Source>(&mut self, src: &mut Counted<S>) -> Result<Option<Row<'_>>, Fault>
         requires { RowsWithin src.old.seen.size self.old.cursor.table }
-        ensures reads { Reads src.old src.new (unread_bytes self.old.cursor) }
-        ensures says { self.old.cursor.failed ≡ None →
-            IfErr result (Says src.old src.new (unread_bytes self.old.cursor)) }
-        ensures again { (fault : Fault) → self.old.cursor.failed ≡ Some fault →
-            (result ≡ Err fault) × (src.new ≡ src.old) }
+        ensures asks { StepReads src.old src.new (unread_bytes self.old.cursor)
+            self.old.cursor.failed result }
         ensures* after { sem 𝓛 (follows_so the_row the_row self.entry.ghost_name none (λ _ _. ⊤)
-            (λ new. (src.new.asked + unread_bytes new.cursor
-            ≤ src.old.asked + unread_bytes self.old.cursor)
-            × StepsEntries src.old.seen.file self.old new result
-            × ReadsOnward S.one_read src.old.seen src.new.seen
-            (asked_to self.old.cursor) (asked_to new.cursor))) }
+            (λ new. KeepsEntries S.one_read src.old src.new self.old new
+            × StepsEntries src.old.seen.file self.old new result)) }
     {
         if !self.advance(src)? {
             return Ok(None);

@@ -21,10 +21,8 @@ returns-clause-read g c = λ file h a note e l.
 
 pub returns-then-size-from-clause-went : goal.returns-then-size-from-clause-went
 returns-then-size-from-clause-went g c =
-    let onward = onward_more _ _ _ _ _ _ (omega (arith, c.skip.ensures.end, c.skip.ensures.unread)) c.search_name.ensures.onward in
-    record { reads = search rules; says = search rules; moves = search rules; onward = onward; agrees = search rules }
+    record { reads = search rules; says = search rules; moves = search rules; agrees = search rules; onward = onward_more _ _ _ _ _ _ (omega (arith, c.skip.ensures.end, c.skip.ensures.unread)) c.search_name.ensures.onward }
 
 pub returns-clause-went : goal.returns-clause-went
 returns-clause-went g c =
-    let onward = onward_more _ _ _ _ _ _ (omega (arith, c.skip.ensures.end, c.skip.ensures.unread)) c.search_name.ensures.onward in
-    record { reads = search rules; says = search rules; moves = search rules; onward = onward; agrees = search rules }
+    record { reads = search rules; says = search rules; moves = search rules; agrees = search rules; onward = onward_more _ _ _ _ _ _ (omega (arith, c.skip.ensures.end, c.skip.ensures.unread)) c.search_name.ensures.onward }

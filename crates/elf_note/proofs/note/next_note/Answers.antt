@@ -10,24 +10,19 @@ use Rattle.elf_note.proofs.note.next_note.Goals as goal
 
 pub returns-then-branch-clause-tells : goal.returns-then-branch-clause-tells
 returns-then-branch-clause-tells g c = λ file h a.
-    let few : bytes_left c.args.window.now < 12 = search rules in
-    let z = c.in_ok-ends_in_zeros.ensures.zeros file h a in
-    left-zeros c.args.align file c.args.window.now few (sym z ∙ c.if-branch.true)
+    left-zeros c.args.align file c.args.window.now (search rules) (sym (c.in_ok-ends_in_zeros.ensures.zeros file h a) ∙ c.if-branch.true)
 
 pub returns-then-left-clause-tells : goal.returns-then-left-clause-tells
 returns-then-left-clause-tells g c = λ file h a f.
-    let few : bytes_left c.args.window.now < 12 = search rules in
-    let z = c.in_ok-ends_in_zeros.ensures.zeros file h a in
-    left-few c.args.align file c.args.window.now few (sym z ∙ c.if-branch.false)
+    left-few c.args.align file c.args.window.now (search rules) (sym (c.in_ok-ends_in_zeros.ensures.zeros file h a) ∙ c.if-branch.false)
 
 pub returns-then-left-from-clause-tells : goal.returns-then-left-from-clause-tells
 returns-then-left-from-clause-tells g c = λ file h a f.
     let w = c.args.window.now in
     let head = c.decode-head.result in
     let many : 12 ≤ bytes_left w = search rules in
-    let within = c.requires.within in
     let sized = c.args.src.now.seen.sized file h in
-    let some = within (omega arith) in
+    let some = c.requires.within (omega arith) in
     let ends : range_end w ≤ length file = omega arith in
     let stands : IsNoteHead file w.at head = c.decode-head.ensures.stands file w.at (c.in_ok-take.ensures.taken file h a) in
     let tm = c.in_ok-take.ensures.went.moves.same_end in
@@ -50,9 +45,8 @@ returns-clause-tells g c = λ file h a.
     let a1 = c.in_ok-take.ensures.went.agrees file h a in
     let a2 = c.skip.ensures.agrees file (c.in_ok-name_end.ensures.went.agrees file h1 a1) in
     let many : 12 ≤ bytes_left w = search rules in
-    let within = c.requires.within in
     let sized = c.args.src.now.seen.sized file h in
-    let some = within (omega arith) in
+    let some = c.requires.within (omega arith) in
     let ends : range_end w ≤ length file = omega arith in
     let stands : IsNoteHead file w.at head = c.decode-head.ensures.stands file w.at (c.in_ok-take.ensures.taken file h a) in
     let gap = c.gap_between-gap.ensures.value in
@@ -71,7 +65,6 @@ returns-clause-tells g c = λ file h a.
     let da : c.at-desc_at.result ≡ c.skip.new.self.at = c.at-desc_at.ensures.value in
     let at0 : c.at-at.result ≡ w.at = c.at-at.ensures.value in
     let sh : c.min-shown.result ≡ min c.from-4.result 32 = c.min-shown.ensures in
-    let re : range_end c.read_rest.new.window ≡ range_end c.skip.new.self = c.in_ok-read_rest.ensures.went.moves.same_end in
     let fit : 12 + head.namesz + gp + head.descsz ≤ bytes_left w = omega arith in
     let place : c.at-desc_at.result ≡ w.at + (12 + head.namesz + gp) = omega arith in
     let start : c.at-desc_at.result - c.at-at.result ≡ 12 + head.namesz + gp = omega arith in
@@ -82,7 +75,7 @@ returns-clause-tells g c = λ file h a.
     let rest : c.read_rest.new.desc ≡ slice file c.at-desc_at.result c.min-shown.result =
     c.in_ok-read_rest.ensures.read file h2 a2 ∙ ap (slice file c.skip.new.self.at) (sym c.read_rest.auto.desc ∙ size) ∙ ap (λ (x : ℕ). slice file x c.min-shown.result) (sym da) in
     found-tells file c.args.align c.args.cap.bytes w c.read_rest.new.window head c.in_ok-name_end.name_end c.read_name.new.name _ c.at-at.result c.at-desc_at.result c.min-shown.result
-    at0 stands ends many (rw gap at fit) (re ∙ se ∙ ne ∙ te)
+    at0 stands ends many (rw gap at fit) (c.in_ok-read_rest.ensures.went.moves.same_end ∙ se ∙ ne ∙ te)
     (moved-by c.args.align w.at head.namesz head.descsz (bytes_left w) (bytes_left c.skip.new.self) c.at-desc_at.result (c.at-desc_at.result - c.at-at.result) c.read_rest.new.window.at
     (rw gap at place) (rw gap at start) (rw gap at fit) (rw gap at behind)
     (ra ∙ ap (λ (x : ℕ). x + head.descsz + min (to_next c.args.align (c.at-desc_at.result - c.at-at.result + head.descsz)) (bytes_left c.skip.new.self - head.descsz)) (sym da)))
@@ -91,26 +84,20 @@ returns-clause-tells g c = λ file h a.
 
 pub returns-in_err-name_end-clause-went : goal.returns-in_err-name_end-clause-went
 returns-in_err-name_end-clause-went g c =
-    let onward = onward_then _ _ _ _ _ _ _ _ (omega arith) c.take.ensures.went.onward c.read_name.ensures.went.onward in
-    record { reads = search rules; says = search rules; moves = search rules; onward = onward; agrees = search rules }
+    record { reads = search rules; says = search rules; moves = search rules; agrees = search rules; onward = onward_then _ _ _ _ _ _ _ _ (omega arith) c.take.ensures.went.onward c.read_name.ensures.went.onward }
 
 pub returns-in_err-read_rest-clause-went : goal.returns-in_err-read_rest-clause-went
 returns-in_err-read_rest-clause-went g c =
-    let named = onward_then _ _ _ _ _ _ _ _ (omega arith) c.take.ensures.went.onward c.read_name.ensures.went.onward in
-    let onward = onward_then _ _ _ _ _ _ _ _ (omega (arith, c.skip.ensures.end, c.skip.ensures.unread)) named c.read_rest.ensures.went.onward in
-    record { reads = search rules; says = search rules; moves = search rules; onward = onward; agrees = search rules }
+    record { reads = search rules; says = search rules; moves = search rules; agrees = search rules; onward = onward_then _ _ _ _ _ _ _ _ (omega (arith, c.skip.ensures.end, c.skip.ensures.unread)) (onward_then _ _ _ _ _ _ _ _ (omega arith) c.take.ensures.went.onward c.read_name.ensures.went.onward) c.read_rest.ensures.went.onward }
 
 pub returns-clause-went : goal.returns-clause-went
-returns-clause-went g c =
-    let named = onward_then _ _ _ _ _ _ _ _ (omega arith) c.take.ensures.went.onward c.read_name.ensures.went.onward in
-    let onward = onward_then _ _ _ _ _ _ _ _ (omega (arith, c.skip.ensures.end, c.skip.ensures.unread)) named c.read_rest.ensures.went.onward in
-    record {
-      reads = search rules;
-      says = search rules;
-      moves = search rules;
-      onward = onward;
-      agrees = λ file h a.
-          let h1 = c.in_ok-take.ensures.went.reads.keeps.same_file ∙ h in
-          let h2 = c.in_ok-name_end.ensures.went.reads.keeps.same_file ∙ h1 in
-          c.in_ok-read_rest.ensures.went.agrees file h2 (c.skip.ensures.agrees file (c.in_ok-name_end.ensures.went.agrees file h1 (c.in_ok-take.ensures.went.agrees file h a)));
-    }
+returns-clause-went g c = record {
+  reads = search rules;
+  says = search rules;
+  moves = search rules;
+  agrees = λ file h a.
+      let h1 = c.in_ok-take.ensures.went.reads.keeps.same_file ∙ h in
+      let name = c.in_ok-name_end.ensures.went in
+      c.in_ok-read_rest.ensures.went.agrees file (name.reads.keeps.same_file ∙ h1) (c.skip.ensures.agrees file (name.agrees file h1 (c.in_ok-take.ensures.went.agrees file h a)));
+  onward = onward_then _ _ _ _ _ _ _ _ (omega (arith, c.skip.ensures.end, c.skip.ensures.unread)) (onward_then _ _ _ _ _ _ _ _ (omega arith) c.take.ensures.went.onward c.read_name.ensures.went.onward) c.read_rest.ensures.went.onward;
+}

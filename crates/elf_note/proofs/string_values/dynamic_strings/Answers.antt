@@ -26,8 +26,8 @@ entries-preserved g c =
     record {
       same_table = s.gives.same_table ∙ i.same_table;
       not_failed = s.gives.still_not_failed;
-      reads = Reads-to (Reads-then i.reads a.reads) (let x = a.account in let y = i.account in omega arith);
-      account = let x = a.account in let y = i.account in omega arith;
+      reads = Reads-to (Reads-then i.reads a.asks.reads) (let x = a.keeps.account in let y = i.account in omega arith);
+      account = let x = a.keeps.account in let y = i.account in omega arith;
       agrees = λ file h. s.gives.agrees file (i.reads.keeps.same_file ∙ h) (i.agrees file h);
       address = λ file h.
           ap (λ (x : Option ℕ). first_value x (dynamic_value file (next_row new.cursor) (entries_left file new) DT_STRTAB)) (c.first_of-address.ensures file at (stands file h))

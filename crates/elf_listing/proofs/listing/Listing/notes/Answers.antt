@@ -17,9 +17,9 @@ notes-init g c =
     let n = c.new-cursor.ensures in
     let unread = ap (λ w. w.unread) n.ahead in
     record {
-      same_table = n.table;
-      same_align = n.align;
-      not_failed = n.failed;
+      same_table = n.its_table;
+      same_align = n.its_align;
+      not_failed = n.not_failed;
       keeps = record { same_src = refl; same_out = refl; same_file = refl; same_cap = refl };
       spends = Spends-none _ _ _ _ (omega arith);
       asked = omega (arith, unread);
@@ -68,7 +68,7 @@ notes-preserved g c =
     let step = rw c.if-branch.true at c.in_ok-advance.ensures.steps in
     let lists = c.in_ok-note_row.ensures.keeps in
     let asks = c.in_ok-note_row.ensures.spent.0 in
-    let reads = c.in_ok-advance.ensures.reads in
+    let reads = c.in_ok-advance.ensures.asks.reads in
     let keeps = c.in_ok-advance.ensures.keeps in
     let account = keeps.moves.account in
     let credit = c.notes.self.ahead.credit in
@@ -110,7 +110,7 @@ returns g c = record {
 
 pub invariant_of-self : goal.invariant_of-self
 invariant_of-self g c = record {
-  loaded = still_open _ _ c.advance.ensures.reads c.notes.self.loaded;
-  viewed = still_viewed _ _ c.advance.ensures.reads c.notes.self.viewed;
-  held = still_held _ c.advance.ensures.reads c.notes.self.held;
+  loaded = still_open _ _ c.advance.ensures.asks.reads c.notes.self.loaded;
+  viewed = still_viewed _ _ c.advance.ensures.asks.reads c.notes.self.viewed;
+  held = still_held _ c.advance.ensures.asks.reads c.notes.self.held;
 }
