@@ -12,8 +12,9 @@ ghost use Rattle.elf_names.specs.Ahead.{LosesAt, ReadsAhead, WhereAgrees};
 
 use crate::name_index::NameIndex;
 use crate::stretch::Stretch;
+use elf_headers::refused;
 use elf_record::sizes::SYMBOL_BYTES;
-use elf_record::{Cause, Refusal, Sym};
+use elf_record::{Cause, Sym};
 use elf_source::{Counted, Source};
 use elf_table::{Cap, Fault, NameBuf, NameEnd, Table, find_nul};
 use std::marker::Model;
@@ -91,7 +92,7 @@ impl ReadAhead {
             return Ok(NameEnd::Whole);
         }
         if index.off >= size {
-            return Err(refused(index.at, Cause::NameOutside));
+            return refused(index.at, Cause::NameOutside);
         }
         let left = size - index.off;
         let want = left.min(u64::from(cap.bytes) + 1);
@@ -101,7 +102,7 @@ impl ReadAhead {
         if left > u64::from(cap.bytes) {
             return Ok(NameEnd::Cut);
         }
-        Err(refused(index.at, Cause::NameUnended))
+        refused(index.at, Cause::NameUnended)
     }
 
     /// The symbol at the index `index`, which is below `len()`, of a table with rows of 24 bytes
@@ -186,11 +187,4 @@ fn name_cost(cap: Cap) -> u64
     ensures enough { cap.bytes + 1 ≤ result }
 {
     (u64::from(cap.bytes) + PIECE) / PIECE * PIECE
-}
-
-// The fault that refuses the file at an offset.
-fn refused(at: u64, cause: Cause) -> Fault
-    ensures { result ≡ Fault.Refused (record { at = at; cause = cause }) }
-{
-    Fault::Refused(Refusal { at, cause })
 }

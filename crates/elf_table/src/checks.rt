@@ -1,5 +1,5 @@
 //! The checks of one section by its header.
-ghost use Rattle.std.specs.Prelude.{◌≡◌, ℕ, ◌<◌, ◌≤◌, List, IfOk, IfErr, Err};
+ghost use Rattle.std.specs.Prelude.{◌≡◌, ℕ, ◌<◌, ◌≤◌, List, IfOk, IfErr};
 ghost use Rattle.elf_model.specs.Checks.{is_symbol_table};
 ghost use Rattle.elf_record.specs.Shdr.{IsShdr};
 ghost use Rattle.elf_headers.specs.Faults.{IsOfCheck};
@@ -8,9 +8,9 @@ ghost use Rattle.elf_table.specs.Tables.{RowsWithin, StringsWithin, size_of};
 
 use crate::names::Names;
 use crate::table::Table;
-use elf_headers::{Fault, ends_outside};
+use elf_headers::{Fault, ends_outside, refused};
 use elf_record::numbers::{SHT_DYNSYM, SHT_STRTAB, SHT_SYMTAB};
-use elf_record::{Cause, Refusal, Shdr};
+use elf_record::{Cause, Shdr};
 
 /// The section as a table of rows of `entry` bytes, in a file of `size` bytes. Refusals name
 /// `place`.
@@ -84,11 +84,4 @@ pub fn holds_symbols(header: &Shdr) -> bool
         result ≡ is_symbol_table file at }
 {
     header.sh_type == SHT_SYMTAB || header.sh_type == SHT_DYNSYM
-}
-
-/// The refusal for a cause at a file offset.
-pub(crate) fn refused<T>(at: u64, cause: Cause) -> Result<T, Fault>
-    ensures { result ≡ Err (Fault.Refused (record { at = at; cause = cause })) }
-{
-    Err(Fault::Refused(Refusal { at, cause }))
 }

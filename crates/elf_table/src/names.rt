@@ -11,8 +11,8 @@ ghost use Rattle.elf_table.specs.Tables.{StringsWithin, strings_in};
 use crate::name_buf::NameBuf;
 use crate::name_search::search_name;
 use crate::window::{WINDOW_BYTES, Window};
-use elf_headers::{Cap, Fault};
-use elf_record::{Cause, Refusal};
+use elf_headers::{Cap, Fault, refused};
+use elf_record::Cause;
 use elf_source::{Counted, Source};
 use std::marker::Model;
 
@@ -92,7 +92,7 @@ impl Names {
             return Ok(NameEnd::Whole);
         }
         if off >= self.size {
-            return Err(refused(at, Cause::NameOutside));
+            return refused(at, Cause::NameOutside);
         }
         let left = self.size - off;
         let want = left.min(u64::from(cap.bytes) + 1);
@@ -103,7 +103,7 @@ impl Names {
         if left > u64::from(cap.bytes) {
             return Ok(NameEnd::Cut);
         }
-        Err(refused(at, Cause::NameUnended))
+        refused(at, Cause::NameUnended)
     }
 
     /// The file offset of the first byte.
@@ -151,7 +151,7 @@ impl Names {
             return Ok(false);
         }
         if off >= self.size {
-            return Err(refused(at, Cause::NameOutside));
+            return refused(at, Cause::NameOutside);
         }
         let full = wanted.len() as u64 + 1;
         let want = full.min(self.size - off);
@@ -161,15 +161,8 @@ impl Names {
         if want == full {
             return Ok(true);
         }
-        Err(refused(at, Cause::NameUnended))
+        refused(at, Cause::NameUnended)
     }
-}
-
-// The fault that refuses the file at an offset.
-fn refused(at: u64, cause: Cause) -> Fault
-    ensures { result ≡ Fault.Refused (record { at = at; cause = cause }) }
-{
-    Fault::Refused(Refusal { at, cause })
 }
 
 // Reads `want` bytes from `start` on, or fewer up to the first that differs, and answers whether

@@ -11,11 +11,11 @@ ghost use Rattle.elf_table.specs.Relocations.{Links, Relocates};
 ghost use Rattle.elf_headers.specs.Store.{row};
 ghost use Rattle.elf_table.specs.Tables.{RowsWithin, StringsWithin, SymbolsWithin, size_of};
 
-use crate::checks::{checked_strings, checked_table, holds_symbols, refused};
+use crate::checks::{checked_strings, checked_table, holds_symbols};
 use crate::file::File;
 use crate::names::Names;
 use crate::table::Table;
-use elf_headers::{Fault, ends_outside};
+use elf_headers::{Fault, ends_outside, refused};
 use elf_record::sizes::{
     PROGRAM_HEADER_BYTES, RELOCATION_BYTES, SECTION_HEADER_BYTES, SYMBOL_BYTES,
 };

@@ -6,9 +6,8 @@ ghost use Rattle.elf_headers.specs.Faults.{IsOfCheck};
 ghost use Rattle.elf_table.specs.Tables.{StringsWithin};
 ghost use Rattle.elf_table.specs.Views.{strings_placed};
 
-use crate::checks::refused;
 use crate::names::Names;
-use elf_headers::Fault;
+use elf_headers::{Fault, refused};
 use elf_record::numbers::PT_LOAD;
 use elf_record::{Cause, Phdr};
 

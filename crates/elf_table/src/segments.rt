@@ -11,12 +11,12 @@ ghost use Rattle.elf_table.specs.Tables.{RowsWithin, StringsWithin, size_of};
 ghost use Rattle.elf_table.specs.Views.{TellsSegment, dynamic_table_at, dynamic_in, filesz_in};
 ghost use Rattle.elf_table.specs.Views.{segment_place, strings_mapped};
 
-use crate::checks::{checked_rows, refused};
+use crate::checks::checked_rows;
 use crate::names::Names;
 use crate::segment_checks::{checked_mapped, maps};
 use crate::segment_view::SegmentView;
 use crate::table::Table;
-use elf_headers::Fault;
+use elf_headers::{Fault, refused};
 use elf_record::sizes::{DYNAMIC_BYTES, PROGRAM_HEADER_BYTES};
 use elf_record::{Cause, Phdr};
 
