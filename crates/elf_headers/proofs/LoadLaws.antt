@@ -1,11 +1,11 @@
 -- What the file header and a load ask for.
-use Rattle.std.proofs.Common.{◌≡◌, ℕ, ◌+◌, ◌*◌, ◌≤◌, List, length, None, Result, Ok, Err, refl, arith}
+use Rattle.std.proofs.Common.{◌≡◌, ℕ, ◌+◌, ◌*◌, ◌≤◌, List, length, Result, Ok, Err, refl, arith}
 use Rattle.std.specs.Prelude.{is_none}
 use Rattle.elf_model.specs.Checks.{first_refusal, length_checks, early_checks}
 use Rattle.elf_model.proofs.CostLemmas.{cost_where-le}
 use Rattle.elf_record.specs.Ehdr.{IsEhdr}
 use Rattle.elf_record.specs.declared.ehdr.Ehdr.{Ehdr}
-use Rattle.elf_source.specs.Source.{Seen, Counting}
+use Rattle.elf_source.specs.Source.{Seen}
 use Rattle.elf_source.specs.Onward.{ReadsOnward}
 use Rattle.elf_source.proofs.OnwardLaws.{onward_none, onward_one}
 use Rattle.elf_headers.specs.Faults.{FillsOnce}

@@ -1,6 +1,6 @@
 //! The headers of an ELF64 file: the file header, the store of section headers or program headers,
 //! the checks of a load, and reads that name the offset where they fail. No call takes memory but
-//! `HeaderStore::new`.
+//! `HeaderRoom::new`.
 #![tactic(auto)]
 
 mod buffers;
@@ -11,6 +11,7 @@ mod filling;
 mod loaded;
 mod loading;
 mod ranges;
+mod room;
 mod segment_loading;
 mod stop;
 mod store;
@@ -23,5 +24,6 @@ pub use filling::fill;
 pub use loaded::Loaded;
 pub use loading::load;
 pub use ranges::ends_outside;
+pub use room::HeaderRoom;
 pub use stop::Stop;
 pub use store::HeaderStore;

@@ -1,4 +1,4 @@
-//! The store of headers: the one thing here that takes memory.
+//! The store of headers, over memory that its caller lends.
 ghost use Rattle.std.specs.Prelude.{◌≡◌, ℕ, ◌+◌, ◌*◌, ◌^◌, if◌then◌else◌, is_ok, ◌<◌, ◌≤◌};
 ghost use Rattle.std.specs.Prelude.{List, Some, length, take, IfOk, IfErr, OnOk};
 ghost use Rattle.elf_model.specs.Bytes.{slice};
@@ -14,26 +14,25 @@ use crate::fault::Fault;
 use crate::filling::fill;
 use elf_record::{Phdr, Shdr};
 use elf_source::{Counted, READ_BYTES, Source};
-use std::alloc::{AllocError, Global};
 use std::marker::Model;
 
 /// The size of a slot, and of a section header, in bytes.
-const SLOT_BYTES: usize = 64;
+pub(crate) const SLOT_BYTES: usize = 64;
 /// The size of a program header in bytes.
 const SEGMENT_BYTES: usize = 56;
 
-/// Room for the section headers of one file, 64 bytes each, or for its program headers, 56 bytes
-/// each, one behind the other. The room is taken once, when the store is made.
+/// The section headers of one file, 64 bytes each, or its program headers, 56 bytes each, one behind
+/// the other, in memory that is lent.
 #[derive(Drop)]
-pub struct HeaderStore {
-    bytes: Vec<u8>,
+pub struct HeaderStore<'a> {
+    bytes: &'a mut [u8],
     slots: u16,
     loaded: u16,
     segments: u16,
 }
 
-impl Model for HeaderStore {
-    ghost use Rattle.std.specs.Prelude.{◌≡◌, ◌*◌, ◌≤◌, vec_len};
+impl<'a> Model for HeaderStore<'a> {
+    ghost use Rattle.std.specs.Prelude.{◌≡◌, ◌*◌, ◌≤◌, length};
     ghost use Rattle.elf_headers.specs.Store.{Stored, rows_from};
 
     ghost Value = { Stored };
@@ -41,34 +40,31 @@ impl Model for HeaderStore {
     ghost view = { λ s. record {
       slots = s.slots;
       loaded = s.loaded;
-      rows = rows_from s.bytes.items 0 64 s.loaded;
+      rows = rows_from s.bytes.now 0 64 s.loaded;
       segments = s.segments;
-      segment_rows = rows_from s.bytes.items 0 56 s.segments;
+      segment_rows = rows_from s.bytes.now 0 56 s.segments;
     } };
 
     ghost invariant = { λ s.
-        (vec_len s.bytes ≡ 64 * s.slots) × (s.loaded ≤ s.slots) × (s.segments ≤ s.slots)
+        (64 * s.slots ≤ length s.bytes.now) × (s.loaded ≤ s.slots) × (s.segments ≤ s.slots)
         × (1 ≤ s.slots) × (s.slots ≤ 65279) };
 }
 
-impl HeaderStore {
-    /// A store of `headers` slots, 1 to 65,279, with no header loaded. Its 64 bytes for each slot are
-    /// taken from `alloc` here, and no other call takes any.
-    ///
-    /// # Errors
-    /// Where memory is refused.
-    pub fn new(alloc: Global, headers: u16) -> Result<HeaderStore, AllocError>
+impl<'a> HeaderStore<'a> {
+    /// A store of `headers` slots, 1 to 65,279, with no header loaded, over memory of at least 64
+    /// bytes for each slot. What stands in the memory before is not looked at.
+    pub fn over(bytes: &'a mut [u8], headers: u16) -> HeaderStore<'a>
         requires some { 1 ≤ headers }
         requires permitted { headers ≤ 65279 }
-        ensures { IfOk result (λ store. store ≡ empty headers) }
+        requires room { 64 * headers ≤ length bytes.old }
+        ensures { result ≡ empty headers }
     {
-        let bytes = vec![in alloc; 0u8; SLOT_BYTES * headers as usize]?;
-        Ok(HeaderStore {
+        HeaderStore {
             bytes,
             slots: headers,
             loaded: 0,
             segments: 0,
-        })
+        }
     }
 
     /// The number of slots, 1 to 65,279. No call changes it.
@@ -132,7 +128,7 @@ impl HeaderStore {
         requires { i < self.now.loaded }
         ensures { result.now ≡ row self.now i }
     {
-        row_of(&self.bytes, i)
+        row_of(self.bytes, i)
     }
 
     /// The bytes of the program header of an index below [`HeaderStore::segments`].
@@ -140,7 +136,7 @@ impl HeaderStore {
         requires { i < self.now.segments }
         ensures { result.now ≡ segment_bytes self.now i }
     {
-        row_of(&self.bytes, i)
+        row_of(self.bytes, i)
     }
 
     /// Loads the section headers of a file, `count` of them from the offset `from` on; at a fault
@@ -164,7 +160,7 @@ impl HeaderStore {
             OnOk result (AreRows file from 64 count self.new.rows) }
     {
         self.forget();
-        read_rows(src, &mut self.bytes, SLOT_BYTES, count, from)?;
+        read_rows(src, self.bytes, SLOT_BYTES, count, from)?;
         self.loaded = count;
         Ok(())
     }
@@ -190,7 +186,7 @@ impl HeaderStore {
             OnOk result (AreRows file from 56 count self.new.segment_rows) }
     {
         self.forget();
-        read_rows(src, &mut self.bytes, SEGMENT_BYTES, count, from)?;
+        read_rows(src, self.bytes, SEGMENT_BYTES, count, from)?;
         self.segments = count;
         Ok(())
     }

@@ -7,7 +7,7 @@ use elf_fixtures::{
 };
 use elf_layout::{Item, Layout};
 use elf_source::TurnSource;
-use elf_table::HeaderStore;
+use elf_table::HeaderRoom;
 use elf_words::{Request, Task};
 use std::process::Abort;
 use std::test::Fail;
@@ -77,7 +77,8 @@ fn a_file_that_changes_between_reads_is_asked_for_no_more(rt: HostRuntime) -> Re
     let (one, other) = (one_symbol_table(), overlapping_relocations());
     let layout = Layout::new();
     let asked = first_applied(&layout)?;
-    let mut store = HeaderStore::new(rt.alloc(), 3)?;
+    let mut room = HeaderRoom::new(rt.alloc(), 3)?;
+    let mut store = room.store();
     for (first, second) in [(one, other), (other, one)] {
         let source = TurnSource::new(first, second).ok_or("two lengths")?;
         let finished = carry_out(&rt, &asked, source, &mut store);

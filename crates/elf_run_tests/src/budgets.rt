@@ -10,7 +10,7 @@ use elf_fixtures::{
     rising_relocations, tables_over_headers, third_overflows, with_bytes,
 };
 use elf_layout::Layout;
-use elf_table::HeaderStore;
+use elf_table::HeaderRoom;
 use std::process::Abort;
 use std::test::Fail;
 
@@ -144,7 +144,8 @@ fn many_symbols() -> [u8; 9864] {
 fn a_budget_is_used_before_it_ends_a_listing(rt: HostRuntime) -> Result<(), Fail> {
     let file = many_symbols();
     let whole = listing(3, LISTED)?;
-    let mut store = HeaderStore::new(rt.alloc(), 3)?;
+    let mut room = HeaderRoom::new(rt.alloc(), 3)?;
+    let mut store = room.store();
     let finished = carry_out(
         &rt,
         &within(&whole, 8000),

@@ -10,7 +10,7 @@ use elf_fixtures::{
 use elf_listing::FIXED_BYTES;
 use elf_record::Parts;
 use elf_source::{MemorySource, StreamSource, TurnSource};
-use elf_table::HeaderStore;
+use elf_table::HeaderRoom;
 use std::process::Abort;
 use std::test::Fail;
 
@@ -93,7 +93,8 @@ fn files_that_change_between_reads_are_listed_within_the_ceiling(
 ) -> Result<(), Fail> {
     let (one, other) = (one_symbol_table(), overlapping_relocations());
     let asked = listing(3, LISTED)?;
-    let mut store = HeaderStore::new(rt.alloc(), 3)?;
+    let mut room = HeaderRoom::new(rt.alloc(), 3)?;
+    let mut store = room.store();
     let whole = carry_out(&rt, &asked, MemorySource::new(one), &mut store).text;
     for (first, second) in [(one, other), (other, one)] {
         let source = TurnSource::new(first, second).ok_or("two lengths")?;
@@ -110,7 +111,8 @@ fn files_that_change_between_reads_are_listed_within_the_ceiling(
 #[test]
 fn a_stream_lists_as_memory_does(rt: HostRuntime) -> Result<(), Fail> {
     let asked = listing(5, LISTED)?;
-    let mut store = HeaderStore::new(rt.alloc(), 5)?;
+    let mut room = HeaderRoom::new(rt.alloc(), 5)?;
+    let mut store = room.store();
     let memory = carry_out(&rt, &asked, MemorySource::new(one_call()), &mut store);
     let source = StreamSource::over(Pieces::new(one_call()))?;
     let stream = carry_out(&rt, &asked, source, &mut store);

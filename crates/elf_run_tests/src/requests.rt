@@ -7,7 +7,7 @@ use elf_run::{outcome, run};
 use elf_source::{
     Counted, FailSource, MemorySource, Out, OutFault, SliceSink, Source, SourceFault, WriteSink,
 };
-use elf_table::{Cap, HeaderStore, Limits, Stop};
+use elf_table::{Cap, HeaderRoom, HeaderStore, Limits, Stop};
 use elf_words::{Request, Task};
 use std::process::Abort;
 use std::test::Fail;
@@ -82,7 +82,8 @@ pub(crate) fn check_answer(
     status: u8,
     cost: u128,
 ) -> Result<(), Fail> {
-    let mut store = HeaderStore::new(rt.alloc(), request.limits.headers)?;
+    let mut room = HeaderRoom::new(rt.alloc(), request.limits.headers)?;
+    let mut store = room.store();
     let finished = carry_out(rt, request, MemorySource::new(file), &mut store);
     assert!(rt;
         outcome(&finished.answer) == (status, ""),
@@ -106,7 +107,8 @@ pub(crate) fn check_budgets(
     requires few { cost ≤ 100000 }
     requires steps { 0 < step }
 {
-    let mut store = HeaderStore::new(rt.alloc(), request.limits.headers)?;
+    let mut room = HeaderRoom::new(rt.alloc(), request.limits.headers)?;
+    let mut store = room.store();
     let whole = carry_out(rt, request, MemorySource::new(file), &mut store);
     let lists = matches!(request.task, Task::Show { .. });
     for budget in 0..=cost {
@@ -148,7 +150,8 @@ pub(crate) fn check_reads(
     offsets: &[u64],
     unwritten: usize,
 ) -> Result<(), Fail> {
-    let mut store = HeaderStore::new(rt.alloc(), request.limits.headers)?;
+    let mut room = HeaderRoom::new(rt.alloc(), request.limits.headers)?;
+    let mut store = room.store();
     let whole = carry_out(rt, request, MemorySource::new(file), &mut store);
     for (k, at) in offsets.iter().enumerate() {
         let source = FailSource::new(MemorySource::new(file), k as u64);
@@ -178,7 +181,8 @@ pub(crate) fn check_outputs(
     request: &Request<'_>,
     file: &[u8],
 ) -> Result<(), Fail> {
-    let mut store = HeaderStore::new(rt.alloc(), request.limits.headers)?;
+    let mut room = HeaderRoom::new(rt.alloc(), request.limits.headers)?;
+    let mut store = room.store();
     let whole = carry_out(rt, request, MemorySource::new(file), &mut store).text;
     let mut buffer = [0; 2048];
     assert!(rt; whole.len() <= 2048);

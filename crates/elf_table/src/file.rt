@@ -9,6 +9,6 @@ pub struct File<'a> {
     /// The file.
     pub loaded: Loaded,
     /// The section headers.
-    pub store: &'a HeaderStore,
+    pub store: &'a HeaderStore<'a>,
     pub ghost whole: { store.now.loaded ≡ loaded.header.e_shnum },
 }

@@ -21,7 +21,9 @@ mod window;
 pub use buffers::BUFFER_BYTES;
 pub use checks::holds_symbols;
 pub use cursor::Cursor;
-pub use elf_headers::{Cap, Caps, Fault, HeaderStore, Limits, Loaded, Stop, fill, header, load};
+pub use elf_headers::{
+    Cap, Caps, Fault, HeaderRoom, HeaderStore, Limits, Loaded, Stop, fill, header, load,
+};
 pub use file::File;
 pub use name_buf::NameBuf;
 pub use name_search::{find_nul, search_name};

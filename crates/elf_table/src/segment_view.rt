@@ -9,6 +9,6 @@ pub struct SegmentView<'a> {
     /// The file.
     pub loaded: Loaded,
     /// The program headers.
-    pub store: &'a HeaderStore,
+    pub store: &'a HeaderStore<'a>,
     pub ghost whole: { store.now.segments ≡ loaded.header.e_phnum },
 }

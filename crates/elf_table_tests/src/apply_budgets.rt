@@ -9,7 +9,7 @@ use elf_fixtures::{
 use elf_layout::{Item, Layout};
 use elf_record::Cause;
 use elf_source::{Counted, MemorySource, Out, SliceSink};
-use elf_table::{HeaderStore, Stop};
+use elf_table::{HeaderRoom, HeaderStore, Stop};
 use std::process::Abort;
 use std::test::Fail;
 
@@ -72,7 +72,8 @@ fn linked(rt: &impl Abort) -> Layout {
 
 #[test]
 fn budgets_up_to_the_cost(rt: HostRuntime) -> Result<(), Fail> {
-    let mut store = HeaderStore::new(rt.alloc(), 5)?;
+    let mut room = HeaderRoom::new(rt.alloc(), 5)?;
+    let mut store = room.store();
     let layout = Layout::new();
     let overlapping = overlapping_relocations();
     check_budgets(&rt, overlapping, &layout, &mut store, 456);
@@ -99,7 +100,8 @@ fn check_refused(
 
 #[test]
 fn a_refusal_names_the_read_or_the_section(rt: HostRuntime) -> Result<(), Fail> {
-    let mut store = HeaderStore::new(rt.alloc(), 3)?;
+    let mut room = HeaderRoom::new(rt.alloc(), 3)?;
+    let mut store = room.store();
     let layout = Layout::new();
     let file = rising_relocations();
     for row in [
@@ -121,7 +123,8 @@ fn a_refusal_names_the_read_or_the_section(rt: HostRuntime) -> Result<(), Fail> 
 
 #[test]
 fn windows_take_a_pass_each(rt: HostRuntime) -> Result<(), Fail> {
-    let mut store = HeaderStore::new(rt.alloc(), 3)?;
+    let mut room = HeaderRoom::new(rt.alloc(), 3)?;
+    let mut store = room.store();
     let layout = Layout::new();
     let file = falling_relocations();
     check_refused(&rt, &file, &layout, &mut store, (863, 0x40, 352));
@@ -132,7 +135,8 @@ fn windows_take_a_pass_each(rt: HostRuntime) -> Result<(), Fail> {
 
 #[test]
 fn each_entry_may_take_its_symbol_and_all_names(rt: HostRuntime) -> Result<(), Fail> {
-    let mut store = HeaderStore::new(rt.alloc(), 5)?;
+    let mut room = HeaderRoom::new(rt.alloc(), 5)?;
+    let mut store = room.store();
     let layout = linked(&rt);
     check_refused(&rt, one_call(), &layout, &mut store, (384, 0x48, 384));
     check_refused(&rt, one_call(), &layout, &mut store, (408, 0x78, 408));
@@ -146,7 +150,8 @@ fn each_entry_may_take_its_symbol_and_all_names(rt: HostRuntime) -> Result<(), F
 
 #[test]
 fn a_section_without_bytes_takes_no_pass_that_writes(rt: HostRuntime) -> Result<(), Fail> {
-    let mut store = HeaderStore::new(rt.alloc(), 5)?;
+    let mut room = HeaderRoom::new(rt.alloc(), 5)?;
+    let mut store = room.store();
     let layout = Layout::new();
     let none = with_bytes(&with_bytes(one_call(), 0x50, &[0]), 0xdc, &[8]);
     check_refused(&rt, &none, &layout, &mut store, (407, 0x48, 384));

@@ -5,7 +5,7 @@ use elf_fakes::Planned;
 use elf_fixtures::{falling_relocations, overlapping_relocations};
 use elf_layout::Layout;
 use elf_source::{Counted, MemorySource, Out, SliceSink, SourceFault};
-use elf_table::{HeaderStore, Stop};
+use elf_table::{HeaderRoom, Stop};
 use std::test::Fail;
 
 #[test]
@@ -13,7 +13,8 @@ fn each_read_may_fail(rt: HostRuntime) -> Result<(), Fail> {
     let file = falling_relocations();
     let mut ended = false;
     for failing in 1..20_u32 {
-        let mut store = HeaderStore::new(rt.alloc(), 3)?;
+        let mut room = HeaderRoom::new(rt.alloc(), 3)?;
+        let mut store = room.store();
         let mut src = Counted::new(Planned::new(&file, failing));
         let mut bytes = [9; 128];
         let mut out = Out::new(SliceSink::new(&mut bytes));
@@ -38,7 +39,8 @@ fn each_read_may_fail(rt: HostRuntime) -> Result<(), Fail> {
 
 #[test]
 fn each_length_of_an_output_may_be_too_short(rt: HostRuntime) -> Result<(), Fail> {
-    let mut store = HeaderStore::new(rt.alloc(), 3)?;
+    let mut room = HeaderRoom::new(rt.alloc(), 3)?;
+    let mut store = room.store();
     let wanted = [0x44, 0x33, 0xff, 0xff, 0, 0, 0, 0];
     for room in 0..8_usize {
         let mut bytes = [9; 8];

@@ -5,7 +5,7 @@ use elf_fixtures::{falling_relocations, rising_relocations};
 use elf_layout::Layout;
 use elf_record::{Cause, Refusal};
 use elf_source::{Counted, Out, SliceSink, Source, SourceFault};
-use elf_table::{HeaderStore, Stop};
+use elf_table::{HeaderRoom, Stop};
 use std::test::Fail;
 
 /// A file for some reads, and then another of the same length.
@@ -46,7 +46,8 @@ fn an_entry_that_falls_back_is_refused(rt: HostRuntime) -> Result<(), Fail> {
     let second = falling_relocations();
     let mut fell: u8 = 0;
     for turns in 2..12_u32 {
-        let mut store = HeaderStore::new(rt.alloc(), 3)?;
+        let mut room = HeaderRoom::new(rt.alloc(), 3)?;
+        let mut store = room.store();
         let mut src = Counted::new(Turning {
             first: rising_relocations(),
             second: &second,

@@ -5,7 +5,7 @@ use elf_fakes::{Planned, Printer, Script};
 use elf_fixtures::{rising_relocations, with_bytes};
 use elf_layout::Layout;
 use elf_source::{Counted, Out, WriteSink};
-use elf_table::HeaderStore;
+use elf_table::HeaderRoom;
 use std::process::Abort;
 use std::test::Fail;
 
@@ -27,7 +27,8 @@ fn long_section() -> [u8; 8192] {
 
 /// How often the source is read, and how often the writer is called, where a file is applied.
 fn calls(file: &[u8], rt: &(impl Abort + AllocGlobal)) -> Result<(u32, u32), Fail> {
-    let mut store = HeaderStore::new(rt.alloc(), 3)?;
+    let mut room = HeaderRoom::new(rt.alloc(), 3)?;
+    let mut store = room.store();
     let script = Script::new();
     let mut src = Counted::new(Planned::new(file, 0));
     let mut out = Out::new(WriteSink::new(Printer::new(9999, &script, rt.alloc())));

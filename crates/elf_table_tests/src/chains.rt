@@ -6,7 +6,7 @@ use elf_fixtures::bare_header;
 use elf_hash::find;
 use elf_record::{Ehdr, Shdr, Sym};
 use elf_source::Counted;
-use elf_table::HeaderStore;
+use elf_table::HeaderRoom;
 use std::process::Abort;
 use std::test::Fail;
 
@@ -84,7 +84,8 @@ fn one_chain(rt: &impl Abort) -> [u8; SIZE] {
 #[test]
 fn a_lookup_reads_word_by_word(rt: HostRuntime) -> Result<(), Fail> {
     let file = one_chain(&rt);
-    let mut store = HeaderStore::new(rt.alloc(), 4)?;
+    let mut room = HeaderRoom::new(rt.alloc(), 4)?;
+    let mut store = room.store();
     let mut src = Counted::new(Planned::new(&file, 0));
     let answer = find(&mut src, &mut store, &name(40));
     assert!(rt; answer.is_ok());

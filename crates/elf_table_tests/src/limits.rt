@@ -4,13 +4,14 @@ use crate::loads::{open, two_pages};
 use elf_names::{NameIndex, ReadAhead};
 use elf_record::Cause;
 use elf_source::{Counted, MemorySource};
-use elf_table::{Cap, Fault, HeaderStore, NameBuf, NameEnd, Names};
+use elf_table::{Cap, Fault, HeaderRoom, NameBuf, NameEnd, Names};
 use std::test::Fail;
 
 #[test]
 fn a_load_past_its_limit_names_its_page_and_is_tried_again(rt: HostRuntime) -> Result<(), Fail> {
     let file = two_pages();
-    let mut store = HeaderStore::new(rt.alloc(), 65)?;
+    let mut room = HeaderRoom::new(rt.alloc(), 65)?;
+    let mut store = room.store();
     for (limit, at, left) in [
         (63, 0, 63),
         (64, 64, 0),

@@ -2,7 +2,7 @@
 use elf_fakes::Planned;
 use elf_fixtures::tables_over_headers;
 use elf_source::{Counted, Source, SourceFault};
-use elf_table::{Fault, HeaderStore, Loaded, header, load};
+use elf_table::{Fault, HeaderRoom, HeaderStore, Loaded, header, load};
 use std::test::Fail;
 
 /// Reads the header and loads the section headers.
@@ -24,7 +24,8 @@ fn three_pages(count: u8) -> [u8; 64 + 64 * 130] {
 
 #[test]
 fn a_fault_in_any_page_names_its_offset(rt: HostRuntime) -> Result<(), Fail> {
-    let mut store = HeaderStore::new(rt.alloc(), 130)?;
+    let mut room = HeaderRoom::new(rt.alloc(), 130)?;
+    let mut store = room.store();
     for (count, failing, at) in [
         (65, 1, 0),
         (65, 2, 64),
@@ -46,7 +47,8 @@ fn a_fault_in_any_page_names_its_offset(rt: HostRuntime) -> Result<(), Fail> {
 #[test]
 fn a_store_of_any_size_can_be_made(rt: HostRuntime) -> Result<(), Fail> {
     for headers in [1, 4, 256, 4_096, 65_279] {
-        let store = HeaderStore::new(rt.alloc(), headers)?;
+        let mut room = HeaderRoom::new(rt.alloc(), headers)?;
+        let store = room.store();
         assert!(rt; store.slots() == headers);
     }
     Ok(())

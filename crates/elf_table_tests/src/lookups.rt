@@ -2,7 +2,7 @@
 use elf_fixtures::{hash_with_cycle, hash_with_end, with_bytes};
 use elf_hash::{Lookup, find};
 use elf_source::{Counted, FailSource, MemorySource, Source, SourceFault, TurnSource};
-use elf_table::{Fault, HeaderStore};
+use elf_table::{Fault, HeaderRoom, HeaderStore};
 use std::process::Abort;
 use std::test::Fail;
 
@@ -41,7 +41,8 @@ fn cost(compared: u32, length: u32) -> u128 {
 
 #[test]
 fn a_file_that_changes_between_reads_is_asked_for_no_more(rt: HostRuntime) -> Result<(), Fail> {
-    let mut store = HeaderStore::new(rt.alloc(), 4)?;
+    let mut room = HeaderRoom::new(rt.alloc(), 4)?;
+    let mut store = room.store();
     let one = hash_with_cycle();
     for (place, bytes) in [(0x44, [0xff; 4]), (0x40, [0xff; 4]), (0x48, [2, 0, 0, 0])] {
         let other = with_bytes(one, place, &bytes);
@@ -58,7 +59,8 @@ fn a_file_that_changes_between_reads_is_asked_for_no_more(rt: HostRuntime) -> Re
 
 #[test]
 fn each_read_that_fails_is_told_by_its_offset(rt: HostRuntime) -> Result<(), Fail> {
-    let mut store = HeaderStore::new(rt.alloc(), 4)?;
+    let mut room = HeaderRoom::new(rt.alloc(), 4)?;
+    let mut store = room.store();
     let file = hash_with_end();
     // The file header, the section headers, the counts, the bucket's word; symbol 1, its name and
     // its chain's word; symbol 2 and its name.

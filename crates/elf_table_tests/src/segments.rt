@@ -3,7 +3,7 @@
 use elf_fakes::Planned;
 use elf_fixtures::library_without_sections;
 use elf_source::{Counted, Source, SourceFault};
-use elf_table::{Fault, HeaderStore, header, load};
+use elf_table::{Fault, HeaderRoom, HeaderStore, header, load};
 use std::process::Abort;
 use std::test::Fail;
 
@@ -36,7 +36,8 @@ fn two_pages() -> [u8; 64 + 56 * 75] {
 #[test]
 fn program_headers_behind_the_first_page_are_loaded(rt: HostRuntime) -> Result<(), Fail> {
     let file = two_pages();
-    let mut store = HeaderStore::new(rt.alloc(), 75)?;
+    let mut room = HeaderRoom::new(rt.alloc(), 75)?;
+    let mut store = room.store();
     let mut src = Counted::new(Planned::new(&file, 0));
     let answer = load_view(&mut src, &mut store, &rt);
     assert!(rt; answer == (Ok(()), 75));
@@ -50,7 +51,8 @@ fn program_headers_behind_the_first_page_are_loaded(rt: HostRuntime) -> Result<(
 #[test]
 fn a_failing_source_leaves_none(rt: HostRuntime) -> Result<(), Fail> {
     let file = two_pages();
-    let mut store = HeaderStore::new(rt.alloc(), 75)?;
+    let mut room = HeaderRoom::new(rt.alloc(), 75)?;
+    let mut store = room.store();
     for (failing, at) in [(2, 64), (3, 64 + 4096)] {
         let fault = SourceFault::Device;
         let mut src = Counted::new(Planned::new(&file, failing));

@@ -13,7 +13,7 @@ use elf_run::{
     CANNOT_OPEN, Ending, NOT_UTF8, OUT_OF_MEMORY, READ_FAULT, WRITE_FAULT, outcome, refused, run,
 };
 use elf_source::{Counted, MemorySource, OffsetReader, Out, Source, StreamSource, WriteSink};
-use elf_table::{HeaderStore, Stop};
+use elf_table::{HeaderRoom, HeaderStore, Stop};
 use elf_words::{Request, RequestFault, request};
 use sample::sample;
 use std::alloc::{AllocError, Global};
@@ -54,9 +54,10 @@ where
     let words = read_words(rt)?;
     let mut layout = Layout::new();
     let request = read_request(rt.alloc(), words.as_slice(), &mut layout, errors)?;
-    let Ok(store) = HeaderStore::new(rt.alloc(), request.headers()) else {
+    let Ok(mut room) = HeaderRoom::new(rt.alloc(), request.headers()) else {
         return Err(OUT_OF_MEMORY);
     };
+    let store = room.store();
     let Ok(output) = BufWriter::with_capacity(rt.alloc(), OUTPUT_BYTES, io::writer(rt)) else {
         return Err(OUT_OF_MEMORY);
     };
@@ -152,7 +153,7 @@ where
 fn write_answer<S: Source + Drop, W: Write + Drop>(
     request: &Request<'_>,
     source: S,
-    mut store: HeaderStore,
+    mut store: HeaderStore<'_>,
     output: BufWriter<W>,
 ) -> Ending
     requires { store.slots ≡ request.now.limits.headers }

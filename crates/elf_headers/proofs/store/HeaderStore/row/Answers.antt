@@ -1,5 +1,4 @@
-use Rattle.std.proofs.Common.{◌*◌, ℕ, List, ap, sym, ◌∙◌, arith}
-use Rattle.elf_model.specs.Bytes.{slice}
+use Rattle.std.proofs.Common.{ap, sym, ◌∙◌, arith}
 use Rattle.elf_headers.specs.Store.{Stored}
 use Rattle.elf_headers.proofs.RowsHeld.{row_front}
 use Rattle.elf_headers.proofs.store.HeaderStore.row.Goals as goal
@@ -11,5 +10,4 @@ returns c =
     let below = c.requires in
     rw (← c.self.view_is)
     (c.row_of.ensures
-    ∙ ap (λ (x : List ℕ). slice x (64 * c.args.i) 64) c.deref.ensures.value
-    ∙ sym (row_front i.bytes.items 64 i.loaded c.args.i (omega arith)))
+    ∙ sym (row_front i.bytes.now 64 i.loaded c.args.i (omega arith)))
