@@ -48,9 +48,7 @@ impl Model for ReadAhead {
 impl ReadAhead {
     /// Nothing read, and no credit.
     pub fn new() -> ReadAhead
-        ensures names { result.names.bytes ≡ [] }
-        ensures symbols { result.symbols.bytes ≡ [] }
-        ensures credit { result.credit ≡ 0 }
+        ensures { (result.names.bytes ≡ []) × (result.symbols.bytes ≡ []) × (result.credit ≡ 0) }
     {
         ReadAhead {
             names: Stretch::new(PIECE),
@@ -118,8 +116,7 @@ impl ReadAhead {
         table: &Table,
         index: u64,
     ) -> Result<Sym, Fault>
-        requires rows { table.now.entry ≡ 24 }
-        requires below { index < table.now.count }
+        requires row { (table.now.entry ≡ 24) × (index < table.now.count) }
         requires within { RowsWithin src.old.seen.size table.now }
         ensures ahead { ReadsAhead src.old src.new self.old self.new result 24
             ((table.now.count - index) * 24) }

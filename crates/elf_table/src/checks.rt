@@ -20,8 +20,7 @@ pub(crate) fn checked_table(
     place: u64,
     entry: u64,
 ) -> Result<Table, Fault>
-    requires some { 0 < entry }
-    requires small { entry ≤ 4096 }
+    requires { (0 < entry) × (entry ≤ 4096) }
     ensures value { (bytes : List ℕ) (at : ℕ) → IsShdr bytes at header.now →
         result ≡ table_of bytes at size place entry }
     ensures within { IfOk result (RowsWithin size) }
@@ -43,8 +42,7 @@ pub(crate) fn checked_rows(
     size: u64,
     place: u64,
 ) -> Result<Table, Fault>
-    requires some { 0 < entry }
-    requires small { entry ≤ 4096 }
+    requires { (0 < entry) × (entry ≤ 4096) }
     ensures value { result ≡ rows_of size offset bytes place entry }
     ensures within { IfOk result (RowsWithin size) }
     ensures entry { IfOk result (λ table. table.entry ≡ entry) }

@@ -196,8 +196,7 @@ fn match_pieces<S: Source, const N: usize>(
     want: u64,
     wanted: &[u8],
 ) -> Result<bool, Fault>
-    requires some { 0 < N }
-    requires small { N ≤ 4096 }
+    requires page { (0 < N) × (N ≤ 4096) }
     requires most { want ≤ length wanted.now + 1 }
     requires ends { start + want < 2 ^ 64 }
     requires within { start + want ≤ src.old.seen.size }

@@ -77,8 +77,7 @@ impl File<'_> {
     /// ends past the end of the file.
     pub fn table(&self, section: u16, entry: u64) -> Result<Table, Fault>
         requires below { section < self.now.store.now.loaded }
-        requires some { 0 < entry }
-        requires small { entry ≤ 4096 }
+        requires entry { (0 < entry) × (entry ≤ 4096) }
         ensures value { result ≡ table_in self.now section entry }
         ensures held { Tells self.now section result (λ file at. table_at file at entry) }
         ensures within { IfOk result (RowsWithin self.now.loaded.size) }

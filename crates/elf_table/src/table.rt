@@ -95,8 +95,7 @@ impl Table {
     /// # Errors
     /// A fault of the read, or a refusal for want of budget, at the symbol's offset.
     pub fn symbol<S: Source>(&self, src: &mut Counted<S>, index: u64) -> Result<Sym, Fault>
-        requires rows { self.now.entry ≡ 24 }
-        requires below { index < self.now.count }
+        requires row { (self.now.entry ≡ 24) × (index < self.now.count) }
         requires within { RowsWithin src.old.seen.size self.now }
         ensures reads { Reads src.old src.new 24 }
         ensures says { IfErr result (Says src.old src.new 24) }

@@ -136,8 +136,7 @@ impl<const N: usize> Window<N> {
 
     // Reads as many bytes as fit behind those that are held.
     fn read_page<S: Source>(&mut self, src: &mut Counted<S>) -> Result<(), Fault>
-        requires room { length self.old.held < self.old.page }
-        requires some { 0 < self.old.unread }
+        requires room { (length self.old.held < self.old.page) × (0 < self.old.unread) }
         requires within { RangeWithin src.old.seen.size self.old }
         ensures reads { Reads src.old src.new self.old.unread }
         ensures says { IfErr result (Says src.old src.new self.old.unread) }
