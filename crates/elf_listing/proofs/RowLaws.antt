@@ -53,15 +53,6 @@ pub Stopped-unread-first : (a : Written) (fault : Fault) (all : List Item) → I
 Stopped-unread-first a (Refused refusal) all read = Ends-first a refusal all (λ other. absurd (other read))
 Stopped-unread-first a (Source fault at) all read = Front-none a all
 
--- what is shown of a name that was read
-pub read_shown : (at : ℕ) (end : NameEnd) (name : List ℕ) (answer : Result Shown Cause) → NameRead at (Ok end) name answer → answer ≡ Ok (shown_as (cut_of end) name)
-read_shown at NameWhole name answer read = read
-read_shown at NameCut name answer read = read
-
-pub named_is : (front : List ℕ) (at : ℕ) (end : NameEnd) (name : List ℕ) (answer : Result Shown Cause) → NameRead at (Ok end) name answer
-    → named_row front at answer ≡ Line (named_line front (shown_as (cut_of end) name)) ∷ []
-named_is front at end name answer read = ap (named_row front at) (read_shown at end name answer read)
-
 -- a name that could not be read
 pub Stopped-name : (a : Written) (front : List ℕ) (at : ℕ) (fault : Fault) (name : List ℕ) (answer : Result Shown Cause) → NameRead at (Err fault) name answer
     → Stopped a a (stop_of fault) (named_row front at answer)

@@ -53,10 +53,6 @@ pub cost_where-within : (condition : Bool) (amount bound : ℕ) → (condition �
 cost_where-within true amount bound h = h refl
 cost_where-within false amount bound h = omega arith
 
-pub cost_where-mono : (condition : Bool) (amount bound : ℕ) → amount ≤ bound → cost_where condition amount ≤ cost_where condition bound
-cost_where-mono true amount bound h = h
-cost_where-mono false amount bound h = omega arith
-
 -- a table's size in entries, each at a cost
 entries_within : (entry further cap size table : ℕ) → 16 ≤ entry → further ≤ 32 + cap → table ≤ size
     → table / entry * (entry + further) ≤ size + size / 16 * (32 + cap)

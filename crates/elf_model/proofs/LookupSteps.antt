@@ -1,30 +1,14 @@
 -- A lookup step by step: the answer after each stage, and the words as they are read.
 use Rattle.std.proofs.Common.{◌≡◌, ℕ, zero, suc, ◌+◌, ◌*◌, ◌<◌, ◌≤◌, inl, inr, Bool, true, false, List, ◌++◌, length, Option, None, Some, refl, ap, arith}
 use Rattle.std.proofs.lemmas.Bool.{cases_eq}
-use Rattle.elf_model.specs.Bytes.{field}
 use Rattle.elf_model.specs.Checks.{first_refusal, header_checks, early_checks, load_checks}
 use Rattle.elf_model.specs.Find.{first_that, first_hash, hash_checks, shape_checks, looked_in, looked, find_cost}
-use Rattle.elf_model.specs.Hash.{chain_at, next_in_chain, walk_word, lookup_word, word_at, LookupEnd, refused_after, looked_up}
+use Rattle.elf_model.specs.Hash.{LookupEnd, refused_after, looked_up}
 use Rattle.elf_model.specs.HashLaws.{GoesOn}
 use Rattle.elf_model.specs.Names.{pad64}
 use Rattle.elf_model.specs.Records.{e_shnum, section_at}
 use Rattle.elf_model.specs.declared.causes.Cause.TheVariants.{NoHash}
 use Rattle.elf_model.specs.declared.causes.Refusal.{Refusal}
-
--- each word stands at its place
-pub word_is_read : (file : List ℕ) (at : ℕ) (wanted : List ℕ) (i : ℕ) → field file (word_at file at wanted i) 4 ≡ lookup_word file at wanted i
-unfolding word_at walk_word
-word_is_read file at wanted zero = refl
-word_is_read file at wanted (suc i) = refl
-
--- the next word is the chain's
-pub next_word : (file : List ℕ) (at : ℕ) (wanted : List ℕ) (i : ℕ) → lookup_word file at wanted (suc i) ≡ next_in_chain file at (lookup_word file at wanted i)
-unfolding walk_word
-next_word file at wanted i = refl
-
-pub next_word_at : (file : List ℕ) (at : ℕ) (wanted : List ℕ) (i : ℕ) → word_at file at wanted (suc i) ≡ chain_at file at (lookup_word file at wanted i)
-unfolding word_at
-next_word_at file at wanted i = refl
 
 -- one word more goes on
 pub goes_on_more : (ends : ℕ → Option LookupEnd) (words : ℕ → ℕ) (n : ℕ) → GoesOn ends words n → ends (words n) ≡ None → GoesOn ends words (suc n)

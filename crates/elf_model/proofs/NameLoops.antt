@@ -1,16 +1,14 @@
 -- What a loop over pieces of a name needs.
-use Rattle.std.proofs.Common.{min, ◌≡◌, ◌≢◌, ℕ, ◌+◌, ◌<◌, ◌≤◌, ◌==◌, true, false, List, ◌++◌, length, get_or, take, drop, Some, None, Ok, Err, refl, ap, sym, ◌∙◌, arith, length-append, length-take, take-append-drop, take-take}
-use Rattle.std.proofs.lemmas.List.{drop_more, drop_all, take_min}
+use Rattle.std.proofs.Common.{◌≡◌, ◌≢◌, ℕ, ◌+◌, ◌<◌, ◌≤◌, ◌==◌, true, false, List, ◌++◌, length, get_or, take, drop, Some, None, Ok, Err, refl, ap, sym, ◌∙◌, arith, length-append, length-take, take-append-drop, take-take}
 use Rattle.std.proofs.lemmas.List.Sums.{position_or_len_is}
 use Rattle.std.proofs.lemmas.Bool.Decides.{nat_tests}
 use Rattle.elf_model.specs.Bytes.{slice}
-use Rattle.elf_model.specs.Names.{nul_in, shown, shown_of, begins}
+use Rattle.elf_model.specs.Names.{nul_in, shown, shown_of}
 use Rattle.elf_model.specs.Names.Shown.{Whole, Cut}
 use Rattle.elf_model.specs.declared.causes.Cause.TheVariants.{NameUnended}
-use Rattle.elf_model.proofs.Nuls.{free, none-free, free-none, some-free, free-some, free-append, free-take, free-within, free-front}
+use Rattle.elf_model.proofs.Nuls.{free, none-free, free-none, some-free, free-some, free-append, free-within, free-front}
 use Rattle.elf_model.proofs.NameLemmas.{shown-inside}
 use Rattle.elf_model.proofs.NameLaws.{shown_cut, shown_unended}
-use Rattle.elf_model.proofs.SameLaws.{begins-nil, begins-ended, begins-alike, begins-other}
 
 -- The first NUL by places: what a search for it answers.
 test-false : (b : ℕ) → b ≢ 0 → (b == 0) ≡ false
@@ -43,21 +41,11 @@ nul_in-append-some front piece place p q =
     let f = some-free piece place q in
     free-some (front ++ piece) (omega (arith, length-append front piece)) ∙ ap (λ (n : ℕ). Some n) (omega arith)
 
--- The first NUL of a front of some bytes.
-pub nul_in-take-none : (bytes : List ℕ) (n : ℕ) → nul_in bytes ≡ None → nul_in (take n bytes) ≡ None
-nul_in-take-none bytes n h =
-    let m : ℕ = min n (length bytes) in
-    let f = none-free bytes h in
-    ap nul_in (sym (take_min n bytes)) ∙ free-none (take m bytes) (free-take bytes m (omega arith))
-
 pub nul_in-take-some : (bytes : List ℕ) (n place : ℕ) → nul_in bytes ≡ Some place → place < n → nul_in (take n bytes) ≡ Some place
 nul_in-take-some bytes n place h l =
     let f = some-free bytes place h in
     let e = free-within bytes n (omega arith) (omega arith) in
     free-some (take n bytes) (omega (arith, length-take n bytes)) ∙ ap (λ (k : ℕ). Some k) (omega arith)
-
-pub nul_in-take-before : (bytes : List ℕ) (n place : ℕ) → nul_in bytes ≡ Some place → n ≤ place → nul_in (take n bytes) ≡ None
-nul_in-take-before bytes n place h l = let f = some-free bytes place h in free-none (take n bytes) (free-take bytes n (omega arith))
 
 pub nul_in-append-front : (front rest : List ℕ) (place : ℕ) → nul_in front ≡ Some place → nul_in (front ++ rest) ≡ Some place
 nul_in-append-front front rest place h =
@@ -88,22 +76,3 @@ shown-over table index cap l h = (shown_cut table index cap (slice table index c
 pub shown-open : (table : List ℕ) (index cap : ℕ) → index < length table → length table ≤ index + cap → nul_in (drop index table) ≡ None
     → shown table index cap ≡ Err NameUnended
 shown-open table index cap i l h = (shown_unended table index cap).1 (i, l, h)
-
--- One byte more of a comparison.
-pub begins-more : (bytes wanted : List ℕ) (done : ℕ) → done < length bytes → done < length wanted → get_or bytes done 0 ≡ get_or wanted done 0
-    → begins (drop done bytes) (drop done wanted) ≡ begins (drop (done + 1) bytes) (drop (done + 1) wanted)
-begins-more bytes wanted done p q e =
-    rw (drop_more bytes done 0 p, drop_more wanted done 0 q)
-    (begins-alike (get_or bytes done 0) (get_or wanted done 0) (drop (done + 1) bytes) (drop (done + 1) wanted) e)
-
-pub begins-differs : (bytes wanted : List ℕ) (done : ℕ) → done < length bytes → done < length wanted → get_or bytes done 0 ≢ get_or wanted done 0
-    → begins (drop done bytes) (drop done wanted) ≡ Ok false
-begins-differs bytes wanted done p q e =
-    rw (drop_more bytes done 0 p, drop_more wanted done 0 q)
-    (begins-other (get_or bytes done 0) (get_or wanted done 0) (drop (done + 1) bytes) (drop (done + 1) wanted) e)
-
-pub begins-all : (bytes wanted : List ℕ) (done : ℕ) → length wanted ≤ done → begins (drop done bytes) (drop done wanted) ≡ Ok true
-begins-all bytes wanted done h = rw (drop_all done wanted h) (begins-nil (drop done bytes))
-
-pub begins-out : (bytes wanted : List ℕ) (done : ℕ) → length bytes ≤ done → done < length wanted → begins (drop done bytes) (drop done wanted) ≡ Err NameUnended
-begins-out bytes wanted done p q = rw (drop_all done bytes p, drop_more wanted done 0 q) (begins-ended (get_or wanted done 0) (drop (done + 1) wanted))

@@ -2,17 +2,14 @@
 use Rattle.std.proofs.Common.{take, length-take, le_of_eq, take-take, min, ◌≡◌, ℕ, ◌+◌, ◌<◌, ◌≤◌, List, [], ◌∷◌, length, drop, ◌⊎◌, inl, inr, Option, Some, None, ap, sym, ◌∙◌, arith}
 use Rattle.std.proofs.lemmas.List.{drop_all, take_all}
 use Rattle.std.proofs.lemmas.Bool.{cases_lt}
-use Rattle.elf_model.specs.Bytes.{slice}
-use Rattle.elf_model.specs.Records.{n_namesz, n_descsz, n_type}
 use Rattle.elf_model.specs.Names.{nul_in}
 use Rattle.elf_model.specs.Names.Shown.{Whole, Cut}
-use Rattle.elf_model.specs.Notes.{before_nul, note_shown, Note, Ends, Broken, OneNote, Walk, NoteRow, to_next, padded_size, first_note, first_end, next_note, walked, note_rows}
+use Rattle.elf_model.specs.Notes.{before_nul, note_shown, Note, OneNote, Walk, NoteRow, to_next, padded_size, first_note, first_end, next_note, note_rows}
 use Rattle.elf_model.proofs.Nuls.{free, none-free, some-free, free-some}
 use Rattle.elf_model.proofs.NameLoops.{nul_in-whole, nul_in-take-some}
-use Rattle.elf_model.proofs.Slices.{field-slice}
 use Rattle.elf_model.proofs.Spellings.{NextView, ends, tails, past, found, next_view}
-use Rattle.elf_model.proofs.Walks.{walk, walk-ends, walk-broken, walk-found}
-use Rattle.elf_model.proofs.NoteLaws.{walked-is, nothing-ends}
+use Rattle.elf_model.proofs.Walks.{walk, walk-found}
+use Rattle.elf_model.proofs.NoteLaws.{nothing-ends}
 use Rattle.elf_model.proofs.NoteRowLaws.{note-whole, note-cut, row_of, rows-nil, rows-cons, first-padded}
 
 -- the rows and the cut that are left from a place on
@@ -21,22 +18,6 @@ rows_left a place rest = note_rows a place (walk a place rest).notes
 
 abbrev pub cut_left : ℕ → ℕ → List ℕ → Option ℕ
 cut_left a place rest = (walk a place rest).cut
-
-pub rows-start : (a : ℕ) (table : List ℕ) → rows_left a 0 table ≡ note_rows a 0 (walked a table).notes
-rows-start a table = ap (λ (w : Walk). note_rows a 0 w.notes) (sym (walked-is a table))
-
-pub cut-start : (a : ℕ) (table : List ℕ) → cut_left a 0 table ≡ (walked a table).cut
-cut-start a table = ap (λ (w : Walk). w.cut) (sym (walked-is a table))
-
-pub rows-ends : (a place : ℕ) (rest : List ℕ) → next_note a rest ≡ Ends → (rows_left a place rest ≡ []) × (cut_left a place rest ≡ None)
-rows-ends a place rest e =
-    let w = walk-ends a place rest e in
-    (ap (λ (x : Walk). note_rows a place x.notes) w ∙ rows-nil a place, ap (λ (x : Walk). x.cut) w)
-
-pub rows-broken : (a place : ℕ) (rest : List ℕ) → next_note a rest ≡ Broken → (rows_left a place rest ≡ []) × (cut_left a place rest ≡ Some place)
-rows-broken a place rest e =
-    let w = walk-broken a place rest e in
-    (ap (λ (x : Walk). note_rows a place x.notes) w ∙ rows-nil a place, ap (λ (x : Walk). x.cut) w)
 
 -- what is found is the first note
 pub found-first : (a : ℕ) (rest : List ℕ) (note : Note) (size : ℕ) → next_note a rest ≡ OneNote note size
@@ -78,16 +59,6 @@ rows-found a place rest note size e =
           ∙ ap (λ x. row_of a place note ∷ x) (rows-behind a place rest note size e),
       ap (λ (x : Walk). x.cut) w,
     )
-
--- the head of a note in a slice of the file is its first 12 bytes
-pub head-fields : (file : List ℕ) (from size : ℕ) → 12 ≤ size
-    → (n_namesz (slice file from size) 0 ≡ n_namesz (slice file from 12) 0) × (n_descsz (slice file from size) 0 ≡ n_descsz (slice file from 12) 0)
-    × (n_type (slice file from size) 0 ≡ n_type (slice file from 12) 0)
-head-fields file from size h = (
-  field-slice file from size 0 4 (omega arith) ∙ sym (field-slice file from 12 0 4 (omega arith)),
-  field-slice file from size 4 4 (omega arith) ∙ sym (field-slice file from 12 4 4 (omega arith)),
-  field-slice file from size 8 4 (omega arith) ∙ sym (field-slice file from 12 8 4 (omega arith)),
-)
 
 -- A note's name as it is shown, from a front of it.
 pub before_nul-some : (name : List ℕ) (place : ℕ) → nul_in name ≡ Some place → before_nul name ≡ take place name

@@ -31,11 +31,6 @@ unfolding field
 field-front x y at width h =
     ap number (ap (take width) (drop-append-le at x y (omega arith)) ∙ take-append-le width (drop at x) y (omega (arith, length-drop at x)))
 
--- a field of what is left from a place on
-pub field-drop : (bytes : List ℕ) (from at width : ℕ) → field (drop from bytes) at width ≡ field bytes (from + at) width
-unfolding field
-field-drop bytes from at width = ap (λ x. number (take width x)) (drop-drop at from bytes)
-
 -- a field of a slice
 pub field-slice : (bytes : List ℕ) (from size at width : ℕ) → at + width ≤ size → field (slice bytes from size) at width ≡ field bytes (from + at) width
 unfolding field

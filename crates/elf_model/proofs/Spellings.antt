@@ -67,10 +67,6 @@ spelt-size a note text s =
 abbrev note_of : ℕ → List ℕ → List ℕ → Note
 note_of kind name descriptor = record { kind = kind; name = name; descriptor = descriptor }
 
-same_note : (note : Note) (kind : ℕ) (name descriptor : List ℕ) → kind ≡ note.kind → name ≡ note.name → descriptor ≡ note.descriptor
-    → note_of kind name descriptor ≡ note
-same_note note kind name descriptor p q r = rw (p, q, r) refl
-
 -- the sizes and the type in a spelling's head
 pub spelt-fields : (a : ℕ) (note : Note) (text rest : List ℕ) → Spelt a note text
     → (n_namesz (text ++ rest) 0 ≡ length note.name) × (n_descsz (text ++ rest) 0 ≡ length note.descriptor) × (n_type (text ++ rest) 0 ≡ note.kind)

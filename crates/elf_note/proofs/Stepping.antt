@@ -1,16 +1,15 @@
 -- What a step over a window says of the notes that are left.
-use Rattle.std.proofs.Common.{◌≡◌, ℕ, ◌+◌, ◌-◌, ◌<◌, ◌≤◌, min, true, false, List, length, take, drop, Some, Ok, Err, ◌⊎◌, inl, inr, ap, sym, ◌∙◌, refl, arith, length-take, take-take}
+use Rattle.std.proofs.Common.{◌≡◌, ℕ, ◌+◌, ◌-◌, ◌<◌, ◌≤◌, min, true, false, List, length, take, drop, Some, Ok, ◌⊎◌, inl, inr, ap, sym, ◌∙◌, refl, arith, length-take, take-take}
 use Rattle.std.proofs.lemmas.Bool.{cases_lt}
 use Rattle.std.proofs.lemmas.List.{take_all}
 use Rattle.elf_model.specs.Bytes.{slice, field}
 use Rattle.elf_model.specs.Records.{n_namesz, n_descsz, n_type}
-use Rattle.elf_model.specs.Notes.{Note, Walk, are_zeros, first_note, first_end, to_next, descriptor_start, OneNote, note_shown, with_note}
+use Rattle.elf_model.specs.Notes.{Note, are_zeros, first_note, first_end, to_next, descriptor_start, OneNote, note_shown, with_note}
 use Rattle.elf_model.proofs.Slices.{slice-size, slice-slice, slice-rest, field-slice}
 use Rattle.elf_model.proofs.Spellings.{next-ends, next-tails, next-past, next-found}
 use Rattle.elf_model.proofs.Walks.{walk, walk-ends, walk-broken, walk-found}
 use Rattle.elf_record.specs.NoteHead.{IsNoteHead}
 use Rattle.elf_record.specs.declared.note_head.NoteHead.{NoteHead}
-use Rattle.elf_headers.specs.declared.fault.Fault.{Fault}
 use Rattle.elf_table.specs.declared.names.NameEnd.{NameEnd}
 use Rattle.elf_table.specs.Windows.{Ahead, bytes_left, range_end}
 use Rattle.elf_note.specs.NoteCursors.{rest, notes_left, no_notes, cut_at, NameIs, TellsNote, note_size}
@@ -113,10 +112,6 @@ found-tells file a cap old new head name_end name desc place desc_at shown here 
         first_bytes = db ∙ ap (λ (x : ℕ). slice file x shown) da ∙ sym (first-bytes file (old.at + start) head.descsz shown sh) ∙ ap (take 32) (sym d1);
       },
     )
-
--- a refusal at the place tells of the cut
-pub tells-cut : (a cap at : ℕ) (name desc : List ℕ) (old new : Walk) (fault : Fault) → old ≡ cut_at at → TellsNote a cap at name desc old new (Err fault)
-tells-cut a cap at name desc old new fault e = λ f. e
 
 -- the places of a note's parts, one behind the other
 pub moved-by : (a at namesz descsz left behind place start moved : ℕ) → place ≡ at + descriptor_start a namesz descsz → start ≡ descriptor_start a namesz descsz

@@ -1,7 +1,7 @@
 -- How calls that write follow one another.
 use Rattle.std.proofs.Common.{ℕ, List, [], ◌++◌, Result, Ok, Err}
 use Rattle.elf_source.specs.Growth.{Grows}
-use Rattle.elf_source.specs.Output.{Written, Takes, TakesFront, Puts}
+use Rattle.elf_source.specs.Output.{Written, TakesFront, Puts}
 use Rattle.elf_source.specs.declared.faults.OutFault.{OutFault}
 use Rattle.elf_source.proofs.PutsLaws.{Takes-nothing, Takes-then}
 
@@ -12,10 +12,6 @@ grows_not a = record { bytes = []; takes = Takes-nothing a }
 -- one call behind another
 pub grows_then : {a b c : Written} → Grows a b → Grows b c → Grows a c
 grows_then p q = record { bytes = p.bytes ++ q.bytes; takes = Takes-then p.bytes q.bytes p.takes q.takes }
-
--- all bytes were taken
-pub grows_all : {a b : Written} {bytes : List ℕ} → Takes a b bytes → Grows a b
-grows_all {bytes = bytes} p = record { bytes = bytes; takes = p }
 
 -- a front was taken
 pub grows_front : {a b : Written} {bytes : List ℕ} → TakesFront a b bytes → Grows a b

@@ -1,7 +1,7 @@
 -- Known bytes over several turns of a loop that writes.
-use Rattle.std.proofs.Common.{◌≡◌, ℕ, ◌+◌, ◌^◌, ◌-◌, ◌≤◌, List, [], Option, refl, sym, ap, ◌∙◌, min, length, take, drop, subst, arith}
+use Rattle.std.proofs.Common.{◌≡◌, ℕ, ◌+◌, ◌^◌, ◌-◌, ◌≤◌, List, Option, sym, ap, ◌∙◌, min, length, take, drop, subst}
 use Rattle.std.specs.Io.KnownBytes.{Appends}
-use Rattle.std.proofs.KnownBytes.{Appends-nil, Appends-trans}
+use Rattle.std.proofs.KnownBytes.{Appends-trans}
 use Rattle.std.proofs.Math.Seq.{take-add}
 use Rattle.std.proofs.lemmas.List.{take-append-drop, length-take-le, take_rest}
 use Rattle.elf_source.specs.Output.{Written, TakesFront}
@@ -11,12 +11,6 @@ pub Appends-turn : (a b c : Option (List ℕ)) (bytes : List ℕ) (d n : ℕ) �
 Appends-turn a b c bytes d n p q =
     let left = subst (λ (l : List ℕ). Appends b c (take n l)) (take_rest bytes d) q in
     subst (Appends a c) (sym (take-add d n bytes)) (Appends-trans a b c _ _ p left)
-
--- a sink that was given nothing
-pub TakesFront-none : (old new : Written) (bytes : List ℕ) → new ≡ old → TakesFront old new bytes
-TakesFront-none old new bytes same =
-    let P : Written → Type 0 = λ w. TakesFront old w bytes in
-    subst P (sym same) (record { front = []; rest = bytes; split = refl; takes = record { appends = Appends-nil old.taken; counts = omega (arith, old.fits) } })
 
 -- a sink that took the first n bytes
 pub TakesFront-some : (old new : Written) (bytes : List ℕ) (n : ℕ) → n ≤ length bytes → Appends old.taken new.taken (take n bytes) → new.written ≡ min (old.written + n) (2 ^ 128 - 1)
