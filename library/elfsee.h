@@ -1,0 +1,280 @@
+/* elfsee: lists ELF64 files, looks names up in them, applies relocations and reads their rows, over
+ * memory that the caller lends.
+ *
+ * WHAT IS PROMISED is proved: the contract of each function stands in the crate elfsee_c, and the
+ * comment at a function here says it in words. Whatever bytes a file has and whatever numbers the
+ * structs hold, each call returns, reads nothing outside the bytes it was given, and writes nothing
+ * outside the bytes it was lent.
+ *
+ * WHAT A CALLER GUARANTEES, which nothing checks. For each call:
+ *  - `file` points to `file_len` readable bytes, at most PTRDIFF_MAX, which nobody changes while the
+ *    call runs: no other thread, and for a mapped file no other process. A mapped file that is cut
+ *    short while the call runs ends the process (SIGBUS): read a file that may change into memory
+ *    first.
+ *  - `room` and `out` point to as many writable bytes as is said; these overlap neither each other,
+ *    nor the file, nor a struct or a name that is passed. They need not be initialised.
+ *  - Each pointer is not NULL and is aligned for its type, also where a length is 0.
+ *  - Each struct that is passed is initialised, with any values, also one that is only written.
+ *  - No call is made from a signal handler.
+ *
+ * Calls share nothing: any number of threads may call at once, each with its own room, out and
+ * structs; the file's bytes may be shared. A call takes no lock, starts no thread, makes no system
+ * call, takes no memory but the stack, of which it needs less than 64 KiB (measured by a test, not
+ * proved), and keeps no pointer behind its end.
+ *
+ * ROOM is where the headers of a file lie while a call runs, 64 bytes each. A call permits as many
+ * headers as `limits` says, or as many as the room holds, whichever is less; a file with more is
+ * refused with ELFSEE_TOO_MANY_HEADERS. elfsee_room says how much is wanted so that the room is not
+ * what a file is refused for.
+ */
+#ifndef ELFSEE_H
+#define ELFSEE_H
+
+#include <stddef.h>
+#include <stdint.h>
+
+#ifdef __cplusplus
+extern "C" {
+#endif
+
+/* What a call answers. */
+enum {
+    ELFSEE_OK = 0,      /* listed, found, applied or read */
+    ELFSEE_REFUSED = 1, /* the file is refused, or the read budget is used up */
+    ELFSEE_ABSENT = 2,  /* there is no such name, or no row any more */
+    ELFSEE_FULL = 3,    /* `out` has no room for all of it */
+    ELFSEE_BAD_CALL = 4 /* a number is outside its range; nothing was read and nothing written */
+};
+
+/* The parts of a listing; other bits have no meaning. */
+enum {
+    ELFSEE_HEADER = 1, ELFSEE_SECTIONS = 2, ELFSEE_SEGMENTS = 4, ELFSEE_SYMBOLS = 8,
+    ELFSEE_RELOCS = 16, ELFSEE_NOTES = 32, ELFSEE_DYNAMIC = 64, ELFSEE_ALL = 127
+};
+
+/* Why a file is refused; 0 is no cause. elfsee_cause_word has the words. */
+enum {
+    ELFSEE_SHORT = 1, ELFSEE_NOT_ELF, ELFSEE_BAD_CLASS, ELFSEE_BAD_DATA, ELFSEE_BAD_VERSION,
+    ELFSEE_EXTENDED_NUMBERING, ELFSEE_TOO_MANY_HEADERS, ELFSEE_ENTRY_SIZE, ELFSEE_TABLE_OUTSIDE,
+    ELFSEE_BAD_LINK, ELFSEE_NOT_STRINGS, ELFSEE_SIZE_NOT_WHOLE, ELFSEE_NAME_OUTSIDE,
+    ELFSEE_NAME_UNENDED, ELFSEE_NOTE_CUT, ELFSEE_NO_HASH, ELFSEE_HASH_SHAPE, ELFSEE_HASH_INDEX,
+    ELFSEE_HASH_CYCLE, ELFSEE_UNSUPPORTED, ELFSEE_OVERFLOW, ELFSEE_NOT_REL, ELFSEE_UNPLACED,
+    ELFSEE_UNDEFINED, ELFSEE_PLACE_OUTSIDE, ELFSEE_SYMBOL_INDEX, ELFSEE_TOO_LONG, ELFSEE_BUDGET,
+    ELFSEE_UNMAPPED
+};
+
+/* How much may be read and shown. */
+struct elfsee_limits {
+    uint16_t headers;    /* permitted section headers, and program headers: 1 to 65,279 */
+    uint16_t name;       /* bytes of a name that a listing shows: 1 to 4,096; else not looked at */
+    uint32_t has_budget; /* 0: no read budget */
+    uint64_t budget;     /* bytes that may be read, where there is a budget */
+};
+
+/* How a call ended. */
+struct elfsee_end {
+    uint64_t at;      /* the file offset that the refusal names, else 0 */
+    uint64_t written; /* bytes of `out` */
+    uint64_t asked;   /* bytes of the file that were asked for, at most 2^64 - 1 */
+    uint32_t cause;   /* of the refusal, else 0 */
+    uint32_t none;    /* 0 */
+};
+
+/* The library's version, 0x00MMmmpp. */
+uint32_t elfsee_version(void);
+
+/* Writes the word of a cause, as a listing's last line has it ("table-outside"), and answers how
+ * many bytes it has, at most 32; 0 for a number that is no cause, and where `out` has not so many.
+ * No NUL is written. */
+size_t elfsee_cause_word(uint32_t cause, uint8_t *out, size_t out_len);
+
+/* How many bytes of room a file wants where `headers` are permitted: 64 for each section header
+ * that its file header tells of, or for each program header where there are no section headers, at
+ * least 64 and at most 64 * headers. 64 for bytes that have no file header. With so much room, or
+ * more, each call answers as with 64 * headers. */
+uint64_t elfsee_room(const uint8_t *file, size_t file_len, uint16_t headers);
+
+/* How many bytes of a file of `file_len` bytes a listing asks for at most, whatever the bytes are;
+ * 2^64 - 1 where that is more, and where a limit is outside its range. */
+uint64_t elfsee_cost(uint64_t file_len, const struct elfsee_limits *limits);
+
+/* Lists a file, as far as `parts` has it.
+ *  OK, REFUSED: out[0..end->written) is the listing of these bytes under these limits, whole and
+ *    byte for byte as defined; a refusal is its last line, and `cause` and `at` are the listing's
+ *    first fault. Where there is a budget that the listing costs more than, the text may be a front
+ *    of whole lines with the line of the budget behind it.
+ *  FULL: end->written == out_len, and `out` is a front of such a listing.
+ *  BAD_CALL: exactly for limits outside their ranges, or room of less than 64 bytes.
+ * Always: written <= out_len; `asked` is at most the listing's cost, and the budget. */
+uint32_t elfsee_show(const uint8_t *file, size_t file_len, const struct elfsee_limits *limits,
+                     uint8_t parts, uint8_t *room, size_t room_len, uint8_t *out, size_t out_len,
+                     struct elfsee_end *end);
+
+/* A symbol, field by field (gABI, Symbol Table). */
+struct elfsee_symbol {
+    uint64_t value, size;
+    uint32_t name; /* its offset in the string table */
+    uint16_t section;
+    uint8_t info, other;
+};
+
+/* What a lookup found. */
+struct elfsee_found {
+    struct elfsee_symbol symbol;
+    uint32_t index;   /* of the symbol, in its section */
+    uint32_t steps;   /* names that were compared */
+    uint16_t section; /* of symbols */
+    uint16_t none;    /* 0 */
+    uint32_t none_behind; /* 0 */
+};
+
+/* Looks a name up by the file's own hash table. The name has `name_len` bytes, at most 4,096, no NUL
+ * among them and none behind them.
+ *  OK: the definition's symbol, its place, and the number of steps. ABSENT: there is none;
+ *    `found->steps` names were compared. REFUSED: for `end->cause` at `end->at`.
+ *  BAD_CALL: limits outside their ranges, room of less than 64 bytes, a name of more than 4,096.
+ * `asked` is at most the lookup's cost, and the budget. */
+uint32_t elfsee_find(const uint8_t *file, size_t file_len, const struct elfsee_limits *limits,
+                     uint8_t *room, size_t room_len, const uint8_t *name, size_t name_len,
+                     struct elfsee_found *found, struct elfsee_end *end);
+
+/* What a layout gives an address for. */
+enum { ELFSEE_SECTION = 0, ELFSEE_DEFINE = 1, ELFSEE_ENTRY = 2 };
+
+/* An address: of a section (by `index`), of a symbol that the file does not define, or of a
+ * symbol's entry in the procedure linkage table (by the symbol's name, 1 to 255 bytes, no NUL). */
+struct elfsee_item {
+    uint64_t address;
+    const uint8_t *name;
+    size_t name_len;
+    uint32_t kind;  /* ELFSEE_SECTION, ELFSEE_DEFINE, ELFSEE_ENTRY */
+    uint32_t index; /* of the section, up to 65,535 */
+};
+
+/* A section, and at which addresses it and what it refers to are to lie: at most 64 sections, 32
+ * definitions and 32 entries, none twice. */
+struct elfsee_job {
+    const struct elfsee_item *items;
+    size_t items_len;
+    uint32_t section;
+    uint32_t none; /* not looked at */
+};
+
+/* Writes a section's bytes with its relocations applied.
+ *  OK: out[0..end->written) is the section as defined, whole. REFUSED: for `end->cause` at
+ *    `end->at`; nothing is promised of what stands in `out`, and `written` is 0.
+ *  FULL: `out` has fewer bytes than the section.
+ *  BAD_CALL: limits or items outside their ranges, an item twice, room of less than 64 bytes.
+ * `asked` is at most the definition's cost, and the budget. */
+uint32_t elfsee_apply(const uint8_t *file, size_t file_len, const struct elfsee_limits *limits,
+                      const struct elfsee_job *job, uint8_t *room, size_t room_len, uint8_t *out,
+                      size_t out_len, struct elfsee_end *end);
+
+/* The file header, field by field (gABI, ELF Header). */
+struct elfsee_header {
+    uint64_t entry, phoff, shoff;
+    uint32_t version, flags;
+    uint16_t type, machine, ehsize, phentsize, phnum, shentsize, shnum, shstrndx;
+    uint8_t ident[16];
+};
+
+/* A section header, field by field (gABI, Sections). */
+struct elfsee_section {
+    uint64_t flags, addr, offset, size, addralign, entsize;
+    uint32_t name, type, link, info;
+};
+
+/* A program header, field by field (gABI, Program Header). */
+struct elfsee_segment {
+    uint64_t offset, vaddr, paddr, filesz, memsz, align;
+    uint32_t type, flags;
+};
+
+/* A relocation entry, field by field (gABI, Relocation); `addend` is 0 in a REL table. */
+struct elfsee_relocation {
+    uint64_t offset, info;
+    int64_t addend;
+};
+
+/* A dynamic entry, field by field (gABI, Dynamic Section). */
+struct elfsee_dynamic {
+    int64_t tag;
+    uint64_t value;
+};
+
+/* A note: where its name and its descriptor lie in the file (gABI, Note Section). */
+struct elfsee_note {
+    uint64_t name_at, desc_at;
+    uint32_t name_len, desc_len, type, none;
+};
+
+/* Bytes of the file. */
+struct elfsee_range {
+    uint64_t at, len;
+};
+
+/* The file header. OK, or REFUSED where its checks fail. */
+uint32_t elfsee_header(const uint8_t *file, size_t file_len, struct elfsee_header *header,
+                       struct elfsee_end *end);
+
+/* A section header or a program header, by its index. OK; ABSENT where there is none of that index;
+ * REFUSED where the checks of the file header, or the range of the headers, fail. */
+uint32_t elfsee_section(const uint8_t *file, size_t file_len, uint16_t index,
+                        struct elfsee_section *section, struct elfsee_end *end);
+uint32_t elfsee_segment(const uint8_t *file, size_t file_len, uint16_t index,
+                        struct elfsee_segment *segment, struct elfsee_end *end);
+
+/* A table, and a place in it. Plain numbers on the caller's own stack: any may be passed, a step
+ * tests them. */
+struct elfsee_rows {
+    uint64_t at, count, index, entry;       /* the entries that are left are [index, count) */
+    uint64_t strings_at, strings_len;       /* of the string table that goes with it; else 0, 0 */
+};
+
+/* The tables of a section (dynamic entries and notes: or of a segment, by its index, where the file
+ * has no section headers). Each runs the checks that a listing runs before the table's first row,
+ * and sets `rows` before that row. OK, REFUSED, BAD_CALL; ABSENT where there is no such section or
+ * it holds no such rows. */
+uint32_t elfsee_symbols(const uint8_t *file, size_t file_len, const struct elfsee_limits *limits,
+                        uint16_t section, uint8_t *room, size_t room_len, struct elfsee_rows *rows,
+                        struct elfsee_end *end);
+uint32_t elfsee_relocations(const uint8_t *file, size_t file_len,
+                            const struct elfsee_limits *limits, uint16_t section, uint8_t *room,
+                            size_t room_len, struct elfsee_rows *rows, struct elfsee_end *end);
+uint32_t elfsee_dynamic(const uint8_t *file, size_t file_len, const struct elfsee_limits *limits,
+                        uint16_t section, uint8_t *room, size_t room_len, struct elfsee_rows *rows,
+                        struct elfsee_end *end);
+uint32_t elfsee_notes(const uint8_t *file, size_t file_len, const struct elfsee_limits *limits,
+                      uint16_t section, uint8_t *room, size_t room_len, struct elfsee_rows *rows,
+                      struct elfsee_end *end);
+
+/* Read up to `out_len` next rows, step over them, and answer how many there are in `out`: fewer
+ * than `out_len` at the table's end, and 0 behind it or where the numbers of `rows` name no rows of
+ * the file. */
+size_t elfsee_next_symbols(const uint8_t *file, size_t file_len, struct elfsee_rows *rows,
+                           struct elfsee_symbol *out, size_t out_len);
+size_t elfsee_next_relocations(const uint8_t *file, size_t file_len, struct elfsee_rows *rows,
+                               struct elfsee_relocation *out, size_t out_len);
+size_t elfsee_next_dynamic(const uint8_t *file, size_t file_len, struct elfsee_rows *rows,
+                           struct elfsee_dynamic *out, size_t out_len);
+
+/* Reads the next note and steps over it: OK; ABSENT behind the last; REFUSED where it is cut. */
+uint32_t elfsee_next_note(const uint8_t *file, size_t file_len, struct elfsee_rows *rows,
+                          struct elfsee_note *note, struct elfsee_end *end);
+
+/* Where the name at an offset in a string table lies, without its NUL: the table is the `strings`
+ * of `rows`, or any range of the file. OK; REFUSED with ELFSEE_NAME_OUTSIDE or ELFSEE_NAME_UNENDED
+ * where there is none. */
+uint32_t elfsee_name(const uint8_t *file, size_t file_len, const struct elfsee_range *strings,
+                     uint64_t offset, struct elfsee_range *name, struct elfsee_end *end);
+
+/* Where the string table of section headers' names lies. OK, ABSENT, REFUSED, BAD_CALL. */
+uint32_t elfsee_section_names(const uint8_t *file, size_t file_len,
+                              const struct elfsee_limits *limits, uint8_t *room, size_t room_len,
+                              struct elfsee_range *strings, struct elfsee_end *end);
+
+#ifdef __cplusplus
+}
+#endif
+
+#endif
