@@ -1,2 +1,11 @@
+pub mod Applied
 pub mod Causes
 pub mod Ends
+pub mod Found
+pub mod Items
+pub mod Lent
+pub mod Limits
+pub mod Shown
+pub mod Symbols
+pub mod Told
+pub mod Wants

@@ -2,6 +2,17 @@
 //! library, and states its promise again. What a caller has to guarantee stands in `elfsee.h`.
 #![tactic(auto)]
 
+mod applied;
+mod applying;
 mod causes;
 mod counts;
 mod end;
+mod finding;
+mod found;
+mod items;
+mod lent_sink;
+mod limits;
+mod listing;
+mod show;
+mod symbol;
+mod told;

@@ -1,0 +1,47 @@
+-- The layout that a caller's items give.
+use Rattle.std.specs.Prelude.{ℕ, zero, suc, ◌≡◌, ◌<◌, ◌^◌, Bool, true, false, List, [], ◌∷◌, Option, None, Some, Ok}
+use Rattle.elf_layout.specs.Layouts.{Adds, IsName}
+use Rattle.elf_layout.specs.declared.layout.Item.{Item as Laid}
+use Rattle.elf_layout.specs.declared.layout.Item.TheVariants.{Section, Define, Entry}
+use Rattle.elf_model.specs.Placing.{Layout}
+use Rattle.elfsee_c.specs.declared.items.Item.{Item}
+
+-- a layout without an item
+abbrev pub no_items : Layout
+no_items = record { sections = []; definitions = []; linkage = [] }
+
+-- an address stands behind others, of which there may be so many, and none of these has its index or name
+abbrev pub IsAdded : {K : Type 0} → ℕ → K → ℕ → List (K × ℕ) → List (K × ℕ) → Type 0
+IsAdded most key address old new = Adds {X = Unit {0}} most key address old new (Ok tt)
+
+-- an item of a kind is put into a layout, behind those of its sort: 0 is a section, by an index below 2^16; 1 a definition and
+-- 2 an entry of the procedure linkage table, by a name; there are no others
+abbrev pub PutsKind : ℕ → Item → Layout → Layout → Type 0
+PutsKind zero item old new =
+    (item.index < 2 ^ 16) × IsAdded 64 item.index item.address old.sections new.sections × (new.definitions ≡ old.definitions) × (new.linkage ≡ old.linkage)
+PutsKind (suc zero) item old new =
+    IsName item.name.now × IsAdded 32 item.name.now item.address old.definitions new.definitions × (new.sections ≡ old.sections) × (new.linkage ≡ old.linkage)
+PutsKind (suc (suc zero)) item old new =
+    IsName item.name.now × IsAdded 32 item.name.now item.address old.linkage new.linkage × (new.sections ≡ old.sections) × (new.definitions ≡ old.definitions)
+PutsKind (suc (suc (suc kind))) item old new = ⊥
+
+-- an item is put into a layout
+abbrev pub Puts : Item → Layout → Layout → Type 0
+Puts item old new = PutsKind item.kind item old new
+
+-- THE LAYOUT that items give behind those of another, from the first to the last
+abbrev pub Lays : Layout → List Item → Layout → Type 0
+Lays old [] new = new ≡ old
+Lays old (item ∷ items) new = (next : Layout) × Puts item old next × Lays next items new
+
+-- items give this layout, or none
+abbrev pub LaysOut : List Item → Layout → Bool → Type 0
+LaysOut items layout true = Lays no_items items layout
+LaysOut items layout false = (other : Layout) → Lays no_items items other → ⊥
+
+-- an item as a layout has it; none where no layout has it
+abbrev pub Gives : Item → Option Laid → Type 0
+Gives item None = (old new : Layout) → Puts item old new → ⊥
+Gives item (Some (Section index address)) = (item.kind ≡ 0) × (item.index < 2 ^ 16) × (index ≡ item.index) × (address ≡ item.address)
+Gives item (Some (Define name address)) = (item.kind ≡ 1) × IsName item.name.now × (name.now ≡ item.name.now) × (address ≡ item.address)
+Gives item (Some (Entry name address)) = (item.kind ≡ 2) × IsName item.name.now × (name.now ≡ item.name.now) × (address ≡ item.address)

@@ -1,0 +1,27 @@
+-- What a call that writes to memory tells its caller.
+use Rattle.std.specs.Prelude.{ℕ, ◌≡◌, Bool, true, false, Result, Ok, Err}
+use Rattle.elf_headers.specs.declared.stop.Stop.{Stop}
+use Rattle.elf_headers.specs.declared.stop.Stop.TheVariants.{Refused as IsRefused, Source, Out}
+use Rattle.elfsee_c.specs.Ends.{TellsCause, TellsNone}
+use Rattle.elfsee_c.specs.declared.end.End.{End}
+use Rattle.elfsee_c.specs.declared.told.Told.{Told}
+use Rattle.elfsee_c.specs.declared.told.Told.TheVariants.{Done, Refused, Full, BadCall}
+
+-- what a call tells by its answer, where there were not more bytes than memory
+abbrev pub told_of : {X : Type 0} → Result X Stop → Told
+told_of (Ok x) = Done
+told_of (Err (IsRefused refusal)) = Refused refusal
+told_of (Err (Source fault at)) = Full
+told_of (Err (Out fault)) = Full
+
+-- what a call tells by its answer and by whether there were
+abbrev pub told_from : {X : Type 0} → Result X Stop → Bool → Told
+told_from result true = Full
+told_from result false = told_of result
+
+-- what is told as numbers: the status, and the cause and the offset of a refusal
+abbrev pub IsStatus : ℕ → End → Told → Type 0
+IsStatus status end Done = (status ≡ 0) × TellsNone end
+IsStatus status end (Refused refusal) = (status ≡ 1) × TellsCause end refusal
+IsStatus status end Full = (status ≡ 3) × TellsNone end
+IsStatus status end BadCall = (status ≡ 4) × TellsNone end

@@ -1,0 +1,91 @@
+//! The export that writes a section of a file in memory with its relocations applied.
+ghost use Rattle.std.specs.Prelude.{◌≡◌, ◌≤◌, length};
+ghost use Rattle.elfsee_c.specs.Applied.{Applies, IsApplied};
+
+use crate::applied::{Wanted, write_section};
+use crate::counts::short;
+use crate::end::End;
+use crate::items::{Item, lay_out};
+use crate::limits::{Limits, limits_of};
+use crate::listing::Outcome;
+use crate::told::{Told, tell};
+use elf_layout::Layout;
+use elf_table::HeaderStore;
+
+/// The largest index of a section.
+const LAST_INDEX: u32 = 65_535;
+
+/// A section, and the addresses at which it and what it refers to are to lie, as a caller says it.
+#[repr(C)]
+#[derive(Clone, Copy)]
+pub struct Job<'a> {
+    /// The addresses: of at most 64 sections, 32 definitions and 32 entries of the procedure linkage
+    /// table, none twice.
+    pub items: &'a [Item<'a>],
+    /// The index of the section, up to 65,535.
+    pub section: u32,
+    /// It is not looked at.
+    pub none: u32,
+}
+
+/// Writes the bytes of a section of a file that lies in memory, with its relocations applied, into
+/// memory of the caller. `room` is where the file's headers lie meanwhile.
+///
+/// Answers 0 where it was written, 1 where it is refused or the budget is used up, 3 where the section
+/// has more bytes than `out`, 4 where the limits, the room, the section's index or an item are outside
+/// their ranges, there are too many items, or one is there twice.
+#[unsafe(no_mangle)]
+pub extern "C" fn elfsee_apply(
+    file: &[u8],
+    limits: &Limits,
+    job: &Job<'_>,
+    room: &mut [u8],
+    out: &mut [u8],
+    end: &mut End,
+) -> u32
+    ensures { IsApplied file.now limits.now job.now (length room.old) result out.new end.new }
+{
+    let told = apply_to(file, limits, job, room, out, end);
+    tell(told, end)
+}
+
+/// Writes the section, and answers how that ended. The counts are written to `end`.
+fn apply_to(
+    file: &[u8],
+    limits: &Limits,
+    job: &Job<'_>,
+    room: &mut [u8],
+    out: &mut [u8],
+    end: &mut End,
+) -> Told
+    ensures applies { Applies file.now limits.now job.now (length room.old) out.new end.new
+        result }
+    ensures within { end.new.written ≤ length out.new }
+    ensures clear { (end.new.cause ≡ 0) × (end.new.at ≡ 0) × (end.new.none ≡ 0) }
+{
+    end.clear();
+    let Some(limits) = limits_of(limits, room.len()) else {
+        return Told::BadCall;
+    };
+    let mut layout = Layout::new();
+    if job.section > LAST_INDEX || !lay_out(job.items, &mut layout) {
+        return Told::BadCall;
+    }
+    let mut store = HeaderStore::over(room, limits.headers);
+    let wanted = Wanted {
+        section: job.section as u16,
+        layout: &layout,
+        budget: limits.budget,
+    };
+    let mut outcome = Outcome {
+        told: Told::BadCall,
+        asked: 0,
+    };
+    let written = write_section(file, &mut store, &wanted, out, &mut outcome);
+    end.asked = short(outcome.asked);
+    end.written = match outcome.told {
+        Told::Refused(_) => 0,
+        _ => written as u64,
+    };
+    outcome.told
+}
