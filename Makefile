@@ -1,9 +1,14 @@
-# Builds, tests and installs elfsee. It calls what is there: ./build, ./check, install and rm.
+# Builds, tests and installs elfsee. It calls what is there: ./build, library/build, ./check, install and rm.
 #
-#   make              proves and builds the program, where it is not built
-#   make check        proves and tests everything
-#   make install      installs the program, its man page and its completions
-#   make uninstall    takes them away
+#   make                  proves and builds the program, where it is not built
+#   make library          the same for the library
+#   make check            proves and tests everything
+#   make install          installs the program, its man page and its completions; and where the library
+#                         was built, that too
+#   make install-program  installs the program alone
+#   make install-library  builds the library where it is not built, and installs it with its header, its
+#                         man page and a file for pkg-config
+#   make uninstall        takes all of them away
 #
 # PREFIX (/usr/local) is where they go, DESTDIR what stands before that for packages. The other
 # variables are those of the GNU coding standards.
@@ -13,10 +18,14 @@ PREFIX = /usr/local
 prefix = $(PREFIX)
 exec_prefix = $(prefix)
 bindir = $(exec_prefix)/bin
+libdir = $(exec_prefix)/lib
+pkgconfigdir = $(libdir)/pkgconfig
+includedir = $(prefix)/include
 datarootdir = $(prefix)/share
 datadir = $(datarootdir)
 mandir = $(datarootdir)/man
 man1dir = $(mandir)/man1
+man3dir = $(mandir)/man3
 bashcompdir = $(datadir)/bash-completion/completions
 zshcompdir = $(datadir)/zsh/site-functions
 fishcompdir = $(datadir)/fish/vendor_completions.d
@@ -25,15 +34,24 @@ INSTALL = install
 INSTALL_PROGRAM = $(INSTALL) -m 755
 INSTALL_DATA = $(INSTALL) -m 644
 
-.PHONY: all check install install-strip uninstall
+# What pkg-config tells; elfsee_version answers the same.
+library_version = 0.1.0
+
+.PHONY: all library check install install-program install-library install-strip uninstall
 
 all:
 	./build
 
+library:
+	library/build
+
 check:
 	./check
 
-install: all
+install: install-program
+	if [ -e library/out/libelfsee.so.0 ]; then $(MAKE) install-library; fi
+
+install-program: all
 	$(INSTALL) -d '$(DESTDIR)$(bindir)' '$(DESTDIR)$(man1dir)' '$(DESTDIR)$(bashcompdir)' \
 	    '$(DESTDIR)$(zshcompdir)' '$(DESTDIR)$(fishcompdir)'
 	$(INSTALL_PROGRAM) crates/elfsee/out/elfsee '$(DESTDIR)$(bindir)/elfsee'
@@ -42,10 +60,26 @@ install: all
 	$(INSTALL_DATA) completions/_elfsee '$(DESTDIR)$(zshcompdir)/_elfsee'
 	$(INSTALL_DATA) completions/elfsee.fish '$(DESTDIR)$(fishcompdir)/elfsee.fish'
 
+install-library: library
+	$(INSTALL) -d '$(DESTDIR)$(includedir)' '$(DESTDIR)$(libdir)' '$(DESTDIR)$(pkgconfigdir)' \
+	    '$(DESTDIR)$(man3dir)'
+	$(INSTALL_DATA) library/elfsee.h '$(DESTDIR)$(includedir)/elfsee.h'
+	$(INSTALL_DATA) library/out/libelfsee.a '$(DESTDIR)$(libdir)/libelfsee.a'
+	$(INSTALL_DATA) library/out/libelfsee.so.0 '$(DESTDIR)$(libdir)/libelfsee.so.0'
+	ln -sf libelfsee.so.0 '$(DESTDIR)$(libdir)/libelfsee.so'
+	sed -e 's|@prefix@|$(prefix)|' -e 's|@exec_prefix@|$(exec_prefix)|' -e 's|@libdir@|$(libdir)|' \
+	    -e 's|@includedir@|$(includedir)|' -e 's|@version@|$(library_version)|' \
+	    library/elfsee.pc.in >'$(DESTDIR)$(pkgconfigdir)/elfsee.pc'
+	chmod 644 '$(DESTDIR)$(pkgconfigdir)/elfsee.pc'
+	$(INSTALL_DATA) man/elfsee.3 '$(DESTDIR)$(man3dir)/elfsee.3'
+
 install-strip:
 	$(MAKE) INSTALL_PROGRAM='$(INSTALL_PROGRAM) -s' install
 
 uninstall:
 	rm -f '$(DESTDIR)$(bindir)/elfsee' '$(DESTDIR)$(man1dir)/elfsee.1' \
 	    '$(DESTDIR)$(bashcompdir)/elfsee' '$(DESTDIR)$(zshcompdir)/_elfsee' \
-	    '$(DESTDIR)$(fishcompdir)/elfsee.fish'
+	    '$(DESTDIR)$(fishcompdir)/elfsee.fish' '$(DESTDIR)$(includedir)/elfsee.h' \
+	    '$(DESTDIR)$(libdir)/libelfsee.a' '$(DESTDIR)$(libdir)/libelfsee.so.0' \
+	    '$(DESTDIR)$(libdir)/libelfsee.so' '$(DESTDIR)$(pkgconfigdir)/elfsee.pc' \
+	    '$(DESTDIR)$(man3dir)/elfsee.3'
