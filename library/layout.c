@@ -1,0 +1,121 @@
+/* Prints how the compiler lays the structs of elfsee.h out: a line `STRUCT FIELD OFFSET SIZE` for each field,
+ * and before those of a struct the line `STRUCT . 0 SIZE`, with the size of the whole. Those who call the
+ * library from other languages compare theirs with it; tests/library compares the crate's. */
+#include "elfsee.h"
+
+#include <stdio.h>
+
+#define WHOLE(type) printf("%s . 0 %zu\n", #type, sizeof(struct type))
+#define FIELD(type, field) \
+    printf("%s %s %zu %zu\n", #type, #field, offsetof(struct type, field), sizeof(((struct type *)0)->field))
+
+static void calls(void) {
+    WHOLE(elfsee_limits);
+    FIELD(elfsee_limits, headers);
+    FIELD(elfsee_limits, name);
+    FIELD(elfsee_limits, has_budget);
+    FIELD(elfsee_limits, budget);
+    WHOLE(elfsee_end);
+    FIELD(elfsee_end, at);
+    FIELD(elfsee_end, written);
+    FIELD(elfsee_end, asked);
+    FIELD(elfsee_end, cause);
+    FIELD(elfsee_end, none);
+    WHOLE(elfsee_found);
+    FIELD(elfsee_found, symbol);
+    FIELD(elfsee_found, index);
+    FIELD(elfsee_found, steps);
+    FIELD(elfsee_found, section);
+    FIELD(elfsee_found, none);
+    FIELD(elfsee_found, none_behind);
+    WHOLE(elfsee_item);
+    FIELD(elfsee_item, address);
+    FIELD(elfsee_item, name);
+    FIELD(elfsee_item, name_len);
+    FIELD(elfsee_item, kind);
+    FIELD(elfsee_item, index);
+    WHOLE(elfsee_job);
+    FIELD(elfsee_job, items);
+    FIELD(elfsee_job, items_len);
+    FIELD(elfsee_job, section);
+    FIELD(elfsee_job, none);
+}
+
+static void headers(void) {
+    WHOLE(elfsee_header);
+    FIELD(elfsee_header, entry);
+    FIELD(elfsee_header, phoff);
+    FIELD(elfsee_header, shoff);
+    FIELD(elfsee_header, version);
+    FIELD(elfsee_header, flags);
+    FIELD(elfsee_header, type);
+    FIELD(elfsee_header, machine);
+    FIELD(elfsee_header, ehsize);
+    FIELD(elfsee_header, phentsize);
+    FIELD(elfsee_header, phnum);
+    FIELD(elfsee_header, shentsize);
+    FIELD(elfsee_header, shnum);
+    FIELD(elfsee_header, shstrndx);
+    FIELD(elfsee_header, ident);
+    WHOLE(elfsee_section);
+    FIELD(elfsee_section, flags);
+    FIELD(elfsee_section, addr);
+    FIELD(elfsee_section, offset);
+    FIELD(elfsee_section, size);
+    FIELD(elfsee_section, addralign);
+    FIELD(elfsee_section, entsize);
+    FIELD(elfsee_section, name);
+    FIELD(elfsee_section, type);
+    FIELD(elfsee_section, link);
+    FIELD(elfsee_section, info);
+    WHOLE(elfsee_segment);
+    FIELD(elfsee_segment, offset);
+    FIELD(elfsee_segment, vaddr);
+    FIELD(elfsee_segment, paddr);
+    FIELD(elfsee_segment, filesz);
+    FIELD(elfsee_segment, memsz);
+    FIELD(elfsee_segment, align);
+    FIELD(elfsee_segment, type);
+    FIELD(elfsee_segment, flags);
+}
+
+static void rows(void) {
+    WHOLE(elfsee_symbol);
+    FIELD(elfsee_symbol, value);
+    FIELD(elfsee_symbol, size);
+    FIELD(elfsee_symbol, name);
+    FIELD(elfsee_symbol, section);
+    FIELD(elfsee_symbol, info);
+    FIELD(elfsee_symbol, other);
+    WHOLE(elfsee_relocation);
+    FIELD(elfsee_relocation, offset);
+    FIELD(elfsee_relocation, info);
+    FIELD(elfsee_relocation, addend);
+    WHOLE(elfsee_dynamic);
+    FIELD(elfsee_dynamic, tag);
+    FIELD(elfsee_dynamic, value);
+    WHOLE(elfsee_note);
+    FIELD(elfsee_note, name_at);
+    FIELD(elfsee_note, desc_at);
+    FIELD(elfsee_note, name_len);
+    FIELD(elfsee_note, desc_len);
+    FIELD(elfsee_note, type);
+    FIELD(elfsee_note, none);
+    WHOLE(elfsee_range);
+    FIELD(elfsee_range, at);
+    FIELD(elfsee_range, len);
+    WHOLE(elfsee_rows);
+    FIELD(elfsee_rows, at);
+    FIELD(elfsee_rows, count);
+    FIELD(elfsee_rows, index);
+    FIELD(elfsee_rows, entry);
+    FIELD(elfsee_rows, strings_at);
+    FIELD(elfsee_rows, strings_len);
+}
+
+int main(void) {
+    calls();
+    headers();
+    rows();
+    return 0;
+}

@@ -1,0 +1,55 @@
+/* Memory to lend to a call: it ends at a page that cannot be touched, or begins behind one, and what is left
+ * of its first or last page is marked. */
+#ifndef LENT_H
+#define LENT_H
+
+#include <stdint.h>
+#include <stdlib.h>
+#include <string.h>
+#include <sys/mman.h>
+
+enum { PAGE = 4096, MARK = 0xa5 };
+
+struct lent {
+    uint8_t *bytes; /* what is lent */
+    size_t len;
+    uint8_t *inner; /* the pages in which it lies, between the two that cannot be touched */
+    size_t inner_len;
+};
+
+/* So many bytes, which begin right behind a page that cannot be touched, or end right before one. */
+static inline struct lent lend(size_t len, int at_front) {
+    size_t inner_len = len ? (len + PAGE - 1) / PAGE * PAGE : PAGE;
+    uint8_t *pages = (uint8_t *)mmap(0, inner_len + 2 * PAGE, PROT_NONE,
+                                     MAP_PRIVATE | MAP_ANONYMOUS | MAP_NORESERVE, -1, 0);
+    if (pages == MAP_FAILED || mprotect(pages + PAGE, inner_len, PROT_READ | PROT_WRITE)) abort();
+    struct lent lent = {pages + PAGE + (at_front ? 0 : inner_len - len), len, pages + PAGE, inner_len};
+    memset(at_front ? lent.bytes + len : lent.inner, MARK, inner_len - len);
+    return lent;
+}
+
+/* Whether all bytes of the pages that were not lent are still marked. */
+static inline int is_whole(const struct lent *lent) {
+    size_t before = (size_t)(lent->bytes - lent->inner), at;
+    for (at = 0; at < lent->inner_len - lent->len; at += 1) {
+        if (lent->inner[at < before ? at : at + lent->len] != MARK) return 0;
+    }
+    return 1;
+}
+
+/* A copy of bytes that cannot be written. */
+static inline struct lent lend_copy(const void *bytes, size_t len, int at_front) {
+    struct lent lent = lend(len, at_front);
+    memcpy(lent.bytes, bytes, len);
+    if (mprotect(lent.inner, lent.inner_len, PROT_READ)) abort();
+    return lent;
+}
+
+/* Takes it back, and says whether all that was not lent is as it was. */
+static inline int take_back(struct lent *lent) {
+    int whole = is_whole(lent);
+    if (munmap(lent->inner - PAGE, lent->inner_len + 2 * PAGE)) abort();
+    return whole;
+}
+
+#endif

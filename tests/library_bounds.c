@@ -1,0 +1,674 @@
+/* Calls the library with numbers outside their ranges, with no room, with structs of any numbers and files of any
+ * bytes, for tests/library:
+ *
+ *     library_bounds OBJECT LIBRARY TRIES
+ *
+ * OBJECT is a relocatable for x86-64 with relocation entries for section 1, LIBRARY has a hash table with
+ * the name `call`. All that is lent lies at pages that cannot be touched, file and names cannot be
+ * written. It is to be built with -fsanitize=address,undefined. A line for each case, and as the last one
+ * `N passed, N failed`. */
+#define _GNU_SOURCE
+#include "elfsee.h"
+#include "lent.h"
+
+#include <fcntl.h>
+#include <stdio.h>
+#include <sys/stat.h>
+#include <unistd.h>
+
+enum { OUT = 1 << 16, ROOM = 64 * 100, NAMED = 32, ITEMS = 130 };
+
+static unsigned passed, failed;
+static struct lent object, library, room, out;
+
+static void check(int is_so, const char *name) {
+    printf("%s %s\n", is_so ? "ok" : "FAILED", name);
+    passed += is_so != 0;
+    failed += is_so == 0;
+}
+
+static struct lent read_file(const char *path) {
+    int fd = open(path, O_RDONLY);
+    struct stat found;
+    uint8_t *bytes;
+    if (fd < 0 || fstat(fd, &found)) abort();
+    bytes = (uint8_t *)mmap(0, (size_t)found.st_size, PROT_READ, MAP_PRIVATE, fd, 0);
+    if (bytes == MAP_FAILED) abort();
+    struct lent file = lend_copy(bytes, (size_t)found.st_size, 0);
+    munmap(bytes, (size_t)found.st_size);
+    close(fd);
+    return file;
+}
+
+static struct elfsee_limits limits_of(unsigned headers, unsigned name) {
+    struct elfsee_limits limits = {(uint16_t)headers, (uint16_t)name, 0, 0};
+    return limits;
+}
+
+static const struct elfsee_end ODD = {77, 77, 77, 77, 77};
+
+/* Whether all of out and room is as it was lent. */
+static int is_untouched(void) {
+    size_t at;
+    for (at = 0; at < out.len; at += 1) {
+        if (out.bytes[at] != MARK) return 0;
+    }
+    for (at = 0; at < room.len; at += 1) {
+        if (room.bytes[at] != MARK) return 0;
+    }
+    return 1;
+}
+
+static void paint(void) {
+    memset(out.bytes, MARK, out.len);
+    memset(room.bytes, MARK, room.len);
+}
+
+/* Whether a call that is bad left everything as it was. */
+static int is_bad(uint32_t status, const struct elfsee_end *end) {
+    int is_so = status == ELFSEE_BAD_CALL && end->written == 0 && end->asked == 0 && is_untouched();
+    paint();
+    return is_so;
+}
+
+static int is_zero(const void *bytes, size_t len) {
+    size_t at;
+    for (at = 0; at < len; at += 1) {
+        if (((const uint8_t *)bytes)[at]) return 0;
+    }
+    return 1;
+}
+
+/* ------------------------------------------------------------------------- */
+/* The calls, over the object or the library where nothing else is said. */
+
+static uint32_t show(struct elfsee_limits limits, size_t room_len, size_t out_len, struct elfsee_end *end) {
+    *end = ODD;
+    return elfsee_show(object.bytes, object.len, &limits, ELFSEE_ALL, room.bytes, room_len, out.bytes, out_len, end);
+}
+
+static uint32_t find(struct elfsee_limits limits, size_t room_len, const char *name, size_t name_len,
+                     struct elfsee_found *found, struct elfsee_end *end) {
+    struct lent lent = lend_copy(name, name_len, name_len & 1);
+    memset(found, 77, sizeof *found);
+    *end = ODD;
+    uint32_t status = elfsee_find(library.bytes, library.len, &limits, room.bytes, room_len, lent.bytes, name_len,
+                                  found, end);
+    take_back(&lent);
+    return status;
+}
+
+static uint32_t apply(struct elfsee_limits limits, size_t room_len, uint32_t section, const struct elfsee_item *items,
+                      size_t count, size_t out_len, struct elfsee_end *end) {
+    struct elfsee_job job = {items, count, section, 77};
+    *end = ODD;
+    return elfsee_apply(object.bytes, object.len, &limits, &job, room.bytes, room_len, out.bytes, out_len, end);
+}
+
+typedef uint32_t opens(const uint8_t *, size_t, const struct elfsee_limits *, uint16_t, uint8_t *, size_t,
+                       struct elfsee_rows *, struct elfsee_end *);
+static const struct {
+    const char *name;
+    opens *call;
+} TABLES[] = {{"symbols", elfsee_symbols}, {"relocations", elfsee_relocations},
+              {"dynamic", elfsee_dynamic}, {"notes", elfsee_notes}};
+enum { TABLE_COUNT = sizeof TABLES / sizeof *TABLES };
+
+/* ------------------------------------------------------------------------- */
+
+static void bad_limits(void) {
+    static const unsigned headers[] = {0, 65280, 65535}, names[] = {0, 4097, 65535};
+    struct elfsee_end end;
+    struct elfsee_found found;
+    struct elfsee_rows rows;
+    struct elfsee_range range;
+    int shows = 1, finds = 1, applies = 1, opens = 1, unlooked = 1, costs = 1;
+    unsigned i, table;
+    for (i = 0; i < 3; i += 1) {
+        struct elfsee_limits bad = limits_of(headers[i], 256), other = limits_of(4096, names[i]);
+        shows &= is_bad(show(bad, ROOM, OUT, &end), &end) && is_bad(show(other, ROOM, OUT, &end), &end);
+        finds &= is_bad(find(bad, ROOM, "call", 4, &found, &end), &end);
+        unlooked &= find(other, ROOM, "call", 4, &found, &end) == ELFSEE_OK;
+        paint();
+        applies &= is_bad(apply(bad, ROOM, 1, 0, 0, OUT, &end), &end);
+        for (table = 0; table < TABLE_COUNT; table += 1) {
+            uint32_t status = TABLES[table].call(object.bytes, object.len, &bad, 1, room.bytes, ROOM, &rows, &end);
+            opens &= is_bad(status, &end);
+        }
+        opens &= is_bad(elfsee_section_names(object.bytes, object.len, &bad, room.bytes, ROOM, &range, &end), &end);
+        costs &= elfsee_cost(1000, &bad) == UINT64_MAX && elfsee_cost(1000, &other) == UINT64_MAX;
+    }
+    check(shows, "a listing with limits outside their ranges");
+    check(finds, "a lookup with limits outside their ranges");
+    check(applies, "a section with limits outside their ranges");
+    check(opens, "tables with limits outside their ranges");
+    check(unlooked, "a lookup does not look at the bytes of a name that a listing shows");
+    check(costs, "a cost with limits outside their ranges");
+}
+
+static void small_room(void) {
+    struct elfsee_end end;
+    struct elfsee_found found;
+    struct elfsee_rows rows;
+    struct elfsee_range range;
+    struct elfsee_limits limits = limits_of(4096, 256);
+    int all = 1, refused = 1;
+    size_t len;
+    unsigned table;
+    for (len = 0; len < 64; len += 1) {
+        all &= is_bad(show(limits, len, OUT, &end), &end);
+        all &= is_bad(find(limits, len, "call", 4, &found, &end), &end);
+        all &= is_bad(apply(limits, len, 1, 0, 0, OUT, &end), &end);
+        for (table = 0; table < TABLE_COUNT; table += 1) {
+            uint32_t status = TABLES[table].call(object.bytes, object.len, &limits, 1, room.bytes, len, &rows, &end);
+            all &= is_bad(status, &end);
+        }
+        all &= is_bad(elfsee_section_names(object.bytes, object.len, &limits, room.bytes, len, &range, &end), &end);
+    }
+    check(all, "room of less than 64 bytes");
+    for (len = 64; len < 64 * 4; len += 21) {
+        refused &= find(limits, len, "call", 4, &found, &end) == ELFSEE_REFUSED &&
+                   end.cause == ELFSEE_TOO_MANY_HEADERS && end.at == 0x3c;
+    }
+    check(refused, "room for fewer headers than the file has");
+    check(show(limits_of(4096, 256), 64, OUT, &end) == ELFSEE_REFUSED && end.cause == ELFSEE_TOO_MANY_HEADERS,
+          "a listing with room for one header");
+    paint();
+}
+
+static void short_files(void) {
+    struct elfsee_limits limits = limits_of(4096, 256);
+    struct elfsee_end end;
+    struct elfsee_found found;
+    struct elfsee_header header;
+    struct elfsee_rows rows;
+    struct elfsee_job job = {0, 0, 1, 0};
+    struct elfsee_item none = {0, object.bytes, 0, 0, 0};
+    int all = 1;
+    size_t len;
+    job.items = &none;
+    memset(&header, 77, sizeof header);
+    for (len = 0; len < 64; len += 1) {
+        struct lent file = lend_copy(object.bytes, len, len & 1);
+        uint32_t status = elfsee_show(file.bytes, len, &limits, ELFSEE_ALL, room.bytes, ROOM, out.bytes, OUT, &end);
+        all &= status == ELFSEE_REFUSED && end.cause == ELFSEE_SHORT && end.at == len && end.written == 25;
+        status = elfsee_find(file.bytes, len, &limits, room.bytes, ROOM, none.name, 0, &found, &end);
+        all &= status == ELFSEE_REFUSED && end.cause == ELFSEE_SHORT && end.at == len;
+        status = elfsee_apply(file.bytes, len, &limits, &job, room.bytes, ROOM, out.bytes, 0, &end);
+        all &= status == ELFSEE_REFUSED && end.cause == ELFSEE_SHORT && end.at == len;
+        status = elfsee_header(file.bytes, len, &header, &end);
+        all &= status == ELFSEE_REFUSED && end.cause == ELFSEE_SHORT && end.at == len;
+        status = elfsee_symbols(file.bytes, len, &limits, 0, room.bytes, ROOM, &rows, &end);
+        all &= status == ELFSEE_REFUSED && end.cause == ELFSEE_SHORT && end.at == len;
+        all &= elfsee_room(file.bytes, len, 4096) == 64;
+        take_back(&file);
+    }
+    check(all, "files of 0 to 63 bytes");
+    paint();
+}
+
+/* ------------------------------------------------------------------------- */
+
+static void small_out(void) {
+    struct elfsee_limits limits = limits_of(4096, 256);
+    struct elfsee_end end;
+    struct elfsee_rows rows = {0, 1, 0, 24, 0, 0};
+    int all = 1, at_end = 1;
+    size_t len, whole;
+    show(limits, ROOM, OUT, &end);
+    whole = (size_t)end.written;
+    paint();
+    for (len = 0; len < whole; len += 1) {
+        all &= show(limits, ROOM, len, &end) == ELFSEE_FULL && end.written == len;
+        for (size_t at = len; at < len + 8; at += 1) at_end &= out.bytes[at] == MARK;
+    }
+    check(all, "a listing without room for all of it");
+    check(at_end, "a listing is not written behind what is lent");
+    paint();
+    check(show(limits, ROOM, whole, &end) == ELFSEE_OK, "a listing with just its room");
+    paint();
+    check(elfsee_next_symbols(object.bytes, object.len, &rows, (struct elfsee_symbol *)(void *)out.bytes, 0) == 0 &&
+              rows.index == 0 && is_untouched(), "no room for a symbol");
+}
+
+static void cause_words(void) {
+    uint8_t word[40];
+    int all = 1, none = 1;
+    uint32_t cause;
+    for (cause = 1; cause <= ELFSEE_UNMAPPED; cause += 1) {
+        size_t len = elfsee_cause_word(cause, word, sizeof word), less;
+        all &= len > 0 && len <= 32;
+        for (less = 0; less < len; less += 1) {
+            struct lent small = lend(less, 0);
+            memset(small.bytes, MARK, less);
+            all &= elfsee_cause_word(cause, small.bytes, less) == 0;
+            all &= less == 0 || small.bytes[less - 1] == MARK;
+            all &= take_back(&small);
+        }
+        struct lent just = lend(len, 1);
+        all &= elfsee_cause_word(cause, just.bytes, len) == len && !memcmp(just.bytes, word, len);
+        take_back(&just);
+    }
+    check(all, "the words of causes, with room and without");
+    for (cause = ELFSEE_UNMAPPED + 1; cause < 100000; cause += 1) none &= elfsee_cause_word(cause, word, sizeof word) == 0;
+    check(none && !elfsee_cause_word(0, word, sizeof word) && !elfsee_cause_word(UINT32_MAX, word, sizeof word),
+          "numbers that are no cause");
+}
+
+static void parts(void) {
+    struct elfsee_limits limits = limits_of(4096, 256);
+    struct elfsee_end end, other;
+    unsigned part;
+    int all = 1;
+    for (part = 0; part < 128; part += 1) {
+        uint32_t status = elfsee_show(object.bytes, object.len, &limits, (uint8_t)part, room.bytes, ROOM, out.bytes,
+                                      OUT, &end);
+        all &= status == elfsee_show(object.bytes, object.len, &limits, (uint8_t)(part | 128), room.bytes, ROOM,
+                                     out.bytes, OUT, &other);
+        all &= status == ELFSEE_OK && end.written == other.written && (end.written == 0) == (part == 0 || part == 4 ||
+               part == 32 || part == 64 || part == 36 || part == 68 || part == 96 || part == 100);
+    }
+    check(all, "each set of parts, and bits without a meaning");
+    paint();
+}
+
+static void names(void) {
+    static char name[5000];
+    struct elfsee_limits limits = limits_of(4096, 256);
+    struct elfsee_end end;
+    struct elfsee_found found;
+    check(find(limits, ROOM, "call", 4, &found, &end) == ELFSEE_OK && found.steps > 0 && found.none == 0 &&
+              found.none_behind == 0 && end.cause == 0 && end.at == 0 && end.written == 0, "a name that is there");
+    check(find(limits, ROOM, "cal", 3, &found, &end) == ELFSEE_ABSENT && is_zero(&found.symbol, sizeof found.symbol),
+          "a front of a name");
+    check(find(limits, ROOM, "calls", 5, &found, &end) == ELFSEE_ABSENT, "a name and one byte more");
+    check(find(limits, ROOM, name, 0, &found, &end) != ELFSEE_BAD_CALL, "a name of no bytes");
+    paint();
+    memset(name, 'n', sizeof name);
+    check(find(limits, ROOM, name, 4096, &found, &end) == ELFSEE_ABSENT, "a name of 4,096 bytes");
+    paint();
+    check(is_bad(find(limits, ROOM, name, 4097, &found, &end), &end), "a name of 4,097 bytes");
+    check(find(limits, ROOM, "call\0", 5, &found, &end) != ELFSEE_OK, "a name with a NUL behind it");
+    check(find(limits, ROOM, "ca\0l", 4, &found, &end) != ELFSEE_OK, "a name with a NUL in it");
+    paint();
+}
+
+/* ------------------------------------------------------------------------- */
+/* Items. */
+
+static struct elfsee_item items[ITEMS];
+static uint8_t item_names[ITEMS][4];
+
+/* So many items of one kind, all different, behind others. */
+static size_t add(size_t at, uint32_t kind, unsigned count) {
+    unsigned i;
+    for (i = 0; i < count; i += 1, at += 1) {
+        struct elfsee_item item = {0x1000 * i, item_names[at], 0, kind, 0};
+        item_names[at][0] = 'a';
+        item_names[at][1] = (uint8_t)(1 + i);
+        if (kind == ELFSEE_SECTION) item.index = i + 1;
+        else item.name_len = 2;
+        items[at] = item;
+    }
+    return at;
+}
+
+static int is_bad_items(size_t count) {
+    struct elfsee_end end;
+    return is_bad(apply(limits_of(4096, 0), ROOM, 1, items, count, OUT, &end), &end);
+}
+
+static int are_good_items(size_t count) {
+    struct elfsee_end end;
+    uint32_t status = apply(limits_of(4096, 0), ROOM, 1, items, count, OUT, &end);
+    paint();
+    return status == ELFSEE_OK || status == ELFSEE_REFUSED;
+}
+
+static void many_items(void) {
+    check(are_good_items(0), "no items");
+    check(are_good_items(add(0, ELFSEE_SECTION, 64)), "64 sections");
+    check(is_bad_items(add(0, ELFSEE_SECTION, 65)), "65 sections");
+    check(are_good_items(add(0, ELFSEE_DEFINE, 32)), "32 definitions");
+    check(is_bad_items(add(0, ELFSEE_DEFINE, 33)), "33 definitions");
+    check(are_good_items(add(0, ELFSEE_ENTRY, 32)), "32 entries");
+    check(is_bad_items(add(0, ELFSEE_ENTRY, 33)), "33 entries");
+    check(are_good_items(add(add(add(0, ELFSEE_SECTION, 64), ELFSEE_DEFINE, 32), ELFSEE_ENTRY, 32)),
+          "as many items as a layout holds, with the same names of two kinds");
+    check(is_bad_items(add(add(add(0, ELFSEE_SECTION, 64), ELFSEE_DEFINE, 32), ELFSEE_ENTRY, 33)), "one item more");
+}
+
+static void odd_items(void) {
+    size_t count = add(add(add(0, ELFSEE_SECTION, 2), ELFSEE_DEFINE, 2), ELFSEE_ENTRY, 2);
+    check(are_good_items(count), "two items of each kind");
+    items[1].index = items[0].index;
+    check(is_bad_items(count), "a section twice");
+    items[1].index = 65536;
+    check(is_bad_items(count), "a section of index 65,536");
+    items[1].index = UINT32_MAX;
+    check(is_bad_items(count), "a section of index 4,294,967,295");
+    items[1].index = 65535;
+    check(are_good_items(count), "a section of index 65,535");
+    item_names[3][1] = item_names[2][1];
+    check(is_bad_items(count), "a definition twice");
+    item_names[3][1] = 200;
+    item_names[5][1] = item_names[4][1];
+    check(is_bad_items(count), "an entry twice");
+    item_names[5][1] = 200;
+    items[4].kind = 3;
+    check(is_bad_items(count), "an item of kind 3");
+    items[4].kind = UINT32_MAX;
+    check(is_bad_items(count), "an item of kind 4,294,967,295");
+}
+
+static void item_lengths(void) {
+    uint8_t bytes[300];
+    size_t len, at;
+    int good = 1, bad = 1, nul = 1;
+    memset(bytes, 'n', sizeof bytes);
+    for (len = 0; len < 300; len += 1) {
+        struct lent name = lend_copy(bytes, len, len & 1);
+        struct elfsee_item item = {0x1000, name.bytes, len, len & 2 ? ELFSEE_DEFINE : ELFSEE_ENTRY, UINT32_MAX};
+        items[0] = item;
+        if (len >= 1 && len <= 255) good &= are_good_items(1);
+        else bad &= is_bad_items(1);
+        take_back(&name);
+    }
+    check(good, "names of 1 to 255 bytes");
+    check(bad, "names of no byte, and of 256 to 299");
+    for (at = 0; at < 255; at += 1) {
+        bytes[at] = 0;
+        struct lent name = lend_copy(bytes, 255, at & 1);
+        struct elfsee_item item = {0x1000, name.bytes, 255, at & 2 ? ELFSEE_DEFINE : ELFSEE_ENTRY, 0};
+        items[0] = item;
+        nul &= is_bad_items(1);
+        take_back(&name);
+        bytes[at] = 'n';
+    }
+    check(nul, "names with a NUL at each place");
+}
+
+static void sections(void) {
+    static const uint32_t numbers[] = {0, 60000, 65279, 65535, 65536, 65537, UINT32_MAX};
+    struct elfsee_end end;
+    struct elfsee_limits limits = limits_of(4096, 0);
+    unsigned i;
+    int all = 1;
+    for (i = 0; i < 7; i += 1) {
+        uint32_t status = apply(limits, ROOM, numbers[i], items, 0, OUT, &end);
+        all &= (status == ELFSEE_REFUSED && end.cause == ELFSEE_BAD_LINK && end.at == 0x3c) ||
+               (numbers[i] > 65535 && status == ELFSEE_BAD_CALL);
+        all &= end.written == 0;
+    }
+    check(all, "sections that are not there");
+    paint();
+}
+
+static void small_section(void) {
+    struct elfsee_end end;
+    size_t count = add(add(0, ELFSEE_SECTION, 60), ELFSEE_DEFINE, 1), len, whole;
+    struct elfsee_limits limits = limits_of(4096, 0);
+    static const uint8_t other[] = "other";
+    int all = 1;
+    items[60].name = other;
+    items[60].name_len = 5;
+    check(apply(limits, ROOM, 1, items, count, OUT, &end) == ELFSEE_OK && end.written > 0, "a section");
+    whole = (size_t)end.written;
+    for (len = 0; len < whole; len += 1) {
+        paint();
+        all &= apply(limits, ROOM, 1, items, count, len, &end) == ELFSEE_FULL && end.written <= len;
+        all &= out.bytes[len] == MARK;
+    }
+    check(all, "a section without room for all of it");
+    check(apply(limits, ROOM, 1, items, count, whole, &end) == ELFSEE_OK && end.written == whole,
+          "a section with just its room");
+    paint();
+}
+
+/* ------------------------------------------------------------------------- */
+/* Any numbers. */
+
+static uint64_t state = 88172645463325252u;
+
+static uint64_t next(void) {
+    state ^= state << 13;
+    state ^= state >> 7;
+    state ^= state << 17;
+    return state;
+}
+
+/* A number that is likely to be near a bound. */
+static uint64_t any(size_t len) {
+    switch (next() % 8) {
+    case 0: return next();
+    case 1: return UINT64_MAX - next() % 100;
+    case 2: return len - next() % 100;
+    case 3: return next() % 16;
+    case 4: return (uint64_t)1 << next() % 64;
+    case 5: return UINT64_MAX / 24 + next() % 8;
+    default: return next() % (len + 1);
+    }
+}
+
+static struct elfsee_rows any_rows(size_t len) {
+    struct elfsee_rows rows = {any(len), any(len), any(len), any(len), any(len), any(len)};
+    if (next() & 1) rows.entry = next() & 1 ? 24 : 16;
+    if (next() & 1) rows.index = rows.count - next() % 5;
+    if (!(next() & 3)) rows.entry = next() & 1;
+    return rows;
+}
+
+/* Whether rows that were read lie in the file, right behind one another. */
+static int lie_inside(const struct elfsee_rows *old, const struct elfsee_rows *now, size_t count, unsigned size, size_t len) {
+    if (count == 0) return 1;
+    return now->at == old->at && now->count == old->count && old->at <= len && old->index <= (len - old->at) / size &&
+           count <= (len - old->at) / size - old->index;
+}
+
+static int any_steps(void) {
+    size_t want = next() % 20, count;
+    struct elfsee_rows rows = any_rows(library.len), old = rows;
+    struct lent lent = lend(24 * want, 0);
+    int all;
+    switch (next() % 3) {
+    case 0:
+        count = elfsee_next_symbols(library.bytes, library.len, &rows, (struct elfsee_symbol *)(void *)lent.bytes, want);
+        all = lie_inside(&old, &rows, count, 24, library.len);
+        break;
+    case 1:
+        count = elfsee_next_relocations(library.bytes, library.len, &rows,
+                                        (struct elfsee_relocation *)(void *)lent.bytes, want);
+        all = lie_inside(&old, &rows, count, old.entry == 16 ? 16 : 24, library.len);
+        break;
+    default:
+        count = elfsee_next_dynamic(library.bytes, library.len, &rows, (struct elfsee_dynamic *)(void *)lent.bytes, want);
+        all = lie_inside(&old, &rows, count, 16, library.len);
+    }
+    return take_back(&lent) && count <= want && all;
+}
+
+static int any_note(void) {
+    struct elfsee_rows rows = any_rows(library.len);
+    struct elfsee_note note = {any(1), any(1), 1, 1, 1, 1};
+    struct elfsee_end end = ODD;
+    uint32_t status = elfsee_next_note(library.bytes, library.len, &rows, &note, &end);
+    if (status != ELFSEE_OK) return status == ELFSEE_ABSENT || status == ELFSEE_REFUSED;
+    return note.name_at <= library.len && note.name_len <= library.len - note.name_at && note.none == 0 &&
+           note.desc_at <= library.len && note.desc_len <= library.len - note.desc_at;
+}
+
+static int any_name(void) {
+    struct elfsee_range strings = {any(library.len), any(library.len)}, name = {7, 7};
+    struct elfsee_end end = ODD;
+    uint64_t offset = any(library.len);
+    uint32_t status = elfsee_name(library.bytes, library.len, &strings, offset, &name, &end);
+    if (status == ELFSEE_REFUSED) return end.cause == ELFSEE_NAME_OUTSIDE || end.cause == ELFSEE_NAME_UNENDED;
+    return status == ELFSEE_OK && name.at == strings.at + offset && offset < strings.len && strings.at <= library.len &&
+           strings.len <= library.len - strings.at && name.len < strings.len - offset &&
+           !memchr(library.bytes + name.at, 0, (size_t)name.len) && library.bytes[name.at + name.len] == 0;
+}
+
+/* A file with some of its bytes changed, or cut. */
+static struct lent changed(const struct lent *whole) {
+    size_t len = next() % 4 ? whole->len : next() % (whole->len + 1), count = next() % 8;
+    struct lent file = lend_copy(whole->bytes, len, next() & 1);
+    if (mprotect(file.inner, file.inner_len, PROT_READ | PROT_WRITE)) abort();
+    for (; count && len; count -= 1) {
+        size_t at = next() % 3 ? next() % (len < 64 ? len : 64) : next() % len;
+        file.bytes[at] = (uint8_t)(next() & 1 ? next() : next() % 3 * 0x7f);
+    }
+    if (mprotect(file.inner, file.inner_len, PROT_READ)) abort();
+    return file;
+}
+
+static struct elfsee_limits any_limits(void) {
+    struct elfsee_limits limits = {(uint16_t)any(100), (uint16_t)any(300), (uint32_t)(next() & 1), any(4000)};
+    if (next() & 1) limits.headers = 65279;
+    if (next() & 1) limits.name = 256;
+    return limits;
+}
+
+/* Whether what a call answers lies in its bounds. */
+static int is_end(const struct elfsee_end *end, uint32_t status, const struct elfsee_limits *limits, size_t out_len) {
+    return status <= ELFSEE_BAD_CALL && end->written <= out_len && (end->cause != 0) == (status == ELFSEE_REFUSED) &&
+           end->cause <= ELFSEE_UNMAPPED && (status == ELFSEE_REFUSED || end->at == 0) && end->none == 0 &&
+           (!limits->has_budget || end->asked <= limits->budget);
+}
+
+static int any_show(void) {
+    struct lent file = changed(next() & 1 ? &object : &library);
+    struct lent some_room = lend(next() % (64 * 50), next() & 1), some_out = lend(next() % 20000, next() & 1);
+    struct elfsee_limits limits = any_limits();
+    struct elfsee_end end = ODD;
+    uint32_t status = elfsee_show(file.bytes, file.len, &limits, (uint8_t)next(), some_room.bytes, some_room.len,
+                                  some_out.bytes, some_out.len, &end);
+    int all = is_end(&end, status, &limits, some_out.len) && end.asked <= elfsee_cost(file.len, &limits);
+    int bad = limits.headers < 1 || limits.headers > 65279 || limits.name < 1 || limits.name > 4096 || some_room.len < 64;
+    all &= bad == (status == ELFSEE_BAD_CALL) && status != ELFSEE_ABSENT;
+    all &= status != ELFSEE_FULL || end.written == some_out.len;
+    take_back(&file);
+    return take_back(&some_room) & take_back(&some_out) & all;
+}
+
+static int any_find(void) {
+    struct lent file = changed(&library), name = lend_copy(library.bytes, next() % 300, next() & 1);
+    struct lent some_room = lend(next() % (64 * 50), next() & 1);
+    struct elfsee_limits limits = any_limits();
+    struct elfsee_end end = ODD;
+    struct elfsee_found found = {{any(1), any(1), 1, 1, 1, 1}, 1, 1, 1, 1, 1};
+    uint32_t status = elfsee_find(file.bytes, file.len, &limits, some_room.bytes, some_room.len, name.bytes, name.len,
+                                  &found, &end);
+    int all = is_end(&end, status, &limits, 0) && status != ELFSEE_FULL;
+    take_back(&file);
+    take_back(&name);
+    return take_back(&some_room) && all;
+}
+
+static int any_apply(void) {
+    struct lent file = changed(&object), some_room = lend(next() % (64 * 50), next() & 1);
+    struct lent some_out = lend(next() % 200, next() & 1);
+    struct elfsee_limits limits = any_limits();
+    struct elfsee_end end = ODD;
+    struct elfsee_job job = {items, add(add(0, ELFSEE_SECTION, next() % 67), ELFSEE_DEFINE, next() % 35),
+                             (uint32_t)(next() & 1 ? 1 : any(20)), (uint32_t)next()};
+    unsigned odd;
+    for (odd = next() % 3; odd && job.items_len; odd -= 1) {
+        struct elfsee_item *item = &items[next() % job.items_len];
+        item->kind = (uint32_t)any(3);
+        item->index = (uint32_t)any(65536);
+        item->name_len = next() % 5;
+        item->address = next();
+    }
+    uint32_t status = elfsee_apply(file.bytes, file.len, &limits, &job, some_room.bytes, some_room.len, some_out.bytes,
+                                   some_out.len, &end);
+    int all = is_end(&end, status, &limits, some_out.len) && status != ELFSEE_ABSENT;
+    all &= status == ELFSEE_OK || end.written == 0;
+    take_back(&file);
+    return take_back(&some_room) & take_back(&some_out) & all;
+}
+
+static int any_open(void) {
+    struct lent file = changed(next() & 1 ? &object : &library), some_room = lend(next() % (64 * 50), next() & 1);
+    struct elfsee_limits limits = any_limits();
+    struct elfsee_end end = ODD;
+    struct elfsee_rows rows = any_rows(file.len);
+    struct elfsee_range range = {any(1), any(1)};
+    uint16_t section = (uint16_t)any(30);
+    uint32_t status;
+    int all;
+    if (next() % 5) {
+        status = TABLES[next() % TABLE_COUNT].call(file.bytes, file.len, &limits, section, some_room.bytes,
+                                                   some_room.len, &rows, &end);
+        all = status != ELFSEE_OK || (rows.at <= file.len && rows.index == 0);
+    } else {
+        status = elfsee_section_names(file.bytes, file.len, &limits, some_room.bytes, some_room.len, &range, &end);
+        all = status != ELFSEE_OK || (range.at <= file.len && range.len <= file.len - range.at);
+    }
+    all &= status != ELFSEE_FULL && is_end(&end, status, &limits, 0);
+    take_back(&file);
+    return take_back(&some_room) && all;
+}
+
+static int any_header(void) {
+    struct lent file = changed(next() & 1 ? &object : &library);
+    struct elfsee_end end = ODD;
+    struct elfsee_header header;
+    struct elfsee_section section;
+    struct elfsee_segment segment;
+    struct elfsee_limits none = {1, 1, 0, 0};
+    uint64_t wanted = elfsee_room(file.bytes, file.len, (uint16_t)any(100));
+    uint32_t status;
+    int all = wanted >= 64 && wanted <= 64 * 65535u;
+    memset(&header, 77, sizeof header);
+    memset(&section, 77, sizeof section);
+    memset(&segment, 77, sizeof segment);
+    status = elfsee_header(file.bytes, file.len, &header, &end);
+    all &= status <= ELFSEE_REFUSED && is_end(&end, status, &none, 0);
+    status = elfsee_section(file.bytes, file.len, (uint16_t)any(30), &section, &end);
+    all &= status <= ELFSEE_ABSENT && is_end(&end, status, &none, 0);
+    status = elfsee_segment(file.bytes, file.len, (uint16_t)any(10), &segment, &end);
+    all &= status <= ELFSEE_ABSENT && is_end(&end, status, &none, 0);
+    take_back(&file);
+    return all;
+}
+
+static void many(const char *name, int (*call)(void), unsigned tries) {
+    int all = 1;
+    unsigned i;
+    for (i = 0; i < tries && all; i += 1) all &= call();
+    if (!all) printf("try %u of: ", i);
+    check(all, name);
+}
+
+int main(int argc, char **argv) {
+    if (argc < 4) return 2;
+    unsigned tries = (unsigned)atoi(argv[3]);
+    object = read_file(argv[1]);
+    library = read_file(argv[2]);
+    out = lend(OUT, 0);
+    room = lend(ROOM, 0);
+    paint();
+    bad_limits();
+    small_room();
+    short_files();
+    small_out();
+    cause_words();
+    parts();
+    names();
+    many_items();
+    odd_items();
+    item_lengths();
+    sections();
+    small_section();
+    many("next rows, by any numbers", any_steps, tries);
+    many("the next note, by any numbers", any_note, tries);
+    many("names, in any range", any_name, tries);
+    many("headers of changed files", any_header, tries);
+    many("listings of changed files, with any limits", any_show, tries);
+    many("lookups in changed files, with any limits", any_find, tries);
+    many("sections of changed files, with any items", any_apply, tries);
+    many("tables of changed files, with any limits", any_open, tries);
+    check(is_whole(&out) && is_whole(&room) && is_whole(&object) && is_whole(&library), "nothing beside was written");
+    printf("%u passed, %u failed\n", passed, failed);
+    return failed != 0;
+}

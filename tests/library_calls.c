@@ -1,0 +1,452 @@
+/* Calls the library as the lines of standard input say, for tests/library. A line is one of
+ *
+ *     show HEADERS NAME BUDGET PARTS PATH
+ *     find HEADERS BUDGET NAME PATH          NAME in hexadecimal digits, or -
+ *     apply HEADERS BUDGET SECTION ITEMS PATH
+ *     rows PATH
+ *     words                                  the words of the causes
+ *
+ * BUDGET is a number, or - for none; ITEMS are KIND:INDEX:NAME:ADDRESS joined by commas, with the name in
+ * hexadecimal digits, or -. The answer is a line STATUS CAUSE AT WRITTEN ASKED COST LENGTH, and so many bytes; where
+ * a call does what it may not do the line is WRONG and what it did. All that is lent lies at pages that
+ * cannot be touched, and the file cannot be written. */
+#define _GNU_SOURCE
+#include "elfsee.h"
+#include "lent.h"
+
+#include <fcntl.h>
+#include <inttypes.h>
+#include <stdarg.h>
+#include <stdio.h>
+#include <sys/stat.h>
+#include <unistd.h>
+
+enum { MOST_ITEMS = 200, HEADER_BYTES = 64 };
+
+static unsigned turn; /* lent memory lies at the page behind it and at that before it by turns */
+
+static void wrong(const char *what) {
+    printf("WRONG %s\n", what);
+    fflush(stdout);
+    exit(1);
+}
+
+static void expect(int is_so, const char *what) {
+    if (!is_so) wrong(what);
+}
+
+static struct lent read_file(const char *path) {
+    int fd = open(path, O_RDONLY);
+    struct stat found;
+    if (fd < 0 || fstat(fd, &found)) wrong("the file is not opened");
+    struct lent file = lend((size_t)found.st_size, turn & 1);
+    size_t at = 0;
+    while (at < file.len) {
+        ssize_t count = pread(fd, file.bytes + at, file.len - at, (off_t)at);
+        if (count <= 0) wrong("the file is not read");
+        at += (size_t)count;
+    }
+    close(fd);
+    if (mprotect(file.inner, file.inner_len, PROT_READ)) abort();
+    return file;
+}
+
+static struct elfsee_limits limits_of(const char *headers, const char *name, const char *budget) {
+    struct elfsee_limits limits = {(uint16_t)atoi(headers), (uint16_t)atoi(name), 0, 0};
+    limits.has_budget = *budget != '-';
+    if (limits.has_budget) limits.budget = strtoull(budget, 0, 0);
+    return limits;
+}
+
+/* Bytes of hexadecimal digits; gives how many there are. */
+static size_t bytes_of(const char *digits, uint8_t *bytes) {
+    size_t len = 0;
+    unsigned byte;
+    for (; *digits != '-' && sscanf(digits, "%2x", &byte) == 1; digits += 2) bytes[len++] = (uint8_t)byte;
+    return len;
+}
+
+static void answer(uint32_t status, const struct elfsee_end *end, uint64_t cost, const void *text, size_t len) {
+    printf("%" PRIu32 " %" PRIu32 " %" PRIu64 " %" PRIu64 " %" PRIu64 " %" PRIu64 " %zu\n", status, end->cause,
+           end->at, end->written, end->asked, cost, len);
+    fwrite(text, 1, len, stdout);
+}
+
+static int is_same(const struct elfsee_end *one, const struct elfsee_end *other) {
+    return one->at == other->at && one->written == other->written && one->asked == other->asked &&
+           one->cause == other->cause && one->none == 0 && other->none == 0;
+}
+
+/* ------------------------------------------------------------------------- */
+
+struct shown {
+    struct lent out;
+    struct elfsee_end end;
+    uint32_t status;
+};
+
+static struct shown show_into(const struct lent *file, const struct elfsee_limits *limits, uint8_t parts, size_t room_len,
+                              size_t out_len) {
+    struct shown shown = {lend(out_len, turn & 1), {7, 7, 7, 7, 7}, 0};
+    struct lent room = lend(room_len, turn++ & 2);
+    shown.status = elfsee_show(file->bytes, file->len, limits, parts, room.bytes, room.len, shown.out.bytes, out_len,
+                               &shown.end);
+    expect(is_whole(&shown.out), "out was written outside");
+    expect(take_back(&room), "room was written outside");
+    expect(shown.end.written <= out_len, "more written than lent");
+    expect(shown.end.none == 0, "none is not 0");
+    return shown;
+}
+
+/* The same call once more, with other room or less out, and what has to come. */
+static void show_again(const struct lent *file, const struct elfsee_limits *limits, uint8_t parts, size_t room_len,
+                       size_t out_len, const struct shown *whole) {
+    struct shown again = show_into(file, limits, parts, room_len, out_len);
+    if (out_len < whole->end.written) {
+        expect(again.status == ELFSEE_FULL && again.end.written == out_len, "another status than full");
+    } else {
+        expect(again.status == whole->status && is_same(&again.end, &whole->end), "another answer with other room");
+    }
+    expect(!memcmp(again.out.bytes, whole->out.bytes, (size_t)again.end.written), "another text with other room");
+    take_back(&again.out);
+}
+
+static void show(const struct lent *file, char **words) {
+    struct elfsee_limits limits = limits_of(words[0], words[1], words[2]);
+    uint8_t parts = (uint8_t)atoi(words[3]);
+    size_t room_len = HEADER_BYTES * (size_t)limits.headers, out_len = 1 << 16;
+    struct shown shown = show_into(file, &limits, parts, room_len, out_len);
+    while (shown.status == ELFSEE_FULL) {
+        expect(shown.end.written == out_len, "full, and not written to the end");
+        take_back(&shown.out);
+        out_len *= 4;
+        shown = show_into(file, &limits, parts, room_len, out_len);
+    }
+    size_t written = (size_t)shown.end.written;
+    uint64_t wanted = elfsee_room(file->bytes, file->len, limits.headers);
+    expect(wanted >= HEADER_BYTES && wanted <= room_len, "room out of its range");
+    show_again(file, &limits, parts, (size_t)wanted, written, &shown);
+    if (written) show_again(file, &limits, parts, (size_t)wanted, written - 1, &shown);
+    if (written) show_again(file, &limits, parts, room_len, written / 2, &shown);
+    answer(shown.status, &shown.end, elfsee_cost(file->len, &limits), shown.out.bytes, written);
+    take_back(&shown.out);
+}
+
+static void find(const struct lent *file, char **words) {
+    struct elfsee_limits limits = limits_of(words[0], "1", words[1]);
+    static uint8_t bytes[1 << 16];
+    struct lent name = lend_copy(bytes, bytes_of(words[2], bytes), turn & 1);
+    struct lent room = lend(HEADER_BYTES * (size_t)limits.headers, turn++ & 2);
+    struct lent less = lend((size_t)elfsee_room(file->bytes, file->len, limits.headers), turn & 1);
+    struct elfsee_found found = {{7, 7, 7, 7, 7, 7}, 7, 7, 7, 7, 7}, again = found;
+    struct elfsee_end end = {7, 7, 7, 7, 7}, end_again = end;
+    uint32_t status = elfsee_find(file->bytes, file->len, &limits, room.bytes, room.len, name.bytes, name.len, &found, &end);
+    uint32_t status_again =
+        elfsee_find(file->bytes, file->len, &limits, less.bytes, less.len, name.bytes, name.len, &again, &end_again);
+    expect(status == status_again && is_same(&end, &end_again), "another answer with other room");
+    expect(!memcmp(&found, &again, sizeof found), "another symbol with other room");
+    expect(take_back(&room) && take_back(&less), "room was written outside");
+    take_back(&name);
+    char text[256];
+    int len = snprintf(text, sizeof text, "%u %" PRIu32 " %" PRIu64 " %" PRIu64 " %u %u %u %" PRIu32 " %" PRIu32 " %u %" PRIu32,
+                       found.section, found.index, found.symbol.value, found.symbol.size, found.symbol.info,
+                       found.symbol.other, found.symbol.section, found.symbol.name, found.steps, found.none,
+                       found.none_behind);
+    answer(status, &end, UINT64_MAX, text, (size_t)len);
+}
+
+/* Items of their words; the names stand in `names`, one behind the other. */
+static size_t items_of(char *words, struct elfsee_item *items, uint8_t *names) {
+    size_t count = 0;
+    char *rest, *word = *words == '-' ? 0 : strtok_r(words, ",", &rest);
+    for (; word && count < MOST_ITEMS; word = strtok_r(0, ",", &rest)) {
+        struct elfsee_item item = {0, names, 0, 0, 0};
+        char digits[600];
+        if (sscanf(word, "%" SCNu32 ":%" SCNu32 ":%599[^:]:%" SCNx64, &item.kind, &item.index, digits, &item.address) != 4)
+            wrong("an item is not read");
+        item.name_len = bytes_of(digits, names);
+        names += item.name_len + 1;
+        items[count++] = item;
+    }
+    return count;
+}
+
+static void apply(const struct lent *file, char **words) {
+    static struct elfsee_item items[MOST_ITEMS];
+    static uint8_t names[MOST_ITEMS * 300];
+    struct elfsee_limits limits = limits_of(words[0], "1", words[1]);
+    struct elfsee_job job = {items, items_of(words[3], items, names), (uint32_t)strtoul(words[2], 0, 0), 0xffffffff};
+    struct elfsee_end end = {7, 7, 7, 7, 7};
+    size_t room_len = (size_t)elfsee_room(file->bytes, file->len, limits.headers), out_len = 64;
+    uint32_t status;
+    struct lent out, room;
+    for (;; out_len *= 4) {
+        out = lend(out_len, turn & 1);
+        room = lend(room_len, turn++ & 2);
+        status = elfsee_apply(file->bytes, file->len, &limits, &job, room.bytes, room.len, out.bytes, out_len, &end);
+        expect(is_whole(&out), "out was written outside");
+        expect(take_back(&room), "room was written outside");
+        if (status != ELFSEE_FULL) break;
+        expect(take_back(&out), "out was written outside");
+    }
+    expect(end.written <= out_len && (status == ELFSEE_OK || end.written == 0), "written is wrong");
+    answer(status, &end, UINT64_MAX, out.bytes, (size_t)end.written);
+    if (status == ELFSEE_OK && end.written) {
+        struct lent less = lend((size_t)end.written - 1, turn & 1);
+        room = lend(room_len, turn++ & 2);
+        expect(elfsee_apply(file->bytes, file->len, &limits, &job, room.bytes, room.len, less.bytes, less.len, &end) ==
+                   ELFSEE_FULL, "a section without room for its last byte");
+        expect(take_back(&less) && take_back(&room), "written outside");
+    }
+    take_back(&out);
+}
+
+/* ------------------------------------------------------------------------- */
+/* All rows of a file, a line for each, with numbers for names of numbers. */
+
+struct walk {
+    const struct lent *file;
+    struct lent room;
+    struct elfsee_limits limits;
+    struct elfsee_range names; /* of sections */
+    struct elfsee_end end;
+    char *text;
+    size_t len, size;
+};
+
+static void say(struct walk *walk, const char *form, ...) {
+    va_list words;
+    if (walk->size - walk->len < 1024) {
+        walk->size = walk->size * 2 + 65536;
+        walk->text = (char *)realloc(walk->text, walk->size);
+        if (!walk->text) abort();
+    }
+    va_start(words, form);
+    walk->len += (size_t)vsnprintf(walk->text + walk->len, walk->size - walk->len, form, words);
+    va_end(words);
+}
+
+/* The bytes of a name, spelt as in a listing. */
+static void say_bytes(struct walk *walk, uint64_t at, uint64_t len) {
+    uint64_t i, shown = len < walk->limits.name ? len : walk->limits.name;
+    for (i = 0; i < shown; i += 1) {
+        uint8_t byte = walk->file->bytes[at + i];
+        say(walk, byte == '\\' ? "\\\\" : byte < 0x20 || byte > 0x7e ? "\\x%02x" : "%c", byte);
+    }
+    if (shown < len) say(walk, "\\+");
+}
+
+/* The name at an offset of a string table: whether there is one. */
+static int say_name(struct walk *walk, const struct elfsee_range *strings, uint64_t offset) {
+    struct elfsee_range name = {7, 7};
+    if (strings->len == 0 && offset == 0) return 1;
+    if (elfsee_name(walk->file->bytes, walk->file->len, strings, offset, &name, &walk->end)) return 0;
+    expect(name.at == strings->at + offset && offset + name.len < strings->len, "a name outside its table");
+    expect(name.at + name.len < walk->file->len && walk->file->bytes[name.at + name.len] == 0, "a name without its NUL");
+    say_bytes(walk, name.at, name.len);
+    return 1;
+}
+
+/* The symbols of a section, and whether all could be named. */
+static int say_symbols(struct walk *walk, uint16_t section) {
+    struct elfsee_rows rows = {7, 7, 7, 7, 7, 7};
+    struct elfsee_symbol some[100];
+    uint32_t status = elfsee_symbols(walk->file->bytes, walk->file->len, &walk->limits, section, walk->room.bytes,
+                                     walk->room.len, &rows, &walk->end);
+    size_t i, count;
+    if (status != ELFSEE_OK) return status == ELFSEE_ABSENT;
+    for (;;) {
+        uint64_t index = rows.index;
+        count = elfsee_next_symbols(walk->file->bytes, walk->file->len, &rows, some, 100);
+        expect(count <= 100 && rows.index == index + count, "a wrong number of symbols");
+        for (i = 0; i < count; i += 1) {
+            struct elfsee_range strings = {rows.strings_at, rows.strings_len};
+            say(walk, "Y %u %" PRIu64 " %" PRIu64 " %" PRIu64 " %u %u %u %u ", section, index + i, some[i].value,
+                some[i].size, some[i].info & 15, some[i].info >> 4, some[i].other & 3, some[i].section);
+            if (!say_name(walk, &strings, some[i].name)) return 0;
+            say(walk, "\n");
+        }
+        if (count < 100) return 1;
+    }
+}
+
+static int say_relocations(struct walk *walk, uint16_t section) {
+    struct elfsee_rows rows = {7, 7, 7, 7, 7, 7};
+    struct elfsee_section header;
+    struct elfsee_relocation some[7];
+    uint32_t status = elfsee_relocations(walk->file->bytes, walk->file->len, &walk->limits, section, walk->room.bytes,
+                                         walk->room.len, &rows, &walk->end);
+    size_t i, count = 7;
+    memset(&header, 7, sizeof header);
+    if (status != ELFSEE_OK) return status == ELFSEE_ABSENT;
+    status = elfsee_section(walk->file->bytes, walk->file->len, section, &header, &walk->end);
+    /* A table of entries without addends is no part of a listing. */
+    if (status || header.type == 9) return status == ELFSEE_OK;
+    while (count == 7) {
+        count = elfsee_next_relocations(walk->file->bytes, walk->file->len, &rows, some, 7);
+        for (i = 0; i < count; i += 1) {
+            say(walk, "R %u %" PRIu64 " %" PRIu64 " %" PRIu64 " %" PRIi64 "\n", section, some[i].offset,
+                some[i].info & 0xffffffff, some[i].info >> 32, some[i].addend);
+        }
+    }
+    return 1;
+}
+
+static int say_dynamic(struct walk *walk, uint16_t section) {
+    struct elfsee_rows rows = {7, 7, 7, 7, 7, 7};
+    struct elfsee_dynamic entry;
+    uint32_t status = elfsee_dynamic(walk->file->bytes, walk->file->len, &walk->limits, section, walk->room.bytes,
+                                     walk->room.len, &rows, &walk->end);
+    uint64_t index = 0;
+    if (status != ELFSEE_OK) return status == ELFSEE_ABSENT;
+    for (; elfsee_next_dynamic(walk->file->bytes, walk->file->len, &rows, &entry, 1); index += 1) {
+        struct elfsee_range strings = {rows.strings_at, rows.strings_len};
+        int64_t tag = entry.tag;
+        say(walk, "D %" PRIu64 " %" PRIi64 " %" PRIu64 " ", index, tag, entry.value);
+        if ((tag == 1 || tag == 14 || tag == 15 || tag == 29) && !say_name(walk, &strings, entry.value)) return 0;
+        say(walk, "\n");
+    }
+    return 1;
+}
+
+static int say_notes(struct walk *walk, uint16_t section) {
+    struct elfsee_rows rows = {7, 7, 7, 7, 7, 7};
+    struct elfsee_note note = {7, 7, 7, 7, 7, 7};
+    const uint8_t *bytes = walk->file->bytes;
+    uint32_t status = elfsee_notes(bytes, walk->file->len, &walk->limits, section, walk->room.bytes, walk->room.len, &rows,
+                                   &walk->end);
+    if (status != ELFSEE_OK) return status == ELFSEE_ABSENT;
+    while ((status = elfsee_next_note(bytes, walk->file->len, &rows, &note, &walk->end)) == ELFSEE_OK) {
+        const uint8_t *name = bytes + note.name_at, *nul = (const uint8_t *)memchr(name, 0, note.name_len);
+        uint32_t i;
+        expect(note.name_at + note.name_len <= walk->file->len && note.desc_at + note.desc_len <= walk->file->len,
+               "a note outside the file");
+        say(walk, "N %u %" PRIu32 " %" PRIu32 " %" PRIu32 " ", section, note.type, note.name_len, note.desc_len);
+        say_bytes(walk, note.name_at, nul ? (uint64_t)(nul - name) : note.name_len);
+        say(walk, " ");
+        for (i = 0; i < note.desc_len && i < 32; i += 1) say(walk, "%02x", bytes[note.desc_at + i]);
+        say(walk, note.desc_len > 32 ? "\\+\n" : "\n");
+    }
+    return status == ELFSEE_ABSENT;
+}
+
+static int say_section(struct walk *walk, uint16_t index) {
+    struct elfsee_section header;
+    memset(&header, 7, sizeof header);
+    if (elfsee_section(walk->file->bytes, walk->file->len, index, &header, &walk->end)) return 0;
+    say(walk, "S %u %" PRIu32 " %" PRIu64 " %" PRIu64 " %" PRIu64 " %" PRIu64 " %" PRIu32 " %" PRIu32 " %" PRIu64 " %" PRIu64 " ",
+        index, header.type, header.flags, header.addr, header.offset, header.size, header.link, header.info,
+        header.addralign, header.entsize);
+    if (walk->names.len && !say_name(walk, &walk->names, header.name)) return 0;
+    say(walk, "\n");
+    return 1;
+}
+
+static int say_segment(struct walk *walk, uint16_t index) {
+    struct elfsee_segment header;
+    memset(&header, 7, sizeof header);
+    if (elfsee_segment(walk->file->bytes, walk->file->len, index, &header, &walk->end)) return 0;
+    say(walk, "P %u %" PRIu32 " %" PRIu32 " %" PRIu64 " %" PRIu64 " %" PRIu64 " %" PRIu64 " %" PRIu64 " %" PRIu64 "\n",
+        index, header.type, header.flags, header.offset, header.vaddr, header.paddr, header.filesz, header.memsz,
+        header.align);
+    return 1;
+}
+
+static int say_each(struct walk *walk, uint16_t count, int (*say_one)(struct walk *, uint16_t)) {
+    uint16_t index;
+    for (index = 0; index < count; index += 1) {
+        if (!say_one(walk, index)) return 0;
+    }
+    return 1;
+}
+
+/* Whether all rows of a file could be read. */
+static int say_all(struct walk *walk) {
+    struct elfsee_header header;
+    struct elfsee_section section;
+    struct elfsee_segment segment;
+    const uint8_t *bytes = walk->file->bytes;
+    size_t len = walk->file->len;
+    memset(&header, 7, sizeof header);
+    if (elfsee_header(bytes, len, &header, &walk->end)) return 0;
+    expect(!memcmp(header.ident, bytes, 16), "another identification");
+    say(walk, "H %u %u %" PRIu64 " %" PRIu64 " %" PRIu64 " %" PRIu32 " %u %u %u %" PRIu32 " %u %u %u\n", header.type, header.machine,
+        header.entry, header.phoff, header.shoff, header.flags, header.phnum, header.shnum, header.shstrndx,
+        header.version, header.ehsize, header.phentsize, header.shentsize);
+    expect(elfsee_section(bytes, len, header.shnum, &section, &walk->end) != ELFSEE_OK, "a section too many");
+    expect(elfsee_segment(bytes, len, header.phnum, &segment, &walk->end) != ELFSEE_OK, "a segment too many");
+    uint32_t status = elfsee_section_names(bytes, len, &walk->limits, walk->room.bytes, walk->room.len, &walk->names, &walk->end);
+    if (status != ELFSEE_OK) memset(&walk->names, 0, sizeof walk->names);
+    if (status != ELFSEE_OK && status != ELFSEE_ABSENT) return 0;
+    uint16_t count = header.shnum ? header.shnum : header.phnum;
+    return say_each(walk, header.shnum, say_section) && say_each(walk, header.phnum, say_segment) &&
+           say_each(walk, header.shnum, say_symbols) && say_each(walk, header.shnum, say_relocations) &&
+           say_each(walk, count, say_notes) && say_each(walk, count, say_dynamic);
+}
+
+static void rows(const struct lent *file) {
+    struct walk walk;
+    memset(&walk, 0, sizeof walk);
+    walk.file = file;
+    walk.limits.headers = 65279;
+    walk.limits.name = 256;
+    walk.room = lend((size_t)elfsee_room(file->bytes, file->len, 65279), turn++ & 2);
+    int all = say_all(&walk);
+    answer(all ? ELFSEE_OK : ELFSEE_REFUSED, &walk.end, UINT64_MAX, walk.text, walk.len);
+    free(walk.text);
+    expect(take_back(&walk.room), "room was written outside");
+}
+
+/* The words of the causes, a line for each number. */
+static void words_of_causes(void) {
+    static const struct elfsee_end none;
+    char text[4096];
+    size_t len = 0;
+    uint32_t cause;
+    for (cause = 0; cause < 64; cause += 1) {
+        uint8_t word[32];
+        len += (size_t)snprintf(text + len, sizeof text - len, "%" PRIu32 " %.*s\n", cause,
+                                (int)elfsee_cause_word(cause, word, sizeof word), (const char *)word);
+    }
+    answer(ELFSEE_OK, &none, elfsee_version(), text, len);
+}
+
+/* Splits a line into so many words and what is behind them. */
+static void split(char *line, char **words, size_t count) {
+    while (count--) {
+        *words++ = line;
+        line = strchr(line, ' ');
+        if (!line) wrong("a line has too few words");
+        *line++ = 0;
+    }
+    *words = line;
+}
+
+static void answer_line(char *line) {
+    char *words[6];
+    size_t count = !strncmp(line, "show ", 5) ? 5 : !strncmp(line, "find ", 5) ? 4 : !strncmp(line, "apply ", 6) ? 5 : 1;
+    if (!strcmp(line, "words")) {
+        words_of_causes();
+        return;
+    }
+    split(line, words, count);
+    struct lent file = read_file(words[count]);
+    if (!strcmp(words[0], "show")) show(&file, words + 1);
+    if (!strcmp(words[0], "find")) find(&file, words + 1);
+    if (!strcmp(words[0], "apply")) apply(&file, words + 1);
+    if (!strcmp(words[0], "rows")) rows(&file);
+    take_back(&file);
+}
+
+int main(void) {
+    char *line = 0;
+    size_t size = 0;
+    ssize_t len;
+    while ((len = getline(&line, &size, stdin)) > 0) {
+        line[len - 1] = 0;
+        answer_line(line);
+        fflush(stdout);
+    }
+    free(line);
+    return 0;
+}

@@ -1,0 +1,153 @@
+/* Measures how much of the stack each call of the library touches, for tests/library:
+ *
+ *     library_stack FILE..
+ *
+ * Each call runs over each file on a stack of its own that is painted first. Printed are lines `CALL BYTES`,
+ * the most over all files. Names and sections that are asked for are those of the files themselves. */
+#define _GNU_SOURCE
+#include "elfsee.h"
+#include "lent.h"
+
+#include <fcntl.h>
+#include <stdio.h>
+#include <sys/stat.h>
+#include <ucontext.h>
+#include <unistd.h>
+
+enum { STACK = 1 << 20, ROOM = 64 * 65279, OUT = 1 << 26 };
+
+static uint8_t *stack, *file, *room, *out;
+static size_t file_len;
+static uint16_t section; /* the one that a call is about */
+static ucontext_t outside, inside;
+
+static const struct elfsee_limits LIMITS = {65279, 4096, 0, 0};
+static struct elfsee_end end;
+static struct elfsee_rows rows;
+
+static void call_show(void) {
+    elfsee_show(file, file_len, &LIMITS, ELFSEE_ALL, room, ROOM, out, OUT, &end);
+}
+
+static void call_find(void) {
+    static uint8_t name[4096];
+    struct elfsee_found found = {{0, 0, 0, 0, 0, 0}, 0, 0, 0, 0, 0};
+    memcpy(name, "main", 5);
+    elfsee_find(file, file_len, &LIMITS, room, ROOM, name, 4, &found, &end);
+    memset(name, 'n', sizeof name);
+    elfsee_find(file, file_len, &LIMITS, room, ROOM, name, sizeof name, &found, &end);
+}
+
+/* A layout with all that it can hold, so that as many entries as can be are applied. */
+static void call_apply(void) {
+    static struct elfsee_item items[128];
+    static uint8_t names[128][255];
+    struct elfsee_job job = {items, 128, section, 0};
+    unsigned i;
+    for (i = 0; i < 128; i += 1) {
+        struct elfsee_item item = {0x400000 + 0x1000 * i, names[i], 0, ELFSEE_SECTION, i + 1};
+        if (i >= 64) {
+            memset(names[i], 'a' + (int)i % 32, 255);
+            item.name_len = 255;
+            item.kind = i < 96 ? ELFSEE_DEFINE : ELFSEE_ENTRY;
+        }
+        items[i] = item;
+    }
+    elfsee_apply(file, file_len, &LIMITS, &job, room, ROOM, out, OUT, &end);
+}
+
+static void call_symbols(void) {
+    struct elfsee_symbol symbol;
+    if (elfsee_symbols(file, file_len, &LIMITS, section, room, ROOM, &rows, &end) == ELFSEE_OK)
+        elfsee_next_symbols(file, file_len, &rows, &symbol, 1);
+}
+
+static void call_relocations(void) {
+    struct elfsee_relocation entry;
+    if (elfsee_relocations(file, file_len, &LIMITS, section, room, ROOM, &rows, &end) == ELFSEE_OK)
+        elfsee_next_relocations(file, file_len, &rows, &entry, 1);
+}
+
+static void call_dynamic(void) {
+    struct elfsee_dynamic entry;
+    if (elfsee_dynamic(file, file_len, &LIMITS, section, room, ROOM, &rows, &end) == ELFSEE_OK)
+        elfsee_next_dynamic(file, file_len, &rows, &entry, 1);
+}
+
+static void call_notes(void) {
+    struct elfsee_note note = {0, 0, 0, 0, 0, 0};
+    if (elfsee_notes(file, file_len, &LIMITS, section, room, ROOM, &rows, &end) == ELFSEE_OK)
+        elfsee_next_note(file, file_len, &rows, &note, &end);
+}
+
+static void call_headers(void) {
+    struct elfsee_header header;
+    struct elfsee_section one;
+    struct elfsee_segment segment;
+    struct elfsee_range range = {0, file_len}, name = {0, 0};
+    memset(&header, 0, sizeof header);
+    memset(&one, 0, sizeof one);
+    memset(&segment, 0, sizeof segment);
+    elfsee_header(file, file_len, &header, &end);
+    elfsee_section(file, file_len, section, &one, &end);
+    elfsee_segment(file, file_len, section, &segment, &end);
+    elfsee_section_names(file, file_len, &LIMITS, room, ROOM, &range, &end);
+    elfsee_name(file, file_len, &range, one.name, &name, &end);
+    elfsee_room(file, file_len, LIMITS.headers);
+    elfsee_cost(file_len, &LIMITS);
+    elfsee_cause_word(end.cause, out, OUT);
+}
+
+static void call_nothing(void) {
+}
+
+/* How many bytes of the stack a call touches. */
+static size_t touched(void (*call)(void)) {
+    size_t at = 0;
+    memset(stack, MARK, STACK);
+    if (getcontext(&inside)) abort();
+    inside.uc_stack.ss_sp = stack;
+    inside.uc_stack.ss_size = STACK;
+    inside.uc_link = &outside;
+    makecontext(&inside, call, 0);
+    if (swapcontext(&outside, &inside)) abort();
+    while (at < STACK && stack[at] == MARK) at += 1;
+    return STACK - at;
+}
+
+static const struct {
+    const char *name;
+    void (*call)(void);
+    int each_section;
+} CALLS[] = {{"nothing", call_nothing, 0}, {"show", call_show, 0}, {"find", call_find, 0},
+             {"apply", call_apply, 1}, {"symbols", call_symbols, 1}, {"relocations", call_relocations, 1},
+             {"dynamic", call_dynamic, 1}, {"notes", call_notes, 1}, {"headers", call_headers, 1}};
+enum { COUNT = sizeof CALLS / sizeof *CALLS };
+
+static void measure(const char *path, size_t *most) {
+    int fd = open(path, O_RDONLY);
+    struct stat found;
+    size_t i, bytes;
+    if (fd < 0 || fstat(fd, &found)) exit(2);
+    file_len = (size_t)found.st_size;
+    file = (uint8_t *)mmap(0, file_len, PROT_READ, MAP_PRIVATE, fd, 0);
+    if (file == MAP_FAILED) exit(2);
+    for (i = 0; i < COUNT; i += 1) {
+        for (section = 0; section == 0 || (CALLS[i].each_section && section < 50); section += 1) {
+            bytes = touched(CALLS[i].call);
+            if (bytes > most[i]) most[i] = bytes;
+        }
+    }
+    munmap(file, file_len);
+    close(fd);
+}
+
+int main(int argc, char **argv) {
+    size_t most[COUNT] = {0}, i;
+    stack = lend(STACK, 1).bytes;
+    room = lend(ROOM, 1).bytes;
+    out = lend(OUT, 1).bytes;
+    for (; argc > 1; argc -= 1) measure(argv[argc - 1], most);
+    for (i = 0; i < COUNT; i += 1) printf("%s %zu\n", CALLS[i].name, most[i]);
+    return 0;
+}
