@@ -88,10 +88,10 @@ uint32_t elfsee_version(void);
  * No NUL is written. */
 size_t elfsee_cause_word(uint32_t cause, uint8_t *out, size_t out_len);
 
-/* How many bytes of room a file wants where `headers` are permitted: 64 for each section header
- * that its file header tells of, or for each program header where there are no section headers, at
- * least 64 and at most 64 * headers. 64 for bytes that have no file header. With so much room, or
- * more, each call answers as with 64 * headers. */
+/* How many bytes of room a file wants where `headers` are permitted: 64 for each section header, or
+ * for each program header, that its file header tells of, whichever are more; at least 64 and at
+ * most 64 * headers. 64 for bytes that have no file header. With so much room, or more, each call
+ * answers as with 64 * headers. */
 uint64_t elfsee_room(const uint8_t *file, size_t file_len, uint16_t headers);
 
 /* How many bytes of a file of `file_len` bytes a listing asks for at most, whatever the bytes are;
@@ -156,15 +156,16 @@ struct elfsee_item {
 struct elfsee_job {
     const struct elfsee_item *items;
     size_t items_len;
-    uint32_t section;
-    uint32_t none; /* not looked at */
+    uint32_t section; /* its index, up to 65,535 */
+    uint32_t none;    /* not looked at */
 };
 
 /* Writes a section's bytes with its relocations applied.
  *  OK: out[0..end->written) is the section as defined, whole. REFUSED: for `end->cause` at
  *    `end->at`; nothing is promised of what stands in `out`, and `written` is 0.
  *  FULL: `out` has fewer bytes than the section.
- *  BAD_CALL: limits or items outside their ranges, an item twice, room of less than 64 bytes.
+ *  BAD_CALL: limits, the section or items outside their ranges, an item twice, room of less than 64
+ *    bytes.
  * `asked` is at most the definition's cost, and the budget. */
 uint32_t elfsee_apply(const uint8_t *file, size_t file_len, const struct elfsee_limits *limits,
                       const struct elfsee_job *job, uint8_t *room, size_t room_len, uint8_t *out,
@@ -190,7 +191,7 @@ struct elfsee_segment {
     uint32_t type, flags;
 };
 
-/* A relocation entry, field by field (gABI, Relocation); `addend` is 0 in a REL table. */
+/* A relocation entry with its addend, field by field (gABI, Relocation). */
 struct elfsee_relocation {
     uint64_t offset, info;
     int64_t addend;
