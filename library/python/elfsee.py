@@ -1,0 +1,738 @@
+"""ELF64 files listed, looked up, relocated and read row by row, by the library elfsee.
+
+    import elfsee
+
+    with elfsee.File("/bin/ls") as file:
+        print(file.header.machine, [entry.string for entry in file.dynamic() if entry.tag == elfsee.DT_NEEDED])
+        for symbol in file.symbols():
+            print(symbol.name, hex(symbol.value))
+        print(file.text(elfsee.SEGMENTS), end="")
+
+A file may be anyone's: whatever its bytes are, each call comes back with an answer or raises one of
+the exceptions below.
+
+NAMES ARE BYTES, as the file has them: ELF says nothing of an encoding. Where a text is wanted,
+`name.decode("utf-8", "surrogateescape")` never fails, and the same arguments encode it back. Where a
+name is an argument it may be bytes or str; a str is encoded so.
+
+MEMORY. A path is read into memory, and bytes are taken as they are; any other buffer (bytearray,
+memoryview, mmap) is copied. So nobody can change a file while a call runs.
+
+THREADS. A File may be used by several threads at once: it is not written to. An iterator belongs to
+one thread at a time. The library's calls run without the interpreter's lock.
+
+THE LIBRARY is sought where the environment's ELFSEE_LIBRARY says, else beside this module, else in
+../out from here, else where the system keeps its libraries. ImportError tells where it is not.
+"""
+
+from __future__ import annotations
+
+import ctypes
+import ctypes.util
+import enum
+import os
+import struct
+import types
+from typing import Any, Callable, Iterator, List, Mapping, NamedTuple, Optional, Sequence, Tuple, Union
+
+__all__ = [
+    "ALL", "DYNAMIC", "HEADER", "NOTES", "RELOCS", "SECTIONS", "SEGMENTS", "SYMBOLS",
+    "Absent", "Cause", "Dynamic", "File", "Full", "Header", "Layout", "Listing", "Lookup", "Note",
+    "Refused", "Relocation", "Section", "Segment", "Symbol", "VERSION",
+]
+
+# The parts of a listing.
+HEADER, SECTIONS, SEGMENTS, SYMBOLS, RELOCS, NOTES, DYNAMIC = (1 << bit for bit in range(7))
+ALL = 127
+# The permitted range of each limit, and what it is where nobody says.
+MOST_HEADERS, MOST_NAME, MOST_NUMBER = 65279, 4096, (1 << 64) - 1
+DEFAULT_HEADERS, DEFAULT_NAME = 4096, 256
+# Section types and segment types that hold tables, and the dynamic entries whose value is a string (gABI).
+SHT_SYMTAB, SHT_RELA, SHT_DYNAMIC, SHT_NOTE, SHT_NOBITS, SHT_REL, SHT_DYNSYM = 2, 4, 6, 7, 8, 9, 11
+PT_DYNAMIC, PT_NOTE = 2, 4
+DT_NULL, DT_NEEDED, DT_SONAME, DT_RPATH, DT_RUNPATH = 0, 1, 14, 15, 29
+STRING_TAGS = frozenset((DT_NEEDED, DT_SONAME, DT_RPATH, DT_RUNPATH))
+# So many rows are fetched by one call of the library.
+BATCH = 4096
+
+Name = Union[str, bytes]
+Numbers = Tuple[int, ...]
+
+
+class Cause(enum.IntEnum):
+    """Why a file is refused. `word_of` has the word that a listing shows for it."""
+
+    SHORT = 1
+    NOT_ELF = 2
+    BAD_CLASS = 3
+    BAD_DATA = 4
+    BAD_VERSION = 5
+    EXTENDED_NUMBERING = 6
+    TOO_MANY_HEADERS = 7
+    ENTRY_SIZE = 8
+    TABLE_OUTSIDE = 9
+    BAD_LINK = 10
+    NOT_STRINGS = 11
+    SIZE_NOT_WHOLE = 12
+    NAME_OUTSIDE = 13
+    NAME_UNENDED = 14
+    NOTE_CUT = 15
+    NO_HASH = 16
+    HASH_SHAPE = 17
+    HASH_INDEX = 18
+    HASH_CYCLE = 19
+    UNSUPPORTED = 20
+    OVERFLOW = 21
+    NOT_REL = 22
+    UNPLACED = 23
+    UNDEFINED = 24
+    PLACE_OUTSIDE = 25
+    SYMBOL_INDEX = 26
+    TOO_LONG = 27
+    BUDGET = 28
+    UNMAPPED = 29
+
+
+# ---------------------------------------------------------------------------
+# What the library's header says, in the terms of ctypes.
+
+_U8, _U16, _U32, _U64, _I64 = (ctypes.c_uint8, ctypes.c_uint16, ctypes.c_uint32, ctypes.c_uint64,
+                               ctypes.c_int64)
+_OK, _REFUSED, _ABSENT, _FULL, _BAD_CALL = range(5)
+
+
+def _struct(name: str, *fields: Tuple[Any, str]) -> Any:
+    """A struct of C: of each type the names of its fields, one after another."""
+    return type(name, (ctypes.Structure,), {
+        "_fields_": [(field, kind) for kind, names in fields for field in names.split()]})
+
+
+_Limits = _struct("elfsee_limits", (_U16, "headers name"), (_U32, "has_budget"), (_U64, "budget"))
+_End = _struct("elfsee_end", (_U64, "at written asked"), (_U32, "cause none"))
+_Symbol = _struct("elfsee_symbol", (_U64, "value size"), (_U32, "name"), (_U16, "section"),
+                  (_U8, "info other"))
+_Found = _struct("elfsee_found", (_Symbol, "symbol"), (_U32, "index steps"), (_U16, "section none"),
+                 (_U32, "none_behind"))
+_Item = _struct("elfsee_item", (_U64, "address"), (ctypes.c_char_p, "name"),
+                (ctypes.c_size_t, "name_len"), (_U32, "kind index"))
+_Job = _struct("elfsee_job", (ctypes.POINTER(_Item), "items"), (ctypes.c_size_t, "items_len"),
+               (_U32, "section none"))
+_Header = _struct("elfsee_header", (_U64, "entry phoff shoff"), (_U32, "version flags"),
+                  (_U16, "type machine ehsize phentsize phnum shentsize shnum shstrndx"),
+                  (_U8 * 16, "ident"))
+_Section = _struct("elfsee_section", (_U64, "flags addr offset size addralign entsize"),
+                   (_U32, "name type link info"))
+_Segment = _struct("elfsee_segment", (_U64, "offset vaddr paddr filesz memsz align"),
+                   (_U32, "type flags"))
+_Relocation = _struct("elfsee_relocation", (_U64, "offset info"), (_I64, "addend"))
+_Dynamic = _struct("elfsee_dynamic", (_I64, "tag"), (_U64, "value"))
+_Note = _struct("elfsee_note", (_U64, "name_at desc_at"), (_U32, "name_len desc_len type none"))
+_Range = _struct("elfsee_range", (_U64, "at len"))
+_Rows = _struct("elfsee_rows", (_U64, "at count index entry strings_at strings_len"))
+STRUCTS = (_Limits, _End, _Symbol, _Found, _Item, _Job, _Header, _Section, _Segment, _Relocation,
+           _Dynamic, _Note, _Range, _Rows)
+
+# The same as forms of `struct`, of the rows that are read in batches.
+_SYMBOL_FORM, _RELOCATION_FORM, _DYNAMIC_FORM = "=QQIHBB", "=QQq", "=qQ"
+
+# A c_char_p lends the bytes of a `bytes` object, which never change and are never at NULL.
+_FILE = (ctypes.c_char_p, ctypes.c_size_t)
+_ROOM = _OUT = (ctypes.c_void_p, ctypes.c_size_t)
+
+
+def _to(kind: Any) -> Any:
+    return ctypes.POINTER(kind)
+
+
+_TABLE = (*_FILE, _to(_Limits), _U16, *_ROOM, _to(_Rows), _to(_End))
+_STEP = (*_FILE, _to(_Rows), *_OUT)
+_CALLS = {
+    "version": (_U32,),
+    "cause_word": (ctypes.c_size_t, _U32, *_OUT),
+    "room": (_U64, *_FILE, _U16),
+    "cost": (_U64, _U64, _to(_Limits)),
+    "show": (_U32, *_FILE, _to(_Limits), _U8, *_ROOM, *_OUT, _to(_End)),
+    "find": (_U32, *_FILE, _to(_Limits), *_ROOM, *_FILE, _to(_Found), _to(_End)),
+    "apply": (_U32, *_FILE, _to(_Limits), _to(_Job), *_ROOM, *_OUT, _to(_End)),
+    "header": (_U32, *_FILE, _to(_Header), _to(_End)),
+    "section": (_U32, *_FILE, _U16, _to(_Section), _to(_End)),
+    "segment": (_U32, *_FILE, _U16, _to(_Segment), _to(_End)),
+    "section_names": (_U32, *_FILE, _to(_Limits), *_ROOM, _to(_Range), _to(_End)),
+    "symbols": (_U32, *_TABLE),
+    "relocations": (_U32, *_TABLE),
+    "dynamic": (_U32, *_TABLE),
+    "notes": (_U32, *_TABLE),
+    "next_symbols": (ctypes.c_size_t, *_STEP),
+    "next_relocations": (ctypes.c_size_t, *_STEP),
+    "next_dynamic": (ctypes.c_size_t, *_STEP),
+    "next_note": (_U32, *_FILE, _to(_Rows), _to(_Note), _to(_End)),
+    "name": (_U32, *_FILE, _to(_Range), _U64, _to(_Range), _to(_End)),
+}
+
+
+def _places() -> Iterator[str]:
+    """Where the library may be, in the order in which it is sought."""
+    if os.environ.get("ELFSEE_LIBRARY"):
+        yield os.environ["ELFSEE_LIBRARY"]
+        return
+    here = os.path.dirname(os.path.abspath(__file__))
+    for folder in (here, os.path.join(os.path.dirname(here), "out")):
+        for name in ("libelfsee.so.0", "libelfsee.so"):
+            yield os.path.join(folder, name)
+    yield "libelfsee.so.0"
+    found = ctypes.util.find_library("elfsee")
+    if found:
+        yield found
+
+
+def _loaded() -> ctypes.CDLL:
+    """The library, with the types of its calls."""
+    sought = []
+    for place in _places():
+        if os.path.isabs(place) and not os.path.exists(place):
+            sought.append(place + ": is not there")
+            continue
+        try:
+            library = ctypes.CDLL(place)
+            break
+        except OSError as error:
+            sought.append(str(error))
+    else:
+        raise ImportError("the library elfsee is not found; sought: " + "; ".join(sought))
+    for name, (result, *arguments) in _CALLS.items():
+        call = getattr(library, "elfsee_" + name)
+        call.restype, call.argtypes = result, arguments
+    return library
+
+
+_library = _loaded()
+# The library's version: its three numbers.
+VERSION = tuple(_library.elfsee_version() >> bits & 255 for bits in (16, 8, 0))
+if VERSION[0] != 0:
+    raise ImportError("the library elfsee has version %d.%d.%d, this module is for 0" % VERSION)
+
+
+# ---------------------------------------------------------------------------
+# What is raised.
+
+def word_of(cause: int) -> str:
+    """The word of a cause, as a listing's last line has it; empty for a number that is no cause."""
+    out = ctypes.create_string_buffer(32)
+    length = _library.elfsee_cause_word(_within("cause", cause, 0, (1 << 32) - 1), out, len(out))
+    return ctypes.string_at(out, length).decode("ascii")
+
+
+class Refused(Exception):
+    """The file is at fault, or the read budget is used up: `cause` says why, `word` the same in
+    a word ("table-outside"), `offset` where in the file."""
+
+    def __init__(self, cause: int, offset: int) -> None:
+        super().__init__(cause, offset)
+        self.cause: int = Cause(cause) if cause in Cause.__members__.values() else cause
+        self.offset: int = offset
+        self.word: str = word_of(cause)
+
+    def __str__(self) -> str:
+        return "%s at 0x%x" % (self.word or "cause %d" % self.cause, self.offset)
+
+
+class Full(Exception):
+    """An answer is longer than was permitted."""
+
+
+class Absent(LookupError):
+    """The file has no such section or segment, or that one holds no such rows."""
+
+
+# ---------------------------------------------------------------------------
+# What is answered. Fields have the standard's names (gABI, Object Files).
+
+class Header(NamedTuple):
+    """The file header."""
+
+    type: int
+    machine: int
+    version: int
+    entry: int
+    phoff: int
+    shoff: int
+    flags: int
+    ehsize: int
+    phentsize: int
+    phnum: int
+    shentsize: int
+    shnum: int
+    shstrndx: int
+    ident: bytes
+
+
+class Section(NamedTuple):
+    """A section header. `offset` and `size` are as the file says, and may lie outside of it."""
+
+    index: int
+    name: bytes
+    type: int
+    flags: int
+    addr: int
+    offset: int
+    size: int
+    link: int
+    info: int
+    addralign: int
+    entsize: int
+
+
+class Segment(NamedTuple):
+    """A program header. `offset` and `filesz` are as the file says, and may lie outside of it."""
+
+    index: int
+    type: int
+    flags: int
+    offset: int
+    vaddr: int
+    paddr: int
+    filesz: int
+    memsz: int
+    align: int
+
+
+class Symbol(NamedTuple):
+    """A symbol: `section` is where it is defined (st_shndx), `index` its own place in `table`, the
+    section of symbols that it stands in."""
+
+    name: bytes
+    value: int
+    size: int
+    section: int
+    info: int
+    other: int
+    table: int
+    index: int
+
+    @property
+    def type(self) -> int:
+        """STT_FUNC and the like: the low four bits of st_info."""
+        return self.info & 15
+
+    @property
+    def binding(self) -> int:
+        """STB_GLOBAL and the like: the high four bits of st_info."""
+        return self.info >> 4
+
+    @property
+    def visibility(self) -> int:
+        """STV_HIDDEN and the like: the low two bits of st_other."""
+        return self.other & 3
+
+
+class Relocation(NamedTuple):
+    """A relocation entry, with the name of its symbol, which is empty for symbol 0. `addend` is 0
+    in a REL table. `index` is its place in `table`, a section."""
+
+    offset: int
+    type: int
+    symbol: int
+    addend: int
+    name: bytes
+    table: int
+    index: int
+
+
+class Note(NamedTuple):
+    """A note: its name up to the first NUL, and its descriptor. `namesz` is the name's size as the
+    file says, with the NUL. `table` is its section, or its segment where the file has no sections."""
+
+    name: bytes
+    type: int
+    desc: bytes
+    namesz: int
+    table: int
+
+
+class Dynamic(NamedTuple):
+    """A dynamic entry. `string` is what NEEDED, SONAME, RPATH and RUNPATH name, else None. `table`
+    is its section, or its segment where the file has no sections."""
+
+    tag: int
+    value: int
+    string: Optional[bytes]
+    table: int
+    index: int
+
+
+class Lookup(NamedTuple):
+    """What a lookup found: the symbol, or None; and how many names were compared."""
+
+    symbol: Optional[Symbol]
+    steps: int
+
+
+class Listing(NamedTuple):
+    """A listing: its lines; the refusal that its last line tells, or None; and how many bytes of the
+    file were asked for."""
+
+    text: str
+    refused: Optional[Refused]
+    asked: int
+
+
+_NOTHING: Mapping[Any, int] = types.MappingProxyType({})
+
+
+class Layout(NamedTuple):
+    """Addresses for `File.apply`: of sections by their index, of symbols that the file does not
+    define by their name, and of symbols' entries in the procedure linkage table by the symbol's
+    name. At most 64 sections, 32 definitions and 32 entries; names of 1 to 255 bytes."""
+
+    sections: Mapping[int, int] = _NOTHING
+    define: Mapping[Name, int] = _NOTHING
+    entries: Mapping[Name, int] = _NOTHING
+
+
+# ---------------------------------------------------------------------------
+# What is tested here, since C would cut a number or take bytes as they are.
+
+def _within(what: str, number: int, least: int, most: int) -> int:
+    if not least <= number <= most:
+        raise ValueError("%s is %d, and not %d to %d" % (what, number, least, most))
+    return number
+
+
+def _name_bytes(name: Name, most: int) -> bytes:
+    text = name.encode("utf-8", "surrogateescape") if isinstance(name, str) else bytes(name)
+    if len(text) > most or b"\0" in text:
+        raise ValueError("a name has at most %d bytes, and no NUL" % most)
+    return text
+
+
+def _content(source: Union[str, bytes, "os.PathLike[str]", Any]) -> bytes:
+    """The bytes of a path, or of a buffer."""
+    if isinstance(source, (str, os.PathLike)):
+        with open(source, "rb") as file:
+            return file.read()
+    return source if type(source) is bytes else bytes(memoryview(source))
+
+
+def _limits_of(headers: int, name_cap: int, budget: Optional[int]) -> Any:
+    _within("headers", headers, 1, MOST_HEADERS)
+    _within("name_cap", name_cap, 1, MOST_NAME)
+    _within("budget", budget or 0, 0, MOST_NUMBER)
+    return _Limits(headers, name_cap, budget is not None, budget or 0)
+
+
+def _items_of(layout: Layout) -> List[Any]:
+    """A layout's items. A field that no kind of item needs is an empty name or 0, never NULL."""
+    items = [_Item(_within("an address", address, 0, MOST_NUMBER), b"", 0, 0,
+                   _within("a section", index, 0, 65535))
+             for index, address in layout.sections.items()]
+    for kind, addresses in ((1, layout.define), (2, layout.entries)):
+        for name, address in addresses.items():
+            text = _name_bytes(name, 255)
+            items.append(_Item(_within("an address", address, 0, MOST_NUMBER), text, len(text), kind, 0))
+    return items
+
+
+class File:
+    """A file in memory, and what may be asked of it.
+
+    `source` is a path (str or os.PathLike), or the file's bytes. `headers` is how many section
+    headers, and as many program headers, are permitted: 1 to 65,279. `budget` is how many bytes a
+    listing, a lookup, an applied section or a table's checks may each read: any number of them where
+    it is None. `longest_name` is how long a name of a row may be: names in rows are never cut, and one
+    that is longer raises Full.
+
+    Every call but `close` raises Refused where the file is at fault or the budget is used up, and
+    ValueError where an argument is outside its range or the file is closed. Rows come up to the
+    fault, and then it is raised: at the same place and for the same cause as in a listing of that
+    table.
+    """
+
+    def __init__(self, source: Union[str, bytes, "os.PathLike[str]", Any], *,
+                 headers: int = DEFAULT_HEADERS, budget: Optional[int] = None,
+                 longest_name: int = 65536) -> None:
+        self._limits = _limits_of(headers, DEFAULT_NAME, budget)
+        self._headers, self._budget = headers, budget
+        self._longest = _within("longest_name", longest_name, 1, 1 << 62)
+        self._content: Optional[bytes] = _content(source)
+        self._room: int = _library.elfsee_room(self._content, len(self._content), headers)
+        self._sections: Optional[Sequence[Numbers]] = None
+
+    def __enter__(self) -> "File":
+        return self
+
+    def __exit__(self, *_: object) -> None:
+        self.close()
+
+    def close(self) -> None:
+        """Lets the file's bytes go. A second time it does nothing."""
+        self._content, self._sections = None, None
+
+    # -----------------------------------------------------------------------
+    # Calls of the library.
+
+    @property
+    def data(self) -> bytes:
+        """The file's bytes."""
+        if self._content is None:
+            raise ValueError("the file is closed")
+        return self._content
+
+    def _lent(self) -> Tuple[Any, int]:
+        """Room for one call: threads that share a file share no room."""
+        return ctypes.create_string_buffer(self._room), self._room
+
+    def _call(self, name: str, *arguments: Any) -> Tuple[int, Any]:
+        """The status of a call, OK or ABSENT or FULL, and how it ended."""
+        data, end = self.data, _End()
+        status = getattr(_library, "elfsee_" + name)(data, len(data), *arguments, end)
+        if status == _REFUSED:
+            raise Refused(end.cause, end.at)
+        if status == _BAD_CALL:
+            raise ValueError("elfsee_%s takes no such arguments" % name)
+        return status, end
+
+    # -----------------------------------------------------------------------
+    # Listings, lookups, applied sections.
+
+    def cost(self, name_cap: int = DEFAULT_NAME) -> int:
+        """How many bytes a listing of a file of this length asks for at most, whatever its bytes are."""
+        return _library.elfsee_cost(len(self.data), _limits_of(self._headers, name_cap, self._budget))
+
+    def show(self, parts: int = ALL, name_cap: int = DEFAULT_NAME, most: int = 1 << 30) -> Listing:
+        """A listing of some parts, with so many bytes of a name. It is what the program elfsee prints,
+        byte for byte, and a refusal is its last line: this raises no Refused. Full is raised where
+        it has more than `most` bytes. Where the memory is too little, it is made four times as large
+        and the listing begins anew."""
+        data, end = self.data, _End()
+        limits = _limits_of(self._headers, name_cap, self._budget)
+        _within("parts", parts, 0, 255)
+        length = min(_within("most", most, 0, 1 << 62), (1 << 16) + len(data) // 4)
+        while True:
+            out = ctypes.create_string_buffer(max(length, 1))
+            status = _library.elfsee_show(data, len(data), limits, parts, *self._lent(), out, length, end)
+            if status != _FULL:
+                break
+            if length == most:
+                raise Full("the listing has more than %d bytes" % most)
+            length = min(most, 4 * length)
+        if status == _BAD_CALL:
+            raise ValueError("elfsee_show takes no such arguments")
+        refused = Refused(end.cause, end.at) if status == _REFUSED else None
+        return Listing(ctypes.string_at(out, end.written).decode("ascii"), refused, end.asked)
+
+    def text(self, parts: int = ALL, name_cap: int = DEFAULT_NAME, most: int = 1 << 30) -> str:
+        """The text of `show`."""
+        return self.show(parts, name_cap, most).text
+
+    def find(self, name: Name) -> Lookup:
+        """Looks a name up by the file's own SysV hash table: the first symbol of that name in its
+        chain, whatever its version and place. A name has at most 4,096 bytes and no NUL."""
+        text, found = _name_bytes(name, MOST_NAME), _Found()
+        status, _ = self._call("find", self._limits, *self._lent(), text, len(text), found)
+        if status == _ABSENT:
+            return Lookup(None, found.steps)
+        row = found.symbol
+        return Lookup(Symbol(text, row.value, row.size, row.section, row.info, row.other,
+                             found.section, found.index), found.steps)
+
+    def apply(self, section: int, layout: Layout = Layout()) -> bytes:
+        """The bytes of a section of a relocatable file for x86-64, with its relocations applied for
+        these addresses. ValueError where the layout is outside its bounds."""
+        items = _items_of(layout)
+        array = (_Item * max(1, len(items)))(*items)
+        job = _Job(array, len(items), _within("section", section, 0, 65535), 0)
+        # A section that is longer than the file is refused, so that this is room enough.
+        length = self._size_in_file(section)
+        out = ctypes.create_string_buffer(max(1, length))
+        status, end = self._call("apply", self._limits, job, *self._lent(), out, length)
+        if status == _FULL:
+            raise Full("the section has more than %d bytes" % length)
+        return ctypes.string_at(out, end.written)
+
+    def _size_in_file(self, section: int) -> int:
+        row = _Section()
+        status, _ = self._call("section", section, row)
+        return 0 if status == _ABSENT or row.type == SHT_NOBITS else min(row.size, len(self.data))
+
+    # -----------------------------------------------------------------------
+    # Headers.
+
+    @property
+    def header(self) -> Header:
+        """The file header."""
+        row = _Header()
+        self._call("header", row)
+        return Header(row.type, row.machine, row.version, row.entry, row.phoff, row.shoff, row.flags,
+                      row.ehsize, row.phentsize, row.phnum, row.shentsize, row.shnum, row.shstrndx,
+                      bytes(row.ident))
+
+    def _names_of_sections(self) -> Tuple[int, int]:
+        """Where the string table of the section names lies; it has no bytes where there is none. This
+        runs the checks that every listing of headers begins with."""
+        names = _Range()
+        status, _ = self._call("section_names", self._limits, *self._lent(), names)
+        return (0, 0) if status == _ABSENT else (names.at, names.at + names.len)
+
+    def _section_rows(self) -> Sequence[Numbers]:
+        """All section headers, as numbers in the order of `Section` behind its name; the place in the
+        string table of the names is the first."""
+        if self._sections is None:
+            self._names_of_sections()
+            row, rows = _Section(), []
+            for index in range(self.header.shnum):
+                self._call("section", index, row)
+                rows.append((row.name, row.type, row.flags, row.addr, row.offset, row.size, row.link,
+                             row.info, row.addralign, row.entsize))
+            self._sections = tuple(rows)
+        return self._sections
+
+    def sections(self) -> Iterator[Section]:
+        """The section headers in their order, section 0 too."""
+        strings, header = self._names_of_sections(), self.header
+        for index, (name, *numbers) in enumerate(self._section_rows()):
+            text = self._name(strings, name, header.shoff + 64 * index) if header.shstrndx else b""
+            yield Section(index, text, *numbers)
+
+    def segments(self) -> Iterator[Segment]:
+        """The program headers in their order."""
+        self._names_of_sections()
+        row = _Segment()
+        for index in range(self.header.phnum):
+            self._call("segment", index, row)
+            yield Segment(index, row.type, row.flags, row.offset, row.vaddr, row.paddr, row.filesz,
+                          row.memsz, row.align)
+
+    # -----------------------------------------------------------------------
+    # Tables.
+
+    def _tables(self, table: Optional[int], sections: Sequence[int], segment: Optional[int]) -> Iterator[int]:
+        """The sections of some types, or where the file has no sections the segments of a type; or
+        the one that is asked for."""
+        if table is not None:
+            yield _within("section", table, 0, 65535)
+            return
+        rows = self._section_rows()
+        yield from (index for index, row in enumerate(rows) if row[1] in sections)
+        if not rows and segment is not None:
+            yield from (row.index for row in self.segments() if row.type == segment)
+
+    def _opened(self, call: str, table: int) -> Any:
+        """A table's rows, behind its checks."""
+        rows = _Rows()
+        status, _ = self._call(call, self._limits, table, *self._lent(), rows)
+        if status == _ABSENT:
+            raise Absent("%d holds no %s" % (table, call))
+        return rows
+
+    def _batches(self, call: str, rows: Any, form: str) -> Iterator[Iterator[Numbers]]:
+        """The rows that are left, in batches. Each is to be gone through before the next is asked for."""
+        data, step, size = self.data, getattr(_library, "elfsee_" + call), struct.calcsize(form)
+        out = bytearray(size * BATCH)
+        lent, view = (ctypes.c_char * len(out)).from_buffer(out), memoryview(out)
+        count = BATCH
+        while count == BATCH:
+            count = step(data, len(data), rows, lent, BATCH)
+            yield struct.iter_unpack(form, view[:size * count])
+
+    def _name(self, strings: Tuple[int, int], offset: int, entry: int) -> bytes:
+        """The name at an offset of the string table from the first of two places to the other, which
+        the library told; a fault is that of the entry at `entry`."""
+        start, (first, last) = strings[0] + offset, strings
+        end = self.data.find(0, start, min(last, start + self._longest + 1))
+        if end >= 0:
+            return self.data[start:end]
+        name = _Range()
+        try:
+            self._call("name", _Range(first, last - first), offset, name)
+        except Refused as refused:
+            raise Refused(refused.cause, entry) from None
+        if name.len > self._longest:
+            raise Full("a name has more than %d bytes" % self._longest)
+        return self.data[name.at:name.at + name.len]
+
+    def symbols(self, section: Optional[int] = None) -> Iterator[Symbol]:
+        """The symbols of a section, or of all symbol tables in the order of the sections, symbol 0
+        too. Absent where that section holds none."""
+        for table in self._tables(section, (SHT_SYMTAB, SHT_DYNSYM), None):
+            yield from self._symbols_of(table)
+
+    def _symbols_of(self, table: int) -> Iterator[Symbol]:
+        rows = self._opened("symbols", table)
+        data, find, make, longest = self.data, self.data.find, tuple.__new__, self._longest + 1
+        strings, at, index = (rows.strings_at, rows.strings_at + rows.strings_len), rows.at, 0
+        first, last = strings
+        for batch in self._batches("next_symbols", rows, _SYMBOL_FORM):
+            for value, size, name, section, info, other in batch:
+                # `_name`, with no call where all is well.
+                start = first + name
+                stop = start + longest
+                end = find(0, start, stop if stop < last else last)
+                text = data[start:end] if end >= 0 else self._name(strings, name, at + 24 * index)
+                yield make(Symbol, (text, value, size, section, info, other, table, index))
+                index += 1
+
+    def relocations(self, section: Optional[int] = None) -> Iterator[Relocation]:
+        """The relocation entries of a section, or of all RELA and REL sections in their order. Absent
+        where that section holds none."""
+        for table in self._tables(section, (SHT_RELA, SHT_REL), None):
+            yield from self._relocations_of(table)
+
+    def _relocations_of(self, table: int) -> Iterator[Relocation]:
+        rows = self._opened("relocations", table)
+        at, width, index, make = rows.at, rows.entry, 0, tuple.__new__
+        name_of = self._symbol_names(table)
+        for batch in self._batches("next_relocations", rows, _RELOCATION_FORM):
+            for offset, info, addend in batch:
+                symbol = info >> 32
+                name = name_of(symbol, at + width * index) if symbol else b""
+                yield make(Relocation, (offset, info & 0xffffffff, symbol, addend, name, table, index))
+                index += 1
+
+    def _symbol_names(self, table: int) -> Callable[[int, int], bytes]:
+        """What names the symbol of an index, for an entry at an offset, in a table of entries."""
+        sections = self._section_rows()
+        link, symbols = sections[table][6], None
+        if link < len(sections) and sections[link][1] in (SHT_SYMTAB, SHT_DYNSYM):
+            symbols = self._opened("symbols", link)
+        unpack, content = struct.Struct("<I").unpack_from, self.data
+
+        def name_of(symbol: int, entry: int) -> bytes:
+            if symbols is None:
+                raise Refused(Cause.BAD_LINK, entry)
+            if symbol >= symbols.count:
+                raise Refused(Cause.SYMBOL_INDEX, entry)
+            at = symbols.at + 24 * symbol
+            return self._name(strings, unpack(content, at)[0], at)
+
+        strings = (symbols.strings_at, symbols.strings_at + symbols.strings_len) if symbols else (0, 0)
+        return name_of
+
+    def notes(self, table: Optional[int] = None) -> Iterator[Note]:
+        """The notes of a section, or of all of them; in a file without sections of a segment, or of all.
+        Absent where that one holds none."""
+        for index in self._tables(table, (SHT_NOTE,), PT_NOTE):
+            yield from self._notes_of(index)
+
+    def _notes_of(self, table: int) -> Iterator[Note]:
+        rows, note, data = self._opened("notes", table), _Note(), self.data
+        while self._call("next_note", rows, note)[0] == _OK:
+            name = data[note.name_at:note.name_at + note.name_len]
+            yield Note(name.partition(b"\0")[0], note.type,
+                       data[note.desc_at:note.desc_at + note.desc_len], note.name_len, table)
+
+    def dynamic(self, table: Optional[int] = None) -> Iterator[Dynamic]:
+        """The dynamic entries of a section, or of all of them, up to and with the first of tag NULL; in
+        a file without sections of a segment, or of all. Absent where that one holds none."""
+        for index in self._tables(table, (SHT_DYNAMIC,), PT_DYNAMIC):
+            yield from self._dynamic_of(index)
+
+    def _dynamic_of(self, table: int) -> Iterator[Dynamic]:
+        rows, index = self._opened("dynamic", table), 0
+        strings, at = (rows.strings_at, rows.strings_at + rows.strings_len), rows.at
+        for batch in self._batches("next_dynamic", rows, _DYNAMIC_FORM):
+            for tag, value in batch:
+                text = self._name(strings, value, at + 16 * index) if tag in STRING_TAGS else None
+                yield Dynamic(tag, value, text, table, index)
+                if tag == DT_NULL:
+                    return
+                index += 1
