@@ -1,0 +1,46 @@
+//! Prints how Rust lays the structs of `elfsee::raw` out: a line `STRUCT FIELD OFFSET SIZE` for each
+//! field, and before those of a struct `STRUCT . 0 SIZE` for the whole of it.
+
+use elfsee::raw;
+use std::mem::{size_of, size_of_val, MaybeUninit};
+use std::ptr::addr_of;
+
+/// The name in C of a field: `kind` is its `type`, but for an item's, which is so in both.
+fn name_in_c<'a>(of: &str, field: &'a str) -> &'a str {
+    if field == "kind" && of != "elfsee_item" {
+        "type"
+    } else {
+        field
+    }
+}
+
+macro_rules! tell {
+    ($name:literal, $type:ty, $($field:ident)+) => {{
+        println!("{} . 0 {}", $name, size_of::<$type>());
+        // SAFETY: all fields are numbers and pointers, of which any bytes are values.
+        let row: $type = unsafe { MaybeUninit::zeroed().assume_init() };
+        let start = addr_of!(row) as usize;
+        $(
+            let offset = addr_of!(row.$field) as usize - start;
+            println!("{} {} {} {}", $name, name_in_c($name, stringify!($field)), offset, size_of_val(&row.$field));
+        )+
+    }};
+}
+
+fn main() {
+    tell!("elfsee_limits", raw::Limits, headers name has_budget budget);
+    tell!("elfsee_end", raw::End, at written asked cause none);
+    tell!("elfsee_symbol", raw::Symbol, value size name section info other);
+    tell!("elfsee_found", raw::Found, symbol index steps section none none_behind);
+    tell!("elfsee_item", raw::Item, address name name_len kind index);
+    tell!("elfsee_job", raw::Job, items items_len section none);
+    tell!("elfsee_header", raw::Header, entry phoff shoff version flags kind machine ehsize phentsize
+        phnum shentsize shnum shstrndx ident);
+    tell!("elfsee_section", raw::Section, flags addr offset size addralign entsize name kind link info);
+    tell!("elfsee_segment", raw::Segment, offset vaddr paddr filesz memsz align kind flags);
+    tell!("elfsee_relocation", raw::Relocation, offset info addend);
+    tell!("elfsee_dynamic", raw::Dynamic, tag value);
+    tell!("elfsee_note", raw::Note, name_at desc_at name_len desc_len kind none);
+    tell!("elfsee_range", raw::Range, at len);
+    tell!("elfsee_rows", raw::Rows, at count index entry strings_at strings_len);
+}

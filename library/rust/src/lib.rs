@@ -1,0 +1,416 @@
+//! ELF64 files listed, looked up, relocated and read row by row, whatever their bytes are.
+//!
+//! A file is a slice of bytes, and so is all memory that a call needs: nothing is allocated, and the
+//! crate needs no `std`. Each call comes back, reads nothing outside of the file and writes nothing
+//! outside of what it was lent; the library's own documents say what is proved of it.
+//!
+//! ```
+//! # fn main() -> Result<(), elfsee::Error> {
+//! let mut bytes = [0; 64];
+//! bytes[..7].copy_from_slice(b"\x7fELF\x02\x01\x01");
+//! bytes[16] = 1;
+//!
+//! let file = elfsee::File::new(&bytes);
+//! assert_eq!(file.header()?.kind, 1);
+//!
+//! let (mut room, mut out) = ([0; 64], [0; 4096]);
+//! let listing = file.show(elfsee::ALL, &mut room, &mut out)?;
+//! assert!(listing.text.starts_with("H REL"));
+//!
+//! let refused = elfsee::File::new(b"no ELF file, but as long as its file header, which has 64 bytes.");
+//! assert_eq!(refused.header().unwrap_err().cause, elfsee::Cause::NotElf);
+//! # Ok(())
+//! # }
+//! ```
+//!
+//! Room is where the headers of a file lie while a call runs: [`File::room`] says how many bytes of it
+//! a file wants. A file that changes while it is read, as a mapped file may, is no slice: read such a
+//! file into memory first.
+
+#![no_std]
+#![warn(missing_docs)]
+
+#[cfg(feature = "std")]
+extern crate std;
+
+mod error;
+pub mod raw;
+mod rows;
+
+pub use error::{Cause, Error, Refused};
+pub use raw::{Dynamic, Header, Range, Relocation, Section, Segment, Symbol};
+pub use rows::{DynamicEntries, Note, Notes, Relocations, Rows, Symbols};
+
+use core::marker::PhantomData;
+
+/// The part of a listing that is the file header.
+pub const HEADER: u8 = 1;
+/// The section headers.
+pub const SECTIONS: u8 = 2;
+/// The program headers.
+pub const SEGMENTS: u8 = 4;
+/// The symbols.
+pub const SYMBOLS: u8 = 8;
+/// The relocation entries.
+pub const RELOCS: u8 = 16;
+/// The notes.
+pub const NOTES: u8 = 32;
+/// The dynamic entries.
+pub const DYNAMIC: u8 = 64;
+/// All parts of a listing.
+pub const ALL: u8 = 127;
+
+impl raw::Symbol {
+    /// Its type: STT_FUNC and the like (gABI, Symbol Table).
+    pub fn kind(&self) -> u8 {
+        self.info & 15
+    }
+
+    /// Its binding: STB_GLOBAL and the like.
+    pub fn binding(&self) -> u8 {
+        self.info >> 4
+    }
+}
+
+impl raw::Relocation {
+    /// The index of its symbol in the linked table; 0 for none (gABI, Relocation).
+    pub fn symbol(&self) -> u32 {
+        (self.info >> 32) as u32
+    }
+
+    /// Its type: R_X86_64_PC32 and the like.
+    pub fn kind(&self) -> u32 {
+        self.info as u32
+    }
+}
+
+/// How much may be read and shown.
+#[derive(Clone, Copy, Debug, PartialEq, Eq)]
+pub struct Limits {
+    /// Permitted section headers, and as many program headers: 1 to 65,279.
+    pub headers: u16,
+    /// Bytes of a name that a listing shows: 1 to 4,096.
+    pub name: u16,
+    /// How many bytes of the file a call may read, where that is limited.
+    pub budget: Option<u64>,
+}
+
+impl Default for Limits {
+    /// 4,096 headers, 256 bytes of a name, no budget.
+    fn default() -> Limits {
+        Limits { headers: 4096, name: 256, budget: None }
+    }
+}
+
+/// A listing that was written into lent memory.
+#[derive(Clone, Copy, Debug, PartialEq, Eq)]
+pub struct Listing<'o> {
+    /// Its lines, in ASCII.
+    pub text: &'o str,
+    /// The refusal that its last line tells, if there is one.
+    pub refused: Option<Refused>,
+    /// Bytes of the file that were asked for.
+    pub asked: u64,
+}
+
+/// What a lookup found.
+#[derive(Clone, Copy, Debug, PartialEq, Eq)]
+pub struct Lookup {
+    /// The symbol with its index and the section of symbols that it stands in; none where there is none.
+    pub found: Option<(Symbol, u32, u16)>,
+    /// Names that were compared.
+    pub steps: u32,
+}
+
+/// An address for [`File::apply`].
+#[repr(transparent)]
+#[derive(Clone, Copy, Debug)]
+pub struct Item<'n>(raw::Item, PhantomData<&'n [u8]>);
+
+impl<'n> Item<'n> {
+    /// The address of a section.
+    pub fn section(index: u16, address: u64) -> Item<'static> {
+        Item::new(raw::SECTION, b"", index, address)
+    }
+
+    /// The address of a symbol that the file does not define. Its name has 1 to 255 bytes, no NUL.
+    pub fn define(name: &'n [u8], address: u64) -> Item<'n> {
+        Item::new(raw::DEFINE, name, 0, address)
+    }
+
+    /// The address of a symbol's entry in the procedure linkage table.
+    pub fn entry(name: &'n [u8], address: u64) -> Item<'n> {
+        Item::new(raw::ENTRY, name, 0, address)
+    }
+
+    fn new(kind: u32, name: &'n [u8], index: u16, address: u64) -> Item<'n> {
+        let item =
+            raw::Item { address, name: name.as_ptr(), name_len: name.len(), kind, index: index.into() };
+        Item(item, PhantomData)
+    }
+}
+
+/// A file in memory, and what may be asked of it.
+#[derive(Clone, Copy, Debug)]
+pub struct File<'a> {
+    bytes: &'a [u8],
+    limits: raw::Limits,
+}
+
+impl<'a> File<'a> {
+    /// A file with the limits of [`Limits::default`].
+    pub fn new(bytes: &'a [u8]) -> File<'a> {
+        File::with_limits(bytes, Limits::default())
+    }
+
+    /// A file with limits. One that is outside its range makes each call that needs it [`Error::BadCall`].
+    pub fn with_limits(bytes: &'a [u8], limits: Limits) -> File<'a> {
+        let limits = raw::Limits {
+            headers: limits.headers,
+            name: limits.name,
+            has_budget: limits.budget.is_some().into(),
+            budget: limits.budget.unwrap_or(0),
+        };
+        File { bytes, limits }
+    }
+
+    /// The file's bytes.
+    pub fn bytes(&self) -> &'a [u8] {
+        self.bytes
+    }
+
+    /// How many bytes of room the file wants: at least 64, at most 64 for each permitted header.
+    pub fn room(&self) -> usize {
+        // SAFETY: a slice's own pointer and length.
+        let room = unsafe { raw::elfsee_room(self.bytes.as_ptr(), self.bytes.len(), self.limits.headers) };
+        usize::try_from(room).unwrap_or(usize::MAX)
+    }
+
+    /// How many bytes a listing of a file of this length asks for at most, whatever its bytes are.
+    pub fn cost(&self) -> u64 {
+        // SAFETY: a struct that is initialised.
+        unsafe { raw::elfsee_cost(self.bytes.len() as u64, &self.limits) }
+    }
+
+    /// Lists the file, as far as `parts` has it ([`ALL`], or a sum of [`HEADER`] and the like). A
+    /// refusal is the listing's last line, and no error. [`Error::Full`] where `out` is too short; a
+    /// front of the listing stands in it then.
+    pub fn show<'o>(&self, parts: u8, room: &mut [u8], out: &'o mut [u8]) -> Result<Listing<'o>, Error> {
+        let mut end = raw::End::default();
+        // SAFETY: slices' own pointers and lengths, of which none that is written overlaps another, and
+        // structs that are initialised.
+        let status = unsafe {
+            raw::elfsee_show(
+                self.bytes.as_ptr(),
+                self.bytes.len(),
+                &self.limits,
+                parts,
+                room.as_mut_ptr(),
+                room.len(),
+                out.as_mut_ptr(),
+                out.len(),
+                &mut end,
+            )
+        };
+        if status == raw::FULL || status == raw::BAD_CALL {
+            return Err(error_of(status, &end));
+        }
+        let text = core::str::from_utf8(written(out, &end)).unwrap_or("");
+        let refused = (status == raw::REFUSED).then(|| Refused::of(&end));
+        Ok(Listing { text, refused, asked: end.asked })
+    }
+
+    /// Looks a name up by the file's own SysV hash table: the first symbol of that name in its chain,
+    /// whatever its version and place. A name has at most 4,096 bytes and no NUL.
+    pub fn find(&self, name: &[u8], room: &mut [u8]) -> Result<Lookup, Error> {
+        if name.contains(&0) {
+            return Err(Error::BadCall);
+        }
+        let (mut found, mut end) = (raw::Found::default(), raw::End::default());
+        // SAFETY: as in `show`; the name has no NUL.
+        let status = unsafe {
+            raw::elfsee_find(
+                self.bytes.as_ptr(),
+                self.bytes.len(),
+                &self.limits,
+                room.as_mut_ptr(),
+                room.len(),
+                name.as_ptr(),
+                name.len(),
+                &mut found,
+                &mut end,
+            )
+        };
+        let steps = found.steps;
+        match status {
+            raw::OK => Ok(Lookup { found: Some((found.symbol, found.index, found.section)), steps }),
+            raw::ABSENT => Ok(Lookup { found: None, steps }),
+            _ => Err(error_of(status, &end)),
+        }
+    }
+
+    /// Writes a section's bytes with its relocations applied, for the addresses of a layout: at most 64
+    /// sections, 32 definitions and 32 entries, none twice. `out` has to be as long as the section.
+    pub fn apply<'o>(
+        &self,
+        section: u16,
+        layout: &[Item<'_>],
+        room: &mut [u8],
+        out: &'o mut [u8],
+    ) -> Result<&'o [u8], Error> {
+        let mut end = raw::End::default();
+        // An `Item` is a `raw::Item` and nothing else.
+        let items = layout.as_ptr().cast::<raw::Item>();
+        let job = raw::Job { items, items_len: layout.len(), section: section.into(), none: 0 };
+        // SAFETY: as in `show`; an item's name is a slice's own pointer and length.
+        let status = unsafe {
+            raw::elfsee_apply(
+                self.bytes.as_ptr(),
+                self.bytes.len(),
+                &self.limits,
+                &job,
+                room.as_mut_ptr(),
+                room.len(),
+                out.as_mut_ptr(),
+                out.len(),
+                &mut end,
+            )
+        };
+        match status {
+            raw::OK => Ok(written(out, &end)),
+            _ => Err(error_of(status, &end)),
+        }
+    }
+
+    /// The file header.
+    pub fn header(&self) -> Result<Header, Refused> {
+        let (mut header, mut end) = (Header::default(), raw::End::default());
+        // SAFETY: a slice's own pointer and length, and structs that are initialised.
+        let status =
+            unsafe { raw::elfsee_header(self.bytes.as_ptr(), self.bytes.len(), &mut header, &mut end) };
+        match status {
+            raw::OK => Ok(header),
+            _ => Err(Refused::of(&end)),
+        }
+    }
+
+    /// A section header by its index; none where there is none of that index.
+    pub fn section(&self, index: u16) -> Result<Option<Section>, Refused> {
+        let (mut row, mut end) = (Section::default(), raw::End::default());
+        // SAFETY: as in `header`.
+        let status =
+            unsafe { raw::elfsee_section(self.bytes.as_ptr(), self.bytes.len(), index, &mut row, &mut end) };
+        row_of(status, row, &end)
+    }
+
+    /// A program header by its index; none where there is none of that index.
+    pub fn segment(&self, index: u16) -> Result<Option<Segment>, Refused> {
+        let (mut row, mut end) = (Segment::default(), raw::End::default());
+        // SAFETY: as in `header`.
+        let status =
+            unsafe { raw::elfsee_segment(self.bytes.as_ptr(), self.bytes.len(), index, &mut row, &mut end) };
+        row_of(status, row, &end)
+    }
+
+    /// Where the string table of the section names lies; none where the file has none.
+    pub fn section_names(&self, room: &mut [u8]) -> Result<Option<Range>, Error> {
+        let (mut names, mut end) = (Range::default(), raw::End::default());
+        // SAFETY: as in `show`.
+        let status = unsafe {
+            raw::elfsee_section_names(
+                self.bytes.as_ptr(),
+                self.bytes.len(),
+                &self.limits,
+                room.as_mut_ptr(),
+                room.len(),
+                &mut names,
+                &mut end,
+            )
+        };
+        table_of(status, names, &end)
+    }
+
+    /// The name at an offset in a string table, any bytes of the file, without its NUL.
+    pub fn name(&self, strings: &Range, offset: u64) -> Result<&'a [u8], Refused> {
+        rows::name_in(self.bytes, strings, offset)
+    }
+
+    /// The symbols of a section; none where it holds none.
+    pub fn symbols(&self, section: u16, room: &mut [u8]) -> Result<Option<Symbols<'a>>, Error> {
+        let rows = self.open(raw::elfsee_symbols, section, room)?;
+        Ok(rows.map(|rows| Rows::new(self.bytes, rows)))
+    }
+
+    /// The relocation entries of a section; none where it holds none.
+    pub fn relocations(&self, section: u16, room: &mut [u8]) -> Result<Option<Relocations<'a>>, Error> {
+        let rows = self.open(raw::elfsee_relocations, section, room)?;
+        Ok(rows.map(|rows| Rows::new(self.bytes, rows)))
+    }
+
+    /// The dynamic entries of a section, or of a segment where the file has no sections; none where it
+    /// holds none.
+    pub fn dynamic(&self, table: u16, room: &mut [u8]) -> Result<Option<DynamicEntries<'a>>, Error> {
+        let rows = self.open(raw::elfsee_dynamic, table, room)?;
+        Ok(rows.map(|rows| Rows::new(self.bytes, rows)))
+    }
+
+    /// The notes of a section, or of a segment where the file has no sections; none where it holds none.
+    pub fn notes(&self, table: u16, room: &mut [u8]) -> Result<Option<Notes<'a>>, Error> {
+        let rows = self.open(raw::elfsee_notes, table, room)?;
+        Ok(rows.map(|rows| Notes::new(self.bytes, rows)))
+    }
+
+    fn open(&self, call: raw::OpenTable, table: u16, room: &mut [u8]) -> Result<Option<raw::Rows>, Error> {
+        let (mut rows, mut end) = (raw::Rows::default(), raw::End::default());
+        // SAFETY: as in `show`.
+        let status = unsafe {
+            call(
+                self.bytes.as_ptr(),
+                self.bytes.len(),
+                &self.limits,
+                table,
+                room.as_mut_ptr(),
+                room.len(),
+                &mut rows,
+                &mut end,
+            )
+        };
+        table_of(status, rows, &end)
+    }
+}
+
+/// The version of the library that is linked, 0x00MMmmpp.
+pub fn version() -> u32 {
+    // SAFETY: the call has no conditions.
+    unsafe { raw::elfsee_version() }
+}
+
+fn error_of(status: u32, end: &raw::End) -> Error {
+    match status {
+        raw::FULL => Error::Full,
+        raw::BAD_CALL => Error::BadCall,
+        _ => Error::Refused(Refused::of(end)),
+    }
+}
+
+fn row_of<R>(status: u32, row: R, end: &raw::End) -> Result<Option<R>, Refused> {
+    match status {
+        raw::OK => Ok(Some(row)),
+        raw::ABSENT => Ok(None),
+        _ => Err(Refused::of(end)),
+    }
+}
+
+fn table_of<R>(status: u32, table: R, end: &raw::End) -> Result<Option<R>, Error> {
+    match status {
+        raw::OK => Ok(Some(table)),
+        raw::ABSENT => Ok(None),
+        _ => Err(error_of(status, end)),
+    }
+}
+
+/// The bytes of `out` that a call wrote.
+fn written<'o>(out: &'o [u8], end: &raw::End) -> &'o [u8] {
+    let length = usize::try_from(end.written).unwrap_or(usize::MAX);
+    &out[..length.min(out.len())]
+}

@@ -1,0 +1,318 @@
+//! The library's calls and structs as C has them: `elfsee.h` says what each means, what it promises
+//! and what its caller guarantees. [`crate::File`] has the same as safe calls.
+//!
+//! A field that C calls `type` is `kind` here.
+
+#![allow(missing_docs)]
+
+pub const OK: u32 = 0;
+pub const REFUSED: u32 = 1;
+pub const ABSENT: u32 = 2;
+pub const FULL: u32 = 3;
+pub const BAD_CALL: u32 = 4;
+
+pub const SECTION: u32 = 0;
+pub const DEFINE: u32 = 1;
+pub const ENTRY: u32 = 2;
+
+#[repr(C)]
+#[derive(Clone, Copy, Debug, Default, PartialEq, Eq)]
+pub struct Limits {
+    pub headers: u16,
+    pub name: u16,
+    pub has_budget: u32,
+    pub budget: u64,
+}
+
+#[repr(C)]
+#[derive(Clone, Copy, Debug, Default, PartialEq, Eq)]
+pub struct End {
+    pub at: u64,
+    pub written: u64,
+    pub asked: u64,
+    pub cause: u32,
+    pub none: u32,
+}
+
+/// A symbol, field by field (gABI, Symbol Table).
+#[repr(C)]
+#[derive(Clone, Copy, Debug, Default, PartialEq, Eq)]
+pub struct Symbol {
+    pub value: u64,
+    pub size: u64,
+    pub name: u32,
+    pub section: u16,
+    pub info: u8,
+    pub other: u8,
+}
+
+#[repr(C)]
+#[derive(Clone, Copy, Debug, Default, PartialEq, Eq)]
+pub struct Found {
+    pub symbol: Symbol,
+    pub index: u32,
+    pub steps: u32,
+    pub section: u16,
+    pub none: u16,
+    pub none_behind: u32,
+}
+
+#[repr(C)]
+#[derive(Clone, Copy, Debug)]
+pub struct Item {
+    pub address: u64,
+    pub name: *const u8,
+    pub name_len: usize,
+    pub kind: u32,
+    pub index: u32,
+}
+
+#[repr(C)]
+#[derive(Clone, Copy, Debug)]
+pub struct Job {
+    pub items: *const Item,
+    pub items_len: usize,
+    pub section: u32,
+    pub none: u32,
+}
+
+/// The file header, field by field (gABI, ELF Header).
+#[repr(C)]
+#[derive(Clone, Copy, Debug, Default, PartialEq, Eq)]
+pub struct Header {
+    pub entry: u64,
+    pub phoff: u64,
+    pub shoff: u64,
+    pub version: u32,
+    pub flags: u32,
+    pub kind: u16,
+    pub machine: u16,
+    pub ehsize: u16,
+    pub phentsize: u16,
+    pub phnum: u16,
+    pub shentsize: u16,
+    pub shnum: u16,
+    pub shstrndx: u16,
+    pub ident: [u8; 16],
+}
+
+/// A section header, field by field (gABI, Sections).
+#[repr(C)]
+#[derive(Clone, Copy, Debug, Default, PartialEq, Eq)]
+pub struct Section {
+    pub flags: u64,
+    pub addr: u64,
+    pub offset: u64,
+    pub size: u64,
+    pub addralign: u64,
+    pub entsize: u64,
+    pub name: u32,
+    pub kind: u32,
+    pub link: u32,
+    pub info: u32,
+}
+
+/// A program header, field by field (gABI, Program Header).
+#[repr(C)]
+#[derive(Clone, Copy, Debug, Default, PartialEq, Eq)]
+pub struct Segment {
+    pub offset: u64,
+    pub vaddr: u64,
+    pub paddr: u64,
+    pub filesz: u64,
+    pub memsz: u64,
+    pub align: u64,
+    pub kind: u32,
+    pub flags: u32,
+}
+
+/// A relocation entry, field by field (gABI, Relocation); `addend` is 0 in a REL table.
+#[repr(C)]
+#[derive(Clone, Copy, Debug, Default, PartialEq, Eq)]
+pub struct Relocation {
+    pub offset: u64,
+    pub info: u64,
+    pub addend: i64,
+}
+
+/// A dynamic entry, field by field (gABI, Dynamic Section).
+#[repr(C)]
+#[derive(Clone, Copy, Debug, Default, PartialEq, Eq)]
+pub struct Dynamic {
+    pub tag: i64,
+    pub value: u64,
+}
+
+#[repr(C)]
+#[derive(Clone, Copy, Debug, Default, PartialEq, Eq)]
+pub struct Note {
+    pub name_at: u64,
+    pub desc_at: u64,
+    pub name_len: u32,
+    pub desc_len: u32,
+    pub kind: u32,
+    pub none: u32,
+}
+
+/// Bytes of the file: where they begin, and how many they are.
+#[repr(C)]
+#[derive(Clone, Copy, Debug, Default, PartialEq, Eq)]
+pub struct Range {
+    pub at: u64,
+    pub len: u64,
+}
+
+#[repr(C)]
+#[derive(Clone, Copy, Debug, Default, PartialEq, Eq)]
+pub struct Rows {
+    pub at: u64,
+    pub count: u64,
+    pub index: u64,
+    pub entry: u64,
+    pub strings_at: u64,
+    pub strings_len: u64,
+}
+
+/// A call that checks a table and sets rows before its first.
+pub type OpenTable =
+    unsafe extern "C" fn(*const u8, usize, *const Limits, u16, *mut u8, usize, *mut Rows, *mut End) -> u32;
+
+extern "C" {
+    pub fn elfsee_version() -> u32;
+    pub fn elfsee_cause_word(cause: u32, out: *mut u8, out_len: usize) -> usize;
+    pub fn elfsee_room(file: *const u8, file_len: usize, headers: u16) -> u64;
+    pub fn elfsee_cost(file_len: u64, limits: *const Limits) -> u64;
+    pub fn elfsee_show(
+        file: *const u8,
+        file_len: usize,
+        limits: *const Limits,
+        parts: u8,
+        room: *mut u8,
+        room_len: usize,
+        out: *mut u8,
+        out_len: usize,
+        end: *mut End,
+    ) -> u32;
+    pub fn elfsee_find(
+        file: *const u8,
+        file_len: usize,
+        limits: *const Limits,
+        room: *mut u8,
+        room_len: usize,
+        name: *const u8,
+        name_len: usize,
+        found: *mut Found,
+        end: *mut End,
+    ) -> u32;
+    pub fn elfsee_apply(
+        file: *const u8,
+        file_len: usize,
+        limits: *const Limits,
+        job: *const Job,
+        room: *mut u8,
+        room_len: usize,
+        out: *mut u8,
+        out_len: usize,
+        end: *mut End,
+    ) -> u32;
+    pub fn elfsee_header(file: *const u8, file_len: usize, header: *mut Header, end: *mut End) -> u32;
+    pub fn elfsee_section(
+        file: *const u8,
+        file_len: usize,
+        index: u16,
+        section: *mut Section,
+        end: *mut End,
+    ) -> u32;
+    pub fn elfsee_segment(
+        file: *const u8,
+        file_len: usize,
+        index: u16,
+        segment: *mut Segment,
+        end: *mut End,
+    ) -> u32;
+    pub fn elfsee_symbols(
+        file: *const u8,
+        file_len: usize,
+        limits: *const Limits,
+        section: u16,
+        room: *mut u8,
+        room_len: usize,
+        rows: *mut Rows,
+        end: *mut End,
+    ) -> u32;
+    pub fn elfsee_relocations(
+        file: *const u8,
+        file_len: usize,
+        limits: *const Limits,
+        section: u16,
+        room: *mut u8,
+        room_len: usize,
+        rows: *mut Rows,
+        end: *mut End,
+    ) -> u32;
+    pub fn elfsee_dynamic(
+        file: *const u8,
+        file_len: usize,
+        limits: *const Limits,
+        section: u16,
+        room: *mut u8,
+        room_len: usize,
+        rows: *mut Rows,
+        end: *mut End,
+    ) -> u32;
+    pub fn elfsee_notes(
+        file: *const u8,
+        file_len: usize,
+        limits: *const Limits,
+        section: u16,
+        room: *mut u8,
+        room_len: usize,
+        rows: *mut Rows,
+        end: *mut End,
+    ) -> u32;
+    pub fn elfsee_next_symbols(
+        file: *const u8,
+        file_len: usize,
+        rows: *mut Rows,
+        out: *mut Symbol,
+        out_len: usize,
+    ) -> usize;
+    pub fn elfsee_next_relocations(
+        file: *const u8,
+        file_len: usize,
+        rows: *mut Rows,
+        out: *mut Relocation,
+        out_len: usize,
+    ) -> usize;
+    pub fn elfsee_next_dynamic(
+        file: *const u8,
+        file_len: usize,
+        rows: *mut Rows,
+        out: *mut Dynamic,
+        out_len: usize,
+    ) -> usize;
+    pub fn elfsee_next_note(
+        file: *const u8,
+        file_len: usize,
+        rows: *mut Rows,
+        note: *mut Note,
+        end: *mut End,
+    ) -> u32;
+    pub fn elfsee_name(
+        file: *const u8,
+        file_len: usize,
+        strings: *const Range,
+        offset: u64,
+        name: *mut Range,
+        end: *mut End,
+    ) -> u32;
+    pub fn elfsee_section_names(
+        file: *const u8,
+        file_len: usize,
+        limits: *const Limits,
+        room: *mut u8,
+        room_len: usize,
+        strings: *mut Range,
+        end: *mut End,
+    ) -> u32;
+}

@@ -1,0 +1,157 @@
+//! The rows of a table, one after another.
+
+use crate::error::Refused;
+use crate::raw;
+
+/// So many rows are fetched by one call.
+const BATCH: usize = 32;
+
+mod sealed {
+    /// What fetches rows of one kind.
+    pub trait Fetch: Copy + Default {
+        /// Fetches up to so many next rows, and tells how many.
+        fn fetch(file: &[u8], rows: &mut super::raw::Rows, out: &mut [Self]) -> usize;
+    }
+}
+
+use sealed::Fetch;
+
+macro_rules! fetched {
+    ($row:ty, $call:path) => {
+        impl Fetch for $row {
+            fn fetch(file: &[u8], rows: &mut raw::Rows, out: &mut [Self]) -> usize {
+                // SAFETY: a slice's own pointer and length, a struct that is initialised, and `out`
+                // and `rows`, which nothing else refers to.
+                unsafe { $call(file.as_ptr(), file.len(), rows, out.as_mut_ptr(), out.len()) }
+            }
+        }
+    };
+}
+
+fetched!(raw::Symbol, raw::elfsee_next_symbols);
+fetched!(raw::Relocation, raw::elfsee_next_relocations);
+fetched!(raw::Dynamic, raw::elfsee_next_dynamic);
+
+/// The rows of a table of symbols, relocation entries or dynamic entries: an iterator.
+#[derive(Clone, Debug)]
+pub struct Rows<'a, R> {
+    file: &'a [u8],
+    rows: raw::Rows,
+    batch: [R; BATCH],
+    next: usize,
+    fetched: usize,
+}
+
+/// The symbols of a section.
+pub type Symbols<'a> = Rows<'a, raw::Symbol>;
+/// The relocation entries of a section.
+pub type Relocations<'a> = Rows<'a, raw::Relocation>;
+/// The dynamic entries of a section or a segment.
+pub type DynamicEntries<'a> = Rows<'a, raw::Dynamic>;
+
+impl<'a, R: Fetch> Rows<'a, R> {
+    pub(crate) fn new(file: &'a [u8], rows: raw::Rows) -> Self {
+        Rows { file, rows, batch: [R::default(); BATCH], next: 0, fetched: 0 }
+    }
+
+    /// How many rows the table has.
+    pub fn count(&self) -> u64 {
+        self.rows.count
+    }
+
+    /// Where the table's first row stands in the file, and how many bytes a row has.
+    pub fn place(&self) -> (u64, u64) {
+        (self.rows.at, self.rows.entry)
+    }
+
+    /// The name at an offset in the string table that goes with these rows, without its NUL.
+    pub fn name(&self, offset: u64) -> Result<&'a [u8], Refused> {
+        let strings = raw::Range { at: self.rows.strings_at, len: self.rows.strings_len };
+        name_in(self.file, &strings, offset)
+    }
+}
+
+impl<'a, R: Fetch> Iterator for Rows<'a, R> {
+    type Item = R;
+
+    fn next(&mut self) -> Option<R> {
+        if self.next == self.fetched {
+            self.fetched = R::fetch(self.file, &mut self.rows, &mut self.batch);
+            self.next = 0;
+        }
+        let row = self.batch[..self.fetched].get(self.next).copied()?;
+        self.next += 1;
+        Some(row)
+    }
+}
+
+/// The name at an offset in some bytes of a file.
+pub(crate) fn name_in<'a>(file: &'a [u8], strings: &raw::Range, offset: u64) -> Result<&'a [u8], Refused> {
+    let (mut name, mut end) = (raw::Range::default(), raw::End::default());
+    // SAFETY: a slice's own pointer and length, and structs that are initialised and nobody else's.
+    let status = unsafe { raw::elfsee_name(file.as_ptr(), file.len(), strings, offset, &mut name, &mut end) };
+    match status {
+        raw::OK => Ok(bytes_of(file, name.at, name.len)),
+        _ => Err(Refused::of(&end)),
+    }
+}
+
+/// Bytes of a file that a call told; none where it has not so many.
+fn bytes_of(file: &[u8], at: u64, len: u64) -> &[u8] {
+    let end = at.checked_add(len).unwrap_or(u64::MAX);
+    match (usize::try_from(at), usize::try_from(end)) {
+        (Ok(at), Ok(end)) => file.get(at..end).unwrap_or(&[]),
+        _ => &[],
+    }
+}
+
+/// A note (gABI, Note Section).
+#[derive(Clone, Copy, Debug, PartialEq, Eq)]
+pub struct Note<'a> {
+    /// Its name, up to the first NUL.
+    pub name: &'a [u8],
+    /// Its descriptor.
+    pub desc: &'a [u8],
+    /// Its type.
+    pub kind: u32,
+}
+
+/// The notes of a section or a segment: an iterator. A note that is cut is its last item.
+#[derive(Clone, Debug)]
+pub struct Notes<'a> {
+    file: &'a [u8],
+    rows: raw::Rows,
+    ended: bool,
+}
+
+impl<'a> Notes<'a> {
+    pub(crate) fn new(file: &'a [u8], rows: raw::Rows) -> Self {
+        Notes { file, rows, ended: false }
+    }
+}
+
+impl<'a> Iterator for Notes<'a> {
+    type Item = Result<Note<'a>, Refused>;
+
+    fn next(&mut self) -> Option<Self::Item> {
+        if self.ended {
+            return None;
+        }
+        let (mut note, mut end) = (raw::Note::default(), raw::End::default());
+        let file = self.file;
+        // SAFETY: a slice's own pointer and length, and structs that are initialised and nobody else's.
+        let status =
+            unsafe { raw::elfsee_next_note(file.as_ptr(), file.len(), &mut self.rows, &mut note, &mut end) };
+        self.ended = status != raw::OK;
+        match status {
+            raw::OK => {
+                let name = bytes_of(file, note.name_at, note.name_len.into());
+                let name = name.split(|byte| *byte == 0).next().unwrap_or(&[]);
+                let desc = bytes_of(file, note.desc_at, note.desc_len.into());
+                Some(Ok(Note { name, desc, kind: note.kind }))
+            }
+            raw::REFUSED => Some(Err(Refused::of(&end))),
+            _ => None,
+        }
+    }
+}
