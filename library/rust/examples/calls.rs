@@ -1,0 +1,117 @@
+//! Each call of the crate from a command line.
+//!
+//!     calls show FILE             the listing
+//!     calls find FILE NAME        the symbol and the steps
+//!     calls rows FILE..           all rows, as numbers; names and descriptors in hexadecimal digits
+
+use elfsee::{Error, File, Refused};
+use std::process::exit;
+
+fn hex(bytes: &[u8]) -> String {
+    bytes.iter().map(|byte| format!("{byte:02x}")).collect()
+}
+
+/// A listing; the memory for it is doubled until it fits.
+fn show(file: &File) -> Result<(), Error> {
+    let (mut room, mut out) = (vec![0; file.room()], vec![0; 4096]);
+    loop {
+        match file.show(elfsee::ALL, &mut room, &mut out) {
+            Err(Error::Full) => out = vec![0; 2 * out.len()],
+            Err(error) => return Err(error),
+            Ok(listing) => {
+                print!("{}", listing.text);
+                return listing.refused.map_or(Ok(()), |refused| Err(refused.into()));
+            }
+        }
+    }
+}
+
+fn find(file: &File, name: &[u8]) -> Result<(), Error> {
+    let lookup = file.find(name, &mut vec![0; file.room()])?;
+    match lookup.found {
+        Some((symbol, index, section)) => println!("{section} {index} {} {}", symbol.value, lookup.steps),
+        None => println!("absent {}", lookup.steps),
+    }
+    Ok(())
+}
+
+fn symbols(file: &File, section: u16, room: &mut [u8]) -> Result<(), Error> {
+    let mut rows = match file.symbols(section, room)? {
+        Some(rows) => rows,
+        None => return Ok(()),
+    };
+    while let Some(row) = rows.next() {
+        let name = rows.name(row.name.into())?;
+        println!(
+            "Y {section} {} {} {} {} {} {}",
+            row.value,
+            row.size,
+            row.section,
+            row.info,
+            row.other,
+            hex(name)
+        );
+    }
+    Ok(())
+}
+
+fn entries(file: &File, section: u16, room: &mut [u8]) -> Result<(), Error> {
+    for row in file.relocations(section, room)?.into_iter().flatten() {
+        println!("R {section} {} {} {} {}", row.offset, row.kind(), row.symbol(), row.addend);
+    }
+    Ok(())
+}
+
+fn others(file: &File, section: u16, room: &mut [u8]) -> Result<(), Error> {
+    for note in file.notes(section, room)?.into_iter().flatten() {
+        let note = note?;
+        println!("N {section} {} {} {}", note.kind, hex(note.name), hex(note.desc));
+    }
+    for row in file.dynamic(section, room)?.into_iter().flatten() {
+        println!("D {section} {} {}", row.tag, row.value);
+    }
+    Ok(())
+}
+
+fn rows(file: &File) -> Result<(), Error> {
+    let mut room = vec![0; file.room()];
+    let header = file.header()?;
+    println!("H {} {} {} {}", header.kind, header.machine, header.entry, hex(&header.ident));
+    let names = file.section_names(&mut room)?;
+    for index in 0..header.shnum {
+        let missing = Refused { cause: elfsee::Cause::Unknown, at: 0 };
+        let row = file.section(index)?.ok_or(missing)?;
+        let name = names.map_or(Ok(&b""[..]), |names| file.name(&names, row.name.into()))?;
+        println!("S {index} {} {} {} {}", row.kind, row.offset, row.size, hex(name));
+    }
+    for index in 0..header.phnum {
+        if let Some(row) = file.segment(index)? {
+            println!("P {index} {} {} {}", row.kind, row.offset, row.filesz);
+        }
+    }
+    let tables = if header.shnum == 0 { header.phnum } else { header.shnum };
+    (0..tables).try_for_each(|index| symbols(file, index, &mut room))?;
+    (0..tables).try_for_each(|index| entries(file, index, &mut room))?;
+    (0..tables).try_for_each(|index| others(file, index, &mut room))
+}
+
+fn main() {
+    let words: Vec<String> = std::env::args().skip(1).collect();
+    let mut ended = 0;
+    for path in if words[0] == "rows" { &words[1..] } else { &words[1..2] } {
+        let bytes = std::fs::read(path).expect("a file");
+        let file = File::new(&bytes);
+        let done = match &words[0][..] {
+            "show" => show(&file),
+            "find" => find(&file, words[2].as_bytes()),
+            _ => rows(&file),
+        };
+        if let Err(error) = done {
+            ended = 1;
+            if words[0] != "show" {
+                println!("! {error}");
+            }
+        }
+    }
+    exit(ended)
+}
