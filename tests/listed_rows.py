@@ -68,14 +68,12 @@ def symbol_lines(file, cap):
 
 
 def relocation_lines(file, cap):
-    kinds = {row.index: row.type for row in file.sections()}
     machine = file.header.machine
-    for table in (index for index, kind in kinds.items() if kind == 4):
-        for row in file.relocations(table):
-            kind = named("type of an R line", row.type, "#%d") if machine == X86_64 else "#%d" % row.type
-            yield "R %5d %016x %-10s %08x %s%016x %s" % (
-                row.table, row.offset, kind, row.symbol, "-" if row.addend < 0 else "+", abs(row.addend),
-                spelt(row.name, cap))
+    for row in file.relocations():
+        kind = named("type of an R line", row.type, "#%d") if machine == X86_64 else "#%d" % row.type
+        yield "R %5d %016x %-10s %08x %s%016x %s" % (
+            row.table, row.offset, kind, row.symbol, "-" if row.addend < 0 else "+", abs(row.addend),
+            spelt(row.name, cap))
 
 
 def note_lines(file, cap):

@@ -48,7 +48,7 @@ ALL = 127
 MOST_HEADERS, MOST_NAME, MOST_NUMBER = 65279, 4096, (1 << 64) - 1
 DEFAULT_HEADERS, DEFAULT_NAME = 4096, 256
 # Section types and segment types that hold tables, and the dynamic entries whose value is a string (gABI).
-SHT_SYMTAB, SHT_RELA, SHT_DYNAMIC, SHT_NOTE, SHT_NOBITS, SHT_REL, SHT_DYNSYM = 2, 4, 6, 7, 8, 9, 11
+SHT_SYMTAB, SHT_RELA, SHT_DYNAMIC, SHT_NOTE, SHT_NOBITS, SHT_DYNSYM = 2, 4, 6, 7, 8, 11
 PT_DYNAMIC, PT_NOTE = 2, 4
 DT_NULL, DT_NEEDED, DT_SONAME, DT_RPATH, DT_RUNPATH = 0, 1, 14, 15, 29
 STRING_TAGS = frozenset((DT_NEEDED, DT_SONAME, DT_RPATH, DT_RUNPATH))
@@ -326,8 +326,8 @@ class Symbol(NamedTuple):
 
 
 class Relocation(NamedTuple):
-    """A relocation entry, with the name of its symbol, which is empty for symbol 0. `addend` is 0
-    in a REL table. `index` is its place in `table`, a section."""
+    """A relocation entry, with the name of its symbol, which is empty for symbol 0. `index` is its
+    place in `table`, a section."""
 
     offset: int
     type: int
@@ -672,9 +672,9 @@ class File:
                 index += 1
 
     def relocations(self, section: Optional[int] = None) -> Iterator[Relocation]:
-        """The relocation entries of a section, or of all RELA and REL sections in their order. Absent
-        where that section holds none."""
-        for table in self._tables(section, (SHT_RELA, SHT_REL), None):
+        """The relocation entries of a section, or of all RELA sections in their order. Absent where that
+        section holds none; so does one of type REL, whose entries are not read."""
+        for table in self._tables(section, (SHT_RELA,), None):
             yield from self._relocations_of(table)
 
     def _relocations_of(self, table: int) -> Iterator[Relocation]:

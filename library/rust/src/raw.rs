@@ -126,7 +126,7 @@ pub struct Segment {
     pub flags: u32,
 }
 
-/// A relocation entry, field by field (gABI, Relocation); `addend` is 0 in a REL table.
+/// A relocation entry, field by field (gABI, Relocation).
 #[repr(C)]
 #[derive(Clone, Copy, Debug, Default, PartialEq, Eq)]
 pub struct Relocation {
