@@ -1,0 +1,141 @@
+//! What is outside its range is refused, and what is empty ends well.
+
+use elfsee::{Cause, Error, File, Item, Limits, Refused};
+
+/// A file header alone: a relocatable file for x86-64 without sections.
+fn header() -> [u8; 64] {
+    let mut bytes = [0; 64];
+    bytes[..7].copy_from_slice(b"\x7fELF\x02\x01\x01");
+    bytes[16] = 1;
+    bytes[18] = 62;
+    bytes
+}
+
+fn apply(layout: &[Item]) -> Result<(), Error> {
+    File::new(&header()).apply(1, layout, &mut [0; 64], &mut []).map(|_| ())
+}
+
+#[test]
+fn short_files_are_refused() {
+    for length in 0..64 {
+        let bytes = &header()[..length];
+        let (file, mut room, mut out) = (File::new(bytes), [0; 64], [0; 100]);
+        let short = Refused { cause: Cause::Short, at: length as u64 };
+        assert_eq!(file.header(), Err(short));
+        assert_eq!(file.section(0), Err(short));
+        assert_eq!(file.find(b"x", &mut room), Err(short.into()));
+        assert_eq!(file.apply(1, &[], &mut room, &mut []), Err(short.into()));
+        assert_eq!(file.symbols(0, &mut room).err(), Some(short.into()));
+        let listing = file.show(elfsee::ALL, &mut room, &mut out).unwrap();
+        assert_eq!(listing.text, format!("! {:016x} short\n", length));
+        assert_eq!(listing.refused, Some(short));
+        assert_eq!(file.room(), 64);
+    }
+}
+
+#[test]
+fn outputs_without_room_are_full() {
+    let bytes = header();
+    let file = File::new(&bytes);
+    for length in 0..90 {
+        assert_eq!(file.show(elfsee::HEADER, &mut [0; 64], &mut vec![0; length]), Err(Error::Full));
+    }
+    assert_eq!(file.show(elfsee::HEADER, &mut [0; 64], &mut [0; 91]).unwrap().text.len(), 91);
+    assert_eq!(file.show(0, &mut [0; 64], &mut []).unwrap().text, "");
+}
+
+#[test]
+fn too_little_room_is_a_bad_call() {
+    let bytes = header();
+    let file = File::new(&bytes);
+    for length in [0, 1, 63] {
+        let mut room = vec![0; length];
+        assert_eq!(file.show(elfsee::ALL, &mut room, &mut [0; 100]), Err(Error::BadCall));
+        assert_eq!(file.find(b"x", &mut room), Err(Error::BadCall));
+        assert_eq!(file.apply(1, &[], &mut room, &mut []), Err(Error::BadCall));
+        assert_eq!(file.symbols(1, &mut room).err(), Some(Error::BadCall));
+        assert_eq!(file.section_names(&mut room), Err(Error::BadCall));
+    }
+}
+
+#[test]
+fn limits_have_ranges() {
+    let bytes = header();
+    for limits in [
+        Limits { headers: 0, ..Limits::default() },
+        Limits { headers: 65280, ..Limits::default() },
+        Limits { name: 0, ..Limits::default() },
+        Limits { name: 4097, ..Limits::default() },
+    ] {
+        let file = File::with_limits(&bytes, limits);
+        assert_eq!(file.show(elfsee::ALL, &mut [0; 64], &mut [0; 100]), Err(Error::BadCall));
+    }
+    let file = File::with_limits(&bytes, Limits { budget: Some(63), ..Limits::default() });
+    let listing = file.show(elfsee::ALL, &mut [0; 64], &mut [0; 100]).unwrap().refused;
+    assert_eq!(listing, Some(Refused { cause: Cause::Budget, at: 0 }));
+}
+
+#[test]
+fn names_have_ranges() {
+    let bytes = header();
+    let file = File::new(&bytes);
+    assert_eq!(file.find(b"a\0b", &mut [0; 64]), Err(Error::BadCall));
+    assert_eq!(file.find(&[b'a'; 4097], &mut [0; 64]), Err(Error::BadCall));
+    for name in [&b""[..], b"a\0", &[b'a'; 256]] {
+        assert_eq!(apply(&[Item::define(name, 0)]), Err(Error::BadCall));
+        assert_eq!(apply(&[Item::entry(name, 0)]), Err(Error::BadCall));
+    }
+}
+
+#[test]
+fn layouts_have_bounds() {
+    let sections: Vec<_> = (1..66).map(|index| Item::section(index, 0)).collect();
+    assert_eq!(apply(&sections), Err(Error::BadCall));
+    assert!(matches!(apply(&sections[..64]), Err(Error::Refused(_))));
+    let names: Vec<_> = (0..33).map(|number| format!("n{}", number)).collect();
+    for item in [Item::define, Item::entry] {
+        let items: Vec<_> = names.iter().map(|name| item(name.as_bytes(), 0)).collect();
+        assert_eq!(apply(&items), Err(Error::BadCall));
+        assert!(matches!(apply(&items[..32]), Err(Error::Refused(_))));
+        assert_eq!(apply(&[items[0], items[0]]), Err(Error::BadCall));
+    }
+    assert_eq!(apply(&[Item::section(1, 0), Item::section(1, 1)]), Err(Error::BadCall));
+}
+
+#[test]
+fn what_is_not_there_is_absent() {
+    let bytes = header();
+    let file = File::new(&bytes);
+    assert_eq!(file.section(0), Ok(None));
+    assert_eq!(file.segment(65535), Ok(None));
+    assert!(file.symbols(0, &mut [0; 64]).unwrap().is_none());
+    assert!(file.relocations(7, &mut [0; 64]).unwrap().is_none());
+    assert!(file.dynamic(65535, &mut [0; 64]).unwrap().is_none());
+    assert!(file.notes(0, &mut [0; 64]).unwrap().is_none());
+    assert_eq!(file.section_names(&mut [0; 64]), Ok(None));
+}
+
+#[test]
+fn names_lie_in_any_bytes() {
+    let file = File::new(b"\0ab\0cd");
+    let all = elfsee::Range { at: 0, len: 6 };
+    assert_eq!(file.name(&all, 0), Ok(&b""[..]));
+    assert_eq!(file.name(&all, 2), Ok(&b"b"[..]));
+    assert_eq!(file.name(&all, 4).unwrap_err().cause, Cause::NameUnended);
+    assert_eq!(file.name(&all, 6).unwrap_err().cause, Cause::NameOutside);
+    let beyond = elfsee::Range { at: u64::MAX, len: u64::MAX };
+    assert!(file.name(&beyond, u64::MAX).is_err());
+}
+
+#[test]
+fn causes_have_words_and_numbers() {
+    for number in 1..30 {
+        let cause = Cause::of_number(number);
+        assert_eq!(cause.number(), number);
+        assert!(!cause.to_string().is_empty());
+    }
+    assert_eq!(Cause::of_number(30), Cause::Unknown);
+    assert_eq!(Cause::Unknown.to_string(), "");
+    assert_eq!(Refused { cause: Cause::BadLink, at: 40 }.to_string(), "bad-link at 0x28");
+    assert_eq!(elfsee::version() >> 16, 0);
+}
