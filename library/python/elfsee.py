@@ -550,9 +550,13 @@ class File:
         return ctypes.string_at(out, end.written)
 
     def _size_in_file(self, section: int) -> int:
+        """How many bytes of the file a section has; none of one that is refused, for apply to tell."""
         row = _Section()
-        status, _ = self._call("section", section, row)
-        return 0 if status == _ABSENT or row.type == SHT_NOBITS else min(row.size, len(self.data))
+        try:
+            status, _ = self._call("section", section, row)
+        except Refused:
+            return 0
+        return min(row.size, len(self.data)) if status == _OK and row.type != SHT_NOBITS else 0
 
     # -----------------------------------------------------------------------
     # Headers.
@@ -679,12 +683,13 @@ class File:
 
     def _relocations_of(self, table: int) -> Iterator[Relocation]:
         rows = self._opened("relocations", table)
-        at, width, index, make = rows.at, rows.entry, 0, tuple.__new__
-        name_of = self._symbol_names(table)
+        at, index, make = rows.at, 0, tuple.__new__
+        # What an empty table links to is not looked at.
+        name_of = self._symbol_names(table) if rows.count else None
         for batch in self._batches("next_relocations", rows, _RELOCATION_FORM):
             for offset, info, addend in batch:
                 symbol = info >> 32
-                name = name_of(symbol, at + width * index) if symbol else b""
+                name = name_of(symbol, at + 24 * index) if symbol else b""
                 yield make(Relocation, (offset, info & 0xffffffff, symbol, addend, name, table, index))
                 index += 1
 

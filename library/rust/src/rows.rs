@@ -64,7 +64,8 @@ impl<'a, R: Fetch> Rows<'a, R> {
         (self.rows.at, self.rows.entry)
     }
 
-    /// The name at an offset in the string table that goes with these rows, without its NUL.
+    /// The name at an offset in the string table that goes with these rows, without its NUL. A refusal's
+    /// offset is where the name was to begin in the file.
     pub fn name(&self, offset: u64) -> Result<&'a [u8], Refused> {
         let strings = raw::Range { at: self.rows.strings_at, len: self.rows.strings_len };
         name_in(self.file, &strings, offset)
