@@ -62,13 +62,15 @@ static struct elfsee_limits limits_of(const char *headers, const char *name, con
 static size_t bytes_of(const char *digits, uint8_t *bytes) {
     size_t len = 0;
     unsigned byte;
-    for (; *digits != '-' && sscanf(digits, "%2x", &byte) == 1; digits += 2) bytes[len++] = (uint8_t)byte;
+    for (; *digits != '-' && sscanf(digits, "%2x", &byte) == 1; digits += 2)
+        bytes[len++] = (uint8_t)byte;
     return len;
 }
 
-static void answer(uint32_t status, const struct elfsee_end *end, uint64_t cost, const void *text, size_t len) {
-    printf("%" PRIu32 " %" PRIu32 " %" PRIu64 " %" PRIu64 " %" PRIu64 " %" PRIu64 " %zu\n", status, end->cause,
-           end->at, end->written, end->asked, cost, len);
+static void answer(uint32_t status, const struct elfsee_end *end, uint64_t cost, const void *text,
+                   size_t len) {
+    printf("%" PRIu32 " %" PRIu32 " %" PRIu64 " %" PRIu64 " %" PRIu64 " %" PRIu64 " %zu\n", status,
+           end->cause, end->at, end->written, end->asked, cost, len);
     fwrite(text, 1, len, stdout);
 }
 
@@ -85,12 +87,12 @@ struct shown {
     uint32_t status;
 };
 
-static struct shown show_into(const struct lent *file, const struct elfsee_limits *limits, uint8_t parts, size_t room_len,
-                              size_t out_len) {
+static struct shown show_into(const struct lent *file, const struct elfsee_limits *limits, uint8_t parts,
+                              size_t room_len, size_t out_len) {
     struct shown shown = {lend(out_len, turn & 1), {7, 7, 7, 7, 7}, 0};
     struct lent room = lend(room_len, turn++ & 2);
-    shown.status = elfsee_show(file->bytes, file->len, limits, parts, room.bytes, room.len, shown.out.bytes, out_len,
-                               &shown.end);
+    shown.status = elfsee_show(file->bytes, file->len, limits, parts, room.bytes, room.len, shown.out.bytes,
+                               out_len, &shown.end);
     expect(is_whole(&shown.out), "out was written outside");
     expect(take_back(&room), "room was written outside");
     expect(shown.end.written <= out_len, "more written than lent");
@@ -99,15 +101,17 @@ static struct shown show_into(const struct lent *file, const struct elfsee_limit
 }
 
 /* The same call once more, with other room or less out, and what has to come. */
-static void show_again(const struct lent *file, const struct elfsee_limits *limits, uint8_t parts, size_t room_len,
-                       size_t out_len, const struct shown *whole) {
+static void show_again(const struct lent *file, const struct elfsee_limits *limits, uint8_t parts,
+                       size_t room_len, size_t out_len, const struct shown *whole) {
     struct shown again = show_into(file, limits, parts, room_len, out_len);
     if (out_len < whole->end.written) {
         expect(again.status == ELFSEE_FULL && again.end.written == out_len, "another status than full");
     } else {
-        expect(again.status == whole->status && is_same(&again.end, &whole->end), "another answer with other room");
+        expect(again.status == whole->status && is_same(&again.end, &whole->end),
+               "another answer with other room");
     }
-    expect(!memcmp(again.out.bytes, whole->out.bytes, (size_t)again.end.written), "another text with other room");
+    expect(!memcmp(again.out.bytes, whole->out.bytes, (size_t)again.end.written),
+           "another text with other room");
     take_back(&again.out);
 }
 
@@ -140,15 +144,17 @@ static void find(const struct lent *file, char **words) {
     struct lent less = lend((size_t)elfsee_room(file->bytes, file->len, limits.headers), turn & 1);
     struct elfsee_found found = {{7, 7, 7, 7, 7, 7}, 7, 7, 7, 7, 7}, again = found;
     struct elfsee_end end = {7, 7, 7, 7, 7}, end_again = end;
-    uint32_t status = elfsee_find(file->bytes, file->len, &limits, room.bytes, room.len, name.bytes, name.len, &found, &end);
-    uint32_t status_again =
-        elfsee_find(file->bytes, file->len, &limits, less.bytes, less.len, name.bytes, name.len, &again, &end_again);
+    uint32_t status = elfsee_find(file->bytes, file->len, &limits, room.bytes, room.len, name.bytes, name.len,
+                                  &found, &end);
+    uint32_t status_again = elfsee_find(file->bytes, file->len, &limits, less.bytes, less.len, name.bytes,
+                                        name.len, &again, &end_again);
     expect(status == status_again && is_same(&end, &end_again), "another answer with other room");
     expect(!memcmp(&found, &again, sizeof found), "another symbol with other room");
     expect(take_back(&room) && take_back(&less), "room was written outside");
     take_back(&name);
     char text[256];
-    int len = snprintf(text, sizeof text, "%u %" PRIu32 " %" PRIu64 " %" PRIu64 " %u %u %u %" PRIu32 " %" PRIu32 " %u %" PRIu32,
+    int len = snprintf(text, sizeof text,
+                       "%u %" PRIu32 " %" PRIu64 " %" PRIu64 " %u %u %u %" PRIu32 " %" PRIu32 " %u %" PRIu32,
                        found.section, found.index, found.symbol.value, found.symbol.size, found.symbol.info,
                        found.symbol.other, found.symbol.section, found.symbol.name, found.steps, found.none,
                        found.none_behind);
@@ -162,7 +168,8 @@ static size_t items_of(char *words, struct elfsee_item *items, uint8_t *names) {
     for (; word && count < MOST_ITEMS; word = strtok_r(0, ",", &rest)) {
         struct elfsee_item item = {0, names, 0, 0, 0};
         char digits[600];
-        if (sscanf(word, "%" SCNu32 ":%" SCNu32 ":%599[^:]:%" SCNx64, &item.kind, &item.index, digits, &item.address) != 4)
+        if (sscanf(word, "%" SCNu32 ":%" SCNu32 ":%599[^:]:%" SCNx64, &item.kind, &item.index, digits,
+                   &item.address) != 4)
             wrong("an item is not read");
         item.name_len = bytes_of(digits, names);
         names += item.name_len + 1;
@@ -175,7 +182,8 @@ static void apply(const struct lent *file, char **words) {
     static struct elfsee_item items[MOST_ITEMS];
     static uint8_t names[MOST_ITEMS * 300];
     struct elfsee_limits limits = limits_of(words[0], "1", words[1]);
-    struct elfsee_job job = {items, items_of(words[3], items, names), (uint32_t)strtoul(words[2], 0, 0), 0xffffffff};
+    struct elfsee_job job = {items, items_of(words[3], items, names), (uint32_t)strtoul(words[2], 0, 0),
+                             0xffffffff};
     struct elfsee_end end = {7, 7, 7, 7, 7};
     size_t room_len = (size_t)elfsee_room(file->bytes, file->len, limits.headers), out_len = 64;
     uint32_t status;
@@ -183,7 +191,8 @@ static void apply(const struct lent *file, char **words) {
     for (;; out_len *= 4) {
         out = lend(out_len, turn & 1);
         room = lend(room_len, turn++ & 2);
-        status = elfsee_apply(file->bytes, file->len, &limits, &job, room.bytes, room.len, out.bytes, out_len, &end);
+        status = elfsee_apply(file->bytes, file->len, &limits, &job, room.bytes, room.len, out.bytes, out_len,
+                              &end);
         expect(is_whole(&out), "out was written outside");
         expect(take_back(&room), "room was written outside");
         if (status != ELFSEE_FULL) break;
@@ -194,8 +203,9 @@ static void apply(const struct lent *file, char **words) {
     if (status == ELFSEE_OK && end.written) {
         struct lent less = lend((size_t)end.written - 1, turn & 1);
         room = lend(room_len, turn++ & 2);
-        expect(elfsee_apply(file->bytes, file->len, &limits, &job, room.bytes, room.len, less.bytes, less.len, &end) ==
-                   ELFSEE_FULL, "a section without room for its last byte");
+        expect(elfsee_apply(file->bytes, file->len, &limits, &job, room.bytes, room.len, less.bytes, less.len,
+                            &end) == ELFSEE_FULL,
+               "a section without room for its last byte");
         expect(take_back(&less) && take_back(&room), "written outside");
     }
     take_back(&out);
@@ -242,7 +252,8 @@ static int say_name(struct walk *walk, const struct elfsee_range *strings, uint6
     if (strings->len == 0 && offset == 0) return 1;
     if (elfsee_name(walk->file->bytes, walk->file->len, strings, offset, &name, &walk->end)) return 0;
     expect(name.at == strings->at + offset && offset + name.len < strings->len, "a name outside its table");
-    expect(name.at + name.len < walk->file->len && walk->file->bytes[name.at + name.len] == 0, "a name without its NUL");
+    expect(name.at + name.len < walk->file->len && walk->file->bytes[name.at + name.len] == 0,
+           "a name without its NUL");
     say_bytes(walk, name.at, name.len);
     return 1;
 }
@@ -251,8 +262,8 @@ static int say_name(struct walk *walk, const struct elfsee_range *strings, uint6
 static int say_symbols(struct walk *walk, uint16_t section) {
     struct elfsee_rows rows = {7, 7, 7, 7, 7, 7};
     struct elfsee_symbol some[100];
-    uint32_t status = elfsee_symbols(walk->file->bytes, walk->file->len, &walk->limits, section, walk->room.bytes,
-                                     walk->room.len, &rows, &walk->end);
+    uint32_t status = elfsee_symbols(walk->file->bytes, walk->file->len, &walk->limits, section,
+                                     walk->room.bytes, walk->room.len, &rows, &walk->end);
     size_t i, count;
     if (status != ELFSEE_OK) return status == ELFSEE_ABSENT;
     for (;;) {
@@ -261,8 +272,9 @@ static int say_symbols(struct walk *walk, uint16_t section) {
         expect(count <= 100 && rows.index == index + count, "a wrong number of symbols");
         for (i = 0; i < count; i += 1) {
             struct elfsee_range strings = {rows.strings_at, rows.strings_len};
-            say(walk, "Y %u %" PRIu64 " %" PRIu64 " %" PRIu64 " %u %u %u %u ", section, index + i, some[i].value,
-                some[i].size, some[i].info & 15, some[i].info >> 4, some[i].other & 3, some[i].section);
+            say(walk, "Y %u %" PRIu64 " %" PRIu64 " %" PRIu64 " %u %u %u %u ", section, index + i,
+                some[i].value, some[i].size, some[i].info & 15, some[i].info >> 4, some[i].other & 3,
+                some[i].section);
             if (!say_name(walk, &strings, some[i].name)) return 0;
             say(walk, "\n");
         }
@@ -274,8 +286,8 @@ static int say_relocations(struct walk *walk, uint16_t section) {
     struct elfsee_rows rows = {7, 7, 7, 7, 7, 7};
     struct elfsee_section header;
     struct elfsee_relocation some[7];
-    uint32_t status = elfsee_relocations(walk->file->bytes, walk->file->len, &walk->limits, section, walk->room.bytes,
-                                         walk->room.len, &rows, &walk->end);
+    uint32_t status = elfsee_relocations(walk->file->bytes, walk->file->len, &walk->limits, section,
+                                         walk->room.bytes, walk->room.len, &rows, &walk->end);
     size_t i, count = 7;
     memset(&header, 7, sizeof header);
     if (status != ELFSEE_OK) return status == ELFSEE_ABSENT;
@@ -295,15 +307,16 @@ static int say_relocations(struct walk *walk, uint16_t section) {
 static int say_dynamic(struct walk *walk, uint16_t section) {
     struct elfsee_rows rows = {7, 7, 7, 7, 7, 7};
     struct elfsee_dynamic entry;
-    uint32_t status = elfsee_dynamic(walk->file->bytes, walk->file->len, &walk->limits, section, walk->room.bytes,
-                                     walk->room.len, &rows, &walk->end);
+    uint32_t status = elfsee_dynamic(walk->file->bytes, walk->file->len, &walk->limits, section,
+                                     walk->room.bytes, walk->room.len, &rows, &walk->end);
     uint64_t index = 0;
     if (status != ELFSEE_OK) return status == ELFSEE_ABSENT;
     for (; elfsee_next_dynamic(walk->file->bytes, walk->file->len, &rows, &entry, 1); index += 1) {
         struct elfsee_range strings = {rows.strings_at, rows.strings_len};
         int64_t tag = entry.tag;
         say(walk, "D %" PRIu64 " %" PRIi64 " %" PRIu64 " ", index, tag, entry.value);
-        if ((tag == 1 || tag == 14 || tag == 15 || tag == 29) && !say_name(walk, &strings, entry.value)) return 0;
+        if ((tag == 1 || tag == 14 || tag == 15 || tag == 29) && !say_name(walk, &strings, entry.value))
+            return 0;
         say(walk, "\n");
     }
     return 1;
@@ -313,18 +326,21 @@ static int say_notes(struct walk *walk, uint16_t section) {
     struct elfsee_rows rows = {7, 7, 7, 7, 7, 7};
     struct elfsee_note note = {7, 7, 7, 7, 7, 7};
     const uint8_t *bytes = walk->file->bytes;
-    uint32_t status = elfsee_notes(bytes, walk->file->len, &walk->limits, section, walk->room.bytes, walk->room.len, &rows,
-                                   &walk->end);
+    uint32_t status = elfsee_notes(bytes, walk->file->len, &walk->limits, section, walk->room.bytes,
+                                   walk->room.len, &rows, &walk->end);
     if (status != ELFSEE_OK) return status == ELFSEE_ABSENT;
     while ((status = elfsee_next_note(bytes, walk->file->len, &rows, &note, &walk->end)) == ELFSEE_OK) {
         const uint8_t *name = bytes + note.name_at, *nul = (const uint8_t *)memchr(name, 0, note.name_len);
         uint32_t i;
-        expect(note.name_at + note.name_len <= walk->file->len && note.desc_at + note.desc_len <= walk->file->len,
+        expect(note.name_at + note.name_len <= walk->file->len &&
+                   note.desc_at + note.desc_len <= walk->file->len,
                "a note outside the file");
-        say(walk, "N %u %" PRIu32 " %" PRIu32 " %" PRIu32 " ", section, note.type, note.name_len, note.desc_len);
+        say(walk, "N %u %" PRIu32 " %" PRIu32 " %" PRIu32 " ", section, note.type, note.name_len,
+            note.desc_len);
         say_bytes(walk, note.name_at, nul ? (uint64_t)(nul - name) : note.name_len);
         say(walk, " ");
-        for (i = 0; i < note.desc_len && i < 32; i += 1) say(walk, "%02x", bytes[note.desc_at + i]);
+        for (i = 0; i < note.desc_len && i < 32; i += 1)
+            say(walk, "%02x", bytes[note.desc_at + i]);
         say(walk, note.desc_len > 32 ? "\\+\n" : "\n");
     }
     return status == ELFSEE_ABSENT;
@@ -334,7 +350,9 @@ static int say_section(struct walk *walk, uint16_t index) {
     struct elfsee_section header;
     memset(&header, 7, sizeof header);
     if (elfsee_section(walk->file->bytes, walk->file->len, index, &header, &walk->end)) return 0;
-    say(walk, "S %u %" PRIu32 " %" PRIu64 " %" PRIu64 " %" PRIu64 " %" PRIu64 " %" PRIu32 " %" PRIu32 " %" PRIu64 " %" PRIu64 " ",
+    say(walk,
+        "S %u %" PRIu32 " %" PRIu64 " %" PRIu64 " %" PRIu64 " %" PRIu64 " %" PRIu32 " %" PRIu32 " %" PRIu64
+        " %" PRIu64 " ",
         index, header.type, header.flags, header.addr, header.offset, header.size, header.link, header.info,
         header.addralign, header.entsize);
     if (walk->names.len && !say_name(walk, &walk->names, header.name)) return 0;
@@ -346,9 +364,11 @@ static int say_segment(struct walk *walk, uint16_t index) {
     struct elfsee_segment header;
     memset(&header, 7, sizeof header);
     if (elfsee_segment(walk->file->bytes, walk->file->len, index, &header, &walk->end)) return 0;
-    say(walk, "P %u %" PRIu32 " %" PRIu32 " %" PRIu64 " %" PRIu64 " %" PRIu64 " %" PRIu64 " %" PRIu64 " %" PRIu64 "\n",
-        index, header.type, header.flags, header.offset, header.vaddr, header.paddr, header.filesz, header.memsz,
-        header.align);
+    say(walk,
+        "P %u %" PRIu32 " %" PRIu32 " %" PRIu64 " %" PRIu64 " %" PRIu64 " %" PRIu64 " %" PRIu64 " %" PRIu64
+        "\n",
+        index, header.type, header.flags, header.offset, header.vaddr, header.paddr, header.filesz,
+        header.memsz, header.align);
     return 1;
 }
 
@@ -370,12 +390,13 @@ static int say_all(struct walk *walk) {
     memset(&header, 7, sizeof header);
     if (elfsee_header(bytes, len, &header, &walk->end)) return 0;
     expect(!memcmp(header.ident, bytes, 16), "another identification");
-    say(walk, "H %u %u %" PRIu64 " %" PRIu64 " %" PRIu64 " %" PRIu32 " %u %u %u %" PRIu32 " %u %u %u\n", header.type, header.machine,
-        header.entry, header.phoff, header.shoff, header.flags, header.phnum, header.shnum, header.shstrndx,
-        header.version, header.ehsize, header.phentsize, header.shentsize);
+    say(walk, "H %u %u %" PRIu64 " %" PRIu64 " %" PRIu64 " %" PRIu32 " %u %u %u %" PRIu32 " %u %u %u\n",
+        header.type, header.machine, header.entry, header.phoff, header.shoff, header.flags, header.phnum,
+        header.shnum, header.shstrndx, header.version, header.ehsize, header.phentsize, header.shentsize);
     expect(elfsee_section(bytes, len, header.shnum, &section, &walk->end) != ELFSEE_OK, "a section too many");
     expect(elfsee_segment(bytes, len, header.phnum, &segment, &walk->end) != ELFSEE_OK, "a segment too many");
-    uint32_t status = elfsee_section_names(bytes, len, &walk->limits, walk->room.bytes, walk->room.len, &walk->names, &walk->end);
+    uint32_t status = elfsee_section_names(bytes, len, &walk->limits, walk->room.bytes, walk->room.len,
+                                           &walk->names, &walk->end);
     if (status != ELFSEE_OK) memset(&walk->names, 0, sizeof walk->names);
     if (status != ELFSEE_OK && status != ELFSEE_ABSENT) return 0;
     uint16_t count = header.shnum ? header.shnum : header.phnum;
@@ -424,7 +445,10 @@ static void split(char *line, char **words, size_t count) {
 
 static void answer_line(char *line) {
     char *words[6];
-    size_t count = !strncmp(line, "show ", 5) ? 5 : !strncmp(line, "find ", 5) ? 4 : !strncmp(line, "apply ", 6) ? 5 : 1;
+    size_t count = !strncmp(line, "show ", 5)    ? 5
+                   : !strncmp(line, "find ", 5)  ? 4
+                   : !strncmp(line, "apply ", 6) ? 5
+                                                 : 1;
     if (!strcmp(line, "words")) {
         words_of_causes();
         return;

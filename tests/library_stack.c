@@ -111,7 +111,8 @@ static size_t touched(void (*call)(void)) {
     inside.uc_link = &outside;
     makecontext(&inside, call, 0);
     if (swapcontext(&outside, &inside)) abort();
-    while (at < STACK && stack[at] == MARK) at += 1;
+    while (at < STACK && stack[at] == MARK)
+        at += 1;
     return STACK - at;
 }
 
@@ -119,9 +120,9 @@ static const struct {
     const char *name;
     void (*call)(void);
     int each_section;
-} CALLS[] = {{"nothing", call_nothing, 0}, {"show", call_show, 0}, {"find", call_find, 0},
-             {"apply", call_apply, 1}, {"symbols", call_symbols, 1}, {"relocations", call_relocations, 1},
-             {"dynamic", call_dynamic, 1}, {"notes", call_notes, 1}, {"headers", call_headers, 1}};
+} CALLS[] = {{"nothing", call_nothing, 0}, {"show", call_show, 0},       {"find", call_find, 0},
+             {"apply", call_apply, 1},     {"symbols", call_symbols, 1}, {"relocations", call_relocations, 1},
+             {"dynamic", call_dynamic, 1}, {"notes", call_notes, 1},     {"headers", call_headers, 1}};
 enum { COUNT = sizeof CALLS / sizeof *CALLS };
 
 static void measure(const char *path, size_t *most) {
@@ -147,7 +148,9 @@ int main(int argc, char **argv) {
     stack = lend(STACK, 1).bytes;
     room = lend(ROOM, 1).bytes;
     out = lend(OUT, 1).bytes;
-    for (; argc > 1; argc -= 1) measure(argv[argc - 1], most);
-    for (i = 0; i < COUNT; i += 1) printf("%s %zu\n", CALLS[i].name, most[i]);
+    for (; argc > 1; argc -= 1)
+        measure(argv[argc - 1], most);
+    for (i = 0; i < COUNT; i += 1)
+        printf("%s %zu\n", CALLS[i].name, most[i]);
     return 0;
 }

@@ -26,7 +26,8 @@ struct listed {
 
 static void list(struct listed *listed) {
     static const struct elfsee_limits limits = {65279, 256, 0, 0};
-    listed->status = elfsee_show(file, file_len, &limits, ELFSEE_ALL, listed->room, ROOM, listed->out, OUT, &listed->end);
+    listed->status =
+        elfsee_show(file, file_len, &limits, ELFSEE_ALL, listed->room, ROOM, listed->out, OUT, &listed->end);
 }
 
 /* Lists many times over, and compares each listing with the first. */
@@ -39,7 +40,8 @@ static void *list_often(void *of) {
     again.out = lend(OUT, 1).bytes;
     for (i = 0; i < TIMES; i += 1) {
         list(&again);
-        listed->differs |= again.status != listed->status || memcmp(&again.end, &listed->end, sizeof again.end) ||
+        listed->differs |= again.status != listed->status ||
+                           memcmp(&again.end, &listed->end, sizeof again.end) ||
                            memcmp(again.out, first, (size_t)again.end.written);
     }
     munmap(again.out - PAGE, OUT + 2 * PAGE);
@@ -55,7 +57,8 @@ static int differ(struct listed *all) {
     }
     for (i = 0; i < THREADS; i += 1) {
         pthread_join(threads[i], 0);
-        differs |= all[i].differs || all[i].status != all[0].status || all[i].end.written != all[0].end.written ||
+        differs |= all[i].differs || all[i].status != all[0].status ||
+                   all[i].end.written != all[0].end.written ||
                    memcmp(all[i].out, all[0].out, (size_t)all[0].end.written);
     }
     return differs;
