@@ -1,5 +1,4 @@
 pub mod ApplyingLaws
 pub mod BudgetLaws
 pub mod FindingLaws
-pub mod ItemLaws
 pub mod ListingLaws

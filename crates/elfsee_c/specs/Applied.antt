@@ -6,7 +6,7 @@ use Rattle.elf_model.specs.Budget.{IsBudget}
 use Rattle.elf_model.specs.Placing.{Layout}
 use Rattle.elfsee_c.specs.Items.{Lays, no_items}
 use Rattle.elfsee_c.specs.Limits.{AreLimits, budget_of, headers_of}
-use Rattle.elfsee_c.specs.Told.{IsStatus}
+use Rattle.elfsee_c.specs.Told.{IsStatus, Untouched}
 use Rattle.elfsee_c.specs.Wants.{IsWanting}
 use Rattle.elfsee_c.specs.declared.applied.Wanted.{Wanted}
 use Rattle.elfsee_c.specs.declared.applying.Job.{Job}
@@ -46,15 +46,15 @@ pub record Gave (file : List ℕ) (limits : Limits) (job : Job) (room : ℕ) (ou
   pub budget : IfSome (budget_of limits) (λ bytes. end.asked ≤ bytes)
 
 -- or its arguments are outside their ranges, and nothing is asked for and written
-abbrev pub Applies : List ℕ → Limits → Job → ℕ → List ℕ → End → Told → Type 0
-Applies file limits job room out end Done = Gave file limits job room out end Done
-Applies file limits job room out end (Refused refusal) = Gave file limits job room out end (Refused refusal) × (end.written ≡ 0)
-Applies file limits job room out end Full = Gave file limits job room out end Full
-Applies file limits job room out end BadCall = ((layout : Layout) → IsGood limits room job layout → ⊥) × (end.written ≡ 0) × (end.asked ≡ 0)
+abbrev pub Applies : List ℕ → Limits → Job → ℕ → List ℕ → List ℕ → End → Told → Type 0
+Applies file limits job room before out end Done = Gave file limits job room out end Done
+Applies file limits job room before out end (Refused refusal) = Gave file limits job room out end (Refused refusal) × (end.written ≡ 0)
+Applies file limits job room before out end Full = Gave file limits job room out end Full
+Applies file limits job room before out end BadCall = ((layout : Layout) → IsGood limits room job layout → ⊥) × Untouched before out end
 
 -- WHAT A CALLER HAS of a section, with so many bytes of room: what was told, as the memory and the numbers have it
-pub record IsApplied (file : List ℕ) (limits : Limits) (job : Job) (room status : ℕ) (out : List ℕ) (end : End) : Type 0 where
+pub record IsApplied (file : List ℕ) (limits : Limits) (job : Job) (room status : ℕ) (before out : List ℕ) (end : End) : Type 0 where
   pub told : Told
-  pub applies : Applies file limits job room out end told
+  pub applies : Applies file limits job room before out end told
   pub status_is : IsStatus status end told
   pub within : end.written ≤ length out

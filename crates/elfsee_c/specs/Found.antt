@@ -39,15 +39,15 @@ LooksIn file headers budget name BadCall = ⊥
 abbrev pub MayLook : Limits → ℕ → List ℕ → Type 0
 MayLook limits room name = AreLimits limits room × (length name ≤ 4096)
 
--- a lookup in a file; or what was passed is outside its ranges
-abbrev pub Looks : List ℕ → Limits → ℕ → List ℕ → Looked → Type 0
-Looks file limits room name BadCall = MayLook limits room name → ⊥
-Looks file limits room name looked = MayLook limits room name × LooksIn file (headers_of limits room) (budget_of limits) name looked
+-- a lookup in a file; or what was passed is outside its ranges, and nothing is asked for
+abbrev pub Looks : List ℕ → Limits → ℕ → List ℕ → ℕ → Looked → Type 0
+Looks file limits room name asked BadCall = (MayLook limits room name → ⊥) × (asked ≡ 0)
+Looks file limits room name asked looked = MayLook limits room name × LooksIn file (headers_of limits room) (budget_of limits) name looked
 
 -- what is told as numbers
 abbrev pub TellsLooked : ℕ → Found → End → Looked → Type 0
 TellsLooked status found end (Answered (IsThere section index symbol steps)) =
-    (status ≡ 0) × (found.section ≡ section) × (found.index ≡ index) × HasFields symbol found.symbol × (found.steps ≡ steps) × TellsNone end
+    (status ≡ 0) × (found.section ≡ section) × (found.index ≡ index) × HasFields symbol found.symbol × (found.steps ≡ steps) × (found.none ≡ 0) × (found.none_behind ≡ 0) × TellsNone end
 TellsLooked status found end (Answered (Absent steps)) = (status ≡ 2) × (found ≡ nothing_behind steps) × TellsNone end
 TellsLooked status found end (Refused refusal) = (status ≡ 1) × (found ≡ nothing_behind 0) × TellsCause end refusal
 TellsLooked status found end BadCall = (status ≡ 4) × (found ≡ nothing_behind 0) × TellsNone end
@@ -55,7 +55,8 @@ TellsLooked status found end BadCall = (status ≡ 4) × (found ≡ nothing_behi
 -- WHAT A CALLER HAS of a lookup, with so many bytes of room: what it answers, as the numbers have it
 pub record IsFound (file : List ℕ) (limits : Limits) (room : ℕ) (name : List ℕ) (status : ℕ) (found : Found) (end : End) : Type 0 where
   pub answer : Looked
-  pub looks : Looks file limits room name answer
+  pub looks : Looks file limits room name end.asked answer
   pub tells : TellsLooked status found end answer
+  pub nothing : (end.written ≡ 0) × (end.none ≡ 0)
   pub cost : end.asked ≤ find_cost file (headers_of limits room) name
   pub budget : IfSome (budget_of limits) (λ bytes. end.asked ≤ bytes)

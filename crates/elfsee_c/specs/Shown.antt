@@ -5,7 +5,7 @@ use Rattle.elf_model.specs.Cost.{cost}
 use Rattle.elf_model.specs.declared.causes.Refusal.{Refusal}
 use Rattle.elf_headers.specs.declared.caps.Caps.{Caps}
 use Rattle.elfsee_c.specs.Limits.{AreCaps, budget_of, headers_of}
-use Rattle.elfsee_c.specs.Told.{IsStatus}
+use Rattle.elfsee_c.specs.Told.{IsStatus, Untouched}
 use Rattle.elfsee_c.specs.declared.end.End.{End}
 use Rattle.elfsee_c.specs.declared.limits.Limits.{Limits}
 use Rattle.elfsee_c.specs.declared.told.Told.{Told}
@@ -23,16 +23,16 @@ abbrev pub Lists : List ℕ → Caps → ℕ → List ℕ → ℕ → Told → T
 Lists file caps parts out written told = StandsIn (IsBudgeted caps.limits.budget file caps.limits.headers caps.name.bytes parts) out written told
 
 -- what is listed of a file, its report or, where it costs more than the budget, a front of whole lines and the line of the
--- budget, stands in the memory; or limits or room are outside their ranges, and nothing is written
-abbrev pub Shows : List ℕ → Limits → ℕ → ℕ → List ℕ → ℕ → Told → Type 0
-Shows file limits room parts out written BadCall = (AreCaps limits room → ⊥) × (written ≡ 0)
-Shows file limits room parts out written told =
-    AreCaps limits room × StandsIn (IsBudgeted (budget_of limits) file (headers_of limits room) limits.name parts) out written told
+-- budget, stands in the memory; or limits or room are outside their ranges, and nothing is asked for and written
+abbrev pub Shows : List ℕ → Limits → ℕ → ℕ → List ℕ → List ℕ → End → Told → Type 0
+Shows file limits room parts before out end BadCall = (AreCaps limits room → ⊥) × Untouched before out end
+Shows file limits room parts before out end told =
+    AreCaps limits room × StandsIn (IsBudgeted (budget_of limits) file (headers_of limits room) limits.name parts) out end.written told
 
 -- WHAT A CALLER HAS of a listing, with so many bytes of room: what was told, as the memory and the numbers have it
-pub record IsShown (file : List ℕ) (limits : Limits) (room parts status : ℕ) (out : List ℕ) (end : End) : Type 0 where
+pub record IsShown (file : List ℕ) (limits : Limits) (room parts status : ℕ) (before out : List ℕ) (end : End) : Type 0 where
   pub told : Told
-  pub shows : Shows file limits room parts out end.written told
+  pub shows : Shows file limits room parts before out end told
   pub status_is : IsStatus status end told
   pub within : end.written ≤ length out
   pub cost : end.asked ≤ cost file (headers_of limits room) limits.name parts

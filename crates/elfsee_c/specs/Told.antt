@@ -1,5 +1,5 @@
 -- What a call that writes to memory tells its caller.
-use Rattle.std.specs.Prelude.{ℕ, ◌≡◌, Bool, true, false, Result, Ok, Err}
+use Rattle.std.specs.Prelude.{ℕ, ◌≡◌, Bool, true, false, List, Result, Ok, Err}
 use Rattle.elf_headers.specs.declared.stop.Stop.{Stop}
 use Rattle.elf_headers.specs.declared.stop.Stop.TheVariants.{Refused as IsRefused, Source, Out}
 use Rattle.elfsee_c.specs.Ends.{TellsCause, TellsNone}
@@ -19,9 +19,13 @@ abbrev pub told_from : {X : Type 0} → Result X Stop → Bool → Told
 told_from result true = Full
 told_from result false = told_of result
 
+-- a call that is refused for its numbers leaves the memory as it was, and asks for nothing
+abbrev pub Untouched : List ℕ → List ℕ → End → Type 0
+Untouched old new end = (new ≡ old) × (end.written ≡ 0) × (end.asked ≡ 0)
+
 -- what is told as numbers: the status, and the cause and the offset of a refusal
 abbrev pub IsStatus : ℕ → End → Told → Type 0
-IsStatus status end Done = (status ≡ 0) × TellsNone end
-IsStatus status end (Refused refusal) = (status ≡ 1) × TellsCause end refusal
-IsStatus status end Full = (status ≡ 3) × TellsNone end
-IsStatus status end BadCall = (status ≡ 4) × TellsNone end
+IsStatus status end Done = (status ≡ 0) × TellsNone end × (end.none ≡ 0)
+IsStatus status end (Refused refusal) = (status ≡ 1) × TellsCause end refusal × (end.none ≡ 0)
+IsStatus status end Full = (status ≡ 3) × TellsNone end × (end.none ≡ 0)
+IsStatus status end BadCall = (status ≡ 4) × TellsNone end × (end.none ≡ 0)

@@ -43,7 +43,8 @@ pub extern "C" fn elfsee_apply(
     out: &mut [u8],
     end: &mut End,
 ) -> u32
-    ensures { IsApplied file.now limits.now job.now (length room.old) result out.new end.new }
+    ensures { IsApplied file.now limits.now job.now (length room.old) result out.old out.new
+        end.new }
 {
     let told = apply_to(file, limits, job, room, out, end);
     tell(told, end)
@@ -58,8 +59,8 @@ fn apply_to(
     out: &mut [u8],
     end: &mut End,
 ) -> Told
-    ensures applies { Applies file.now limits.now job.now (length room.old) out.new end.new
-        result }
+    ensures applies { Applies file.now limits.now job.now (length room.old) out.old out.new
+        end.new result }
     ensures within { end.new.written ≤ length out.new }
     ensures clear { (end.new.cause ≡ 0) × (end.new.at ≡ 0) × (end.new.none ≡ 0) }
 {

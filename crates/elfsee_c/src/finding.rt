@@ -43,12 +43,13 @@ pub extern "C" fn elfsee_find(
 /// Looks the name up. The count of bytes that were asked for is written to `end`.
 fn look_up(file: &[u8], limits: &Limits, room: &mut [u8], name: &[u8], end: &mut End) -> Looked
     requires { end.old.asked ≡ 0 }
-    ensures looks { Looks file.now limits.now (length room.old) name.now result }
+    ensures looks { Looks file.now limits.now (length room.old) name.now end.new.asked result }
     ensures cost { end.new.asked ≤ find_cost file.now (headers_of limits.now (length room.old))
         name.now }
     ensures budget { IfSome (budget_of limits.now) (λ bytes. end.new.asked ≤ bytes) }
     ensures written { end.new.written ≡ end.old.written }
     ensures cause { (end.new.cause ≡ end.old.cause) × (end.new.at ≡ end.old.at) }
+    ensures none { end.new.none ≡ end.old.none }
 {
     let Some(limits) = limits_of(limits, room.len()) else {
         return Looked::BadCall;
@@ -92,6 +93,7 @@ fn tell_found(looked: &Looked, found: &mut Found, end: &mut End) -> u32
     ensures tells { TellsLooked result found.new end.new looked.now }
     ensures written { end.new.written ≡ end.old.written }
     ensures asked { end.new.asked ≡ end.old.asked }
+    ensures none { end.new.none ≡ end.old.none }
 {
     match looked {
         Looked::Answered(

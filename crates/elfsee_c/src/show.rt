@@ -26,7 +26,7 @@ pub extern "C" fn elfsee_show(
     out: &mut [u8],
     end: &mut End,
 ) -> u32
-    ensures { IsShown file.now limits.now (length room.old) parts result out.new end.new }
+    ensures { IsShown file.now limits.now (length room.old) parts result out.old out.new end.new }
 {
     let told = show_to(file, limits, Parts(parts), room, out, end);
     tell(told, end)
@@ -41,7 +41,7 @@ fn show_to(
     out: &mut [u8],
     end: &mut End,
 ) -> Told
-    ensures shows { Shows file.now limits.now (length room.old) parts.0 out.new end.new.written
+    ensures shows { Shows file.now limits.now (length room.old) parts.0 out.old out.new end.new
         result }
     ensures within { end.new.written ≤ length out.new }
     ensures cost { end.new.asked ≤ cost file.now (headers_of limits.now (length room.old))

@@ -35,11 +35,10 @@ pub(crate) fn told_from<T>(answer: &Result<T, Stop>, full: bool) -> Told
 
 /// Tells it as numbers, and answers the status: 0, 1, 3 or 4.
 pub(crate) fn tell(told: Told, end: &mut End) -> u32
-    requires { TellsNone end.old }
+    requires { TellsNone end.old × (end.old.none ≡ 0) }
     ensures status { IsStatus result end.new told }
     ensures written { end.new.written ≡ end.old.written }
     ensures asked { end.new.asked ≡ end.old.asked }
-    ensures none { end.new.none ≡ end.old.none }
 {
     match told {
         Told::Done => 0,
