@@ -42,7 +42,7 @@ pub fn header<S: Source>(src: &mut Counted<S>) -> Result<Ehdr, Fault>
 }
 
 /// The refusal of a file of this length, before anything is read.
-fn refused_length(length: u64) -> Option<Refusal>
+pub fn refused_length(length: u64) -> Option<Refusal>
     ensures { result ≡ first_refusal (length_checks length) }
 {
     if length >= 1 << 63 {

@@ -114,7 +114,7 @@ fn refused_names(store: &HeaderStore, header: &Ehdr, size: u64) -> Option<Refusa
 
 /// The first check before the section headers are read that fails, in a file of `size` bytes and
 /// with so many headers permitted (gABI 4, ELF Header).
-fn refused_early(header: &Ehdr, size: u64, headers: u16) -> Option<Refusal>
+pub fn refused_early(header: &Ehdr, size: u64, headers: u16) -> Option<Refusal>
     ensures refusal { result ≡ first_refusal (early_of header.now size headers) }
     ensures passes { MatchOption result (Passes size headers header.now) (λ _. Unit {0}) }
 {

@@ -1,0 +1,26 @@
+-- The checks of a file before its section headers and program headers are read.
+use Rattle.std.specs.Prelude.{ℕ, ◌≡◌, List, length, Option, None, Some, Result, Ok, Err}
+use Rattle.elf_model.specs.Checks.{first_refusal, header_checks, before_headers}
+use Rattle.elf_model.specs.declared.causes.Refusal.{Refusal}
+use Rattle.elf_record.specs.Ehdr.{IsEhdr}
+use Rattle.elf_record.specs.declared.ehdr.Ehdr.{Ehdr}
+use Rattle.elf_headers.specs.Load.{Passes}
+
+-- how many headers may be permitted at most
+abbrev pub MOST_HEADERS : ℕ
+MOST_HEADERS = 65279
+
+-- the first check that fails before a file's section headers and program headers are read, with as many of them permitted
+-- as can be
+abbrev pub first_refused : List ℕ → Option Refusal
+first_refused file = first_refusal (before_headers file MOST_HEADERS)
+
+-- the file header, or its first check that fails
+abbrev pub HeaderChecked : List ℕ → Result Ehdr Refusal → Type 0
+HeaderChecked file (Ok header) = (first_refusal (header_checks file) ≡ None) × IsEhdr file 0 header
+HeaderChecked file (Err refusal) = first_refusal (header_checks file) ≡ Some refusal
+
+-- the file header, whose headers lie within the file, or the first check that fails
+abbrev pub CountsChecked : List ℕ → Result Ehdr Refusal → Type 0
+CountsChecked file (Ok header) = (first_refused file ≡ None) × IsEhdr file 0 header × Passes (length file) MOST_HEADERS header
+CountsChecked file (Err refusal) = first_refused file ≡ Some refusal

@@ -1,0 +1,30 @@
+//! The export that tells how much of a file a listing asks for at most.
+ghost use Rattle.std.specs.Prelude.{◌≡◌};
+ghost use Rattle.elf_model.specs.Cost.{ceiling};
+ghost use Rattle.elfsee_c.specs.Costs.{IsCost};
+
+use crate::counts::short;
+use crate::limits::Limits;
+use elf_headers::Caps;
+
+/// How many bytes of a file of `file_len` bytes a listing asks for at most, whatever the bytes are: at
+/// most 2^64 - 1, and that where a limit is outside its range.
+#[unsafe(no_mangle)]
+pub extern "C" fn elfsee_cost(file_len: u64, limits: &Limits) -> u64
+    ensures { IsCost file_len limits.now result }
+{
+    match Caps::new(limits.headers, limits.name) {
+        Some(caps) => short(ceiling(file_len, caps.headers(), caps.name())),
+        None => u64::MAX,
+    }
+}
+
+/// What no listing of a file of so many bytes passes.
+#[tactic(auto, unfolding(elf_model::specs::Cost::ceiling))]
+fn ceiling(size: u64, headers: u16, name: u16) -> u128
+    ensures { result ≡ ceiling size headers name }
+{
+    let name = 64 * ((u128::from(name) + 1 + 63) / 64);
+    let size = u128::from(size);
+    64 + u128::from(headers) * (64 + 56 + name + size + size / 16 * (32 + name))
+}

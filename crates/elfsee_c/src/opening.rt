@@ -1,0 +1,56 @@
+//! What opening a table of a file in memory answers, and the load that stands before it.
+ghost use Rattle.std.specs.Prelude.{◌≡◌, IfOk};
+ghost use Rattle.elfsee_c.specs.Openings.{IsOpened, LoadsFile};
+
+use crate::checked::checked_header;
+use crate::end::End;
+use crate::tell::tell;
+use elf_headers::{Fault, HeaderStore, Loaded, load};
+use elf_record::{Cause, Refusal};
+use elf_source::{Counted, MemorySource};
+
+/// The status of a call with a number outside its range.
+const BAD_CALL: u32 = 4;
+
+/// Writes what was opened to `place`, the refusal, where there is one, to `end`, and answers the
+/// status. None is a call with a number outside its range.
+pub(crate) fn tell_opened<T: Copy>(
+    opened: Option<Result<Option<T>, Refusal>>,
+    place: &mut T,
+    end: &mut End,
+) -> u32
+    ensures { IsOpened result place.old place.new end.new opened }
+{
+    match opened {
+        Some(read) => tell(read, place, end),
+        None => {
+            end.clear();
+            BAD_CALL
+        }
+    }
+}
+
+/// Loads the section headers of a file into the store.
+///
+/// # Errors
+/// The first check that fails: of the file header, then those of a load with as many headers
+/// permitted as the store has slots.
+pub(crate) fn load_file(file: &[u8], store: &mut HeaderStore) -> Result<Loaded, Refusal>
+    ensures loads { LoadsFile file.now result store.new }
+    ensures slots { store.new.slots ≡ store.old.slots }
+    ensures count { IfOk result (λ loaded. store.new.loaded ≡ loaded.header.e_shnum) }
+{
+    let header = checked_header(file)?;
+    let mut src = Counted::new(MemorySource::new(file));
+    let answer = load(&mut src, store, &header);
+    // A source in memory never fails.
+    let _ = src.into_inner();
+    match answer {
+        Ok(loaded) => Ok(loaded),
+        Err(Fault::Refused(refusal)) => Err(refusal),
+        Err(Fault::Source { .. }) => Err(Refusal {
+            at: 0,
+            cause: Cause::Short,
+        }),
+    }
+}

@@ -1,0 +1,33 @@
+//! The export that tells how much room a file's headers want.
+ghost use Rattle.std.specs.Prelude.{◌≡◌, ◌*◌, ◌≤◌, ℕ};
+ghost use Rattle.elf_model.specs.Checks.{first_refusal, before_headers};
+ghost use Rattle.elfsee_c.specs.Rooms.{slots_for};
+
+use crate::checked::checked_header;
+
+/// How many bytes of room a header takes.
+const HEADER_BYTES: u64 = 64;
+
+/// How many bytes of room a file wants where so many headers are permitted: 64 for each section header
+/// or program header, whichever are more, at least 64 and at most 64 for each that is permitted; 64
+/// for bytes that have no file header (gABI 4, ELF Header).
+#[unsafe(no_mangle)]
+pub extern "C" fn elfsee_room(file: &[u8], headers: u16) -> u64
+    ensures room { result ≡ 64 * slots_for file.now headers }
+    // With so many slots, or more, the checks before the headers are read answer the same.
+    ensures enough { (slots : ℕ) → result ≤ 64 * slots → slots ≤ headers →
+        first_refusal (before_headers file.now slots)
+        ≡ first_refusal (before_headers file.now headers) }
+{
+    HEADER_BYTES * u64::from(slots_for(file, headers))
+}
+
+/// How many slots a file wants where so many headers are permitted.
+fn slots_for(file: &[u8], headers: u16) -> u16
+    ensures { result ≡ slots_for file.now headers }
+{
+    match checked_header(file) {
+        Ok(header) => header.e_shnum.max(header.e_phnum).min(headers).max(1),
+        Err(_) => 1,
+    }
+}

@@ -1,0 +1,78 @@
+//! The exports that tell of the library: its version, and the words of causes.
+ghost use Rattle.std.specs.Prelude.{◌≡◌, Option};
+ghost use Rattle.elf_model.specs.declared.causes.Cause.{Cause as IsCause};
+ghost use Rattle.elfsee_c.specs.Words.{IsNumbered, PutsFront, PutsWord};
+
+use elf_listing::cause_word;
+use elf_record::Cause;
+
+/// The library's version, 0.1.0: a byte of zeros, and the three numbers in a byte each.
+#[unsafe(no_mangle)]
+pub extern "C" fn elfsee_version() -> u32
+    ensures { result ≡ 0x000100 }
+{
+    0x00_01_00
+}
+
+/// Writes the word of a cause, as a listing's last line has it, to the front of `out`, and answers how
+/// many bytes it has; 0, with nothing written, for a number that is no cause, and where `out` has not
+/// so many.
+#[unsafe(no_mangle)]
+pub extern "C" fn elfsee_cause_word(cause: u32, out: &mut [u8]) -> usize
+    ensures { (named : Option IsCause) × IsNumbered cause named
+        × PutsWord named out.old out.new result }
+{
+    match cause_of(cause) {
+        Some(cause) => put(cause_word(cause).as_bytes(), out),
+        None => 0,
+    }
+}
+
+/// Writes some bytes to the front of `out`, where it has as many.
+fn put(word: &[u8], out: &mut [u8]) -> usize
+    ensures { PutsFront word.now out.old out.new result }
+{
+    if out.len() < word.len() {
+        return 0;
+    }
+    out[..word.len()].copy_from_slice(word);
+    word.len()
+}
+
+/// The cause of a number.
+fn cause_of(number: u32) -> Option<Cause>
+    ensures { IsNumbered number result }
+{
+    match number {
+        1 => Some(Cause::Short),
+        2 => Some(Cause::NotElf),
+        3 => Some(Cause::BadClass),
+        4 => Some(Cause::BadData),
+        5 => Some(Cause::BadVersion),
+        6 => Some(Cause::ExtendedNumbering),
+        7 => Some(Cause::TooManyHeaders),
+        8 => Some(Cause::EntrySize),
+        9 => Some(Cause::TableOutside),
+        10 => Some(Cause::BadLink),
+        11 => Some(Cause::NotStrings),
+        12 => Some(Cause::SizeNotWhole),
+        13 => Some(Cause::NameOutside),
+        14 => Some(Cause::NameUnended),
+        15 => Some(Cause::NoteCut),
+        16 => Some(Cause::NoHash),
+        17 => Some(Cause::HashShape),
+        18 => Some(Cause::HashIndex),
+        19 => Some(Cause::HashCycle),
+        20 => Some(Cause::Unsupported),
+        21 => Some(Cause::Overflow),
+        22 => Some(Cause::NotRel),
+        23 => Some(Cause::Unplaced),
+        24 => Some(Cause::Undefined),
+        25 => Some(Cause::PlaceOutside),
+        26 => Some(Cause::SymbolIndex),
+        27 => Some(Cause::TooLong),
+        28 => Some(Cause::Budget),
+        29 => Some(Cause::Unmapped),
+        _ => None,
+    }
+}
