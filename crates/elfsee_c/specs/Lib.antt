@@ -2,6 +2,7 @@ pub mod Applied
 pub mod Causes
 pub mod Checked
 pub mod Costs
+pub mod DynamicTables
 pub mod Ends
 pub mod Entries
 pub mod Found

@@ -1,6 +1,6 @@
 -- What opening a table of a file in memory answers.
 use Rattle.std.specs.Prelude.{ℕ, ◌≡◌, ◌<◌, ◌≤◌, ◌≢◌, ◌⊎◌, true, false, List, ◌++◌, Option, None, Some, Result, Ok, Err, option_map}
-use Rattle.elf_model.specs.Checks.{Check, first_refusal, header_checks, load_checks, is_symbol_table}
+use Rattle.elf_model.specs.Checks.{first_refusal, header_checks, load_checks, is_symbol_table}
 use Rattle.elf_model.specs.Numbers.{SHT_RELA}
 use Rattle.elf_model.specs.Records.{e_shnum, sh_type, section_at}
 use Rattle.elf_model.specs.Tables.{relocation_table_checks}

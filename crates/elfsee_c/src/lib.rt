@@ -10,6 +10,7 @@ mod checked;
 mod cost;
 mod counts;
 mod dynamic;
+mod dynamic_table;
 mod end;
 mod finding;
 mod found;

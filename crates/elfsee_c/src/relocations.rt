@@ -34,7 +34,11 @@ pub struct Relocation {
 /// Reads the next relocation entries to the front of `out`, as many as there are and as it has room for, steps
 /// over them, and answers how many (gABI 4, Relocation).
 #[unsafe(no_mangle)]
-pub extern "C" fn elfsee_next_relocations(file: &[u8], rows: &mut Rows, out: &mut [Relocation]) -> usize
+pub extern "C" fn elfsee_next_relocations(
+    file: &[u8],
+    rows: &mut Rows,
+    out: &mut [Relocation],
+) -> usize
     ensures steps { StepsRows (length file.now) 24 rows.old rows.new (length out.old) result }
     ensures read { (k : ℕ) (none : IsOne) → k < result →
         IsRelocation file.now (next_at rows.old 24 k) (slice_index_or out.new k none) }

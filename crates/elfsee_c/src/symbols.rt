@@ -94,11 +94,7 @@ fn open_symbols(
 }
 
 /// Loads the file into the store and checks the table; None where there is no such section.
-fn symbols_in(
-    file: &[u8],
-    store: &mut HeaderStore,
-    section: u16,
-) -> Result<Option<Rows>, Refusal>
+fn symbols_in(file: &[u8], store: &mut HeaderStore, section: u16) -> Result<Option<Rows>, Refusal>
     ensures { ReadsSymbols file.now store.old.slots section result }
 {
     let loaded = load_file(file, store)?;
