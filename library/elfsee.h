@@ -203,12 +203,6 @@ struct elfsee_dynamic {
     uint64_t value;
 };
 
-/* A note: where its name and its descriptor lie in the file (gABI, Note Section). */
-struct elfsee_note {
-    uint64_t name_at, desc_at;
-    uint32_t name_len, desc_len, type, none;
-};
-
 /* Bytes of the file. */
 struct elfsee_range {
     uint64_t at, len;
@@ -225,43 +219,34 @@ uint32_t elfsee_section(const uint8_t *file, size_t file_len, uint16_t index,
 uint32_t elfsee_segment(const uint8_t *file, size_t file_len, uint16_t index,
                         struct elfsee_segment *segment, struct elfsee_end *end);
 
-/* A table, and a place in it. Plain numbers on the caller's own stack: any may be passed, a step
- * tests them. */
+/* A table, and a place in it. Plain numbers on the caller's own stack: any may be passed, and a
+ * caller may set them; a step tests them. */
 struct elfsee_rows {
-    uint64_t at, count, index, entry;       /* the entries that are left are [index, count) */
-    uint64_t strings_at, strings_len;       /* of the string table that goes with it; else 0, 0 */
+    uint64_t at, count, index, entry; /* the entries that are left are [index, count) */
+    uint64_t strings_at, strings_len; /* of the string table that goes with it; else 0, 0 */
 };
 
-/* The tables of a section (dynamic entries and notes: or of a segment, by its index, where the file
- * has no section headers). Each runs the checks that a listing runs before the table's first row,
- * and sets `rows` before that row. OK, REFUSED, BAD_CALL; ABSENT where there is no such section or
- * it holds no such rows. */
+/* The symbols of a section, and the relocation entries of one. Each runs the checks that a listing
+ * runs before the table's first row, and sets `rows` before that row. OK, REFUSED, BAD_CALL; ABSENT
+ * where there is no such section or it holds no such rows. */
 uint32_t elfsee_symbols(const uint8_t *file, size_t file_len, const struct elfsee_limits *limits,
                         uint16_t section, uint8_t *room, size_t room_len, struct elfsee_rows *rows,
                         struct elfsee_end *end);
 uint32_t elfsee_relocations(const uint8_t *file, size_t file_len,
                             const struct elfsee_limits *limits, uint16_t section, uint8_t *room,
                             size_t room_len, struct elfsee_rows *rows, struct elfsee_end *end);
-uint32_t elfsee_dynamic(const uint8_t *file, size_t file_len, const struct elfsee_limits *limits,
-                        uint16_t section, uint8_t *room, size_t room_len, struct elfsee_rows *rows,
-                        struct elfsee_end *end);
-uint32_t elfsee_notes(const uint8_t *file, size_t file_len, const struct elfsee_limits *limits,
-                      uint16_t section, uint8_t *room, size_t room_len, struct elfsee_rows *rows,
-                      struct elfsee_end *end);
 
 /* Read up to `out_len` next rows, step over them, and answer how many there are in `out`: fewer
  * than `out_len` at the table's end, and 0 behind it or where the numbers of `rows` name no rows of
- * the file. */
+ * the file. For dynamic entries a caller sets `rows`, by a section header or a program header: the
+ * table's offset, its size / 16 entries, 0, and 16 bytes each; the first entry of tag 0 is its last
+ * (gABI, Dynamic Section). */
 size_t elfsee_next_symbols(const uint8_t *file, size_t file_len, struct elfsee_rows *rows,
                            struct elfsee_symbol *out, size_t out_len);
 size_t elfsee_next_relocations(const uint8_t *file, size_t file_len, struct elfsee_rows *rows,
                                struct elfsee_relocation *out, size_t out_len);
 size_t elfsee_next_dynamic(const uint8_t *file, size_t file_len, struct elfsee_rows *rows,
                            struct elfsee_dynamic *out, size_t out_len);
-
-/* Reads the next note and steps over it: OK; ABSENT behind the last; REFUSED where it is cut. */
-uint32_t elfsee_next_note(const uint8_t *file, size_t file_len, struct elfsee_rows *rows,
-                          struct elfsee_note *note, struct elfsee_end *end);
 
 /* Where the name at an offset in a string table lies, without its NUL: the table is the `strings`
  * of `rows`, or any range of the file. OK; REFUSED with ELFSEE_NAME_OUTSIDE or ELFSEE_NAME_UNENDED

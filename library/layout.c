@@ -94,13 +94,6 @@ static void rows(void) {
     WHOLE(elfsee_dynamic);
     FIELD(elfsee_dynamic, tag);
     FIELD(elfsee_dynamic, value);
-    WHOLE(elfsee_note);
-    FIELD(elfsee_note, name_at);
-    FIELD(elfsee_note, desc_at);
-    FIELD(elfsee_note, name_len);
-    FIELD(elfsee_note, desc_len);
-    FIELD(elfsee_note, type);
-    FIELD(elfsee_note, none);
     WHOLE(elfsee_range);
     FIELD(elfsee_range, at);
     FIELD(elfsee_range, len);

@@ -113,9 +113,7 @@ static const struct {
     const char *name;
     opens *call;
 } TABLES[] = {{"symbols", elfsee_symbols},
-              {"relocations", elfsee_relocations},
-              {"dynamic", elfsee_dynamic},
-              {"notes", elfsee_notes}};
+              {"relocations", elfsee_relocations}};
 enum { TABLE_COUNT = sizeof TABLES / sizeof *TABLES };
 
 /* ------------------------------------------------------------------------- */
@@ -513,16 +511,6 @@ static int any_steps(void) {
     return take_back(&lent) && count <= want && all;
 }
 
-static int any_note(void) {
-    struct elfsee_rows rows = any_rows(library.len);
-    struct elfsee_note note = {any(1), any(1), 1, 1, 1, 1};
-    struct elfsee_end end = ODD;
-    uint32_t status = elfsee_next_note(library.bytes, library.len, &rows, &note, &end);
-    if (status != ELFSEE_OK) return status == ELFSEE_ABSENT || status == ELFSEE_REFUSED;
-    return note.name_at <= library.len && note.name_len <= library.len - note.name_at && note.none == 0 &&
-           note.desc_at <= library.len && note.desc_len <= library.len - note.desc_at;
-}
-
 static int any_name(void) {
     struct elfsee_range strings = {any(library.len), any(library.len)}, name = {7, 7};
     struct elfsee_end end = ODD;
@@ -694,7 +682,6 @@ int main(int argc, char **argv) {
     sections();
     small_section();
     many("next rows, by any numbers", any_steps, tries);
-    many("the next note, by any numbers", any_note, tries);
     many("names, in any range", any_name, tries);
     many("headers of changed files", any_header, tries);
     many("listings of changed files, with any limits", any_show, tries);

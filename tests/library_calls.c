@@ -304,15 +304,31 @@ static int say_relocations(struct walk *walk, uint16_t section) {
     return 1;
 }
 
+/* The string table that a section is linked with. */
+static int strings_of(struct walk *walk, uint32_t link, struct elfsee_range *strings) {
+    struct elfsee_section header;
+    memset(&header, 7, sizeof header);
+    if (link > 65535 ||
+        elfsee_section(walk->file->bytes, walk->file->len, (uint16_t)link, &header, &walk->end) != ELFSEE_OK)
+        return 0;
+    strings->at = header.offset;
+    strings->len = header.size;
+    return header.type == 3;
+}
+
+/* The dynamic entries of a section, whose rows are set here. */
 static int say_dynamic(struct walk *walk, uint16_t section) {
-    struct elfsee_rows rows = {7, 7, 7, 7, 7, 7};
-    struct elfsee_dynamic entry;
-    uint32_t status = elfsee_dynamic(walk->file->bytes, walk->file->len, &walk->limits, section,
-                                     walk->room.bytes, walk->room.len, &rows, &walk->end);
+    struct elfsee_section header;
+    struct elfsee_dynamic entry = {1, 1};
+    struct elfsee_range strings = {0, 0};
     uint64_t index = 0;
-    if (status != ELFSEE_OK) return status == ELFSEE_ABSENT;
-    for (; elfsee_next_dynamic(walk->file->bytes, walk->file->len, &rows, &entry, 1); index += 1) {
-        struct elfsee_range strings = {rows.strings_at, rows.strings_len};
+    memset(&header, 7, sizeof header);
+    if (elfsee_section(walk->file->bytes, walk->file->len, section, &header, &walk->end) != ELFSEE_OK) return 0;
+    if (header.type != 6 || header.size == 0) return 1;
+    if (header.entsize != 16 || header.size % 16 || !strings_of(walk, header.link, &strings)) return 0;
+    struct elfsee_rows rows = {header.offset, header.size / 16, 0, 16, 0, 0};
+    for (; index < rows.count && entry.tag; index += 1) {
+        if (elfsee_next_dynamic(walk->file->bytes, walk->file->len, &rows, &entry, 1) != 1) return 0;
         int64_t tag = entry.tag;
         say(walk, "D %" PRIu64 " %" PRIi64 " %" PRIu64 " ", index, tag, entry.value);
         if ((tag == 1 || tag == 14 || tag == 15 || tag == 29) && !say_name(walk, &strings, entry.value))
@@ -320,30 +336,6 @@ static int say_dynamic(struct walk *walk, uint16_t section) {
         say(walk, "\n");
     }
     return 1;
-}
-
-static int say_notes(struct walk *walk, uint16_t section) {
-    struct elfsee_rows rows = {7, 7, 7, 7, 7, 7};
-    struct elfsee_note note = {7, 7, 7, 7, 7, 7};
-    const uint8_t *bytes = walk->file->bytes;
-    uint32_t status = elfsee_notes(bytes, walk->file->len, &walk->limits, section, walk->room.bytes,
-                                   walk->room.len, &rows, &walk->end);
-    if (status != ELFSEE_OK) return status == ELFSEE_ABSENT;
-    while ((status = elfsee_next_note(bytes, walk->file->len, &rows, &note, &walk->end)) == ELFSEE_OK) {
-        const uint8_t *name = bytes + note.name_at, *nul = (const uint8_t *)memchr(name, 0, note.name_len);
-        uint32_t i;
-        expect(note.name_at + note.name_len <= walk->file->len &&
-                   note.desc_at + note.desc_len <= walk->file->len,
-               "a note outside the file");
-        say(walk, "N %u %" PRIu32 " %" PRIu32 " %" PRIu32 " ", section, note.type, note.name_len,
-            note.desc_len);
-        say_bytes(walk, note.name_at, nul ? (uint64_t)(nul - name) : note.name_len);
-        say(walk, " ");
-        for (i = 0; i < note.desc_len && i < 32; i += 1)
-            say(walk, "%02x", bytes[note.desc_at + i]);
-        say(walk, note.desc_len > 32 ? "\\+\n" : "\n");
-    }
-    return status == ELFSEE_ABSENT;
 }
 
 static int say_section(struct walk *walk, uint16_t index) {
@@ -399,10 +391,9 @@ static int say_all(struct walk *walk) {
                                            &walk->names, &walk->end);
     if (status != ELFSEE_OK) memset(&walk->names, 0, sizeof walk->names);
     if (status != ELFSEE_OK && status != ELFSEE_ABSENT) return 0;
-    uint16_t count = header.shnum ? header.shnum : header.phnum;
     return say_each(walk, header.shnum, say_section) && say_each(walk, header.phnum, say_segment) &&
            say_each(walk, header.shnum, say_symbols) && say_each(walk, header.shnum, say_relocations) &&
-           say_each(walk, count, say_notes) && say_each(walk, count, say_dynamic);
+           say_each(walk, header.shnum, say_dynamic);
 }
 
 static void rows(const struct lent *file) {
