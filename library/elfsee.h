@@ -226,21 +226,23 @@ struct elfsee_rows {
     uint64_t strings_at, strings_len; /* of the string table that goes with it; else 0, 0 */
 };
 
-/* The symbols of a section, and the relocation entries of one. Each runs the checks that a listing
- * runs before the table's first row, and sets `rows` before that row. OK, REFUSED, BAD_CALL; ABSENT
- * where there is no such section or it holds no such rows. */
+/* The symbols of a section, its relocation entries with addends, or its dynamic entries up to and
+ * with the first of tag 0. Each runs the checks that a listing runs before the table's first row,
+ * and sets `rows` before that row; of the limits it looks at `headers` alone. OK, REFUSED,
+ * BAD_CALL; ABSENT where there is no such section or it holds no such rows. `asked` is 0. */
 uint32_t elfsee_symbols(const uint8_t *file, size_t file_len, const struct elfsee_limits *limits,
                         uint16_t section, uint8_t *room, size_t room_len, struct elfsee_rows *rows,
                         struct elfsee_end *end);
 uint32_t elfsee_relocations(const uint8_t *file, size_t file_len,
                             const struct elfsee_limits *limits, uint16_t section, uint8_t *room,
                             size_t room_len, struct elfsee_rows *rows, struct elfsee_end *end);
+uint32_t elfsee_dynamic(const uint8_t *file, size_t file_len, const struct elfsee_limits *limits,
+                        uint16_t section, uint8_t *room, size_t room_len, struct elfsee_rows *rows,
+                        struct elfsee_end *end);
 
 /* Read up to `out_len` next rows, step over them, and answer how many there are in `out`: fewer
  * than `out_len` at the table's end, and 0 behind it or where the numbers of `rows` name no rows of
- * the file. For dynamic entries a caller sets `rows`, by a section header or a program header: the
- * table's offset, its size / 16 entries, 0, and 16 bytes each; the first entry of tag 0 is its last
- * (gABI, Dynamic Section). */
+ * the file. */
 size_t elfsee_next_symbols(const uint8_t *file, size_t file_len, struct elfsee_rows *rows,
                            struct elfsee_symbol *out, size_t out_len);
 size_t elfsee_next_relocations(const uint8_t *file, size_t file_len, struct elfsee_rows *rows,
@@ -249,8 +251,9 @@ size_t elfsee_next_dynamic(const uint8_t *file, size_t file_len, struct elfsee_r
                            struct elfsee_dynamic *out, size_t out_len);
 
 /* Where the name at an offset in a string table lies, without its NUL: the table is the `strings`
- * of `rows`, or any range of the file. OK; REFUSED with ELFSEE_NAME_OUTSIDE or ELFSEE_NAME_UNENDED
- * where there is none. */
+ * of `rows`, or any range of the file, as far as it lies in the file. In a table of no bytes the
+ * name at 0 has none, wherever the table begins. OK; REFUSED with ELFSEE_NAME_OUTSIDE or
+ * ELFSEE_NAME_UNENDED where there is no name. */
 uint32_t elfsee_name(const uint8_t *file, size_t file_len, const struct elfsee_range *strings,
                      uint64_t offset, struct elfsee_range *name, struct elfsee_end *end);
 

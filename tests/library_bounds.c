@@ -113,7 +113,8 @@ static const struct {
     const char *name;
     opens *call;
 } TABLES[] = {{"symbols", elfsee_symbols},
-              {"relocations", elfsee_relocations}};
+              {"relocations", elfsee_relocations},
+              {"dynamic", elfsee_dynamic}};
 enum { TABLE_COUNT = sizeof TABLES / sizeof *TABLES };
 
 /* ------------------------------------------------------------------------- */
@@ -515,11 +516,17 @@ static int any_name(void) {
     struct elfsee_range strings = {any(library.len), any(library.len)}, name = {7, 7};
     struct elfsee_end end = ODD;
     uint64_t offset = any(library.len);
+    /* How much of the table lies in the file. */
+    uint64_t left = strings.at < library.len ? library.len - strings.at : 0;
     uint32_t status = elfsee_name(library.bytes, library.len, &strings, offset, &name, &end);
-    if (status == ELFSEE_REFUSED) return end.cause == ELFSEE_NAME_OUTSIDE || end.cause == ELFSEE_NAME_UNENDED;
-    return status == ELFSEE_OK && name.at == strings.at + offset && offset < strings.len &&
-           strings.at <= library.len && strings.len <= library.len - strings.at &&
-           name.len < strings.len - offset && !memchr(library.bytes + name.at, 0, (size_t)name.len) &&
+    if (strings.len < left) left = strings.len;
+    if (status == ELFSEE_REFUSED) {
+        return end.cause == (offset < left ? ELFSEE_NAME_UNENDED : ELFSEE_NAME_OUTSIDE) && (left || offset) &&
+               (offset >= left || !memchr(library.bytes + strings.at + offset, 0, (size_t)(left - offset)));
+    }
+    if (left == 0) return status == ELFSEE_OK && offset == 0 && name.at == strings.at && name.len == 0;
+    return status == ELFSEE_OK && name.at == strings.at + offset && offset < left && name.len < left - offset &&
+           !memchr(library.bytes + name.at, 0, (size_t)name.len) &&
            library.bytes[name.at + name.len] == 0;
 }
 

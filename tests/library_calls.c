@@ -249,8 +249,8 @@ static void say_bytes(struct walk *walk, uint64_t at, uint64_t len) {
 /* The name at an offset of a string table: whether there is one. */
 static int say_name(struct walk *walk, const struct elfsee_range *strings, uint64_t offset) {
     struct elfsee_range name = {7, 7};
-    if (strings->len == 0 && offset == 0) return 1;
     if (elfsee_name(walk->file->bytes, walk->file->len, strings, offset, &name, &walk->end)) return 0;
+    if (strings->len == 0) return name.at == strings->at && name.len == 0;
     expect(name.at == strings->at + offset && offset + name.len < strings->len, "a name outside its table");
     expect(name.at + name.len < walk->file->len && walk->file->bytes[name.at + name.len] == 0,
            "a name without its NUL");
@@ -304,31 +304,15 @@ static int say_relocations(struct walk *walk, uint16_t section) {
     return 1;
 }
 
-/* The string table that a section is linked with. */
-static int strings_of(struct walk *walk, uint32_t link, struct elfsee_range *strings) {
-    struct elfsee_section header;
-    memset(&header, 7, sizeof header);
-    if (link > 65535 ||
-        elfsee_section(walk->file->bytes, walk->file->len, (uint16_t)link, &header, &walk->end) != ELFSEE_OK)
-        return 0;
-    strings->at = header.offset;
-    strings->len = header.size;
-    return header.type == 3;
-}
-
-/* The dynamic entries of a section, whose rows are set here. */
 static int say_dynamic(struct walk *walk, uint16_t section) {
-    struct elfsee_section header;
-    struct elfsee_dynamic entry = {1, 1};
-    struct elfsee_range strings = {0, 0};
+    struct elfsee_rows rows = {7, 7, 7, 7, 7, 7};
+    struct elfsee_dynamic entry;
+    uint32_t status = elfsee_dynamic(walk->file->bytes, walk->file->len, &walk->limits, section,
+                                     walk->room.bytes, walk->room.len, &rows, &walk->end);
     uint64_t index = 0;
-    memset(&header, 7, sizeof header);
-    if (elfsee_section(walk->file->bytes, walk->file->len, section, &header, &walk->end) != ELFSEE_OK) return 0;
-    if (header.type != 6 || header.size == 0) return 1;
-    if (header.entsize != 16 || header.size % 16 || !strings_of(walk, header.link, &strings)) return 0;
-    struct elfsee_rows rows = {header.offset, header.size / 16, 0, 16, 0, 0};
-    for (; index < rows.count && entry.tag; index += 1) {
-        if (elfsee_next_dynamic(walk->file->bytes, walk->file->len, &rows, &entry, 1) != 1) return 0;
+    if (status != ELFSEE_OK) return status == ELFSEE_ABSENT;
+    for (; elfsee_next_dynamic(walk->file->bytes, walk->file->len, &rows, &entry, 1); index += 1) {
+        struct elfsee_range strings = {rows.strings_at, rows.strings_len};
         int64_t tag = entry.tag;
         say(walk, "D %" PRIu64 " %" PRIi64 " %" PRIu64 " ", index, tag, entry.value);
         if ((tag == 1 || tag == 14 || tag == 15 || tag == 29) && !say_name(walk, &strings, entry.value))

@@ -69,9 +69,9 @@ static void call_relocations(void) {
 }
 
 static void call_dynamic(void) {
-    struct elfsee_rows any = {64, 1, 0, 16, 0, 0};
     struct elfsee_dynamic entry;
-    elfsee_next_dynamic(file, file_len, &any, &entry, 1);
+    if (elfsee_dynamic(file, file_len, &LIMITS, section, room, ROOM, &rows, &end) == ELFSEE_OK)
+        elfsee_next_dynamic(file, file_len, &rows, &entry, 1);
 }
 
 static void call_headers(void) {
@@ -116,7 +116,7 @@ static const struct {
     int each_section;
 } CALLS[] = {{"nothing", call_nothing, 0}, {"show", call_show, 0},       {"find", call_find, 0},
              {"apply", call_apply, 1},     {"symbols", call_symbols, 1}, {"relocations", call_relocations, 1},
-             {"dynamic", call_dynamic, 0},     {"headers", call_headers, 1}};
+             {"dynamic", call_dynamic, 1},     {"headers", call_headers, 1}};
 enum { COUNT = sizeof CALLS / sizeof *CALLS };
 
 static void measure(const char *path, size_t *most) {
