@@ -31,6 +31,7 @@ import ctypes
 import ctypes.util
 import enum
 import os
+import re
 import struct
 import types
 from typing import Any, Callable, Iterator, List, Mapping, NamedTuple, Optional, Sequence, Tuple, Union
@@ -47,11 +48,19 @@ ALL = 127
 # The permitted range of each limit, and what it is where nobody says.
 MOST_HEADERS, MOST_NAME, MOST_NUMBER = 65279, 4096, (1 << 64) - 1
 DEFAULT_HEADERS, DEFAULT_NAME = 4096, 256
-# Section types and segment types that hold tables, and the dynamic entries whose value is a string (gABI).
-SHT_SYMTAB, SHT_RELA, SHT_DYNAMIC, SHT_NOTE, SHT_NOBITS, SHT_DYNSYM = 2, 4, 6, 7, 8, 11
-PT_DYNAMIC, PT_NOTE = 2, 4
+# Section types, and the tags of dynamic entries whose value is a string (gABI).
+SHT_SYMTAB, SHT_RELA, SHT_DYNAMIC, SHT_NOBITS, SHT_DYNSYM = 2, 4, 6, 8, 11
 DT_NULL, DT_NEEDED, DT_SONAME, DT_RPATH, DT_RUNPATH = 0, 1, 14, 15, 29
 STRING_TAGS = frozenset((DT_NEEDED, DT_SONAME, DT_RPATH, DT_RUNPATH))
+# The tags of dynamic entries that have names in a listing, from 0 on.
+_TAGS = {name: tag for tag, name in enumerate(
+    "NULL NEEDED PLTRELSZ PLTGOT HASH STRTAB SYMTAB RELA RELASZ RELAENT STRSZ SYMENT INIT FINI SONAME RPATH "
+    "SYMBOLIC REL RELSZ RELENT PLTREL DEBUG TEXTREL JMPREL BIND_NOW INIT_ARRAY FINI_ARRAY INIT_ARRAYSZ "
+    "FINI_ARRAYSZ RUNPATH FLAGS".split())}
+# How a listing spells the bytes of a name that are no printing ones.
+_ESCAPE = re.compile(rb"\\(\\|x..)")
+_CUT = re.compile(rb"(?:[^\\]|\\\\|\\x..)*\\\+")
+_DYNAMIC_LINE = re.compile(rb"D +([0-9]+) ([A-Z_]+|[0-9a-f]{16}) *([0-9a-f]{16}) (.*)")
 # So many rows are fetched by one call of the library.
 BATCH = 4096
 
@@ -126,11 +135,10 @@ _Segment = _struct("elfsee_segment", (_U64, "offset vaddr paddr filesz memsz ali
                    (_U32, "type flags"))
 _Relocation = _struct("elfsee_relocation", (_U64, "offset info"), (_I64, "addend"))
 _Dynamic = _struct("elfsee_dynamic", (_I64, "tag"), (_U64, "value"))
-_Note = _struct("elfsee_note", (_U64, "name_at desc_at"), (_U32, "name_len desc_len type none"))
 _Range = _struct("elfsee_range", (_U64, "at len"))
 _Rows = _struct("elfsee_rows", (_U64, "at count index entry strings_at strings_len"))
 STRUCTS = (_Limits, _End, _Symbol, _Found, _Item, _Job, _Header, _Section, _Segment, _Relocation,
-           _Dynamic, _Note, _Range, _Rows)
+           _Dynamic, _Range, _Rows)
 
 # The same as forms of `struct`, of the rows that are read in batches.
 _SYMBOL_FORM, _RELOCATION_FORM, _DYNAMIC_FORM = "=QQIHBB", "=QQq", "=qQ"
@@ -161,11 +169,9 @@ _CALLS = {
     "symbols": (_U32, *_TABLE),
     "relocations": (_U32, *_TABLE),
     "dynamic": (_U32, *_TABLE),
-    "notes": (_U32, *_TABLE),
     "next_symbols": (ctypes.c_size_t, *_STEP),
     "next_relocations": (ctypes.c_size_t, *_STEP),
     "next_dynamic": (ctypes.c_size_t, *_STEP),
-    "next_note": (_U32, *_FILE, _to(_Rows), _to(_Note), _to(_End)),
     "name": (_U32, *_FILE, _to(_Range), _U64, _to(_Range), _to(_End)),
 }
 
@@ -339,24 +345,26 @@ class Relocation(NamedTuple):
 
 
 class Note(NamedTuple):
-    """A note: its name up to the first NUL, and its descriptor. `namesz` is the name's size as the
-    file says, with the NUL. `table` is its section, or its segment where the file has no sections."""
+    """A note: its name up to the first NUL, and the first 32 bytes of its descriptor. `namesz` and
+    `descsz` are the sizes that the file says, that of the name with its NUL. `table` is its section,
+    or its segment where the file has no sections."""
 
     name: bytes
     type: int
     desc: bytes
     namesz: int
+    descsz: int
     table: int
 
 
 class Dynamic(NamedTuple):
-    """A dynamic entry. `string` is what NEEDED, SONAME, RPATH and RUNPATH name, else None. `table`
-    is its section, or its segment where the file has no sections."""
+    """A dynamic entry. `string` is what NEEDED, SONAME, RPATH and RUNPATH name, else None. `index`
+    is its place in `table`, a section, or None where the file has no sections and a segment tells it."""
 
     tag: int
     value: int
     string: Optional[bytes]
-    table: int
+    table: Optional[int]
     index: int
 
 
@@ -405,6 +413,16 @@ def _name_bytes(name: Name, most: int) -> bytes:
     return text
 
 
+def _bytes_of(spelt: bytes) -> bytes:
+    """The bytes of a name as a listing spells it. One that the listing has cut raises Full."""
+    def byte(found: "re.Match[bytes]") -> bytes:
+        return b"\\" if found[1] == b"\\" else bytes.fromhex(found[1][1:].decode("ascii"))
+
+    if _CUT.fullmatch(spelt):
+        raise Full("a name has more than %d bytes" % MOST_NAME)
+    return _ESCAPE.sub(byte, spelt)
+
+
 def _content(source: Union[str, bytes, "os.PathLike[str]", Any]) -> bytes:
     """The bytes of a path, or of a buffer."""
     if isinstance(source, (str, os.PathLike)):
@@ -437,14 +455,14 @@ class File:
 
     `source` is a path (str or os.PathLike), or the file's bytes. `headers` is how many section
     headers, and as many program headers, are permitted: 1 to 65,279. `budget` is how many bytes a
-    listing, a lookup, an applied section or a table's checks may each read: any number of them where
-    it is None. `longest_name` is how long a name of a row may be: names in rows are never cut, and one
-    that is longer raises Full.
+    listing, a lookup or an applied section may each ask for: any number of them where it is None.
+    `longest_name` is how long a name of a row may be: names in rows are never cut, and one that is
+    longer raises Full.
 
     Every call but `close` raises Refused where the file is at fault or the budget is used up, and
     ValueError where an argument is outside its range or the file is closed. Rows come up to the
     fault, and then it is raised: at the same place and for the same cause as in a listing of that
-    table.
+    part.
     """
 
     def __init__(self, source: Union[str, bytes, "os.PathLike[str]", Any], *,
@@ -609,16 +627,11 @@ class File:
     # -----------------------------------------------------------------------
     # Tables.
 
-    def _tables(self, table: Optional[int], sections: Sequence[int], segment: Optional[int]) -> Iterator[int]:
-        """The sections of some types, or where the file has no sections the segments of a type; or
-        the one that is asked for."""
-        if table is not None:
-            yield _within("section", table, 0, 65535)
-            return
-        rows = self._section_rows()
-        yield from (index for index, row in enumerate(rows) if row[1] in sections)
-        if not rows and segment is not None:
-            yield from (row.index for row in self.segments() if row.type == segment)
+    def _tables(self, section: Optional[int], kinds: Sequence[int]) -> Sequence[int]:
+        """The section that is asked for, or all sections of some types."""
+        if section is not None:
+            return [_within("section", section, 0, 65535)]
+        return [index for index, row in enumerate(self._section_rows()) if row[1] in kinds]
 
     def _opened(self, call: str, table: int) -> Any:
         """A table's rows, behind its checks."""
@@ -657,7 +670,7 @@ class File:
     def symbols(self, section: Optional[int] = None) -> Iterator[Symbol]:
         """The symbols of a section, or of all symbol tables in the order of the sections, symbol 0
         too. Absent where that section holds none."""
-        for table in self._tables(section, (SHT_SYMTAB, SHT_DYNSYM), None):
+        for table in self._tables(section, (SHT_SYMTAB, SHT_DYNSYM)):
             yield from self._symbols_of(table)
 
     def _symbols_of(self, table: int) -> Iterator[Symbol]:
@@ -678,7 +691,7 @@ class File:
     def relocations(self, section: Optional[int] = None) -> Iterator[Relocation]:
         """The relocation entries of a section, or of all RELA sections in their order. Absent where that
         section holds none; so does one of type REL, whose entries are not read."""
-        for table in self._tables(section, (SHT_RELA,), None):
+        for table in self._tables(section, (SHT_RELA,)):
             yield from self._relocations_of(table)
 
     def _relocations_of(self, table: int) -> Iterator[Relocation]:
@@ -712,24 +725,32 @@ class File:
         strings = (symbols.strings_at, symbols.strings_at + symbols.strings_len) if symbols else (0, 0)
         return name_of
 
-    def notes(self, table: Optional[int] = None) -> Iterator[Note]:
-        """The notes of a section, or of all of them; in a file without sections of a segment, or of all.
-        Absent where that one holds none."""
-        for index in self._tables(table, (SHT_NOTE,), PT_NOTE):
-            yield from self._notes_of(index)
+    def _listed(self, part: int) -> Iterator[bytes]:
+        """The lines of a part of the listing, and then its refusal. A name has at most 4,096 bytes."""
+        listing = self.show(part, MOST_NAME)
+        lines = listing.text.encode("ascii").split(b"\n")[:-1]
+        yield from lines[:-1] if listing.refused else lines
+        if listing.refused:
+            raise listing.refused
 
-    def _notes_of(self, table: int) -> Iterator[Note]:
-        rows, note, data = self._opened("notes", table), _Note(), self.data
-        while self._call("next_note", rows, note)[0] == _OK:
-            name = data[note.name_at:note.name_at + note.name_len]
-            yield Note(name.partition(b"\0")[0], note.type,
-                       data[note.desc_at:note.desc_at + note.desc_len], note.name_len, table)
+    def notes(self) -> Iterator[Note]:
+        """The notes of all sections, or in a file without sections of all segments. They are read from
+        the listing, within the budget; of a descriptor that has the first 32 bytes."""
+        for line in self._listed(NOTES):
+            name, desc = line[35:].rsplit(b" ", 1)
+            namesz, descsz = int(line[17:25], 16), int(line[26:34], 16)
+            yield Note(_bytes_of(name), int(line[8:16], 16), bytes.fromhex(desc[:64].decode("ascii")),
+                       namesz, descsz, int(line[2:7]))
 
-    def dynamic(self, table: Optional[int] = None) -> Iterator[Dynamic]:
-        """The dynamic entries of a section, or of all of them, up to and with the first of tag NULL; in
-        a file without sections of a segment, or of all. Absent where that one holds none."""
-        for index in self._tables(table, (SHT_DYNAMIC,), PT_DYNAMIC):
-            yield from self._dynamic_of(index)
+    def dynamic(self, section: Optional[int] = None) -> Iterator[Dynamic]:
+        """The dynamic entries of a section, or of all of them, up to and with the first of tag NULL. In
+        a file without sections those of its segments, read from the listing, within the budget. Absent
+        where that section holds none."""
+        if section is None and not self._section_rows():
+            yield from self._dynamic_of_segments()
+            return
+        for table in self._tables(section, (SHT_DYNAMIC,)):
+            yield from self._dynamic_of(table)
 
     def _dynamic_of(self, table: int) -> Iterator[Dynamic]:
         rows, index = self._opened("dynamic", table), 0
@@ -741,3 +762,12 @@ class File:
                 if tag == DT_NULL:
                     return
                 index += 1
+
+    def _dynamic_of_segments(self) -> Iterator[Dynamic]:
+        for line in self._listed(DYNAMIC):
+            index, word, value, text = _DYNAMIC_LINE.fullmatch(line).groups()
+            tag = _TAGS.get(word.decode("ascii"))
+            # A tag without a name is written as 64 bits without a sign.
+            number = ctypes.c_int64(int(word, 16)).value if tag is None else tag
+            string = _bytes_of(text) if number in STRING_TAGS else None
+            yield Dynamic(number, int(value, 16), string, None, int(index))

@@ -2,7 +2,7 @@
 //!
 //!     calls show FILE             the listing
 //!     calls find FILE NAME        the symbol and the steps
-//!     calls rows FILE..           all rows, as numbers; names and descriptors in hexadecimal digits
+//!     calls rows FILE..           all rows, as numbers; names in hexadecimal digits
 
 use elfsee::{Error, File, Refused};
 use std::process::exit;
@@ -62,11 +62,7 @@ fn entries(file: &File, section: u16, room: &mut [u8]) -> Result<(), Error> {
     Ok(())
 }
 
-fn others(file: &File, section: u16, room: &mut [u8]) -> Result<(), Error> {
-    for note in file.notes(section, room)?.into_iter().flatten() {
-        let note = note?;
-        println!("N {section} {} {} {}", note.kind, hex(note.name), hex(note.desc));
-    }
+fn dynamic(file: &File, section: u16, room: &mut [u8]) -> Result<(), Error> {
     for row in file.dynamic(section, room)?.into_iter().flatten() {
         println!("D {section} {} {}", row.tag, row.value);
     }
@@ -89,10 +85,10 @@ fn rows(file: &File) -> Result<(), Error> {
             println!("P {index} {} {} {}", row.kind, row.offset, row.filesz);
         }
     }
-    let tables = if header.shnum == 0 { header.phnum } else { header.shnum };
+    let tables = header.shnum;
     (0..tables).try_for_each(|index| symbols(file, index, &mut room))?;
     (0..tables).try_for_each(|index| entries(file, index, &mut room))?;
-    (0..tables).try_for_each(|index| others(file, index, &mut room))
+    (0..tables).try_for_each(|index| dynamic(file, index, &mut room))
 }
 
 fn main() {

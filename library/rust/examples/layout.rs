@@ -40,7 +40,6 @@ fn main() {
     tell!("elfsee_segment", raw::Segment, offset vaddr paddr filesz memsz align kind flags);
     tell!("elfsee_relocation", raw::Relocation, offset info addend);
     tell!("elfsee_dynamic", raw::Dynamic, tag value);
-    tell!("elfsee_note", raw::Note, name_at desc_at name_len desc_len kind none);
     tell!("elfsee_range", raw::Range, at len);
     tell!("elfsee_rows", raw::Rows, at count index entry strings_at strings_len);
 }

@@ -39,7 +39,7 @@ mod rows;
 
 pub use error::{Cause, Error, Refused};
 pub use raw::{Dynamic, Header, Range, Relocation, Section, Segment, Symbol};
-pub use rows::{DynamicEntries, Note, Notes, Relocations, Rows, Symbols};
+pub use rows::{DynamicEntries, Relocations, Rows, Symbols};
 
 use core::marker::PhantomData;
 
@@ -91,7 +91,8 @@ pub struct Limits {
     pub headers: u16,
     /// Bytes of a name that a listing shows: 1 to 4,096.
     pub name: u16,
-    /// How many bytes of the file a call may read, where that is limited.
+    /// How many bytes of the file a listing, a lookup or an applied section may ask for, where that is
+    /// limited.
     pub budget: Option<u64>,
 }
 
@@ -347,17 +348,11 @@ impl<'a> File<'a> {
         Ok(rows.map(|rows| Rows::new(self.bytes, rows)))
     }
 
-    /// The dynamic entries of a section, or of a segment where the file has no sections; none where it
-    /// holds none.
-    pub fn dynamic(&self, table: u16, room: &mut [u8]) -> Result<Option<DynamicEntries<'a>>, Error> {
-        let rows = self.open(raw::elfsee_dynamic, table, room)?;
+    /// The dynamic entries of a section, up to and with the first of tag NULL; none where it holds none.
+    /// Those of a file without sections stand in its listing.
+    pub fn dynamic(&self, section: u16, room: &mut [u8]) -> Result<Option<DynamicEntries<'a>>, Error> {
+        let rows = self.open(raw::elfsee_dynamic, section, room)?;
         Ok(rows.map(|rows| Rows::new(self.bytes, rows)))
-    }
-
-    /// The notes of a section, or of a segment where the file has no sections; none where it holds none.
-    pub fn notes(&self, table: u16, room: &mut [u8]) -> Result<Option<Notes<'a>>, Error> {
-        let rows = self.open(raw::elfsee_notes, table, room)?;
-        Ok(rows.map(|rows| Notes::new(self.bytes, rows)))
     }
 
     fn open(&self, call: raw::OpenTable, table: u16, room: &mut [u8]) -> Result<Option<raw::Rows>, Error> {

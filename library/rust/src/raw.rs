@@ -143,17 +143,6 @@ pub struct Dynamic {
     pub value: u64,
 }
 
-#[repr(C)]
-#[derive(Clone, Copy, Debug, Default, PartialEq, Eq)]
-pub struct Note {
-    pub name_at: u64,
-    pub desc_at: u64,
-    pub name_len: u32,
-    pub desc_len: u32,
-    pub kind: u32,
-    pub none: u32,
-}
-
 /// Bytes of the file: where they begin, and how many they are.
 #[repr(C)]
 #[derive(Clone, Copy, Debug, Default, PartialEq, Eq)]
@@ -260,16 +249,6 @@ extern "C" {
         rows: *mut Rows,
         end: *mut End,
     ) -> u32;
-    pub fn elfsee_notes(
-        file: *const u8,
-        file_len: usize,
-        limits: *const Limits,
-        section: u16,
-        room: *mut u8,
-        room_len: usize,
-        rows: *mut Rows,
-        end: *mut End,
-    ) -> u32;
     pub fn elfsee_next_symbols(
         file: *const u8,
         file_len: usize,
@@ -291,13 +270,6 @@ extern "C" {
         out: *mut Dynamic,
         out_len: usize,
     ) -> usize;
-    pub fn elfsee_next_note(
-        file: *const u8,
-        file_len: usize,
-        rows: *mut Rows,
-        note: *mut Note,
-        end: *mut End,
-    ) -> u32;
     pub fn elfsee_name(
         file: *const u8,
         file_len: usize,

@@ -46,7 +46,7 @@ pub struct Rows<'a, R> {
 pub type Symbols<'a> = Rows<'a, raw::Symbol>;
 /// The relocation entries of a section.
 pub type Relocations<'a> = Rows<'a, raw::Relocation>;
-/// The dynamic entries of a section or a segment.
+/// The dynamic entries of a section.
 pub type DynamicEntries<'a> = Rows<'a, raw::Dynamic>;
 
 impl<'a, R: Fetch> Rows<'a, R> {
@@ -103,56 +103,5 @@ fn bytes_of(file: &[u8], at: u64, len: u64) -> &[u8] {
     match (usize::try_from(at), usize::try_from(end)) {
         (Ok(at), Ok(end)) => file.get(at..end).unwrap_or(&[]),
         _ => &[],
-    }
-}
-
-/// A note (gABI, Note Section).
-#[derive(Clone, Copy, Debug, PartialEq, Eq)]
-pub struct Note<'a> {
-    /// Its name, up to the first NUL.
-    pub name: &'a [u8],
-    /// Its descriptor.
-    pub desc: &'a [u8],
-    /// Its type.
-    pub kind: u32,
-}
-
-/// The notes of a section or a segment: an iterator. A note that is cut is its last item.
-#[derive(Clone, Debug)]
-pub struct Notes<'a> {
-    file: &'a [u8],
-    rows: raw::Rows,
-    ended: bool,
-}
-
-impl<'a> Notes<'a> {
-    pub(crate) fn new(file: &'a [u8], rows: raw::Rows) -> Self {
-        Notes { file, rows, ended: false }
-    }
-}
-
-impl<'a> Iterator for Notes<'a> {
-    type Item = Result<Note<'a>, Refused>;
-
-    fn next(&mut self) -> Option<Self::Item> {
-        if self.ended {
-            return None;
-        }
-        let (mut note, mut end) = (raw::Note::default(), raw::End::default());
-        let file = self.file;
-        // SAFETY: a slice's own pointer and length, and structs that are initialised and nobody else's.
-        let status =
-            unsafe { raw::elfsee_next_note(file.as_ptr(), file.len(), &mut self.rows, &mut note, &mut end) };
-        self.ended = status != raw::OK;
-        match status {
-            raw::OK => {
-                let name = bytes_of(file, note.name_at, note.name_len.into());
-                let name = name.split(|byte| *byte == 0).next().unwrap_or(&[]);
-                let desc = bytes_of(file, note.desc_at, note.desc_len.into());
-                Some(Ok(Note { name, desc, kind: note.kind }))
-            }
-            raw::REFUSED => Some(Err(Refused::of(&end))),
-            _ => None,
-        }
     }
 }

@@ -111,7 +111,6 @@ fn what_is_not_there_is_absent() {
     assert!(file.symbols(0, &mut [0; 64]).unwrap().is_none());
     assert!(file.relocations(7, &mut [0; 64]).unwrap().is_none());
     assert!(file.dynamic(65535, &mut [0; 64]).unwrap().is_none());
-    assert!(file.notes(0, &mut [0; 64]).unwrap().is_none());
     assert_eq!(file.section_names(&mut [0; 64]), Ok(None));
 }
 
