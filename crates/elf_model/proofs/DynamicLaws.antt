@@ -69,6 +69,17 @@ one-count file at n a b p q = go (cases_lt a b) (cases_lt b a)
 pub listed_is_counted : ListedIsCounted
 listed_is_counted file at n count h = one-count file at n (dynamic_count file at n) count (counted_is_listed file at n) h
 
+-- no entry is the last: all are listed
+pub count-all : (file : List ℕ) (at n : ℕ) → ((i : ℕ) → i < n → d_tag file (dynamic_at at i) ≢ DT_NULL) → dynamic_count file at n ≡ n
+count-all file at n none =
+    listed_is_counted file at n n (record { within = omega arith; none_before = λ i l. none i (omega arith); ended = λ l. absurd (omega arith) })
+
+-- the first DT_NULL is the last that is listed
+pub count-first : (file : List ℕ) (at n i : ℕ) → i < n → ((j : ℕ) → j < i → d_tag file (dynamic_at at j) ≢ DT_NULL) → d_tag file (dynamic_at at i) ≡ DT_NULL
+    → dynamic_count file at n ≡ suc i
+count-first file at n i l none h =
+    listed_is_counted file at n (suc i) (record { within = l; none_before = λ j m. none j (omega arith); ended = λ m. (i, refl, h) })
+
 -- no entry tells no value
 pub value-none : (file : List ℕ) (at tag : ℕ) → dynamic_value file at zero tag ≡ None
 unfolding dynamic_value
