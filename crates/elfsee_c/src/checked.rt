@@ -1,4 +1,5 @@
-//! The checks of a file that lies in memory, before its section headers and program headers are read.
+//! The checks of a file that lies in memory, before its section headers and program headers are
+//! read.
 ghost use Rattle.elfsee_c.specs.Checked.{HeaderChecked, CountsChecked};
 
 use crate::bytes::chunk_at;
@@ -21,8 +22,8 @@ pub(crate) fn checked_header(file: &[u8]) -> Result<Ehdr, Refusal>
     }
 }
 
-/// The file header, where the section headers and the program headers that it tells of lie within the
-/// file (gABI 4, ELF Header).
+/// The file header, where the section headers and the program headers that it tells of lie within
+/// the file (gABI 4, ELF Header).
 ///
 /// # Errors
 /// The first check that fails in a listing that permits as many headers as can be, before these are

@@ -19,8 +19,8 @@ pub struct Dynamic {
     pub value: u64,
 }
 
-/// Reads the next dynamic entries to the front of `out`, as many as there are and as it has room for, steps
-/// over them, and answers how many (gABI 5, Dynamic Section).
+/// Reads the next dynamic entries to the front of `out`, as many as there are and as it has room
+/// for, steps over them, and answers how many (gABI 5, Dynamic Section).
 #[unsafe(no_mangle)]
 pub extern "C" fn elfsee_next_dynamic(file: &[u8], rows: &mut Rows, out: &mut [Dynamic]) -> usize
     ensures steps { StepsRows (length file.now) 16 rows.old rows.new (length out.old) result }

@@ -8,7 +8,8 @@ ghost use Rattle.elf_model.specs.declared.causes.Refusal.{Refusal as IsRefusal};
 ghost use Rattle.elf_headers.specs.Faults.{IsOfCheck};
 ghost use Rattle.elf_headers.specs.Load.{Belongs};
 ghost use Rattle.elf_table.specs.Tables.{RowsWithin};
-ghost use Rattle.elfsee_c.specs.DynamicTables.{IsDynamicTable, OpensDynamic, ReadsDynamic, listed_table};
+ghost use Rattle.elfsee_c.specs.DynamicTables.{IsDynamicTable, OpensDynamic, ReadsDynamic};
+ghost use Rattle.elfsee_c.specs.DynamicTables.{listed_table};
 ghost use Rattle.elfsee_c.specs.Openings.{IsOpened, rows_of};
 ghost use Rattle.elfsee_c.specs.declared.rows.Rows.{Rows as IsPlace};
 
@@ -23,13 +24,13 @@ use elf_record::sizes::DYNAMIC_BYTES;
 use elf_record::{Dyn, Refusal};
 use elf_table::{File, Names, Table};
 
-/// Checks the table of dynamic entries that a section of a file is, and sets `rows` before its first,
-/// with as many entries as there are up to and with the first DT_NULL, or all. The room is for the
-/// headers; of the limits their number is looked at alone (gABI 5, Dynamic Section).
+/// Checks the table of dynamic entries that a section of a file is, and sets `rows` before its
+/// first, with as many entries as there are up to and with the first DT_NULL, or all. The room is
+/// for the headers; of the limits their number is looked at alone (gABI 5, Dynamic Section).
 ///
-/// Answers 0 where the checks pass, 2 where the file has no such section or its type is not DYNAMIC, 1
-/// where a check fails that a listing makes up to the table's first row, with the first that does in
-/// `end`, and 4 for limits outside their range or room of less than 64 bytes.
+/// Answers 0 where the checks pass, 2 where the file has no such section or its type is not
+/// DYNAMIC, 1 where a check fails that a listing makes up to the table's first row, with the first
+/// that does in `end`, and 4 for limits outside their range or room of less than 64 bytes.
 #[unsafe(no_mangle)]
 pub extern "C" fn elfsee_dynamic(
     file: &[u8],
@@ -108,8 +109,8 @@ fn listed_rows(file: &[u8], table: Table, names: Names) -> Rows
     rows
 }
 
-/// How many of `count` entries from the offset `at` on are listed: up to and with the first DT_NULL,
-/// or all.
+/// How many of `count` entries from the offset `at` on are listed: up to and with the first
+/// DT_NULL, or all.
 fn listed(file: &[u8], at: u64, count: u64) -> u64
     requires { 0 < count → at + count * 16 ≤ length file.now }
     ensures { result ≡ dynamic_count file.now at count }

@@ -21,12 +21,12 @@ pub struct Range {
     pub len: u64,
 }
 
-/// Finds where the name at an offset in a string table lies, without its NUL. The string table is the
-/// bytes of `strings`, as far as they lie within the file (gABI 4, String Table).
+/// Finds where the name at an offset in a string table lies, without its NUL. The string table is
+/// the bytes of `strings`, as far as they lie within the file (gABI 4, String Table).
 ///
-/// Answers 0 where there is a name, and 1 where there is none, with the cause in `end`: `NameOutside`
-/// where the offset is not below the table's size, `NameUnended` where no NUL is behind it. The
-/// offset that `end` names is that where the name was to begin, at most 2^64 - 1.
+/// Answers 0 where there is a name, and 1 where there is none, with the cause in `end`:
+/// `NameOutside` where the offset is not below the table's size, `NameUnended` where no NUL is
+/// behind it. The offset that `end` names is that where the name was to begin, at most 2^64 - 1.
 #[unsafe(no_mangle)]
 pub extern "C" fn elfsee_name(
     file: &[u8],

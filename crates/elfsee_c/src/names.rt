@@ -12,12 +12,12 @@ use elf_headers::HeaderStore;
 use elf_record::Refusal;
 use elf_table::File;
 
-/// Tells where the string table of the section names lies. The room is for the headers; of the limits
-/// their number is looked at alone (gABI 4, ELF Header).
+/// Tells where the string table of the section names lies. The room is for the headers; of the
+/// limits their number is looked at alone (gABI 4, ELF Header).
 ///
 /// Answers 0 where there is one, 2 where there is none, 1 where a check fails that a listing makes
-/// until the section headers are loaded, with the first that does in `end`, and 4 for limits outside
-/// their range or room of less than 64 bytes.
+/// until the section headers are loaded, with the first that does in `end`, and 4 for limits
+/// outside their range or room of less than 64 bytes.
 #[unsafe(no_mangle)]
 pub extern "C" fn elfsee_section_names(
     file: &[u8],

@@ -23,7 +23,8 @@ use elf_table::{File, Names, Table};
 #[repr(C)]
 #[derive(Clone, Copy)]
 pub struct Relocation {
-    /// Where it is applied: in a relocatable file an offset in its section in bytes, else an address.
+    /// Where it is applied: in a relocatable file an offset in its section in bytes, else an
+    /// address.
     pub offset: u64,
     /// The index of its symbol, in the high 32 bits, and its type, in the low 32.
     pub info: u64,
@@ -31,8 +32,8 @@ pub struct Relocation {
     pub addend: i64,
 }
 
-/// Reads the next relocation entries to the front of `out`, as many as there are and as it has room for, steps
-/// over them, and answers how many (gABI 4, Relocation).
+/// Reads the next relocation entries to the front of `out`, as many as there are and as it has room
+/// for, steps over them, and answers how many (gABI 4, Relocation).
 #[unsafe(no_mangle)]
 pub extern "C" fn elfsee_next_relocations(
     file: &[u8],
@@ -86,12 +87,12 @@ fn fields_of(entry: &Rela) -> Relocation
 }
 
 /// Checks the table of relocation entries that a section of a file is, and sets `rows` before its
-/// first; the string table with it is that of the symbols that the section refers to. The room is for
-/// the headers; of the limits their number is looked at alone (gABI 4, Relocation).
+/// first; the string table with it is that of the symbols that the section refers to. The room is
+/// for the headers; of the limits their number is looked at alone (gABI 4, Relocation).
 ///
 /// Answers 0 where the checks pass, 2 where the file has no such section or its type is not RELA, 1
-/// where a check fails that a listing makes up to the table's first row, with the first that does in
-/// `end`, and 4 for limits outside their range or room of less than 64 bytes.
+/// where a check fails that a listing makes up to the table's first row, with the first that does
+/// in `end`, and 4 for limits outside their range or room of less than 64 bytes.
 #[unsafe(no_mangle)]
 pub extern "C" fn elfsee_relocations(
     file: &[u8],

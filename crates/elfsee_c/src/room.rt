@@ -8,9 +8,9 @@ use crate::checked::checked_header;
 /// How many bytes of room a header takes.
 const HEADER_BYTES: u64 = 64;
 
-/// How many bytes of room a file wants where so many headers are permitted: 64 for each section header
-/// or program header, whichever are more, at least 64 and at most 64 for each that is permitted; 64
-/// for bytes that have no file header (gABI 4, ELF Header).
+/// How many bytes of room a file wants where so many headers are permitted: 64 for each section
+/// header or program header, whichever are more, at least 64 and at most 64 for each that is
+/// permitted; 64 for bytes that have no file header (gABI 4, ELF Header).
 #[unsafe(no_mangle)]
 pub extern "C" fn elfsee_room(file: &[u8], headers: u16) -> u64
     ensures room { result ≡ 64 * slots_for file.now headers }

@@ -57,12 +57,12 @@ fn symbol_at(file: &[u8], at: usize) -> Symbol
     Symbol::of(&Sym::decode(chunk_at(file, at)))
 }
 
-/// Checks the table of symbols that a section of a file is, and sets `rows` before its first. The room
-/// is for the headers; of the limits their number is looked at alone (gABI 4, Symbol Table).
+/// Checks the table of symbols that a section of a file is, and sets `rows` before its first. The
+/// room is for the headers; of the limits their number is looked at alone (gABI 4, Symbol Table).
 ///
 /// Answers 0 where the checks pass, 2 where the file has no such section or it holds no symbols, 1
-/// where a check fails that a listing makes up to the table's first row, with the first that does in
-/// `end`, and 4 for limits outside their range or room of less than 64 bytes.
+/// where a check fails that a listing makes up to the table's first row, with the first that does
+/// in `end`, and 4 for limits outside their range or room of less than 64 bytes.
 #[unsafe(no_mangle)]
 pub extern "C" fn elfsee_symbols(
     file: &[u8],

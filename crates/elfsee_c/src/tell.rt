@@ -11,8 +11,8 @@ const REFUSED: u32 = 1;
 /// The status of a row that is not there.
 const ABSENT: u32 = 2;
 
-/// Writes the row that was read to `row`, the refusal, where there is one, to `end`, and answers the
-/// status.
+/// Writes the row that was read to `row`, the refusal, where there is one, to `end`, and answers
+/// the status.
 pub(crate) fn tell<T: Copy>(read: Result<Option<T>, Refusal>, row: &mut T, end: &mut End) -> u32
     ensures { IsTold result row.old row.new end.new read }
 {

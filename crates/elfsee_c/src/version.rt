@@ -14,9 +14,9 @@ pub extern "C" fn elfsee_version() -> u32
     0x00_01_00
 }
 
-/// Writes the word of a cause, as a listing's last line has it, to the front of `out`, and answers how
-/// many bytes it has; 0, with nothing written, for a number that is no cause, and where `out` has not
-/// so many.
+/// Writes the word of a cause, as a listing's last line has it, to the front of `out`, and answers
+/// how many bytes it has; 0, with nothing written, for a number that is no cause, and where `out`
+/// has not so many.
 #[unsafe(no_mangle)]
 pub extern "C" fn elfsee_cause_word(cause: u32, out: &mut [u8]) -> usize
     ensures { (named : Option IsCause) × IsNumbered cause named
