@@ -13,6 +13,7 @@ cause, and the others go on. The exit status is 1 where any is at fault or misse
 
 import functools
 import os
+import signal
 import sys
 
 sys.path.insert(0, os.path.join(os.path.dirname(os.path.abspath(__file__)), "..", "library", "python"))
@@ -92,4 +93,5 @@ def main(top):
 
 
 if __name__ == "__main__":
+    signal.signal(signal.SIGPIPE, signal.SIG_DFL)
     sys.exit(main(sys.argv[1]) if len(sys.argv) == 2 else __doc__)
