@@ -4,7 +4,7 @@ use Rattle.std.proofs.lemmas.Bool.{lt-ltb, le-ltb}
 use Rattle.elf_model.specs.Bytes.{slice, little}
 use Rattle.elf_model.specs.Checks.{Check, refuse, first_refusal}
 use Rattle.elf_model.specs.Records.{r_offset, r_sym, r_type, r_addend, twos_complement}
-use Rattle.elf_model.specs.Tables.{linked_at, strings_of, entry_count, has_symbols}
+use Rattle.elf_model.specs.Tables.{linked_at, strings_of, entry_count, has_symbols, symbol_checks_of}
 use Rattle.elf_model.specs.Hash.{symbol_count, symbol_at}
 use Rattle.elf_model.specs.Placing.{Layout, address_in, symbol_value, linkage_value, place_value, placed_at}
 use Rattle.elf_model.specs.Numbers.{R_X86_64_NONE}
@@ -20,6 +20,7 @@ use Rattle.elf_table.specs.Cursors.{row_at}
 use Rattle.elf_headers.specs.declared.fault.Fault.{Fault}
 use Rattle.elf_headers.specs.declared.fault.Fault.TheVariants.{Refused, Source}
 use Rattle.elf_apply.specs.Costs.{ValueOrRefusal}
+use Rattle.elf_apply.proofs.SymbolSteps.{value_again, linkage_again}
 use Rattle.elf_apply.specs.Entries.{Changes, Does, term_of, taken_value, taken_place}
 use Rattle.elf_reloc.specs.Types.{terms}
 use Rattle.elf_apply.specs.declared.entry.Placed.{Placed}
@@ -99,6 +100,41 @@ module _ (t : Target) (header rela : ℕ) (formula : Formula) where
         let at : symbol_at t.file (linked_at t.file header) symbol ≡ place = omega (arith, steps, to.1.placed, here) in
         term_there takes some to.0 (omega (arith, below, to.1.counted)) tk
         ∙ (ap (the_value takes (strings_of t.file (linked_at t.file header))) at ∙ ap (λ table. the_value takes table place) (ap (λ (n : Strings). slice t.file n.at n.size) (sym (to.1.named (omega (arith, below))))))
+
+-- what an entry takes of a symbol, each entry takes that names it so
+module _ (t : Target) (header rela rela' v : ℕ) (formula formula' : Formula) (named : r_sym t.file rela ≡ r_sym t.file rela') (linkage : takes_linkage formula ≡ takes_linkage formula') where
+  abbrev named_by : (List ℕ → List ℕ → Layout → ℕ → ℕ → Result ℕ Refusal) → ℕ → Bool → ℕ → Result ℕ Refusal
+  named_by value entry zero symbol = elim zero [ true ↦ Ok 0 | false ↦ value t.file (strings_of t.file (linked_at t.file header)) t.layout entry (symbol_at t.file (linked_at t.file header) symbol) ]
+
+  named_again :
+      (value : List ℕ → List ℕ → Layout → ℕ → ℕ → Result ℕ Refusal)
+      → ((strings : List ℕ) (at : ℕ) → value t.file strings t.layout rela at ≡ Ok v → value t.file strings t.layout rela' at ≡ Ok v)
+      → named_value value t header rela ≡ Ok v → named_value value t header rela' ≡ Ok v
+  unfolding named_value
+  named_again value again h = subst (λ (symbol : ℕ). named_by value rela' (symbol == 0) symbol ≡ Ok v) named (by_zero _ _ h)
+    where
+      by_zero : (zero : Bool) (symbol : ℕ) → named_by value rela zero symbol ≡ Ok v → named_by value rela' zero symbol ≡ Ok v
+      by_zero true symbol h = h
+      by_zero false symbol h = again _ _ h
+
+  taken_again : (takes : Bool) → takes_linkage formula ≡ takes → taken_value formula t header rela ≡ Ok v → taken_value formula' t header rela' ≡ Ok v
+  taken_again true k h = taken_is t header rela' formula' true (sym linkage ∙ k) ∙ named_again linkage_value (λ strings at. linkage_again rela rela' v t.file strings t.layout at) (sym (taken_is t header rela formula true k) ∙ h)
+  taken_again false k h = taken_is t header rela' formula' false (sym linkage ∙ k) ∙ named_again symbol_value (λ strings at. value_again rela rela' v t.file strings t.layout at) (sym (taken_is t header rela formula false k) ∙ h)
+
+  checks_again : first_refusal (symbol_checks t.file header rela) ≡ None → first_refusal (symbol_checks t.file header rela') ≡ None
+  checks_again h = subst (λ (symbol : ℕ). first_refusal (symbol_checks_of t.file header rela' symbol) ≡ None) named (pass _ _ h)
+    where
+      pass : (a b : Bool) → first_refusal (refuse a rela BadLink ∷ refuse b rela SymbolIndex ∷ []) ≡ None → first_refusal (refuse a rela' BadLink ∷ refuse b rela' SymbolIndex ∷ []) ≡ None
+      pass false false h = h
+      pass false true h = cc
+      pass true b h = cc
+
+  term_by : (first : Option Refusal) → first_refusal (symbol_checks t.file header rela) ≡ first → term_of formula t header rela ≡ Ok v → term_of formula' t header rela' ≡ Ok v
+  term_by None f h = term_is t header rela' formula' None (checks_again f) ∙ taken_again _ refl (sym (term_is t header rela formula None f) ∙ h)
+  term_by (Some refusal) f h = let g = sym (term_is t header rela formula (Some refusal) f) ∙ h in cc
+
+  pub term_again : term_of formula t header rela ≡ Ok v → term_of formula' t header rela' ≡ Ok v
+  term_again = term_by _ refl
 
 -- P
 module _ (t : Target) (rela : ℕ) (formula : Formula) where

@@ -5,6 +5,7 @@ use Rattle.elf_model.specs.Numbers.{SHN_UNDEF, SHN_LORESERVE, SHN_ABS, SHN_COMMO
 use Rattle.elf_model.specs.Records.{st_name, st_shndx, st_value}
 use Rattle.elf_model.specs.Placing.{Layout, address_in, address_named, symbol_value, linkage_value, undefined_value, placed_at, named_or, refusal_at}
 use Rattle.elf_model.specs.declared.causes.Cause.{Cause}
+use Rattle.elf_model.specs.declared.causes.Cause.TheVariants.{Undefined}
 use Rattle.elf_model.specs.declared.causes.Refusal.{Refusal}
 use Rattle.elf_source.specs.Source.{Counting}
 use Rattle.elf_headers.specs.Faults.{IsOfCheck, Says}
@@ -117,3 +118,40 @@ module _ (file strings : List ℕ) (layout : Layout) (rela at name : ℕ) (named
 
   pub linkage_fault : (fault : Fault) → ValueOrCause {X = Option ℕ} at (Err fault) (address_named strings name layout.linkage) → ValueOrRefusal {X = ℕ} (Err fault) (linkage_value file strings layout rela at)
   linkage_fault fault h = tells_as (Err fault) _ _ (linkage_by _ refl) (named_fault_or fault at (address_named strings name layout.linkage) (symbol_value file strings layout rela at) h)
+
+-- a value that is there for one entry is there for each that names the symbol
+module _ (rela rela' value : ℕ) where
+  placed_again : (address : Option ℕ) (offset : ℕ) → placed_at rela address offset ≡ Ok value → placed_at rela' address offset ≡ Ok value
+  placed_again (Some address) offset h = h
+  placed_again None offset h = cc
+
+  named_again :
+      (at : ℕ) (answer : Result (Option ℕ) Cause) (a b : Result ℕ Refusal) → (a ≡ Ok value → b ≡ Ok value)
+      → named_or at answer a ≡ Ok value → named_or at answer b ≡ Ok value
+  named_again at (Ok (Some address)) a b same h = h
+  named_again at (Ok None) a b same h = same h
+  named_again at (Err cause) a b same h = cc
+
+  module _ (file strings : List ℕ) (layout : Layout) (at : ℕ) where
+    undefined_again : undefined_value file rela at ≡ Ok value → undefined_value file rela' at ≡ Ok value
+    undefined_again = by_weak _
+      where
+        by_weak : (weak : Bool) → (if weak then Ok 0 else refusal_at {A = ℕ} rela Undefined) ≡ Ok value → (if weak then Ok 0 else refusal_at {A = ℕ} rela' Undefined) ≡ Ok value
+        by_weak true h = h
+        by_weak false h = cc
+
+    pub value_again : symbol_value file strings layout rela at ≡ Ok value → symbol_value file strings layout rela' at ≡ Ok value
+    unfolding symbol_value
+    value_again = by_place _ _ _
+      where
+        by_place :
+            (absolute defined : Bool) (address : Option ℕ)
+            → (if absolute then Ok (st_value file at) else if defined then named_or at (address_named strings (st_name file at) layout.definitions) (undefined_value file rela at) else placed_at rela address (st_value file at)) ≡ Ok value
+            → (if absolute then Ok (st_value file at) else if defined then named_or at (address_named strings (st_name file at) layout.definitions) (undefined_value file rela' at) else placed_at rela' address (st_value file at)) ≡ Ok value
+        by_place true defined address h = h
+        by_place false true address h = named_again at _ _ _ undefined_again h
+        by_place false false address h = placed_again address _ h
+
+    pub linkage_again : linkage_value file strings layout rela at ≡ Ok value → linkage_value file strings layout rela' at ≡ Ok value
+    unfolding linkage_value
+    linkage_again = named_again at _ _ _ value_again

@@ -8,7 +8,7 @@ use Rattle.elf_model.specs.Tables.{entry_at, entry_count, relocation_table_check
 use Rattle.elf_model.specs.declared.causes.Refusal.{Refusal}
 use Rattle.elf_table.specs.Cursors.{Reading, GivesRow, unread_bytes, unless_failed}
 use Rattle.elf_headers.specs.Store.{row}
-use Rattle.elf_table.specs.Relocations.{RefersTo, Relocates}
+use Rattle.elf_table.specs.Relocations.{Relocates}
 use Rattle.elf_table.specs.Sections.{table_of}
 use Rattle.elf_table.specs.Tables.{Rows, RowsWithin}
 use Rattle.elf_apply.proofs.Opened.{entries_counted}
@@ -17,7 +17,7 @@ use Rattle.elf_source.proofs.ReadsLaws.{Reads-to}
 use Rattle.elf_headers.specs.Load.{section_place}
 use Rattle.elf_headers.specs.declared.fault.Fault.{Fault}
 use Rattle.elf_headers.specs.declared.fault.Fault.TheVariants.{Refused, Source}
-use Rattle.elf_apply.specs.Entries.{target_as, patch_as, Changes}
+use Rattle.elf_apply.specs.Entries.{target_as, patch_as, Changes, Refers}
 use Rattle.elf_apply.specs.Walk.{changes_from, rows_changes, changes_left, changes_all, beside_entry_cost, entry_count_in, entries_from, sections_of, walk_left, walk_all, steps_left, Walked, ReadsEntries, AsksOf}
 use Rattle.elf_apply.specs.declared.entry.Placed.{Placed}
 use Rattle.elf_apply.specs.declared.entry.Target.{Target as TargetCode}
@@ -220,8 +220,8 @@ steps-row target old new less same =
     omega (arith, product, less)
 
 -- what the walk holds refers to the symbols of its section
-refers_here : (file : List ℕ) (new : Entries) (section : ℕ) → new.current ≡ section → RefersTo file (section_at file section) new.linked → RefersTo file (section_at file new.current) new.linked
-refers_here file new section here h = let P : ℕ → Type 0 = λ k. RefersTo file (section_at file k) new.linked in subst P (sym here) h
+refers_here : (file : List ℕ) (target : TargetCode) (new : Entries) (section : ℕ) → new.current ≡ section → Refers file target (section_at file section) new.symbols → Refers file target (section_at file new.current) new.symbols
+refers_here file target new section here h = let P : ℕ → Type 0 = λ k. Refers file target (section_at file k) new.symbols in subst P (sym here) h
 
 -- a section was opened, or refused
 pub opened-fault : (file : List ℕ) (target : TargetCode) (old new : Entries) (fault : Fault) → old.cursor.left ≡ 0 → old.next < sections_of target → applies_to file target.section (section_at file old.next) ≡ true
@@ -232,12 +232,12 @@ opened-fault file target old new (Source fault at) none below applies h = absurd
 
 pub opened-rows : (file : List ℕ) (target : TargetCode) (old new : Entries) (table : Rows) → new.cursor.table ≡ table → new.cursor.index ≡ 0 → new.cursor.left ≡ table.count → new.cursor.held ≡ [] → new.next ≡ old.next + 1 → new.current ≡ old.next
     → old.cursor.left ≡ 0 → old.next < sections_of target → applies_to file target.section (section_at file old.next) ≡ true
-    → Relocates file (section_at file old.next) (Ok (table, new.linked)) → (changes_left file target old ≡ changes_left file target new) × ReadsEntries file new
-opened-rows file target old new table same first counted held step here none below applies h = (
+    → Relocates file (section_at file old.next) (Ok (table, new.symbols.linked)) → new.symbols.last ≡ None → (changes_left file target old ≡ changes_left file target new) × ReadsEntries file target new
+opened-rows file target old new table same first counted held step here none below applies h fresh = (
   left-opened file target old new none step here first (counted ∙ h.counted) below (section_rows file target (section_at file old.next) applies h.pass),
   record {
     agrees = rw held refl;
-    links = λ some. refers_here file new old.next here (h.refers (omega (arith, some, counted)));
+    links = λ some. refers_here file target new old.next here (record { linked = h.refers (omega (arith, some, counted)); last = rw fresh tt });
     placed = λ some. ap (λ (t : Rows). t.at) same ∙ (h.placed ∙ ap (λ k. sh_offset file (section_at file k)) (sym here));
   },
 )
@@ -291,15 +291,16 @@ module _ (file : List ℕ) (target : TargetCode) (old new : Entries) (at : ℕ) 
       (changes_left file target new, left-row file target old new at next here index less place ∙ ap (λ l. l ++ changes_left file target new) (h other))
   row-fails (Source fault offset) after h = tt
 
-pub reads-row : (file : List ℕ) (holds : Option (List ℕ)) (old new : Entries) → GivesRow holds old.cursor new.cursor → holds ≡ Some file → new.linked ≡ old.linked → new.current ≡ old.current → ReadsEntries file old → ReadsEntries file new
-reads-row file holds old new gives held linked here reads = record {
+pub reads-row : (file : List ℕ) (target : TargetCode) (holds : Option (List ℕ)) (old new : Entries) → GivesRow holds old.cursor new.cursor → holds ≡ Some file → new.current ≡ old.current → ReadsEntries file target old
+    → Refers file target (section_at file old.current) new.symbols → ReadsEntries file target new
+reads-row file target holds old new gives held here reads refers = record {
   agrees = gives.agrees file held reads.agrees;
-  links = λ some. refers_here file new old.current here (subst (RefersTo file (section_at file old.current)) (sym linked) (reads.links (omega (arith, some, gives.one_less))));
+  links = λ some. refers_here file target new old.current here refers;
   placed = λ some. ap (λ (t : Rows). t.at) gives.same_table ∙ (reads.placed (omega (arith, some, gives.one_less)) ∙ ap (λ k. sh_offset file (section_at file k)) (sym here));
 }
 
 pub same-walked : (file : List ℕ) (target : TargetCode) (old new : Entries) (cursor : Reading) (result : Result Step Fault) → cursor ≡ old.cursor
-    → (let now : Entries = record { cursor = cursor; linked = old.linked; current = old.current; next = old.next; count = old.count } in ReadsEntries file now → Walked file target now new result) → ReadsEntries file old → Walked file target old new result
+    → (let now : Entries = record { cursor = cursor; symbols = old.symbols; current = old.current; next = old.next; count = old.count } in ReadsEntries file target now → Walked file target now new result) → ReadsEntries file target old → Walked file target old new result
 same-walked file target old new cursor result same walked reads =
-    let P : Reading → Type 0 = λ c. (let now : Entries = record { cursor = c; linked = old.linked; current = old.current; next = old.next; count = old.count } in ReadsEntries file now → Walked file target now new result) in
+    let P : Reading → Type 0 = λ c. (let now : Entries = record { cursor = c; symbols = old.symbols; current = old.current; next = old.next; count = old.count } in ReadsEntries file target now → Walked file target now new result) in
     subst P same walked (record { agrees = reads.agrees; links = reads.links; placed = reads.placed })

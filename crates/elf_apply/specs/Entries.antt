@@ -1,16 +1,20 @@
 -- What a relocation entry stores, as the code has it, in the words of the definitions.
-use Rattle.std.specs.Prelude.{ℕ, ◌≡◌, ◌+◌, ◌≤◌, true, false, List, [], ◌∷◌, length, Option, None, Some, Result, Ok, Err}
+use Rattle.std.specs.Prelude.{ℕ, ◌≡◌, ◌+◌, ◌≤◌, IfSome, true, false, List, [], ◌∷◌, length, Option, None, Some, Result, Ok, Err}
 use Rattle.elf_model.specs.Budget.{IsBudget}
 use Rattle.elf_model.specs.Apply.{Target, Patch, Change, Put, Fails, named_value, symbol_checks}
 use Rattle.elf_model.specs.Checks.{first_refusal}
 use Rattle.elf_model.specs.Placing.{symbol_value, linkage_value, place_value}
+use Rattle.elf_model.specs.Records.{r_sym}
 use Rattle.elf_model.specs.Values.{Formula, takes_linkage, takes_place}
 use Rattle.elf_model.specs.declared.causes.Cause.{Cause}
 use Rattle.elf_model.specs.declared.causes.Refusal.{Refusal}
 use Rattle.elf_reloc.specs.Types.{patched_bytes}
 use Rattle.elf_headers.specs.declared.fault.Fault.{Fault}
 use Rattle.elf_headers.specs.declared.fault.Fault.TheVariants.{Refused, Source}
+use Rattle.elf_table.specs.Relocations.{RefersTo}
 use Rattle.elf_apply.specs.declared.entry.Placed.{Placed}
+use Rattle.elf_apply.specs.declared.entry.Symbols.{Symbols}
+use Rattle.elf_apply.specs.declared.entry.Taken.{Taken}
 use Rattle.elf_apply.specs.declared.entry.Target.{Target as TargetCode}
 
 -- what relocations are applied to
@@ -66,3 +70,14 @@ taken_place formula target rela =
       | true ↦ place_value target.file target.layout target.section rela
       | false ↦ Ok 0
     ]
+
+-- what an entry took of a symbol is what each entry takes that names it so
+abbrev pub IsTaken : List ℕ → TargetCode → ℕ → Taken → Type 0
+IsTaken file target header taken =
+    (formula : Formula) (rela : ℕ) → taken.linkage ≡ takes_linkage formula → taken.symbol ≡ r_sym file rela
+    → term_of formula (target_as file target) header rela ≡ Ok taken.value
+
+-- the symbols that the entries of the section with this header refer to, and what the last of them took
+pub record Refers (file : List ℕ) (target : TargetCode) (header : ℕ) (symbols : Symbols) : Type 0 where
+  pub linked : RefersTo file header symbols.linked
+  pub last : IfSome symbols.last (IsTaken file target header)

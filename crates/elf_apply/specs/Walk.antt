@@ -10,12 +10,11 @@ use Rattle.elf_model.specs.Tables.{RELA_SIZE, entry_at, entry_count}
 use Rattle.elf_source.specs.Source.{Counting, Reads}
 use Rattle.elf_table.specs.Cursors.{HoldsRows, unread_bytes, unless_failed}
 use Rattle.elf_headers.specs.Load.{IsOpen, section_place}
-use Rattle.elf_table.specs.Relocations.{RefersTo}
 use Rattle.elf_headers.specs.Store.{row}
 use Rattle.elf_table.specs.Tables.{RowsWithin, SymbolsWithin}
 use Rattle.elf_headers.specs.declared.fault.Fault.{Fault}
 use Rattle.elf_headers.specs.declared.fault.Fault.TheVariants.{Refused, Source}
-use Rattle.elf_apply.specs.Entries.{target_as, patch_as, IsPlacedInside}
+use Rattle.elf_apply.specs.Entries.{target_as, patch_as, IsPlacedInside, Refers}
 use Rattle.elf_apply.specs.declared.entry.Placed.{Placed}
 use Rattle.elf_apply.specs.declared.entry.Target.{Target as TargetCode}
 use Rattle.elf_apply.specs.declared.walk.Entries.{Entries}
@@ -90,14 +89,14 @@ pub record Goes (size : ℕ) (target : TargetCode) (e : Entries) : Type 0 where
   pub not_failed : e.cursor.failed ≡ None
   pub entry : e.cursor.table.entry ≡ 24
   pub within : RowsWithin size e.cursor.table
-  pub linked : IfSome e.linked (SymbolsWithin size)
+  pub linked : IfSome e.symbols.linked (SymbolsWithin size)
   pub next : e.next ≤ sections_of target
   pub few : e.count ≤ e.next * 2 ^ 64
 
 -- the rows that are left are the file's
-pub record ReadsEntries (file : List ℕ) (e : Entries) : Type 0 where
+pub record ReadsEntries (file : List ℕ) (target : TargetCode) (e : Entries) : Type 0 where
   pub agrees : HoldsRows file e.cursor
-  pub links : 0 < e.cursor.left → RefersTo file (section_at file e.current) e.linked
+  pub links : 0 < e.cursor.left → Refers file target (section_at file e.current) e.symbols
   pub placed : 0 < e.cursor.left → e.cursor.table.at ≡ sh_offset file (section_at file e.current)
 
 -- entries are counted where their section is opened
@@ -106,15 +105,15 @@ CountsEntries target old new = new.count + entries_from target new.next ≡ old.
 
 -- a step of the walk; a refusal for want of budget says nothing of the entries
 abbrev pub Walked : List ℕ → TargetCode → Entries → Entries → Result Step Fault → Type 0
-Walked file target old new (Ok (Stores placed)) = (changes_left file target old ≡ Put (patch_as placed) ∷ changes_left file target new) × ReadsEntries file new
-Walked file target old new (Ok Nothing) = (changes_left file target old ≡ changes_left file target new) × ReadsEntries file new
+Walked file target old new (Ok (Stores placed)) = (changes_left file target old ≡ Put (patch_as placed) ∷ changes_left file target new) × ReadsEntries file target new
+Walked file target old new (Ok Nothing) = (changes_left file target old ≡ changes_left file target new) × ReadsEntries file target new
 Walked file target old new (Ok End) = changes_left file target old ≡ []
 Walked file target old new (Err (Refused refusal)) = (IsBudget refusal → ⊥) → (rest : List Change) × (changes_left file target old ≡ Fails refusal ∷ rest)
 Walked file target old new (Err (Source fault at)) = Unit {0}
 
 -- the next entry that stores bytes; a refusal for want of budget says nothing of the entries
 abbrev pub FindsEntry : List ℕ → TargetCode → Entries → Entries → Result (Option Placed) Fault → Type 0
-FindsEntry file target old new (Ok (Some placed)) = (changes_left file target old ≡ Put (patch_as placed) ∷ changes_left file target new) × ReadsEntries file new
+FindsEntry file target old new (Ok (Some placed)) = (changes_left file target old ≡ Put (patch_as placed) ∷ changes_left file target new) × ReadsEntries file target new
 FindsEntry file target old new (Ok None) = changes_left file target old ≡ []
 FindsEntry file target old new (Err (Refused refusal)) = (IsBudget refusal → ⊥) → (rest : List Change) × (changes_left file target old ≡ Fails refusal ∷ rest)
 FindsEntry file target old new (Err (Source fault at)) = Unit {0}
@@ -148,5 +147,5 @@ pub record BeginsWalk (e : Entries) : Type 0 where
   pub begins : (size : ℕ) (target : TargetCode) → Goes size target e
   pub left : (target : TargetCode) → walk_left target e ≡ walk_all target
   pub none : (target : TargetCode) → e.count + entries_from target e.next ≡ entries_from target 0
-  pub reads : (file : List ℕ) → ReadsEntries file e
+  pub reads : (file : List ℕ) (target : TargetCode) → ReadsEntries file target e
   pub changes : (file : List ℕ) (target : TargetCode) → changes_left file target e ≡ changes_all file target

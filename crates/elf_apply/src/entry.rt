@@ -11,7 +11,7 @@ ghost use Rattle.elf_headers.specs.Faults.{Says};
 ghost use Rattle.elf_table.specs.Relocations.{RefersTo};
 ghost use Rattle.elf_table.specs.Tables.{SymbolsWithin};
 ghost use Rattle.elf_apply.specs.Costs.{ValueOrRefusal};
-ghost use Rattle.elf_apply.specs.Entries.{Changes, Does, IsPlacedInside, target_as};
+ghost use Rattle.elf_apply.specs.Entries.{Changes, Does, IsPlacedInside, Refers, target_as};
 ghost use Rattle.elf_apply.specs.Entries.{taken_place, term_of, value_or};
 
 use crate::lookup::{Symbol, linkage_value, refused, symbol_value};
@@ -24,6 +24,22 @@ use elf_table::{Fault, File, Names, Table};
 
 /// Symbols with the string table of their names.
 pub(crate) type Linked = Option<(Table, Names)>;
+
+/// The value that an entry took of a symbol: L where `linkage` says so, else S.
+#[derive(Clone, Copy)]
+pub(crate) struct Taken {
+    pub(crate) symbol: u32,
+    pub(crate) linkage: bool,
+    pub(crate) value: u64,
+}
+
+/// The symbols that the entries of a section refer to, and the value that the last of them took.
+/// An entry that takes the same reads nothing for it.
+#[derive(Clone, Copy)]
+pub(crate) struct Symbols {
+    pub(crate) linked: Linked,
+    pub(crate) last: Option<Taken>,
+}
 
 /// What relocations are applied to: a section of a loaded file, of which it holds `size` bytes,
 /// with the addresses that are given.
@@ -51,16 +67,20 @@ pub(crate) fn entry_change<S: Source>(
     target: &Target<'_>,
     entry: &Rela,
     at: u64,
-    linked: Linked,
+    symbols: &mut Symbols,
 ) -> Result<Option<Placed>, Fault>
-    requires within { IfSome linked (SymbolsWithin src.old.seen.size) }
+    requires within { IfSome symbols.old.linked (SymbolsWithin src.old.seen.size) }
+    ensures same { symbols.new.linked ≡ symbols.old.linked }
     ensures reads { Reads src.old src.new (24 + layout_names_cost target.now.layout.now) }
     ensures says { IfErr result
         (Says src.old src.new (24 + layout_names_cost target.now.layout.now)) }
     ensures inside { IfOk result (λ found. IfSome found (IsPlacedInside target.now.size)) }
     ensures change { (file : List ℕ) (header : ℕ) → src.old.seen.file ≡ Some file →
-        RefersTo file header linked → IsRela file at entry.now →
+        Refers file target.now header symbols.old → IsRela file at entry.now →
         Changes result (entry_changes (target_as file target.now) header at) }
+    ensures refers { (file : List ℕ) (header : ℕ) → src.old.seen.file ≡ Some file →
+        Refers file target.now header symbols.old → IsRela file at entry.now →
+        Refers file target.now header symbols.new }
 {
     let kind = entry.kind();
     if kind == R_X86_64_NONE {
@@ -69,7 +89,7 @@ pub(crate) fn entry_change<S: Source>(
     let Some(found) = relocation_type(kind) else {
         return refused(at, Cause::Unsupported);
     };
-    match stored(src, target, entry, at, linked, found) {
+    match stored(src, target, entry, at, symbols, found) {
         Ok(placed) => Ok(Some(placed)),
         Err(fault) => Err(fault),
     }
@@ -81,32 +101,29 @@ fn stored<S: Source>(
     target: &Target<'_>,
     entry: &Rela,
     at: u64,
-    linked: Linked,
+    symbols: &mut Symbols,
     found: RelocationType,
 ) -> Result<Placed, Fault>
-    requires within { IfSome linked (SymbolsWithin src.old.seen.size) }
+    requires within { IfSome symbols.old.linked (SymbolsWithin src.old.seen.size) }
     requires width { IsWidth found.width }
     requires sized { IsSized found.range found.width }
+    ensures same { symbols.new.linked ≡ symbols.old.linked }
     ensures reads { Reads src.old src.new (24 + layout_names_cost target.now.layout.now) }
     ensures says { IfErr result
         (Says src.old src.new (24 + layout_names_cost target.now.layout.now)) }
     ensures inside { IfOk result (IsPlacedInside target.now.size) }
     ensures change { (file : List ℕ) (header : ℕ) → src.old.seen.file ≡ Some file →
-        RefersTo file header linked → IsRela file at entry.now → Does result
+        Refers file target.now header symbols.old → IsRela file at entry.now → Does result
         (change_of (target_as file target.now) header at (Some (type_as found))) }
+    ensures refers { (file : List ℕ) (header : ℕ) → src.old.seen.file ≡ Some file →
+        Refers file target.now header symbols.old → IsRela file at entry.now →
+        Refers file target.now header symbols.new }
 {
     let offset = entry.r_offset;
     if ends_past(offset, found.width, target.size) {
         return refused(at, Cause::PlaceOutside);
     }
-    let value = match named_value(
-        src,
-        target.layout,
-        entry.symbol(),
-        at,
-        linked,
-        found.formula,
-    ) {
+    let value = match taken_value(src, target, entry.symbol(), at, symbols, found.formula) {
         Ok(value) => value,
         Err(fault) => return Err(fault),
     };
@@ -126,28 +143,66 @@ fn ends_past(offset: u64, width: u32, size: u64) -> bool
     u128::from(offset) + u128::from(width) > u128::from(size)
 }
 
+/// S, or L where the formula takes it, of the symbol of an index, which the entry at `at` names:
+/// what the last entry took where that is the same.
+fn taken_value<S: Source>(
+    src: &mut Counted<S>,
+    target: &Target<'_>,
+    symbol: u32,
+    at: u64,
+    symbols: &mut Symbols,
+    formula: Formula,
+) -> Result<u64, Fault>
+    requires within { IfSome symbols.old.linked (SymbolsWithin src.old.seen.size) }
+    ensures same { symbols.new.linked ≡ symbols.old.linked }
+    ensures reads { Reads src.old src.new (24 + layout_names_cost target.now.layout.now) }
+    ensures says { IfErr result
+        (Says src.old src.new (24 + layout_names_cost target.now.layout.now)) }
+    ensures value { (file : List ℕ) (header : ℕ) → src.old.seen.file ≡ Some file →
+        Refers file target.now header symbols.old → symbol ≡ r_sym file at →
+        ValueOrRefusal result
+        (term_of (formula_as formula) (target_as file target.now) header at) }
+    ensures refers { (file : List ℕ) (header : ℕ) → src.old.seen.file ≡ Some file →
+        Refers file target.now header symbols.old → symbol ≡ r_sym file at →
+        Refers file target.now header symbols.new }
+{
+    let linkage = formula.takes_linkage();
+    if let Some(last) = symbols.last {
+        if last.symbol == symbol && last.linkage == linkage {
+            return Ok(last.value);
+        }
+    }
+    match named_value(src, target, symbol, at, symbols.linked, formula) {
+        Ok(value) => {
+            symbols.last = Some(Taken {
+                symbol,
+                linkage,
+                value,
+            });
+            Ok(value)
+        }
+        Err(fault) => Err(fault),
+    }
+}
+
 /// S, or L where the formula takes it, of the symbol of an index, which the entry at `at` names; 0
 /// of symbol 0, and nothing is read.
 fn named_value<S: Source>(
     src: &mut Counted<S>,
-    layout: &Layout,
+    target: &Target<'_>,
     symbol: u32,
     at: u64,
     linked: Linked,
     formula: Formula,
 ) -> Result<u64, Fault>
     requires within { IfSome linked (SymbolsWithin src.old.seen.size) }
-    ensures reads { Reads src.old src.new (24 + layout_names_cost layout.now) }
-    ensures says { IfErr result (Says src.old src.new (24 + layout_names_cost layout.now)) }
+    ensures reads { Reads src.old src.new (24 + layout_names_cost target.now.layout.now) }
+    ensures says { IfErr result
+        (Says src.old src.new (24 + layout_names_cost target.now.layout.now)) }
     ensures unnamed { symbol ≡ 0 → src.new ≡ src.old }
-    ensures value { (file : List ℕ) (section : ℕ) (size : ℕ) (header : ℕ) →
-        src.old.seen.file ≡ Some file → RefersTo file header linked → symbol ≡ r_sym file at →
-        ValueOrRefusal result (term_of (formula_as formula) (record {
-          file = file;
-          section = section;
-          size = size;
-          layout = layout.now;
-        }) header at) }
+    ensures value { (file : List ℕ) (header : ℕ) → src.old.seen.file ≡ Some file →
+        RefersTo file header linked → symbol ≡ r_sym file at → ValueOrRefusal result
+        (term_of (formula_as formula) (target_as file target.now) header at) }
 {
     if symbol == 0 {
         return Ok(0);
@@ -171,9 +226,9 @@ fn named_value<S: Source>(
         at: place,
     };
     if formula.takes_linkage() {
-        linkage_value(src, layout, &named, at)
+        linkage_value(src, target.layout, &named, at)
     } else {
-        symbol_value(src, layout, &named, at)
+        symbol_value(src, target.layout, &named, at)
     }
 }
 

@@ -8,7 +8,7 @@ ghost use Rattle.elf_apply.specs.Walk.{AsksOf, BeginsWalk, CountsEntries, FindsE
 ghost use Rattle.elf_apply.specs.Walk.{FoundInside, Goes, MayWalk, ReadsEntries, StepFewer};
 ghost use Rattle.elf_apply.specs.Walk.{StepInside, Walked, walk_left};
 
-use crate::entry::{Linked, Placed, Target, entry_change};
+use crate::entry::{Placed, Symbols, Target, entry_change};
 use elf_record::numbers::SHT_RELA;
 use elf_record::{Rela, Shdr};
 use elf_source::{Counted, Source};
@@ -19,7 +19,7 @@ use elf_table::{Cursor, Fault, Row, Table};
 #[derive(Drop)]
 pub(crate) struct Entries {
     cursor: Cursor,
-    linked: Linked,
+    symbols: Symbols,
     current: u16,
     next: u16,
     count: u128,
@@ -42,7 +42,10 @@ impl Entries {
     {
         Entries {
             cursor: Cursor::new(Table::new(0, 0, 24)),
-            linked: None,
+            symbols: Symbols {
+                linked: None,
+                last: None,
+            },
             current: 0,
             next: 0,
             count: 0,
@@ -73,7 +76,8 @@ impl Entries {
         ensures counts { IfOk result (λ found. CountsEntries target.now self.old self.new) }
         ensures inside { IfOk result (FoundInside target.now.size) }
         ensures finds { (file : List ℕ) → src.old.seen.file ≡ Some file →
-            ReadsEntries file self.old → FindsEntry file target.now self.old self.new result }
+            ReadsEntries file target.now self.old →
+            FindsEntry file target.now self.old self.new result }
     {
         'steps: loop {
             match self.step(src, target) {
@@ -95,13 +99,15 @@ impl Entries {
         ensures counts { IfOk result (λ step. CountsEntries target.now self.old self.new) }
         ensures inside { IfOk result (StepInside target.now.size) }
         ensures walked { (file : List ℕ) → src.old.seen.file ≡ Some file →
-            ReadsEntries file self.old → Walked file target.now self.old self.new result }
+            ReadsEntries file target.now self.old →
+            Walked file target.now self.old self.new result }
     {
         match self.cursor.advance(src) {
             Ok(true) => {
                 let row = self.cursor.row();
+                let at = row.at;
                 let entry = Rela::decode(whole_row(&row));
-                match entry_change(src, target, &entry, row.at, self.linked) {
+                match entry_change(src, target, &entry, at, &mut self.symbols) {
                     Ok(Some(placed)) => Ok(Step::Stores(placed)),
                     Ok(None) => Ok(Step::Nothing),
                     Err(fault) => Err(fault),
@@ -125,7 +131,8 @@ impl Entries {
         ensures left { walk_left target.now self.new ≤ walk_left target.now self.old }
         ensures walked { (file : List ℕ) →
             Belongs file target.now.file.loaded target.now.file.store.now →
-            ReadsEntries file self.old → Walked file target.now self.old self.new result }
+            ReadsEntries file target.now self.old →
+            Walked file target.now self.old self.new result }
     {
         let section = self.next;
         if section >= target.file.sections() {
@@ -140,7 +147,10 @@ impl Entries {
             Ok(found) => {
                 self.count += u128::from(found.0.len());
                 self.cursor = Cursor::new(found.0);
-                self.linked = found.1;
+                self.symbols = Symbols {
+                    linked: found.1,
+                    last: None,
+                };
                 self.current = section;
                 Ok(Step::Nothing)
             }

@@ -17,20 +17,20 @@ pub returns-in-Err-clause-change : goal.returns-in-Err-clause-change
 returns-in-Err-clause-change g c = λ file header held linked decoded.
     let within = ap (λ n. nat_lt c.args.target.now.size (n + c.args.found.width)) (sym decoded.r_offset) ∙ (sym c.ends_past.ensures ∙ c.if-ends_past.false) in
     does_fault c.in-Err.fault _ _
-    (c.in-Err.ensures.value file c.args.target.now.section c.args.target.now.size header held linked (c.symbol.ensures ∙ ap (λ n. n / 4294967296) decoded.r_info))
+    (c.in-Err.ensures.value file header held linked (c.symbol.ensures ∙ ap (λ n. n / 4294967296) decoded.r_info))
     (λ refusal refused. change_unnamed (target_as file c.args.target.now) header c.args.at (type_as c.args.found) within refusal refused)
 
 pub returns-in_default-clause-change : goal.returns-in_default-clause-change
 returns-in_default-clause-change g c = λ file header held linked decoded.
     let within = ap (λ n. nat_lt c.args.target.now.size (n + c.args.found.width)) (sym decoded.r_offset) ∙ (sym c.ends_past.ensures ∙ c.if-ends_past.false) in
-    let named = c.in-Ok.ensures.value file c.args.target.now.section c.args.target.now.size header held linked (c.symbol.ensures ∙ ap (λ n. n / 4294967296) decoded.r_info) in
+    let named = c.in-Ok.ensures.value file header held linked (c.symbol.ensures ∙ ap (λ n. n / 4294967296) decoded.r_info) in
     does_refused c.refused-in_default.result _ _ _ c.refused-in_default.ensures
     (change_unplaced (target_as file c.args.target.now) header c.args.at (type_as c.args.found) within _ _ named (c.in_default.ensures file c.args.at decoded.r_offset))
 
 pub returns-in-Ok-patch-clause-change : goal.returns-in-Ok-patch-clause-change
 returns-in-Ok-patch-clause-change g c = λ file header held linked decoded.
     let within = ap (λ n. nat_lt c.args.target.now.size (n + c.args.found.width)) (sym decoded.r_offset) ∙ (sym c.ends_past.ensures ∙ c.if-ends_past.false) in
-    let named = c.in-Ok.ensures.value file c.args.target.now.section c.args.target.now.size header held linked (c.symbol.ensures ∙ ap (λ n. n / 4294967296) decoded.r_info) in
+    let named = c.in-Ok.ensures.value file header held linked (c.symbol.ensures ∙ ap (λ n. n / 4294967296) decoded.r_info) in
     let small : SFits w64 c.args.entry.now.r_addend = search rules in
     change_stores (target_as file c.args.target.now) header c.args.at (type_as c.args.found) within _ _ named (c.in-Some.ensures file c.args.at decoded.r_offset) c.args.entry.now.r_offset _ decoded.r_offset
     (ap (λ a. patch_of (type_as c.args.found) (terms c.in-Ok.value c.in-Ok.value a c.in-Some.place)) (sym decoded.r_addend ∙ sym (to_z-of_z small)) ∙ sym c.in-Ok-patch.ensures.value)
@@ -38,7 +38,7 @@ returns-in-Ok-patch-clause-change g c = λ file header held linked decoded.
 pub returns-in-Err-patch-clause-change : goal.returns-in-Err-patch-clause-change
 returns-in-Err-patch-clause-change g c = λ file header held linked decoded.
     let within = ap (λ n. nat_lt c.args.target.now.size (n + c.args.found.width)) (sym decoded.r_offset) ∙ (sym c.ends_past.ensures ∙ c.if-ends_past.false) in
-    let named = c.in-Ok.ensures.value file c.args.target.now.section c.args.target.now.size header held linked (c.symbol.ensures ∙ ap (λ n. n / 4294967296) decoded.r_info) in
+    let named = c.in-Ok.ensures.value file header held linked (c.symbol.ensures ∙ ap (λ n. n / 4294967296) decoded.r_info) in
     let small : SFits w64 c.args.entry.now.r_addend = search rules in
     does_refused c.refused-in-Err-patch.result _ _ _ c.refused-in-Err-patch.ensures
     (change_overflows (target_as file c.args.target.now) header c.args.at (type_as c.args.found) within _ _ named (c.in-Some.ensures file c.args.at decoded.r_offset) _

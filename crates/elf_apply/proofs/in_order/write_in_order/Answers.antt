@@ -23,7 +23,7 @@ entries-init g c = record {
   grows = grows_not _;
   wrote = omega (arith, c.args.out.now.fits, c.new-held.ensures.low);
   still = c.new-entries.ensures.begins _ c.args.target.now;
-  reads = λ file held. c.new-entries.ensures.reads file;
+  reads = λ file held. c.new-entries.ensures.reads file c.args.target.now;
   left = λ file held patches are inside rises.
       let long : length (slice file c.args.at c.args.target.now.size) ≡ c.args.target.now.size = slice-size file c.args.at c.args.target.now.size (let belongs = c.requires.opened.belongs file held in omega (arith, belongs.size, c.requires.opened.size, c.requires.within)) in
       let P : ℕ → Type 0 = λ n. AllInside n patches in

@@ -18,7 +18,7 @@ invariant-entries g l = record {
   grows : Grows l.fn.out l.out;
   wrote : l.out.written ≡ min (l.fn.out.written + l.held.low) (2 ^ 128 - 1);
   still : Goes l.fn.src.seen.size l.target l.entries;
-  reads : (file : List ℕ) → l.fn.src.seen.file ≡ Some file → ReadsEntries file l.entries;
+  reads : (file : List ℕ) → l.fn.src.seen.file ≡ Some file → ReadsEntries file l.target l.entries;
   left : (file : List ℕ) → l.fn.src.seen.file ≡ Some file → (patches : List Patch) → patches_of (changes_all file l.target) ≡ Ok patches → AllInside l.size patches → Rises 0 patches
       → UnderWay (slice file l.at l.size) (patched patches (slice file l.at l.size)) l.held (changes_left file l.target l.entries)
       l.fn.out l.out;

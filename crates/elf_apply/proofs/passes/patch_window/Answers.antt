@@ -16,7 +16,7 @@ entries-init g c = record {
   counts = c.new-entries.ensures.none c.args.target.now;
   asked = omega (arith, c.new-entries.ensures.left c.args.target.now);
   still = c.new-entries.ensures.begins _ c.args.target.now;
-  reads = λ file held. c.new-entries.ensures.reads file;
+  reads = λ file held. c.new-entries.ensures.reads file c.args.target.now;
   left = λ file held. ap (folded (storing c.args.low (length c.args.window.now)) c.args.window.now) (c.new-entries.ensures.changes file c.args.target.now);
 }
 

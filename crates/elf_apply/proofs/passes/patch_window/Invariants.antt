@@ -11,7 +11,7 @@ invariant-entries g l = record {
   counts : l.entries.count + entries_from l.target l.entries.next ≡ entries_from l.target 0;
   asked : l.src.asked + walk_left l.target l.entries ≤ l.fn.src.asked + walk_all l.target;
   still : Goes l.fn.src.seen.size l.target l.entries;
-  reads : (file : List ℕ) → l.fn.src.seen.file ≡ Some file → ReadsEntries file l.entries;
+  reads : (file : List ℕ) → l.fn.src.seen.file ≡ Some file → ReadsEntries file l.target l.entries;
   left : (file : List ℕ) → l.fn.src.seen.file ≡ Some file
       → folded (storing l.low (length l.fn.window)) l.window (changes_left file l.target l.entries) ≡ folded (storing l.low (length l.fn.window)) l.fn.window (changes_all file l.target);
 }

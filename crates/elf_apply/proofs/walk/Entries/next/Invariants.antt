@@ -11,8 +11,8 @@ invariant-steps g l = record {
   still : Goes l.fn.src.seen.size l.target l.self;
   fewer : steps_left l.target l.self ≤ steps_left l.target l.fn.self;
   counts : CountsEntries l.target l.fn.self l.self;
-  reads : (file : List ℕ) → l.fn.src.seen.file ≡ Some file → ReadsEntries file l.fn.self
-      → (changes_left file l.target l.fn.self ≡ changes_left file l.target l.self) × ReadsEntries file l.self;
+  reads : (file : List ℕ) → l.fn.src.seen.file ≡ Some file → ReadsEntries file l.target l.fn.self
+      → (changes_left file l.target l.fn.self ≡ changes_left file l.target l.self) × ReadsEntries file l.target l.self;
 }
 
 abbrev pub decreases-steps : goal.decreases-steps

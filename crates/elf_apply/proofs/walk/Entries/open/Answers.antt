@@ -58,7 +58,7 @@ returns-in-Ok-clause-walked c = λ file belongs reads.
     let stands = c.section-header.ensures.stands file belongs in
     opened-rows file c.args.target.now c.args.self.now _ c.in-Ok.found.0 c.new-self.ensures.table c.new-self.ensures.index c.new-self.ensures.left c.new-self.ensures.held refl refl
     c.requires.none (omega (arith, c.if-section-sections.false, c.sections.ensures)) (sym (c.applies.ensures file (section_at file c.args.self.now.next) stands) ∙ c.if-not-applies.false)
-    (c.in-Ok.ensures.held file belongs)
+    (c.in-Ok.ensures.held file belongs) refl
 
 pub returns-in-Err-clause-left : goal.returns-in-Err-clause-left
 returns-in-Err-clause-left c = cost-passed c.args.target.now c.args.self.now _ refl refl (omega (arith, c.if-section-sections.false, c.sections.ensures))
@@ -66,5 +66,5 @@ returns-in-Err-clause-left c = cost-passed c.args.target.now c.args.self.now _ r
 pub returns-in-Err-clause-walked : goal.returns-in-Err-clause-walked
 returns-in-Err-clause-walked c = λ file belongs reads.
     let stands = c.section-header.ensures.stands file belongs in
-    opened-fault file c.args.target.now c.args.self.now (record { cursor = c.args.self.now.cursor; linked = c.args.self.now.linked; current = c.args.self.now.current; next = c.args.self.now.next + 1; count = c.args.self.now.count }) c.in-Err.fault c.requires.none (omega (arith, c.if-section-sections.false, c.sections.ensures))
+    opened-fault file c.args.target.now c.args.self.now (record { cursor = c.args.self.now.cursor; symbols = c.args.self.now.symbols; current = c.args.self.now.current; next = c.args.self.now.next + 1; count = c.args.self.now.count }) c.in-Err.fault c.requires.none (omega (arith, c.if-section-sections.false, c.sections.ensures))
     (sym (c.applies.ensures file (section_at file c.args.self.now.next) stands) ∙ c.if-not-applies.false) (c.in-Err.ensures.held file belongs)

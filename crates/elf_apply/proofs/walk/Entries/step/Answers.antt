@@ -12,7 +12,7 @@ use Rattle.elf_apply.proofs.walk.Entries.step.Goals as goal
 pub returns-in-Ok-Some-clause-asks : goal.returns-in-Ok-Some-clause-asks
 returns-in-Ok-Some-clause-asks g c =
     let gives = gave _ _ _ _ c.in-Ok-true.field-0-test c.in-Ok-true.ensures.steps in
-    let now : Entries = record { cursor = c.advance.new.self; linked = c.args.self.now.linked; current = c.args.self.now.current; next = c.args.self.now.next; count = c.args.self.now.count } in
+    let now : Entries = record { cursor = c.advance.new.self; symbols = c.entry_change.new.symbols; current = c.args.self.now.current; next = c.args.self.now.next; count = c.args.self.now.count } in
     asks-of c.args.target.now c.args.self.now now (Reads-then c.in-Ok-true.ensures.reads c.entry_change.ensures.reads)
     (cost-row c.args.target.now c.args.self.now now _ _ _ refl gives.not_failed gives.still_not_failed gives.one_less c.in-Ok-true.ensures.account c.entry_change.ensures.reads.at_most)
 
@@ -28,13 +28,13 @@ returns-in-Ok-Some-clause-walked g c = λ file held reads.
     let place : c.row-row.result.at ≡ sh_offset file (section_at file c.args.self.now.current) + c.args.self.now.cursor.index * 24 = row.here ∙ ap (λ n. sh_offset file (section_at file c.args.self.now.current) + n * 24) row.index in
     let change = c.in-Ok-Some.ensures.change file (section_at file c.args.self.now.current) (c.in-Ok-true.ensures.reads.keeps.same_file ∙ held) (reads.links (omega (arith, gives.one_less))) (c.decode-entry.ensures.stands file c.row-row.result.at (c.whole_row.ensures ∙ row.bytes)) in (
       row-stores file c.args.target.now c.args.self.now _ c.row-row.result.at refl refl gives.next_index gives.one_less place c.in-Ok-Some.placed (rw c.in-Ok-Some.field-0-is at change),
-      reads-row file _ c.args.self.now _ gives held refl refl reads,
+      reads-row file c.args.target.now _ c.args.self.now _ gives held refl reads (c.entry_change.ensures.refers file (section_at file c.args.self.now.current) (c.in-Ok-true.ensures.reads.keeps.same_file ∙ held) (reads.links (omega (arith, gives.one_less))) (c.decode-entry.ensures.stands file c.row-row.result.at (c.whole_row.ensures ∙ row.bytes))),
     )
 
 pub returns-in-Ok-None-clause-asks : goal.returns-in-Ok-None-clause-asks
 returns-in-Ok-None-clause-asks g c =
     let gives = gave _ _ _ _ c.in-Ok-true.field-0-test c.in-Ok-true.ensures.steps in
-    let now : Entries = record { cursor = c.advance.new.self; linked = c.args.self.now.linked; current = c.args.self.now.current; next = c.args.self.now.next; count = c.args.self.now.count } in
+    let now : Entries = record { cursor = c.advance.new.self; symbols = c.entry_change.new.symbols; current = c.args.self.now.current; next = c.args.self.now.next; count = c.args.self.now.count } in
     asks-of c.args.target.now c.args.self.now now (Reads-then c.in-Ok-true.ensures.reads c.entry_change.ensures.reads)
     (cost-row c.args.target.now c.args.self.now now _ _ _ refl gives.not_failed gives.still_not_failed gives.one_less c.in-Ok-true.ensures.account c.entry_change.ensures.reads.at_most)
 
@@ -50,20 +50,20 @@ returns-in-Ok-None-clause-walked g c = λ file held reads.
     let place : c.row-row.result.at ≡ sh_offset file (section_at file c.args.self.now.current) + c.args.self.now.cursor.index * 24 = row.here ∙ ap (λ n. sh_offset file (section_at file c.args.self.now.current) + n * 24) row.index in
     let change = c.in-Ok-None.ensures.change file (section_at file c.args.self.now.current) (c.in-Ok-true.ensures.reads.keeps.same_file ∙ held) (reads.links (omega (arith, gives.one_less))) (c.decode-entry.ensures.stands file c.row-row.result.at (c.whole_row.ensures ∙ row.bytes)) in (
       row-nothing file c.args.target.now c.args.self.now _ c.row-row.result.at refl refl gives.next_index gives.one_less place (rw c.in-Ok-None.field-0-is at change),
-      reads-row file _ c.args.self.now _ gives held refl refl reads,
+      reads-row file c.args.target.now _ c.args.self.now _ gives held refl reads (c.entry_change.ensures.refers file (section_at file c.args.self.now.current) (c.in-Ok-true.ensures.reads.keeps.same_file ∙ held) (reads.links (omega (arith, gives.one_less))) (c.decode-entry.ensures.stands file c.row-row.result.at (c.whole_row.ensures ∙ row.bytes))),
     )
 
 pub returns-in-Err-entry_change-clause-asks : goal.returns-in-Err-entry_change-clause-asks
 returns-in-Err-entry_change-clause-asks g c =
     let gives = gave _ _ _ _ c.in-Ok-true.field-0-test c.in-Ok-true.ensures.steps in
-    let now : Entries = record { cursor = c.advance.new.self; linked = c.args.self.now.linked; current = c.args.self.now.current; next = c.args.self.now.next; count = c.args.self.now.count } in
+    let now : Entries = record { cursor = c.advance.new.self; symbols = c.entry_change.new.symbols; current = c.args.self.now.current; next = c.args.self.now.next; count = c.args.self.now.count } in
     asks-of c.args.target.now c.args.self.now now (Reads-then c.in-Ok-true.ensures.reads c.entry_change.ensures.reads)
     (cost-row c.args.target.now c.args.self.now now _ _ _ refl gives.not_failed gives.still_not_failed gives.one_less c.in-Ok-true.ensures.account c.entry_change.ensures.reads.at_most)
 
 pub returns-in-Err-entry_change-clause-says : goal.returns-in-Err-entry_change-clause-says
 returns-in-Err-entry_change-clause-says g c =
     let gives = gave _ _ _ _ c.in-Ok-true.field-0-test c.in-Ok-true.ensures.steps in
-    let now : Entries = record { cursor = c.advance.new.self; linked = c.args.self.now.linked; current = c.args.self.now.current; next = c.args.self.now.next; count = c.args.self.now.count } in
+    let now : Entries = record { cursor = c.advance.new.self; symbols = c.entry_change.new.symbols; current = c.args.self.now.current; next = c.args.self.now.next; count = c.args.self.now.count } in
     let own : ℕ = beside_entry_cost c.args.target.now in
     let cost = cost-row c.args.target.now c.args.self.now now _ _ (c.advance.new.src.asked + own) refl gives.not_failed gives.still_not_failed gives.one_less c.in-Ok-true.ensures.account (omega arith) in
     Says-then c.args.src.now c.advance.new.src c.entry_change.new.src _ own _ c.in-Err-entry_change.fault c.in-Ok-true.ensures.reads (omega (arith, cost)) c.in-Err-entry_change.ensures.says
@@ -74,7 +74,7 @@ returns-in-Err-entry_change-clause-walked g c = λ file held reads.
     let row = given_row _ _ _ c.row-row.result file c.args.self.now.cursor.table 24 (sh_offset file (section_at file c.args.self.now.current)) gives c.row-row.ensures held reads.agrees refl c.requires.goes.entry (reads.placed (omega (arith, gives.one_less))) in
     let place : c.row-row.result.at ≡ sh_offset file (section_at file c.args.self.now.current) + c.args.self.now.cursor.index * 24 = row.here ∙ ap (λ n. sh_offset file (section_at file c.args.self.now.current) + n * 24) row.index in
     let change = c.in-Err-entry_change.ensures.change file (section_at file c.args.self.now.current) (c.in-Ok-true.ensures.reads.keeps.same_file ∙ held) (reads.links (omega (arith, gives.one_less))) (c.decode-entry.ensures.stands file c.row-row.result.at (c.whole_row.ensures ∙ row.bytes)) in
-    let now : Entries = record { cursor = c.advance.new.self; linked = c.args.self.now.linked; current = c.args.self.now.current; next = c.args.self.now.next; count = c.args.self.now.count } in
+    let now : Entries = record { cursor = c.advance.new.self; symbols = c.entry_change.new.symbols; current = c.args.self.now.current; next = c.args.self.now.next; count = c.args.self.now.count } in
     row-fails file c.args.target.now c.args.self.now now c.row-row.result.at refl refl gives.next_index gives.one_less place c.in-Err-entry_change.fault now change
 
 pub returns-in-Ok-false-clause-says : goal.returns-in-Ok-false-clause-says
@@ -87,7 +87,7 @@ returns-in-Ok-false-clause-walked g c = λ file held reads.
 
 pub returns-in-Err-clause-asks : goal.returns-in-Err-clause-asks
 returns-in-Err-clause-asks g c =
-    let now : Entries = record { cursor = c.advance.new.self; linked = c.args.self.now.linked; current = c.args.self.now.current; next = c.args.self.now.next; count = c.args.self.now.count } in
+    let now : Entries = record { cursor = c.advance.new.self; symbols = c.args.self.now.symbols; current = c.args.self.now.current; next = c.args.self.now.next; count = c.args.self.now.count } in
     asks-of c.args.target.now c.args.self.now now c.in-Err.ensures.reads (cost-failed c.args.target.now c.args.self.now now _ _ c.in-Err.fault refl c.in-Err.ensures.steps.failed c.in-Err.ensures.account)
 
 pub returns-in-Err-clause-says : goal.returns-in-Err-clause-says
