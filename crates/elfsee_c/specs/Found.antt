@@ -7,7 +7,7 @@ use Rattle.elf_hash.specs.Lookups.{AnswersLookup}
 use Rattle.elf_hash.specs.declared.lookup.Lookup.TheVariants.{Found as IsThere, Absent}
 use Rattle.elfsee_c.specs.Ends.{TellsCause, TellsNone}
 use Rattle.elfsee_c.specs.Limits.{AreLimits, budget_of, headers_of}
-use Rattle.elfsee_c.specs.Symbols.{HasFields}
+use Rattle.elf_rows.specs.Symbols.{HasFields}
 use Rattle.elfsee_c.specs.Wants.{IsWanting}
 use Rattle.elfsee_c.specs.declared.end.End.{End}
 use Rattle.elfsee_c.specs.declared.found.Found.{Found}

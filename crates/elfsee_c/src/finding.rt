@@ -9,8 +9,8 @@ use crate::counts::short;
 use crate::end::End;
 use crate::found::{Found, Looked};
 use crate::limits::{Limits, limits_of};
-use crate::symbol::Symbol;
 use elf_hash::{Lookup, find};
+use elf_rows::Symbol;
 use elf_source::{Counted, MemorySource};
 use elf_table::{Fault, HeaderStore};
 

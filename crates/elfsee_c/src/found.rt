@@ -2,9 +2,9 @@
 ghost use Rattle.std.specs.Prelude.{◌≡◌};
 ghost use Rattle.elfsee_c.specs.Found.{nothing_behind};
 
-use crate::symbol::Symbol;
 use elf_hash::Lookup;
 use elf_record::Refusal;
+use elf_rows::Symbol;
 
 /// What a lookup found; all 0 where it found nothing, but for the steps.
 #[repr(C)]

@@ -1,16 +1,39 @@
-//! The export that tells where the string table of the section names lies.
+//! The exports that tell where names in string tables lie.
 ghost use Rattle.std.specs.Prelude.{Option, Result, length};
 ghost use Rattle.elf_model.specs.declared.causes.Refusal.{Refusal as IsRefusal};
-ghost use Rattle.elfsee_c.specs.Openings.{IsOpened, OpensNames, ReadsNames};
-ghost use Rattle.elfsee_c.specs.declared.name.Range.{Range as WhatIsFound};
+ghost use Rattle.elf_rows.specs.Names.{FindsName};
+ghost use Rattle.elf_rows.specs.declared.name.Range.{Range as IsRange};
+ghost use Rattle.elfsee_c.specs.Ends.{IsTold};
+ghost use Rattle.elfsee_c.specs.Openings.{IsOpened, OpensNames};
 
 use crate::end::End;
 use crate::limits::{Limits, limits_of};
-use crate::name::Range;
-use crate::opening::{load_file, tell_opened};
-use elf_headers::HeaderStore;
+use crate::opening::tell_opened;
+use crate::tell::tell;
 use elf_record::Refusal;
-use elf_table::File;
+use elf_rows::{Range, find_name, names_in};
+use elf_table::HeaderStore;
+
+/// Finds where the name at an offset in a string table lies, without its NUL. The string table is
+/// the bytes of `strings`, as far as they lie within the file (gABI 4, String Table).
+///
+/// Answers 0 where there is a name, and 1 where there is none, with the cause in `end`:
+/// `NameOutside` where the offset is not below the table's size, `NameUnended` where no NUL is
+/// behind it. The offset that `end` names is that where the name was to begin, at most 2^64 - 1.
+#[unsafe(no_mangle)]
+pub extern "C" fn elfsee_name(
+    file: &[u8],
+    strings: &Range,
+    offset: u64,
+    name: &mut Range,
+    end: &mut End,
+) -> u32
+    ensures { (found : Result (Option IsRange) IsRefusal)
+        × FindsName file.now strings.now offset found
+        × IsTold result name.old name.new end.new found }
+{
+    tell(find_name(file, *strings, offset), name, end)
+}
 
 /// Tells where the string table of the section names lies. The room is for the headers; of the
 /// limits their number is looked at alone (gABI 4, ELF Header).
@@ -26,7 +49,7 @@ pub extern "C" fn elfsee_section_names(
     strings: &mut Range,
     end: &mut End,
 ) -> u32
-    ensures { (opened : Option (Result (Option WhatIsFound) IsRefusal))
+    ensures { (opened : Option (Result (Option IsRange) IsRefusal))
         × OpensNames file.now limits.now (length room.old) opened
         × IsOpened result strings.old strings.new end.new opened }
 {
@@ -44,19 +67,4 @@ fn open_names(
     let limits = limits_of(limits, room.len())?;
     let mut store = HeaderStore::over(room, limits.headers);
     Some(names_in(file, &mut store))
-}
-
-/// Loads the file into the store and tells where they lie.
-fn names_in(file: &[u8], store: &mut HeaderStore) -> Result<Option<Range>, Refusal>
-    ensures { ReadsNames file.now store.old.slots result }
-{
-    let loaded = load_file(file, store)?;
-    let found = File { loaded, store };
-    match found.names() {
-        Some(names) => Ok(Some(Range {
-            at: names.at(),
-            len: names.size(),
-        })),
-        None => Ok(None),
-    }
 }

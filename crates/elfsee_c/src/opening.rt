@@ -1,13 +1,9 @@
-//! What opening a table of a file in memory answers, and the load that stands before it.
-ghost use Rattle.std.specs.Prelude.{◌≡◌, IfOk};
-ghost use Rattle.elfsee_c.specs.Openings.{IsOpened, LoadsFile};
+//! What opening a table of a file in memory answers.
+ghost use Rattle.elfsee_c.specs.Openings.{IsOpened};
 
-use crate::checked::checked_header;
 use crate::end::End;
 use crate::tell::tell;
-use elf_headers::{Fault, HeaderStore, Loaded, load};
-use elf_record::{Cause, Refusal};
-use elf_source::{Counted, MemorySource};
+use elf_record::Refusal;
 
 /// The status of a call with a number outside its range.
 const BAD_CALL: u32 = 4;
@@ -27,30 +23,5 @@ pub(crate) fn tell_opened<T: Copy>(
             end.clear();
             BAD_CALL
         }
-    }
-}
-
-/// Loads the section headers of a file into the store.
-///
-/// # Errors
-/// The first check that fails: of the file header, then those of a load with as many headers
-/// permitted as the store has slots.
-pub(crate) fn load_file(file: &[u8], store: &mut HeaderStore) -> Result<Loaded, Refusal>
-    ensures loads { LoadsFile file.now result store.new }
-    ensures slots { store.new.slots ≡ store.old.slots }
-    ensures count { IfOk result (λ loaded. store.new.loaded ≡ loaded.header.e_shnum) }
-{
-    let header = checked_header(file)?;
-    let mut src = Counted::new(MemorySource::new(file));
-    let answer = load(&mut src, store, &header);
-    // A source in memory never fails.
-    let _ = src.into_inner();
-    match answer {
-        Ok(loaded) => Ok(loaded),
-        Err(Fault::Refused(refusal)) => Err(refusal),
-        Err(Fault::Source { .. }) => Err(Refusal {
-            at: 0,
-            cause: Cause::Short,
-        }),
     }
 }

@@ -1,9 +1,9 @@
 //! The export that tells how much room a file's headers want.
 ghost use Rattle.std.specs.Prelude.{◌≡◌, ◌*◌, ◌≤◌, ℕ};
 ghost use Rattle.elf_model.specs.Checks.{first_refusal, before_headers};
-ghost use Rattle.elfsee_c.specs.Rooms.{slots_for};
+ghost use Rattle.elf_rows.specs.Rooms.{slots_for};
 
-use crate::checked::checked_header;
+use elf_rows::slots_for;
 
 /// How many bytes of room a header takes.
 const HEADER_BYTES: u64 = 64;
@@ -20,14 +20,4 @@ pub extern "C" fn elfsee_room(file: &[u8], headers: u16) -> u64
         ≡ first_refusal (before_headers file.now headers) }
 {
     HEADER_BYTES * u64::from(slots_for(file, headers))
-}
-
-/// How many slots a file wants where so many headers are permitted.
-fn slots_for(file: &[u8], headers: u16) -> u16
-    ensures { result ≡ slots_for file.now headers }
-{
-    match checked_header(file) {
-        Ok(header) => header.e_shnum.max(header.e_phnum).min(headers).max(1),
-        Err(_) => 1,
-    }
 }

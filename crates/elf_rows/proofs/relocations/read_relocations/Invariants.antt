@@ -1,0 +1,12 @@
+use Rattle.std.proofs.Common.{◌-◌, ◌≡◌, ◌+◌, ◌*◌, ◌<◌, ◌≤◌, ℕ, length, slice_index_or}
+use Rattle.elf_rows.specs.Entries.{IsRelocation}
+use Rattle.elf_rows.specs.declared.relocations.Relocation.{Relocation}
+use Rattle.elf_rows.proofs.relocations.read_relocations.Given as goal
+
+abbrev pub invariant-loop-done : goal.invariant-loop-done
+invariant-loop-done l =
+    (l.done ≤ l.count) × (length l.out ≡ length l.fn.out)
+    × ((k : ℕ) (none : Relocation) → k < l.done → IsRelocation l.file (l.first + 24 * k) (slice_index_or l.out k none))
+
+abbrev pub decreases-loop-done : goal.decreases-loop-done
+decreases-loop-done l = l.count - l.done

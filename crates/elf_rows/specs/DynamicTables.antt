@@ -1,0 +1,21 @@
+-- The dynamic entries of a section of a file in memory.
+use Rattle.std.specs.Prelude.{ℕ, ◌≡◌, ◌<◌, ◌⊎◌, List, Result, Ok, Err}
+use Rattle.elf_model.specs.Dynamic.{dynamic_count}
+use Rattle.elf_headers.specs.declared.fault.Fault.{Fault}
+use Rattle.elf_table.specs.Sections.{string_table_at, strings, table_at}
+use Rattle.elf_table.specs.Tables.{Rows as Table, Strings}
+
+-- the string table of so many dynamic entries is the one that the section with this header links to; none of no entries
+abbrev pub AreNames : List ℕ → ℕ → ℕ → Strings → Type 0
+AreNames file header count names = (0 < count → string_table_at file header ≡ Ok names) × (count ≡ 0 → names ≡ strings 0 0)
+
+-- the table of the section with this header and its string table, whose checks pass, or the first check that fails
+abbrev pub IsDynamicTable : List ℕ → ℕ → Result (Table × Strings) Fault → Type 0
+IsDynamicTable file header (Ok found) = (table_at file header 16 ≡ Ok found.0) × AreNames file header found.0.count found.1
+IsDynamicTable file header (Err fault) =
+    (table_at file header 16 ≡ Err fault)
+    ⊎ ((table : Table) × (table_at file header 16 ≡ Ok table) × (0 < table.count) × (string_table_at file header ≡ Err fault))
+
+-- the entries of a table that are listed
+abbrev pub listed_table : List ℕ → Table → Table
+listed_table file table = record { at = table.at; count = dynamic_count file table.at table.count; entry = table.entry }

@@ -1,0 +1,9 @@
+pub mod Checked
+pub mod DynamicTables
+pub mod Entries
+pub mod Headers
+pub mod Names
+pub mod Openings
+pub mod Rooms
+pub mod Rows
+pub mod Symbols

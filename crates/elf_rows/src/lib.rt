@@ -1,0 +1,36 @@
+//! The rows of an ELF64 file that lies in memory, as a caller keeps them: the headers, the entries of
+//! tables and names, field by field, and places in tables that are plain numbers. No number that a
+//! caller sets is a wrong one: each step tests them.
+#![tactic(auto)]
+
+mod bytes;
+mod checked;
+mod dynamic;
+mod dynamic_table;
+mod header;
+mod kind;
+mod loading;
+mod name;
+mod names;
+mod relocations;
+mod room;
+mod rows;
+mod section;
+mod segment;
+mod symbol;
+mod symbols;
+mod tables;
+
+pub use dynamic::{Dynamic, next_dynamic};
+pub use header::{Header, read_header};
+pub use kind::Kind;
+pub use name::{Range, find_name};
+pub use names::names_in;
+pub use relocations::{Relocation, next_relocations};
+pub use room::slots_for;
+pub use rows::Rows;
+pub use section::{Section, read_section};
+pub use segment::{Segment, read_segment};
+pub use symbol::Symbol;
+pub use symbols::next_symbols;
+pub use tables::rows_in;

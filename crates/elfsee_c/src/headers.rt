@@ -1,0 +1,57 @@
+//! The exports that read the headers of a file in memory.
+ghost use Rattle.std.specs.Prelude.{Option, Result};
+ghost use Rattle.elf_model.specs.declared.causes.Refusal.{Refusal as IsRefusal};
+ghost use Rattle.elf_rows.specs.Headers.{ReadsHeader, ReadsSection, ReadsSegment};
+ghost use Rattle.elf_rows.specs.declared.header.Header.{Header as IsHead};
+ghost use Rattle.elf_rows.specs.declared.section.Section.{Section as IsSection};
+ghost use Rattle.elf_rows.specs.declared.segment.Segment.{Segment as IsSegment};
+ghost use Rattle.elfsee_c.specs.Ends.{IsTold};
+
+use crate::end::End;
+use crate::tell::tell;
+use elf_rows::{Header, Section, Segment, read_header, read_section, read_segment};
+
+/// Reads the file header of a file that lies in memory (gABI 4, ELF Header).
+///
+/// Answers 0 where it was read, and 1 where a check of it fails, with the first that does in `end`.
+#[unsafe(no_mangle)]
+pub extern "C" fn elfsee_header(file: &[u8], header: &mut Header, end: &mut End) -> u32
+    ensures { (read : Result (Option IsHead) IsRefusal) × ReadsHeader file.now read
+        × IsTold result header.old header.new end.new read }
+{
+    tell(read_header(file), header, end)
+}
+
+/// Reads the section header of an index from a file that lies in memory. No other section header is
+/// looked at (gABI 4, Section Header).
+///
+/// Answers 0 where it was read, 2 where the file has none of that index, and 1 where a check fails
+/// that a listing makes before it reads the headers, as many of them permitted as can be; the first
+/// that does is in `end`.
+#[unsafe(no_mangle)]
+pub extern "C" fn elfsee_section(
+    file: &[u8],
+    index: u16,
+    section: &mut Section,
+    end: &mut End,
+) -> u32
+    ensures { (read : Result (Option IsSection) IsRefusal) × ReadsSection file.now index read
+        × IsTold result section.old section.new end.new read }
+{
+    tell(read_section(file, index), section, end)
+}
+
+/// Reads the program header of an index, as [`elfsee_section`] does a section header (gABI 5, Program
+/// Header).
+#[unsafe(no_mangle)]
+pub extern "C" fn elfsee_segment(
+    file: &[u8],
+    index: u16,
+    segment: &mut Segment,
+    end: &mut End,
+) -> u32
+    ensures { (read : Result (Option IsSegment) IsRefusal) × ReadsSegment file.now index read
+        × IsTold result segment.old segment.new end.new read }
+{
+    tell(read_segment(file, index), segment, end)
+}

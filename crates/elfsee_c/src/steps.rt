@@ -1,0 +1,45 @@
+//! The exports that read the next rows of a table of a file in memory.
+ghost use Rattle.std.specs.Prelude.{◌<◌, ℕ, length, slice_index_or};
+ghost use Rattle.elf_rows.specs.Entries.{IsDynamic, IsRelocation};
+ghost use Rattle.elf_rows.specs.Rows.{StepsRows, next_at};
+ghost use Rattle.elf_rows.specs.Symbols.{IsSymbol};
+ghost use Rattle.elf_rows.specs.declared.dynamic.Dynamic.{Dynamic as OneDynamic};
+ghost use Rattle.elf_rows.specs.declared.relocations.Relocation.{Relocation as OneRelocation};
+ghost use Rattle.elf_rows.specs.declared.symbol.Symbol.{Symbol as OneSymbol};
+
+use elf_rows::{Dynamic, Relocation, Rows, Symbol, next_dynamic, next_relocations, next_symbols};
+
+/// Reads the next symbols to the front of `out`, as many as there are and as it has room for, steps
+/// over them, and answers how many (gABI 4, Symbol Table).
+#[unsafe(no_mangle)]
+pub extern "C" fn elfsee_next_symbols(file: &[u8], rows: &mut Rows, out: &mut [Symbol]) -> usize
+    ensures steps { StepsRows (length file.now) 24 rows.old rows.new (length out.old) result }
+    ensures read { (k : ℕ) (none : OneSymbol) → k < result →
+        IsSymbol file.now (next_at rows.old 24 k) (slice_index_or out.new k none) }
+{
+    next_symbols(file, rows, out)
+}
+
+/// Reads the next relocation entries, as [`elfsee_next_symbols`] does symbols (gABI 4, Relocation).
+#[unsafe(no_mangle)]
+pub extern "C" fn elfsee_next_relocations(
+    file: &[u8],
+    rows: &mut Rows,
+    out: &mut [Relocation],
+) -> usize
+    ensures steps { StepsRows (length file.now) 24 rows.old rows.new (length out.old) result }
+    ensures read { (k : ℕ) (none : OneRelocation) → k < result →
+        IsRelocation file.now (next_at rows.old 24 k) (slice_index_or out.new k none) }
+{
+    next_relocations(file, rows, out)
+}
+
+/// Reads the next dynamic entries, as [`elfsee_next_symbols`] does symbols (gABI 5, Dynamic Section).
+#[unsafe(no_mangle)]
+pub extern "C" fn elfsee_next_dynamic(file: &[u8], rows: &mut Rows, out: &mut [Dynamic]) -> usize
+    ensures steps { StepsRows (length file.now) 16 rows.old rows.new (length out.old) result }
+    ensures read { (k : ℕ) (none : OneDynamic) → k < result →
+        IsDynamic file.now (next_at rows.old 16 k) (slice_index_or out.new k none) }
+{
+    next_dynamic(file, rows, out)
+}

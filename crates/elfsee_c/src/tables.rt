@@ -1,0 +1,100 @@
+//! The exports that open the rows of a section of a file in memory.
+ghost use Rattle.std.specs.Prelude.{Option, Result, length};
+ghost use Rattle.elf_model.specs.declared.causes.Refusal.{Refusal as IsRefusal};
+ghost use Rattle.elf_rows.specs.declared.kind.Kind.TheVariants.{Symbols, Relocations, Dynamic};
+ghost use Rattle.elf_rows.specs.declared.rows.Rows.{Rows as IsPlace};
+ghost use Rattle.elfsee_c.specs.Openings.{IsOpened, OpensRows};
+
+use crate::end::End;
+use crate::limits::{Limits, limits_of};
+use crate::opening::tell_opened;
+use elf_record::Refusal;
+use elf_rows::{Kind, Rows, rows_in};
+use elf_table::HeaderStore;
+
+/// Checks the table of symbols that a section of a file is, and sets `rows` before its first. The
+/// room is for the headers; of the limits their number is looked at alone (gABI 4, Symbol Table).
+///
+/// Answers 0 where the checks pass, 2 where the file has no such section or it holds no symbols, 1
+/// where a check fails that a listing makes up to the table's first row, with the first that does
+/// in `end`, and 4 for limits outside their range or room of less than 64 bytes.
+#[unsafe(no_mangle)]
+pub extern "C" fn elfsee_symbols(
+    file: &[u8],
+    limits: &Limits,
+    section: u16,
+    room: &mut [u8],
+    rows: &mut Rows,
+    end: &mut End,
+) -> u32
+    ensures { (opened : Option (Result (Option IsPlace) IsRefusal))
+        × OpensRows Symbols file.now limits.now (length room.old) section opened
+        × IsOpened result rows.old rows.new end.new opened }
+{
+    tell_opened(
+        open_rows(file, limits, section, room, Kind::Symbols),
+        rows,
+        end,
+    )
+}
+
+/// Checks the table of relocation entries that a section of a file is, as [`elfsee_symbols`] does
+/// symbols; its type is RELA. The string table with it is that of the symbols that the section refers
+/// to (gABI 4, Relocation).
+#[unsafe(no_mangle)]
+pub extern "C" fn elfsee_relocations(
+    file: &[u8],
+    limits: &Limits,
+    section: u16,
+    room: &mut [u8],
+    rows: &mut Rows,
+    end: &mut End,
+) -> u32
+    ensures { (opened : Option (Result (Option IsPlace) IsRefusal))
+        × OpensRows Relocations file.now limits.now (length room.old) section opened
+        × IsOpened result rows.old rows.new end.new opened }
+{
+    tell_opened(
+        open_rows(file, limits, section, room, Kind::Relocations),
+        rows,
+        end,
+    )
+}
+
+/// Checks the table of dynamic entries that a section of a file is, as [`elfsee_symbols`] does
+/// symbols; its type is DYNAMIC. There are as many entries as up to and with the first DT_NULL, or
+/// all (gABI 5, Dynamic Section).
+#[unsafe(no_mangle)]
+pub extern "C" fn elfsee_dynamic(
+    file: &[u8],
+    limits: &Limits,
+    section: u16,
+    room: &mut [u8],
+    rows: &mut Rows,
+    end: &mut End,
+) -> u32
+    ensures { (opened : Option (Result (Option IsPlace) IsRefusal))
+        × OpensRows Dynamic file.now limits.now (length room.old) section opened
+        × IsOpened result rows.old rows.new end.new opened }
+{
+    tell_opened(
+        open_rows(file, limits, section, room, Kind::Dynamic),
+        rows,
+        end,
+    )
+}
+
+/// Loads the file and checks the table; None for a call with a number outside its range.
+fn open_rows(
+    file: &[u8],
+    limits: &Limits,
+    section: u16,
+    room: &mut [u8],
+    kind: Kind,
+) -> Option<Result<Option<Rows>, Refusal>>
+    ensures { OpensRows kind file.now limits.now (length room.old) section result }
+{
+    let limits = limits_of(limits, room.len())?;
+    let mut store = HeaderStore::over(room, limits.headers);
+    Some(rows_in(file, &mut store, section, kind))
+}
