@@ -16,4 +16,6 @@ pub use buffers::BUFFER_BYTES;
 pub use cursor::NoteCursor;
 pub use dynamic::{DynCursor, dynamic_rows};
 pub use row::NoteRow;
+pub use sizes::{gap_between, padding};
 pub use string_values::{DynStrings, dynamic_strings};
+pub use tail::are_zeros;

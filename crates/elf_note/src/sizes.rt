@@ -13,7 +13,7 @@ fn to_next(align: u64, place: u64) -> u64
 
 /// How many bytes stand between a note's name and its descriptor, for their sizes: none where the
 /// descriptor is empty.
-pub(crate) fn gap_between(align: u64, namesz: u32, descsz: u32) -> u64
+pub fn gap_between(align: u64, namesz: u32, descsz: u32) -> u64
     requires { 0 < align }
     ensures value { result ≡ gap_between align namesz descsz }
     ensures less { result < align }
@@ -26,7 +26,7 @@ pub(crate) fn gap_between(align: u64, namesz: u32, descsz: u32) -> u64
 
 /// How many bytes stand behind a note of `size` bytes in its table, of which `left` bytes are left
 /// behind the note: those up to the next multiple of the alignment, or fewer at the table's end.
-pub(crate) fn padding(align: u64, size: u64, left: u64) -> u64
+pub fn padding(align: u64, size: u64, left: u64) -> u64
     requires { 0 < align }
     ensures { result ≡ min (to_next align size) left }
 {

@@ -33,8 +33,8 @@ pub(crate) fn ends_in_zeros<S: Source>(
     Ok(zeros)
 }
 
-// Whether all bytes are zero.
-fn are_zeros(bytes: &[u8]) -> bool
+/// Whether all bytes are zero.
+pub fn are_zeros(bytes: &[u8]) -> bool
     ensures { result ≡ are_zeros bytes.now }
 {
     bytes.iter().all(|byte| *byte == 0)

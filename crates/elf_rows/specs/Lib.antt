@@ -3,6 +3,7 @@ pub mod DynamicTables
 pub mod Entries
 pub mod Headers
 pub mod Names
+pub mod NoteRows
 pub mod Openings
 pub mod Rooms
 pub mod Rows

@@ -16,6 +16,7 @@ mod lent_sink;
 mod limits;
 mod listing;
 mod names;
+mod notes;
 mod opening;
 mod room;
 mod show;

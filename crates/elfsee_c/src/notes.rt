@@ -1,0 +1,60 @@
+//! The exports that go over the notes of a file in memory.
+ghost use Rattle.std.specs.Prelude.{Option, Result};
+ghost use Rattle.elf_model.specs.declared.causes.Refusal.{Refusal as IsRefusal};
+ghost use Rattle.elf_rows.specs.NoteRows.{ReadsSectionNotes, ReadsSegmentNotes, StepsNote};
+ghost use Rattle.elf_rows.specs.declared.notes.Note.{Note as IsNote};
+ghost use Rattle.elf_rows.specs.declared.notes.Notes.{Notes as IsPlace};
+ghost use Rattle.elfsee_c.specs.Ends.{IsTold};
+
+use crate::end::End;
+use crate::tell::tell;
+use elf_rows::{Note, Notes, next_note, section_notes, segment_notes};
+
+/// Checks that the notes of a section lie within the file, and sets `notes` before the first. No
+/// other section header is looked at (gABI 5, Note Section).
+///
+/// Answers 0 where they do, 2 where the file has no such section or its type is not NOTE, and 1
+/// where a check fails that a listing makes before it reads the headers, as many of them permitted
+/// as can be, or where the section ends past the end of the file; the first that fails is in `end`.
+#[unsafe(no_mangle)]
+pub extern "C" fn elfsee_notes(file: &[u8], section: u16, notes: &mut Notes, end: &mut End) -> u32
+    ensures { (read : Result (Option IsPlace) IsRefusal)
+        × ReadsSectionNotes file.now section read
+        × IsTold result notes.old notes.new end.new read }
+{
+    tell(section_notes(file, section), notes, end)
+}
+
+/// Sets `notes` before the first note of a segment, as [`elfsee_notes`] does for a section (gABI 5,
+/// Note Section).
+#[unsafe(no_mangle)]
+pub extern "C" fn elfsee_segment_notes(
+    file: &[u8],
+    segment: u16,
+    notes: &mut Notes,
+    end: &mut End,
+) -> u32
+    ensures { (read : Result (Option IsPlace) IsRefusal)
+        × ReadsSegmentNotes file.now segment read
+        × IsTold result notes.old notes.new end.new read }
+{
+    tell(segment_notes(file, segment), notes, end)
+}
+
+/// Reads the next note and steps over it (gABI 5, Note Section).
+///
+/// Answers 0 where it was read, 2 behind the last, and 1 where no note stands at the place, with
+/// `NoteCut` and the place in `end`. Where it was not read `notes` is as it was.
+#[unsafe(no_mangle)]
+pub extern "C" fn elfsee_next_note(
+    file: &[u8],
+    notes: &mut Notes,
+    note: &mut Note,
+    end: &mut End,
+) -> u32
+    ensures { (read : Result (Option IsNote) IsRefusal)
+        × StepsNote file.now notes.old notes.new read
+        × IsTold result note.old note.new end.new read }
+{
+    tell(next_note(file, notes), note, end)
+}
