@@ -250,6 +250,36 @@ size_t elfsee_next_relocations(const uint8_t *file, size_t file_len, struct elfs
 size_t elfsee_next_dynamic(const uint8_t *file, size_t file_len, struct elfsee_rows *rows,
                            struct elfsee_dynamic *out, size_t out_len);
 
+/* A place in a table of notes: plain numbers, as those of elfsee_rows. */
+struct elfsee_notes {
+    uint64_t at, left; /* the file offset of the next note; bytes of the table from there on */
+    uint64_t align;    /* of the notes: 8, and by any other number 4 */
+    uint32_t header;   /* the index of the header that tells of the table */
+    uint32_t none;     /* 0 */
+};
+
+/* A note (gABI, Note Section). Its bytes lie in the file: `namesz` of its name from `name_at` on,
+ * with any NUL, and `descsz` of its descriptor from `desc_at` on. */
+struct elfsee_note {
+    uint64_t at, name_at, desc_at;
+    uint32_t namesz, descsz, type;
+    uint32_t header; /* the index of the header that tells of its table */
+};
+
+/* The notes of a section, or of a segment: sets `notes` before the first. OK; ABSENT where there is
+ * none of that index or its type is not NOTE; REFUSED where elfsee_section or elfsee_segment is, and
+ * with ELFSEE_TABLE_OUTSIDE where the notes end past the file. `asked` is 0. */
+uint32_t elfsee_notes(const uint8_t *file, size_t file_len, uint16_t section,
+                      struct elfsee_notes *notes, struct elfsee_end *end);
+uint32_t elfsee_segment_notes(const uint8_t *file, size_t file_len, uint16_t segment,
+                              struct elfsee_notes *notes, struct elfsee_end *end);
+
+/* Reads the next note and steps over it, by at least 12 bytes. OK; ABSENT behind the last; REFUSED
+ * with ELFSEE_NOTE_CUT at `notes->at` where no note stands there. Where it is not OK `notes` is as it
+ * was. A name and a descriptor of an OK lie within the file, whatever the numbers of `notes` were. */
+uint32_t elfsee_next_note(const uint8_t *file, size_t file_len, struct elfsee_notes *notes,
+                          struct elfsee_note *note, struct elfsee_end *end);
+
 /* Where the name at an offset in a string table lies, without its NUL: the table is the `strings`
  * of `rows`, or any range of the file, as far as it lies in the file. In a table of no bytes the
  * name at 0 has none, wherever the table begins. OK; REFUSED with ELFSEE_NAME_OUTSIDE or

@@ -104,6 +104,20 @@ static void rows(void) {
     FIELD(elfsee_rows, entry);
     FIELD(elfsee_rows, strings_at);
     FIELD(elfsee_rows, strings_len);
+    WHOLE(elfsee_notes);
+    FIELD(elfsee_notes, at);
+    FIELD(elfsee_notes, left);
+    FIELD(elfsee_notes, align);
+    FIELD(elfsee_notes, header);
+    FIELD(elfsee_notes, none);
+    WHOLE(elfsee_note);
+    FIELD(elfsee_note, at);
+    FIELD(elfsee_note, name_at);
+    FIELD(elfsee_note, desc_at);
+    FIELD(elfsee_note, namesz);
+    FIELD(elfsee_note, descsz);
+    FIELD(elfsee_note, type);
+    FIELD(elfsee_note, header);
 }
 
 int main(void) {

@@ -512,6 +512,24 @@ static int any_steps(void) {
     return take_back(&lent) && count <= want && all;
 }
 
+/* Notes from any place on: each lies in the file behind the one before, until they end or are cut. */
+static int any_notes(void) {
+    struct elfsee_notes notes = {any(library.len), any(library.len), next() % 10, 7, 7}, old = notes;
+    struct elfsee_note note;
+    struct elfsee_end end;
+    uint32_t status;
+    memset(&note, 7, sizeof note);
+    memset(&end, 7, sizeof end);
+    while ((status = elfsee_next_note(library.bytes, library.len, &notes, &note, &end)) == ELFSEE_OK) {
+        if (note.at != old.at || notes.at < old.at + 12 || notes.left > old.left - 12) return 0;
+        if (note.name_at + note.namesz > library.len || note.desc_at + note.descsz > library.len) return 0;
+        old = notes;
+    }
+    return !memcmp(&old, &notes, sizeof old) &&
+           (status == ELFSEE_ABSENT ||
+            (status == ELFSEE_REFUSED && end.cause == ELFSEE_NOTE_CUT && end.at == notes.at));
+}
+
 static int any_name(void) {
     struct elfsee_range strings = {any(library.len), any(library.len)}, name = {7, 7};
     struct elfsee_end end = ODD;
@@ -689,6 +707,7 @@ int main(int argc, char **argv) {
     sections();
     small_section();
     many("next rows, by any numbers", any_steps, tries);
+    many("notes, by any numbers", any_notes, tries);
     many("names, in any range", any_name, tries);
     many("headers of changed files", any_header, tries);
     many("listings of changed files, with any limits", any_show, tries);

@@ -322,6 +322,49 @@ static int say_dynamic(struct walk *walk, uint16_t section) {
     return 1;
 }
 
+/* The notes of a header that was opened: each with its name up to the first NUL, and the first bytes of its
+ * descriptor. */
+static int say_notes(struct walk *walk, uint32_t status, struct elfsee_notes *notes) {
+    struct elfsee_note note;
+    memset(&note, 7, sizeof note);
+    if (status != ELFSEE_OK) return status == ELFSEE_ABSENT;
+    for (;;) {
+        const uint8_t *bytes = walk->file->bytes;
+        struct elfsee_notes before = *notes;
+        uint64_t i, len;
+        status = elfsee_next_note(bytes, walk->file->len, notes, &note, &walk->end);
+        if (status != ELFSEE_OK) {
+            expect(!memcmp(&before, notes, sizeof before), "a step without a note");
+            return status == ELFSEE_ABSENT;
+        }
+        expect(notes->at >= before.at + 12 && notes->at + notes->left == before.at + before.left,
+               "a step over a note");
+        expect(note.at == before.at && note.header == before.header, "a note of another place");
+        expect(note.name_at + note.namesz <= note.desc_at && note.desc_at + note.descsz <= notes->at &&
+                   notes->at <= walk->file->len,
+               "a note outside its table");
+        say(walk, "N %u %u %u %u ", note.header, note.type, note.namesz, note.descsz);
+        for (len = 0; len < note.namesz && bytes[note.name_at + len]; len += 1) {
+        }
+        say_bytes(walk, note.name_at, len);
+        say(walk, " ");
+        for (i = 0; i < note.descsz && i < 32; i += 1) say(walk, "%02x", bytes[note.desc_at + i]);
+        say(walk, note.descsz > 32 ? "\\+\n" : "\n");
+    }
+}
+
+static int say_section_notes(struct walk *walk, uint16_t section) {
+    struct elfsee_notes notes = {7, 7, 7, 7, 7};
+    uint32_t status = elfsee_notes(walk->file->bytes, walk->file->len, section, &notes, &walk->end);
+    return say_notes(walk, status, &notes);
+}
+
+static int say_segment_notes(struct walk *walk, uint16_t segment) {
+    struct elfsee_notes notes = {7, 7, 7, 7, 7};
+    uint32_t status = elfsee_segment_notes(walk->file->bytes, walk->file->len, segment, &notes, &walk->end);
+    return say_notes(walk, status, &notes);
+}
+
 static int say_section(struct walk *walk, uint16_t index) {
     struct elfsee_section header;
     memset(&header, 7, sizeof header);
@@ -377,6 +420,8 @@ static int say_all(struct walk *walk) {
     if (status != ELFSEE_OK && status != ELFSEE_ABSENT) return 0;
     return say_each(walk, header.shnum, say_section) && say_each(walk, header.phnum, say_segment) &&
            say_each(walk, header.shnum, say_symbols) && say_each(walk, header.shnum, say_relocations) &&
+           (header.shnum ? say_each(walk, header.shnum, say_section_notes)
+                         : say_each(walk, header.phnum, say_segment_notes)) &&
            say_each(walk, header.shnum, say_dynamic);
 }
 

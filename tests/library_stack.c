@@ -74,6 +74,16 @@ static void call_dynamic(void) {
         elfsee_next_dynamic(file, file_len, &rows, &entry, 1);
 }
 
+static void call_notes(void) {
+    struct elfsee_notes notes;
+    struct elfsee_note note;
+    memset(&notes, 0, sizeof notes);
+    memset(&note, 0, sizeof note);
+    elfsee_segment_notes(file, file_len, section, &notes, &end);
+    elfsee_notes(file, file_len, section, &notes, &end);
+    elfsee_next_note(file, file_len, &notes, &note, &end);
+}
+
 static void call_headers(void) {
     struct elfsee_header header;
     struct elfsee_section one;
@@ -116,7 +126,8 @@ static const struct {
     int each_section;
 } CALLS[] = {{"nothing", call_nothing, 0}, {"show", call_show, 0},       {"find", call_find, 0},
              {"apply", call_apply, 1},     {"symbols", call_symbols, 1}, {"relocations", call_relocations, 1},
-             {"dynamic", call_dynamic, 1},     {"headers", call_headers, 1}};
+             {"dynamic", call_dynamic, 1},     {"headers", call_headers, 1},
+             {"notes", call_notes, 1}};
 enum { COUNT = sizeof CALLS / sizeof *CALLS };
 
 static void measure(const char *path, size_t *most) {

@@ -80,7 +80,7 @@ def note_lines(file, cap):
     for row in file.notes():
         yield "N %5d %08x %08x %08x %s %s" % (
             row.table, row.type, row.namesz, row.descsz, spelt(row.name, cap),
-            row.desc.hex() + ("\\+" if row.descsz > 32 else ""))
+            row.desc[:32].hex() + ("\\+" if row.descsz > 32 else ""))
 
 
 def dynamic_lines(file, cap):

@@ -137,8 +137,10 @@ _Relocation = _struct("elfsee_relocation", (_U64, "offset info"), (_I64, "addend
 _Dynamic = _struct("elfsee_dynamic", (_I64, "tag"), (_U64, "value"))
 _Range = _struct("elfsee_range", (_U64, "at len"))
 _Rows = _struct("elfsee_rows", (_U64, "at count index entry strings_at strings_len"))
+_Notes = _struct("elfsee_notes", (_U64, "at left align"), (_U32, "header none"))
+_Note = _struct("elfsee_note", (_U64, "at name_at desc_at"), (_U32, "namesz descsz type header"))
 STRUCTS = (_Limits, _End, _Symbol, _Found, _Item, _Job, _Header, _Section, _Segment, _Relocation,
-           _Dynamic, _Range, _Rows)
+           _Dynamic, _Range, _Rows, _Notes, _Note)
 
 # The same as forms of `struct`, of the rows that are read in batches.
 _SYMBOL_FORM, _RELOCATION_FORM, _DYNAMIC_FORM = "=QQIHBB", "=QQq", "=qQ"
@@ -173,6 +175,9 @@ _CALLS = {
     "next_relocations": (ctypes.c_size_t, *_STEP),
     "next_dynamic": (ctypes.c_size_t, *_STEP),
     "name": (_U32, *_FILE, _to(_Range), _U64, _to(_Range), _to(_End)),
+    "notes": (_U32, *_FILE, _U16, _to(_Notes), _to(_End)),
+    "segment_notes": (_U32, *_FILE, _U16, _to(_Notes), _to(_End)),
+    "next_note": (_U32, *_FILE, _to(_Notes), _to(_Note), _to(_End)),
 }
 
 
@@ -345,7 +350,7 @@ class Relocation(NamedTuple):
 
 
 class Note(NamedTuple):
-    """A note: its name up to the first NUL, and the first 32 bytes of its descriptor. `namesz` and
+    """A note: its name up to the first NUL, and its descriptor. `namesz` and
     `descsz` are the sizes that the file says, that of the name with its NUL. `table` is its section,
     or its segment where the file has no sections."""
 
@@ -734,13 +739,16 @@ class File:
             raise listing.refused
 
     def notes(self) -> Iterator[Note]:
-        """The notes of all sections, or in a file without sections of all segments. They are read from
-        the listing, within the budget; of a descriptor that has the first 32 bytes."""
-        for line in self._listed(NOTES):
-            name, desc = line[35:].rsplit(b" ", 1)
-            namesz, descsz = int(line[17:25], 16), int(line[26:34], 16)
-            yield Note(_bytes_of(name), int(line[8:16], 16), bytes.fromhex(desc[:64].decode("ascii")),
-                       namesz, descsz, int(line[2:7]))
+        """The notes of all sections, or in a file without sections of all segments."""
+        sections = self._section_rows()
+        call, headers = ("notes", len(sections)) if sections else ("segment_notes", self.header.phnum)
+        for table in range(headers):
+            notes, note = _Notes(), _Note()
+            if self._call(call, table, notes)[0] == _OK:
+                while self._call("next_note", notes, note)[0] == _OK:
+                    name = self.data[note.name_at:note.name_at + note.namesz].split(b"\0", 1)[0]
+                    desc = self.data[note.desc_at:note.desc_at + note.descsz]
+                    yield Note(name, note.type, desc, note.namesz, note.descsz, table)
 
     def dynamic(self, section: Optional[int] = None) -> Iterator[Dynamic]:
         """The dynamic entries of a section, or of all of them, up to and with the first of tag NULL. In

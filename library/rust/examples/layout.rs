@@ -42,4 +42,6 @@ fn main() {
     tell!("elfsee_dynamic", raw::Dynamic, tag value);
     tell!("elfsee_range", raw::Range, at len);
     tell!("elfsee_rows", raw::Rows, at count index entry strings_at strings_len);
+    tell!("elfsee_notes", raw::Notes, at left align header none);
+    tell!("elfsee_note", raw::Note, at name_at desc_at namesz descsz kind header);
 }

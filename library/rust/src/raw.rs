@@ -162,6 +162,30 @@ pub struct Rows {
     pub strings_len: u64,
 }
 
+/// A place in a table of notes: plain numbers.
+#[repr(C)]
+#[derive(Clone, Copy, Debug, Default, PartialEq, Eq)]
+pub struct Notes {
+    pub at: u64,
+    pub left: u64,
+    pub align: u64,
+    pub header: u32,
+    pub none: u32,
+}
+
+/// A note: where its name and its descriptor stand in the file, and their sizes.
+#[repr(C)]
+#[derive(Clone, Copy, Debug, Default, PartialEq, Eq)]
+pub struct Note {
+    pub at: u64,
+    pub name_at: u64,
+    pub desc_at: u64,
+    pub namesz: u32,
+    pub descsz: u32,
+    pub kind: u32,
+    pub header: u32,
+}
+
 /// A call that checks a table and sets rows before its first.
 pub type OpenTable =
     unsafe extern "C" fn(*const u8, usize, *const Limits, u16, *mut u8, usize, *mut Rows, *mut End) -> u32;
@@ -270,6 +294,27 @@ extern "C" {
         out: *mut Dynamic,
         out_len: usize,
     ) -> usize;
+    pub fn elfsee_notes(
+        file: *const u8,
+        file_len: usize,
+        section: u16,
+        notes: *mut Notes,
+        end: *mut End,
+    ) -> u32;
+    pub fn elfsee_segment_notes(
+        file: *const u8,
+        file_len: usize,
+        segment: u16,
+        notes: *mut Notes,
+        end: *mut End,
+    ) -> u32;
+    pub fn elfsee_next_note(
+        file: *const u8,
+        file_len: usize,
+        notes: *mut Notes,
+        note: *mut Note,
+        end: *mut End,
+    ) -> u32;
     pub fn elfsee_name(
         file: *const u8,
         file_len: usize,
