@@ -15,7 +15,10 @@ pub struct Pieces<'a> {
 
 impl<'a> Pieces<'a> {
     /// A reader of these bytes.
-    pub fn new(bytes: &'a [u8]) -> Self {
+    pub fn new(bytes: &'a [u8]) -> Self
+        ensures bytes { result.bytes.now ≡ bytes.now }
+        ensures interrupted { result.interrupted ≡ 0 }
+    {
         Pieces {
             bytes,
             turns: 0,

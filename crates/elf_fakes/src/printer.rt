@@ -1,4 +1,6 @@
 //! A writer that takes little.
+ghost use Rattle.std.specs.Prelude.{◌≡◌, []};
+
 use crate::script::{Script, Trouble};
 use std::alloc::Global;
 use std::io;
@@ -15,7 +17,10 @@ pub struct Printer<'a> {
 
 impl<'a> Printer<'a> {
     /// A writer that takes at most `most` bytes at a write, and does what its script has.
-    pub fn new(most: usize, script: &'a Script, alloc: Global) -> Self {
+    pub fn new(most: usize, script: &'a Script, alloc: Global) -> Self
+        ensures written { result.written.items ≡ [] }
+        ensures most { result.most ≡ most }
+    {
         Printer {
             written: Vec::new(alloc),
             most,

@@ -1,5 +1,5 @@
 //! A source that fails.
-ghost use Rattle.std.specs.Prelude.{◌≡◌};
+ghost use Rattle.std.specs.Prelude.{◌≡◌, false};
 
 use elf_source::{Source, SourceFault};
 
@@ -24,7 +24,9 @@ impl<'a> Planned<'a> {
     /// A source over `bytes` whose read with the number `failing` fails, counted from 1 on. With 0
     /// none does.
     pub fn new(bytes: &'a [u8], failing: u32) -> Self
-        ensures { result.bytes.now ≡ bytes.now }
+        ensures bytes { result.bytes.now ≡ bytes.now }
+        ensures failing { (result.failing ≡ failing) × (result.has_failed ≡ false) }
+        ensures none_yet { (result.reads ≡ 0) × (result.asked ≡ 0) × (result.largest ≡ 0) }
     {
         Planned {
             bytes,

@@ -1,5 +1,5 @@
 //! A reader of bytes that are never stored.
-ghost use Rattle.std.specs.Prelude.{◌≤◌, length};
+ghost use Rattle.std.specs.Prelude.{◌≡◌, ◌+◌, ◌%◌, ◌≤◌, length};
 
 use crate::script::{Script, Trouble};
 use std::io;
@@ -19,7 +19,9 @@ pub struct Tape<'a> {
 
 impl<'a> Tape<'a> {
     /// A reader of `length` bytes that gives at most `most` at a read, and does what its script has.
-    pub fn new(length: u64, most: usize, script: &'a Script) -> Self {
+    pub fn new(length: u64, most: usize, script: &'a Script) -> Self
+        ensures { (result.length ≡ length) × (result.at ≡ 0) × (result.most ≡ most) }
+    {
         Tape {
             length,
             at: 0,
@@ -99,7 +101,9 @@ impl<'a> Seek for Tape<'a> {
 }
 
 // The letter at an offset: another one 2^32 further on.
-fn letter_at(at: u64) -> u8 {
+fn letter_at(at: u64) -> u8
+    ensures { result ≡ 97 + at % 26 }
+{
     b'a' + (at % 26) as u8
 }
 

@@ -7,8 +7,8 @@ use Rattle.std.proofs.lemmas.List.{take-append-drop, length-take-le, take_rest}
 use Rattle.elf_source.specs.Output.{Written, TakesFront}
 
 -- the first d bytes, and then n of those that are left
-pub Appends-turn : (a b c : Option (List ℕ)) (bytes : List ℕ) (d n : ℕ) → Appends a b (take d bytes) → Appends b c (take n (take (length bytes - d) (drop d bytes))) → Appends a c (take (d + n) bytes)
-Appends-turn a b c bytes d n p q =
+pub Appends_turn : (a b c : Option (List ℕ)) (bytes : List ℕ) (d n : ℕ) → Appends a b (take d bytes) → Appends b c (take n (take (length bytes - d) (drop d bytes))) → Appends a c (take (d + n) bytes)
+Appends_turn a b c bytes d n p q =
     let left = subst (λ (l : List ℕ). Appends b c (take n l)) (take_rest bytes d) q in
     subst (Appends a c) (sym (take-add d n bytes)) (Appends-trans a b c _ _ p left)
 

@@ -17,10 +17,10 @@ take-put_part got count room out part within some =
     ∙ ap (λ rest. take got out ++ rest) (take-append-le count part (post_of got room out) some)
 
 -- the first bytes of a range of a file, and those of a turn that stand behind them
-pub filled-then : (file out part : List ℕ) (at got count room : ℕ) → got ≤ length out → count ≤ length part
+pub filled_then : (file out part : List ℕ) (at got count room : ℕ) → got ≤ length out → count ≤ length part
     → take got out ≡ take got (drop at file) → take count part ≡ take count (drop (at + got) file)
     → take (got + count) (put_mid got room out part) ≡ take (got + count) (drop at file)
-filled-then file out part at got count room within some before turn =
+filled_then file out part at got count room within some before turn =
     take-put_part got count room out part within some
     ∙ ap (λ front. front ++ take count part) before
     ∙ ap (λ rest. take got (drop at file) ++ rest) (turn ∙ ap (take count) (sym (drop-drop got at file)))

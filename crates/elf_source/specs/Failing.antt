@@ -15,7 +15,7 @@ own_failures (Some n) = 0
 
 -- what is seen of it: the other source's size and file, and one failure more behind the read that fails
 abbrev pub seen_failing : Failing → Seen
-seen_failing f = record { size = f.source.size; failures = f.source.failures + own_failures f.due; file = f.source.file; sized = f.source.sized }
+seen_failing f = record { size = f.source.size; failures = f.source.failures + own_failures f.due; file = f.source.file; sized = f.source.sized; whole = f.source.whole }
 
 -- the bytes that the next read is answered from, and those that the one behind it is
 pub record Turning : Type 0 where

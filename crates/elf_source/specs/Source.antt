@@ -1,18 +1,26 @@
 -- What is seen of a source, of one whose reads are counted, and what a read does.
-use Rattle.std.specs.Prelude.{◌≡◌, ℕ, ◌+◌, ◌-◌, ◌^◌, ◌≤◌, ◌<◌, min, List, length, Option, None, Some, Result, Ok, Err, option_map, IfSome, refl}
-use Rattle.std.proofs.Common.{subst}
+use Rattle.std.specs.Prelude.{◌≡◌, ℕ, ◌+◌, ◌-◌, ◌^◌, ◌≤◌, ◌<◌, min, Bool, true, false, List, length, Option, None, Some, Result, Ok, Err, option_map, IfSome, refl}
+use Rattle.std.proofs.Common.{subst, ◌∙◌}
+use Rattle.elf_model.specs.Style.{without_sections}
+use Rattle.elf_model.proofs.StyleLemmas.{view_is_as_long}
 use Rattle.elf_source.specs.declared.faults.SourceFault.{SourceFault}
 use Rattle.elf_source.specs.declared.faults.SourceFault.TheVariants.{Device, Ended}
 use Rattle.elf_source.specs.declared.faults.AskFault.{AskFault}
 use Rattle.elf_source.specs.declared.faults.AskFault.TheVariants.{Source, Budget}
 
--- what is seen of a source: its size in bytes, how many of its reads failed, and the file whose slices its reads give,
--- where there is one
+-- what a source is a range of: its size in bytes, and its file, where one is known
+pub record Whole : Type 0 where
+  pub size : ℕ
+  pub file : Option (List ℕ)
+
+-- what is seen of a source: its size in bytes, how many of its reads failed, the file whose slices its reads give, where
+-- there is one, and what it is a range of, if it is one
 pub record Seen : Type 0 where
   pub size : ℕ
   pub failures : ℕ
   pub file : Option (List ℕ)
   pub sized : (bytes : List ℕ) → file ≡ Some bytes → length bytes ≡ size
+  pub whole : Option Whole
 
 -- a source is honest: its reads give the slices of a file, and its count of failures may still rise
 pub record IsHonest (seen : Seen) : Type 0 where
@@ -25,6 +33,7 @@ pub record Keeps (old new : Seen) : Type 0 where
   pub same_size : new.size ≡ old.size
   pub no_fewer : old.failures ≤ new.failures
   pub same_file : new.file ≡ old.file
+  pub same_whole : new.whole ≡ old.whole
 
 -- what a fault of the source says: at `Device` its failures rose, at `Ended` it isn't honest
 abbrev pub Faults : Seen → Seen → SourceFault → Type 0
@@ -35,10 +44,41 @@ Faults old new Ended = IsHonest new → ⊥
 abbrev pub IsWithin : ℕ → Option ℕ → Type 0
 IsWithin asked most = (n : ℕ) → most ≡ Some n → (asked ≤ n) × (n < asked + 2 ^ 64)
 
--- a source whose reads are counted: what is seen of it, how many bytes were asked for, the count that this may not pass,
--- where a limit is set, and where the last read was asked for that failed or that the limit had no room for
+-- a fact of every file that a source gives, from one of the option
+abbrev pub each_file : (P : List ℕ → Type 0) (file : Option (List ℕ)) → IfSome file P → (bytes : List ℕ) → file ≡ Some bytes → P bytes
+each_file P file holds bytes same = subst (λ (o : Option (List ℕ)). IfSome o P) same holds
+
+-- a file, where one is known: all of it, or with zeros where its header tells of section headers
+abbrev pub file_by : Bool → Option (List ℕ) → Option (List ℕ)
+file_by false file = file
+file_by true file = option_map without_sections file
+
+-- which is as long
+abbrev pub sized_by : (hides : Bool) (file : Option (List ℕ)) (size : ℕ) → ((bytes : List ℕ) → file ≡ Some bytes → length bytes ≡ size)
+    → (bytes : List ℕ) → file_by hides file ≡ Some bytes → length bytes ≡ size
+sized_by false file size sized = sized
+sized_by true None size sized = each_file (λ bytes. length bytes ≡ size) None tt
+sized_by true (Some file) size sized =
+    each_file (λ bytes. length bytes ≡ size) (Some (without_sections file)) (view_is_as_long file ∙ sized file refl)
+
+-- what is seen of a source of whose file all is shown, or all but what its header tells of section headers
+abbrev pub seen_by : Bool → Seen → Seen
+seen_by hides seen = record {
+  size = seen.size;
+  failures = seen.failures;
+  file = file_by hides seen.file;
+  sized = sized_by hides seen.file seen.size seen.sized;
+  whole = seen.whole;
+}
+
+-- a source whose reads are counted: what is seen of it, what was given to be read, whether what its file header tells of
+-- section headers is hidden, how many bytes were asked for, the count that this may not pass, where a limit is set, and
+-- where the last read was asked for that failed or that the limit had no room for
 pub record Counting : Type 0 where
   pub seen : Seen
+  pub source : Seen
+  pub hides : Bool
+  pub is_seen : seen ≡ seen_by hides source
   pub asked : ℕ
   pub most : Option ℕ
   pub stopped : ℕ
@@ -59,11 +99,18 @@ pub record Limits (old new : Counting) (bytes : Option ℕ) : Type 0 where
   pub asked : new.asked ≡ old.asked
   pub most : new.most ≡ option_map (counted old.asked) bytes
   pub stopped : new.stopped ≡ old.stopped
+  pub source : new.source ≡ old.source
+  pub hides : new.hides ≡ old.hides
   pub small : (n : ℕ) → bytes ≡ Some n → n < 2 ^ 64
 
 -- so many bytes from an offset on may be asked for in one read
 abbrev pub IsReadable : Counting → ℕ → ℕ → Type 0
 IsReadable c at n = (at + n ≤ c.seen.size) × (n ≤ 4096)
+
+-- what is hidden stays so, and the source but for its failures
+pub record SameView (old new : Counting) : Type 0 where
+  pub keeps : Keeps old.source new.source
+  pub hides : new.hides ≡ old.hides
 
 -- WHAT READS DO, fault or not: they ask for at most n bytes, and keep the source and the limit
 pub record Reads (old new : Counting) (n : ℕ) : Type 0 where
@@ -71,6 +118,7 @@ pub record Reads (old new : Counting) (n : ℕ) : Type 0 where
   pub grows : old.asked ≤ new.asked
   pub at_most : new.asked ≤ old.asked + n
   pub same_limit : new.most ≡ old.most
+  pub view : SameView old new
 
 -- what a refusal for want of budget says, of reads that ask for at most n bytes: a limit was set, they could have passed
 -- it, and fewer than 4,096 bytes were left of it
@@ -98,24 +146,32 @@ Stops old new at (Err fault) = new.stopped ≡ at
 
 -- the source was read once, or not at all for want of budget
 abbrev pub AsksOnce : {X : Type 0} → (Seen → ℕ → ℕ → Seen → Type 0) → Counting → Counting → ℕ → ℕ → Result X AskFault → Type 0
-AsksOnce one_read old new at n (Ok x) = one_read old.seen at n new.seen
-AsksOnce one_read old new at n (Err (Source fault)) = one_read old.seen at n new.seen
-AsksOnce one_read old new at n (Err Budget) = new.seen ≡ old.seen
+AsksOnce one_read old new at n (Ok x) = one_read old.source at n new.source
+AsksOnce one_read old new at n (Err (Source fault)) = one_read old.source at n new.source
+AsksOnce one_read old new at n (Err Budget) = new.source ≡ old.source
 
 -- a read outside the limit: it is counted, and what is left of the limit stays
 pub record Fills (old new : Counting) (n : ℕ) : Type 0 where
   pub keeps : Keeps old.seen new.seen
   pub asks : new.asked ≡ counted old.asked n
   pub same_left : left new ≡ option_map (λ bytes. counted new.asked bytes - new.asked) (left old)
+  pub view : SameView old new
 
--- a fact of every file that a source gives, from one of the option
-abbrev pub each_file : (P : List ℕ → Type 0) (file : Option (List ℕ)) → IfSome file P → (bytes : List ℕ) → file ≡ Some bytes → P bytes
-each_file P file holds bytes same = subst (λ (o : Option (List ℕ)). IfSome o P) same holds
+-- what a file header tells of section headers was hidden, or shown, and of the account nothing changed
+pub record Hides (old new : Counting) (hides : Bool) : Type 0 where
+  pub is_hidden : new.hides ≡ hides
+  pub shows : hides ≡ true → (file : List ℕ) → old.seen.file ≡ Some file → new.seen.file ≡ Some (without_sections file)
+  pub same_size : new.seen.size ≡ old.seen.size
+  pub same_failures : new.seen.failures ≡ old.seen.failures
+  pub same_source : new.source ≡ old.source
+  pub same_asked : new.asked ≡ old.asked
+  pub same_limit : new.most ≡ old.most
+  pub same_stopped : new.stopped ≡ old.stopped
 
 -- what is seen of a source that gives these bytes and never fails
 abbrev pub honest : List ℕ → Seen
-honest bytes = record { size = length bytes; failures = 0; file = Some bytes; sized = each_file (λ b. length b ≡ length bytes) (Some bytes) refl }
+honest bytes = record { size = length bytes; failures = 0; file = Some bytes; sized = each_file (λ b. length b ≡ length bytes) (Some bytes) refl; whole = None }
 
 -- what is seen of a source of which no file is known
 abbrev pub unknown : ℕ → ℕ → Seen
-unknown size failures = record { size = size; failures = failures; file = None; sized = each_file (λ b. length b ≡ size) None tt }
+unknown size failures = record { size = size; failures = failures; file = None; sized = each_file (λ b. length b ≡ size) None tt; whole = None }

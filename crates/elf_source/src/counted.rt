@@ -1,8 +1,9 @@
 //! A source whose reads are counted.
-ghost use Rattle.std.specs.Prelude.{◌≡◌, ℕ, ◌+◌, ◌-◌, ◌^◌, ◌<◌, ◌≤◌, List, length, take, drop, None, Some, IfErr, OnOk};
-ghost use Rattle.elf_source.specs.Source.{Reads, Faults, Blames, Asks, AsksOnce, Stops, Fills, IsReadable, IsWithin, Limits, left};
+ghost use Rattle.std.specs.Prelude.{◌≡◌, ℕ, ◌+◌, ◌-◌, ◌^◌, ◌<◌, ◌≤◌, List, length, take, drop, false, None, Some, IfErr, OnOk};
+ghost use Rattle.elf_source.specs.Source.{Reads, Faults, Blames, Asks, AsksOnce, Stops, Fills, Hides, IsReadable, IsWithin, Keeps, Limits, SameView, left};
 
 use crate::faults::{AskFault, SourceFault};
+use crate::hiding::hide;
 use crate::source::Source;
 use std::marker::Model;
 
@@ -13,21 +14,26 @@ pub const READ_BYTES: usize = 4096;
 /// and the offset of the last read that failed or that the limit had no room for.
 #[derive(Drop)]
 pub struct Counted<S: Source> {
-    source: S,
+    pub(crate) source: S,
     asked: u128,
     most: Option<u128>,
     stopped: u64,
+    pub(crate) hides: bool,
     ghost within: { IsWithin asked most },
     ghost fits: { asked < 2 ^ 128 },
 }
 
 impl<S: Source> Model for Counted<S> {
-    ghost use Rattle.elf_source.specs.Source.{Counting};
+    ghost use Rattle.std.specs.Prelude.{refl};
+    ghost use Rattle.elf_source.specs.Source.{Counting, seen_by};
 
     ghost Value = { Counting };
 
     ghost view = { λ c. record {
-      seen = S.seen c.source;
+      seen = seen_by c.hides (S.seen c.source);
+      source = S.seen c.source;
+      hides = c.hides;
+      is_seen = refl;
       asked = c.asked;
       most = c.most;
       stopped = c.stopped;
@@ -37,9 +43,11 @@ impl<S: Source> Model for Counted<S> {
 }
 
 impl<S: Source> Counted<S> {
-    /// Counts what is asked of `source` from now on, with no limit.
+    /// Counts what is asked of `source` from now on, with no limit. Nothing is hidden.
     pub fn new(source: S) -> Self
         ensures seen { result.seen ≡ S.seen source }
+        ensures source { result.source ≡ S.seen source }
+        ensures shows { result.hides ≡ false }
         ensures asked { result.asked ≡ 0 }
         ensures free { result.most ≡ None }
         ensures stopped { result.stopped ≡ 0 }
@@ -49,7 +57,24 @@ impl<S: Source> Counted<S> {
             asked: 0,
             most: None,
             stopped: 0,
+            hides: false,
         }
+    }
+
+    /// Whether what a file header tells of section headers is hidden.
+    pub fn hides(&self) -> bool
+        ensures { result ≡ self.now.hides }
+    {
+        self.hides
+    }
+
+    /// Hides what the file header tells of section headers, or shows it again: where it is hidden,
+    /// reads give zeros for the bytes 40 to 47 (e_shoff) and 60 to 63 (e_shnum, e_shstrndx) of the
+    /// source (gABI 4, ELF Header). Of the account nothing changes.
+    pub fn hide_sections(&mut self, hides: bool)
+        ensures { Hides self.old self.new hides }
+    {
+        self.hides = hides;
     }
 
     /// How many bytes were asked for, in reads that failed too. It stays at 2^128 - 1.
@@ -122,12 +147,9 @@ impl<S: Source> Counted<S> {
             }
         }
         self.asked = self.asked.saturating_add(count as u128);
-        match self.source.fill(at, out) {
+        match self.read(at, out) {
             Ok(()) => Ok(()),
-            Err(fault) => {
-                self.stopped = at;
-                Err(AskFault::Source(fault))
-            }
+            Err(fault) => Err(AskFault::Source(fault)),
         }
     }
 
@@ -145,22 +167,43 @@ impl<S: Source> Counted<S> {
         ensures faults { IfErr result (Faults self.old.seen self.new.seen) }
         ensures slice { (file : List ℕ) → self.old.seen.file ≡ Some file → OnOk result
             (out.new ≡ take (length out.old) (drop at file)) }
-        ensures once { S.one_read self.old.seen at (length out.old) self.new.seen }
+        ensures once { S.one_read self.old.source at (length out.old) self.new.source }
     {
         let left = self.left();
         self.most = None;
         self.asked = self.asked.saturating_add(out.len() as u128);
-        let answer = self.source.fill(at, out);
-        if answer.is_err() {
-            self.stopped = at;
-        }
+        let answer = self.read(at, out);
         self.limit(left);
         answer
     }
 
+    /// Fills `out` from the source, with zeros for what is hidden; a fault names where it was asked
+    /// for.
+    fn read(&mut self, at: u64, out: &mut [u8]) -> Result<(), SourceFault>
+        requires { at + length out.old ≤ self.old.seen.size }
+        ensures account { (self.new.asked ≡ self.old.asked) × (self.new.most ≡ self.old.most) }
+        ensures keeps { Keeps self.old.seen self.new.seen }
+        ensures view { SameView self.old self.new }
+        ensures length { length out.new ≡ length out.old }
+        ensures stops { Stops self.old self.new at result }
+        ensures faults { IfErr result (Faults self.old.seen self.new.seen) }
+        ensures slice { (file : List ℕ) → self.old.seen.file ≡ Some file → OnOk result
+            (out.new ≡ take (length out.old) (drop at file)) }
+        ensures once { S.one_read self.old.source at (length out.old) self.new.source }
+    {
+        if let Err(fault) = self.source.fill(at, out) {
+            self.stopped = at;
+            return Err(fault);
+        }
+        if self.hides {
+            hide(at, out);
+        }
+        Ok(())
+    }
+
     /// Gives the source back.
     pub fn into_inner(self) -> S
-        ensures { S.seen result ≡ self.seen }
+        ensures { S.seen result ≡ self.source }
     {
         let Counted { source, .. } = self;
         source

@@ -89,6 +89,7 @@ impl<W: Sink> Out<W> {
 }
 
 // Gives `bytes` to the sink until it has taken all or fails, and counts those that it took.
+#[tactic(auto, using(crate::proofs::Known::Appends_turn))]
 fn give<W: Sink>(sink: &mut W, bytes: &[u8]) -> usize
     ensures within { result ≤ length bytes.now }
     ensures bytes { Appends (W.taken sink.old) (W.taken sink.new) (take result bytes.now) }

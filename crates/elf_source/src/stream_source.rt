@@ -21,6 +21,7 @@ pub struct StreamSource<R: Reader> {
 }
 
 impl<R: Reader> Model for StreamSource<R> {
+    ghost use Rattle.std.specs.Prelude.{None};
     ghost use Rattle.elf_source.specs.Source.{Seen};
     ghost use Rattle.elf_source.specs.Reader.{Stream};
 
@@ -32,6 +33,7 @@ impl<R: Reader> Model for StreamSource<R> {
         failures = s.failures;
         file = R.file s.reader;
         sized = s.sized;
+        whole = None;
       };
       interrupted = R.interrupted s.reader;
     } };
@@ -129,6 +131,7 @@ fn find_end<R: Reader>(reader: &mut R) -> Result<u64, SourceFault>
 }
 
 // Fills `out` from the offset `at` on. Each turn gets a byte, ends, or is interrupted.
+#[tactic(auto, using(crate::proofs::TurnLaws::filled_then))]
 fn read_all<R: Reader>(reader: &mut R, at: u64, out: &mut [u8]) -> Result<(), SourceFault>
     requires { at + length out.old < 2 ^ 64 }
     ensures same { R.file reader.new ≡ R.file reader.old }

@@ -1,0 +1,54 @@
+-- What is seen of a range of a source, and of one that was set anew.
+use Rattle.std.specs.Prelude.{◌≡◌, ℕ, ◌+◌, ◌≤◌, false, List, length, take, drop, Option, Some, option_map}
+use Rattle.elf_source.specs.Source.{Counting, Seen, Whole}
+
+-- the file of so many bytes from an offset of another, where that is known
+abbrev pub file_within : Option (List ℕ) → ℕ → ℕ → Option (List ℕ)
+file_within file start size = option_map (λ bytes. take size (drop start bytes)) file
+
+-- a range: what is seen of the source that it is a range of, where it starts and how many bytes it has
+pub record Range : Type 0 where
+  pub below : Seen
+  pub start : ℕ
+  pub size : ℕ
+  pub within : start + size ≤ below.size
+  pub sized : (bytes : List ℕ) → file_within below.file start size ≡ Some bytes → length bytes ≡ size
+
+-- what is seen of it: its own size, and the slice of the other's file; what fails below is a failure of its own
+abbrev pub seen_range : Range → Seen
+seen_range r = record {
+  size = r.size;
+  failures = r.below.failures;
+  file = file_within r.below.file r.start r.size;
+  sized = r.sized;
+  whole = Some (record { size = r.below.size; file = r.below.file });
+}
+
+-- a source is a range of all bytes of another
+abbrev pub IsWhole : Seen → Type 0
+IsWhole seen = seen.whole ≡ Some (record { size = seen.size; file = seen.file })
+
+-- so many bytes from an offset on lie within what a source is a range of
+abbrev pub LiesWithin : Seen → ℕ → ℕ → Type 0
+LiesWithin seen start size = (whole : Whole) × (seen.whole ≡ Some whole) × (start + size ≤ whole.size)
+
+-- a range was set anew, nothing of it is hidden, and of the account nothing changed
+pub record Narrows (old new : Counting) (start size : ℕ) : Type 0 where
+  pub size_is : new.seen.size ≡ size
+  pub file_is : (whole : Whole) → old.seen.whole ≡ Some whole → new.seen.file ≡ file_within whole.file start size
+  pub same_whole : new.seen.whole ≡ old.seen.whole
+  pub same_failures : new.seen.failures ≡ old.seen.failures
+  pub same_asked : new.asked ≡ old.asked
+  pub same_limit : new.most ≡ old.most
+  pub same_stopped : new.stopped ≡ old.stopped
+  pub shows : new.hides ≡ false
+
+-- a range was set to all bytes of what it is a range of, nothing of it is hidden, and of the account nothing changed
+pub record Widens (old new : Counting) : Type 0 where
+  pub is_whole : IsWhole new.seen
+  pub same_whole : new.seen.whole ≡ old.seen.whole
+  pub same_failures : new.seen.failures ≡ old.seen.failures
+  pub same_asked : new.asked ≡ old.asked
+  pub same_limit : new.most ≡ old.most
+  pub same_stopped : new.stopped ≡ old.stopped
+  pub shows : new.hides ≡ false

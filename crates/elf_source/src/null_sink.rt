@@ -1,0 +1,25 @@
+//! A sink that keeps nothing.
+ghost use Rattle.std.specs.Prelude.{◌≡◌, false, None, Ok, length};
+
+use crate::faults::SinkFault;
+use crate::sink::Sink;
+
+/// A sink that takes all bytes and keeps none: for a call whose answer is wanted without its text. It
+/// never fails.
+#[derive(Clone, Copy, Debug, PartialEq, Eq)]
+pub struct NullSink;
+
+impl Sink for NullSink {
+    ghost taken = { λ _. None };
+
+    ghost failed = { λ _. false };
+
+    /// Takes all of `bytes`.
+    fn take(&mut self, bytes: &[u8]) -> Result<usize, SinkFault> {
+        Ok(bytes.len())
+    }
+
+    fn failed(&self) -> bool {
+        false
+    }
+}
