@@ -10,7 +10,8 @@ use Rattle.elf_model.specs.Placing.{symbol_value, linkage_value, place_value}
 use Rattle.elf_model.specs.Records.{r_offset, r_type}
 use Rattle.elf_model.specs.Numbers.{R_X86_64_NONE}
 use Rattle.elf_model.specs.Tables.{relocation_table_checks}
-use Rattle.elf_model.specs.Values.{Terms, takes_linkage, takes_place, Kind, kind_of, overflows, value_of, low_bytes, patch_of, value}
+use Rattle.elf_model.specs.Values.{Terms, takes_linkage, takes_place, kind_of, overflows, value_of, low_bytes, patch_of, value}
+use Rattle.elf_model.specs.declared.relocation_types.RelocationType.{RelocationType}
 use Rattle.elf_model.specs.declared.causes.Cause.TheVariants.{Overflow, PlaceOutside}
 use Rattle.elf_model.specs.declared.causes.Refusal.{Refusal}
 use Rattle.elf_model.proofs.CheckSteps.{first_refusal-back}
@@ -21,7 +22,7 @@ length-little zero n = refl
 length-little (suc width) n = ap suc (length-little width (n / 256))
 
 -- a value has as many bytes as its type's width
-pub length-patch_of : (type : Kind) (terms : Terms) (bytes : List ℕ) → patch_of type terms ≡ Ok bytes → length bytes ≡ type.width
+pub length-patch_of : (type : RelocationType) (terms : Terms) (bytes : List ℕ) → patch_of type terms ≡ Ok bytes → length bytes ≡ type.width
 unfolding patch_of
 length-patch_of type terms bytes e =
     elim (cases_Bool (overflows type terms)) [
@@ -49,7 +50,7 @@ all_given P f (x ∷ xs) each = All-append P (f x) (flat_map f xs) (each x) (all
 module _ (target : Target) where
   -- the first check of an entry
   room :
-      (at rela : ℕ) (type : Kind) → first_refusal (entry_checks target at rela type) ≡ None
+      (at rela : ℕ) (type : RelocationType) → first_refusal (entry_checks target at rela type) ≡ None
       → r_offset target.file rela + type.width ≤ target.size
   unfolding entry_checks
   room at rela type e =
@@ -59,7 +60,7 @@ module _ (target : Target) where
       ]
 
   checked_inside :
-      (at rela : ℕ) (type : Kind) (refusal : Option Refusal) → first_refusal (entry_checks target at rela type) ≡ refusal
+      (at rela : ℕ) (type : RelocationType) (refusal : Option Refusal) → first_refusal (entry_checks target at rela type) ≡ refusal
       → IsInsideChange target.size (change_of target at rela (Some type))
   unfolding IsInsideChange change_of
   checked_inside at rela type (Some refusal) e = rw (e, change_of) tt
@@ -68,7 +69,7 @@ module _ (target : Target) where
       let long = length-little type.width (value_of type (terms_of target at rela)) in
       rw (e, change_of) (omega arith)
 
-  change_inside : (at rela : ℕ) (type : Option Kind) → IsInsideChange target.size (change_of target at rela type)
+  change_inside : (at rela : ℕ) (type : Option RelocationType) → IsInsideChange target.size (change_of target at rela type)
   unfolding IsInsideChange change_of
   change_inside at rela None = tt
   change_inside at rela (Some type) = checked_inside at rela type _ refl
@@ -102,7 +103,7 @@ module _ (target : Target) where
 -- What an entry stores.
 module _ (target : Target) (at rela : ℕ) where
   -- the last check of an entry
-  in_range : (type : Kind) → first_refusal (entry_checks target at rela type) ≡ None → overflows type (terms_of target at rela) ≡ false
+  in_range : (type : RelocationType) → first_refusal (entry_checks target at rela type) ≡ None → overflows type (terms_of target at rela) ≡ false
   unfolding entry_checks
   in_range type e =
       let before = refuse (nat_lt target.size (r_offset target.file rela + type.width)) rela PlaceOutside
@@ -117,7 +118,7 @@ module _ (target : Target) (at rela : ℕ) where
       ]
 
   stored :
-      (type : Kind) (patch : Patch) (refusal : Option Refusal) → first_refusal (entry_checks target at rela type) ≡ refusal
+      (type : RelocationType) (patch : Patch) (refusal : Option Refusal) → first_refusal (entry_checks target at rela type) ≡ refusal
       → change_of target at rela (Some type) ≡ Put patch
       → (patch.at ≡ r_offset target.file rela) × (patch_of type (terms_of target at rela) ≡ Ok patch.bytes)
   unfolding change_of patch_of
@@ -132,7 +133,7 @@ module _ (target : Target) (at rela : ℕ) where
       (ap (λ (p : Patch). p.at) (sym same), value_is ∙ ap (λ (p : Patch). Ok p.bytes) same)
 
   value_stored :
-      (type : Option Kind) (patch : Patch) → kind_of (r_type target.file rela) ≡ type
+      (type : Option RelocationType) (patch : Patch) → kind_of (r_type target.file rela) ≡ type
       → (r_type target.file rela == R_X86_64_NONE) ≡ false → change_of target at rela type ≡ Put patch
       → (patch.at ≡ r_offset target.file rela)
       × (value (r_type target.file rela) (terms_of target at rela).symbol (terms_of target at rela).linkage

@@ -12,7 +12,9 @@ use Rattle.elf_model.specs.declared.causes.Refusal.{Refusal}
 use Rattle.elf_model.specs.Listing.{has, has_tables}
 use Rattle.elf_model.specs.declared.causes.Cause.TheVariants.{EntrySize, SizeNotWhole, TableOutside}
 use Rattle.elf_model.specs.TableKinds.{TableHeaders, symbols, relocations, section_dynamic, section_notes, segment_notes, segment_dynamic, section_kinds, segment_kinds, by_sections, by_segments, table_headers}
-use Rattle.elf_model.specs.Cost.{sum_over, cost_where, table_cost, kinds_cost, is_loadable, needs_segments, sections_cost, segments_cost, tables_cost, cost, ceiling}
+use Rattle.elf_model.specs.Cost.{sum_over, cost_where, table_cost, kinds_cost, is_loadable, needs_segments, sections_cost, segments_cost, tables_cost, behind_header as asked_behind, listing_cost, ceiling}
+use Rattle.elf_model.specs.Style.{viewed}
+use Rattle.elf_model.proofs.StyleLemmas.{view_length}
 use Rattle.elf_model.specs.CostLaws.{CostIsWithinCeiling, LastCostIsAdded, SumsGrow}
 
 -- sums are put together
@@ -286,9 +288,10 @@ and-second : (a b : Bool) → a && b ≡ true → b ≡ true
 and-second true b h = h
 and-second false b h = cc
 
-pub cost_within : CostIsWithinCeiling
-unfolding cost ceiling
-cost_within file headers cap parts =
+-- what a listing asks for is within it
+behind_within : (file : List ℕ) (headers cap parts : ℕ) → 64 + asked_behind file headers cap parts ≤ ceiling (length file) headers cap
+unfolding ceiling
+behind_within file headers cap parts =
     let n : ℕ = name_bytes cap in
     let within = cost_where-within (has_tables parts && is_loadable file headers)
     (sections_cost file cap parts + segments_cost file parts + tables_cost file cap parts)
@@ -297,3 +300,8 @@ cost_within file headers cap parts =
     let e : 120 + n + table_bound (length file) cap ≡ 120 + n + length file + length file / 16 * (32 + n) = omega arith in
     let f = ap (λ k. headers * k) e in
     omega arith
+
+pub cost_within : CostIsWithinCeiling
+unfolding listing_cost
+cost_within file headers style parts =
+    rw (view_length style file) at (behind_within (viewed style file) headers style.cap parts)

@@ -20,12 +20,14 @@ pub mod OnLiterals
 pub mod PatchLaws
 pub mod Pigeons
 pub mod RecordLemmas
+pub mod RestLaws
 pub mod Searches
 pub mod SameLaws
 pub mod SignLaws
 pub mod Slices
 pub mod Spellings
 pub mod StoreLemmas
+pub mod StyleLemmas
 pub mod ValueLaws
 pub mod WalkLaws
 pub mod Walks

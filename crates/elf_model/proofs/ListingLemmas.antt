@@ -3,7 +3,7 @@ use Rattle.std.proofs.lemmas.Nat.{and_assoc}
 use Rattle.std.specs.Int.RustNames.{bit_and}
 use Rattle.elf_model.specs.Records.{e_shnum, e_phnum, e_shstrndx}
 use Rattle.elf_model.specs.Names.{name_bytes}
-use Rattle.elf_model.specs.Cost.{cost_where, table_cost, kinds_cost, is_loadable, needs_segments, sections_cost, segments_cost, tables_cost, cost}
+use Rattle.elf_model.specs.Cost.{cost_where, table_cost, kinds_cost, is_loadable, needs_segments, sections_cost, segments_cost, tables_cost, behind_header, listing_cost}
 use Rattle.elf_model.proofs.StoreLemmas.{sum_over-equal}
 use Rattle.elf_model.specs.Rows.{section_row, segment_row}
 use Rattle.elf_model.specs.TableKinds.{TableKind, TableHeaders, symbols, relocations, section_notes, section_dynamic, segment_notes, segment_dynamic, section_kinds, segment_kinds, by_sections, by_segments, table_headers}
@@ -11,7 +11,8 @@ use Rattle.std.proofs.Common.{◌≡◌, ℕ, suc, zero, ◌+◌, ◌*◌, ◌==
 use Rattle.elf_model.specs.Checks.{Check, first_refusal, header_checks, load_checks}
 use Rattle.elf_model.specs.Lines.{header_line, refusal_line}
 use Rattle.elf_model.specs.Listing.{Item, Line, Fault, lines_of, fault_of, report_of, guarded, where_asked, each, has, has_tables, file_header_items, HEADER, SECTIONS, SEGMENTS, NOTES, DYNAMIC, TABLES, ALL}
-use Rattle.elf_model.specs.Report.{items, load_items, table_items, table_rows, kinds_rows}
+use Rattle.elf_model.specs.Style.{Style, viewed}
+use Rattle.elf_model.specs.Report.{listing, load_items, table_items, table_rows, kinds_rows}
 use Rattle.elf_model.specs.declared.causes.Refusal.{Refusal}
 use Rattle.elf_model.specs.ListingLaws.{LastRowIsLast, RowsSplit, HeaderAloneIsListed, HeaderFaultIsListedAlone, LoadFaultIsListedSecond, NothingBehindTheFault, ListingsAppend, OtherBitsMeanNothing}
 
@@ -44,46 +45,47 @@ guarded-passes checks members h = rw (h, guarded) refl
 pub asked-true : (parts part : ℕ) (members : List Item) → has parts part ≡ true → where_asked parts part members ≡ members
 asked-true parts part members h = rw (h, where_asked) refl
 
-pub load_none : (file : List ℕ) (headers cap parts : ℕ) → has_tables parts ≡ false → load_items file headers cap parts ≡ []
+pub load_none : (file : List ℕ) (headers : ℕ) (style : Style) (parts : ℕ) → has_tables parts ≡ false → load_items file headers style parts ≡ []
 unfolding load_items
-load_none file headers cap parts h = by_cases (has_tables parts) h
+load_none file headers style parts h = by_cases (has_tables parts) h
   where
     by_cases : (b : Bool) → b ≡ false
-        → elim b as (λ _. List Item) [ true ↦ guarded (load_checks file headers) (table_items file cap parts) | false ↦ [] ] ≡ []
+        → elim b as (λ _. List Item) [ true ↦ guarded (load_checks file headers) (table_items file style parts) | false ↦ [] ] ≡ []
     by_cases false h = refl
     by_cases true h = cc
 
-pub load_some : (file : List ℕ) (headers cap parts : ℕ) → has_tables parts ≡ true
-    → load_items file headers cap parts ≡ guarded (load_checks file headers) (table_items file cap parts)
+pub load_some : (file : List ℕ) (headers : ℕ) (style : Style) (parts : ℕ) → has_tables parts ≡ true
+    → load_items file headers style parts ≡ guarded (load_checks file headers) (table_items file style parts)
 unfolding load_items
-load_some file headers cap parts h = by_cases (has_tables parts) (guarded (load_checks file headers) (table_items file cap parts)) h
+load_some file headers style parts h = by_cases (has_tables parts) (guarded (load_checks file headers) (table_items file style parts)) h
   where
     by_cases : (b : Bool) (members : List Item) → b ≡ true → elim b as (λ _. List Item) [ true ↦ members | false ↦ [] ] ≡ members
     by_cases false members h = cc
     by_cases true members h = refl
 
 pub header_alone : HeaderAloneIsListed
-unfolding items file_header_items
-header_alone file headers cap parts h =
+unfolding listing file_header_items
+header_alone file headers style parts h =
     let line : List Item = where_asked parts HEADER (Line (header_line file) ∷ []) in
-    ap (guarded (header_checks file)) (ap (λ more. line ++ more) (load_none file headers cap parts h) ∙ append-nil line)
+    ap (guarded (header_checks file)) (ap (λ more. line ++ more) (load_none (viewed style file) headers style parts h) ∙ append-nil line)
 
 pub header_fault : HeaderFaultIsListedAlone
-unfolding items
-header_fault file headers cap parts refusal h =
-    let e : items file headers cap parts ≡ Fault refusal ∷ [] =
-    guarded-fault (header_checks file) (where_asked parts HEADER (Line (header_line file) ∷ []) ++ load_items file headers cap parts) refusal h in
+unfolding listing
+header_fault file headers style parts refusal h =
+    let e : listing file headers style parts ≡ Fault refusal ∷ [] =
+    guarded-fault (header_checks file) (where_asked parts HEADER (Line (header_line file) ∷ []) ++ load_items (viewed style file) headers style parts) refusal h in
     (ap report_of e, ap fault_of e)
 
 pub load_fault : LoadFaultIsListedSecond
-unfolding items
-load_fault file headers cap parts refusal h l p t =
+unfolding listing
+load_fault file headers style parts refusal h l p t =
+    let view : List ℕ = viewed style file in
     let line : List Item = where_asked parts HEADER (Line (header_line file) ∷ []) in
-    let passes : items file headers cap parts ≡ line ++ load_items file headers cap parts =
-    guarded-passes (header_checks file) (line ++ load_items file headers cap parts) h in
-    let fault : load_items file headers cap parts ≡ Fault refusal ∷ [] =
-    load_some file headers cap parts t ∙ guarded-fault (load_checks file headers) (table_items file cap parts) refusal l in
-    let e : items file headers cap parts ≡ Line (header_line file) ∷ Fault refusal ∷ [] =
+    let passes : listing file headers style parts ≡ line ++ load_items view headers style parts =
+    guarded-passes (header_checks file) (line ++ load_items view headers style parts) h in
+    let fault : load_items view headers style parts ≡ Fault refusal ∷ [] =
+    load_some view headers style parts t ∙ guarded-fault (load_checks view headers) (table_items view style parts) refusal l in
+    let e : listing file headers style parts ≡ Line (header_line file) ∷ Fault refusal ∷ [] =
     passes ∙ ap (λ more. line ++ more) fault ∙ ap (λ first. first ++ Fault refusal ∷ []) (asked-true parts HEADER (Line (header_line file) ∷ []) p) in
     ap report_of e ∙ ap (λ text. text ++ refusal_line refusal) (append-nil (header_line file))
 
@@ -134,41 +136,42 @@ header_parts file = by_cases (e_shnum file == 0)
     by_cases true = segment_parts
     by_cases false = section_parts
 
-kinds_rows_masked : (kinds : List TableKind) (headers : TableHeaders) (file : List ℕ) (cap parts : ℕ) → AreParts kinds
-    → kinds_rows kinds headers file cap (bit_and parts ALL) ≡ kinds_rows kinds headers file cap parts
+kinds_rows_masked : (kinds : List TableKind) (headers : TableHeaders) (file : List ℕ) (style : Style) (parts : ℕ) → AreParts kinds
+    → kinds_rows kinds headers file style (bit_and parts ALL) ≡ kinds_rows kinds headers file style parts
 unfolding kinds_rows
-kinds_rows_masked [] headers file cap parts are = refl
-kinds_rows_masked (kind ∷ kinds) headers file cap parts are =
-    let a = asked_masked parts kind.part (each (λ i. table_rows kind file cap i (headers.at i)) 0 headers.count) are.0 in
-    let b = kinds_rows_masked kinds headers file cap parts are.1 in
+kinds_rows_masked [] headers file style parts are = refl
+kinds_rows_masked (kind ∷ kinds) headers file style parts are =
+    let a = asked_masked parts kind.part (each (λ i. table_rows kind file style i (headers.at i)) 0 headers.count) are.0 in
+    let b = kinds_rows_masked kinds headers file style parts are.1 in
     cc
 
-table_items_masked : (file : List ℕ) (cap parts : ℕ) → table_items file cap (bit_and parts ALL) ≡ table_items file cap parts
+table_items_masked : (file : List ℕ) (style : Style) (parts : ℕ) → table_items file style (bit_and parts ALL) ≡ table_items file style parts
 unfolding table_items
-table_items_masked file cap parts =
-    let a = asked_masked parts SECTIONS (each (section_row file cap) 0 (e_shnum file)) refl in
-    let b = asked_masked parts SEGMENTS (each (segment_row file) 0 (e_phnum file)) refl in
-    let c = kinds_rows_masked (table_headers file).kinds (table_headers file) file cap parts (header_parts file) in
+table_items_masked file style parts =
+    let a = asked_masked parts SECTIONS (each (section_row file style) 0 (e_shnum file)) refl in
+    let b = asked_masked parts SEGMENTS (each (segment_row file style) 0 (e_phnum file)) refl in
+    let c = kinds_rows_masked (table_headers file).kinds (table_headers file) file style parts (header_parts file) in
     joined a b c
   where
     joined : {a a' b b' c c' : List Item} → a ≡ a' → b ≡ b' → c ≡ c' → a ++ b ++ c ≡ a' ++ b' ++ c'
     joined p q r = cc
 
-load_items_masked : (file : List ℕ) (headers cap parts : ℕ) → load_items file headers cap (bit_and parts ALL) ≡ load_items file headers cap parts
+load_items_masked : (file : List ℕ) (headers : ℕ) (style : Style) (parts : ℕ) → load_items file headers style (bit_and parts ALL) ≡ load_items file headers style parts
 unfolding load_items
-load_items_masked file headers cap parts =
+load_items_masked file headers style parts =
     ap (λ members. elim (has_tables (bit_and parts ALL)) as (λ _. List Item) [ true ↦ guarded (load_checks file headers) members | false ↦ [] ])
-    (table_items_masked file cap parts)
-    ∙ ap (λ b. elim b as (λ _. List Item) [ true ↦ guarded (load_checks file headers) (table_items file cap parts) | false ↦ [] ])
+    (table_items_masked file style parts)
+    ∙ ap (λ b. elim b as (λ _. List Item) [ true ↦ guarded (load_checks file headers) (table_items file style parts) | false ↦ [] ])
     (tables_masked parts)
 
-pub items_masked : (file : List ℕ) (headers cap parts : ℕ) → items file headers cap (bit_and parts ALL) ≡ items file headers cap parts
-unfolding items
-items_masked file headers cap parts =
+pub listing_masked : (file : List ℕ) (headers : ℕ) (style : Style) (parts : ℕ)
+    → listing file headers style (bit_and parts ALL) ≡ listing file headers style parts
+unfolding listing
+listing_masked file headers style parts =
     let a = asked_masked parts HEADER (Line (header_line file) ∷ []) refl in
-    let b = load_items_masked file headers cap parts in
+    let b = load_items_masked (viewed style file) headers style parts in
     ap (guarded (header_checks file))
-    (ap (λ line. line ++ load_items file headers cap (bit_and parts ALL)) a
+    (ap (λ line. line ++ load_items (viewed style file) headers style (bit_and parts ALL)) a
     ∙ ap (λ more. where_asked parts HEADER (Line (header_line file) ∷ []) ++ more) b)
 
 cost_where_masked : (parts part amount : ℕ) → bit_and ALL part ≡ part
@@ -202,16 +205,20 @@ headers_cost_masked file cap parts =
     let c = ap (λ b. cost_where b (56 * e_phnum file)) b in
     omega arith
 
-pub cost_masked : (file : List ℕ) (headers cap parts : ℕ) → cost file headers cap (bit_and parts ALL) ≡ cost file headers cap parts
-unfolding cost
-cost_masked file headers cap parts =
+behind_masked : (file : List ℕ) (headers cap parts : ℕ) → behind_header file headers cap (bit_and parts ALL) ≡ behind_header file headers cap parts
+behind_masked file headers cap parts =
     let a = headers_cost_masked file cap parts in
     let b = tables_cost_masked file cap parts in
     let rest : sections_cost file cap (bit_and parts ALL) + segments_cost file (bit_and parts ALL) + tables_cost file cap (bit_and parts ALL)
     ≡ sections_cost file cap parts + segments_cost file parts + tables_cost file cap parts = omega arith in
-    ap (λ n. 64 + cost_where (has_tables (bit_and parts ALL) && is_loadable file headers) n) rest
-    ∙ ap (λ b. 64 + cost_where (b && is_loadable file headers) (sections_cost file cap parts + segments_cost file parts + tables_cost file cap parts))
+    ap (λ n. cost_where (has_tables (bit_and parts ALL) && is_loadable file headers) n) rest
+    ∙ ap (λ b. cost_where (b && is_loadable file headers) (sections_cost file cap parts + segments_cost file parts + tables_cost file cap parts))
     (tables_masked parts)
 
+pub cost_masked : (file : List ℕ) (headers : ℕ) (style : Style) (parts : ℕ)
+    → listing_cost file headers style (bit_and parts ALL) ≡ listing_cost file headers style parts
+unfolding listing_cost
+cost_masked file headers style parts = ap (λ n. 64 + n) (behind_masked (viewed style file) headers style.cap parts)
+
 pub other_bits : OtherBitsMeanNothing
-other_bits file headers cap parts = (items_masked file headers cap parts, cost_masked file headers cap parts)
+other_bits file headers style parts = (listing_masked file headers style parts, cost_masked file headers style parts)

@@ -1,5 +1,5 @@
 -- Records at their own bytes.
-use Rattle.std.proofs.Common.{◌≡◌, ℕ, ◌+◌, ◌≤◌, List, ap, ◌∙◌, arith, add-zero}
+use Rattle.std.proofs.Common.{◌≡◌, ℕ, ◌+◌, ◌≤◌, Bool, List, ap, ◌∙◌, arith, add-zero}
 use Rattle.elf_model.specs.Bytes.{slice, field}
 use Rattle.elf_model.specs.LineFronts.{section_front, symbol_front, relocation_front, dynamic_front}
 use Rattle.elf_model.specs.Lines.{header_line, segment_line}
@@ -17,44 +17,44 @@ header_line_of_slice file =
     λ place width h. field-slice file 0 64 place width h ∙ ap (λ n. field file n width) (omega arith) in
     rw (f 16 2 (omega arith), f 18 2 (omega arith), f 24 8 (omega arith), f 32 8 (omega arith), f 40 8 (omega arith), f 48 4 (omega arith), f 56 2 (omega arith), f 60 2 (omega arith), f 62 2 (omega arith))
 
-pub section_front_of_slice : (file : List ℕ) (at index : ℕ) → section_front (slice file at 64) 0 index ≡ section_front file at index
+pub section_front_of_slice : (file : List ℕ) (gnu : Bool) (machine : ℕ) (at index : ℕ) → section_front gnu machine (slice file at 64) 0 index ≡ section_front gnu machine file at index
 unfolding section_front
-section_front_of_slice file at index =
+section_front_of_slice file gnu machine at index =
     let f = field-slice file at 64 in
     rw (f 4 4 (omega arith), f 8 8 (omega arith), f 16 8 (omega arith), f 24 8 (omega arith), f 32 8 (omega arith), f 40 4 (omega arith), f 44 4 (omega arith))
 
-pub segment_line_of_slice : (file : List ℕ) (at index : ℕ) → segment_line (slice file at 56) 0 index ≡ segment_line file at index
+pub segment_line_of_slice : (file : List ℕ) (gnu : Bool) (at index : ℕ) → segment_line gnu (slice file at 56) 0 index ≡ segment_line gnu file at index
 unfolding segment_line
-segment_line_of_slice file at index =
+segment_line_of_slice file gnu at index =
     let f = field-slice file at 56 in
     rw (f 0 4 (omega arith), f 4 4 (omega arith), f 8 8 (omega arith), f 16 8 (omega arith), f 24 8 (omega arith), f 32 8 (omega arith), f 40 8 (omega arith), f 48 8 (omega arith), add-zero at)
 
-pub symbol_front_of_slice : (file : List ℕ) (at section index : ℕ)
-    → symbol_front (slice file at 24) 0 section index ≡ symbol_front file at section index
+pub symbol_front_of_slice : (file : List ℕ) (gnu : Bool) (machine : ℕ) (at section index : ℕ)
+    → symbol_front gnu machine (slice file at 24) 0 section index ≡ symbol_front gnu machine file at section index
 unfolding symbol_front
-symbol_front_of_slice file at section index =
+symbol_front_of_slice file gnu machine at section index =
     let f = field-slice file at 24 in
     rw (f 4 1 (omega arith), f 5 1 (omega arith), f 6 2 (omega arith), f 8 8 (omega arith), f 16 8 (omega arith))
 
-pub relocation_front_of_slice : (file : List ℕ) (at machine section : ℕ)
-    → relocation_front (slice file at 24) 0 machine section ≡ relocation_front file at machine section
+pub relocation_front_of_slice : (file : List ℕ) (gnu : Bool) (machine at section : ℕ)
+    → relocation_front gnu machine (slice file at 24) 0 section ≡ relocation_front gnu machine file at section
 unfolding relocation_front
-relocation_front_of_slice file at machine section =
+relocation_front_of_slice file gnu machine at section =
     let f = field-slice file at 24 in
     rw (f 0 8 (omega arith), f 8 8 (omega arith), f 16 8 (omega arith), add-zero at)
 
-pub dynamic_front_of_slice : (file : List ℕ) (at index : ℕ) → dynamic_front (slice file at 16) 0 index ≡ dynamic_front file at index
+pub dynamic_front_of_slice : (file : List ℕ) (gnu : Bool) (at index : ℕ) → dynamic_front gnu (slice file at 16) 0 index ≡ dynamic_front gnu file at index
 unfolding dynamic_front
-dynamic_front_of_slice file at index =
+dynamic_front_of_slice file gnu at index =
     let f = field-slice file at 16 in
     rw (f 0 8 (omega arith), f 8 8 (omega arith), add-zero at)
 
 pub lines_of_slices : LinesOfSlices
-lines_of_slices file at index section machine = (
+lines_of_slices file gnu machine at index section = (
   header_line_of_slice file,
-  section_front_of_slice file at index,
-  segment_line_of_slice file at index,
-  symbol_front_of_slice file at section index,
-  relocation_front_of_slice file at machine section,
-  dynamic_front_of_slice file at index,
+  section_front_of_slice file gnu machine at index,
+  segment_line_of_slice file gnu at index,
+  symbol_front_of_slice file gnu machine at section index,
+  relocation_front_of_slice file gnu machine at section,
+  dynamic_front_of_slice file gnu at index,
 )

@@ -1,7 +1,9 @@
 -- What `show` gives: a text, and a status for the shell. `sample` is `show` of a file that the program carries.
 use Rattle.std.specs.Prelude.{ℕ, ◌≡◌, List, Option, None, Some}
 use Rattle.elf_model.specs.Budget.{IsBudgeted}
-use Rattle.elf_model.specs.Report.{report, report_fault}
+use Rattle.elf_model.specs.Listing.{report_of, fault_of}
+use Rattle.elf_model.specs.Report.{listing}
+use Rattle.elf_model.specs.Style.{Style, standard}
 use Rattle.elf_model.specs.declared.causes.Refusal.{Refusal}
 
 -- an answer: what is written to standard output, and the status
@@ -14,14 +16,19 @@ abbrev pub status_of : Option Refusal → ℕ
 status_of None = 0
 status_of (Some refusal) = 1
 
--- `show`: the listing of a file
+-- `show`: the listing of a file in a style
+abbrev pub show_answer_by : List ℕ → ℕ → Style → ℕ → Answer
+show_answer_by file headers style parts =
+    let all = listing file headers style parts in
+    record { text = report_of all; status = status_of (fault_of all) }
+
+-- with so many bytes of a name, in the standards' names, by the section headers where there are some
 abbrev pub show_answer : List ℕ → ℕ → ℕ → ℕ → Answer
-show_answer file headers cap parts =
-    record { text = report file headers cap parts; status = status_of (report_fault file headers cap parts) }
+show_answer file headers cap parts = show_answer_by file headers (standard cap) parts
 
 -- `show` within a budget: what a listing within it writes, and the status of the fault that it answers. So without a budget
--- it is `show_answer`; with one it is that too, or, only where it costs more than the budget, cut short, with status 1
-pub record IsShown (budget : Option ℕ) (file : List ℕ) (headers cap parts : ℕ) (answer : Answer) : Type 0 where
+-- it is `show_answer_by`; with one it is that too, or, only where it costs more than the budget, cut short, with status 1
+pub record IsShown (budget : Option ℕ) (file : List ℕ) (headers : ℕ) (style : Style) (parts : ℕ) (answer : Answer) : Type 0 where
   pub fault : Option Refusal
-  pub listed : IsBudgeted budget file headers cap parts answer.text fault
+  pub listed : IsBudgeted budget file headers style parts answer.text fault
   pub status_is : answer.status ≡ status_of fault

@@ -7,7 +7,8 @@ use Rattle.elf_model.specs.Numbers.{ET_REL, EM_X86_64, SHT_NULL, SHT_NOBITS, SHT
 use Rattle.elf_model.specs.Placing.{Layout, symbol_value, linkage_value, place_value}
 use Rattle.elf_model.specs.Records.{e_type, e_machine, e_shnum, sh_type, sh_info, r_offset, r_sym, r_type, r_addend, twos_complement, section_at}
 use Rattle.elf_model.specs.Tables.{RELA_SIZE, section_bytes, linked_at, strings_of, entry_count, entry_at, relocation_table_checks, symbol_checks_of}
-use Rattle.elf_model.specs.Values.{Terms, takes_linkage, takes_place, Kind, kind_of, overflows, low_bytes}
+use Rattle.elf_model.specs.Values.{Terms, takes_linkage, takes_place, kind_of, overflows, low_bytes}
+use Rattle.elf_model.specs.declared.relocation_types.RelocationType.{RelocationType}
 use Rattle.elf_model.specs.declared.causes.Cause.TheVariants.{NotRel, BadLink, Unsupported, Overflow, PlaceOutside}
 use Rattle.elf_model.specs.declared.causes.Refusal.{Refusal}
 
@@ -63,7 +64,7 @@ terms_of target at rela =
 -- The checks of a relocation entry by its type, in their order; the first that fails refuses the entry. Its bytes lie in
 -- the section; its symbol is one; L, S and P are there, each where the formula takes it; its value is in the type's range.
 -- They refuse at the entry, but for a name that cannot be compared: that is at its symbol.
-unfoldable pub entry_checks : Target → ℕ → ℕ → Kind → List Check
+unfoldable pub entry_checks : Target → ℕ → ℕ → RelocationType → List Check
 entry_checks target at rela type =
     refuse (nat_lt target.size (r_offset target.file rela + type.width)) rela PlaceOutside
     ∷ symbol_checks target.file at rela
@@ -84,7 +85,7 @@ pub data Change : Type 0 where
   Fails : Refusal → Change
 
 -- what an entry does: before all other checks it is refused if its type is none that stores a value
-unfoldable pub change_of : Target → ℕ → ℕ → Option Kind → Change
+unfoldable pub change_of : Target → ℕ → ℕ → Option RelocationType → Change
 change_of target at rela None = Fails (record { at = rela; cause = Unsupported })
 change_of target at rela (Some type) =
     elim (first_refusal (entry_checks target at rela type)) [

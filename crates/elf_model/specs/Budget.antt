@@ -1,9 +1,10 @@
 -- A listing within a budget: so many bytes may be asked for and no more.
 use Rattle.std.specs.Prelude.{ℕ, ◌≡◌, ◌<◌, List, ◌++◌, length, Option, None, Some, ◌⊎◌}
-use Rattle.elf_model.specs.Cost.{cost}
+use Rattle.elf_model.specs.Cost.{listing_cost}
 use Rattle.elf_model.specs.Lines.{refusal_line}
 use Rattle.elf_model.specs.Listing.{Item, lines_of, fault_of, report_of}
-use Rattle.elf_model.specs.Report.{items}
+use Rattle.elf_model.specs.Report.{listing}
+use Rattle.elf_model.specs.Style.{Style}
 use Rattle.elf_model.specs.declared.causes.Refusal.{Refusal}
 use Rattle.elf_model.specs.declared.causes.Cause.TheVariants.{Budget}
 
@@ -31,8 +32,8 @@ pub record IsCut (size : ℕ) (items : List Item) (text : List ℕ) (fault : Opt
 
 -- what a listing within a budget writes, and the fault that it answers: its report, or a front of it where it costs more
 -- than the budget. Without a budget it is the report
-abbrev pub IsBudgeted : Option ℕ → List ℕ → (headers cap parts : ℕ) → List ℕ → Option Refusal → Type 0
-IsBudgeted None file headers cap parts text fault = IsReport (items file headers cap parts) text fault
-IsBudgeted (Some budget) file headers cap parts text fault =
-    IsReport (items file headers cap parts) text fault
-    ⊎ ((budget < cost file headers cap parts) × IsCut (length file) (items file headers cap parts) text fault)
+abbrev pub IsBudgeted : Option ℕ → List ℕ → ℕ → Style → ℕ → List ℕ → Option Refusal → Type 0
+IsBudgeted None file headers style parts text fault = IsReport (listing file headers style parts) text fault
+IsBudgeted (Some budget) file headers style parts text fault =
+    IsReport (listing file headers style parts) text fault
+    ⊎ ((budget < listing_cost file headers style parts) × IsCut (length file) (listing file headers style parts) text fault)

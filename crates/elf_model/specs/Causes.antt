@@ -1,7 +1,7 @@
 -- The word of each cause in a listing.
 use Rattle.std.specs.Prelude.{ℕ, List, codes}
 use Rattle.elf_model.specs.declared.causes.Cause.{Cause}
-use Rattle.elf_model.specs.declared.causes.Cause.TheVariants.{Short, NotElf, BadClass, BadData, BadVersion, ExtendedNumbering, TooManyHeaders, EntrySize, TableOutside, BadLink, NotStrings, SizeNotWhole, NameOutside, NameUnended, NoteCut, NoHash, HashShape, HashIndex, HashCycle, Unsupported, Overflow, NotRel, Unplaced, Undefined, PlaceOutside, SymbolIndex, TooLong, Budget, Unmapped}
+use Rattle.elf_model.specs.declared.causes.Cause.TheVariants.{Short, NotElf, BadClass, BadData, BadVersion, ExtendedNumbering, TooManyHeaders, EntrySize, TableOutside, BadLink, NotStrings, SizeNotWhole, NameOutside, NameUnended, NoteCut, NoHash, HashShape, HashIndex, HashCycle, Unsupported, Overflow, NotRel, Unplaced, Undefined, PlaceOutside, SymbolIndex, TooLong, Budget, Unmapped, Thin, NotArchive, MemberCut}
 
 -- a cause's word
 unfoldable pub cause_word : Cause → List ℕ
@@ -34,3 +34,6 @@ cause_word SymbolIndex = codes "symbol-index"
 cause_word TooLong = codes "too-long"
 cause_word Budget = codes "budget"
 cause_word Unmapped = codes "unmapped"
+cause_word Thin = codes "thin"
+cause_word NotArchive = codes "not-archive"
+cause_word MemberCut = codes "member-cut"

@@ -5,6 +5,7 @@ use Rattle.elf_model.specs.Records.{FILE_HEADER_SIZE, SECTION_HEADER_SIZE, PROGR
 use Rattle.elf_model.specs.Names.{name_bytes}
 use Rattle.elf_model.specs.Checks.{pass, before_headers}
 use Rattle.elf_model.specs.Listing.{has, has_tables, SECTIONS, SEGMENTS, NOTES, DYNAMIC}
+use Rattle.elf_model.specs.Style.{Style, standard, viewed}
 use Rattle.elf_model.specs.TableKinds.{TableKind, table_headers}
 
 -- the costs of so many rows, or tables, from a first one on
@@ -58,9 +59,13 @@ behind_header file headers cap parts =
     cost_where (has_tables parts && is_loadable file headers)
     (sections_cost file cap parts + segments_cost file parts + tables_cost file cap parts)
 
--- how many bytes the listing of a file asks for at most: the file header, and what is asked for behind it
-unfoldable pub cost : List ℕ → ℕ → ℕ → ℕ → ℕ
-cost file headers cap parts = FILE_HEADER_SIZE + behind_header file headers cap parts
+-- HOW MANY BYTES THE LISTING OF A FILE ASKS FOR at most: the file header, and what is asked for behind it
+unfoldable pub listing_cost : List ℕ → ℕ → Style → ℕ → ℕ
+listing_cost file headers style parts = FILE_HEADER_SIZE + behind_header (viewed style file) headers style.cap parts
+
+-- that of the listing with so many bytes of a name, in the standards' names, by the section headers where there are some
+abbrev pub cost : List ℕ → ℕ → ℕ → ℕ → ℕ
+cost file headers cap parts = listing_cost file headers (standard cap) parts
 
 -- what no listing of a file of so many bytes passes, whatever its bytes are
 unfoldable pub ceiling : ℕ → ℕ → ℕ → ℕ

@@ -6,12 +6,14 @@ use Rattle.elf_model.specs.Names.{name_bytes}
 use Rattle.elf_model.specs.Checks.{pass, table_checks_of}
 use Rattle.elf_model.specs.Listing.{has}
 use Rattle.elf_model.specs.TableKinds.{TableKind, section_kinds, segment_kinds}
-use Rattle.elf_model.specs.Cost.{sum_over, cost_where, table_cost, kinds_cost, cost, ceiling}
+use Rattle.elf_model.specs.Cost.{sum_over, cost_where, table_cost, kinds_cost, listing_cost, ceiling}
+use Rattle.elf_model.specs.Style.{Style}
 
 -- no listing costs more than the ceiling of its file's length, whatever the file's bytes are
 abbrev pub CostIsWithinCeiling : Type 0
 CostIsWithinCeiling =
-    (file : List ℕ) → (headers cap parts : ℕ) → cost file headers cap parts ≤ ceiling (length file) headers cap
+    (file : List ℕ) → (headers : ℕ) → (style : Style) → (parts : ℕ)
+    → listing_cost file headers style parts ≤ ceiling (length file) headers style.cap
 
 -- the last cost of so many is added to the others
 abbrev pub LastCostIsAdded : Type 0

@@ -9,13 +9,14 @@ use Rattle.elf_model.specs.LineFronts.{symbol_front}
 use Rattle.elf_model.specs.Lines.{named_line, steps_line, refusal_line}
 use Rattle.elf_model.specs.Names.Shown.{Whole}
 use Rattle.elf_model.specs.Placing.{Layout}
+use Rattle.elf_model.specs.Records.{e_machine}
 use Rattle.elf_model.specs.declared.causes.Refusal.{Refusal}
 
 -- the text of a lookup's answer once so many names are compared: the symbol's line, under the wanted name, and the
 -- number; the number alone; the refusal
 abbrev pub lookup_text : List ℕ → List ℕ → Outcome → ℕ → List ℕ
 lookup_text file wanted (Found section index symbol) compared =
-    named_line (symbol_front file symbol section index) (Whole wanted) ++ steps_line true compared
+    named_line (symbol_front false (e_machine file) file symbol section index) (Whole wanted) ++ steps_line true compared
 lookup_text file wanted Absent compared = steps_line false compared
 lookup_text file wanted (Refused refusal) compared = refusal_line refusal
 

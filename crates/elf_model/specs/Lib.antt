@@ -2,6 +2,7 @@ pub mod Bytes
 pub mod Records
 pub mod Numbers
 pub mod Names
+pub mod Style
 pub mod Searches
 pub mod Notes
 pub mod Dynamic
@@ -18,8 +19,11 @@ pub mod Rows
 pub mod TableKinds
 pub mod Report
 pub mod ListingLaws
+pub mod StyleLaws
 pub mod Cost
 pub mod Budget
+pub mod Archive
+pub mod ArchiveCost
 pub mod CostLaws
 pub mod RecordLaws
 pub mod Answer
@@ -28,6 +32,7 @@ pub mod FixturesHash
 pub mod FixturesApply
 pub mod FixturesTables
 pub mod FixturesSegments
+pub mod FixturesArchive
 pub mod NameLaws
 pub mod NoteLaws
 pub mod Values
@@ -40,3 +45,4 @@ pub mod FindApplyAnswer
 pub mod HashLaws
 pub mod ApplyLaws
 pub mod ValueLaws
+pub mod Checking

@@ -18,10 +18,10 @@ header_line file =
     ++ space ++ right_decimal 5 (e_shnum file) ++ space ++ right_decimal 5 (e_shstrndx file) ++ newline
 
 -- the line of a program header: its index, type, permissions, offset in the file, virtual and physical
--- address, size in the file and in memory, alignment
-unfoldable pub segment_line : List ℕ → ℕ → ℕ → List ℕ
-segment_line bytes at index =
-    codes "P " ++ right_decimal 5 index ++ space ++ left_in 8 (segment_type_text (p_type bytes at))
+-- address, size in the file and in memory, alignment; with the names of the GNU system's types, where it is told so
+unfoldable pub segment_line : Bool → List ℕ → ℕ → ℕ → List ℕ
+segment_line gnu bytes at index =
+    codes "P " ++ right_decimal 5 index ++ space ++ left_in 8 (segment_type_text gnu (p_type bytes at))
     ++ space ++ segment_flags_text (p_flags bytes at) ++ space ++ hex 16 (p_offset bytes at)
     ++ space ++ hex 16 (p_vaddr bytes at) ++ space ++ hex 16 (p_paddr bytes at) ++ space ++ hex 16 (p_filesz bytes at)
     ++ space ++ hex 16 (p_memsz bytes at) ++ space ++ hex 16 (p_align bytes at) ++ newline

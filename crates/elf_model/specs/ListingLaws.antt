@@ -3,10 +3,11 @@ use Rattle.std.specs.Prelude.{◌≡◌, ℕ, ◌+◌, ◌≤◌, true, false, L
 use Rattle.elf_model.specs.Budget.{IsReport, IsBudgeted}
 use Rattle.elf_model.specs.Checks.{first_refusal, header_checks, load_checks}
 use Rattle.elf_model.specs.Lines.{header_line, refusal_line}
-use Rattle.elf_model.specs.Listing.{Item, each, lines_of, fault_of, has, has_tables, file_header_items, HEADER, ALL}
-use Rattle.elf_model.specs.Cost.{cost}
+use Rattle.elf_model.specs.Listing.{Item, each, lines_of, fault_of, has, report_of, has_tables, file_header_items, HEADER, ALL}
+use Rattle.elf_model.specs.Cost.{listing_cost}
 use Rattle.std.specs.Int.RustNames.{bit_and}
-use Rattle.elf_model.specs.Report.{items, report, report_fault}
+use Rattle.elf_model.specs.Report.{listing}
+use Rattle.elf_model.specs.Style.{Style, viewed}
 use Rattle.elf_model.specs.declared.causes.Refusal.{Refusal}
 
 -- the last row of so many stands behind the others
@@ -23,23 +24,25 @@ RowsSplit =
 -- with no part but the file header's the listing is the file header's
 abbrev pub HeaderAloneIsListed : Type 0
 HeaderAloneIsListed =
-    (file : List ℕ) → (headers cap parts : ℕ) → has_tables parts ≡ false
-    → items file headers cap parts ≡ file_header_items file parts
+    (file : List ℕ) → (headers : ℕ) → (style : Style) → (parts : ℕ) → has_tables parts ≡ false
+    → listing file headers style parts ≡ file_header_items file parts
 
 -- where a check of the file header fails, the listing is that fault's line alone, under any parts
 abbrev pub HeaderFaultIsListedAlone : Type 0
 HeaderFaultIsListedAlone =
-    (file : List ℕ) → (headers cap parts : ℕ) → (refusal : Refusal) → first_refusal (header_checks file) ≡ Some refusal
-    → (report file headers cap parts ≡ refusal_line refusal) × (report_fault file headers cap parts ≡ Some refusal)
+    (file : List ℕ) → (headers : ℕ) → (style : Style) → (parts : ℕ) → (refusal : Refusal)
+    → first_refusal (header_checks file) ≡ Some refusal
+    → (report_of (listing file headers style parts) ≡ refusal_line refusal)
+    × (fault_of (listing file headers style parts) ≡ Some refusal)
 
--- where a load check fails, the listing is the file header's line and that fault's line, under any parts with the file
--- header's and another
+-- where a load check of the file that the style looks at fails, the listing is the file header's line and that fault's line,
+-- under any parts with the file header's and another
 abbrev pub LoadFaultIsListedSecond : Type 0
 LoadFaultIsListedSecond =
-    (file : List ℕ) → (headers cap parts : ℕ) → (refusal : Refusal)
-    → first_refusal (header_checks file) ≡ None → first_refusal (load_checks file headers) ≡ Some refusal
+    (file : List ℕ) → (headers : ℕ) → (style : Style) → (parts : ℕ) → (refusal : Refusal)
+    → first_refusal (header_checks file) ≡ None → first_refusal (load_checks (viewed style file) headers) ≡ Some refusal
     → has parts HEADER ≡ true → has_tables parts ≡ true
-    → report file headers cap parts ≡ header_line file ++ refusal_line refusal
+    → report_of (listing file headers style parts) ≡ header_line file ++ refusal_line refusal
 
 -- what stands behind the first fault of a listing is not shown
 abbrev pub NothingBehindTheFault : Type 0
@@ -56,13 +59,13 @@ ListingsAppend =
 -- bits outside the seven parts mean nothing
 abbrev pub OtherBitsMeanNothing : Type 0
 OtherBitsMeanNothing =
-    (file : List ℕ) → (headers cap parts : ℕ)
-    → (items file headers cap (bit_and parts ALL) ≡ items file headers cap parts)
-    × (cost file headers cap (bit_and parts ALL) ≡ cost file headers cap parts)
+    (file : List ℕ) → (headers : ℕ) → (style : Style) → (parts : ℕ)
+    → (listing file headers style (bit_and parts ALL) ≡ listing file headers style parts)
+    × (listing_cost file headers style (bit_and parts ALL) ≡ listing_cost file headers style parts)
 
 -- within a budget of at least its cost a listing is its report
 abbrev pub AmpleBudgetIsReport : Type 0
 AmpleBudgetIsReport =
-    (budget : ℕ) → (file : List ℕ) → (headers cap parts : ℕ) → (text : List ℕ) → (fault : Option Refusal)
-    → cost file headers cap parts ≤ budget → IsBudgeted (Some budget) file headers cap parts text fault
-    → IsReport (items file headers cap parts) text fault
+    (budget : ℕ) → (file : List ℕ) → (headers : ℕ) → (style : Style) → (parts : ℕ) → (text : List ℕ) → (fault : Option Refusal)
+    → listing_cost file headers style parts ≤ budget → IsBudgeted (Some budget) file headers style parts text fault
+    → IsReport (listing file headers style parts) text fault

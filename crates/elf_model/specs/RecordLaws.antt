@@ -1,5 +1,5 @@
 -- What holds of records, whatever the bytes are.
-use Rattle.std.specs.Prelude.{◌≡◌, ℕ, ◌+◌, ◌≤◌, List}
+use Rattle.std.specs.Prelude.{◌≡◌, ℕ, ◌+◌, ◌≤◌, Bool, List}
 use Rattle.elf_model.specs.Bytes.{slice, field}
 use Rattle.elf_model.specs.LineFronts.{section_front, symbol_front, relocation_front, dynamic_front}
 use Rattle.elf_model.specs.Lines.{header_line, segment_line}
@@ -15,10 +15,10 @@ FieldsOfSlices =
 -- a record's line, or its front, is the same at the record's own bytes
 abbrev pub LinesOfSlices : Type 0
 LinesOfSlices =
-    (file : List ℕ) → (at index section machine : ℕ)
+    (file : List ℕ) → (gnu : Bool) → (machine at index section : ℕ)
     → (header_line (slice file 0 FILE_HEADER_SIZE) ≡ header_line file)
-    × (section_front (slice file at SECTION_HEADER_SIZE) 0 index ≡ section_front file at index)
-    × (segment_line (slice file at PROGRAM_HEADER_SIZE) 0 index ≡ segment_line file at index)
-    × (symbol_front (slice file at SYMBOL_SIZE) 0 section index ≡ symbol_front file at section index)
-    × (relocation_front (slice file at RELA_SIZE) 0 machine section ≡ relocation_front file at machine section)
-    × (dynamic_front (slice file at DYNAMIC_SIZE) 0 index ≡ dynamic_front file at index)
+    × (section_front gnu machine (slice file at SECTION_HEADER_SIZE) 0 index ≡ section_front gnu machine file at index)
+    × (segment_line gnu (slice file at PROGRAM_HEADER_SIZE) 0 index ≡ segment_line gnu file at index)
+    × (symbol_front gnu machine (slice file at SYMBOL_SIZE) 0 section index ≡ symbol_front gnu machine file at section index)
+    × (relocation_front gnu machine (slice file at RELA_SIZE) 0 section ≡ relocation_front gnu machine file at section)
+    × (dynamic_front gnu (slice file at DYNAMIC_SIZE) 0 index ≡ dynamic_front gnu file at index)

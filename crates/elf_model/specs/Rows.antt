@@ -4,6 +4,7 @@ use Rattle.elf_model.specs.Records.{e_machine, e_shstrndx, sh_name, section_at, 
 use Rattle.elf_model.specs.Numbers.{DT_NEEDED, DT_SONAME, DT_RPATH, DT_RUNPATH}
 use Rattle.elf_model.specs.Names.{Shown, shown}
 use Rattle.elf_model.specs.Names.Shown.{Whole}
+use Rattle.elf_model.specs.Style.{Style}
 use Rattle.elf_model.specs.Notes.{Note, Walk, note_shown}
 use Rattle.elf_model.specs.Tables.{SYMBOL_SIZE, RELA_SIZE, section_bytes, strings_of, linked_at, entry_at, symbol_checks_of}
 use Rattle.elf_model.specs.Checks.{first_refusal}
@@ -34,20 +35,21 @@ section_name file at cap =
     else shown (section_bytes file (section_at file (e_shstrndx file))) (sh_name file at) cap
 
 -- the row of a section
-unfoldable pub section_row : List ℕ → ℕ → ℕ → List Item
-section_row file cap index =
+unfoldable pub section_row : List ℕ → Style → ℕ → List Item
+section_row file style index =
     let at = section_at file index in
-    named_row (section_front file at index) at (section_name file at cap)
+    named_row (section_front style.gnu (e_machine file) file at index) at (section_name file at style.cap)
 
 -- the row of a program header
-unfoldable pub segment_row : List ℕ → ℕ → List Item
-segment_row file index = Line (segment_line file (segment_at file index) index) ∷ []
+unfoldable pub segment_row : List ℕ → Style → ℕ → List Item
+segment_row file style index = Line (segment_line style.gnu file (segment_at file index) index) ∷ []
 
 -- the row of a symbol of the symbol table that a section header describes
-unfoldable pub symbol_row : List ℕ → ℕ → ℕ → ℕ → ℕ → List Item
-symbol_row file cap section at index =
+unfoldable pub symbol_row : List ℕ → Style → ℕ → ℕ → ℕ → List Item
+symbol_row file style section at index =
     let symbol_at = entry_at file at SYMBOL_SIZE index in
-    named_row (symbol_front file symbol_at section index) symbol_at (shown (strings_of file at) (st_name file symbol_at) cap)
+    let front = symbol_front style.gnu (e_machine file) file symbol_at section index in
+    named_row front symbol_at (shown (strings_of file at) (st_name file symbol_at) style.cap)
 
 -- the offset that a fault names and the name that is shown, for the symbol of an index that a relocation entry names, whose
 -- section's header stands at an offset: symbol 0 has no name; any other is one of the linked table's, else it is a fault at
@@ -63,11 +65,11 @@ symbol_named file cap header_at rela_at symbol =
     ]
 
 -- the row of a relocation entry with the name of its symbol
-unfoldable pub relocation_row : List ℕ → ℕ → ℕ → ℕ → ℕ → List Item
-relocation_row file cap section at index =
+unfoldable pub relocation_row : List ℕ → Style → ℕ → ℕ → ℕ → List Item
+relocation_row file style section at index =
     let rela_at = entry_at file at RELA_SIZE index in
-    let symbol = symbol_named file cap at rela_at (r_sym file rela_at) in
-    named_row (relocation_front file rela_at (e_machine file) section) symbol.0 symbol.1
+    let symbol = symbol_named file style.cap at rela_at (r_sym file rela_at) in
+    named_row (relocation_front style.gnu (e_machine file) file rela_at section) symbol.0 symbol.1
 
 -- the row of a note
 unfoldable pub note_row : ℕ → ℕ → Note → Item
@@ -95,13 +97,13 @@ is_string_tag tag = tag == DT_NEEDED || tag == DT_SONAME || tag == DT_RPATH || t
 
 -- the row of the dynamic entry of an index at an offset, with its string where its value is a string table index: only
 -- there the string table is looked for, which may be refused
-unfoldable pub dynamic_row : List ℕ → ℕ → (ℕ → Result (List ℕ) Refusal) → ℕ → ℕ → List Item
-dynamic_row file cap strings dynamic_at index =
-    let front = dynamic_front file dynamic_at index in
+unfoldable pub dynamic_row : List ℕ → Style → (ℕ → Result (List ℕ) Refusal) → ℕ → ℕ → List Item
+dynamic_row file style strings dynamic_at index =
+    let front = dynamic_front style.gnu file dynamic_at index in
     elim (is_string_tag (d_tag file dynamic_at)) [
       | false ↦ named_row front dynamic_at no_name
       | true ↦ elim (strings dynamic_at) [
         | Err refusal ↦ Fault refusal ∷ []
-        | Ok table ↦ named_row front dynamic_at (shown table (d_un file dynamic_at) cap)
+        | Ok table ↦ named_row front dynamic_at (shown table (d_un file dynamic_at) style.cap)
       ]
     ]

@@ -7,6 +7,7 @@ use Rattle.elf_model.specs.Dynamic.{dynamic_count, dynamic_at}
 use Rattle.elf_model.specs.Listing.{Item, each, SYMBOLS, RELOCS, NOTES, DYNAMIC}
 use Rattle.elf_model.specs.Mapped.{mapped_strings}
 use Rattle.elf_model.specs.Names.{name_bytes}
+use Rattle.elf_model.specs.Style.{Style}
 use Rattle.elf_model.specs.Notes.{note_align, walked}
 use Rattle.elf_model.specs.Numbers.{SHT_RELA, SHT_NOTE, SHT_DYNAMIC, PT_NOTE, PT_DYNAMIC}
 use Rattle.elf_model.specs.Records.{e_shnum, e_phnum, sh_type, sh_offset, sh_size, sh_addralign, p_type, p_offset, p_filesz, p_align, section_at, segment_at}
@@ -22,7 +23,7 @@ pub record TableKind : Type 0 where
   pub checks : TableChecks
   pub entries : List ℕ → ℕ → ℕ
   pub entry_cost : ℕ → ℕ
-  pub rows : List ℕ → ℕ → ℕ → ℕ → List Item
+  pub rows : List ℕ → Style → ℕ → ℕ → List Item
 
 -- symbols (gABI 4, Symbol Table): each with its name
 unfoldable pub symbols : TableKind
@@ -32,7 +33,7 @@ symbols = record {
   checks = symbol_table;
   entries = λ bytes at. entry_count bytes at SYMBOL_SIZE;
   entry_cost = λ cap. SYMBOL_SIZE + name_bytes cap;
-  rows = λ file cap section at. each (symbol_row file cap section at) 0 (entry_count file at SYMBOL_SIZE);
+  rows = λ file style section at. each (symbol_row file style section at) 0 (entry_count file at SYMBOL_SIZE);
 }
 
 -- relocation entries (gABI 4, Relocation): each with its symbol and the symbol's name
@@ -43,15 +44,15 @@ relocations = record {
   checks = relocation_table;
   entries = λ bytes at. entry_count bytes at RELA_SIZE;
   entry_cost = λ cap. RELA_SIZE + (SYMBOL_SIZE + name_bytes cap);
-  rows = λ file cap section at. each (relocation_row file cap section at) 0 (entry_count file at RELA_SIZE);
+  rows = λ file style section at. each (relocation_row file style section at) 0 (entry_count file at RELA_SIZE);
 }
 
 -- the rows of dynamic entries (gABI 5, Dynamic Section), so many from an offset on, up to and with the first that is
 -- DT_NULL: where the strings of so many are told for the entry at an offset
-abbrev pub dynamic_rows : List ℕ → ℕ → (offset entries : ℕ) → (ℕ → ℕ → Result (List ℕ) Refusal) → List Item
-dynamic_rows file cap offset entries strings =
+abbrev pub dynamic_rows : List ℕ → Style → (offset entries : ℕ) → (ℕ → ℕ → Result (List ℕ) Refusal) → List Item
+dynamic_rows file style offset entries strings =
     let count = dynamic_count file offset entries in
-    each (λ i. dynamic_row file cap (strings count) (dynamic_at offset i) i) 0 count
+    each (λ i. dynamic_row file style (strings count) (dynamic_at offset i) i) 0 count
 
 -- the dynamic entries of a section, each with its string in the string table that the section links to
 unfoldable pub section_dynamic : TableKind
@@ -61,8 +62,8 @@ section_dynamic = record {
   checks = dynamic_table;
   entries = λ bytes at. entry_count bytes at DYNAMIC_SIZE;
   entry_cost = λ cap. DYNAMIC_SIZE + name_bytes cap;
-  rows = λ file cap section at.
-      dynamic_rows file cap (sh_offset file at) (entry_count file at DYNAMIC_SIZE) (λ n dynamic_at. Ok (strings_of file at));
+  rows = λ file style section at.
+      dynamic_rows file style (sh_offset file at) (entry_count file at DYNAMIC_SIZE) (λ n dynamic_at. Ok (strings_of file at));
 }
 
 -- those of a segment, each with its string in the string table that the entries tell of: they are gone through twice
@@ -73,8 +74,8 @@ segment_dynamic = record {
   checks = dynamic_segment;
   entries = λ bytes at. p_filesz bytes at / DYNAMIC_SIZE;
   entry_cost = λ cap. 2 * DYNAMIC_SIZE + name_bytes cap;
-  rows = λ file cap segment at.
-      dynamic_rows file cap (p_offset file at) (p_filesz file at / DYNAMIC_SIZE) (mapped_strings file (p_offset file at));
+  rows = λ file style segment at.
+      dynamic_rows file style (p_offset file at) (p_filesz file at / DYNAMIC_SIZE) (mapped_strings file (p_offset file at));
 }
 
 -- notes (gABI 5, Note Section), each of whose bytes counts: of which headers, and where such a header tells the table's
@@ -90,8 +91,8 @@ notes_of has_table offset size align = record {
   };
   entries = size;
   entry_cost = λ cap. 1;
-  rows = λ file cap index at.
-      walk_rows cap index (offset file at) (walked (note_align (align file at)) (slice file (offset file at) (size file at)));
+  rows = λ file style index at.
+      walk_rows style.cap index (offset file at) (walked (note_align (align file at)) (slice file (offset file at) (size file at)));
 }
 
 -- the notes of a section, and of a segment

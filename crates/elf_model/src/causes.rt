@@ -63,6 +63,12 @@ pub enum Cause {
     Budget,
     /// An address that no LOAD segment holds (gABI 5, Program Loading).
     Unmapped,
+    /// The file is a thin archive: its members' bytes are in other files.
+    Thin,
+    /// The file does not begin with an archive's magic string.
+    NotArchive,
+    /// No member of an archive stands where one should, or it ends past the end of the file.
+    MemberCut,
 }
 
 /// A refusal: its cause, and the file offset that it points to.

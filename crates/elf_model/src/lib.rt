@@ -1,6 +1,7 @@
 //! What the words of elfsee mean: the fields of an ELF64 file, the checks, the lines of a listing
-//! and the report, as definitions in `specs/`. As code there are only the causes of a refusal, and
-//! functions with no body whose contracts are laws about the definitions.
+//! and the report, as definitions in `specs/`. As code there are only the causes of a refusal, the
+//! states of a file, what a relocation type is, and functions with no body whose contracts are laws
+//! about the definitions.
 #![tactic(auto)]
 
 mod apply_laws;
@@ -12,6 +13,11 @@ mod listing_laws;
 mod names;
 mod notes;
 mod record_laws;
+mod relocation_types;
+mod states;
+mod style_laws;
 mod value_laws;
 
 pub use causes::{Cause, Refusal};
+pub use relocation_types::{Formula, Range, RelocationType};
+pub use states::FileState;

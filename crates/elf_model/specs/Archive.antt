@@ -1,0 +1,286 @@
+-- Archives, as `ar` writes static libraries: the magic string and members one behind the other. A member is a header of 60
+-- bytes of text, its data, and where its size is odd one byte of padding, which may be missing at the file's end.
+use Rattle.std.specs.Prelude.{ℕ, zero, suc, ◌+◌, ◌-◌, ◌*◌, ◌%◌, ◌^◌, ◌==◌, ◌&&◌, min, nat_le, nat_lt, not, Bool, true, false, if◌then◌else◌, List, [], ◌∷◌, ◌++◌, length, take, position, slice_index, is_some, Option, None, Some, Result, Ok, Err, codes}
+use Rattle.std.specs.Int.RustNames.{bit_and}
+use Rattle.std.specs.List.{list_all}
+use Rattle.elf_model.specs.Bytes.{slice, field}
+use Rattle.elf_model.specs.Checks.{Check, refuse}
+use Rattle.elf_model.specs.Lines.{named_line, refusal_line}
+use Rattle.elf_model.specs.Listing.{Item, Line, Fault, fault_of, guarded, report_of, ALL}
+use Rattle.elf_model.specs.Names.{Shown}
+use Rattle.elf_model.specs.Names.Shown.{Cut}
+use Rattle.elf_model.specs.Notes.{capped}
+use Rattle.elf_model.specs.Report.{listing}
+use Rattle.elf_model.specs.Style.{Style, standard}
+use Rattle.elf_model.specs.Text.{hex, right_decimal, space}
+use Rattle.elf_model.specs.declared.causes.Refusal.{Refusal}
+use Rattle.elf_model.specs.declared.causes.Cause.{Cause}
+use Rattle.elf_model.specs.declared.causes.Cause.TheVariants.{Short, TooLong, Thin, NotArchive, MemberCut, NameOutside, NameUnended}
+
+-- the size of the magic string, and of a member's header
+abbrev pub MAGIC_SIZE : ℕ
+MAGIC_SIZE = 8
+
+abbrev pub MEMBER_HEADER_SIZE : ℕ
+MEMBER_HEADER_SIZE = 60
+
+-- the magic string `!<arch>` and a newline, as a number; and that of an archive whose members are in other files, `!<thin>`
+abbrev pub ARCHIVE_MAGIC : ℕ
+ARCHIVE_MAGIC = 0x0a3e686372613c21
+
+abbrev pub THIN_MAGIC : ℕ
+THIN_MAGIC = 0x0a3e6e6968743c21
+
+-- the two bytes that end a member's header, a grave accent and a newline, as a number
+abbrev pub HEADER_MARK : ℕ
+HEADER_MARK = 0x0a60
+
+-- so many bytes are no archive: they are too few, or more than an offset counts
+abbrev pub archive_length_checks : ℕ → List Check
+archive_length_checks size = refuse (not (nat_lt size (2 ^ 63))) 0 TooLong ∷ refuse (nat_lt size MAGIC_SIZE) 0 Short ∷ []
+
+-- the magic string
+abbrev pub magic_checks : List ℕ → List Check
+magic_checks file =
+    refuse (field file 0 8 == THIN_MAGIC) 0 Thin
+    ∷ refuse (not (field file 0 8 == ARCHIVE_MAGIC)) 0 NotArchive
+    ∷ []
+
+-- the checks before the first member
+abbrev pub archive_checks : List ℕ → List Check
+archive_checks file = archive_length_checks (length file) ++ magic_checks file
+
+-- a byte is a decimal digit
+abbrev pub is_decimal : ℕ → Bool
+is_decimal byte = nat_le 48 byte && nat_le byte 57
+
+-- all bytes are spaces
+abbrev pub are_spaces : List ℕ → Bool
+are_spaces bytes = list_all (λ b. b == 32) bytes
+
+-- the number that digits spell behind a number so far, where spaces alone stand behind them
+unfoldable pub digits_then_spaces : ℕ → List ℕ → Option ℕ
+digits_then_spaces so_far [] = Some so_far
+digits_then_spaces so_far (b ∷ bs) =
+    if is_decimal b then digits_then_spaces (10 * so_far + (b - 48)) bs
+    else if are_spaces (b ∷ bs) then Some so_far
+    else None
+
+-- the decimal number in a field: a digit or more, then spaces up to the end
+unfoldable pub padded_decimal : List ℕ → Option ℕ
+padded_decimal bytes = if is_decimal (slice_index bytes 0) then digits_then_spaces 0 bytes else None
+
+-- bytes without the spaces at their end
+unfoldable pub trimmed : List ℕ → List ℕ
+trimmed [] = []
+trimmed (b ∷ bs) = if are_spaces (b ∷ bs) then [] else b ∷ trimmed bs
+
+-- some bytes of a file, by their offset and their number
+pub record Extent : Type 0 where
+  pub at : ℕ
+  pub size : ℕ
+
+-- the bytes of an extent
+abbrev pub bytes_in : List ℕ → Extent → List ℕ
+bytes_in file extent = slice file extent.at extent.size
+
+-- the size that a header at an offset tells, where it ends in its mark, and the size is a decimal number
+unfoldable pub told_size : List ℕ → ℕ → Option ℕ
+told_size bytes at = if field bytes (at + 58) 2 == HEADER_MARK then padded_decimal (slice bytes (at + 48) 10) else None
+
+-- the size of the data of the member whose header stands at an offset, where header and data lie within the file
+unfoldable pub member_size : List ℕ → ℕ → Result ℕ Cause
+member_size file at =
+    if nat_lt (length file) (at + MEMBER_HEADER_SIZE) then Err MemberCut
+    else elim (told_size file at) [
+      | None ↦ Err MemberCut
+      | Some size ↦ if nat_lt (length file) (at + MEMBER_HEADER_SIZE + size) then Err MemberCut else Ok size
+    ]
+
+-- the field of the name, 16 bytes
+abbrev pub name_field : List ℕ → ℕ → List ℕ
+name_field file at = slice file at 16
+
+-- the place of the first slash
+abbrev pub slash_in : List ℕ → Option ℕ
+slash_in bytes = position (λ b. b == 47) bytes
+
+-- the place of the first newline
+abbrev pub newline_in : List ℕ → Option ℕ
+newline_in bytes = position (λ b. b == 10) bytes
+
+-- the name that stands in its field: the bytes before a slash that does not stand first, else all without the spaces at their
+-- end; so the index of symbols has the name `/`, and the table of names `//`
+unfoldable pub short_name : List ℕ → List ℕ
+short_name bytes =
+    elim (slash_in bytes) [
+      | None ↦ trimmed bytes
+      | Some place ↦ if place == 0 then trimmed bytes else take place bytes
+    ]
+
+-- the offset in the table of names that a name's field tells: a slash, and a decimal number
+unfoldable pub long_offset : List ℕ → Option ℕ
+long_offset bytes = if slice_index bytes 0 == 47 then padded_decimal (slice bytes 1 15) else None
+
+-- a name without the slash at its end
+unfoldable pub without_slash : List ℕ → List ℕ
+without_slash name = if slice_index name (length name - 1) == 47 then take (length name - 1) name else name
+
+-- what is shown of a long name, by the cap + 2 bytes at its offset, fewer at the table's end: the name ends before the first
+-- newline; where none is among so many it is cut
+abbrev pub long_of : ℕ → List ℕ → Option ℕ → Result Shown Cause
+long_of cap front (Some place) = Ok (capped cap (without_slash (take place front)))
+long_of cap front None = if nat_lt (cap + 1) (length front) then Ok (Cut (take cap front)) else Err NameUnended
+
+-- the name at an offset of the table of names, as it is shown with at most cap bytes
+unfoldable pub long_name : List ℕ → ℕ → Option Extent → ℕ → Result Shown Cause
+long_name file cap None offset = Err NameOutside
+long_name file cap (Some table) offset =
+    let front = slice (bytes_in file table) offset (cap + 2) in
+    if nat_lt offset table.size then long_of cap front (newline_in front) else Err NameOutside
+
+-- the name of the member whose header stands at an offset, as it is shown
+unfoldable pub member_name : List ℕ → ℕ → Option Extent → ℕ → Result Shown Cause
+member_name file cap names at =
+    elim (long_offset (name_field file at)) [
+      | Some offset ↦ long_name file cap names offset
+      | None ↦ Ok (capped cap (short_name (name_field file at)))
+    ]
+
+-- a member: its index, the extent of its data, and its name as it is shown
+pub record Member : Type 0 where
+  pub index : ℕ
+  pub extent : Extent
+  pub name : Shown
+
+-- how far a walk over the members has come: the offset and the index of the next, and the table of names, if there was one
+pub record Progress : Type 0 where
+  pub at : ℕ
+  pub index : ℕ
+  pub names : Option Extent
+
+-- what stands at that offset: the file's end, nothing that is a member, or a member
+pub data Next : Type 0 where
+  Ends : Next
+  Broken : Refusal → Next
+  OneMember : Member → Next
+
+-- a member whose size and name are known
+abbrev pub member_named : Progress → ℕ → Result Shown Cause → Next
+member_named p size (Ok name) =
+    OneMember (record { index = p.index; extent = record { at = p.at + MEMBER_HEADER_SIZE; size = size }; name = name })
+member_named p size (Err cause) = Broken (record { at = p.at; cause = cause })
+
+unfoldable pub next_member : List ℕ → ℕ → Progress → Next
+next_member file cap p =
+    if nat_lt p.at (length file) then
+    elim (member_size file p.at) [
+      | Err cause ↦ Broken (record { at = p.at; cause = cause })
+      | Ok size ↦ member_named p size (member_name file cap p.names p.at)
+    ] else Ends
+
+-- the member whose header stands at an offset is the table of names: its name is two slashes
+abbrev pub is_name_table : List ℕ → ℕ → Bool
+is_name_table file at = field file at 8 == 0x2020202020202f2f && field file (at + 8) 8 == 0x2020202020202020
+
+-- the table of names behind a member: the first one decides
+abbrev pub names_behind : List ℕ → Progress → Extent → Option Extent
+names_behind file p extent =
+    elim p.names [ Some table ↦ Some table | None ↦ if is_name_table file p.at then Some extent else None ]
+
+-- the walk behind a member
+abbrev pub behind : List ℕ → Progress → Member → Progress
+behind file p m = record {
+  at = m.extent.at + m.extent.size + m.extent.size % 2;
+  index = p.index + 1;
+  names = names_behind file p m.extent;
+}
+
+-- the walk before the first member
+abbrev pub before_members : Progress
+before_members = record { at = MAGIC_SIZE; index = 0; names = None }
+
+-- members, and the refusal at the offset where none stands, if that is not the file's end
+pub record Members : Type 0 where
+  pub members : List Member
+  pub refusal : Option Refusal
+
+-- a member in front of those behind it
+abbrev pub with_member : Member → Members → Members
+with_member member rest = record { members = member ∷ rest.members; refusal = rest.refusal }
+
+-- the members from where a walk has come to, at most so many
+unfoldable pub members_from : ℕ → List ℕ → ℕ → Progress → Members
+members_from zero file cap p = record { members = []; refusal = None }
+members_from (suc most) file cap p =
+    elim (next_member file cap p) [
+      | Ends ↦ record { members = []; refusal = None }
+      | Broken refusal ↦ record { members = []; refusal = Some refusal }
+      | OneMember member ↦ with_member member (members_from most file cap (behind file p member))
+    ]
+
+-- the members of an archive: each takes more than a byte, so there are fewer than the file has
+unfoldable pub members_of : List ℕ → ℕ → Members
+members_of file cap = members_from (length file) file cap before_members
+
+-- the line of a member up to its name: its index, the offset and the size of its data
+unfoldable pub member_front : ℕ → ℕ → ℕ → List ℕ
+member_front index at size =
+    codes "A " ++ right_decimal 5 index ++ space ++ hex 16 at ++ space ++ hex 16 size ++ space
+
+-- the line of a member
+abbrev pub member_line : Member → List ℕ
+member_line m = named_line (member_front m.index m.extent.at m.extent.size) m.name
+
+-- a set of parts has one of a listing: without one the members' lines stand alone
+abbrev pub lists_members : ℕ → Bool
+lists_members parts = not (bit_and parts ALL == 0)
+
+-- a member's data begin with the magic number of ELF (gABI 4, ELF Identification)
+abbrev pub is_elf : List ℕ → Bool
+is_elf content = nat_le 4 (length content) && field content 0 4 == 0x464c457f
+
+-- the listing of a member that is an ELF file: that of the file that its data are
+abbrev pub member_listing : List ℕ → ℕ → Style → ℕ → Member → List Item
+member_listing file headers style parts m =
+    let content = bytes_in file m.extent in
+    if lists_members parts && is_elf content then listing content headers style parts else []
+
+-- items with the line of their first fault in the place of it and of all behind it: the fault of a member's listing ends that
+-- listing alone
+abbrev pub told : List Item → List Item
+told [] = []
+told (Line text ∷ rest) = Line text ∷ told rest
+told (Fault refusal ∷ rest) = Line (refusal_line refusal) ∷ []
+
+-- what is listed of a member: its line, and behind it its listing
+abbrev pub member_items : List ℕ → ℕ → Style → ℕ → Member → List Item
+member_items file headers style parts m = Line (member_line m) ∷ told (member_listing file headers style parts m)
+
+-- what is listed of members
+unfoldable pub members_items : List ℕ → ℕ → Style → ℕ → List Member → List Item
+members_items file headers style parts [] = []
+members_items file headers style parts (m ∷ ms) =
+    member_items file headers style parts m ++ members_items file headers style parts ms
+
+-- the end of an archive's listing: the refusal where no member stands
+abbrev pub end_items : Option Refusal → List Item
+end_items None = []
+end_items (Some refusal) = Fault refusal ∷ []
+
+-- what is listed of members, and of the place where none stands
+unfoldable pub walk_items : List ℕ → ℕ → Style → ℕ → Members → List Item
+walk_items file headers style parts walk = members_items file headers style parts walk.members ++ end_items walk.refusal
+
+-- what is listed of an archive
+unfoldable pub archive_items : List ℕ → ℕ → Style → ℕ → List Item
+archive_items file headers style parts =
+    guarded (archive_checks file) (walk_items file headers style parts (members_of file style.cap))
+
+-- the text of an archive's listing, with so many bytes of a name, in the standards' names
+abbrev pub archive : List ℕ → (headers cap parts : ℕ) → List ℕ
+archive file headers cap parts = report_of (archive_items file headers (standard cap) parts)
+
+-- the listing of a member is refused
+abbrev pub is_refused : List ℕ → ℕ → Style → ℕ → Member → Bool
+is_refused file headers style parts m = is_some (fault_of (member_listing file headers style parts m))

@@ -1,0 +1,62 @@
+-- How many bytes the listing of an archive asks for at most, and what it never passes.
+use Rattle.std.specs.Prelude.{ℕ, zero, suc, ◌≡◌, ◌<◌, ◌+◌, ◌*◌, ◌/◌, ◌&&◌, nat_le, nat_lt, is_some, Bool, true, false, if◌then◌else◌, List, [], ◌∷◌, length, Option, None, Some, ◌⊎◌}
+use Rattle.std.specs.List.{list_any}
+use Rattle.elf_model.specs.Archive.{Member, Members, Next, Ends, Broken, OneMember, Progress, MAGIC_SIZE, MEMBER_HEADER_SIZE, archive_checks, archive_items, before_members, behind, bytes_in, is_elf, is_refused, lists_members, long_offset, members_of, name_field, next_member}
+use Rattle.elf_model.specs.Budget.{IsCut, IsReport}
+use Rattle.elf_model.specs.Checks.{first_refusal, pass}
+use Rattle.elf_model.specs.Cost.{ceiling, cost_where, listing_cost}
+use Rattle.elf_model.specs.Names.{pad64}
+use Rattle.elf_model.specs.Style.{Style}
+use Rattle.elf_model.specs.declared.causes.Refusal.{Refusal}
+
+-- the bytes that a long name costs at most: cap + 2 in whole pieces of 64
+abbrev pub long_name_bytes : ℕ → ℕ
+long_name_bytes cap = pad64 (cap + 2)
+
+-- the next member costs its header, where that is within the file, and its name where that is a long one
+unfoldable pub header_cost : List ℕ → ℕ → Progress → ℕ
+header_cost file cap p =
+    cost_where (nat_le (p.at + MEMBER_HEADER_SIZE) (length file))
+    (MEMBER_HEADER_SIZE + cost_where (is_some (long_offset (name_field file p.at))) (long_name_bytes cap))
+
+-- a member's listing costs the four bytes that tell whether it is an ELF file, and what that file's listing does
+unfoldable pub member_cost : List ℕ → ℕ → Style → ℕ → Member → ℕ
+member_cost file headers style parts m =
+    let content = bytes_in file m.extent in
+    cost_where (lists_members parts) (4 + cost_where (is_elf content) (listing_cost content headers style parts))
+
+-- what the members cost from where a walk has come to, at most so many, and the place where none stands
+unfoldable pub members_cost : ℕ → List ℕ → ℕ → Style → ℕ → Progress → ℕ
+members_cost zero file headers style parts p = 0
+members_cost (suc most) file headers style parts p =
+    header_cost file style.cap p
+    + elim (next_member file style.cap p) [
+      | Ends ↦ 0
+      | Broken refusal ↦ 0
+      | OneMember member ↦
+          member_cost file headers style parts member + members_cost most file headers style parts (behind file p member)
+    ]
+
+-- how many bytes the listing of an archive asks for at most
+unfoldable pub archive_cost : List ℕ → ℕ → Style → ℕ → ℕ
+archive_cost file headers style parts =
+    MAGIC_SIZE
+    + cost_where (pass (archive_checks file)) (members_cost (length file) file headers style parts before_members)
+
+-- what no listing of an archive of so many bytes passes: for each 60 bytes a member's header, a long name, the four bytes
+-- that tell an ELF file, and what an empty file may cost; and once what a file of all bytes may
+unfoldable pub archive_ceiling : ℕ → ℕ → ℕ → ℕ
+archive_ceiling size headers cap =
+    MAGIC_SIZE + size / MEMBER_HEADER_SIZE * (64 + long_name_bytes cap + ceiling 0 headers cap) + ceiling size headers cap
+
+-- what the listing of an archive within a budget writes, and the fault that it answers: the whole, or a front of whole lines
+-- where it costs more than the budget
+abbrev pub IsArchiveBudgeted : Option ℕ → List ℕ → ℕ → Style → ℕ → List ℕ → Option Refusal → Type 0
+IsArchiveBudgeted None file headers style parts text fault = IsReport (archive_items file headers style parts) text fault
+IsArchiveBudgeted (Some budget) file headers style parts text fault =
+    IsReport (archive_items file headers style parts) text fault
+    ⊎ ((budget < archive_cost file headers style parts) × IsCut (length file) (archive_items file headers style parts) text fault)
+
+-- the listing of a member is refused
+abbrev pub any_refused : List ℕ → ℕ → Style → ℕ → Bool
+any_refused file headers style parts = list_any (is_refused file headers style parts) (members_of file style.cap).members

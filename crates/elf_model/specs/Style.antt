@@ -1,0 +1,31 @@
+-- How a listing is made, beside how many headers are permitted and which parts it has.
+use Rattle.std.specs.Prelude.{ℕ, suc, ◌+◌, ◌&&◌, ◌||◌, nat_le, nat_lt, if◌then◌else◌, Bool, true, false, List, [], ◌∷◌}
+
+-- HOW ROWS ARE SHOWN: how many bytes of a name, whether numbers of the GNU system have names too, and whether tables are found
+-- by the program headers also where there are section headers
+pub record Style : Type 0 where
+  pub cap : ℕ
+  pub gnu : Bool
+  pub by_segments : Bool
+
+-- so many bytes of a name, with the standards' names alone, and by the section headers where there are some
+abbrev pub standard : ℕ → Style
+standard cap = record { cap = cap; gnu = false; by_segments = false }
+
+-- the places of a file header that tell of section headers: e_shoff, and e_shnum with e_shstrndx behind it
+unfoldable pub tells_of_sections : ℕ → Bool
+tells_of_sections place = (nat_le 40 place && nat_lt place 48) || (nat_le 60 place && nat_lt place 64)
+
+-- bytes of a file from a place on, with zeros where its header tells of section headers
+unfoldable pub without_sections_from : ℕ → List ℕ → List ℕ
+without_sections_from place [] = []
+without_sections_from place (byte ∷ bytes) =
+    (if tells_of_sections place then 0 else byte) ∷ without_sections_from (suc place) bytes
+
+-- a file whose header tells of no section headers
+abbrev pub without_sections : List ℕ → List ℕ
+without_sections file = without_sections_from 0 file
+
+-- the file whose tables a style lists
+abbrev pub viewed : Style → List ℕ → List ℕ
+viewed style file = elim style.by_segments [ true ↦ without_sections file | false ↦ file ]

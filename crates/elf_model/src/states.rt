@@ -1,0 +1,19 @@
+//! What is told of a file among many.
+use crate::causes::Refusal;
+
+/// The state of a file among many.
+///
+/// Each has a word of its own in a check's line.
+#[derive(Clone, Copy, Debug, PartialEq, Eq)]
+pub enum FileState {
+    /// Its listing has no fault.
+    Ok,
+    /// Its listing ends in this refusal.
+    Refused(Refusal),
+    /// It does not begin with the magic number (gABI 4, ELF Identification).
+    NoElf,
+    /// It can't be opened, or a read of it failed.
+    Unread,
+    /// There was no memory for opening it.
+    Memory,
+}

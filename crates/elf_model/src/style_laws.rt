@@ -1,0 +1,43 @@
+//! The laws of a file whose header tells of no section headers.
+ghost use Rattle.elf_model.specs.StyleLaws.{ViewIsAsLong, ViewIsSeenInSlices, ViewIsTheFileBehindTheHeader};
+ghost use Rattle.elf_model.specs.StyleLaws.{ViewIsTheFileElsewhere, ViewTellsOfNone, ViewIsCheckedAlike, ViewIsItsOwnView};
+
+/// It is as long as the file.
+#[tactic(auto, using(crate::proofs::StyleLemmas::view_is_as_long))]
+pub fn view_is_as_long()
+    ensures { ViewIsAsLong }
+{}
+
+/// Its bytes at a place are those of the file, with zeros where the header tells of section headers.
+pub fn view_is_seen_in_slices()
+    ensures { ViewIsSeenInSlices }
+{}
+
+/// Behind the file header its bytes are the file's.
+#[tactic(auto, using(crate::proofs::StyleLemmas::view_behind))]
+pub fn view_is_the_file_behind_the_header()
+    ensures { ViewIsTheFileBehindTheHeader }
+{}
+
+/// Before e_shoff, and between that and e_shnum, its bytes are the file's.
+#[tactic(auto, using(crate::proofs::StyleLemmas::view_elsewhere))]
+pub fn view_is_the_file_elsewhere()
+    ensures { ViewIsTheFileElsewhere }
+{}
+
+/// Its header tells of no section headers.
+pub fn view_tells_of_none()
+    ensures { ViewTellsOfNone }
+{}
+
+/// Its header passes the checks that the file's passes, and no others.
+#[tactic(auto, using(crate::proofs::StyleLemmas::view_checked_alike))]
+pub fn view_is_checked_alike()
+    ensures { ViewIsCheckedAlike }
+{}
+
+/// What is hidden once is hidden.
+#[tactic(auto, using(crate::proofs::StyleLemmas::view_is_its_own))]
+pub fn view_is_its_own()
+    ensures { ViewIsItsOwnView }
+{}
