@@ -1,4 +1,5 @@
 -- What a budget allows, by the number of lines and the offset of the read; and what is shown, by what a budget allows.
+use Rattle.elf_model.specs.Style.{standard}
 use Rattle.std.proofs.Common.{◌≡◌, ◌<◌, ◌⊎◌, ℕ, List, ◌++◌, length, take, drop, Option, None, Some, refl, ap, sym, ◌∙◌, inl, inr}
 use Rattle.std.proofs.Math.Seq.{take-append_seam}
 use Rattle.std.proofs.lemmas.List.{take-append-drop}
@@ -54,7 +55,7 @@ behind_cut file headers cap parts budget count at text ends =
       },
     )
 
-pub allowed : (file : List ℕ) (headers cap parts budget : ℕ) (text : List ℕ) (fault : Option Refusal) → IsBudgeted (Some budget) file headers cap parts text fault
+pub allowed : (file : List ℕ) (headers cap parts budget : ℕ) (text : List ℕ) (fault : Option Refusal) → IsBudgeted (Some budget) file headers (standard cap) parts text fault
     → ((text ≡ report file headers cap parts) × (fault ≡ report_fault file headers cap parts))
     ⊎ ((count : ℕ) × (at : ℕ) × (fault ≡ Some (spent_at at)) × EndsBehind file headers cap parts budget count at text)
 allowed file headers cap parts budget text fault (inl is) = inl (is.text_is, is.fault_is)
@@ -78,19 +79,19 @@ whole_answer file headers cap parts text fault text_is fault_is =
 
 -- what a budget allows is shown with the status of its fault
 pub allowed_shown : (budget : Option ℕ) (file : List ℕ) (headers cap parts : ℕ) (text : List ℕ) (fault : Option Refusal)
-    → IsBudgeted budget file headers cap parts text fault → IsShown budget file headers cap parts (answer_by text fault)
+    → IsBudgeted budget file headers (standard cap) parts text fault → IsShown budget file headers (standard cap) parts (answer_by text fault)
 allowed_shown budget file headers cap parts text fault is = record { fault = fault; listed = is; status_is = refl }
 
 -- what is shown a budget allows, and its status is that of its fault
 abbrev Allowed : Option ℕ → List ℕ → ℕ → ℕ → ℕ → Answer → Type 0
 Allowed budget file headers cap parts answer =
-    (fault : Option Refusal) × IsBudgeted budget file headers cap parts answer.text fault × (answer.status ≡ status_of fault)
+    (fault : Option Refusal) × IsBudgeted budget file headers (standard cap) parts answer.text fault × (answer.status ≡ status_of fault)
 
 pub shown_allowed : (budget : Option ℕ) (file : List ℕ) (headers cap parts : ℕ) (answer : Answer)
-    → IsShown budget file headers cap parts answer → Allowed budget file headers cap parts answer
+    → IsShown budget file headers (standard cap) parts answer → Allowed budget file headers cap parts answer
 shown_allowed budget file headers cap parts answer shown = (shown.fault, shown.listed, shown.status_is)
 
-whole_shown : (budget : Option ℕ) (file : List ℕ) (headers cap parts : ℕ) → IsShown budget file headers cap parts (show_answer file headers cap parts)
+whole_shown : (budget : Option ℕ) (file : List ℕ) (headers cap parts : ℕ) → IsShown budget file headers (standard cap) parts (show_answer file headers cap parts)
 whole_shown None file headers cap parts =
     allowed_shown None file headers cap parts (report file headers cap parts) (report_fault file headers cap parts)
     (record { text_is = refl; fault_is = refl })

@@ -1,5 +1,7 @@
 pub mod Examples
+pub mod ListedArchives
 pub mod ListedBudgets
+pub mod ListedChecks
 pub mod ListedCosts
 pub mod ListedHeaders
 pub mod ListedOrder

@@ -1,4 +1,5 @@
 -- Where a read budget ends a listing.
+use Rattle.elf_model.specs.Style.{standard}
 use Rattle.std.specs.Prelude.{ℕ, ◌≡◌, ◌<◌, ◌⊎◌, ◌++◌, List, [], ◌∷◌, length, take, Option, None, Some, codes}
 use Rattle.elf_model.specs.Answer.{Answer, IsShown, show_answer}
 use Rattle.elf_model.specs.Budget.{IsBudget, IsCut, IsBudgeted}
@@ -27,16 +28,16 @@ abbrev pub BudgetMayEndAListing : Type 0
 BudgetMayEndAListing =
     (file : List ℕ) (headers cap parts budget count at : ℕ) (text : List ℕ)
     → EndsBehind file headers cap parts budget count at text
-    → IsBudgeted (Some budget) file headers cap parts text (Some (spent_at at))
+    → IsBudgeted (Some budget) file headers (standard cap) parts text (Some (spent_at at))
 
 -- nothing else is: without a budget the report and its fault, with one these or such a text and the refusal of its read
 abbrev pub NothingElseIsAllowed : Type 0
 NothingElseIsAllowed =
     (file : List ℕ) (headers cap parts : ℕ) (text : List ℕ) (fault : Option Refusal)
-    → (IsBudgeted None file headers cap parts text fault
+    → (IsBudgeted None file headers (standard cap) parts text fault
     → (text ≡ report file headers cap parts) × (fault ≡ report_fault file headers cap parts))
     × ((budget : ℕ)
-    → IsBudgeted (Some budget) file headers cap parts text fault
+    → IsBudgeted (Some budget) file headers (standard cap) parts text fault
     → ((text ≡ report file headers cap parts) × (fault ≡ report_fault file headers cap parts))
     ⊎ ((count : ℕ) × (at : ℕ) × (fault ≡ Some (spent_at at)) × EndsBehind file headers cap parts budget count at text))
 
@@ -58,18 +59,18 @@ OtherTextsAreNoCuts =
 abbrev pub AllowedAnswersAreShown : Type 0
 AllowedAnswersAreShown =
     (file : List ℕ) (headers cap parts : ℕ)
-    → ((budget : Option ℕ) → IsShown budget file headers cap parts (show_answer file headers cap parts))
+    → ((budget : Option ℕ) → IsShown budget file headers (standard cap) parts (show_answer file headers cap parts))
     × ((budget count at : ℕ) (text : List ℕ)
     → EndsBehind file headers cap parts budget count at text
-    → IsShown (Some budget) file headers cap parts (record { text = text; status = 1 }))
+    → IsShown (Some budget) file headers (standard cap) parts (record { text = text; status = 1 }))
 
 -- and nothing else is shown
 abbrev pub NothingElseIsShown : Type 0
 NothingElseIsShown =
     (file : List ℕ) (headers cap parts : ℕ) (answer : Answer)
-    → (IsShown None file headers cap parts answer → answer ≡ show_answer file headers cap parts)
+    → (IsShown None file headers (standard cap) parts answer → answer ≡ show_answer file headers cap parts)
     × ((budget : ℕ)
-    → IsShown (Some budget) file headers cap parts answer
+    → IsShown (Some budget) file headers (standard cap) parts answer
     → (answer ≡ show_answer file headers cap parts)
     ⊎ ((answer.status ≡ 1) × ((count : ℕ) × (at : ℕ) × EndsBehind file headers cap parts budget count at answer.text)))
 
@@ -92,26 +93,26 @@ BudgetsThatEnd =
 abbrev pub BudgetsThatSuffice : Type 0
 BudgetsThatSuffice =
     (text : List ℕ) (fault : Option Refusal)
-    → (IsBudgeted (Some 432) one_symbol_table 3 63 ALL text fault → text ≡ report one_symbol_table 3 63 ALL)
-    × (IsBudgeted (Some 64) one_symbol_table 3 63 HEADER text fault → text ≡ report one_symbol_table 3 63 HEADER)
+    → (IsBudgeted (Some 432) one_symbol_table 3 (standard 63) ALL text fault → text ≡ report one_symbol_table 3 63 ALL)
+    × (IsBudgeted (Some 64) one_symbol_table 3 (standard 63) HEADER text fault → text ≡ report one_symbol_table 3 63 HEADER)
 
 -- a listing without a fault that ends in one was cut short for want of budget, at a read below the file's length
 abbrev pub CutsAreForBudget : Type 0
 CutsAreForBudget =
     (text : List ℕ) (refusal : Refusal)
-    → IsBudgeted (Some 0) one_symbol_table 3 63 ALL text (Some refusal)
+    → IsBudgeted (Some 0) one_symbol_table 3 (standard 63) ALL text (Some refusal)
     → IsBudget refusal × (refusal.at < 312)
 
 -- an empty file is short under every budget
 abbrev pub EmptyFileIsShort : Type 0
 EmptyFileIsShort =
     (budget : ℕ) (text : List ℕ) (fault : Option Refusal)
-    → IsBudgeted (Some budget) [] 3 63 ALL text fault
+    → IsBudgeted (Some budget) [] 3 (standard 63) ALL text fault
     → text ≡ codes "! 0000000000000000 short\n"
 
 -- a text and a status as they are shown of one symbol table within a budget
 abbrev pub Shows : Option ℕ → ℕ → List ℕ → ℕ → Type 0
-Shows budget parts text status = IsShown budget one_symbol_table 3 63 parts (record { text = text; status = status })
+Shows budget parts text status = IsShown budget one_symbol_table 3 (standard 63) parts (record { text = text; status = status })
 
 -- a cut is shown where the budget is below the cost, and not with status 0, within a budget of the cost or without a budget; a
 -- whole listing is shown with its own text and status alone

@@ -1,10 +1,11 @@
 -- Listings of notes and dynamic entries in files without sections: the program headers describe the tables.
-use Rattle.std.specs.Prelude.{◌≡◌, ℕ, ◌+◌, ◌-◌, ◌*◌, ◌^◌, List, [], ◌∷◌, ◌++◌, codes, take}
+use Rattle.std.specs.Prelude.{◌≡◌, ℕ, ◌+◌, ◌-◌, ◌*◌, ◌^◌, true, false, List, [], ◌∷◌, ◌++◌, codes, take}
 use Rattle.elf_model.specs.Bytes.{little}
-use Rattle.elf_model.specs.Cost.{cost, ceiling}
-use Rattle.elf_model.specs.Listing.{SEGMENTS, SYMBOLS, NOTES, DYNAMIC, ALL}
-use Rattle.elf_model.specs.Report.{report}
-use Rattle.elf_model.specs.Fixtures.{zeros, with_bytes, section_header}
+use Rattle.elf_model.specs.Cost.{cost, listing_cost, ceiling}
+use Rattle.elf_model.specs.Listing.{report_of, SEGMENTS, SYMBOLS, NOTES, DYNAMIC, ALL}
+use Rattle.elf_model.specs.Report.{report, listing}
+use Rattle.elf_model.specs.Style.{Style}
+use Rattle.elf_model.specs.Fixtures.{zeros, with_bytes, section_header, one_symbol_table}
 use Rattle.elf_model.specs.FixturesTables.{program_header, one_segment, plain_note, aligned_note, tagged}
 use Rattle.elf_model.specs.FixturesSegments.{object_with, object, library_strings, loaded_at, loaded, needed_with, library_without_sections}
 
@@ -324,3 +325,24 @@ abbrev pub SectionsByTheirNumber : Type 0
 SectionsByTheirNumber =
     (report (with_bytes 0x3a (little 2 64 ++ little 2 1) library_without_sections) 2 63 DYNAMIC ≡ [])
     × (cost (with_bytes 0x3a (little 2 64 ++ little 2 1) library_without_sections) 2 63 DYNAMIC ≡ 64 + 64)
+
+-- a file whose header tells of section headers that are no such, listed by its program headers: its own H line, and behind it
+-- what the file without sections lists, at the same cost
+abbrev hidden : List ℕ
+hidden = with_bytes 0x28 (little 8 0x1000) (with_bytes 0x3c (little 2 3 ++ little 2 7) library_without_sections)
+
+abbrev by_segments : Style
+by_segments = record { cap = 63; gnu = false; by_segments = true }
+
+abbrev pub SegmentsDespiteSections : Type 0
+SegmentsDespiteSections =
+    (report_of (listing hidden 2 by_segments ALL)
+    ≡ codes "H DYN     62 0000000000000000 0000000000000040 0000000000001000 00000000     2     3     7\n"
+    ++ codes "P     0 LOAD     R-X 0000000000000000 0000000000400000 0000000000400000 00000000000000fb 00000000000000fb 0000000000001000\n"
+    ++ codes "P     1 DYNAMIC  RW- 00000000000000b0 00000000004000b0 00000000004000b0 0000000000000040 0000000000000040 0000000000000008\n"
+    ++ needed_lines)
+    × (report hidden 3 63 DYNAMIC ≡ codes "! 000000000000003a entry-size\n")
+    × (report_of (listing hidden 1 by_segments DYNAMIC) ≡ codes "! 0000000000000038 too-many-headers\n")
+    × (listing_cost hidden 2 by_segments ALL ≡ 560)
+    × (report_of (listing library_without_sections 2 by_segments ALL) ≡ report library_without_sections 2 63 ALL)
+    × (report_of (listing one_symbol_table 3 by_segments (SYMBOLS + DYNAMIC)) ≡ [])

@@ -177,7 +177,7 @@ EmptySymbolTableIsNotChecked =
 -- the lines of a lookup: the symbol with the wanted name, whole, and the number of symbols compared
 abbrev pub LookupLinesList : Type 0
 LookupLinesList =
-    (named_line (symbol_front hash_with_cycle 0x88 2 2) (Whole (codes "b")) ++ steps_line true 2
+    (named_line (symbol_front false 62 hash_with_cycle 0x88 2 2) (Whole (codes "b")) ++ steps_line true 2
     ≡ codes "Y     2          2 0000000000000020 0000000000000000 FUNC    GLOBAL DEFAULT   ABS   b\n"
     ++ codes "F found           2\n")
     × (steps_line false 2 ≡ codes "F absent          2\n")

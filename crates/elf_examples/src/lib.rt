@@ -4,7 +4,9 @@
 #![tactic(auto)]
 
 mod examples;
+mod listed_archives;
 mod listed_budgets;
+mod listed_checks;
 mod listed_costs;
 mod listed_headers;
 mod listed_order;

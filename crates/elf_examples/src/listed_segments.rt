@@ -1,5 +1,5 @@
 //! Listings of the notes and dynamic entries that program headers describe, each computed by the prover.
-ghost use Rattle.elf_examples.specs.ListedSegments.{SegmentEntriesList, SegmentEntriesCost, UnmappedStringsAreRefused, SegmentStringsAreNames, StringsAreSoughtLate, FirstTagsCount, AddressesDoNotWrap, SegmentEntriesAreChecked, FirstLoadDecides, SegmentsByFileSize, NoSegmentPastTheLast, SegmentTablesInOrder, TwoNotesOfASegment, NoHeadersNoTables, SectionsDecide, StringsInsideTheFile, EmptyStringsAtTheEnd, FirstStringsAreSought, OffsetsDoNotWrap, OtherTypesLoadNothing, EachTableHasItsStrings, SectionsByTheirNumber, SegmentsHaveFourNumbers};
+ghost use Rattle.elf_examples.specs.ListedSegments.{SegmentEntriesList, SegmentEntriesCost, UnmappedStringsAreRefused, SegmentStringsAreNames, StringsAreSoughtLate, FirstTagsCount, AddressesDoNotWrap, SegmentEntriesAreChecked, FirstLoadDecides, SegmentsByFileSize, NoSegmentPastTheLast, SegmentTablesInOrder, TwoNotesOfASegment, NoHeadersNoTables, SectionsDecide, StringsInsideTheFile, EmptyStringsAtTheEnd, FirstStringsAreSought, OffsetsDoNotWrap, OtherTypesLoadNothing, EachTableHasItsStrings, SectionsByTheirNumber, SegmentsHaveFourNumbers, SegmentsDespiteSections};
 
 /// Dynamic entries of a segment, with their strings where a segment loads them.
 #[tactic(auto, unfolding(elf_model::proofs::OnLiterals::on_literals))]
@@ -137,4 +137,10 @@ pub fn sections_by_their_number()
 #[tactic(auto, unfolding(elf_model::proofs::OnLiterals::on_literals))]
 pub fn segments_have_four_numbers()
     ensures { SegmentsHaveFourNumbers }
+{}
+
+/// A file whose header tells of section headers that are none, by its program headers.
+#[tactic(auto, unfolding(elf_model::proofs::OnLiterals::on_literals))]
+pub fn segments_despite_sections()
+    ensures { SegmentsDespiteSections }
 {}

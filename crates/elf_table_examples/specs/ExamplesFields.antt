@@ -1,12 +1,12 @@
 -- Worked examples of fields and names: records whose bytes all differ, and each number that has a name.
-use Rattle.std.specs.Prelude.{◌≡◌, ℕ, List, [], ◌∷◌, codes, map}
+use Rattle.std.specs.Prelude.{◌≡◌, ℕ, false, List, [], ◌∷◌, codes, map}
 use Rattle.elf_model.specs.Records.{e_type, e_machine, e_entry, e_phoff, e_shoff, e_flags, e_phentsize, e_phnum, e_shentsize, e_shnum, e_shstrndx, sh_name, sh_type, sh_flags, sh_addr, sh_offset, sh_size, sh_link, sh_info, sh_addralign, sh_entsize, p_type, p_flags, p_offset, p_vaddr, p_paddr, p_filesz, p_memsz, p_align, st_name, st_info, st_other, st_shndx, st_value, st_size, r_offset, r_info, r_addend, d_tag, d_un, n_namesz, n_descsz, n_type}
 use Rattle.elf_model.specs.NameTables.{file_type_text, section_type_text, section_flags_text, segment_type_text, segment_flags_text, symbol_types, bindings, visibilities, places, name_or_number, relocation_type_text, dynamic_tag_text}
 use Rattle.elf_model.specs.Lines.{header_line, segment_line, escaped}
 use Rattle.elf_model.specs.LineFronts.{section_front, symbol_front, relocation_front, dynamic_front}
 use Rattle.elf_model.specs.Causes.{cause_word}
 use Rattle.elf_model.specs.FixturesTables.{numbers_from}
-use Rattle.elf_model.specs.declared.causes.Cause.TheVariants.{Short, NotElf, BadClass, BadData, BadVersion, ExtendedNumbering, TooManyHeaders, EntrySize, TableOutside, BadLink, NotStrings, SizeNotWhole, NameOutside, NameUnended, NoteCut, NoHash, HashShape, HashIndex, HashCycle, Unsupported, Overflow, NotRel, Unplaced, Undefined, PlaceOutside, SymbolIndex, TooLong, Budget, Unmapped}
+use Rattle.elf_model.specs.declared.causes.Cause.TheVariants.{Short, NotElf, BadClass, BadData, BadVersion, ExtendedNumbering, TooManyHeaders, EntrySize, TableOutside, BadLink, NotStrings, SizeNotWhole, NameOutside, NameUnended, NoteCut, NoHash, HashShape, HashIndex, HashCycle, Unsupported, Overflow, NotRel, Unplaced, Undefined, PlaceOutside, SymbolIndex, TooLong, Budget, Unmapped, Thin, NotArchive, MemberCut}
 
 -- 128 bytes, each of which is its own place
 unfoldable pub places_as_bytes : List ℕ
@@ -23,7 +23,7 @@ HeaderFieldsStand =
 -- the fields of a section header
 abbrev pub SectionFieldsStand : Type 0
 SectionFieldsStand =
-    (section_front places_as_bytes 0x40 12345
+    (section_front false 0x1312 places_as_bytes 0x40 12345
     ≡ codes "S 12345 47464544      IOC?         5756555453525150 5f5e5d5c5b5a5958 6766656463626160 6b6a6968 6f6e6d6c ")
     × (sh_name places_as_bytes 0x40 ≡ 0x43424140)
     × (sh_addralign places_as_bytes 0x40 ≡ 0x7776757473727170)
@@ -32,26 +32,26 @@ SectionFieldsStand =
 -- the fields of a program header
 abbrev pub SegmentFieldsStand : Type 0
 SegmentFieldsStand =
-    segment_line places_as_bytes 0x40 7
+    segment_line false places_as_bytes 0x40 7
     ≡ codes "P     7 43424140 R-- 4f4e4d4c4b4a4948 5756555453525150 5f5e5d5c5b5a5958 6766656463626160 6f6e6d6c6b6a6968 7776757473727170\n"
 
 -- the fields of a symbol; its index may be wider than its column
 abbrev pub SymbolFieldsStand : Type 0
 SymbolFieldsStand =
-    (symbol_front places_as_bytes 0x40 3 12345678901
+    (symbol_front false 0x1312 places_as_bytes 0x40 3 12345678901
     ≡ codes "Y     3 12345678901 4f4e4d4c4b4a4948 5756555453525150 FILE         4 INTERNAL  18246 ")
     × (st_name places_as_bytes 0x40 ≡ 0x43424140)
 
 -- the fields of a relocation entry
 abbrev pub RelocationFieldsStand : Type 0
 RelocationFieldsStand =
-    relocation_front places_as_bytes 0x40 62 3
+    relocation_front false 62 places_as_bytes 0x40 3
     ≡ codes "R     3 4746454443424140 #1263159624 4f4e4d4c +5756555453525150 "
 
 -- the fields of a dynamic entry and of a note's head; an entry's index may be wider than its column
 abbrev pub OtherFieldsStand : Type 0
 OtherFieldsStand =
-    (dynamic_front places_as_bytes 0x40 123456 ≡ codes "D 123456 4746454443424140 4f4e4d4c4b4a4948 ")
+    (dynamic_front false places_as_bytes 0x40 123456 ≡ codes "D 123456 4746454443424140 4f4e4d4c4b4a4948 ")
     × (n_namesz places_as_bytes 0x40 ≡ 0x43424140)
     × (n_descsz places_as_bytes 0x40 ≡ 0x47464544)
     × (n_type places_as_bytes 0x40 ≡ 0x4b4a4948)
@@ -80,7 +80,7 @@ FileTypesHaveNames =
 -- each section type, the numbers between them, and the number behind the last
 abbrev pub SectionTypesHaveNames : Type 0
 SectionTypesHaveNames =
-    map section_type_text (numbers_from 0 20)
+    map (section_type_text false 62) (numbers_from 0 20)
     ≡ codes "NULL" ∷ codes "PROGBITS" ∷ codes "SYMTAB" ∷ codes "STRTAB" ∷ codes "RELA" ∷ codes "HASH" ∷ codes "DYNAMIC"
     ∷ codes "NOTE" ∷ codes "NOBITS" ∷ codes "REL" ∷ codes "SHLIB" ∷ codes "DYNSYM" ∷ codes "0000000c" ∷ codes "0000000d"
     ∷ codes "INIT_ARRAY" ∷ codes "FINI_ARRAY" ∷ codes "PREINIT_ARRAY" ∷ codes "GROUP" ∷ codes "SYMTAB_SHNDX"
@@ -89,7 +89,7 @@ SectionTypesHaveNames =
 -- each section flag alone, and the bits without a letter
 abbrev pub SectionFlagsHaveLetters : Type 0
 SectionFlagsHaveLetters =
-    map section_flags_text
+    map (section_flags_text false 62)
     (0 ∷ 1 ∷ 2 ∷ 4 ∷ 8 ∷ 0x10 ∷ 0x20 ∷ 0x40 ∷ 0x80 ∷ 0x100 ∷ 0x200 ∷ 0x400 ∷ 0x800 ∷ 0x1000 ∷ 0x8000000000000000 ∷ [])
     ≡ [] ∷ codes "W" ∷ codes "A" ∷ codes "X" ∷ codes "?" ∷ codes "M" ∷ codes "S" ∷ codes "I" ∷ codes "L" ∷ codes "O"
     ∷ codes "G" ∷ codes "T" ∷ codes "C" ∷ codes "?" ∷ codes "?" ∷ []
@@ -97,7 +97,7 @@ SectionFlagsHaveLetters =
 -- each segment type, and the number behind the last
 abbrev pub SegmentTypesHaveNames : Type 0
 SegmentTypesHaveNames =
-    map segment_type_text (numbers_from 0 9)
+    map (segment_type_text false) (numbers_from 0 9)
     ≡ codes "NULL" ∷ codes "LOAD" ∷ codes "DYNAMIC" ∷ codes "INTERP" ∷ codes "NOTE" ∷ codes "SHLIB" ∷ codes "PHDR"
     ∷ codes "TLS" ∷ codes "00000008" ∷ []
 
@@ -111,29 +111,29 @@ PermissionsHaveLetters =
 -- the types, bindings, visibilities and places of symbols, each in its column
 abbrev pub SymbolNumbersHaveNames : Type 0
 SymbolNumbersHaveNames =
-    (map (name_or_number symbol_types 7) (numbers_from 0 8)
+    (map (name_or_number (symbol_types false) 7) (numbers_from 0 8)
     ≡ codes "NOTYPE " ∷ codes "OBJECT " ∷ codes "FUNC   " ∷ codes "SECTION" ∷ codes "FILE   " ∷ codes "COMMON " ∷ codes "TLS    "
     ∷ codes "      7" ∷ [])
-    × (map (name_or_number bindings 6) (numbers_from 0 4)
+    × (map (name_or_number (bindings false) 6) (numbers_from 0 4)
     ≡ codes "LOCAL " ∷ codes "GLOBAL" ∷ codes "WEAK  " ∷ codes "     3" ∷ [])
     × (map (name_or_number visibilities 9) (numbers_from 0 4)
     ≡ codes "DEFAULT  " ∷ codes "INTERNAL " ∷ codes "HIDDEN   " ∷ codes "PROTECTED" ∷ [])
-    × (map (name_or_number places 5) (0 ∷ 1 ∷ 0xff00 ∷ 0xfff1 ∷ 0xfff2 ∷ 0xffff ∷ [])
+    × (map (name_or_number (places false 62) 5) (0 ∷ 1 ∷ 0xff00 ∷ 0xfff1 ∷ 0xfff2 ∷ 0xffff ∷ [])
     ≡ codes "UND  " ∷ codes "    1" ∷ codes "65280" ∷ codes "ABS  " ∷ codes "COM  " ∷ codes "65535" ∷ [])
 
 -- each relocation type of x86-64 and the numbers between them; another machine has no names
 abbrev pub RelocationTypesHaveNames : Type 0
 RelocationTypesHaveNames =
-    (map (relocation_type_text 62) (numbers_from 0 16)
+    (map (relocation_type_text false 62) (numbers_from 0 16)
     ≡ codes "NONE" ∷ codes "64" ∷ codes "PC32" ∷ codes "#3" ∷ codes "PLT32" ∷ codes "COPY" ∷ codes "GLOB_DAT" ∷ codes "JUMP_SLOT"
     ∷ codes "RELATIVE" ∷ codes "#9" ∷ codes "32" ∷ codes "32S" ∷ codes "16" ∷ codes "#13" ∷ codes "8" ∷ codes "#15" ∷ [])
-    × (map (relocation_type_text 62) (numbers_from 23 3) ≡ codes "#23" ∷ codes "PC64" ∷ codes "#25" ∷ [])
-    × (map (relocation_type_text 61) (numbers_from 0 3) ≡ codes "#0" ∷ codes "#1" ∷ codes "#2" ∷ [])
+    × (map (relocation_type_text false 62) (numbers_from 23 3) ≡ codes "#23" ∷ codes "PC64" ∷ codes "#25" ∷ [])
+    × (map (relocation_type_text false 61) (numbers_from 0 3) ≡ codes "#0" ∷ codes "#1" ∷ codes "#2" ∷ [])
 
 -- each dynamic tag, and the number behind the last
 abbrev pub DynamicTagsHaveNames : Type 0
 DynamicTagsHaveNames =
-    map dynamic_tag_text (numbers_from 0 32)
+    map (dynamic_tag_text false) (numbers_from 0 32)
     ≡ codes "NULL" ∷ codes "NEEDED" ∷ codes "PLTRELSZ" ∷ codes "PLTGOT" ∷ codes "HASH" ∷ codes "STRTAB" ∷ codes "SYMTAB"
     ∷ codes "RELA" ∷ codes "RELASZ" ∷ codes "RELAENT" ∷ codes "STRSZ" ∷ codes "SYMENT" ∷ codes "INIT" ∷ codes "FINI"
     ∷ codes "SONAME" ∷ codes "RPATH" ∷ codes "SYMBOLIC" ∷ codes "REL" ∷ codes "RELSZ" ∷ codes "RELENT" ∷ codes "PLTREL"
@@ -147,13 +147,14 @@ CausesHaveWords =
     (Short ∷ NotElf ∷ BadClass ∷ BadData ∷ BadVersion ∷ ExtendedNumbering ∷ TooManyHeaders ∷ EntrySize ∷ TableOutside ∷ BadLink
     ∷ NotStrings ∷ SizeNotWhole ∷ NameOutside ∷ NameUnended ∷ NoteCut ∷ NoHash ∷ HashShape ∷ HashIndex ∷ HashCycle
     ∷ Unsupported ∷ Overflow ∷ NotRel ∷ Unplaced ∷ Undefined ∷ PlaceOutside ∷ SymbolIndex
-    ∷ TooLong ∷ Budget ∷ Unmapped ∷ [])
+    ∷ TooLong ∷ Budget ∷ Unmapped ∷ Thin ∷ NotArchive ∷ MemberCut ∷ [])
     ≡ codes "short" ∷ codes "not-elf" ∷ codes "class" ∷ codes "data" ∷ codes "version" ∷ codes "extended-numbering"
     ∷ codes "too-many-headers" ∷ codes "entry-size" ∷ codes "table-outside" ∷ codes "bad-link" ∷ codes "not-strings"
     ∷ codes "size-not-whole" ∷ codes "name-outside" ∷ codes "name-unended" ∷ codes "note-cut" ∷ codes "no-hash"
     ∷ codes "hash-shape" ∷ codes "hash-index" ∷ codes "hash-cycle" ∷ codes "unsupported" ∷ codes "overflow"
     ∷ codes "not-rel" ∷ codes "unplaced" ∷ codes "undefined"
-    ∷ codes "place-outside" ∷ codes "symbol-index" ∷ codes "too-long" ∷ codes "budget" ∷ codes "unmapped" ∷ []
+    ∷ codes "place-outside" ∷ codes "symbol-index" ∷ codes "too-long" ∷ codes "budget" ∷ codes "unmapped"
+    ∷ codes "thin" ∷ codes "not-archive" ∷ codes "member-cut" ∷ []
 
 -- the first and the last printing character and their neighbours, and those of the backslash
 abbrev pub BytesAreSpelt : Type 0

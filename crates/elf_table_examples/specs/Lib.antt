@@ -1,6 +1,7 @@
 pub mod ExamplesAnswers
 pub mod ExamplesDynamic
 pub mod ExamplesFields
+pub mod ExamplesGnu
 pub mod ExamplesHash
 pub mod ExamplesLookups
 pub mod ExamplesNames

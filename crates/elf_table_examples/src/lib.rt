@@ -6,6 +6,7 @@
 mod answer_rows;
 mod dynamic_rows;
 mod field_rows;
+mod gnu_rows;
 mod hash_rows;
 mod listed_dynamic;
 mod listed_notes;

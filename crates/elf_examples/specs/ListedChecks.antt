@@ -1,0 +1,66 @@
+-- Files among many: their states and their lines.
+use Rattle.std.specs.Prelude.{ℕ, ◌≡◌, [], ◌∷◌, ◌++◌, List, codes, take, map, Option, Some, None}
+use Rattle.elf_model.specs.Bytes.{little}
+use Rattle.elf_model.specs.Checking.{state_of, check_line, unnamed_line}
+use Rattle.elf_model.specs.Fixtures.{with_bytes, bare_header, one_symbol_table}
+use Rattle.elf_model.specs.FixturesTables.{numbers_from}
+use Rattle.elf_model.specs.Listing.{HEADER, ALL}
+use Rattle.elf_model.specs.Report.{report_fault}
+use Rattle.elf_model.specs.declared.causes.Cause.TheVariants.{Short, BadClass, TableOutside, Budget}
+use Rattle.elf_model.specs.declared.causes.Refusal.{Refusal}
+use Rattle.elf_model.specs.declared.states.FileState.{FileState}
+use Rattle.elf_model.specs.declared.states.FileState.TheVariants as state
+
+-- the state of a file by its whole report
+abbrev pub whole_state : List ℕ → FileState
+whole_state file = state_of None file (report_fault file 3 63 ALL)
+
+-- a refusal for a cause at an offset
+abbrev pub refused : Refusal → FileState
+refused refusal = state.Refused refusal
+
+-- files without a fault, with one, and of another kind
+abbrev pub StatesOfFiles : Type 0
+StatesOfFiles =
+    (whole_state one_symbol_table ≡ state.Ok)
+    × (whole_state bare_header ≡ state.Ok)
+    × (whole_state (with_bytes 0x4 (little 1 0x1) bare_header) ≡ refused (record { at = 4; cause = BadClass }))
+    × (whole_state (take 100 one_symbol_table) ≡ refused (record { at = 0x28; cause = TableOutside }))
+    × (whole_state (with_bytes 0x3 (little 1 0x47) bare_header) ≡ state.NoElf)
+
+-- each front of a file header is refused once the magic number is whole, and is of another kind before
+abbrev pub StatesOfFronts : Type 0
+StatesOfFronts =
+    (map (λ n. whole_state (take n bare_header)) (numbers_from 0 4) ≡ map (λ n. state.NoElf) (numbers_from 0 4))
+    × (map (λ n. whole_state (take n bare_header)) (numbers_from 4 60)
+    ≡ map (λ n. refused (record { at = n; cause = Short })) (numbers_from 4 60))
+    × (whole_state (with_bytes 0x0 (little 1 0x7e) (take 63 bare_header)) ≡ state.NoElf)
+    × (whole_state (codes "#!/bin/sh\n") ≡ state.NoElf)
+
+-- the first bytes of a short file are looked at where the budget has four; the first of a longer one in the file header
+abbrev pub StatesWithinBudgets : Type 0
+StatesWithinBudgets =
+    (state_of (Some 4) (codes "text\n") (report_fault (codes "text\n") 3 63 ALL) ≡ state.NoElf)
+    × (state_of (Some 3) (codes "text\n") (report_fault (codes "text\n") 3 63 ALL)
+    ≡ refused (record { at = 5; cause = Short }))
+    × (state_of (Some 0) (codes "abc") (report_fault (codes "abc") 3 63 ALL) ≡ state.NoElf)
+    × (state_of (Some 63) bare_header (Some (record { at = 0; cause = Budget }))
+    ≡ refused (record { at = 0; cause = Budget }))
+
+-- a line each: the states' words in their column, where and why, and the path as names are spelt
+abbrev pub LinesOfStates : Type 0
+LinesOfStates =
+    (check_line state.Ok (codes "/usr/bin/ls") ≡ codes "C ok           - /usr/bin/ls\n")
+    × (check_line (refused (record { at = 0x28; cause = TableOutside })) (codes "broken.so")
+    ≡ codes "C refused      0000000000000028 table-outside broken.so\n")
+    × (check_line state.NoElf (codes "/etc/passwd") ≡ codes "C no-elf       - /etc/passwd\n")
+    × (check_line state.Unread (codes "secret") ≡ codes "C unread       - secret\n")
+    × (check_line state.Memory (codes "a b") ≡ codes "C memory       - a b\n")
+    × (check_line state.Ok [] ≡ codes "C ok           - \n")
+    × (check_line state.Ok (27 ∷ 91 ∷ 10 ∷ 92 ∷ 0xc3 ∷ 0xa9 ∷ []) ≡ codes "C ok           - \\x1b[\\x0a\\\\\\xc3\\xa9\n")
+
+-- the last line, where paths could not be named
+abbrev pub LinesOfTheUnnamed : Type 0
+LinesOfTheUnnamed =
+    (unnamed_line 3 ≡ codes "C unnamed               3\n")
+    × (unnamed_line 1234567890 ≡ codes "C unnamed      1234567890\n")

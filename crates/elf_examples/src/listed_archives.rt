@@ -1,0 +1,62 @@
+//! Listings of archives, each computed by the prover.
+ghost use Rattle.elf_examples.specs.ListedArchives.{MembersList, LibraryLists, RefusedMembersEndAlone, ThreeBytesAreNoElf, OtherFilesAreRefused, CutMembersAreRefused, LastPaddingMayMiss, MemberNames, LongNames, ArchivesCost};
+
+/// The members of a library, without their listings.
+#[tactic(auto, unfolding(elf_model::proofs::OnLiterals::on_literals))]
+pub fn members_list()
+    ensures { MembersList }
+{}
+
+/// A library: its whole listing.
+#[tactic(auto, unfolding(elf_model::proofs::OnLiterals::on_literals))]
+pub fn library_lists()
+    ensures { LibraryLists }
+{}
+
+/// A member whose listing is refused, and the one behind it.
+#[tactic(auto, unfolding(elf_model::proofs::OnLiterals::on_literals))]
+pub fn refused_members_end_alone()
+    ensures { RefusedMembersEndAlone }
+{}
+
+/// A member of three bytes.
+#[tactic(auto, unfolding(elf_model::proofs::OnLiterals::on_literals))]
+pub fn three_bytes_are_no_elf()
+    ensures { ThreeBytesAreNoElf }
+{}
+
+/// Files that are no archive, and one without members.
+#[tactic(auto, unfolding(elf_model::proofs::OnLiterals::on_literals))]
+pub fn other_files_are_refused()
+    ensures { OtherFilesAreRefused }
+{}
+
+/// Places where no member stands: a cut header, sizes past the end and sizes that are no number.
+#[tactic(auto, unfolding(elf_model::proofs::OnLiterals::on_literals))]
+pub fn cut_members_are_refused()
+    ensures { CutMembersAreRefused }
+{}
+
+/// An odd size at the end of the file.
+#[tactic(auto, unfolding(elf_model::proofs::OnLiterals::on_literals))]
+pub fn last_padding_may_miss()
+    ensures { LastPaddingMayMiss }
+{}
+
+/// Names that stand in their field.
+#[tactic(auto, unfolding(elf_model::proofs::OnLiterals::on_literals))]
+pub fn member_names()
+    ensures { MemberNames }
+{}
+
+/// Names of the table of names.
+#[tactic(auto, unfolding(elf_model::proofs::OnLiterals::on_literals))]
+pub fn long_names()
+    ensures { LongNames }
+{}
+
+/// What archives cost.
+#[tactic(auto, unfolding(elf_model::proofs::OnLiterals::on_literals))]
+pub fn archives_cost()
+    ensures { ArchivesCost }
+{}
