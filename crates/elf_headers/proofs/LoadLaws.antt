@@ -33,3 +33,7 @@ pub fills_onward : {X : Type 0} (one_read : Seen → ℕ → ℕ → Seen → Ty
 fills_onward one_read old new at n low high (Ok x) once from to = onward_one one_read old new at n low high once from to
 fills_onward one_read old new at n low high (Err (Refused refusal)) once from to = onward_none one_read old new low high once (omega arith)
 fills_onward one_read old new at n low high (Err (Source fault offset)) once from to = onward_one one_read old new at n low high once from to
+
+-- a load asks for no more section headers than there are slots
+pub load_slots : (header : Ehdr) (size slots : ℕ) → load_cost header size slots ≤ 64 * slots
+load_slots header size slots = grind arith

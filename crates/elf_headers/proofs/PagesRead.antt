@@ -4,7 +4,7 @@ use Rattle.std.proofs.Math.Seq.{take-add}
 use Rattle.std.proofs.lemmas.List.{drop-drop}
 use Rattle.std.proofs.lemmas.Slice.{take-put_mid}
 use Rattle.elf_model.specs.Bytes.{slice}
-use borrow.Rule.Slice.PartMut.{put_mid, mid_of, same_len_mid}
+use borrow.Rule.Slice.PartMut.{put_mid, mid_of}
 
 -- how many bytes a page has
 pub page-size : (done count : ℕ) (bytes : List ℕ) → done + count ≤ length bytes → length (mid_of done (done + count - done) bytes) ≡ count
@@ -21,7 +21,3 @@ page-added file bytes page from done count room within size before turn =
     ∙ ap (λ front. front ++ page) before
     ∙ ap (λ rest. slice file from done ++ rest) (turn ∙ ap (take count) (sym (drop-drop done from file)))
     ∙ sym (take-add done count (drop from file))
-
--- a buffer keeps its length
-pub page-kept : (done room : ℕ) (bytes page : List ℕ) → length page ≡ length (mid_of done room bytes) → length (put_mid done room bytes page) ≡ length bytes
-page-kept done room bytes page same = same_len_mid done room bytes page same

@@ -24,17 +24,13 @@ rows-within : (entry i count : ℕ) → i < count → entry * i + entry ≤ entr
 rows-within entry i count below = rw (← mul-suc entry i) (mul-le-mul_left entry (omega arith))
 
 -- bytes that were read at the front are a file's rows
-rows_read : (entry : ℕ) (file bytes : List ℕ) (from count : ℕ) → take (entry * count) bytes ≡ slice file from (entry * count) → AreRows file from entry count (rows_from bytes 0 entry count)
-rows_read entry file bytes from count read = λ i below.
+pub rows_read_ok : (result : Result (Unit {0}) Fault) (entry : ℕ) (file bytes : List ℕ) (from count : ℕ) → OnOk result (take (entry * count) bytes ≡ slice file from (entry * count))
+    → OnOk result (AreRows file from entry count (rows_from bytes 0 entry count))
+rows_read_ok (Ok x) entry file bytes from count read = λ i below.
     let within : entry * i + entry ≤ entry * count = rows-within entry i count below in
     row_held bytes 0 entry count i below
     ∙ ap (λ (x : ℕ). slice bytes x entry) (omega arith)
     ∙ sym (slice-slice bytes 0 (entry * count) (entry * i) entry within)
     ∙ ap (λ (x : List ℕ). slice x (entry * i) entry) read
     ∙ slice-slice file from (entry * count) (entry * i) entry within
-
--- the same where the read went well
-pub rows_read-ok : (result : Result (Unit {0}) Fault) (entry : ℕ) (file bytes : List ℕ) (from count : ℕ) → OnOk result (take (entry * count) bytes ≡ slice file from (entry * count))
-    → OnOk result (AreRows file from entry count (rows_from bytes 0 entry count))
-rows_read-ok (Ok x) entry file bytes from count read = rows_read entry file bytes from count read
-rows_read-ok (Err fault) entry file bytes from count read = tt
+rows_read_ok (Err fault) entry file bytes from count read = tt

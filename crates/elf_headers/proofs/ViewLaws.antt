@@ -6,10 +6,11 @@ use Rattle.elf_headers.specs.Load.{Opened, Belongs, Views}
 use Rattle.elf_headers.specs.Store.{Stored, AreRows}
 use Rattle.elf_headers.specs.declared.fault.Fault.{Fault}
 
--- a file that was loaded without sections, and then its program headers
-pub views_are : (file : List ℕ) (loaded : Opened) (old new : Stored) → Belongs file loaded old → loaded.header.e_shnum ≡ 0 → new.slots ≡ old.slots
-    → new.loaded ≡ 0 → new.segments ≡ loaded.header.e_phnum → AreRows file loaded.header.e_phoff 56 loaded.header.e_phnum new.segment_rows → Views file loaded new
-views_are file loaded old new b none slots empty counted are = record {
+-- a file that was loaded without sections, and then its program headers, where they were read
+pub views_read : (result : Result (Unit {0}) Fault) (file : List ℕ) (loaded : Opened) (old new : Stored) → Belongs file loaded old → loaded.header.e_shnum ≡ 0
+    → new.slots ≡ old.slots → new.loaded ≡ 0 → new.segments ≡ (if is_ok result then loaded.header.e_phnum else 0)
+    → OnOk result (AreRows file loaded.header.e_phoff 56 loaded.header.e_phnum new.segment_rows) → OnOk result (Views file loaded new)
+views_read (Ok x) file loaded old new b none slots empty counted are = record {
   belongs = record {
     size = b.size;
     header = b.header;
@@ -20,10 +21,4 @@ views_are file loaded old new b none slots empty counted are = record {
   count = counted;
   rows = λ i below. are i (omega arith) ∙ ap (λ (n : ℕ). slice file (n + 56 * i) 56) b.header.e_phoff;
 }
-
--- the same where they were read
-pub views_read : (result : Result (Unit {0}) Fault) (file : List ℕ) (loaded : Opened) (old new : Stored) → Belongs file loaded old → loaded.header.e_shnum ≡ 0
-    → new.slots ≡ old.slots → new.loaded ≡ 0 → new.segments ≡ (if is_ok result then loaded.header.e_phnum else 0)
-    → OnOk result (AreRows file loaded.header.e_phoff 56 loaded.header.e_phnum new.segment_rows) → OnOk result (Views file loaded new)
-views_read (Ok x) file loaded old new b none slots empty counted are = views_are file loaded old new b none slots empty counted are
 views_read (Err fault) file loaded old new b none slots empty counted are = tt

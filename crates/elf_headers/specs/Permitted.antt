@@ -1,8 +1,14 @@
 -- The caps of a listing.
-use Rattle.std.specs.Prelude.{ℕ, ◌≡◌, ◌≤◌, Option, None, Some}
+use Rattle.std.specs.Prelude.{ℕ, ◌≡◌, ◌≤◌, false, Option, None, Some}
+use Rattle.elf_model.specs.Style.{Style as Styled, standard}
 use Rattle.elf_headers.specs.declared.caps.Cap.{Cap}
 use Rattle.elf_headers.specs.declared.caps.Caps.{Caps}
 use Rattle.elf_headers.specs.declared.caps.Limits.{Limits}
+use Rattle.elf_headers.specs.declared.caps.Style.{Style}
+
+-- a style as the definitions of listings have it
+abbrev pub style_of : Style → Styled
+style_of style = record { cap = style.cap.bytes; gnu = style.gnu; by_segments = style.by_segments }
 
 -- how many headers may be permitted
 abbrev pub AreHeaders : ℕ → Type 0
@@ -22,7 +28,8 @@ abbrev pub PermitsHeaders : ℕ → Option ℕ → Option Limits → Type 0
 PermitsHeaders headers budget None = AreHeaders headers → ⊥
 PermitsHeaders headers budget (Some limits) = (limits.headers ≡ headers) × (limits.budget ≡ budget)
 
--- caps with these numbers and no budget are given where the numbers are permitted, and not else
+-- caps with these numbers, of the standards' names, and no budget are given where the numbers are permitted, and not else
 abbrev pub Permits : ℕ → ℕ → Option Caps → Type 0
 Permits headers name None = AreHeaders headers × AreNameBytes name → ⊥
-Permits headers name (Some caps) = (caps.limits.headers ≡ headers) × (caps.name.bytes ≡ name) × (caps.limits.budget ≡ None)
+Permits headers name (Some caps) =
+    (caps.limits.headers ≡ headers) × (style_of caps.style ≡ standard name) × (caps.limits.budget ≡ None)

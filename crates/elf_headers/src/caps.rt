@@ -29,6 +29,37 @@ impl Cap {
     }
 }
 
+/// How rows are shown: how many bytes of a name, whether numbers of the GNU system have names beside
+/// those of the standards, and by which headers tables are found.
+#[derive(Clone, Copy, Debug, PartialEq, Eq)]
+pub struct Style {
+    /// How many bytes of a name are shown.
+    pub cap: Cap,
+    /// Whether numbers of the GNU system have names.
+    pub gnu: bool,
+    /// Whether tables are found by the program headers also where there are section headers.
+    pub by_segments: bool,
+}
+
+impl Style {
+    ghost use Rattle.std.specs.Prelude.{◌≡◌};
+    ghost use Rattle.elf_model.specs.Style.{standard};
+    ghost use Rattle.elf_headers.specs.Permitted.{style_of};
+
+    /// So many bytes of a name, the names of the standards alone, and tables found by the section
+    /// headers where there are some.
+    pub fn standard(cap: Cap) -> Style
+        ensures same { result.cap ≡ cap }
+        ensures style { style_of result ≡ standard cap.bytes }
+    {
+        Style {
+            cap,
+            gnu: false,
+            by_segments: false,
+        }
+    }
+}
+
 /// The limits on what is read of a file: how many section headers, and as many program headers, are
 /// permitted, and how many bytes may be read, where that is limited.
 #[derive(Clone, Copy, Debug, PartialEq, Eq)]
@@ -56,34 +87,33 @@ impl Limits {
     }
 }
 
-/// The caps of a listing: the limits on what is read of its file, and how many bytes of a name are
-/// shown.
+/// The caps of a listing: the limits on what is read of its file, and how its rows are shown.
 #[derive(Clone, Copy, Debug, PartialEq, Eq)]
 pub struct Caps {
     /// The limits on what is read.
     pub limits: Limits,
-    /// The number of bytes of a name.
-    pub name: Cap,
+    /// How rows are shown.
+    pub style: Style,
 }
 
 impl Caps {
     ghost use Rattle.std.specs.Prelude.{◌≡◌, Some};
     ghost use Rattle.elf_headers.specs.Permitted.{Permits};
 
-    /// The caps of 1 to 65,279 headers and 1 to 4,096 bytes of a name, with no limit on what is
-    /// read; None for other numbers.
+    /// The caps of 1 to 65,279 headers and 1 to 4,096 bytes of a name, in the standards' names, with
+    /// no limit on what is read; None for other numbers.
     pub fn new(headers: u16, name: u16) -> Option<Caps>
         ensures { Permits headers name result }
     {
         let limits = Limits::new(headers, None)?;
-        let name = Cap::new(name)?;
-        Some(Caps { limits, name })
+        let style = Style::standard(Cap::new(name)?);
+        Some(Caps { limits, style })
     }
 
     /// The same caps with a read budget: so many bytes may be read, and no more.
     pub fn with_budget(self, bytes: u64) -> Caps
         ensures headers { result.limits.headers ≡ self.limits.headers }
-        ensures name { result.name ≡ self.name }
+        ensures style { result.style ≡ self.style }
         ensures budget { result.limits.budget ≡ Some bytes }
     {
         Caps {
@@ -91,7 +121,7 @@ impl Caps {
                 headers: self.limits.headers,
                 budget: Some(bytes),
             },
-            name: self.name,
+            style: self.style,
         }
     }
 
@@ -104,9 +134,9 @@ impl Caps {
 
     /// How many bytes of a name are shown, 1 to 4,096.
     pub fn name(&self) -> u16
-        ensures { result ≡ self.now.name.bytes }
+        ensures { result ≡ self.now.style.cap.bytes }
     {
-        self.name.bytes
+        self.style.cap.bytes
     }
 
     /// How many bytes may be read, where that is limited.

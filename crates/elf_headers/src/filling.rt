@@ -18,7 +18,7 @@ pub fn fill<S: Source>(src: &mut Counted<S>, at: u64, out: &mut [u8]) -> Result<
     ensures reads { Reads src.old src.new (length out.old) }
     ensures says { IfErr result (Says src.old src.new (length out.old)) }
     ensures at { IfErr result (IsAt at) }
-    ensures once { FillsOnce S.one_read src.old.seen src.new.seen at (length out.old) result }
+    ensures once { FillsOnce S.one_read src.old.source src.new.source at (length out.old) result }
     ensures read { (file : List ℕ) → src.old.seen.file ≡ Some file →
         OnOk result (out.new ≡ slice file at (length out.old)) }
 {

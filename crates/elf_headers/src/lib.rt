@@ -17,7 +17,7 @@ mod stop;
 mod store;
 
 pub use buffers::BUFFER_BYTES;
-pub use caps::{Cap, Caps, Limits};
+pub use caps::{Cap, Caps, Limits, Style};
 pub use fault::{Fault, refused};
 pub use file_header::{header, refused_length};
 pub use filling::fill;

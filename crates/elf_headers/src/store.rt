@@ -53,6 +53,7 @@ impl<'a> Model for HeaderStore<'a> {
 impl<'a> HeaderStore<'a> {
     /// A store of `headers` slots, 1 to 65,279, with no header loaded, over memory of at least 64
     /// bytes for each slot. What stands in the memory before is not looked at.
+    #[tactic(auto, unfolding(crate::specs::Store::rows_from))]
     pub fn over(bytes: &'a mut [u8], headers: u16) -> HeaderStore<'a>
         requires some { 1 ≤ headers }
         requires permitted { headers ≤ 65279 }
@@ -124,6 +125,7 @@ impl<'a> HeaderStore<'a> {
     }
 
     /// The bytes of the section header of an index below [`HeaderStore::loaded`].
+    #[tactic(auto, using(crate::proofs::RowsHeld::row_front))]
     fn row(&self, i: u16) -> &[u8; 64]
         requires { i < self.now.loaded }
         ensures { result.now ≡ row self.now i }
@@ -132,6 +134,7 @@ impl<'a> HeaderStore<'a> {
     }
 
     /// The bytes of the program header of an index below [`HeaderStore::segments`].
+    #[tactic(auto, using(crate::proofs::RowsHeld::row_front))]
     fn segment_row(&self, i: u16) -> &[u8; 56]
         requires { i < self.now.segments }
         ensures { result.now ≡ segment_bytes self.now i }
@@ -192,6 +195,7 @@ impl<'a> HeaderStore<'a> {
     }
 
     /// Lets go of the headers that are loaded.
+    #[tactic(auto, unfolding(crate::specs::Store::rows_from))]
     pub(crate) fn forget(&mut self)
         ensures { self.new ≡ emptied self.old }
     {
@@ -201,6 +205,7 @@ impl<'a> HeaderStore<'a> {
 }
 
 /// Reads `count` rows of `size` bytes from the offset `from` on to the front of `bytes`.
+#[tactic(auto, using(crate::proofs::RowsHeld::rows_read_ok))]
 fn read_rows<S: Source>(
     src: &mut Counted<S>,
     bytes: &mut [u8],

@@ -34,7 +34,7 @@ pub record StartsEntries (table : Rows) (d : Entries) : Type 0 where
 -- what every step keeps, fault or not: what was asked for, onward, is no longer unread; a cursor that had failed is as it was
 pub record KeepsEntries (one_read : Seen → ℕ → ℕ → Seen → Type 0) (before after : Counting) (old new : Entries) : Type 0 where
   pub account : after.asked + unread_bytes new.cursor ≤ before.asked + unread_bytes old.cursor
-  pub onward : ReadsOnward one_read before.seen after.seen (asked_to old.cursor) (asked_to new.cursor)
+  pub onward : ReadsOnward one_read before.source after.source (asked_to old.cursor) (asked_to new.cursor)
   pub unchanged : (fault : Fault) → old.cursor.failed ≡ Some fault → new ≡ old
 
 -- a step that gives the next entry; it is the last where its tag is DT_NULL

@@ -119,7 +119,7 @@ pub record KeepsNotes (one_read : Seen → ℕ → ℕ → Seen → Type 0) (bef
   pub same_table : new.table ≡ old.table
   pub same_align : new.align ≡ old.align
   pub moves : MovesOn old.ahead new.ahead before.asked after.asked
-  pub onward : ReadsOnward one_read before.seen after.seen (frontier old.ahead) (frontier new.ahead)
+  pub onward : ReadsOnward one_read before.source after.source (frontier old.ahead) (frontier new.ahead)
   pub unchanged : (fault : Fault) → old.failed ≡ Some fault → new ≡ old
 
 -- a step of a cursor, where it answers whether it gave a note

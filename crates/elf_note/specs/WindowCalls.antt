@@ -17,5 +17,5 @@ pub record Through {X : Type 0} (one_read : Seen → ℕ → ℕ → Seen → Ty
   pub reads : Reads before after old.unread
   pub says : IfErr result (Says before after old.unread)
   pub moves : MovesOn old new before.asked after.asked
-  pub onward : ReadsOnward one_read before.seen after.seen (frontier old) (frontier new)
+  pub onward : ReadsOnward one_read before.source after.source (frontier old) (frontier new)
   pub agrees : StillHolds before.seen.file old new

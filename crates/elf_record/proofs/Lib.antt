@@ -3,3 +3,4 @@ pub mod FieldReads
 pub mod PartLaws
 pub mod RecordLaws
 pub mod SignedLaws
+mod ViewLaws

@@ -68,6 +68,7 @@ impl Ehdr {
     ghost use Rattle.elf_record.specs.Parts.{AllFit, joined, spelling};
     ghost use Rattle.arrayvec.specs.ArrayVec.{array_vec_len};
     ghost use Rattle.elf_model.specs.Bytes.{IsBytes, slice};
+    ghost use Rattle.elf_model.specs.Style.{without_sections};
 
     /// Reads the fields from the record's bytes. No field is checked.
     pub fn decode(bytes: &[u8; 64]) -> Ehdr
@@ -96,6 +97,20 @@ impl Ehdr {
             e_shentsize: u16_at(bytes, 58),
             e_shnum: u16_at(bytes, 60),
             e_shstrndx: u16_at(bytes, 62),
+        }
+    }
+
+    /// The same file header, which tells of no section headers: e_shoff, e_shnum and e_shstrndx
+    /// are 0.
+    pub fn without_sections(&self) -> Ehdr
+        ensures { (file : List ℕ) → IsEhdr file 0 self.now →
+            IsEhdr (without_sections file) 0 result }
+    {
+        Ehdr {
+            e_shoff: 0,
+            e_shnum: 0,
+            e_shstrndx: 0,
+            ..*self
         }
     }
 

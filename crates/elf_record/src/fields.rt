@@ -17,7 +17,7 @@ pub(crate) fn u8_at(bytes: &[u8], at: usize) -> u8
 }
 
 /// The number of two bytes at a place.
-pub(crate) fn u16_at(bytes: &[u8], at: usize) -> u16
+pub fn u16_at(bytes: &[u8], at: usize) -> u16
     requires { at + 2 ≤ length bytes.now }
     ensures { result ≡ field bytes.now at 2 }
 {
@@ -33,7 +33,7 @@ pub(crate) fn u32_at(bytes: &[u8], at: usize) -> u32
 }
 
 /// The number of eight bytes at a place.
-pub(crate) fn u64_at(bytes: &[u8], at: usize) -> u64
+pub fn u64_at(bytes: &[u8], at: usize) -> u64
     requires { at + 8 ≤ length bytes.now }
     ensures { result ≡ field bytes.now at 8 }
 {

@@ -4,5 +4,4 @@ pub mod Paging
 pub mod Pieces
 pub mod RelocationLaws
 pub mod SameNames
-pub mod SectionLaws
 pub mod Standing

@@ -84,7 +84,7 @@ impl Cursor {
             IfErr result (Says src.old src.new (unread_bytes self.old)) }
         ensures account { src.new.asked + unread_bytes self.new
             ≤ src.old.asked + unread_bytes self.old }
-        ensures onward { ReadsOnward S.one_read src.old.seen src.new.seen
+        ensures onward { ReadsOnward S.one_read src.old.source src.new.source
             (asked_to self.old) (asked_to self.new) }
         ensures steps { Advances src.old.seen.file self.old self.new result }
         ensures again { (fault : Fault) → self.old.failed ≡ Some fault →
@@ -150,7 +150,7 @@ impl Cursor {
         ensures* after { sem 𝓛 (follows_so the_row the_row self.entry.ghost_name none (λ _ _. ⊤)
             (λ new. (src.new.asked + unread_bytes new ≤ src.old.asked + unread_bytes self.old)
             × Steps src.old.seen.file self.old new result
-            × ReadsOnward S.one_read src.old.seen src.new.seen
+            × ReadsOnward S.one_read src.old.source src.new.source
             (asked_to self.old) (asked_to new))) }
     {
         if !self.advance(src)? {

@@ -22,7 +22,7 @@ pub use buffers::BUFFER_BYTES;
 pub use checks::holds_symbols;
 pub use cursor::Cursor;
 pub use elf_headers::{
-    Cap, Caps, Fault, HeaderRoom, HeaderStore, Limits, Loaded, Stop, fill, header, load,
+    Cap, Caps, Fault, HeaderRoom, HeaderStore, Limits, Loaded, Stop, Style, fill, header, load,
 };
 pub use file::File;
 pub use name_buf::NameBuf;

@@ -22,6 +22,7 @@ use memchr::memchr;
 ///
 /// # Errors
 /// A fault of a read, or a refusal for want of budget, at the first byte that was not asked for.
+#[tactic(auto, using(elf_source::proofs::OnwardLaws::onward_then))]
 pub fn search_name<S: Source, const N: usize>(
     window: &mut Window<N>,
     src: &mut Counted<S>,
@@ -37,7 +38,7 @@ pub fn search_name<S: Source, const N: usize>(
     ensures says { IfErr result (Says src.old src.new window.old.unread) }
     ensures fault { IfErr result IsOfRead }
     ensures moves { MovesOn window.old window.new src.old.asked src.new.asked }
-    ensures onward { ReadsOnward S.one_read src.old.seen src.new.seen
+    ensures onward { ReadsOnward S.one_read src.old.source src.new.source
         (frontier window.old) (frontier window.new) }
     ensures inside { OnOk result (window.new.at ≤ window.old.at + want) }
     ensures agrees { StillHolds src.old.seen.file window.old window.new }

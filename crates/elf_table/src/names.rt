@@ -88,15 +88,16 @@ impl Names {
             NameRead at result name.new (shown (strings_in file self.now) off cap.bytes) }
     {
         name.clear();
-        if self.size == 0 && off == 0 {
+        let size = self.size();
+        if size == 0 && off == 0 {
             return Ok(NameEnd::Whole);
         }
-        if off >= self.size {
+        if off >= size {
             return refused(at, Cause::NameOutside);
         }
-        let left = self.size - off;
+        let left = size - off;
         let want = left.min(u64::from(cap.bytes) + 1);
-        let mut window: Window<PIECE> = Window::new(self.at + off, want, PIECE as u64);
+        let mut window: Window<PIECE> = Window::new(self.at() + off, want, PIECE as u64);
         if search_name(&mut window, src, want, cap, name)? {
             return Ok(NameEnd::Whole);
         }
@@ -147,15 +148,16 @@ impl Names {
         ensures compared { (file : List ℕ) → src.old.seen.file ≡ Some file →
             Compared at result (same (strings_in file self.now) off wanted.now) }
     {
-        if self.size == 0 && off == 0 {
+        let size = self.size();
+        if size == 0 && off == 0 {
             return Ok(false);
         }
-        if off >= self.size {
+        if off >= size {
             return refused(at, Cause::NameOutside);
         }
         let full = wanted.len() as u64 + 1;
-        let want = full.min(self.size - off);
-        if !matches(src, self.at + off, want, wanted)? {
+        let want = full.min(size - off);
+        if !matches(src, self.at() + off, want, wanted)? {
             return Ok(false);
         }
         if want == full {

@@ -105,7 +105,7 @@ impl<const N: usize> Window<N> {
         ensures reads { Reads src.old src.new self.old.unread }
         ensures says { IfErr result (Says src.old src.new self.old.unread) }
         ensures moves { MovesOn self.old self.new src.old.asked src.new.asked }
-        ensures onward { ReadsOnward S.one_read src.old.seen src.new.seen
+        ensures onward { ReadsOnward S.one_read src.old.source src.new.source
             (frontier self.old) (frontier self.new) }
         ensures brings { Brings self.old self.new count result }
         ensures agrees { StillHolds src.old.seen.file self.old self.new }
@@ -142,7 +142,7 @@ impl<const N: usize> Window<N> {
         ensures says { IfErr result (Says src.old src.new self.old.unread) }
         ensures fault { IfErr result (IsAt (frontier self.old)) }
         ensures moves { MovesOn self.old self.new src.old.asked src.new.asked }
-        ensures onward { ReadsOnward S.one_read src.old.seen src.new.seen
+        ensures onward { ReadsOnward S.one_read src.old.source src.new.source
             (frontier self.old) (frontier self.new) }
         ensures stays { OnOk result (self.new.at ≡ self.old.at) }
         ensures whole { OnOk result

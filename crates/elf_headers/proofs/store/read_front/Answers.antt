@@ -3,7 +3,8 @@ use Rattle.std.proofs.Common.{ℕ, ◌+◌, ap, subst, ◌∙◌, arith}
 use Rattle.elf_model.specs.Bytes.{slice}
 use Rattle.elf_source.specs.Source.{Reads}
 use Rattle.elf_source.proofs.ReadsLaws.{Reads-then}
-use Rattle.elf_headers.proofs.PagesRead.{page-size, page-kept, page-added}
+use Rattle.elf_headers.proofs.PagesRead.{page-size, page-added}
+use borrow.Rule.Slice.PartMut.{same_len_mid}
 use Rattle.elf_headers.proofs.store.read_front.Goals as goal
 
 pub loop-done-preserved : goal.loop-done-preserved
@@ -16,7 +17,7 @@ loop-done-preserved g c =
     let same = c.fill.auto.out in
     record {
       within = omega (arith, few, below);
-      room = omega (arith, i.room, page-kept l.done _ l.bytes c.fill.new.out same);
+      room = omega (arith, i.room, same_len_mid l.done _ l.bytes c.fill.new.out same);
       reads = subst (λ (n : ℕ). Reads c.args.src.now c.fill.new.src (l.done + n)) size (Reads-then i.reads c.fill.ensures.reads);
       read = λ file held.
           let page = c.in_ok-fill.ensures.read file (i.reads.keeps.same_file ∙ held) ∙ ap (slice file (c.args.from + l.done)) size in

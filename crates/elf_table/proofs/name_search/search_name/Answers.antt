@@ -58,9 +58,3 @@ loop-done-preserved g c =
       no_nul = λ file h a. search-more file (take n front) c.args.window.now.at l.done n (piece file h a) (i.no_nul file h a) c.in_default.ensures.first;
       name = λ file h a. kept-more file (take n front) l.name c.add-in-loop-done.new.self c.args.window.now.at l.done n c.args.cap.bytes (piece file h a) (i.name file h a) added;
     }
-
-pub returns-in_err-bring-clause-onward : goal.returns-in_err-bring-clause-onward
-returns-in_err-bring-clause-onward g c = onward_then _ _ _ _ _ _ _ _ (omega arith) c.loop-done.invariant.onward c.bring.ensures.onward
-
-pub returns-in-Some-clause-onward : goal.returns-in-Some-clause-onward
-returns-in-Some-clause-onward g c = onward_then _ _ _ _ _ _ _ _ (omega arith) c.loop-done.invariant.onward c.bring.ensures.onward

@@ -12,7 +12,7 @@ invariant-loop-done g l = record {
   few : length l.name ≤ l.cap.bytes;
   place : l.window.at ≡ l.fn.window.at + l.done;
   moves : MovesOn l.fn.window l.window l.fn.src.asked l.src.asked;
-  onward : ReadsOnward g.S.Source.one_read l.fn.src.seen l.src.seen (frontier l.fn.window) (frontier l.window);
+  onward : ReadsOnward g.S.Source.one_read l.fn.src.source l.src.source (frontier l.fn.window) (frontier l.window);
   reads : Reads l.fn.src l.src l.fn.window.unread;
   agrees : StillHolds l.fn.src.seen.file l.fn.window l.window;
   no_nul : (file : List ℕ) → l.fn.src.seen.file ≡ Some file → HoldsBytes file l.fn.window → nul_in (slice file l.fn.window.at l.done) ≡ None;

@@ -12,11 +12,11 @@ returns-in_err-symbols-clause-held c = λ file belongs.
     let counted = c.from.ensures ∙ (ap (λ (header : Ehdr). header.e_shnum) c.header.ensures.value ∙ belongs.header.e_shnum) in
     let link = (c.section-link.ensures.stands file belongs.rows).sh_link in
     let has = has-linked file _ c.section-link.result.sh_link c.from.result c.holds_symbols.result link counted (omega arith) (c.holds_symbols.ensures file _ (c.section.ensures.stands file belongs.rows)) c.if-not-holds_symbols.false in
-    rw (p.1, p.2) (linked-fails file (section_at file c.args.section) _ c.in_err-symbols.field-0.0 link has (sym (c.in_err-symbols.ensures.held file belongs)))
+    rw (p.1, p.2) (linked-fails file (section_at file c.args.section) _ link has _ (sym (c.in_err-symbols.ensures.held file belongs)))
 
 pub returns-clause-held : goal.returns-clause-held
 returns-clause-held c = λ file belongs.
     let counted = c.from.ensures ∙ (ap (λ (header : Ehdr). header.e_shnum) c.header.ensures.value ∙ belongs.header.e_shnum) in
     let link = (c.section-link.ensures.stands file belongs.rows).sh_link in
     let has = has-linked file _ c.section-link.result.sh_link c.from.result c.holds_symbols.result link counted (omega arith) (c.holds_symbols.ensures file _ (c.section.ensures.stands file belongs.rows)) c.if-not-holds_symbols.false in
-    linked-some file _ _ c.in_ok-symbols.symbols link has (sym (c.in_ok-symbols.ensures.held file belongs))
+    linked-some file _ _ link has _ (sym (c.in_ok-symbols.ensures.held file belongs))
