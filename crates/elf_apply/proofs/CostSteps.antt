@@ -1,27 +1,23 @@
 -- What a walk asks for, by the entries of the file.
-use Rattle.std.proofs.Common.{◌≡◌, ℕ, zero, suc, ◌+◌, ◌-◌, ◌*◌, ◌/◌, ◌%◌, not, ◌<◌, ◌≤◌, ◌==◌, ◌&&◌, Bool, true, false, inl, inr, List, [], ◌∷◌, ◌++◌, length, flat_map, Option, None, Some, refl, sym, ap, ◌∙◌, arith, length-append}
+use Rattle.std.proofs.Common.{◌≡◌, ℕ, zero, suc, ◌+◌, ◌-◌, ◌*◌, ◌/◌, ◌<◌, ◌≤◌, true, false, List, ◌++◌, length, flat_map, None, Some, refl, sym, ap, ◌∙◌, arith, length-append}
 use Rattle.std.proofs.Math.Nat.{mul-le-mul_left, mul-le-mul_right, mul_assoc}
-use Rattle.std.proofs.lemmas.Bool.{cases_Bool, ltb-false}
-use Rattle.std.specs.Prelude.{is_none}
-use Rattle.elf_model.specs.Apply.{applies_to, places_from, before_entries, held_bytes}
+use Rattle.std.proofs.lemmas.Bool.Decides.{nat_tests}
+use Rattle.elf_model.specs.Apply.{applies_to, places_from}
 use Rattle.elf_model.specs.ApplyCost.{entries_in as file_entries_in, entries_for, layout_names_cost, apply_cost, apply_cost_in_order, apply_cost_by_order, offsets_never_fall, cost_with, window_passes}
 use Rattle.elf_model.specs.Bytes.{slice}
-use Rattle.elf_model.specs.Checks.{refuse, first_refusal, table_checks, table_checks_of, is_outside, header_checks, early_checks, load_checks, section_name_checks}
-use Rattle.elf_model.specs.Cost.{sum_over, cost_where}
+use Rattle.elf_model.specs.Checks.{first_refusal, table_checks_of, header_checks, early_checks, load_checks, section_name_checks}
+use Rattle.elf_model.specs.Cost.{sum_over}
 use Rattle.elf_model.specs.Placing.{Layout}
-use Rattle.elf_model.specs.Numbers.{SHT_RELA}
-use Rattle.elf_model.specs.Records.{e_shnum, sh_type, sh_info, sh_offset, sh_size, sh_entsize, section_at}
+use Rattle.elf_model.specs.Records.{e_shnum, sh_size, section_at}
 use Rattle.elf_model.specs.Tables.{entry_count}
-use Rattle.elf_model.specs.declared.causes.Cause.TheVariants.{EntrySize, SizeNotWhole, TableOutside}
-use Rattle.elf_model.specs.declared.causes.Refusal.{Refusal}
-use Rattle.elf_model.proofs.ApplySteps.{cost_with-early, cost_with-refused, cost_with-passed, cost_by_order-falls, cost_by_order-never_falls}
+use Rattle.elf_model.proofs.ApplySteps.{cost_with-passed}
 use Rattle.elf_model.proofs.ChangeSteps.{length-places_from}
-use Rattle.elf_model.proofs.CheckSteps.{first_refusal-none, first_refusal-some, first_refusal-back}
+use Rattle.elf_model.proofs.CheckSteps.{first_refusal-none, first_refusal-some}
 use Rattle.elf_model.proofs.CostLemmas.{sum_over-le}
 use Rattle.elf_model.proofs.Slices.{field-slice}
 use Rattle.elf_record.specs.Ehdr.{IsEhdr}
 use Rattle.elf_record.specs.declared.ehdr.Ehdr.{Ehdr}
-use Rattle.elf_headers.specs.Load.{Belongs, early_of, load_cost}
+use Rattle.elf_headers.specs.Load.{Belongs, load_cost}
 use Rattle.elf_headers.specs.Store.{row}
 use Rattle.elf_apply.specs.Applied.{StandsFor, passes_cost}
 use Rattle.elf_apply.specs.Walk.{entry_count_in, entries_from, sections_of, walk_all, beside_entry_cost}
@@ -41,29 +37,17 @@ in_store : (target : Target) (i place : ℕ) → place ≡ target.file.loaded.he
 unfolding entry_count_in
 in_store target i place here = rw here refl
 
--- the same by the header's own bytes
-abbrev entries_by : ℕ → ℕ → ℕ → ℕ → ℕ → ℕ → ℕ → ℕ → ℕ
-entries_by section file_size place type info offset size entsize =
-    elim (type == SHT_RELA && info == section) [
-      | false ↦ 0
-      | true ↦ elim (first_refusal (refuse (not (entsize == 24)) place EntrySize ∷ refuse (not (size % 24 == 0)) place SizeNotWhole ∷ refuse (is_outside file_size offset size) place TableOutside ∷ [])) [ Some refusal ↦ 0 | None ↦ size / 24 ]
-    ]
-
 of_slice : (file : List ℕ) (at section size place : ℕ) → entries_at (slice file at 64) 0 section size place ≡ entries_at file at section size place
 of_slice file at section size place =
-    let bytes : List ℕ = slice file at 64 in
-    ap (λ t. entries_by section size place t (sh_info bytes 0) (sh_offset bytes 0) (sh_size bytes 0) (sh_entsize bytes 0)) (field-slice file at 64 4 4 (omega arith))
-    ∙ (ap (λ i. entries_by section size place (sh_type file at) i (sh_offset bytes 0) (sh_size bytes 0) (sh_entsize bytes 0)) (field-slice file at 64 44 4 (omega arith))
-    ∙ (ap (λ o. entries_by section size place (sh_type file at) (sh_info file at) o (sh_size bytes 0) (sh_entsize bytes 0)) (field-slice file at 64 24 8 (omega arith))
-    ∙ (ap (λ n. entries_by section size place (sh_type file at) (sh_info file at) (sh_offset file at) n (sh_entsize bytes 0)) (field-slice file at 64 32 8 (omega arith))
-    ∙ ap (λ e. entries_by section size place (sh_type file at) (sh_info file at) (sh_offset file at) (sh_size file at) e) (field-slice file at 64 56 8 (omega arith)))))
+    let type = field-slice file at 64 4 4 (omega arith) in
+    let info = field-slice file at 64 44 4 (omega arith) in
+    let offset = field-slice file at 64 24 8 (omega arith) in
+    let bytes = field-slice file at 64 32 8 (omega arith) in
+    let entry = field-slice file at 64 56 8 (omega arith) in grind arith
 
-in_file : (file : List ℕ) (section at : ℕ) (applies : Bool) (first : Option Refusal) → applies_to file section at ≡ applies → first_refusal (table_checks file at 24) ≡ first
-    → entries_at file at section (length file) at ≡ length (file_entries_in file section at)
+in_file : (file : List ℕ) (section at : ℕ) → entries_at file at section (length file) at ≡ length (file_entries_in file section at)
 unfolding file_entries_in
-in_file file section at false first a f = rw (a, file_entries_in, entries_at) refl
-in_file file section at true (Some refusal) a f = rw (a, file_entries_in, entries_at) (rw (f, file_entries_in, entries_at) refl)
-in_file file section at true None a f = rw (a, file_entries_in, entries_at) (rw (f, file_entries_in, entries_at) (sym (length-places_from _ 0 (entry_count file at 24))))
+in_file file section at = grind (arith, length-places_from)
 
 section_counted : (file : List ℕ) (target : Target) (i : ℕ) → Belongs file target.file.loaded target.file.store.now → i < sections_of target
     → entry_count_in target i ≡ length (file_entries_in file target.section (section_at file i))
@@ -72,7 +56,7 @@ section_counted file target i belongs below =
     in_store target i at (ap (λ n. n + 64 * i) (sym belongs.header.e_shoff))
     ∙ (ap (λ bytes. entries_at bytes 0 target.section target.file.loaded.size at) (belongs.rows i below)
     ∙ (of_slice file at target.section target.file.loaded.size at
-    ∙ (ap (λ n. entries_at file at target.section n at) belongs.size ∙ in_file file target.section at _ _ refl refl)))
+    ∙ (ap (λ n. entries_at file at target.section n at) belongs.size ∙ in_file file target.section at)))
 
 sum_counted : (f : ℕ → List ℕ) (place amount : ℕ → ℕ) (i n : ℕ) → ((k : ℕ) → i ≤ k → k < i + n → amount k ≡ length (f (place k))) → sum_over amount i n ≡ length (flat_map f (places_from place i n))
 unfolding sum_over places_from
@@ -94,79 +78,45 @@ entries_are file target belongs =
 
 walk_is : (file : List ℕ) (target : Target) → Belongs file target.file.loaded target.file.store.now → walk_all target ≡ length (entries_for file target.section) * (24 + 24 + layout_names_cost target.layout.now)
 unfolding walk_all
-walk_is file target belongs =
-    ap (λ n. n * (24 + beside_entry_cost target)) (entries_are file target belongs) ∙ ap (λ k. length (entries_for file target.section) * k) (omega arith)
+walk_is file target belongs = grind (arith, entries_are file target belongs)
 
 -- where the checks before the entries pass, those before the section headers do
 early_none : (file : List ℕ) (headers : ℕ) → first_refusal (load_checks file headers) ≡ None → first_refusal (early_checks file headers) ≡ None
-early_none file headers none = by_first _ refl
-  where
-    by_first : (first : Option Refusal) → first_refusal (early_checks file headers) ≡ first → first_refusal (early_checks file headers) ≡ None
-    by_first None h = h
-    by_first (Some refusal) h = let f = first_refusal-some (early_checks file headers) (section_name_checks file) refusal h in cc
+early_none file headers none = grind (arith, first_refusal-some (early_checks file headers) (section_name_checks file))
 
 pub loaded_early : (file : List ℕ) (headers : ℕ) → first_refusal (header_checks file) ≡ None → first_refusal (load_checks file headers) ≡ None → first_refusal (header_checks file ++ early_checks file headers) ≡ None
 loaded_early file headers passed loads = first_refusal-none (header_checks file) (early_checks file headers) passed ∙ early_none file headers loads
 
 module _ (file : List ℕ) (headers section : ℕ) (layout : Layout) (passes : ℕ) where
-  by_before : (first : Option Refusal) → first_refusal (header_checks file ++ early_checks file headers) ≡ None → first_refusal (before_entries file headers section) ≡ first → 64 + 64 * e_shnum file ≤ cost_with file headers section layout passes
-  by_before (Some refusal) e f = let is = cost_with-refused file headers section layout passes refusal e f in omega (arith, is)
-  by_before None e f = let is = cost_with-passed file headers section layout passes e f in omega (arith, is)
-
   pub cost_loaded : first_refusal (header_checks file ++ early_checks file headers) ≡ None → 64 + 64 * e_shnum file ≤ cost_with file headers section layout passes
-  cost_loaded e = by_before _ e refl
+  unfolding cost_with
+  cost_loaded e = grind arith
 
   pub cost_least : 64 ≤ cost_with file headers section layout passes
-  cost_least = by_early _ refl
-    where
-      by_early : (first : Option Refusal) → first_refusal (header_checks file ++ early_checks file headers) ≡ first → 64 ≤ cost_with file headers section layout passes
-      by_early (Some refusal) e = let is = cost_with-early file headers section layout passes refusal e in omega (arith, is)
-      by_early None e = let is = cost_loaded e in omega (arith, is)
+  unfolding cost_with
+  cost_least = grind arith
 
 pub load_within : (file : List ℕ) (header : Ehdr) (size slots section : ℕ) (layout : Layout) (passes : ℕ) → IsEhdr file 0 header → size ≡ length file → first_refusal (header_checks file) ≡ None
     → 64 + load_cost header size slots ≤ cost_with file slots section layout passes
-load_within file header size slots section layout passes is same passed = by_cases (first_refusal (early_of header size slots)) refl
-  where
-    by_cases : (first : Option Refusal) → first ≡ first_refusal (early_of header size slots) → 64 + cost_where (is_none first) (64 * header.e_shnum) ≤ cost_with file slots section layout passes
-    by_cases None none =
-        let early : first_refusal (early_checks file slots) ≡ None = sym (none ∙ early_is file header size slots is same) in
-        let most = cost_loaded file slots section layout passes (first_refusal-none (header_checks file) (early_checks file slots) passed ∙ early) in
-        omega (arith, most, is.e_shnum)
-    by_cases (Some refusal) some = let most = cost_least file slots section layout passes in omega (arith, most)
-
--- a load asks for no more section headers than there are slots
-pub load_slots : (header : Ehdr) (size slots : ℕ) → load_cost header size slots ≤ 64 * slots
-load_slots header size slots = grind arith
+load_within file header size slots section layout passes is same passed =
+    grind (arith, early_is file header size slots is same, cost_loaded file slots section layout passes, cost_least file slots section layout passes, first_refusal-none (header_checks file) (early_checks file slots) passed)
 
 -- what a target's passes cost is what the definition has
 pub cost_stands : (file : List ℕ) (headers : ℕ) (target : Target) (at : ℕ) (passes : ℕ) → Belongs file target.file.loaded target.file.store.now → first_refusal (header_checks file ++ early_checks file headers) ≡ None
     → length (slice file at target.size) ≡ target.size → StandsFor file headers target at
     → cost_with file headers target.section target.layout.now passes ≡ 64 + 64 * e_shnum file + passes_cost target passes
 cost_stands file headers target at passes belongs early long stands =
-    let held : length (held_bytes file (section_at file target.section)) ≡ target.size = sym (ap length stands.bytes) ∙ long in
-    let walk = ap (λ n. passes * n) (walk_is file target belongs) in
-    let is = cost_with-passed file headers target.section target.layout.now passes early stands.passed in
-    omega (arith, held, walk, is)
+    grind (arith, ap length stands.bytes, walk_is file target belongs, cost_with-passed file headers target.section target.layout.now passes early stands.passed)
 
 pub windows_same : (file : List ℕ) (headers : ℕ) (target : Target) (at : ℕ) → length (slice file at target.size) ≡ target.size → StandsFor file headers target at → window_passes file target.section ≡ 1 + windows target.size
 windows_same file headers target at long stands = ap (λ n. 1 + (n + 63) / 64) (sym (ap length stands.bytes) ∙ long)
 
 -- For every source: a section has no more entries than the file's size gives.
 table_inside : (bytes : List ℕ) (at size place : ℕ) → first_refusal (table_checks_of bytes at size place 24) ≡ None → sh_size bytes at ≤ size
-table_inside bytes at size place none =
-    let last = first_refusal-back (refuse (not (sh_entsize bytes at == 24)) place EntrySize ∷ refuse (not (sh_size bytes at % 24 == 0)) place SizeNotWhole ∷ []) (refuse (is_outside size (sh_offset bytes at) (sh_size bytes at)) place TableOutside ∷ []) none in
-    let fits = ltb-false size (sh_offset bytes at + sh_size bytes at) (passed (is_outside size (sh_offset bytes at) (sh_size bytes at)) last) in
-    omega (arith, fits)
-  where
-    passed : (out : Bool) → first_refusal (refuse out place TableOutside ∷ []) ≡ None → out ≡ false
-    passed true h = cc
-    passed false h = refl
+table_inside bytes at size place none = grind (arith, nat_tests)
 
-entries_few : (bytes : List ℕ) (at section size place : ℕ) (applies : Bool) (first : Option Refusal) → applies_to bytes section at ≡ applies → first_refusal (table_checks_of bytes at size place 24) ≡ first
-    → entries_at bytes at section size place ≤ size / 24
-entries_few bytes at section size place false first a f = rw (a, entries_at) (omega arith)
-entries_few bytes at section size place true (Some refusal) a f = rw (a, entries_at) (rw (f, entries_at) (omega arith))
-entries_few bytes at section size place true None a f = let small = table_inside bytes at size place f in rw (a, entries_at) (rw (f, entries_at) (omega (arith, small)))
+entries_few : (bytes : List ℕ) (at section size place : ℕ) → entries_at bytes at section size place ≤ size / 24
+entries_few bytes at section size place = grind (arith, table_inside)
 
 pub walk_below : (target : Target) (headers : ℕ) → sections_of target ≤ headers → walk_all target ≤ headers * (target.file.loaded.size / 24 * (48 + layout_names_cost target.layout.now))
 unfolding walk_all entries_from
@@ -175,7 +125,7 @@ walk_below target headers few =
     let each : ℕ = 48 + layout_names_cost target.layout.now in
     let sum = sum_over-le (entry_count_in target) n 0 (sections_of target - 0) (λ i.
     let is = in_store target i _ refl in
-    let most = entries_few (row target.file.store.now i) 0 target.section target.file.loaded.size (target.file.loaded.header.e_shoff + 64 * i) _ _ refl refl in omega (arith, is, most)) in
+    let most = entries_few (row target.file.store.now i) 0 target.section target.file.loaded.size (target.file.loaded.header.e_shoff + 64 * i) in omega (arith, is, most)) in
     let many : sum_over (entry_count_in target) 0 (sections_of target - 0) * (24 + beside_entry_cost target) ≤ ((sections_of target - 0) * n) * (24 + beside_entry_cost target) = mul-le-mul_right (24 + beside_entry_cost target) sum in
     let more : (sections_of target - 0) * n * (24 + beside_entry_cost target) ≤ headers * n * (24 + beside_entry_cost target) = mul-le-mul_right (24 + beside_entry_cost target) (mul-le-mul_right n (omega arith)) in
     let last : headers * n * (24 + beside_entry_cost target) ≡ headers * (n * each) = mul_grouped headers n (24 + beside_entry_cost target) ∙ ap (λ k. headers * (n * k)) (omega arith) in
@@ -198,8 +148,7 @@ passes_below walk bound size long before after w s h =
     omega (arith, first, second, s, h)
 
 pub checked_below : (walk size before after : ℕ) → after ≤ before + walk → after ≤ before + ((1 + windows size) * walk + size)
-checked_below walk size before after h =
-    let one : (1 + windows size) * walk ≡ walk + windows size * walk = omega arith in omega (arith, one, h)
+checked_below walk size before after h = grind arith
 
 -- a bound by the order of the entries
 pub order_within :
@@ -207,8 +156,5 @@ pub order_within :
     → (offsets_never_fall file section ≡ true → bound ≤ cost_with file headers section layout 2)
     → bound ≤ cost_with file headers section layout (window_passes file section)
     → bound ≤ apply_cost_by_order file headers section layout
-unfolding apply_cost apply_cost_in_order
-order_within file headers section layout bound never falls = elim (cases_Bool (offsets_never_fall file section)) [
-  | inl h ↦ let is = cost_by_order-never_falls file headers section layout h in let within = never h in omega (arith, is, within)
-  | inr h ↦ let is = cost_by_order-falls file headers section layout h in omega (arith, is, falls)
-]
+unfolding apply_cost apply_cost_in_order apply_cost_by_order
+order_within file headers section layout bound never falls = grind arith

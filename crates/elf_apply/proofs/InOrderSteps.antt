@@ -10,19 +10,18 @@ use Rattle.elf_model.specs.Bytes.{slice}
 use Rattle.elf_model.specs.declared.causes.Refusal.{Refusal}
 use Rattle.elf_model.proofs.PatchLaws.{window_put, length_kept, final_below, kept_above}
 use Rattle.elf_source.specs.Output.{Written, Takes, TakesFront}
-use Rattle.elf_source.proofs.PutsLaws.{Takes-nothing, Takes-then, TakesFront-then, TakesFront-more}
+use Rattle.elf_source.proofs.PutsLaws.{Takes-nothing, Takes-then, TakesFront-then, TakesFront-more, TakesFront-all}
 use Rattle.elf_source.specs.Source.{Counting}
 use Rattle.elf_headers.specs.Faults.{ReadSays}
 use Rattle.elf_headers.specs.declared.fault.Fault.{Fault}
 use Rattle.elf_headers.specs.declared.fault.Fault.TheVariants.{Refused as Refuses, Source as Unread}
-use Rattle.elf_apply.specs.InOrder.{Holding, Midway, Rises, UnderWay, IsNoRefusal}
+use Rattle.elf_apply.specs.InOrder.{Holding, Midway, Rises, UnderWay}
 use Rattle.elf_apply.specs.Walk.{FindsEntry, changes_left}
 use Rattle.elf_apply.specs.Windows.{WritesBytes, IsUnread}
 use Rattle.elf_headers.specs.Stops.{stop_of}
 use Rattle.elf_apply.specs.declared.entry.Target.{Target as TargetCode}
 use Rattle.elf_apply.specs.declared.walk.Entries.{Entries}
 use Rattle.elf_headers.specs.declared.stop.Stop.{Stop}
-use Rattle.elf_headers.specs.declared.stop.Stop.TheVariants.{Refused, Source, Out}
 use Rattle.elf_apply.proofs.WindowSteps.{and_is, window_more, window_stopped, take_more}
 use Rattle.elf_model.proofs.Slices.{slice-size, slice-slice, slice-rest}
 
@@ -42,33 +41,18 @@ front_part base now h k few midway = ap (take k) midway.held ∙ take-take k (le
 -- its front is forgotten
 pub midway_skip : (base now : List ℕ) (h after : Holding) (k : ℕ) → k ≤ length h.bytes → after.low ≡ h.low + k → after.bytes ≡ drop k h.bytes → Midway base now h → Midway base now after
 midway_skip base now h after k few low bytes midway =
-    let long : length after.bytes ≡ length h.bytes - k = ap length bytes ∙ length-drop k h.bytes in
-    let within = midway.within in
-    let end : after.low + length after.bytes ≡ h.low + length h.bytes = omega (arith, long, low) in
-    record {
-      long = midway.long;
-      within = omega (arith, end, within);
-      held = bytes ∙ (ap (drop k) midway.held ∙ (slice-rest now h.low (length h.bytes) k few ∙ (ap (λ n. slice now (h.low + k) n) (sym long) ∙ ap (λ i. slice now i (length after.bytes)) (sym low))));
-      rest = ap (λ i. drop i now) end ∙ (midway.rest ∙ ap (λ i. drop i base) (sym end));
-    }
+    let long = length-drop k h.bytes in
+    let rest = slice-rest now h.low (length h.bytes) k few in
+    record { long = midway.long; within = grind arith; held = grind arith; rest = grind arith }
 
 -- nothing is held: what stands behind is as it was
 none_rest : (base now : List ℕ) (h : Holding) → h.bytes ≡ [] → Midway base now h → drop h.low now ≡ drop h.low base
-none_rest base now h none midway =
-    let zero_long : length h.bytes ≡ 0 = ap length none in
-    let end : h.low ≡ h.low + length h.bytes = omega (arith, zero_long) in
-    ap (λ i. drop i now) end ∙ (midway.rest ∙ ap (λ i. drop i base) (sym end))
+none_rest base now h none midway = grind (arith, midway.rest)
 
 pub midway_jump : (base now : List ℕ) (h after : Holding) → h.bytes ≡ [] → after.bytes ≡ [] → h.low ≤ after.low → after.low ≤ length base → Midway base now h → Midway base now after
 midway_jump base now h after none nothing le within midway =
-    let zero_long : length after.bytes ≡ 0 = ap length nothing in
-    let end : after.low ≡ after.low + length after.bytes = omega (arith, zero_long) in
-    record {
-      long = midway.long;
-      within = omega (arith, end, within);
-      held = nothing ∙ ap (λ n. slice now after.low n) (sym zero_long);
-      rest = ap (λ i. drop i now) (sym end) ∙ (same_behind base now h.low after.low le (none_rest base now h none midway) ∙ ap (λ i. drop i base) end);
-    }
+    let behind = same_behind base now h.low after.low le (none_rest base now h none midway) in
+    record { long = midway.long; within = grind arith; held = grind arith; rest = grind arith }
 
 pub copied : (file : List ℕ) (at size : ℕ) (now : List ℕ) (h : Holding) (m : ℕ) → h.bytes ≡ [] → h.low + m ≤ size → Midway (slice file at size) now h → slice now h.low m ≡ slice file (at + h.low) m
 copied file at size now h m none fits midway =
@@ -78,19 +62,13 @@ copied file at size now h m none fits midway =
 pub midway_read : (file : List ℕ) (at size : ℕ) (now : List ℕ) (h after : Holding) (m : ℕ) (read : List ℕ) → at + size ≤ length file → h.low + length h.bytes + m ≤ size
     → after.low ≡ h.low → after.bytes ≡ h.bytes ++ read → read ≡ slice file (at + (h.low + length h.bytes)) m → Midway (slice file at size) now h → Midway (slice file at size) now after
 midway_read file at size now h after m read long fits low bytes is midway =
-    let base : List ℕ = slice file at size in
-    let n : ℕ = length h.bytes in
-    let size_long : length base ≡ size = slice-size file at size long in
-    let read_long : length read ≡ m = ap length is ∙ slice-size file (at + (h.low + n)) m (omega (arith, fits, long)) in
-    let all_long : length after.bytes ≡ n + m = ap length bytes ∙ (length-append h.bytes read ∙ ap (λ k. n + k) read_long) in
-    let behind : read ≡ slice now (h.low + n) m = is ∙ (sym (slice-slice file at size (h.low + n) m fits) ∙ ap (take m) (sym midway.rest)) in
-    let end : h.low + n ≤ after.low + length after.bytes = omega (arith, low, all_long) in
-    record {
-      long = midway.long;
-      within = omega (arith, low, all_long, fits, size_long);
-      held = bytes ∙ (ap (λ l. l ++ read) midway.held ∙ (ap (λ l. slice now h.low n ++ l) behind ∙ (sym (slice_split now h.low (length after.bytes) n m all_long) ∙ ap (λ i. slice now i (length after.bytes)) (sym low))));
-      rest = same_behind base now (h.low + n) (after.low + length after.bytes) end midway.rest;
-    }
+    let sized = slice-size file at size long in
+    let part = slice-slice file at size (h.low + length h.bytes) m fits in
+    let read_long : length read ≡ m = ap length is ∙ slice-size file (at + (h.low + length h.bytes)) m (omega (arith, fits, long)) in
+    let all_long = length-append h.bytes read in
+    let both = slice_split now h.low (length h.bytes + m) (length h.bytes) m refl in
+    let rest = same_behind (slice file at size) now (h.low + length h.bytes) (h.low + length h.bytes + m) (omega arith) midway.rest in
+    record { long = midway.long; within = grind arith; held = grind arith; rest = grind arith }
 
 pub midway_fill : (file : List ℕ) (at size : ℕ) (now : List ℕ) (h : Holding) (low count width : ℕ) (bytes out : List ℕ) → record { low = low; bytes = take count bytes } ≡ h → count ≤ width → width ≤ length bytes
     → length out ≡ length (mid_of count (width - count) bytes) → out ≡ take (length (mid_of count (width - count) bytes)) (drop (at + (low + count)) file)
@@ -126,17 +104,11 @@ take_put base patch low h le = final_below (patch ∷ []) base low (one_inside b
 pub midway_patch : (base now : List ℕ) (h after : Holding) (patch : Patch) → h.low ≤ patch.at → patch.at + length patch.bytes ≤ h.low + length h.bytes
     → after.low ≡ h.low → after.bytes ≡ put (clipped h.low (length h.bytes) patch) h.bytes → length after.bytes ≡ length h.bytes → Midway base now h → Midway base (put patch now) after
 midway_patch base now h after patch from fits low bytes same midway =
-    let within = midway.within in
-    let long = midway.long in
-    let inside : IsInside (length now) patch = omega (arith, within, long, fits) in
-    let end : after.low + length after.bytes ≡ h.low + length h.bytes = omega (arith, low, same) in
-    record {
-      long = length_put now patch inside ∙ long;
-      within = omega (arith, within, low, same);
-      held = bytes ∙ (ap (put (clipped h.low (length h.bytes) patch)) midway.held ∙ (sym (window_put patch now h.low (length h.bytes) inside (omega (arith, within, long)))
-          ∙ (ap (λ n. slice (put patch now) h.low n) (sym same) ∙ ap (λ i. slice (put patch now) i (length after.bytes)) (sym low))));
-      rest = ap (λ i. drop i (put patch now)) end ∙ (drop_put now patch (h.low + length h.bytes) inside fits ∙ (midway.rest ∙ ap (λ i. drop i base) (sym end)));
-    }
+    let inside : IsInside (length now) patch = grind arith in
+    let long = length_put now patch inside in
+    let window = window_put patch now h.low (length h.bytes) inside (grind arith) in
+    let behind = drop_put now patch (h.low + length h.bytes) inside fits in
+    record { long = grind arith; within = grind arith; held = grind arith; rest = grind arith }
 
 -- what is held ends before an offset: all of it was written, and what stands behind it up to there is the file's
 module _ (file : List ℕ) (at size : ℕ) (now : List ℕ) (h after : Holding) (k end low : ℕ) (is : k ≡ min (end - h.low) (length h.bytes)) (le : h.low ≤ end) (at_low : after.low ≡ h.low + k) (bytes : after.bytes ≡ drop k h.bytes) (there : low ≡ after.low) (more : low < end) where
@@ -154,27 +126,17 @@ module _ (file : List ℕ) (at size : ℕ) (now : List ℕ) (h after : Holding) 
 
 -- what is written is a front, and then more
 pub writes_then : (X : Type 0) (a b c : Written) (result : Result X Stop) (xs ys : List ℕ) → Takes a b xs → WritesBytes b c result ys → WritesBytes a c result (xs ++ ys)
-writes_then X a b c (Ok x) xs ys before this = Takes-then xs ys before this
-writes_then X a b c (Err (Refused refusal)) xs ys before this = absurd this
-writes_then X a b c (Err (Source fault at)) xs ys before this = TakesFront-then xs ys before this
-writes_then X a b c (Err (Out fault)) xs ys before this = TakesFront-then xs ys before this
+writes_then X a b c result xs ys before this = grind (arith, Takes-then {a = a} {b = b} {c = c} xs ys, TakesFront-then {a = a} {b = b} {c = c} xs ys)
 
 pub writes_as : (X : Type 0) (a b : Written) (result : Result X Stop) (xs ys : List ℕ) → xs ≡ ys → WritesBytes a b result xs → WritesBytes a b result ys
-writes_as X a b result xs ys e h = let P : List ℕ → Type 0 = λ t. WritesBytes a b result t in subst P e h
+writes_as X a b result xs ys e h = rw e at h
 
 pub front_more : (a b : Written) (text xs ys : List ℕ) → text ≡ xs ++ ys → TakesFront a b xs → TakesFront a b text
-front_more a b text xs ys e h = let P : List ℕ → Type 0 = λ t. TakesFront a b t in subst P (sym e) (TakesFront-more xs ys h)
+front_more a b text xs ys e h = rw e (TakesFront-more xs ys h)
 
 -- all of it was written, and then a read failed
 pub unread_after : (X : Type 0) (a b : Written) (fault : Fault) (result : Result X Stop) (text : List ℕ) → result ≡ Err (stop_of fault) → IsUnread fault → Takes a b text → WritesBytes a b result text
-unread_after X a b (Refuses refusal) result text is un h = absurd un
-unread_after X a b (Unread fault at) result text is un h =
-    let P : Result X Stop → Type 0 = λ r. WritesBytes a b r text in
-    subst P (sym is) (record { front = text; rest = []; split = sym (append-nil text); takes = h })
-
-pub unread_kept : (fault : Fault) (other : Stop) → other ≡ stop_of fault → IsUnread fault → IsNoRefusal other
-unread_kept (Refuses refusal) other is un = absurd un
-unread_kept (Unread fault at) other is un = let P : Stop → Type 0 = λ f. IsNoRefusal f in subst P (sym is) tt
+unread_after X a b fault result text is un h = grind (arith, TakesFront-all {a = a} {b = b} text [], append-nil text)
 
 -- patches that never fall
 rises_less : (low high : ℕ) (patches : List Patch) → low ≤ high → Rises high patches → Rises low patches
@@ -303,7 +265,4 @@ underway_start base h left patches a low none are inside rises =
 
 -- a fault of the walk, by the change that it stands for
 pub finds_refusal : (file : List ℕ) (target : TargetCode) (old new : Entries) (fault : Fault) (a b : Counting) → ReadSays a b fault → FindsEntry file target old new (Err fault) → (refusal : Refusal) → fault ≡ Refuses refusal → (more : List Change) × (changes_left file target old ≡ Fails refusal ∷ more)
-finds_refusal file target old new (Refuses other) a b wanted finds refusal e =
-    let same : other ≡ refusal = cc in
-    let found = finds wanted in (found.0, found.1 ∙ ap (λ r. Fails r ∷ found.0) same)
-finds_refusal file target old new (Unread fault at) a b wanted finds refusal e = cc
+finds_refusal file target old new fault a b wanted finds refusal e = grind arith

@@ -3,12 +3,11 @@ pub mod BudgetSteps
 pub mod CostSteps
 pub mod EntrySteps
 pub mod InOrderSteps
-pub mod LookupSteps
 pub mod Opened
 pub mod PassSteps
 pub mod ReadLaws
 pub mod RisingSteps
 pub mod RoomSteps
-pub mod SymbolSteps
 pub mod WalkSteps
 pub mod WindowSteps
+pub mod Words

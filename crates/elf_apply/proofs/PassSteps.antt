@@ -1,5 +1,5 @@
 -- A pass over the entries, entry by entry.
-use Rattle.std.proofs.Common.{◌≡◌, ℕ, ◌+◌, ◌-◌, ◌<◌, ◌≤◌, Bool, List, [], ◌∷◌, ◌++◌, length, take, drop, min, max, Result, Ok, Err, sym, ap, ◌∙◌, arith}
+use Rattle.std.proofs.Common.{◌≡◌, ℕ, ◌+◌, ◌-◌, ◌<◌, ◌≤◌, Bool, List, [], ◌∷◌, length, take, drop, min, max, Result, Ok, Err, sym, ap, ◌∙◌, arith}
 use Rattle.std.proofs.Common.{inl, inr, length-take, length-drop}
 use Rattle.std.proofs.lemmas.Bool.{cases_lt}
 use Rattle.std.proofs.lemmas.List.{take_all, nil_from_length}
@@ -9,7 +9,6 @@ use Rattle.elf_model.specs.Apply.{Patch, Change, Put, Fails, put}
 use Rattle.elf_model.specs.ApplyLaws.{clipped}
 use Rattle.elf_model.specs.declared.causes.Refusal.{Refusal}
 use Rattle.elf_headers.specs.declared.fault.Fault.{Fault}
-use Rattle.elf_headers.specs.declared.fault.Fault.TheVariants.{Refused, Source}
 use Rattle.elf_apply.specs.Costs.{ValueOrRefusal}
 use Rattle.elf_apply.specs.Passes.{folded, Folds, Checks}
 use Rattle.elf_apply.specs.Walk.{changes_left, FindsEntry}
@@ -30,19 +29,15 @@ module _ {A : Type 0} (step : A → Patch → A) (value : A) where
   folded-fails changes rest refusal answer e h = sym h ∙ ap (folded step value) e
 
   pub folded-fault : (file : List ℕ) (target : TargetCode) (old new : Entries) (fault : Fault) (answer : Result A Refusal) → FindsEntry file target old new (Err fault) → folded step value (changes_left file target old) ≡ answer → ValueOrRefusal (Err fault) answer
-  folded-fault file target old new (Refused refusal) answer finds h = λ other.
-      let found = finds other in folded-fails (changes_left file target old) found.0 refusal answer found.1 h
-  folded-fault file target old new (Source fault at) answer finds h = tt
+  folded-fault file target old new fault answer finds h = grind (arith, folded-fails)
 
 -- the same fault of a check
 pub checks_fault : (fault : Fault) (answer : Result (Bool × ℕ) Refusal) → ValueOrRefusal {X = Bool × ℕ} (Err fault) answer → Checks (Err fault) answer
-checks_fault (Refused refusal) answer h = h
-checks_fault (Source fault at) answer h = h
+checks_fault fault answer h = grind arith
 
 -- the same fault, where the answer is another value
 pub folds-fault : (X : Type 0) {A : Type 0} (fault : Fault) (value : A) (answer : Result A Refusal) → ValueOrRefusal {X = A} (Err fault) answer → Folds {X = X} (Err fault) value answer
-folds-fault X (Refused refusal) value answer h = h
-folds-fault X (Source fault at) value answer h = tt
+folds-fault X fault value answer h = grind arith
 
 -- the part of a patch that falls into a window
 take-cut : (j k : ℕ) (xs : List ℕ) → j ≡ min k (length xs) → take j xs ≡ take k xs
@@ -56,19 +51,11 @@ take-cut j k xs e = elim (cases_lt k (length xs)) [
 
 put-as : (patch : Patch) (window mid : List ℕ) (a k : ℕ) → a ≡ patch.at → mid ≡ patch.bytes → k ≡ length mid → put_mid a k window mid ≡ put patch window
 unfolding put
-put-as patch window mid a k same bytes len =
-    ap (λ l. take a window ++ (mid ++ l)) (drop-drop k a window)
-    ∙ (ap (λ n. take a window ++ (mid ++ drop (a + n) window)) len
-    ∙ (ap (λ n. take n window ++ (mid ++ drop (n + length mid) window)) same
-    ∙ ap (λ l. take patch.at window ++ (l ++ drop (patch.at + length l) window)) bytes))
+put-as patch window mid a k same bytes len = grind (arith, drop-drop)
 
 put-none : (patch : Patch) (window : List ℕ) → patch.bytes ≡ [] → put patch window ≡ window
 unfolding put
-put-none patch window none =
-    ap (λ l. take patch.at window ++ (l ++ drop (patch.at + length l) window)) none ∙ (ap (λ n. take patch.at window ++ drop n window) (whole patch.at) ∙ take-append-drop patch.at window)
-  where
-    whole : (n : ℕ) → n + 0 ≡ n
-    whole n = omega arith
+put-none patch window none = grind (arith, take-append-drop)
 
 module _ (patch : Patch) (low n first end : ℕ) (window : List ℕ) (counted : n ≡ length window) (f : first ≡ max patch.at low) (e : end ≡ min (patch.at + length patch.bytes) (low + n)) where
   pub stored-in : (mid : List ℕ) → first < end → mid ≡ take (end - patch.at - (first - patch.at)) (drop (first - patch.at) patch.bytes)

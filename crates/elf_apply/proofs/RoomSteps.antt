@@ -1,27 +1,25 @@
 -- What a limit has room for, and what is asked for within it.
-use Rattle.std.proofs.Common.{◌≡◌, ℕ, zero, suc, ◌+◌, ◌-◌, ◌*◌, ◌^◌, ◌<◌, ◌≤◌, Bool, true, false, inl, inr, min, Option, None, Some, Result, Ok, Err, refl, sym, ap, ◌∙◌, subst, arith}
-use Rattle.std.specs.Prelude.{List, IfErr, option_map, ◌⊎◌}
+use Rattle.std.proofs.Common.{◌≡◌, ℕ, zero, suc, ◌+◌, ◌-◌, ◌*◌, ◌^◌, ◌<◌, ◌≤◌, Bool, true, false, inl, inr, min, Option, Some, Result, refl, sym, ap, ◌∙◌, subst, arith}
+use Rattle.std.specs.Prelude.{List, IfErr, ◌⊎◌}
 use Rattle.std.proofs.Math.Dec.{leb}
 use Rattle.std.proofs.Math.Nat.{mul-le-mul_left}
 use Rattle.std.proofs.lemmas.Bool.{cases_lt}
 use Rattle.std.proofs.lemmas.Bool.Decides.{leb_tells}
 use Rattle.elf_model.specs.ApplyCost.{layout_names_cost}
 use Rattle.elf_source.specs.Output.{Written}
-use Rattle.elf_source.specs.Source.{Seen, Counting, Faults, Keeps, Limits, Reads, left}
+use Rattle.elf_source.specs.Source.{Seen, Counting, Limits, Reads, left}
 use Rattle.elf_headers.specs.Load.{IsOpen, Opened}
 use Rattle.elf_headers.specs.Store.{Stored}
 use Rattle.elf_apply.specs.Applied.{ApplySays, OverBudget, RoomFor, ReadsWithin, WritesOrWants, write_passes}
-use Rattle.elf_apply.specs.Walk.{beside_entry_cost, entries_from, walk_all}
+use Rattle.elf_apply.specs.Walk.{entries_from, walk_all}
 use Rattle.elf_apply.specs.Windows.{ApplyFaultSays, WritesBytes, windows}
 use Rattle.elf_apply.specs.declared.entry.Target.{Target}
 use Rattle.elf_headers.specs.declared.stop.Stop.{Stop}
-use Rattle.elf_headers.specs.declared.stop.Stop.TheVariants.{Refused, Source, Out}
 
 -- what a pass asks for, by the number of entries and what each of them asks for
 walk_by : (target : Target) (entries each : ℕ) → entries ≡ entries_from target 0 → each ≡ 48 + layout_names_cost target.layout.now → entries * each ≡ walk_all target
 unfolding walk_all
-walk_by target entries each counted costs =
-    ap (λ n. n * each) counted ∙ ap (λ k. entries_from target 0 * k) (let same : each ≡ 24 + beside_entry_cost target = omega (arith, costs) in same)
+walk_by target entries each counted costs = grind arith
 
 -- a product and a sum that stay at 2^128 - 1 are exact where they are small
 sum_small :
@@ -46,17 +44,10 @@ sum_least passes exact size most pass walks all p w a over =
 
 -- what is left of a limit
 left_most : (src : Counting) (bytes most : ℕ) → left src ≡ Some bytes → src.most ≡ Some most → most ≡ src.asked + bytes
-left_most src bytes most is set =
-    let told = sym is ∙ ap (λ m. option_map (λ n. n - src.asked) m) set in
-    let same : bytes ≡ most - src.asked = cc in
-    let inside = (src.within most set).0 in
-    omega (arith, same, inside)
+left_most src bytes most is set = grind arith
 
 over_left : (src : Counting) (bytes n : ℕ) (most : Option ℕ) → src.most ≡ most → left src ≡ Some bytes → bytes < n → OverBudget src n
-over_left src bytes n None set is over =
-    let told = sym is ∙ ap (λ m. option_map (λ n. n - src.asked) m) set in cc
-over_left src bytes n (Some most) set is over =
-    let same = left_most src bytes most is set in record { most = most; is_set = set; above = omega (arith, same, over) }
+over_left src bytes n most set is over = grind arith
 
 pub room_for :
     (src : Counting) (target : Target) (bytes passes entries each size pass walks all : ℕ) → left src ≡ Some bytes → bytes < 2 ^ 64 → entries ≡ entries_from target 0 → each ≡ 48 + layout_names_cost target.layout.now
@@ -76,74 +67,34 @@ room_for src target bytes passes entries each size pass walks all is small count
 
 -- a section that a limit has no room for has bytes
 pub some_size : (src : Counting) (rises : Bool) (size walk : ℕ) → OverBudget src (write_passes rises size * walk + size) → 0 < size
-some_size src rises size walk over = elim (cases_lt 0 size) [
-  | inl some ↦ some
-  | inr none ↦
-      let product = ap (λ n. n * walk) (no_pass rises none) in
-      let inside = (src.within over.most over.is_set).0 in
-      absurd (omega (arith, product, inside, over.above, none))
-]
-  where
-    no_pass : (r : Bool) → size ≤ 0 → write_passes r size ≡ 0
-    no_pass true none = omega (arith, none)
-    no_pass false none = omega (arith, none)
+some_size src rises size walk over = grind arith
 
 -- what the passes that write ask for, by the order of the entries
 pub write_asks :
     (rises : Bool) (size walk before after : ℕ) → (rises ≡ true → after ≤ before + (walk + size)) → after ≤ before + (windows size * walk + size)
     → after ≤ before + (write_passes rises size * walk + size)
-write_asks false size walk before after once all = all
-write_asks true size walk before after once all = elim (cases_lt 0 size) [
-  | inl some ↦
-      let one : min 1 (windows size) ≡ 1 = omega (arith, some) in
-      let product = ap (λ n. n * walk) one in omega (arith, product, once refl)
-  | inr none ↦
-      let same : min 1 (windows size) ≡ windows size = omega (arith, none) in
-      let product = ap (λ n. n * walk) same in omega (arith, product, all)
-]
+write_asks rises size walk before after once all = grind arith
 
 -- a limit was taken away
 module _ (a b : Counting) (bytes : Option ℕ) (limits : Limits a b bytes) where
   pub open_free : (loaded : Opened) (store : Stored) → IsOpen a loaded store → IsOpen b loaded store
-  open_free loaded store opened = record {
-    size = opened.size ∙ ap (λ (s : Seen). s.size) (sym limits.seen);
-    belongs = λ file held. opened.belongs file (ap (λ (s : Seen). s.file) (sym limits.seen) ∙ held);
-  }
+  open_free loaded store opened = record { size = grind arith; belongs = λ file held. opened.belongs file (ap (λ (s : Seen). s.file) (sym limits.seen) ∙ held) }
 
   pub spends_free :
       (d : Counting) (m n : ℕ) → Reads b d m → d.asked ≤ b.asked + n → ((most : ℕ) → a.most ≡ Some most → a.asked + n ≤ most) → ReadsWithin a d n
-  spends_free d m n reads asked room = record {
-    keeps = let P : Seen → Type 0 = λ s. Keeps s d.seen in subst P limits.seen reads.keeps;
-    grows = omega (arith, limits.asked, reads.grows);
-    at_most = omega (arith, limits.asked, asked);
-    within = λ most set. let fits = room most set in omega (arith, limits.asked, asked, fits);
-  }
+  spends_free d m n reads asked room = grind arith
 
   pub says_free : {X : Type 0} (d : Counting) (out : Written) (n : ℕ) (result : Result X Stop) → IfErr result (ApplyFaultSays b d out) → IfErr result (ApplySays a d out n)
-  says_free d out n (Ok x) says = tt
-  says_free d out n (Err (Refused refusal)) says = λ budget. absurd (says budget)
-  says_free d out n (Err (Source fault at)) says = (let P : Seen → Type 0 = λ s. Faults s d.seen fault in subst P limits.seen says.0, says.1)
-  says_free d out n (Err (Out fault)) says = says
+  says_free d out n result says = grind arith
 
 -- the same where it is taken away last
 module _ (a b d : Counting) (bytes : Option ℕ) (limits : Limits b d bytes) where
   pub spends_last : (n : ℕ) → ReadsWithin a b n → ReadsWithin a d n
-  spends_last n spends = record {
-    keeps = let P : Seen → Type 0 = λ s. Keeps a.seen s in subst P (sym limits.seen) spends.keeps;
-    grows = omega (arith, limits.asked, spends.grows);
-    at_most = omega (arith, limits.asked, spends.at_most);
-    within = λ most set. let inside = spends.within most set in omega (arith, limits.asked, inside);
-  }
+  spends_last n spends = grind arith
 
   pub says_last : {X : Type 0} (out : Written) (n : ℕ) (result : Result X Stop) → IfErr result (ApplySays a b out n) → IfErr result (ApplySays a d out n)
-  says_last out n (Ok x) says = tt
-  says_last out n (Err (Refused refusal)) says = says
-  says_last out n (Err (Source fault at)) says = (let P : Seen → Type 0 = λ s. Faults a.seen s fault in subst P (sym limits.seen) says.0, says.1 ∙ sym limits.stopped)
-  says_last out n (Err (Out fault)) says = says
+  says_last out n result says = grind arith
 
 -- a text that was written, where nothing is refused
 pub never_wants : {X : Type 0} (old new : Written) (result : Result X Stop) (text : List ℕ) → WritesBytes old new result text → WritesOrWants old new result text
-never_wants old new (Ok x) text h = h
-never_wants old new (Err (Refused refusal)) text h = absurd h
-never_wants old new (Err (Source fault at)) text h = h
-never_wants old new (Err (Out fault)) text h = h
+never_wants old new result text h = grind arith

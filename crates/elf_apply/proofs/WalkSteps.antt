@@ -1,16 +1,16 @@
 -- The walk over entries, step by step.
-use Rattle.std.proofs.Common.{◌≡◌, ℕ, zero, suc, ◌+◌, ◌-◌, ◌*◌, ◌<◌, ◌≤◌, true, false, List, [], ◌∷◌, ◌++◌, Option, None, Some, Result, Ok, Err, refl, sym, ap, ◌∙◌, subst, arith, append_assoc}
+use Rattle.std.proofs.Common.{◌≡◌, ℕ, suc, ◌+◌, ◌-◌, ◌*◌, ◌<◌, ◌≤◌, true, false, List, [], ◌∷◌, ◌++◌, Option, None, Some, Result, Ok, Err, refl, sym, ap, ◌∙◌, subst, arith, append_assoc}
 use Rattle.elf_model.specs.Apply.{Target, Change, Put, Fails, applies_to, section_changes, entry_changes, places_from}
 use Rattle.elf_model.specs.Checks.{first_refusal}
 use Rattle.elf_model.specs.Cost.{sum_over}
 use Rattle.elf_model.specs.Records.{sh_offset, section_at}
 use Rattle.elf_model.specs.Tables.{entry_at, entry_count, relocation_table_checks}
 use Rattle.elf_model.specs.declared.causes.Refusal.{Refusal}
-use Rattle.elf_table.specs.Cursors.{Reading, GivesRow, unread_bytes, unless_failed}
+use Rattle.elf_table.specs.Cursors.{Reading, GivesRow, unread_bytes}
 use Rattle.elf_headers.specs.Store.{row}
 use Rattle.elf_table.specs.Relocations.{Relocates}
 use Rattle.elf_table.specs.Sections.{table_of}
-use Rattle.elf_table.specs.Tables.{Rows, RowsWithin}
+use Rattle.elf_table.specs.Tables.{Rows}
 use Rattle.elf_apply.proofs.Opened.{entries_counted}
 use Rattle.elf_source.specs.Source.{Counting, Reads}
 use Rattle.elf_source.proofs.ReadsLaws.{Reads-to}
@@ -18,7 +18,7 @@ use Rattle.elf_headers.specs.Load.{section_place}
 use Rattle.elf_headers.specs.declared.fault.Fault.{Fault}
 use Rattle.elf_headers.specs.declared.fault.Fault.TheVariants.{Refused, Source}
 use Rattle.elf_apply.specs.Entries.{target_as, patch_as, Changes, Refers}
-use Rattle.elf_apply.specs.Walk.{changes_from, rows_changes, changes_left, changes_all, beside_entry_cost, entry_count_in, entries_from, sections_of, walk_left, walk_all, steps_left, Walked, ReadsEntries, AsksOf}
+use Rattle.elf_apply.specs.Walk.{changes_from, rows_changes, changes_left, changes_all, beside_entry_cost, entry_count_in, entries_from, sections_of, walk_left, walk_all, Walked, ReadsEntries}
 use Rattle.elf_apply.specs.declared.entry.Placed.{Placed}
 use Rattle.elf_apply.specs.declared.entry.Target.{Target as TargetCode}
 use Rattle.elf_apply.specs.declared.walk.Entries.{Entries}
@@ -73,30 +73,22 @@ section_rows file target at h f = rw (h, section_changes) (rw (f, section_change
 -- what is left where no row is left
 pub left-rows : (file : List ℕ) (target : TargetCode) (e : Entries) → e.cursor.left ≡ 0 → changes_left file target e ≡ changes_from file target e.next (sections_of target - e.next)
 unfolding changes_left
-left-rows file target e none = rw (none, changes_left) (ap (λ l. l ++ changes_from file target e.next (sections_of target - e.next)) (rows-none file target (section_at file e.current) e.cursor.index))
+left-rows file target e none = grind (arith, rows-none)
 
 pub left-end : (file : List ℕ) (target : TargetCode) (e : Entries) → e.cursor.left ≡ 0 → sections_of target ≤ e.next → changes_left file target e ≡ []
-left-end file target e none past =
-    let zero : sections_of target - e.next ≡ 0 = omega arith in
-    left-rows file target e none ∙ (ap (changes_from file target e.next) zero ∙ from-none file target e.next)
+left-end file target e none past = grind (arith, left-rows, from-none)
 
 -- the next section was passed: it gives nothing
 pub left-passed : (file : List ℕ) (target : TargetCode) (old new : Entries) → old.cursor.left ≡ 0 → new.cursor.left ≡ 0 → new.next ≡ old.next + 1 → old.next < sections_of target
     → section_changes (target_as file target) (section_at file old.next) ≡ [] → changes_left file target old ≡ changes_left file target new
-left-passed file target old new none none' step below nothing =
-    left-rows file target old none ∙ (from-next file target old.next (sections_of target) below
-    ∙ (ap (λ l. l ++ changes_from file target (old.next + 1) (sections_of target - (old.next + 1))) nothing
-    ∙ (ap (λ k. changes_from file target k (sections_of target - k)) (sym step) ∙ sym (left-rows file target new none'))))
+left-passed file target old new none none' step below nothing = grind (arith, left-rows, from-next)
 
 -- it was opened: its rows are left
 pub left-opened : (file : List ℕ) (target : TargetCode) (old new : Entries) → old.cursor.left ≡ 0 → new.next ≡ old.next + 1 → new.current ≡ old.next → new.cursor.index ≡ 0 → new.cursor.left ≡ entry_count file (section_at file old.next) 24
     → old.next < sections_of target → section_changes (target_as file target) (section_at file old.next) ≡ rows_changes file target (section_at file old.next) 0 (entry_count file (section_at file old.next) 24)
     → changes_left file target old ≡ changes_left file target new
 unfolding changes_left
-left-opened file target old new none step here first counted below are =
-    left-rows file target old none ∙ (from-next file target old.next (sections_of target) below
-    ∙ (ap (λ l. l ++ changes_from file target (old.next + 1) (sections_of target - (old.next + 1))) are
-    ∙ rw (here, first, counted, step) refl))
+left-opened file target old new none step here first counted below are = grind (arith, rows-none, from-next)
 
 -- it was refused
 pub left-refused : (file : List ℕ) (target : TargetCode) (old : Entries) (refusal : Refusal) → old.cursor.left ≡ 0 → old.next < sections_of target
@@ -113,14 +105,10 @@ pub left-row : (file : List ℕ) (target : TargetCode) (old new : Entries) (at :
     → changes_left file target old ≡ entry_changes (target_as file target) (section_at file old.current) at ++ changes_left file target new
 unfolding changes_left
 left-row file target old new at next here index less place =
-    let header : ℕ = section_at file old.current in
     let l : old.cursor.left ≡ suc new.cursor.left = omega arith in
     let i : suc old.cursor.index ≡ new.cursor.index = omega arith in
-    let p : entry_at file header 24 old.cursor.index ≡ at = omega arith in
-    let rest : List Change = changes_from file target old.next (sections_of target - old.next) in
-    rw (l, changes_left) (ap (λ x. x ++ rest) (rows-suc file target header old.cursor.index new.cursor.left ∙ (ap (λ k. entry_changes (target_as file target) header k ++ rows_changes file target header (suc old.cursor.index) new.cursor.left) p
-    ∙ ap (λ k. entry_changes (target_as file target) header at ++ rows_changes file target header k new.cursor.left) i))
-    ∙ (append_assoc (entry_changes (target_as file target) header at) (rows_changes file target header new.cursor.index new.cursor.left) rest ∙ rw (next, here) refl))
+    let p : entry_at file (section_at file old.current) 24 old.cursor.index ≡ at = omega arith in
+    grind (arith, rows-suc file target (section_at file old.current) old.cursor.index new.cursor.left, append_assoc)
 
 -- the entries of the sections that are left
 pub entries-next : (target : TargetCode) (i : ℕ) → i < sections_of target → entries_from target i ≡ entry_count_in target i + entries_from target (i + 1)
@@ -140,85 +128,23 @@ pub entries-table :
     → Ok table ≡ table_of (row target.file.store.now i) 0 target.file.loaded.size (section_place target.file.loaded.header i) 24
     → table.count ≡ entry_count_in target i
 unfolding entry_count_in
-entries-table target i table h found =
-    rw (h, entry_count_in) (entries_counted (row target.file.store.now i) 0 target.file.loaded.size (section_place target.file.loaded.header i) table found)
+entries-table target i table h found = grind (arith, entries_counted)
 
 -- the cost of what is left
-no-cost-left : (c : Reading) (own : ℕ) → c.failed ≡ None → c.unread ≡ 0 → c.left ≡ 0 → unread_bytes c + unless_failed c.failed (c.left * own) ≡ 0
-no-cost-left c own f u l = rw (f, u, l) (omega arith)
-
 pub cost-begins : (target : TargetCode) (e : Entries) → e.cursor.failed ≡ None → e.cursor.unread ≡ 0 → e.cursor.left ≡ 0 → e.next ≡ 0 → walk_left target e ≡ walk_all target
 unfolding walk_left walk_all
-cost-begins target e f u l n =
-    let none = no-cost-left e.cursor (beside_entry_cost target) f u l in
-    let rest : entries_from target e.next * (24 + beside_entry_cost target) ≡ entries_from target 0 * (24 + beside_entry_cost target) = ap (λ i. entries_from target i * (24 + beside_entry_cost target)) n in
-    omega (arith, rest, none)
+cost-begins target e f u l n = grind arith
 
 pub left-begins : (file : List ℕ) (target : TargetCode) (e : Entries) → e.cursor.left ≡ 0 → e.next ≡ 0 → changes_left file target e ≡ changes_all file target
-left-begins file target e l n =
-    let whole : sections_of target - 0 ≡ sections_of target = omega arith in
-    left-rows file target e l ∙ (ap (λ k. changes_from file target k (sections_of target - k)) n ∙ ap (changes_from file target 0) whole)
-
-times-fewer : (a b c n : ℕ) → a ≡ b + c → a * n ≡ b * n + c * n
-times-fewer a b c n h = rw h (omega arith)
-
-pub cost-passed : (target : TargetCode) (old new : Entries) → old.cursor ≡ new.cursor → new.next ≡ old.next + 1 → old.next < sections_of target → walk_left target new ≤ walk_left target old
-unfolding walk_left
-cost-passed target old new same step below =
-    let own : ℕ = beside_entry_cost target in
-    let e = entries-next target old.next below in
-    let product = times-fewer (entries_from target old.next) (entry_count_in target old.next) (entries_from target (old.next + 1)) (24 + own) e in
-    rw (sym same, step) (omega (arith, product))
-
-new-cost : (c : Reading) (own : ℕ) → c.failed ≡ None → c.unread ≡ c.left * 24 → unread_bytes c + unless_failed c.failed (c.left * own) ≡ c.left * (24 + own)
-new-cost c own f u = rw (f, u) (omega arith)
+left-begins file target e l n = grind (arith, left-rows)
 
 pub cost-opened :
     (target : TargetCode) (old new : Entries) → new.cursor.failed ≡ None → new.cursor.unread ≡ new.cursor.left * 24 → new.next ≡ old.next + 1 → old.next < sections_of target
     → new.cursor.left ≡ entry_count_in target old.next → walk_left target new ≤ walk_left target old
 unfolding walk_left
-cost-opened target old new f u step below counted =
-    let own : ℕ = beside_entry_cost target in
-    let e = entries-next target old.next below in
-    let product = times-fewer (entries_from target old.next) (entry_count_in target old.next) (entries_from target (old.next + 1)) (24 + own) e in
-    let begins = new-cost new.cursor own f u in
-    let many : new.cursor.left * (24 + own) ≡ entry_count_in target old.next * (24 + own) = ap (λ n. n * (24 + own)) counted in
-    let rest : entries_from target new.next * (24 + own) ≡ entries_from target (old.next + 1) * (24 + own) = ap (λ i. entries_from target i * (24 + own)) step in
-    omega (arith, product, begins, many, rest)
+cost-opened target old new f u step below counted = grind (arith, entries-next)
 
 -- the steps that are left
-pub steps-passed : (target : TargetCode) (old new : Entries) → new.cursor.left ≡ old.cursor.left → new.next ≡ old.next + 1 → old.next < sections_of target → steps_left target new < steps_left target old
-unfolding steps_left
-steps-passed target old new same step below =
-    let product : (sections_of target - old.next) * (target.file.loaded.size + 1) ≡ (sections_of target - new.next) * (target.file.loaded.size + 1) + (target.file.loaded.size + 1) = one-less (sections_of target - old.next) (sections_of target - new.next) (target.file.loaded.size + 1) (omega arith) in
-    omega (arith, product)
-  where
-    one-less : (a b n : ℕ) → a ≡ b + 1 → a * n ≡ b * n + n
-    one-less a b n h = rw h (omega arith)
-
-pub steps-opened : (target : TargetCode) (old new : Entries) (table : Rows) → new.cursor.left ≡ table.count → table.entry ≡ 24 → RowsWithin target.file.loaded.size table → new.next ≡ old.next + 1 → old.next < sections_of target → steps_left target new < steps_left target old
-unfolding steps_left
-steps-opened target old new table l e within step below =
-    let product : (sections_of target - old.next) * (target.file.loaded.size + 1) ≡ (sections_of target - new.next) * (target.file.loaded.size + 1) + (target.file.loaded.size + 1) = one-less (sections_of target - old.next) (sections_of target - new.next) (target.file.loaded.size + 1) (omega arith) in
-    let few : table.count ≤ target.file.loaded.size = count-within table.at table.count table.entry target.file.loaded.size e within in
-    omega (arith, product, few)
-  where
-    one-less : (a b n : ℕ) → a ≡ b + 1 → a * n ≡ b * n + n
-    one-less a b n h = rw h (omega arith)
-
-    count-within : (at count entry size : ℕ) → entry ≡ 24 → (0 < count → at + count * entry ≤ size) → count ≤ size
-    count-within at zero entry size h w = omega arith
-    count-within at (suc count) entry size h w =
-        let v = w (omega arith) in
-        let p : suc count * entry ≡ suc count * 24 = ap (λ k. suc count * k) h in
-        omega (arith, v, p)
-
-pub steps-row : (target : TargetCode) (old new : Entries) → new.cursor.left + 1 ≡ old.cursor.left → new.next ≡ old.next → steps_left target new < steps_left target old
-unfolding steps_left
-steps-row target old new less same =
-    let product : (sections_of target - new.next) * (target.file.loaded.size + 1) ≡ (sections_of target - old.next) * (target.file.loaded.size + 1) = rw same refl in
-    omega (arith, product, less)
-
 -- what the walk holds refers to the symbols of its section
 refers_here : (file : List ℕ) (target : TargetCode) (new : Entries) (section : ℕ) → new.current ≡ section → Refers file target (section_at file section) new.symbols → Refers file target (section_at file new.current) new.symbols
 refers_here file target new section here h = let P : ℕ → Type 0 = λ k. Refers file target (section_at file k) new.symbols in subst P (sym here) h
@@ -233,38 +159,16 @@ opened-fault file target old new (Source fault at) none below applies h = absurd
 pub opened-rows : (file : List ℕ) (target : TargetCode) (old new : Entries) (table : Rows) → new.cursor.table ≡ table → new.cursor.index ≡ 0 → new.cursor.left ≡ table.count → new.cursor.held ≡ [] → new.next ≡ old.next + 1 → new.current ≡ old.next
     → old.cursor.left ≡ 0 → old.next < sections_of target → applies_to file target.section (section_at file old.next) ≡ true
     → Relocates file (section_at file old.next) (Ok (table, new.symbols.linked)) → new.symbols.last ≡ None → (changes_left file target old ≡ changes_left file target new) × ReadsEntries file target new
-opened-rows file target old new table same first counted held step here none below applies h fresh = (
-  left-opened file target old new none step here first (counted ∙ h.counted) below (section_rows file target (section_at file old.next) applies h.pass),
-  record {
-    agrees = rw held refl;
-    links = λ some. refers_here file target new old.next here (record { linked = h.refers (omega (arith, some, counted)); last = rw fresh tt });
-    placed = λ some. ap (λ (t : Rows). t.at) same ∙ (h.placed ∙ ap (λ k. sh_offset file (section_at file k)) (sym here));
-  },
-)
+opened-rows file target old new table same first counted held step here none below applies h fresh =
+    (grind (arith, left-opened, section_rows), record { agrees = rw held refl; links = grind arith; placed = grind arith })
 
 -- a row was read, and then its symbol and names
 pub cost-row : (target : TargetCode) (old new : Entries) (before middle after : ℕ) → new.next ≡ old.next → old.cursor.failed ≡ None → new.cursor.failed ≡ None → new.cursor.left + 1 ≡ old.cursor.left
     → middle + unread_bytes new.cursor ≤ before + unread_bytes old.cursor → after ≤ middle + beside_entry_cost target → after + walk_left target new ≤ before + walk_left target old
 unfolding walk_left
-cost-row target old new before middle after same f f' less account own =
-    let rest : entries_from target new.next * (24 + beside_entry_cost target) ≡ entries_from target old.next * (24 + beside_entry_cost target) = ap (λ i. entries_from target i * (24 + beside_entry_cost target)) same in
-    let was : unless_failed old.cursor.failed (old.cursor.left * beside_entry_cost target) ≡ old.cursor.left * beside_entry_cost target = rw f refl in
-    let is : unless_failed new.cursor.failed (new.cursor.left * beside_entry_cost target) ≡ new.cursor.left * beside_entry_cost target = rw f' refl in
-    let product : old.cursor.left * beside_entry_cost target ≡ new.cursor.left * beside_entry_cost target + beside_entry_cost target = one-less (old.cursor.left) (new.cursor.left) (beside_entry_cost target) (omega arith) in
-    omega (arith, rest, was, is, product, account, own)
-  where
-    one-less : (a b n : ℕ) → a ≡ b + 1 → a * n ≡ b * n + n
-    one-less a b n h = rw h (omega arith)
+cost-row target old new before middle after same f f' less account own = grind arith
 
 -- the source failed before a row
-pub cost-failed : (target : TargetCode) (old new : Entries) (before after : ℕ) (fault : Fault) → new.next ≡ old.next → new.cursor.failed ≡ Some fault → after + unread_bytes new.cursor ≤ before + unread_bytes old.cursor
-    → after + walk_left target new ≤ before + walk_left target old
-unfolding walk_left
-cost-failed target old new before after fault same f account =
-    let rest : entries_from target new.next * (24 + beside_entry_cost target) ≡ entries_from target old.next * (24 + beside_entry_cost target) = ap (λ i. entries_from target i * (24 + beside_entry_cost target)) same in
-    let is : unless_failed new.cursor.failed (new.cursor.left * beside_entry_cost target) ≡ 0 = rw f refl in
-    omega (arith, rest, is, account)
-
 -- the bytes that are still to be read of a section are left to ask for
 pub unread-left : (target : TargetCode) (e : Entries) → unread_bytes e.cursor ≤ walk_left target e
 unfolding walk_left
@@ -273,9 +177,6 @@ unread-left target e = omega arith
 -- reads by what was left to ask for
 pub reads-left : {a b : Counting} {n : ℕ} (left left' : ℕ) → Reads a b n → b.asked + left' ≤ a.asked + left → Reads a b left
 reads-left left left' reads account = Reads-to reads (omega (arith, account))
-
-pub asks-of : {a b : Counting} {n : ℕ} (target : TargetCode) (old new : Entries) → Reads a b n → b.asked + walk_left target new ≤ a.asked + walk_left target old → AsksOf a b target old new
-asks-of target old new reads account = record { reads = reads-left (walk_left target old) (walk_left target new) reads account; account = account }
 
 -- what a row gives is the first of what is left
 module _ (file : List ℕ) (target : TargetCode) (old new : Entries) (at : ℕ) (next : new.next ≡ old.next) (here : new.current ≡ old.current) (index : new.cursor.index ≡ old.cursor.index + 1) (less : new.cursor.left + 1 ≡ old.cursor.left)
@@ -304,3 +205,6 @@ pub same-walked : (file : List ℕ) (target : TargetCode) (old new : Entries) (c
 same-walked file target old new cursor result same walked reads =
     let P : Reading → Type 0 = λ c. (let now : Entries = record { cursor = c; symbols = old.symbols; current = old.current; next = old.next; count = old.count } in ReadsEntries file target now → Walked file target now new result) in
     subst P same walked (record { agrees = reads.agrees; links = reads.links; placed = reads.placed })
+
+-- how many entries are left, by the next section
+pub ruleset counted = (entries-next, entries-end, entries-other)

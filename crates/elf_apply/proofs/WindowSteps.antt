@@ -1,5 +1,6 @@
 -- A section window by window.
 use Rattle.std.proofs.Common.{◌≡◌, ℕ, ◌+◌, ◌-◌, ◌*◌, ◌<◌, ◌≤◌, List, [], ◌∷◌, ◌++◌, length, take, drop, min, map, Result, Ok, Err, refl, sym, ap, ◌∙◌, subst, arith, length-take-le, length-append, replicate}
+use Rattle.std.proofs.lemmas.Result.{err_from_is_err_and}
 use Rattle.std.proofs.lemmas.List.{take_all, take-append-drop, length-replicate}
 use Rattle.std.proofs.Math.Nat.{mul-le-mul_right}
 use Rattle.std.proofs.Math.Seq.{take-add}
@@ -10,16 +11,14 @@ use Rattle.elf_model.specs.declared.causes.Refusal.{Refusal}
 use Rattle.elf_model.proofs.PatchLaws.{window_patched, length_kept}
 use Rattle.elf_source.specs.Output.{Written, Takes, TakesFront}
 use Rattle.elf_source.proofs.PutsLaws.{Takes-nothing, Takes-then, TakesFront-then, TakesFront-more}
-use Rattle.elf_source.specs.Source.{Counting, Reads}
+use Rattle.elf_source.specs.Source.{Counting}
 use Rattle.elf_source.proofs.ReadsLaws.{Faults-then}
 use Rattle.elf_headers.specs.declared.fault.Fault.{Fault}
-use Rattle.elf_headers.specs.declared.fault.Fault.TheVariants.{Refused as Refuses, Source as Unread}
 use Rattle.elf_apply.specs.Passes.{folded, storing, Folds}
-use Rattle.elf_apply.specs.Windows.{WritesBytes, ApplyFaultSays, IsUnread, windows}
+use Rattle.elf_apply.specs.Windows.{WritesBytes, ApplyFaultSays, windows}
 use Rattle.elf_headers.specs.Stops.{stop_of}
 use Rattle.elf_headers.specs.Faults.{ReadSays}
 use Rattle.elf_headers.specs.declared.stop.Stop.{Stop}
-use Rattle.elf_headers.specs.declared.stop.Stop.TheVariants.{Refused, Source, Out}
 use Rattle.elf_model.proofs.Slices.{slice-size, slice-slice}
 
 -- a pass in a window is the patches' parts, stored one after another
@@ -57,25 +56,11 @@ front_none a text = record { front = []; rest = text; split = refl; takes = Take
 -- a pass failed: a refusal can't be, and a fault of the source leaves nothing written
 pub pass_failed : (X : Type 0) (b c : Counting) (a : Written) (fault : Fault) (result : Result X Stop) (text value : List ℕ) (answer : Result (List ℕ) Refusal)
     → result ≡ Err (stop_of fault) → answer ≡ Ok text → ReadSays b c fault → Folds {X = X} (Err fault) value answer → WritesBytes a a result text
-pass_failed X b c a (Refuses refusal) result text value answer is ok other folds = let refused = folds other in cc
-pass_failed X b c a (Unread fault at) result text value answer is ok other folds =
-    let P : Result X Stop → Type 0 = λ r. WritesBytes a a r text in subst P (sym is) (front_none a text)
-
--- a read failed
-pub read_failed : (X : Type 0) (a : Written) (fault : Fault) (result : Result X Stop) (text : List ℕ) → result ≡ Err (stop_of fault) → IsUnread fault → WritesBytes a a result text
-read_failed X a (Refuses refusal) result text is unread = absurd unread
-read_failed X a (Unread fault at) result text is unread =
-    let P : Result X Stop → Type 0 = λ r. WritesBytes a a r text in subst P (sym is) (front_none a text)
+pass_failed X b c a fault result text value answer is ok other folds = grind (arith, front_none)
 
 -- a fault of a read is one of a call that writes
 pub fault_says : (a b : Counting) (out : Written) (fault : Fault) → ReadSays a b fault → ApplyFaultSays a b out (stop_of fault)
-fault_says a b out (Refuses refusal) says = says
-fault_says a b out (Unread fault at) says = says
-
-pub FaultSays-then : (a b c : Counting) (n : ℕ) (out : Written) (fault : Stop) → Reads a b n → ApplyFaultSays b c out fault → ApplyFaultSays a c out fault
-FaultSays-then a b c n out (Refused refusal) reads says = says
-FaultSays-then a b c n out (Source fault at) reads says = (Faults-then a.seen b.seen c.seen fault reads.keeps says.0, says.1)
-FaultSays-then a b c n out (Out fault) reads says = says
+fault_says a b out fault says = grind arith
 
 -- a front is no longer than all
 pub front_written : (a b : Written) (text : List ℕ) → TakesFront a b text → b.written ≤ a.written + length text
@@ -89,14 +74,11 @@ pub take_more : (text : List ℕ) (done n : ℕ) → take (done + n) text ≡ ta
 take_more text done n = take-add done n text
 
 pub window_more : (a b c : Written) (text : List ℕ) (done n next : ℕ) → next ≡ done + n → Takes a b (take done text) → Takes b c (slice text done n) → Takes a c (take next text)
-window_more a b c text done n next step before this =
-    let P : List ℕ → Type 0 = λ t. Takes a c t in
-    subst P (sym (ap (λ k. take k text) step ∙ take_more text done n)) (Takes-then (take done text) (slice text done n) before this)
+window_more a b c text done n next step before this = rw (step, take_more text done n) (Takes-then (take done text) (slice text done n) before this)
 
 -- a window that stopped
 pub front_all : (a c : Written) (text : List ℕ) (k : ℕ) → TakesFront a c (take k text) → TakesFront a c text
-front_all a c text k h =
-    let P : List ℕ → Type 0 = λ t. TakesFront a c t in subst P (take-append-drop k text) (TakesFront-more (take k text) (drop k text) h)
+front_all a c text k h = rw (take-append-drop k text) at (TakesFront-more (take k text) (drop k text) h)
 
 front_then : (a b c : Written) (text : List ℕ) (done n : ℕ) → Takes a b (take done text) → TakesFront b c (slice text done n) → TakesFront a c text
 front_then a b c text done n before this =
@@ -104,9 +86,7 @@ front_then a b c text done n before this =
     front_all a c text (done + n) (subst P (sym (take_more text done n)) (TakesFront-then (take done text) (slice text done n) before this))
 
 pub window_stopped : (X : Type 0) (a b c : Written) (text : List ℕ) (done n : ℕ) (fault : Stop) → Takes a b (take done text) → WritesBytes {X = X} b c (Err fault) (slice text done n) → WritesBytes {X = X} a c (Err fault) text
-window_stopped X a b c text done n (Refused refusal) before this = absurd this
-window_stopped X a b c text done n (Source fault at) before this = front_then a b c text done n before this
-window_stopped X a b c text done n (Out fault) before this = front_then a b c text done n before this
+window_stopped X a b c text done n fault before this = grind (arith, front_then a b c text done n)
 
 -- a patched section is as long as the section
 pub length_patched : (patches : List Patch) (base : List ℕ) (size : ℕ) → length base ≡ size → AllInside size patches → length (patched patches base) ≡ size
@@ -135,13 +115,16 @@ window_done file at size low n m changes patches read within fits is same h insi
     ap (λ k. folded (storing low k) read changes) same ∙ window_is file at size low n changes patches read within fits is h inside
 
 pub takes_as : (a b : Written) (value text : List ℕ) → value ≡ text → Takes a b value → Takes a b text
-takes_as a b value text e h = let P : List ℕ → Type 0 = λ t. Takes a b t in subst P e h
+takes_as a b value text e h = rw e at h
 
 pub front_as : (a b : Written) (value text : List ℕ) → value ≡ text → TakesFront a b value → TakesFront a b text
-front_as a b value text e h = let P : List ℕ → Type 0 = λ t. TakesFront a b t in subst P e h
+front_as a b value text e h = rw e at h
 
 pub takes_start : (a : Written) (text : List ℕ) → Takes a a (take 0 text)
 takes_start a text = Takes-nothing a
 
 pub short_take : (n size : ℕ) → n ≤ size → length {A = ℕ} (take n (replicate size 0)) ≡ n
 short_take n size few = let zeros : List ℕ = replicate size 0 in length-take-le n zeros (let long : length zeros ≡ size = length-replicate {A = ℕ} size 0 in omega (arith, long))
+
+-- what a call that stops says
+pub ruleset stopping = (err_from_is_err_and, front_none, front_written, Faults-then)

@@ -5,9 +5,10 @@ use Rattle.elf_model.specs.Apply.{Target, Patch, Change, Put, Fails, named_value
 use Rattle.elf_model.specs.Checks.{first_refusal}
 use Rattle.elf_model.specs.Placing.{symbol_value, linkage_value, place_value}
 use Rattle.elf_model.specs.Records.{r_sym}
-use Rattle.elf_model.specs.Values.{Formula, takes_linkage, takes_place}
+use Rattle.elf_model.specs.Values.{takes_linkage, takes_place}
 use Rattle.elf_model.specs.declared.causes.Cause.{Cause}
 use Rattle.elf_model.specs.declared.causes.Refusal.{Refusal}
+use Rattle.elf_model.specs.declared.relocation_types.Formula.{Formula}
 use Rattle.elf_reloc.specs.Types.{patched_bytes}
 use Rattle.elf_headers.specs.declared.fault.Fault.{Fault}
 use Rattle.elf_headers.specs.declared.fault.Fault.TheVariants.{Refused, Source}

@@ -19,10 +19,9 @@ ghost use Rattle.elf_apply.specs.Windows.{WroteBytes, windows};
 
 use crate::entry::Target;
 use crate::in_order::write_in_order;
-use crate::lookup::refused;
 use crate::passes::{Checked, check};
 use crate::windows::write_windows;
-use elf_headers::ends_outside;
+use elf_headers::{ends_outside, refused};
 use elf_layout::Layout;
 use elf_record::numbers::{EM_X86_64, ET_REL, SHT_NOBITS, SHT_NULL};
 use elf_record::{Cause, Refusal, Shdr};
@@ -40,6 +39,7 @@ pub struct Applied {
 
 /// Where the bytes of a section stand, and how many there are; none for a section without bytes in
 /// the file.
+#[tactic(auto, unfolding(crate::proofs::Words::request))]
 fn held(file: &File<'_>, section: u16) -> Result<(u64, u64), Fault>
     ensures refusal { IfErr result IsOfCheck }
     ensures within { IfOk result (λ found. found.0 + found.1 ≤ file.now.loaded.size) }

@@ -4,7 +4,7 @@ ghost use Rattle.elf_model.specs.Apply.{change_of, entry_changes};
 ghost use Rattle.elf_model.specs.ApplyCost.{layout_names_cost};
 ghost use Rattle.elf_model.specs.Records.{r_offset, r_sym};
 ghost use Rattle.elf_model.specs.declared.causes.Cause.TheVariants.{Unplaced};
-ghost use Rattle.elf_reloc.specs.Types.{IsSized, IsWidth, formula_as, type_as};
+ghost use Rattle.elf_reloc.specs.Types.{IsSized, IsWidth};
 ghost use Rattle.elf_record.specs.Rela.{IsRela};
 ghost use Rattle.elf_source.specs.Source.{Reads};
 ghost use Rattle.elf_headers.specs.Faults.{Says};
@@ -14,11 +14,14 @@ ghost use Rattle.elf_apply.specs.Costs.{ValueOrRefusal};
 ghost use Rattle.elf_apply.specs.Entries.{Changes, Does, IsPlacedInside, Refers, target_as};
 ghost use Rattle.elf_apply.specs.Entries.{taken_place, term_of, value_or};
 
-use crate::lookup::{Symbol, linkage_value, refused, symbol_value};
+use crate::lookup::{Symbol, linkage_value, symbol_value};
+use elf_headers::refused;
 use elf_layout::Layout;
 use elf_record::numbers::R_X86_64_NONE;
 use elf_record::{Cause, Rela};
-use elf_reloc::{Formula, Patch, RelocationType, relocation_type};
+use elf_reloc::{
+    Formula, Patch, RelocationType, patch_of, relocation_type, takes_linkage, takes_place,
+};
 use elf_source::{Counted, Source};
 use elf_table::{Fault, File, Names, Table};
 
@@ -62,6 +65,7 @@ pub(crate) struct Placed {
 
 /// What an entry stores, or nothing: R_X86_64_NONE stores nothing, and nothing of it is checked
 /// (x86-64 psABI, Relocation). The entry stands at the file offset `at`.
+#[tactic(auto, unfolding(crate::proofs::Words::entry))]
 pub(crate) fn entry_change<S: Source>(
     src: &mut Counted<S>,
     target: &Target<'_>,
@@ -96,6 +100,7 @@ pub(crate) fn entry_change<S: Source>(
 }
 
 /// What an entry of a type stores.
+#[tactic(auto, unfolding(crate::proofs::Words::typed))]
 fn stored<S: Source>(
     src: &mut Counted<S>,
     target: &Target<'_>,
@@ -114,7 +119,7 @@ fn stored<S: Source>(
     ensures inside { IfOk result (IsPlacedInside target.now.size) }
     ensures change { (file : List ℕ) (header : ℕ) → src.old.seen.file ≡ Some file →
         Refers file target.now header symbols.old → IsRela file at entry.now → Does result
-        (change_of (target_as file target.now) header at (Some (type_as found))) }
+        (change_of (target_as file target.now) header at (Some found)) }
     ensures refers { (file : List ℕ) (header : ℕ) → src.old.seen.file ≡ Some file →
         Refers file target.now header symbols.old → IsRela file at entry.now →
         Refers file target.now header symbols.new }
@@ -130,7 +135,7 @@ fn stored<S: Source>(
     let Some(place) = place_value(target, offset, found.formula) else {
         return refused(at, Cause::Unplaced);
     };
-    match found.patch(value, value, entry.r_addend, place) {
+    match patch_of(found, value, value, entry.r_addend, place) {
         Ok(patch) => Ok(Placed { at, offset, patch }),
         Err(_) => refused(at, Cause::Overflow),
     }
@@ -161,12 +166,12 @@ fn taken_value<S: Source>(
     ensures value { (file : List ℕ) (header : ℕ) → src.old.seen.file ≡ Some file →
         Refers file target.now header symbols.old → symbol ≡ r_sym file at →
         ValueOrRefusal result
-        (term_of (formula_as formula) (target_as file target.now) header at) }
+        (term_of formula (target_as file target.now) header at) }
     ensures refers { (file : List ℕ) (header : ℕ) → src.old.seen.file ≡ Some file →
         Refers file target.now header symbols.old → symbol ≡ r_sym file at →
         Refers file target.now header symbols.new }
 {
-    let linkage = formula.takes_linkage();
+    let linkage = takes_linkage(formula);
     if let Some(last) = symbols.last {
         if last.symbol == symbol && last.linkage == linkage {
             return Ok(last.value);
@@ -187,6 +192,7 @@ fn taken_value<S: Source>(
 
 /// S, or L where the formula takes it, of the symbol of an index, which the entry at `at` names; 0
 /// of symbol 0, and nothing is read.
+#[tactic(auto, using(crate::proofs::Words::names), unfolding(crate::proofs::Words::term))]
 fn named_value<S: Source>(
     src: &mut Counted<S>,
     target: &Target<'_>,
@@ -202,7 +208,7 @@ fn named_value<S: Source>(
     ensures unnamed { symbol ≡ 0 → src.new ≡ src.old }
     ensures value { (file : List ℕ) (header : ℕ) → src.old.seen.file ≡ Some file →
         RefersTo file header linked → symbol ≡ r_sym file at → ValueOrRefusal result
-        (term_of (formula_as formula) (target_as file target.now) header at) }
+        (term_of formula (target_as file target.now) header at) }
 {
     if symbol == 0 {
         return Ok(0);
@@ -225,7 +231,7 @@ fn named_value<S: Source>(
         names,
         at: place,
     };
-    if formula.takes_linkage() {
+    if takes_linkage(formula) {
         linkage_value(src, target.layout, &named, at)
     } else {
         symbol_value(src, target.layout, &named, at)
@@ -234,12 +240,13 @@ fn named_value<S: Source>(
 
 /// P, the section's address and an offset modulo 2^64, where the section has an address; 0 where
 /// the formula does not take it.
+#[tactic(auto, unfolding(crate::proofs::Words::place))]
 fn place_value(target: &Target<'_>, offset: u64, formula: Formula) -> Option<u64>
     ensures { (file : List ℕ) (at : ℕ) → offset ≡ r_offset file at →
-        taken_place (formula_as formula) (target_as file target.now) at
+        taken_place formula (target_as file target.now) at
         ≡ value_or result at Unplaced }
 {
-    if !formula.takes_place() {
+    if !takes_place(formula) {
         return Some(0);
     }
     match target.layout.section_address(target.section) {

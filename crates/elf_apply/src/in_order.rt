@@ -112,6 +112,7 @@ impl Held {
 
     /// Reads on where there are not so many bytes, as many as there is room for, to the section's
     /// end, its size, at most.
+    #[tactic(auto, using(crate::proofs::WindowSteps::stopping))]
     fn read_on<S: Source>(
         &mut self,
         src: &mut Counted<S>,
@@ -166,6 +167,7 @@ impl Held {
     }
 
     /// Writes what stands before an offset of the section, whose bytes stand at `at`.
+    #[tactic(auto, using(crate::proofs::WindowSteps::stopping))]
     fn advance<S: Source, W: Sink>(
         &mut self,
         src: &mut Counted<S>,
@@ -203,6 +205,7 @@ impl Held {
     }
 
     /// Writes what stands before the place of an entry, and stores its bytes.
+    #[tactic(auto, using(crate::proofs::WindowSteps::stopping))]
     fn store<S: Source, W: Sink>(
         &mut self,
         src: &mut Counted<S>,
@@ -275,6 +278,7 @@ fn width_of(patch: Patch) -> usize
 }
 
 /// Writes bytes of the source as they stand.
+#[tactic(auto, using(crate::proofs::WindowSteps::stopping))]
 fn copy<S: Source, W: Sink>(
     src: &mut Counted<S>,
     at: u64,
@@ -301,6 +305,7 @@ fn copy<S: Source, W: Sink>(
 }
 
 /// Writes as many bytes of the source as `page` has, which is left with them.
+#[tactic(auto, using(crate::proofs::WindowSteps::stopping))]
 fn copy_page<S: Source, W: Sink>(
     src: &mut Counted<S>,
     at: u64,

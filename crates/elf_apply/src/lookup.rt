@@ -11,9 +11,10 @@ ghost use Rattle.elf_table.specs.Tables.{StringsWithin, strings_in};
 ghost use Rattle.elf_layout.specs.Layouts.{items_cost};
 ghost use Rattle.elf_apply.specs.Costs.{ValueOrCause, ValueOrRefusal};
 
+use elf_headers::refused;
 use elf_layout::{Layout, Named};
 use elf_record::numbers::{SHN_UNDEF, STB_WEAK};
-use elf_record::{Cause, Place, Refusal, Sym};
+use elf_record::{Cause, Place, Sym};
 use elf_source::{Counted, Source};
 use elf_table::{Fault, Names};
 
@@ -25,15 +26,9 @@ pub(crate) struct Symbol {
     pub(crate) at: u64,
 }
 
-/// The refusal for a cause at a file offset.
-pub(crate) fn refused<T>(at: u64, cause: Cause) -> Result<T, Fault>
-    ensures { result ≡ Err (Fault.Refused (record { at = at; cause = cause })) }
-{
-    Err(Fault::Refused(Refusal { at, cause }))
-}
-
 /// The address of the first item whose name is the symbol's, where there is one. Without items the
 /// name is not looked at; a refusal names the symbol.
+#[tactic(auto, unfolding(elf_model::specs::Placing::address_named))]
 fn address_named<S: Source>(
     src: &mut Counted<S>,
     symbol: &Symbol,
@@ -111,6 +106,7 @@ fn defined_value<S: Source>(
 
 /// S, the value of a symbol (gABI 4, Symbol Values). Refusals that are none of its name are at the
 /// entry that names it.
+#[tactic(auto, unfolding(elf_model::specs::Placing::symbol_value))]
 pub(crate) fn symbol_value<S: Source>(
     src: &mut Counted<S>,
     layout: &Layout,
@@ -138,6 +134,7 @@ pub(crate) fn symbol_value<S: Source>(
 }
 
 /// L, the address of a symbol's procedure linkage table entry, where the layout has one; else S.
+#[tactic(auto, using(crate::proofs::Words::names), unfolding(crate::proofs::Words::linkage))]
 pub(crate) fn linkage_value<S: Source>(
     src: &mut Counted<S>,
     layout: &Layout,

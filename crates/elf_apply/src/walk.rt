@@ -90,6 +90,7 @@ impl Entries {
     }
 
     /// One step: an entry, or a section.
+    #[tactic(auto, unfolding(crate::proofs::Words::walk))]
     fn step<S: Source>(&mut self, src: &mut Counted<S>, target: &Target<'_>) -> Result<Step, Fault>
         requires { MayWalk src.old target.now self.old }
         ensures asks { AsksOf src.old src.new target.now self.old self.new }
@@ -119,6 +120,7 @@ impl Entries {
     }
 
     /// Goes to the next section: its entries, where it has some for the target.
+    #[tactic(auto, using(crate::proofs::WalkSteps::counted), unfolding(crate::proofs::Words::walk))]
     fn open(&mut self, target: &Target<'_>) -> Result<Step, Fault>
         requires goes { Goes target.now.file.loaded.size target.now self.old }
         requires none { self.old.cursor.left ≡ 0 }

@@ -48,6 +48,7 @@ pub(crate) fn write_windows<S: Source, W: Sink>(
 
 /// Writes one window of the section, as many bytes from `low` on as `window` has, at most 64, which
 /// is left with them.
+#[tactic(auto, using(crate::proofs::WindowSteps::stopping))]
 fn write_window<S: Source, W: Sink>(
     src: &mut Counted<S>,
     target: &Target<'_>,

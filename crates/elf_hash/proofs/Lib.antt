@@ -1,5 +1,4 @@
 pub mod ChecksLaws
 pub mod CostLaws
 pub mod FindLaws
-pub mod RestLaws
 pub mod StepLaws

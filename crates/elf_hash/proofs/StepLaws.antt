@@ -16,7 +16,7 @@ use Rattle.elf_hash.specs.declared.hash_table.HashTable.{HashTable}
 use Rattle.elf_hash.specs.declared.lookup.Lookup.{Lookup}
 use Rattle.elf_hash.specs.declared.lookup.Lookup.TheVariants.{Absent, Found}
 use Rattle.elf_hash.proofs.CostLaws.{walk_less, walk_more}
-use Rattle.elf_hash.proofs.RestLaws.{by_name, by_name_most, looked_is, rest, rest_absent, rest_cycle, rest_most, rest_name, rest_no_index}
+use Rattle.elf_model.proofs.RestLaws.{by_name, by_name_most, looked_is, rest, rest_absent, rest_cycle, rest_most, rest_name, rest_no_index}
 use Rattle.elf_record.specs.declared.sym.Sym.{Sym}
 
 module _ (file : List ℕ) (at : ℕ) (wanted : List ℕ) where

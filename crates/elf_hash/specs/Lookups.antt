@@ -2,10 +2,12 @@
 use Rattle.std.specs.Prelude.{ℕ, ◌≡◌, ◌+◌, ◌*◌, ◌/◌, true, false, List, Option, None, Some, Result, Ok, Err}
 use Rattle.elf_model.specs.Budget.{IsBudget}
 use Rattle.elf_model.specs.Checks.{first_refusal, header_checks, load_checks}
-use Rattle.elf_model.specs.Find.{find_cost, looked}
-use Rattle.elf_model.specs.Hash.{Lookup as Looked, Found as IsFound, Absent as IsAbsent, Refused as IsRefused, same_symbol, symbol_at}
+use Rattle.elf_model.specs.Find.{find_cost, first_hash, looked, looked_in}
+use Rattle.elf_model.specs.Hash.{Lookup as Looked, Found as IsFound, Absent as IsAbsent, Refused as IsRefused, refused_after, same_symbol, symbol_at}
 use Rattle.elf_model.specs.Names.{pad64}
+use Rattle.elf_model.specs.Records.{section_at}
 use Rattle.elf_model.specs.Tables.{linked_at}
+use Rattle.elf_model.specs.declared.causes.Cause.TheVariants.{NoHash}
 use Rattle.elf_record.specs.Sym.{IsSym}
 use Rattle.elf_record.specs.declared.sym.Sym.{Sym}
 use Rattle.elf_source.specs.Source.{Counting}
@@ -73,6 +75,13 @@ Compares file at wanted index (Err (Source fault offset)) = Unit {0}
 pub record Passed (file : List ℕ) (headers : ℕ) : Type 0 where
   pub header : first_refusal (header_checks file) ≡ None
   pub load : first_refusal (load_checks file headers) ≡ None
+
+-- what a lookup gives once those pass, by the first HASH section
+abbrev pub looked_behind : List ℕ → List ℕ → Looked
+looked_behind file wanted = elim (first_hash file) [
+  | None ↦ refused_after 0 (record { at = 0x28; cause = NoHash })
+  | Some section ↦ looked_in file (section_at file section) wanted
+]
 
 -- WHAT A LOOKUP OF A NAME DOES in a known file: it costs no more than the definition's, and finds what that gives
 pub record Finds (file : List ℕ) (headers : ℕ) (wanted : List ℕ) (old new : Counting) (result : Result Lookup Fault) : Type 0 where

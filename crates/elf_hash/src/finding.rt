@@ -1,8 +1,7 @@
 //! The call that looks a name up.
-ghost use Rattle.std.specs.Prelude.{◌≡◌, ℕ, ◌/◌, ◌≤◌, length, IfOk};
+ghost use Rattle.std.specs.Prelude.{◌≡◌, ◌/◌, ◌≤◌, length, IfOk};
 ghost use Rattle.elf_headers.specs.Ledger.{Did, why_stopped};
-ghost use Rattle.elf_hash.specs.Lookups.{Finds, Looks, Passed, behind_bytes, find_bytes, steps_of};
-ghost use Rattle.elf_model.specs.Find.{looked};
+ghost use Rattle.elf_hash.specs.Lookups.{Finds, Looks, behind_bytes, find_bytes, looked_behind, steps_of};
 ghost use Rattle.elf_headers.specs.Load.{Belongs};
 
 use crate::checks::{checked, first_hash};
@@ -52,9 +51,8 @@ fn find_in<S: Source>(src: &mut Counted<S>, file: &File<'_>, wanted: &[u8]) -> R
     requires size { file.now.loaded.size ≡ src.old.seen.size }
     ensures did { Did src.old src.new (why_stopped result)
         (behind_bytes (src.old.seen.size / 4) (length wanted.now))
-        (λ bytes. (headers : ℕ) → Belongs bytes file.now.loaded file.now.store.now →
-        Passed bytes headers →
-        Looks bytes (looked bytes headers wanted.now) src.old src.new result 12 (length wanted.now)) }
+        (λ bytes. Belongs bytes file.now.loaded file.now.store.now →
+        Looks bytes (looked_behind bytes wanted.now) src.old src.new result 12 (length wanted.now)) }
     ensures steps { IfOk result (λ lookup. steps_of lookup ≤ src.old.seen.size / 4) }
 {
     let Some(section) = first_hash(file) else {

@@ -1,5 +1,6 @@
 //! The walk along the chain of a name.
-ghost use Rattle.std.specs.Prelude.{◌≡◌, ℕ, ◌+◌, ◌*◌, ◌<◌, ◌≤◌, List, length, IfOk, IsTrue};
+ghost use Rattle.std.specs.Prelude.{◌≡◌, ℕ, ◌+◌, ◌*◌, ◌<◌, ◌≤◌, ◌==◌, ◌||◌, nat_lt, List, length};
+ghost use Rattle.std.specs.Prelude.{IfOk, IsTrue, MatchBool};
 ghost use Rattle.elf_headers.specs.Ledger.{Did, IsRead, why_stopped};
 ghost use Rattle.elf_hash.specs.Lookups.{Compares, Looks, steps_of, symbol_bytes, walk_bytes};
 ghost use Rattle.elf_hash.specs.Tables.{HasCounts, IsSection, IsTable, Lies};
@@ -29,7 +30,7 @@ pub(crate) fn counted<S: Source>(
 {
     let nbucket = read_word(src, section.at)?;
     let nchain = read_word(src, section.at + 4)?;
-    if nbucket == 0 || words_end(nbucket, nchain) > section.size {
+    if has_no_shape(nbucket, nchain, section.size) {
         return refused(section.place, Cause::HashShape);
     }
     Ok(HashTable {
@@ -39,11 +40,13 @@ pub(crate) fn counted<S: Source>(
     })
 }
 
-/// How many bytes a hash table with these counts has.
-fn words_end(nbucket: u32, nchain: u32) -> u64
-    ensures { result ≡ 8 + 4 * nbucket + 4 * nchain }
+/// Whether there is no bucket, or the words that these counts tell of do not fit into so many bytes.
+fn has_no_shape(nbucket: u32, nchain: u32, size: u64) -> bool
+    ensures is { result ≡ (nbucket == 0 || nat_lt size (8 + 4 * nbucket + 4 * nchain)) }
+    ensures fits { MatchBool result (Unit {0})
+        ((0 < nbucket) × (8 + 4 * nbucket + 4 * nchain ≤ size)) }
 {
-    8 + 4 * u64::from(nbucket) + 4 * u64::from(nchain)
+    nbucket == 0 || 8 + 4 * u64::from(nbucket) + 4 * u64::from(nchain) > size
 }
 
 /// Goes along the chain of the wanted name, up to the symbol that has it or to the chain's end.

@@ -5,12 +5,13 @@ use Rattle.std.proofs.lemmas.Bool.{ne_eqb}
 use Rattle.std.specs.Int.{cast_signed, cast_unsigned, w64}
 use Rattle.elf_model.specs.Bytes.{little}
 use Rattle.elf_model.specs.Numbers.{R_X86_64_NONE}
-use Rattle.elf_model.specs.Values.{Kind, Terms, kind_of, fits, patch_of, value_of, value}
+use Rattle.elf_model.specs.Values.{Terms, kind_of, fits, patch_of, value_of, value}
 use Rattle.elf_model.specs.declared.causes.Cause.{Cause}
 use Rattle.elf_model.specs.declared.causes.Cause.TheVariants.{Unsupported, Overflow}
+use Rattle.elf_model.specs.declared.relocation_types.RelocationType.{RelocationType}
 use Rattle.elf_reloc.specs.Types.{terms}
 
-abbrev stored_of : Terms → Option Kind → Result (List ℕ) Cause
+abbrev stored_of : Terms → Option RelocationType → Result (List ℕ) Cause
 stored_of given type = elim type [ None ↦ Err Unsupported | Some type ↦ patch_of type given ]
 
 value_is :
@@ -19,10 +20,10 @@ unfolding value
 value_is n s l a p other = let f : (n == R_X86_64_NONE) ≡ false = ne_eqb n R_X86_64_NONE other in rw (f, value) refl
 
 -- the low bytes of a number, where it is in the range
-abbrev pub patch_in : Kind → ℕ → Bool → Result (List ℕ) Cause
+abbrev pub patch_in : RelocationType → ℕ → Bool → Result (List ℕ) Cause
 patch_in type number in_range = elim (not in_range) [ true ↦ Err Overflow | false ↦ Ok (little type.width number) ]
 
-patch_is : (type : Kind) (given : Terms) → patch_in type (value_of type given) (fits type.range type.width (value_of type given)) ≡ patch_of type given
+patch_is : (type : RelocationType) (given : Terms) → patch_in type (value_of type given) (fits type.range type.width (value_of type given)) ≡ patch_of type given
 unfolding patch_of
 patch_is type given = refl
 
@@ -36,7 +37,7 @@ pub unsupported :
 unsupported n s l a p other is = ap (stored_of (terms s l a p)) is ∙ value_is n s l a p other
 
 pub patch_by :
-    (s l : ℕ) (a : ℤ) (p : ℕ) (type : Kind) (number : ℕ) (in_range : Bool) → SFits w64 a
+    (s l : ℕ) (a : ℤ) (p : ℕ) (type : RelocationType) (number : ℕ) (in_range : Bool) → SFits w64 a
     → number ≡ value_of type (terms s l (cast_signed w64 (cast_unsigned w64 a)) p) → in_range ≡ fits type.range type.width number
     → patch_in type number in_range ≡ patch_of type (terms s l a p)
 patch_by s l a p type number in_range small same ranged =
@@ -44,7 +45,7 @@ patch_by s l a p type number in_range small same ranged =
     ∙ patch_is type (terms s l a p)
 
 pub found :
-    (n s l : ℕ) (a : ℤ) (p : ℕ) (type : Kind) → n ≢ R_X86_64_NONE → SFits w64 a → Some type ≡ kind_of n
+    (n s l : ℕ) (a : ℤ) (p : ℕ) (type : RelocationType) → n ≢ R_X86_64_NONE → SFits w64 a → Some type ≡ kind_of n
     → patch_of type (terms s l (cast_signed w64 (cast_unsigned w64 a)) p) ≡ value n s l a p
 found n s l a p type other small is =
     ap (λ z. patch_of type (terms s l z p)) (to_z-of_z small) ∙ (ap (stored_of (terms s l a p)) is ∙ value_is n s l a p other)

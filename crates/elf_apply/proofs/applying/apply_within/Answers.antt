@@ -8,23 +8,21 @@ use Rattle.elf_headers.specs.Load.{load_cost}
 use Rattle.elf_apply.specs.Applied.{apply_ceiling, behind_ceiling}
 use Rattle.elf_apply.proofs.ApplySteps.{header_failed, load_failed}
 use Rattle.elf_apply.proofs.BudgetSteps.{all_says_after, all_wants_after, fault_applies, fault_wants, spends_reads, spends_then}
-use Rattle.elf_apply.proofs.CostSteps.{cost_least, load_slots, load_within, order_within}
+use Rattle.elf_apply.proofs.CostSteps.{cost_least, load_within, order_within}
 use Rattle.elf_apply.proofs.ReadLaws.{Says-then}
-use Rattle.elf_headers.proofs.LoadLaws.{load_most, header_most}
+use Rattle.elf_headers.proofs.LoadLaws.{load_most, load_slots, header_most}
 use Rattle.elf_apply.proofs.applying.apply_within.Goals as goal
 
 pub returns-in_err-header-clause-applies : goal.returns-in_err-header-clause-applies
 returns-in_err-header-clause-applies g c =
+    let p = err_from_is_err_and c.from_residual.result c.from_residual.ensures.1 in
     let most = header_most c.args.src.now.seen.size in
     record {
       says =
-          let p = err_from_is_err_and c.from_residual.result c.from_residual.ensures.1 in
           rw (p.1, p.2) (fault_applies c.args.src.now c.header.new.src c.args.out.now _ _ c.in_err-header.field-0.0 (omega (arith, most)) c.in_err-header.ensures.says);
       text = λ file held.
-          let p = err_from_is_err_and c.from_residual.result c.from_residual.ensures.1 in
           header_failed file c.args.store.now.slots c.args.section c.args.layout.now _ c.args.out.now c.in_err-header.field-0.0 _ (p.1 ∙ ap Err p.2) (c.in_err-header.ensures.read file held);
       enough = λ file held.
-          let p = err_from_is_err_and c.from_residual.result c.from_residual.ensures.1 in
           let within = order_within file c.args.store.now.slots c.args.section c.args.layout.now 64 (λ never. cost_least file c.args.store.now.slots c.args.section c.args.layout.now 2)
           (cost_least file c.args.store.now.slots c.args.section c.args.layout.now (window_passes file c.args.section)) in
           rw (p.1, p.2) (fault_wants c.args.src.now c.header.new.src _ _ c.args.out.now c.in_err-header.field-0.0 (omega (arith, within, most)) c.in_err-header.ensures.says);
@@ -39,6 +37,7 @@ returns-in_err-header-clause-applies g c =
 
 pub returns-in_err-loaded-clause-applies : goal.returns-in_err-loaded-clause-applies
 returns-in_err-loaded-clause-applies g c =
+    let p = err_from_is_err_and c.from_residual-in_err-loaded.result c.from_residual-in_err-loaded.ensures.1 in
     let size : ℕ = c.header.new.src.seen.size in
     let slots : ℕ = c.args.store.now.slots in
     let loads : ℕ = load_cost c.in_ok-header.header size slots in
@@ -48,15 +47,12 @@ returns-in_err-loaded-clause-applies g c =
     let later = Says-then c.args.src.now c.header.new.src c.load.new.src _ loads (64 + loads) c.in_err-loaded.field-0.0 c.header.ensures.reads before c.in_err-loaded.ensures.says in
     record {
       says =
-          let p = err_from_is_err_and c.from_residual-in_err-loaded.result c.from_residual-in_err-loaded.ensures.1 in
           rw (p.1, p.2) (fault_applies c.args.src.now c.load.new.src c.args.out.now (64 + loads) _ c.in_err-loaded.field-0.0 (omega (arith, few)) later);
       text = λ file held.
-          let p = err_from_is_err_and c.from_residual-in_err-loaded.result c.from_residual-in_err-loaded.ensures.1 in
           let read = c.in_ok-header.ensures.read file held in
           load_failed file slots c.args.section c.args.layout.now _ c.args.out.now c.in_err-loaded.field-0.0 _ c.load.new.store (p.1 ∙ ap Err p.2) read.0 c.load.ensures.slots
           (c.in_err-loaded.ensures.held file (c.header.ensures.reads.keeps.same_file ∙ held) read.1);
       enough = λ file held.
-          let p = err_from_is_err_and c.from_residual-in_err-loaded.result c.from_residual-in_err-loaded.ensures.1 in
           let read = c.in_ok-header.ensures.read file held in
           let sized = c.header.ensures.reads.keeps.same_size ∙ sym (c.args.src.now.seen.sized file held) in
           let within = order_within file slots c.args.section c.args.layout.now (64 + loads) (λ never. load_within file c.in_ok-header.header size slots c.args.section c.args.layout.now 2 read.1 sized read.0)

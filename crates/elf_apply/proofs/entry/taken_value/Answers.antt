@@ -1,5 +1,4 @@
 use Rattle.std.proofs.Common.{sym, ◌∙◌}
-use Rattle.elf_reloc.specs.Types.{formula_as}
 use Rattle.elf_apply.specs.Entries.{target_as}
 use Rattle.elf_apply.proofs.EntrySteps.{term_again}
 use Rattle.elf_apply.proofs.entry.taken_value.Goals as goal
@@ -8,7 +7,6 @@ pub returns-in-Ok-clause-refers : goal.returns-in-Ok-clause-refers
 returns-in-Ok-clause-refers g c = λ file header held refers named. record {
   linked = refers.linked;
   last = λ formula rela linkage same.
-      term_again (target_as file c.args.target.now) header c.args.at rela _
-      (formula_as c.args.formula) formula (sym named ∙ same) (sym c.takes_linkage-linkage.ensures ∙ linkage)
+      term_again c.args.at rela _ (target_as file c.args.target.now) header c.args.formula formula (sym named ∙ same) (sym c.takes_linkage-linkage.ensures ∙ linkage)
       (c.in-Ok.ensures.value file header held refers.linked named);
 }

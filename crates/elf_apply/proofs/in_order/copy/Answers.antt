@@ -3,26 +3,14 @@ use Rattle.std.proofs.lemmas.List.{take_all}
 use Rattle.std.proofs.lemmas.Result.{err_from_is_err_and}
 use Rattle.elf_source.proofs.ReadsLaws.{Reads-then, Reads-to}
 use Rattle.elf_model.specs.Bytes.{slice}
-use Rattle.elf_apply.proofs.WindowSteps.{FaultSays-then, window_more, window_stopped, short_take, takes_as}
+use Rattle.elf_apply.proofs.WindowSteps.{window_more, window_stopped, short_take, takes_as}
 use Rattle.elf_apply.proofs.InOrderSteps.{writes_as}
 use Rattle.elf_source.proofs.GrowthLaws.{grows_then}
 use Rattle.elf_model.proofs.Slices.{slice-size, slice-slice}
 use Rattle.elf_apply.proofs.in_order.copy.Goals as goal
 
-pub returns-in_err-copy_page-clause-says : goal.returns-in_err-copy_page-clause-says
-returns-in_err-copy_page-clause-says g c =
-    let p = err_from_is_err_and c.from_residual.result c.from_residual.ensures.1 in
-    rw (p.1, p.2) (FaultSays-then c.args.src.now c.pages.src c.copy_page.new.src _ c.copy_page.new.out c.in_err-copy_page.field-0.0 c.pages.invariant.reads c.in_err-copy_page.ensures.says)
-
 pub returns-in_err-copy_page-clause-grows : goal.returns-in_err-copy_page-clause-grows
 returns-in_err-copy_page-clause-grows g c = grows_then c.pages.invariant.grows c.copy_page.ensures.grows
-
-pub returns-in_err-copy_page-clause-wrote : goal.returns-in_err-copy_page-clause-wrote
-returns-in_err-copy_page-clause-wrote g c =
-    let p = err_from_is_err_and c.from_residual.result c.from_residual.ensures.1 in
-    let count = c.min-count.ensures in
-    let few = short_take c.min-count.result 4096 (omega (arith, count)) in
-    rw (p.1) (omega (arith, c.pages.invariant.wrote, c.in_err-copy_page.ensures.wrote, few, c.pages-test.true, count))
 
 pub returns-in_err-copy_page-clause-text : goal.returns-in_err-copy_page-clause-text
 returns-in_err-copy_page-clause-text g c = λ file held long.

@@ -2,9 +2,8 @@ use Rattle.std.proofs.Common.{rules, ◌≡◌, ◌+◌, ap, ◌∙◌, arith, t
 use Rattle.elf_source.proofs.ReadsLaws.{Reads-none, Reads-then}
 use Rattle.elf_headers.proofs.OpenLaws.{still_open}
 use Rattle.elf_apply.proofs.WalkSteps.{reads-left}
-use Rattle.elf_apply.specs.Walk.{walk_left, entries_from}
+use Rattle.elf_apply.specs.Walk.{walk_left, entries_from, changes_left}
 use Rattle.elf_apply.specs.Passes.{folded, rising}
-use Rattle.elf_apply.specs.Walk.{changes_left}
 use Rattle.elf_apply.specs.Entries.{patch_as}
 use Rattle.elf_apply.proofs.PassSteps.{folded-some, folded-none, folded-fault, checks_fault}
 use Rattle.elf_apply.proofs.ReadLaws.{Says-then}

@@ -1,10 +1,9 @@
-use Rattle.std.proofs.Common.{rules, ◌≡◌, ◌+◌, ap, ◌∙◌, arith, length}
+use Rattle.std.proofs.Common.{rules, ap, ◌∙◌, arith, length}
 use Rattle.elf_source.proofs.ReadsLaws.{Reads-none, Reads-then}
 use Rattle.elf_headers.proofs.OpenLaws.{still_open}
 use Rattle.elf_apply.proofs.WalkSteps.{reads-left}
-use Rattle.elf_apply.specs.Walk.{walk_left, entries_from}
+use Rattle.elf_apply.specs.Walk.{walk_left, changes_left}
 use Rattle.elf_apply.specs.Passes.{folded, storing}
-use Rattle.elf_apply.specs.Walk.{changes_left}
 use Rattle.elf_apply.specs.Entries.{patch_as}
 use Rattle.elf_apply.proofs.PassSteps.{folded-some, folded-none, folded-fault, folds-fault}
 use Rattle.elf_apply.proofs.ReadLaws.{Says-then}
@@ -13,7 +12,6 @@ use Rattle.elf_apply.proofs.passes.patch_window.Goals as goal
 pub entries-init : goal.entries-init
 entries-init g c = record {
   most = Reads-none _ _;
-  counts = c.new-entries.ensures.none c.args.target.now;
   asked = omega (arith, c.new-entries.ensures.left c.args.target.now);
   still = c.new-entries.ensures.begins _ c.args.target.now;
   reads = λ file held. c.new-entries.ensures.reads file c.args.target.now;
@@ -24,11 +22,8 @@ pub entries-preserved : goal.entries-preserved
 entries-preserved g c =
     let known = c.entries.invariant in
     let now = c.in-Ok-Some.ensures.goes in
-    let counted = c.in-Ok-Some.ensures.counts in
-    let counts : c.next.new.self.count + entries_from c.args.target.now c.next.new.self.next ≡ entries_from c.args.target.now 0 = omega (arith, known.counts, counted) in
     record {
       most = reads-left _ (walk_left c.args.target.now c.next.new.self) (Reads-then known.most c.next.ensures.asks.reads) (omega (arith, known.asked, c.next.ensures.asks.account));
-      counts = counts;
       asked = omega (arith, known.asked, c.next.ensures.asks.account);
       still = rw known.most.keeps.same_size at now;
       reads = λ file held.

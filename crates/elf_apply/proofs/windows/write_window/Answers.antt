@@ -2,8 +2,8 @@ use Rattle.std.proofs.Common.{rules, ap, ◌∙◌, ◌+◌, ◌≤◌, arith, l
 use Rattle.std.proofs.lemmas.Result.{err_from_is_err_and}
 use Rattle.elf_headers.proofs.OpenLaws.{still_open}
 use Rattle.elf_apply.specs.Walk.{changes_all}
-use Rattle.elf_apply.proofs.ReadLaws.{not_over, unread, ReadSays-then}
-use Rattle.elf_apply.proofs.WindowSteps.{window_done, folds_ok, pass_failed, takes_as, front_as, read_failed, front_written, fault_says}
+use Rattle.elf_apply.proofs.ReadLaws.{not_over}
+use Rattle.elf_apply.proofs.WindowSteps.{window_done, folds_ok, pass_failed, takes_as, front_as}
 use Rattle.elf_apply.proofs.windows.write_window.Goals as goal
 
 pub returns-clause-text : goal.returns-clause-text
@@ -14,12 +14,6 @@ returns-clause-text g c = λ file held patches are inside.
     let same = folds_ok c.patch_window.new.window _ _ (c.in_ok-patch_window.ensures.told file (c.fill.ensures.reads.keeps.same_file ∙ held)) done in
     takes_as _ _ _ _ same c.in_ok-put.ensures.puts.0
 
-pub returns-in_err-put-clause-wrote : goal.returns-in_err-put-clause-wrote
-returns-in_err-put-clause-wrote g c =
-    let p = err_from_is_err_and c.from_residual-in_err-put.result c.from_residual-in_err-put.ensures.1 in
-    let more = front_written _ _ _ c.in_err-put.ensures.puts.0 in
-    rw (p.1) (omega (arith, more, c.patch_window.auto.window, c.fill.auto.out))
-
 pub returns-in_err-put-clause-text : goal.returns-in_err-put-clause-text
 returns-in_err-put-clause-text g c = λ file held patches are inside.
     let p = err_from_is_err_and c.from_residual-in_err-put.result c.from_residual-in_err-put.ensures.1 in
@@ -28,11 +22,6 @@ returns-in_err-put-clause-text g c = λ file held patches are inside.
     let done = window_done file c.args.at c.args.target.now.size c.args.low (length c.args.window.now) (length c.fill.new.out) (changes_all file c.args.target.now) patches c.fill.new.out long c.requires.part (c.in_ok-fill.ensures.read file held) c.fill.auto.out are inside in
     let same = folds_ok c.patch_window.new.window _ _ (c.in_ok-patch_window.ensures.told file (c.fill.ensures.reads.keeps.same_file ∙ held)) done in
     rw (p.1, p.2) (front_as _ _ _ _ same c.in_err-put.ensures.puts.0)
-
-pub returns-in_err-patch_window-clause-says : goal.returns-in_err-patch_window-clause-says
-returns-in_err-patch_window-clause-says g c =
-    let p = err_from_is_err_and c.from_residual-in_err-patch_window.result c.from_residual-in_err-patch_window.ensures.1 in
-    rw (p.1, p.2) (fault_says c.args.src.now c.patch_window.new.src c.args.out.now c.in_err-patch_window.field-0.0 (ReadSays-then c.args.src.now c.fill.new.src c.patch_window.new.src _ c.in_err-patch_window.field-0.0 c.fill.ensures.reads (not_over c.fill.new.src c.patch_window.new.src _ c.in_err-patch_window.field-0.0 (c.fill.ensures.reads.same_limit ∙ c.requires.may.free) c.in_err-patch_window.ensures.says)))
 
 pub returns-in_err-patch_window-clause-text : goal.returns-in_err-patch_window-clause-text
 returns-in_err-patch_window-clause-text g c = λ file held patches are inside.
@@ -43,17 +32,6 @@ returns-in_err-patch_window-clause-text g c = λ file held patches are inside.
     pass_failed (Unit {0}) c.fill.new.src c.patch_window.new.src c.args.out.now c.in_err-patch_window.field-0.0 _ _ c.patch_window.new.window _ (p.1 ∙ ap Err p.2) done
     (not_over c.fill.new.src c.patch_window.new.src _ c.in_err-patch_window.field-0.0 (c.fill.ensures.reads.same_limit ∙ c.requires.may.free) c.in_err-patch_window.ensures.says)
     (c.in_err-patch_window.ensures.told file (c.fill.ensures.reads.keeps.same_file ∙ held))
-
-pub returns-in_err-fill-clause-says : goal.returns-in_err-fill-clause-says
-returns-in_err-fill-clause-says g c =
-    let p = err_from_is_err_and c.from_residual.result c.from_residual.ensures.1 in
-    rw (p.1, p.2) (fault_says c.args.src.now c.fill.new.src c.args.out.now c.in_err-fill.field-0.0 (not_over c.args.src.now c.fill.new.src _ c.in_err-fill.field-0.0 c.requires.may.free c.in_err-fill.ensures.says))
-
-pub returns-in_err-fill-clause-text : goal.returns-in_err-fill-clause-text
-returns-in_err-fill-clause-text g c = λ file held patches are inside.
-    let p = err_from_is_err_and c.from_residual.result c.from_residual.ensures.1 in
-    read_failed (Unit {0}) c.args.out.now c.in_err-fill.field-0.0 _ _ (p.1 ∙ ap Err p.2)
-    (unread c.args.src.now c.fill.new.src _ _ c.in_err-fill.field-0.0 c.requires.may.free c.in_err-fill.ensures.says c.in_err-fill.ensures.at)
 
 pub patch_window-requires : goal.patch_window-requires
 patch_window-requires g c = record {

@@ -3,8 +3,8 @@ use Rattle.std.proofs.Common.{ℕ, ◌/◌, length, sym, ap, ◌∙◌, arith}
 use Rattle.std.proofs.lemmas.Result.{err_from_is_err_and}
 use Rattle.elf_model.specs.Checks.{first_refusal, load_checks}
 use Rattle.elf_hash.specs.Lookups.{Passed, behind_bytes}
-use Rattle.elf_headers.proofs.LoadLaws.{header_most, load_most}
-use Rattle.elf_hash.proofs.FindLaws.{cost_behind, find_least, finds_header, finds_load, load_slots, load_within}
+use Rattle.elf_headers.proofs.LoadLaws.{header_most, load_most, load_slots}
+use Rattle.elf_hash.proofs.FindLaws.{cost_behind, find_least, finds_header, finds_load, load_within, looked_passed}
 use Rattle.elf_headers.proofs.LedgerLaws.{Charges-then, Did-as, Did-of, Did-sized, Did-then}
 use Rattle.elf_hash.proofs.finding.find.Goals as goal
 
@@ -43,6 +43,7 @@ returns-clause-did g c =
     let belongs = told.0.1 told.0.0.1 in
     let load = ap (λ (n : ℕ). first_refusal (load_checks file n)) (sym c.load.ensures.slots) ∙ belongs.passes in
     let passed : Passed file c.args.store.now.slots = record { header = told.0.0.0; load = load } in
-    let behind = told.1 c.args.store.now.slots belongs passed in
+    let behind = told.1 belongs in
     let cost = cost_behind file c.args.store.now.slots c.args.wanted.now passed in
-    record { costs = Charges-then _ (omega (arith, most, headers, cost, told.0.0.1.e_shnum)) loaded.costs behind.costs; finds = behind.finds })
+    let finds = rw (← looked_passed file c.args.store.now.slots c.args.wanted.now passed) at behind.finds in
+    record { costs = Charges-then _ (omega (arith, most, headers, cost, told.0.0.1.e_shnum)) loaded.costs behind.costs; finds = finds })

@@ -1,11 +1,11 @@
 -- What each stage finds and asks for is what the lookup does.
-use Rattle.std.proofs.Common.{◌/◌, ◌≤◌, length, ap, sym, subst, ◌∙◌, arith}
+use Rattle.std.proofs.Common.{◌≡◌, ◌/◌, ◌≤◌, None, length, refl, ap, sym, ◌∙◌, arith}
 use Rattle.std.proofs.lemmas.Result.{err_from_is_err_and}
-use Rattle.elf_model.specs.Hash.{Lookup as Looked}
-use Rattle.elf_hash.specs.Lookups.{Looks}
+use Rattle.elf_model.specs.Find.{first_hash}
+use Rattle.elf_hash.specs.Lookups.{looked_behind}
 use Rattle.elf_hash.specs.declared.hash_section.HashSection.{HashSection}
 use Rattle.elf_hash.proofs.CostLaws.{walk_less}
-use Rattle.elf_hash.proofs.FindLaws.{finds_checks, finds_counts, finds_none, looked_there, not_some}
+use Rattle.elf_hash.proofs.FindLaws.{finds_checks, finds_counts, looked_there, not_some}
 use Rattle.elf_headers.proofs.LedgerLaws.{Charges-then, Did-as, Did-none, Did-stop, Did-then}
 use Rattle.elf_hash.proofs.finding.find_in.Goals as goal
 
@@ -13,32 +13,28 @@ pub returns-in_default-clause-did : goal.returns-in_default-clause-did
 returns-in_default-clause-did g c =
     rw c.refused.ensures
     (Did-as _ (omega arith) (Did-stop _ (λ budget. cc) (Did-none c.args.src.now))
-    (λ file told costs headers belongs passed. record {
-      costs = costs _ (omega arith);
-      finds = finds_none file headers c.args.wanted.now passed (sym (c.first_hash.ensures.first file belongs) ∙ not_some c.first_hash.result c.in_default.not-Some);
-    }))
+    (λ file told costs belongs.
+    let none : first_hash file ≡ None = sym (c.first_hash.ensures.first file belongs) ∙ not_some c.first_hash.result c.in_default.not-Some in
+    rw (none, looked_behind) (record { costs = costs _ (omega arith); finds = λ other. refl })))
 
 pub returns-in_err-section-clause-did : goal.returns-in_err-section-clause-did
 returns-in_err-section-clause-did g c =
     let p = err_from_is_err_and c.from_residual.result c.from_residual.ensures.1 in
     rw (p.1, p.2)
     (Did-as _ (omega arith) (Did-stop _ c.in_err-section.ensures.refusal (Did-none c.args.src.now))
-    (λ file told costs headers belongs passed. record {
-      costs = costs _ (omega arith);
-      finds = finds_checks file headers c.args.wanted.now _ passed (sym (c.first_hash.ensures.first file belongs) ∙ c.in-Some.is) _ (c.in_err-section.ensures.checked file belongs);
-    }))
+    (λ file told costs belongs.
+    rw (sym (c.first_hash.ensures.first file belongs) ∙ c.in-Some.is, looked_behind)
+    (record { costs = costs _ (omega arith); finds = finds_checks file _ c.args.wanted.now _ (c.in_err-section.ensures.checked file belongs) })))
 
 pub returns-in_err-table-clause-did : goal.returns-in_err-table-clause-did
 returns-in_err-table-clause-did g c =
     let p = err_from_is_err_and c.from_residual-in_err-table.result c.from_residual-in_err-table.ensures.1 in
     rw (p.1, p.2)
     (Did-as _ (omega arith) c.in_err-table.ensures.did
-    (λ file counts costs headers belongs passed.
+    (λ file counts costs belongs.
     let checks = c.in_ok-section.ensures.checked file belongs in
-    record {
-      costs = costs _ (omega arith);
-      finds = finds_counts file headers c.args.wanted.now _ passed (sym (c.first_hash.ensures.first file belongs) ∙ c.in-Some.is) _ checks.0 (counts _ checks.1);
-    }))
+    rw (sym (c.first_hash.ensures.first file belongs) ∙ c.in-Some.is, looked_behind)
+    (record { costs = costs _ (omega arith); finds = finds_counts file _ c.args.wanted.now _ checks.0 (counts _ checks.1) })))
 
 pub returns-clause-did : goal.returns-clause-did
 returns-clause-did g c =
@@ -47,10 +43,9 @@ returns-clause-did g c =
     omega (arith, section, c.in_ok-table.table.fits, c.in_ok-section.ensures.lies.words, c.requires.size) in
     let less = walk_less _ _ (length c.args.wanted.now) few in
     Did-as _ (omega (arith, less)) (Did-then c.in_ok-table.ensures.did c.walk.ensures.did)
-    (λ file told costs headers belongs passed.
+    (λ file told costs belongs.
     let checks = c.in_ok-section.ensures.checked file belongs in
     let counts = told.0 _ checks.1 in
     let walked = told.1 _ counts.1 in
-    let same = looked_there file headers c.args.wanted.now _ passed (sym (c.first_hash.ensures.first file belongs) ∙ c.in-Some.is) checks.0 counts.0 in
-    subst (λ (l : Looked). Looks file l c.args.src.now c.walk.new.src c.walk.result 12 (length c.args.wanted.now)) (sym same)
-    (record { costs = Charges-then _ (omega arith) c.in_ok-table.ensures.did.costs walked.costs; finds = walked.finds }))
+    rw (sym (c.first_hash.ensures.first file belongs) ∙ c.in-Some.is, looked_behind) (rw (looked_there file _ c.args.wanted.now checks.0 counts.0)
+    (record { costs = Charges-then _ (omega arith) c.in_ok-table.ensures.did.costs walked.costs; finds = walked.finds })))

@@ -1,18 +1,12 @@
-use Rattle.std.proofs.Common.{sym, ap, ◌∙◌, ◌+◌, ◌-◌, ◌≤◌, ◌++◌, arith, length, length-take, length-drop, min, List, ℕ, ◌≡◌, take, Err}
+use Rattle.std.proofs.Common.{sym, ap, ◌∙◌, ◌+◌, ◌-◌, ◌≤◌, ◌++◌, arith, length, length-drop, min, List, ℕ, ◌≡◌, take, Err}
 use Rattle.std.proofs.lemmas.Result.{err_from_is_err_and}
 use Rattle.elf_source.proofs.PutsLaws.{Takes-then}
 use Rattle.elf_model.specs.Bytes.{slice}
 use Rattle.elf_apply.proofs.InOrderSteps.{midway_skip, midway_jump, front_part, slice_split, all_gone, gone_text, writes_then, writes_as, front_more}
-use Rattle.elf_apply.proofs.WindowSteps.{takes_as, front_written}
+use Rattle.elf_apply.proofs.WindowSteps.{takes_as}
 use Rattle.elf_source.proofs.GrowthLaws.{grows_put, grows_then}
 use Rattle.elf_model.proofs.Slices.{slice-size}
 use Rattle.elf_apply.proofs.in_order.Held.advance.Goals as goal
-
-pub returns-in_err-release-clause-wrote : goal.returns-in_err-release-clause-wrote
-returns-in_err-release-clause-wrote g c =
-    let p = err_from_is_err_and c.from_residual.result c.from_residual.ensures.1 in
-    let more = front_written _ _ _ c.in_err-release.ensures.puts.0 in
-    rw (p.1) (omega (arith, more, length-take c.min-ready.result c.args.self.now.bytes, c.min-ready.ensures, c.low.ensures))
 
 pub returns-in_err-release-clause-text : goal.returns-in_err-release-clause-text
 returns-in_err-release-clause-text g c = λ file held size now long within midway.

@@ -1,8 +1,6 @@
 use Rattle.std.proofs.Common.{ap, ◌∙◌, ◌+◌, ◌≡◌, arith, length, length-take, length-drop, drop, ℕ, List}
-use Rattle.std.proofs.lemmas.Result.{err_from_is_err_and}
 use Rattle.elf_apply.specs.InOrder.{Holding}
 use Rattle.elf_apply.proofs.InOrderSteps.{midway_fill}
-use Rattle.elf_apply.proofs.ReadLaws.{not_over, unread}
 use Rattle.elf_apply.proofs.in_order.Held.read_on.Goals as goal
 
 pub returns-clause-bytes : goal.returns-clause-bytes
@@ -14,13 +12,3 @@ returns-clause-bytes g c = λ file held now long midway.
     midway_fill file c.args.at c.args.size now c.args.self.now c.self.inside.low c.self.inside.count (c.self.inside.count + c.min-more.result) page c.fill.new.out
     (ap (λ (l : List ℕ). record { low = c.self.inside.low; bytes = l }) c.moved-page.ensures.begins ∙ c.self.view_is) (omega arith) (omega (arith, c.moved-page.ensures.long, c.min-more.ensures, c.self.invariant))
     c.fill.auto.out (c.in_ok-fill.ensures.read file held) long (omega (arith, low, counted, c.requires.held, c.min-more.ensures)) midway
-
-pub returns-in_err-fill-clause-says : goal.returns-in_err-fill-clause-says
-returns-in_err-fill-clause-says g c =
-    let p = err_from_is_err_and c.from_residual.result c.from_residual.ensures.1 in
-    rw (p.1, p.2) (not_over c.args.src.now c.fill.new.src _ c.in_err-fill.field-0.0 c.requires.may.free c.in_err-fill.ensures.says)
-
-pub returns-in_err-fill-clause-unread : goal.returns-in_err-fill-clause-unread
-returns-in_err-fill-clause-unread g c =
-    let p = err_from_is_err_and c.from_residual.result c.from_residual.ensures.1 in
-    rw (p.1, p.2) (unread c.args.src.now c.fill.new.src _ _ c.in_err-fill.field-0.0 c.requires.may.free c.in_err-fill.ensures.says c.in_err-fill.ensures.at)

@@ -2,20 +2,8 @@ use Rattle.std.proofs.Common.{ap, ◌∙◌, arith, ◌≡◌, Err}
 use Rattle.std.proofs.lemmas.Result.{err_from_is_err_and}
 use Rattle.elf_model.specs.Bytes.{slice}
 use Rattle.elf_apply.specs.Entries.{patch_as}
-use Rattle.elf_apply.proofs.InOrderSteps.{unread_after, unread_kept, midway_patch}
-use Rattle.elf_apply.proofs.ReadLaws.{ReadSays-then}
-use Rattle.elf_apply.proofs.WindowSteps.{fault_says}
+use Rattle.elf_apply.proofs.InOrderSteps.{unread_after, midway_patch}
 use Rattle.elf_apply.proofs.in_order.Held.store.Goals as goal
-
-pub returns-in_err-read_on-clause-says : goal.returns-in_err-read_on-clause-says
-returns-in_err-read_on-clause-says g c =
-    let p = err_from_is_err_and c.from_residual-in_err-read_on.result c.from_residual-in_err-read_on.ensures.1 in
-    rw (p.1, p.2) (fault_says c.args.src.now c.read_on.new.src c.advance.new.out c.in_err-read_on.field-0.0 (ReadSays-then c.args.src.now c.advance.new.src c.read_on.new.src _ c.in_err-read_on.field-0.0 c.advance.ensures.reads c.in_err-read_on.ensures.says))
-
-pub returns-in_err-read_on-clause-kept : goal.returns-in_err-read_on-clause-kept
-returns-in_err-read_on-clause-kept g c = λ low.
-    let p = err_from_is_err_and c.from_residual-in_err-read_on.result c.from_residual-in_err-read_on.ensures.1 in
-    rw (p.1) (unread_kept c.in_err-read_on.field-0.0 p.0 p.2 c.in_err-read_on.ensures.unread)
 
 pub returns-in_err-read_on-clause-text : goal.returns-in_err-read_on-clause-text
 returns-in_err-read_on-clause-text g c = λ file held now long low midway.

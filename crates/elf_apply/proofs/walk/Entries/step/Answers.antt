@@ -1,25 +1,11 @@
 use Rattle.std.proofs.Common.{ℕ, ◌≡◌, ◌+◌, ◌*◌, refl, ap, ◌∙◌, arith}
 use Rattle.elf_model.specs.Records.{section_at, sh_offset}
 use Rattle.elf_apply.proofs.Opened.{gave, given_row}
-use Rattle.elf_source.proofs.ReadsLaws.{Reads-then}
 use Rattle.elf_apply.specs.Walk.{beside_entry_cost}
-use Rattle.elf_apply.proofs.ReadLaws.{Says-more, Says-then}
-use Rattle.elf_apply.proofs.SymbolSteps.{check_says}
-use Rattle.elf_apply.proofs.WalkSteps.{unread-left, asks-of, cost-row, cost-failed, steps-row, row-stores, row-nothing, row-fails, reads-row, same-walked}
+use Rattle.elf_apply.proofs.ReadLaws.{check_says, Says-more, Says-then}
+use Rattle.elf_apply.proofs.WalkSteps.{unread-left, cost-row, row-stores, row-nothing, row-fails, reads-row, same-walked}
 use Rattle.elf_apply.specs.declared.walk.Entries.{Entries}
 use Rattle.elf_apply.proofs.walk.Entries.step.Goals as goal
-
-pub returns-in-Ok-Some-clause-asks : goal.returns-in-Ok-Some-clause-asks
-returns-in-Ok-Some-clause-asks g c =
-    let gives = gave _ _ _ _ c.in-Ok-true.field-0-test c.in-Ok-true.ensures.steps in
-    let now : Entries = record { cursor = c.advance.new.self; symbols = c.entry_change.new.symbols; current = c.args.self.now.current; next = c.args.self.now.next; count = c.args.self.now.count } in
-    asks-of c.args.target.now c.args.self.now now (Reads-then c.in-Ok-true.ensures.reads c.entry_change.ensures.reads)
-    (cost-row c.args.target.now c.args.self.now now _ _ _ refl gives.not_failed gives.still_not_failed gives.one_less c.in-Ok-true.ensures.account c.entry_change.ensures.reads.at_most)
-
-pub returns-in-Ok-Some-clause-fewer : goal.returns-in-Ok-Some-clause-fewer
-returns-in-Ok-Some-clause-fewer g c =
-    let gives = gave _ _ _ _ c.in-Ok-true.field-0-test c.in-Ok-true.ensures.steps in
-    steps-row c.args.target.now c.args.self.now _ gives.one_less refl
 
 pub returns-in-Ok-Some-clause-walked : goal.returns-in-Ok-Some-clause-walked
 returns-in-Ok-Some-clause-walked g c = λ file held reads.
@@ -31,18 +17,6 @@ returns-in-Ok-Some-clause-walked g c = λ file held reads.
       reads-row file c.args.target.now _ c.args.self.now _ gives held refl reads (c.entry_change.ensures.refers file (section_at file c.args.self.now.current) (c.in-Ok-true.ensures.reads.keeps.same_file ∙ held) (reads.links (omega (arith, gives.one_less))) (c.decode-entry.ensures.stands file c.row-row.result.at (c.whole_row.ensures ∙ row.bytes))),
     )
 
-pub returns-in-Ok-None-clause-asks : goal.returns-in-Ok-None-clause-asks
-returns-in-Ok-None-clause-asks g c =
-    let gives = gave _ _ _ _ c.in-Ok-true.field-0-test c.in-Ok-true.ensures.steps in
-    let now : Entries = record { cursor = c.advance.new.self; symbols = c.entry_change.new.symbols; current = c.args.self.now.current; next = c.args.self.now.next; count = c.args.self.now.count } in
-    asks-of c.args.target.now c.args.self.now now (Reads-then c.in-Ok-true.ensures.reads c.entry_change.ensures.reads)
-    (cost-row c.args.target.now c.args.self.now now _ _ _ refl gives.not_failed gives.still_not_failed gives.one_less c.in-Ok-true.ensures.account c.entry_change.ensures.reads.at_most)
-
-pub returns-in-Ok-None-clause-fewer : goal.returns-in-Ok-None-clause-fewer
-returns-in-Ok-None-clause-fewer g c =
-    let gives = gave _ _ _ _ c.in-Ok-true.field-0-test c.in-Ok-true.ensures.steps in
-    steps-row c.args.target.now c.args.self.now _ gives.one_less refl
-
 pub returns-in-Ok-None-clause-walked : goal.returns-in-Ok-None-clause-walked
 returns-in-Ok-None-clause-walked g c = λ file held reads.
     let gives = gave _ _ _ _ c.in-Ok-true.field-0-test c.in-Ok-true.ensures.steps in
@@ -52,13 +26,6 @@ returns-in-Ok-None-clause-walked g c = λ file held reads.
       row-nothing file c.args.target.now c.args.self.now _ c.row-row.result.at refl refl gives.next_index gives.one_less place (rw c.in-Ok-None.field-0-is at change),
       reads-row file c.args.target.now _ c.args.self.now _ gives held refl reads (c.entry_change.ensures.refers file (section_at file c.args.self.now.current) (c.in-Ok-true.ensures.reads.keeps.same_file ∙ held) (reads.links (omega (arith, gives.one_less))) (c.decode-entry.ensures.stands file c.row-row.result.at (c.whole_row.ensures ∙ row.bytes))),
     )
-
-pub returns-in-Err-entry_change-clause-asks : goal.returns-in-Err-entry_change-clause-asks
-returns-in-Err-entry_change-clause-asks g c =
-    let gives = gave _ _ _ _ c.in-Ok-true.field-0-test c.in-Ok-true.ensures.steps in
-    let now : Entries = record { cursor = c.advance.new.self; symbols = c.entry_change.new.symbols; current = c.args.self.now.current; next = c.args.self.now.next; count = c.args.self.now.count } in
-    asks-of c.args.target.now c.args.self.now now (Reads-then c.in-Ok-true.ensures.reads c.entry_change.ensures.reads)
-    (cost-row c.args.target.now c.args.self.now now _ _ _ refl gives.not_failed gives.still_not_failed gives.one_less c.in-Ok-true.ensures.account c.entry_change.ensures.reads.at_most)
 
 pub returns-in-Err-entry_change-clause-says : goal.returns-in-Err-entry_change-clause-says
 returns-in-Err-entry_change-clause-says g c =
@@ -84,11 +51,6 @@ pub returns-in-Ok-false-clause-walked : goal.returns-in-Ok-false-clause-walked
 returns-in-Ok-false-clause-walked g c = λ file held reads.
     let ends = rw c.in-Ok-false.field-0-test at c.in-Ok-false.ensures.steps in
     same-walked file c.args.target.now c.args.self.now c.open.new.self c.advance.new.self c.open.result ends.unchanged (c.open.ensures.walked file (c.requires.opened.belongs file held)) reads
-
-pub returns-in-Err-clause-asks : goal.returns-in-Err-clause-asks
-returns-in-Err-clause-asks g c =
-    let now : Entries = record { cursor = c.advance.new.self; symbols = c.args.self.now.symbols; current = c.args.self.now.current; next = c.args.self.now.next; count = c.args.self.now.count } in
-    asks-of c.args.target.now c.args.self.now now c.in-Err.ensures.reads (cost-failed c.args.target.now c.args.self.now now _ _ c.in-Err.fault refl c.in-Err.ensures.steps.failed c.in-Err.ensures.account)
 
 pub returns-in-Err-clause-says : goal.returns-in-Err-clause-says
 returns-in-Err-clause-says g c =

@@ -1,0 +1,44 @@
+-- The definitions that functions calculate, opened for their checks.
+use Rattle.elf_model.specs.Apply.{apply_checks, held_bytes, entry_changes, change_of, entry_checks, named_value}
+use Rattle.elf_model.specs.Placing.{linkage_value, place_value}
+use Rattle.elf_model.specs.Values.{patch_of, whole}
+use Rattle.elf_layout.proofs.LayoutSteps.{names_cost}
+use Rattle.elf_apply.specs.Entries.{term_of, taken_value, taken_place}
+use Rattle.elf_apply.specs.Walk.{walk_left, steps_left}
+
+-- the request
+unfoldable pub request : Unit {0}
+unfolding apply_checks held_bytes
+request = tt
+
+-- an entry
+unfoldable pub entry : Unit {0}
+unfolding entry_changes change_of
+entry = tt
+
+-- an entry of a type
+unfoldable pub typed : Unit {0}
+unfolding change_of entry_checks term_of taken_value taken_place patch_of whole
+typed = tt
+
+-- S or L
+unfoldable pub term : Unit {0}
+unfolding term_of taken_value named_value
+term = tt
+
+unfoldable pub linkage : Unit {0}
+unfolding linkage_value
+linkage = tt
+
+-- P
+unfoldable pub place : Unit {0}
+unfolding taken_place place_value
+place = tt
+
+-- a step of the walk
+unfoldable pub walk : Unit {0}
+unfolding walk_left steps_left
+walk = tt
+
+-- what the names of a layout cost
+pub ruleset names = (names_cost)
