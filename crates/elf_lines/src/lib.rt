@@ -3,10 +3,13 @@
 #![tactic(auto)]
 
 mod buffers;
+mod check_rows;
 mod columns;
 mod dynamic_rows;
 mod lookup_rows;
+mod member_rows;
 mod named;
+mod naming;
 mod note_rows;
 mod relocation_rows;
 mod rows;
@@ -16,10 +19,13 @@ mod symbol_rows;
 mod told;
 
 pub use buffers::BUFFER_BYTES;
+pub use check_rows::{show_check, show_unnamed};
 pub use columns::Line;
 pub use dynamic_rows::dynamic_front;
 pub use lookup_rows::show_steps;
+pub use member_rows::member_front;
 pub use named::show_named;
+pub use naming::Naming;
 pub use note_rows::{note_front, show_note};
 pub use relocation_rows::relocation_front;
 pub use rows::{cause_word, header_row, show_refusal};

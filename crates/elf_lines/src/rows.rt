@@ -104,6 +104,9 @@ pub fn cause_word(cause: Cause) -> &'static str
         Cause::TooLong => "too-long",
         Cause::Budget => "budget",
         Cause::Unmapped => "unmapped",
+        Cause::Thin => "thin",
+        Cause::NotArchive => "not-archive",
+        Cause::MemberCut => "member-cut",
     }
 }
 

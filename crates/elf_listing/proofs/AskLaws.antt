@@ -16,11 +16,11 @@ use Rattle.elf_listing.specs.Reports.{AsksWithin, FaultSays, TellsStop}
 use Rattle.elf_listing.specs.Shows.{StopSays}
 
 pub asks_within : {X : Type 0} (caps : Caps) (parts : ℕ) (s0 s1 s2 s3 : Counting) (n : ℕ) (result : Result X Stop) → s0.asked ≤ 2 ^ 127 → Limits s0 s1 caps.limits.budget
-    → Reads s1 s2 (ceiling s1.seen.size caps.limits.headers caps.name.bytes) → Limits s2 s3 None
+    → Reads s1 s2 (ceiling s1.seen.size caps.limits.headers caps.style.cap.bytes) → Limits s2 s3 None
     → ((refusal : Refusal) → first_refusal (length_checks s1.seen.size) ≡ Some refusal → s2 ≡ s1) → (has_tables parts ≡ false → s2.asked ≤ s1.asked + 64)
     → ((refusal : Refusal) → result ≡ Err (Refused refusal) → RefusalSays s1 s2 n refusal) → AsksWithin caps parts s0 s3 result
 asks_within caps parts s0 s1 s2 s3 n result small set reads unset unread alone late =
-    let same = ap (λ (seen : Seen). ceiling seen.size caps.limits.headers caps.name.bytes) set.seen in
+    let same = ap (λ (seen : Seen). ceiling seen.size caps.limits.headers caps.style.cap.bytes) set.seen in
     let within : IfSome caps.limits.budget (λ bytes. s2.asked ≤ s0.asked + bytes) = within_budget caps.limits.budget s0 s1 s2 set reads.same_limit in
     record {
       ceiling = omega (arith, reads.at_most, set.asked, unset.asked, same);

@@ -6,7 +6,8 @@ use Rattle.elf_model.specs.Checks.{first_refusal, header_checks, load_checks}
 use Rattle.elf_model.specs.Lines.{header_line}
 use Rattle.elf_model.specs.Listing.{Item, Line, Fault, has, has_tables, where_asked, each, HEADER, SEGMENTS, NOTES, DYNAMIC}
 use Rattle.elf_model.specs.Records.{e_shnum, e_phnum}
-use Rattle.elf_model.specs.Report.{items, load_items, table_items, kinds_rows}
+use Rattle.elf_model.specs.Style.{Style, viewed as view_of}
+use Rattle.elf_model.specs.Report.{listing, load_items, table_items, kinds_rows}
 use Rattle.elf_model.specs.TableKinds.{TableHeaders, symbols, relocations, section_notes, section_dynamic, segment_notes, segment_dynamic, section_kinds, segment_kinds, by_sections, by_segments, table_headers}
 use Rattle.elf_model.proofs.CostLemmas.{headers_none, headers_some}
 use Rattle.elf_model.specs.Rows.{segment_row}
@@ -26,47 +27,47 @@ use Rattle.elf_listing.specs.declared.parts.Part.TheVariants.{Headers, Symbols, 
 abbrev pub header_part : List ℕ → ℕ → List Item
 header_part file parts = where_asked parts HEADER (Line (header_line file) ∷ [])
 
-pub items_are : (file : List ℕ) (headers cap parts : ℕ) → first_refusal (header_checks file) ≡ None → items file headers cap parts ≡ header_part file parts ++ load_items file headers cap parts
-unfolding items
-items_are file headers cap parts passed = guarded-passes (header_checks file) (header_part file parts ++ load_items file headers cap parts) passed
+pub items_are : (file : List ℕ) (headers : ℕ) (style : Style) (parts : ℕ) → first_refusal (header_checks file) ≡ None → listing file headers style parts ≡ header_part file parts ++ load_items (view_of style file) headers style parts
+unfolding listing
+items_are file headers style parts passed = guarded-passes (header_checks file) (header_part file parts ++ load_items (view_of style file) headers style parts) passed
 
 -- a refusal of the file header is all that is listed
-pub header_alone : (file : List ℕ) (headers cap parts : ℕ) (fault : TableFault) → HeaderRead file (Err fault) → (refusal : Refusal) → fault ≡ Refused refusal
-    → (IsBudget refusal → ⊥) → items file headers cap parts ≡ Fault refusal ∷ []
-unfolding items
-header_alone file headers cap parts fault read refusal is other =
+pub header_alone : (file : List ℕ) (headers : ℕ) (style : Style) (parts : ℕ) (fault : TableFault) → HeaderRead file (Err fault) → (refusal : Refusal) → fault ≡ Refused refusal
+    → (IsBudget refusal → ⊥) → listing file headers style parts ≡ Fault refusal ∷ []
+unfolding listing
+header_alone file headers style parts fault read refusal is other =
     let first = rw is at read in
-    guarded-fault (header_checks file) (header_part file parts ++ load_items file headers cap parts) refusal (first other)
+    guarded-fault (header_checks file) (header_part file parts ++ load_items (view_of style file) headers style parts) refusal (first other)
 
 -- a refusal of the load is all that is listed behind the file header
-pub load_alone : (file : List ℕ) (headers cap parts : ℕ) (fault : TableFault) (store : Stored) → LoadedAs file (Err fault) store → store.slots ≡ headers → has_tables parts ≡ true
-    → (refusal : Refusal) → fault ≡ Refused refusal → (IsBudget refusal → ⊥) → load_items file headers cap parts ≡ Fault refusal ∷ []
-load_alone file headers cap parts fault store read same tables refusal is other =
+pub load_alone : (file : List ℕ) (headers : ℕ) (style : Style) (parts : ℕ) (fault : TableFault) (store : Stored) → LoadedAs file (Err fault) store → store.slots ≡ headers → has_tables parts ≡ true
+    → (refusal : Refusal) → fault ≡ Refused refusal → (IsBudget refusal → ⊥) → load_items file headers style parts ≡ Fault refusal ∷ []
+load_alone file headers style parts fault store read same tables refusal is other =
     let first = rw is at read in
-    load_some file headers cap parts tables
-    ∙ guarded-fault (load_checks file headers) (table_items file cap parts) refusal (ap (λ n. first_refusal (load_checks file n)) (sym same) ∙ first other)
+    load_some file headers style parts tables
+    ∙ guarded-fault (load_checks file headers) (table_items file style parts) refusal (ap (λ n. first_refusal (load_checks file n)) (sym same) ∙ first other)
 
 -- where the load passes, the tables are listed
-pub load_passed : (file : List ℕ) (headers slots cap parts : ℕ) → first_refusal (load_checks file slots) ≡ None → slots ≡ headers → has_tables parts ≡ true
-    → load_items file headers cap parts ≡ table_items file cap parts
-load_passed file headers slots cap parts passed same tables =
-    load_some file headers cap parts tables
-    ∙ guarded-passes (load_checks file headers) (table_items file cap parts) (ap (λ n. first_refusal (load_checks file n)) (sym same) ∙ passed)
+pub load_passed : (file : List ℕ) (headers slots : ℕ) (style : Style) (parts : ℕ) → first_refusal (load_checks file slots) ≡ None → slots ≡ headers → has_tables parts ≡ true
+    → load_items file headers style parts ≡ table_items file style parts
+load_passed file headers slots style parts passed same tables =
+    load_some file headers style parts tables
+    ∙ guarded-passes (load_checks file headers) (table_items file style parts) (ap (λ n. first_refusal (load_checks file n)) (sym same) ∙ passed)
 
 -- a part of so many headers
-abbrev pub of_headers : List ℕ → ℕ → ℕ → Part → ℕ → List Item
-of_headers file most parts part count = where_asked parts (bit_of part) (part_items part most count file)
+abbrev pub of_headers : List ℕ → Style → ℕ → Part → ℕ → List Item
+of_headers file style parts part count = where_asked parts (bit_of part) (part_items part style count file)
 
-abbrev pub segment_part : List ℕ → ℕ → List Item
-segment_part file parts = where_asked parts SEGMENTS (each (segment_row file) 0 (e_phnum file))
+abbrev pub segment_part : List ℕ → Style → ℕ → List Item
+segment_part file style parts = where_asked parts SEGMENTS (each (segment_row file style) 0 (e_phnum file))
 
 nothing_asked : (parts part : ℕ) → where_asked parts part [] ≡ []
 nothing_asked parts part = elim (cases_Bool (has parts part)) [ inl asked ↦ rw (asked, where_asked) refl | inr other ↦ rw (other, where_asked) refl ]
 
 -- a part of no header
-none_of : (file : List ℕ) (most parts : ℕ) (part : Part) (count : ℕ) → count ≡ 0 → of_headers file most parts part count ≡ []
+none_of : (file : List ℕ) (style : Style) (parts : ℕ) (part : Part) (count : ℕ) → count ≡ 0 → of_headers file style parts part count ≡ []
 unfolding each
-none_of file most parts part count none = rw none (nothing_asked parts (bit_of part))
+none_of file style parts part count none = rw none (nothing_asked parts (bit_of part))
 
 -- a part whose number of headers matters only where it is asked for
 asked_same : (parts part : ℕ) (items : ℕ → List Item) (n m : ℕ) → (has parts part ≡ true → n ≡ m) → where_asked parts part (items n) ≡ where_asked parts part (items m)
@@ -75,16 +76,16 @@ asked_same parts part items n m same = elim (cases_Bool (has parts part)) [
   | inr other ↦ rw (other, where_asked) refl
 ]
 
-kinds_of_sections : (file : List ℕ) (most parts : ℕ) → kinds_rows section_kinds (by_sections file) file most parts
-    ≡ of_headers file most parts Symbols (e_shnum file) ++ (of_headers file most parts Relocations (e_shnum file)
-    ++ (of_headers file most parts SectionNotes (e_shnum file) ++ (of_headers file most parts SectionDynamic (e_shnum file) ++ [])))
+kinds_of_sections : (file : List ℕ) (style : Style) (parts : ℕ) → kinds_rows section_kinds (by_sections file) file style parts
+    ≡ of_headers file style parts Symbols (e_shnum file) ++ (of_headers file style parts Relocations (e_shnum file)
+    ++ (of_headers file style parts SectionNotes (e_shnum file) ++ (of_headers file style parts SectionDynamic (e_shnum file) ++ [])))
 unfolding kinds_rows symbols relocations section_notes section_dynamic
-kinds_of_sections file most parts = refl
+kinds_of_sections file style parts = refl
 
-kinds_of_segments : (file : List ℕ) (most parts : ℕ) → kinds_rows segment_kinds (by_segments file) file most parts
-    ≡ of_headers file most parts SegmentNotes (e_phnum file) ++ (of_headers file most parts SegmentDynamic (e_phnum file) ++ [])
+kinds_of_segments : (file : List ℕ) (style : Style) (parts : ℕ) → kinds_rows segment_kinds (by_segments file) file style parts
+    ≡ of_headers file style parts SegmentNotes (e_phnum file) ++ (of_headers file style parts SegmentDynamic (e_phnum file) ++ [])
 unfolding kinds_rows segment_notes segment_dynamic
-kinds_of_segments file most parts = refl
+kinds_of_segments file style parts = refl
 
 sections_alone : (y r n d : List Item) → y ++ (r ++ (n ++ (d ++ []))) ≡ ((y ++ r) ++ (n ++ [])) ++ (d ++ [])
 sections_alone y r n d = simp (append_assoc, append-nil)
@@ -101,31 +102,31 @@ pub viewed_segments : (parts : ℕ) (loaded : Opened) → (loaded.header.e_shnum
 viewed_segments parts loaded none asked = rw (none, asked) refl
 
 -- the tables of all kinds are those of the headers in the store
-kinds_are : (file : List ℕ) (most parts : ℕ) (loaded : Opened) (store : Stored) → Belongs file loaded store → store.segments ≡ viewed parts loaded
-    → kinds_rows (table_headers file).kinds (table_headers file) file most parts
-    ≡ ((of_headers file most parts Symbols store.loaded ++ of_headers file most parts Relocations store.loaded)
-    ++ (of_headers file most parts SectionNotes store.loaded ++ of_headers file most parts SegmentNotes store.segments))
-    ++ (of_headers file most parts SectionDynamic store.loaded ++ of_headers file most parts SegmentDynamic store.segments)
-kinds_are file most parts loaded store belongs view =
+kinds_are : (file : List ℕ) (style : Style) (parts : ℕ) (loaded : Opened) (store : Stored) → Belongs file loaded store → store.segments ≡ viewed parts loaded
+    → kinds_rows (table_headers file).kinds (table_headers file) file style parts
+    ≡ ((of_headers file style parts Symbols store.loaded ++ of_headers file style parts Relocations store.loaded)
+    ++ (of_headers file style parts SectionNotes store.loaded ++ of_headers file style parts SegmentNotes store.segments))
+    ++ (of_headers file style parts SectionDynamic store.loaded ++ of_headers file style parts SegmentDynamic store.segments)
+kinds_are file style parts loaded store belongs view =
     let count : store.loaded ≡ e_shnum file = belongs.count ∙ belongs.header.e_shnum in
     elim (cases_Bool (e_shnum file == 0)) [
       | inl none ↦
           let zero : store.loaded ≡ 0 = count ∙ eqb-true (e_shnum file) 0 none in
           let all = viewed_where parts loaded (ap (λ n. n == 0) belongs.header.e_shnum ∙ none) in
-          let notes = asked_same parts NOTES (λ n. part_items SegmentNotes most n file) (e_phnum file) store.segments
+          let notes = asked_same parts NOTES (λ n. part_items SegmentNotes style n file) (e_phnum file) store.segments
           (λ asked. sym (view ∙ (all (or_right _ _ (or_left _ _ asked)) ∙ belongs.header.e_phnum))) in
-          let dynamic = asked_same parts DYNAMIC (λ n. part_items SegmentDynamic most n file) (e_phnum file) store.segments
+          let dynamic = asked_same parts DYNAMIC (λ n. part_items SegmentDynamic style n file) (e_phnum file) store.segments
           (λ asked. sym (view ∙ (all (or_right _ _ (or_right _ _ asked)) ∙ belongs.header.e_phnum))) in
-          ap (λ (headers : TableHeaders). kinds_rows headers.kinds headers file most parts) (headers_none file none)
-          ∙ (kinds_of_segments file most parts
-          ∙ rw (notes, dynamic, none_of file most parts Symbols store.loaded zero, none_of file most parts Relocations store.loaded zero, none_of file most parts SectionNotes store.loaded zero, none_of file most parts SectionDynamic store.loaded zero)
-          (ap (λ x. of_headers file most parts SegmentNotes store.segments ++ x) (append-nil (of_headers file most parts SegmentDynamic store.segments))))
+          ap (λ (headers : TableHeaders). kinds_rows headers.kinds headers file style parts) (headers_none file none)
+          ∙ (kinds_of_segments file style parts
+          ∙ rw (notes, dynamic, none_of file style parts Symbols store.loaded zero, none_of file style parts Relocations store.loaded zero, none_of file style parts SectionNotes store.loaded zero, none_of file style parts SectionDynamic store.loaded zero)
+          (ap (λ x. of_headers file style parts SegmentNotes store.segments ++ x) (append-nil (of_headers file style parts SegmentDynamic store.segments))))
       | inr some ↦
           let zero : store.segments ≡ 0 = view ∙ viewed_none parts loaded (ap (λ n. n == 0) belongs.header.e_shnum ∙ some) in
-          let rows = λ (part : Part). of_headers file most parts part (e_shnum file) in
-          ap (λ (headers : TableHeaders). kinds_rows headers.kinds headers file most parts) (headers_some file some)
-          ∙ (kinds_of_sections file most parts
-          ∙ rw (count, none_of file most parts SegmentNotes store.segments zero, none_of file most parts SegmentDynamic store.segments zero)
+          let rows = λ (part : Part). of_headers file style parts part (e_shnum file) in
+          ap (λ (headers : TableHeaders). kinds_rows headers.kinds headers file style parts) (headers_some file some)
+          ∙ (kinds_of_sections file style parts
+          ∙ rw (count, none_of file style parts SegmentNotes store.segments zero, none_of file style parts SegmentDynamic store.segments zero)
           (sections_alone (rows Symbols) (rows Relocations) (rows SectionNotes) (rows SectionDynamic)))
     ]
 
@@ -133,15 +134,15 @@ behind : (a b c d : List Item) → a ++ ((b ++ c) ++ d) ≡ ((a ++ b) ++ c) ++ d
 behind a b c d = sym (append_assoc a (b ++ c) d) ∙ ap (λ x. x ++ d) (sym (append_assoc a b c))
 
 -- the tables of a loaded file, by the headers in the store
-pub tables_are : (file : List ℕ) (most parts : ℕ) (loaded : Opened) (store : Stored) → Belongs file loaded store → store.segments ≡ viewed parts loaded
-    → table_items file most parts
-    ≡ (((of_headers file most parts Headers store.loaded ++ segment_part file parts)
-    ++ (of_headers file most parts Symbols store.loaded ++ of_headers file most parts Relocations store.loaded))
-    ++ (of_headers file most parts SectionNotes store.loaded ++ of_headers file most parts SegmentNotes store.segments))
-    ++ (of_headers file most parts SectionDynamic store.loaded ++ of_headers file most parts SegmentDynamic store.segments)
+pub tables_are : (file : List ℕ) (style : Style) (parts : ℕ) (loaded : Opened) (store : Stored) → Belongs file loaded store → store.segments ≡ viewed parts loaded
+    → table_items file style parts
+    ≡ (((of_headers file style parts Headers store.loaded ++ segment_part file style parts)
+    ++ (of_headers file style parts Symbols store.loaded ++ of_headers file style parts Relocations store.loaded))
+    ++ (of_headers file style parts SectionNotes store.loaded ++ of_headers file style parts SegmentNotes store.segments))
+    ++ (of_headers file style parts SectionDynamic store.loaded ++ of_headers file style parts SegmentDynamic store.segments)
 unfolding table_items
-tables_are file most parts loaded store belongs view =
+tables_are file style parts loaded store belongs view =
     let count : e_shnum file ≡ store.loaded = sym (belongs.count ∙ belongs.header.e_shnum) in
-    ap (λ n. (of_headers file most parts Headers n ++ segment_part file parts) ++ kinds_rows (table_headers file).kinds (table_headers file) file most parts) count
-    ∙ (ap (λ rest. (of_headers file most parts Headers store.loaded ++ segment_part file parts) ++ rest) (kinds_are file most parts loaded store belongs view)
-    ∙ behind (of_headers file most parts Headers store.loaded ++ segment_part file parts) _ _ _)
+    ap (λ n. (of_headers file style parts Headers n ++ segment_part file style parts) ++ kinds_rows (table_headers file).kinds (table_headers file) file style parts) count
+    ∙ (ap (λ rest. (of_headers file style parts Headers store.loaded ++ segment_part file style parts) ++ rest) (kinds_are file style parts loaded store belongs view)
+    ∙ behind (of_headers file style parts Headers store.loaded ++ segment_part file style parts) _ _ _)

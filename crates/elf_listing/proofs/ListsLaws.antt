@@ -17,14 +17,14 @@ use Rattle.elf_listing.proofs.ShowLaws.{Spent-failed, Spent-then, Spent-within}
 
 -- it is of the same file as before
 SameFile-not : {S W : Type 0} {s : Sources S} {w : Sinks W} (a : Listing S W s w) → SameFile a a
-SameFile-not a = record { same_src = refl; same_out = refl; same_file = refl; same_cap = refl }
+SameFile-not a = record { same_src = refl; same_out = refl; same_file = refl; same_style = refl }
 
 pub SameFile-then : {S W : Type 0} {s : Sources S} {w : Sinks W} {a b c : Listing S W s w} → SameFile a b → SameFile b c → SameFile a c
 SameFile-then p q = record {
   same_src = q.same_src ∙ p.same_src;
   same_out = q.same_out ∙ p.same_out;
   same_file = q.same_file ∙ p.same_file;
-  same_cap = q.same_cap ∙ p.same_cap;
+  same_style = q.same_style ∙ p.same_style;
 }
 
 -- nothing is shown, and nothing was read

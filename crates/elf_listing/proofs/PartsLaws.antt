@@ -1,4 +1,5 @@
 -- What calls of a listing did one behind another.
+use Rattle.elf_headers.specs.Permitted.{style_of}
 use Rattle.std.proofs.Common.{◌≡◌, ℕ, ◌+◌, ◌-◌, ◌<◌, List, ◌++◌, Some, Result, Ok, Err, ap, ◌∙◌, arith, zero-add}
 use Rattle.elf_model.specs.Cost.{sum_over}
 use Rattle.elf_model.specs.Listing.{Item, each}
@@ -7,7 +8,7 @@ use Rattle.elf_model.proofs.ListingLemmas.{rows_split}
 use Rattle.elf_source.specs.declared.source.Source.{Ghosts as Sources}
 use Rattle.elf_source.specs.declared.sink.Sink.{Ghosts as Sinks}
 use Rattle.elf_source.proofs.GrowthLaws.{grows_then}
-use Rattle.elf_headers.specs.declared.caps.Cap.{Cap}
+use Rattle.elf_headers.specs.declared.caps.Style.{Style}
 use Rattle.elf_table.specs.declared.file.File.{File}
 use Rattle.elf_listing.specs.HeadersListed.{asked_items}
 use Rattle.elf_listing.specs.Parts.{asked_cost}
@@ -21,11 +22,11 @@ use Rattle.elf_listing.proofs.RowLaws.{Writes-as}
 use Rattle.elf_listing.proofs.ShowLaws.{Spent-then, Stopped-more, Writes-then}
 
 -- what a part asks for, and its items, where the parts have it
-abbrev pub cost_asked : ℕ → Part → File → Cap → ℕ
-cost_asked parts part f cap = asked_cost parts part f.loaded f.store.now cap.bytes
+abbrev pub cost_asked : ℕ → Part → File → Style → ℕ
+cost_asked parts part f style = asked_cost parts part f.loaded f.store.now style.cap.bytes
 
-abbrev pub items_asked : ℕ → Part → File → Cap → List ℕ → List Item
-items_asked parts part f cap file = asked_items parts part f.store.now cap.bytes file
+abbrev pub items_asked : ℕ → Part → File → Style → List ℕ → List Item
+items_asked parts part f style file = asked_items parts part f.store.now (style_of style) file
 
 module _ {S W X : Type 0} {s : Sources S} {w : Sinks W} where
   -- the same items
@@ -33,16 +34,16 @@ module _ {S W X : Type 0} {s : Sources S} {w : Sinks W} where
       → ((file : List ℕ) → a.src.now.seen.file ≡ Some file → ys file ≡ xs file) → Lists a b result n (Shows a b result xs) → Lists a b result n (Shows a b result ys)
   Parts-as same p = Lists-within _ _ _ _ _ _ _ (omega arith) p (λ file held. Writes-as _ _ _ (same file held) (p.shows file held))
 
-  -- a part was shown, and then another, whose cost and items the file and the cap tell
-  pub Parts-then : {a b c : Listing S W s w} {x : X} {result : Result X Stop} {n : ℕ} (xs : List ℕ → List Item) (m : File → Cap → ℕ) (ys : File → Cap → List ℕ → List Item)
-      → Lists a b (Ok x) n (Shows a b (Ok x) xs) → Lists b c result (m b.file b.cap) (Shows b c result (ys b.file b.cap))
-      → Lists a c result (n + m a.file a.cap) (Shows a c result (λ file. xs file ++ ys a.file a.cap file))
+  -- a part was shown, and then another, whose cost and items the file and the style tell
+  pub Parts-then : {a b c : Listing S W s w} {x : X} {result : Result X Stop} {n : ℕ} (xs : List ℕ → List Item) (m : File → Style → ℕ) (ys : File → Style → List ℕ → List Item)
+      → Lists a b (Ok x) n (Shows a b (Ok x) xs) → Lists b c result (m b.file b.style) (Shows b c result (ys b.file b.style))
+      → Lists a c result (n + m a.file a.style) (Shows a c result (λ file. xs file ++ ys a.file a.style file))
   Parts-then xs m ys p q = record {
     grows = grows_then p.grows q.grows;
     keeps = SameFile-then p.keeps q.keeps;
-    spent = rw (← p.keeps.same_file, ← p.keeps.same_cap) (Spent-then _ _ _ _ _ _ _ _ _ _ _ (omega arith) p.spent.0 q.spent);
+    spent = rw (← p.keeps.same_file, ← p.keeps.same_style) (Spent-then _ _ _ _ _ _ _ _ _ _ _ (omega arith) p.spent.0 q.spent);
     shows = λ file held.
-        let shown = rw (p.keeps.same_file, p.keeps.same_cap) at (q.shows file (p.spent.0.reads.keeps.same_file ∙ held)) in
+        let shown = rw (p.keeps.same_file, p.keeps.same_style) at (q.shows file (p.spent.0.reads.keeps.same_file ∙ held)) in
         Writes-then _ _ _ _ _ _ (p.shows file held) shown;
   }
 
@@ -52,14 +53,14 @@ module _ {S W X : Type 0} {s : Sources S} {w : Sinks W} where
   Parts-more m xs ys p = Lists-within _ _ _ _ _ _ _ (omega arith) p (λ file held. Stopped-more _ _ _ _ _ (p.shows file held))
 
   -- some headers were shown, and then the next
-  pub headers_then : {a b c : Listing S W s w} {x : X} {result : Result X Stop} (amount : File → Cap → ℕ → ℕ) (row : Cap → List ℕ → ℕ → List Item) (i : ℕ)
-      → Lists a b (Ok x) (sum_over (amount a.file a.cap) 0 i) (Shows a b (Ok x) (λ file. each (row a.cap file) 0 i))
-      → Lists b c result (amount b.file b.cap i) (Shows b c result (λ file. row b.cap file i))
-      → Lists a c result (sum_over (amount a.file a.cap) 0 (i + 1)) (Shows a c result (λ file. each (row a.cap file) 0 (i + 1)))
+  pub headers_then : {a b c : Listing S W s w} {x : X} {result : Result X Stop} (amount : File → Style → ℕ → ℕ) (row : Style → List ℕ → ℕ → List Item) (i : ℕ)
+      → Lists a b (Ok x) (sum_over (amount a.file a.style) 0 i) (Shows a b (Ok x) (λ file. each (row a.style file) 0 i))
+      → Lists b c result (amount b.file b.style i) (Shows b c result (λ file. row b.style file i))
+      → Lists a c result (sum_over (amount a.file a.style) 0 (i + 1)) (Shows a c result (λ file. each (row a.style file) 0 (i + 1)))
   headers_then {a = a} amount row i p q =
-      let cost = amount a.file a.cap in
+      let cost = amount a.file a.style in
       rw (last_cost cost 0 i ∙ ap (λ n. sum_over cost 0 i + cost n) (zero-add i))
-      (Parts-as (λ file held. each-more (row a.cap file) i) (Parts-then _ (λ f cap. amount f cap i) (λ f cap file. row cap file i) p q))
+      (Parts-as (λ file held. each-more (row a.style file) i) (Parts-then _ (λ f style. amount f style i) (λ f style file. row style file i) p q))
 
   -- the last of them stopped, and none behind it was shown
   pub headers_stopped : {a b : Listing S W s w} {stop : Stop} (amount : ℕ → ℕ) (row : List ℕ → ℕ → List Item) (i count : ℕ) → i < count

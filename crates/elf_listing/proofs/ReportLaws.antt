@@ -1,10 +1,12 @@
 -- The report of a listing, and of one that a budget cuts short.
+use Rattle.elf_headers.specs.Permitted.{style_of}
 use Rattle.std.proofs.Common.{◌≡◌, ℕ, ◌+◌, ◌^◌, ◌<◌, ◌≤◌, List, ◌∷◌, ◌++◌, length, None, Some, Ok, Err, Option, option_map, refl, sym, ap, ◌∙◌, inl, inr, ◌⊎◌, append-nil, arith}
 use Rattle.elf_model.specs.Budget.{IsBudget, IsBudgeted, IsReport}
-use Rattle.elf_model.specs.Cost.{cost}
+use Rattle.elf_model.specs.Cost.{listing_cost}
 use Rattle.elf_model.specs.Lines.{refusal_line}
 use Rattle.elf_model.specs.Listing.{Item, Fault as FaultItem, lines_of, fault_of, report_of, end_text}
-use Rattle.elf_model.specs.Report.{items}
+use Rattle.elf_model.specs.Report.{listing}
+use Rattle.elf_model.specs.Style.{Style}
 use Rattle.elf_model.specs.declared.causes.Cause.TheVariants.{Budget}
 use Rattle.elf_model.specs.declared.causes.Refusal.{Refusal}
 use Rattle.elf_model.proofs.BudgetLaws.{is_budget}
@@ -22,20 +24,20 @@ use Rattle.elf_listing.specs.Shows.{WroteItems, Front, IsNext, EndsRefused, Stop
 use Rattle.elf_listing.proofs.EachLaws.{lines_front}
 
 -- a report is what is listed, within every budget
-report_listed : (budget : Option ℕ) (file : List ℕ) (headers cap parts : ℕ) (text : List ℕ) (fault : Option Refusal) → IsReport (items file headers cap parts) text fault
-    → IsBudgeted budget file headers cap parts text fault
-report_listed None file headers cap parts text fault is = is
-report_listed (Some budget) file headers cap parts text fault is = inl is
+report_listed : (budget : Option ℕ) (file : List ℕ) (headers : ℕ) (style : Style) (parts : ℕ) (text : List ℕ) (fault : Option Refusal) → IsReport (listing file headers style parts) text fault
+    → IsBudgeted budget file headers style parts text fault
+report_listed None file headers style parts text fault is = is
+report_listed (Some budget) file headers style parts text fault is = inl is
 
 -- a listing without a fault is its report
-pub whole_report : {a b : Written} (file : List ℕ) (caps : Caps) (parts : ℕ) → WroteItems a b (items file caps.limits.headers caps.name.bytes parts) → Reports {X = Unit {0}} file caps parts a b (Ok tt)
+pub whole_report : {a b : Written} (file : List ℕ) (caps : Caps) (parts : ℕ) → WroteItems a b (listing file caps.limits.headers (style_of caps.style) parts) → Reports {X = Unit {0}} file caps parts a b (Ok tt)
 whole_report file caps parts whole =
-    let all : List Item = items file caps.limits.headers caps.name.bytes parts in
+    let all : List Item = listing file caps.limits.headers (style_of caps.style) parts in
     let text : lines_of all ≡ report_of all = sym (ap (λ end. lines_of all ++ end_text end) whole.no_fault ∙ append-nil (lines_of all)) in
     record {
       text = lines_of all;
       fault = None;
-      listed = report_listed caps.limits.budget file caps.limits.headers caps.name.bytes parts (lines_of all) None (record { text_is = text; fault_is = sym whole.no_fault });
+      listed = report_listed caps.limits.budget file caps.limits.headers (style_of caps.style) parts (lines_of all) None (record { text_is = text; fault_is = sym whole.no_fault });
       wrote = (whole.takes, refl);
     }
 
@@ -51,14 +53,14 @@ wrote_front (Source cause at) text fault is front = front
 wrote_front (Out cause) text fault is front = front
 
 -- a front of a listing is a front of its report
-front_report : {a b : Written} (file : List ℕ) (caps : Caps) (parts : ℕ) (stop : Stop) → IsFault stop → TakesFront a b (lines_of (items file caps.limits.headers caps.name.bytes parts))
+front_report : {a b : Written} (file : List ℕ) (caps : Caps) (parts : ℕ) (stop : Stop) → IsFault stop → TakesFront a b (lines_of (listing file caps.limits.headers (style_of caps.style) parts))
     → Reports {X = Unit {0}} file caps parts a b (Err stop)
 front_report file caps parts stop is front =
-    let all : List Item = items file caps.limits.headers caps.name.bytes parts in
+    let all : List Item = listing file caps.limits.headers (style_of caps.style) parts in
     record {
       text = report_of all;
       fault = fault_of all;
-      listed = report_listed caps.limits.budget file caps.limits.headers caps.name.bytes parts (report_of all) (fault_of all) (record { text_is = refl; fault_is = refl });
+      listed = report_listed caps.limits.budget file caps.limits.headers (style_of caps.style) parts (report_of all) (fault_of all) (record { text_is = refl; fault_is = refl });
       wrote = wrote_front stop (report_of all) (fault_of all) is (TakesFront-more (lines_of all) (end_text (fault_of all)) front);
     }
 
@@ -80,12 +82,12 @@ ended refusal all ends next =
 
 -- the text of a listing that ended in a refusal
 ended_listed : {a b : Written} (file : List ℕ) (caps : Caps) (parts : ℕ) (refusal : Refusal) (before limited after : Counting) → before.asked ≤ 2 ^ 127
-    → Limits before limited caps.limits.budget → before.seen.size ≡ length file → RefusalSays limited after (cost file caps.limits.headers caps.name.bytes parts) refusal
-    → (ends : EndsRefused a b refusal (items file caps.limits.headers caps.name.bytes parts))
-    → IsBudgeted caps.limits.budget file caps.limits.headers caps.name.bytes parts (lines_of ends.front.front ++ refusal_line refusal) (Some refusal)
+    → Limits before limited caps.limits.budget → before.seen.size ≡ length file → RefusalSays limited after (listing_cost file caps.limits.headers (style_of caps.style) parts) refusal
+    → (ends : EndsRefused a b refusal (listing file caps.limits.headers (style_of caps.style) parts))
+    → IsBudgeted caps.limits.budget file caps.limits.headers (style_of caps.style) parts (lines_of ends.front.front ++ refusal_line refusal) (Some refusal)
 ended_listed file caps parts refusal before limited after small limits sized says ends = by_cause (is_budget refusal.cause)
   where
-    cut : (budget : Option ℕ) → caps.limits.budget ≡ budget → IsBudget refusal → IsBudgeted budget file caps.limits.headers caps.name.bytes parts (lines_of ends.front.front ++ refusal_line refusal) (Some refusal)
+    cut : (budget : Option ℕ) → caps.limits.budget ≡ budget → IsBudget refusal → IsBudgeted budget file caps.limits.headers (style_of caps.style) parts (lines_of ends.front.front ++ refusal_line refusal) (Some refusal)
     cut None none for_budget =
         let over = (says for_budget).1 in
         let most = limits.most ∙ ap (option_map (counted before.asked)) none in
@@ -100,7 +102,7 @@ ended_listed file caps parts refusal before limited after small limits sized say
         let fits = limits.small budget some in
         let size = ap (λ seen. seen.size) limits.seen in
         inr (
-          budget_below budget before.asked over.most (cost file caps.limits.headers caps.name.bytes parts) small (sym is) fits (omega (arith, over.above, same)),
+          budget_below budget before.asked over.most (listing_cost file caps.limits.headers (style_of caps.style) parts) small (sym is) fits (omega (arith, over.above, same)),
           record {
             front = ends.front.front;
             rest = ends.front.rest;
@@ -115,18 +117,18 @@ ended_listed file caps parts refusal before limited after small limits sized say
         )
 
     by_cause : (refusal.cause ≡ Budget) ⊎ (refusal.cause ≡ Budget → ⊥)
-        → IsBudgeted caps.limits.budget file caps.limits.headers caps.name.bytes parts (lines_of ends.front.front ++ refusal_line refusal) (Some refusal)
+        → IsBudgeted caps.limits.budget file caps.limits.headers (style_of caps.style) parts (lines_of ends.front.front ++ refusal_line refusal) (Some refusal)
     by_cause (inl for_budget) = cut caps.limits.budget refl for_budget
     by_cause (inr other) =
-        let all : List Item = items file caps.limits.headers caps.name.bytes parts in
+        let all : List Item = listing file caps.limits.headers (style_of caps.style) parts in
         let is = ended refusal all ends (ends.next other) in
-        report_listed caps.limits.budget file caps.limits.headers caps.name.bytes parts _ _
+        report_listed caps.limits.budget file caps.limits.headers (style_of caps.style) parts _ _
         (record { text_is = sym (ap (λ lines. lines ++ end_text (fault_of all)) is.0 ∙ ap (λ end. lines_of ends.front.front ++ end_text end) is.1); fault_is = sym is.1 })
 
 -- a listing that ended in a refusal, whose line was told
 ended_report : {a b c : Written} (file : List ℕ) (caps : Caps) (parts : ℕ) (refusal : Refusal) (told : Stop) (before limited after : Counting) → before.asked ≤ 2 ^ 127
-    → Limits before limited caps.limits.budget → before.seen.size ≡ length file → RefusalSays limited after (cost file caps.limits.headers caps.name.bytes parts) refusal
-    → EndsRefused a b refusal (items file caps.limits.headers caps.name.bytes parts) → WroteRefusal b c refusal told → Reports {X = Unit {0}} file caps parts a c (Err told)
+    → Limits before limited caps.limits.budget → before.seen.size ≡ length file → RefusalSays limited after (listing_cost file caps.limits.headers (style_of caps.style) parts) refusal
+    → EndsRefused a b refusal (listing file caps.limits.headers (style_of caps.style) parts) → WroteRefusal b c refusal told → Reports {X = Unit {0}} file caps parts a c (Err told)
 ended_report {a} {b} {c} file caps parts refusal told before limited after small limits sized says ends line = record {
   text = lines_of ends.front.front ++ refusal_line refusal;
   fault = Some refusal;
@@ -141,8 +143,8 @@ ended_report {a} {b} {c} file caps parts refusal told before limited after small
 
 -- a listing that stopped, and what was told of that
 pub stopped_report : {a c : Written} (b : Written) (file : List ℕ) (caps : Caps) (parts : ℕ) (stop told : Stop) (before limited after : Counting) (out : Written) → before.asked ≤ 2 ^ 127
-    → Limits before limited caps.limits.budget → before.seen.size ≡ length file → StopSays limited after out (cost file caps.limits.headers caps.name.bytes parts) stop
-    → Stopped a b stop (items file caps.limits.headers caps.name.bytes parts) → TellsStop b c stop told → Reports {X = Unit {0}} file caps parts a c (Err told)
+    → Limits before limited caps.limits.budget → before.seen.size ≡ length file → StopSays limited after out (listing_cost file caps.limits.headers (style_of caps.style) parts) stop
+    → Stopped a b stop (listing file caps.limits.headers (style_of caps.style) parts) → TellsStop b c stop told → Reports {X = Unit {0}} file caps parts a c (Err told)
 stopped_report b file caps parts (Refused refusal) told before limited after out small limits sized says ends tells =
     ended_report file caps parts refusal told before limited after small limits sized says ends tells
 stopped_report b file caps parts (Source cause at) told before limited after out small limits sized says ends tells =

@@ -1,4 +1,5 @@
 -- The items of one row, by the line that was put.
+use Rattle.elf_model.specs.Style.{Style}
 use Rattle.std.proofs.Common.{◌≡◌, ℕ, ◌+◌, ◌*◌, List, [], ◌∷◌, Result, Ok, Err, refl, sym, ap, ◌∙◌, subst, arith, append-nil}
 use Rattle.elf_model.specs.Budget.{IsBudget}
 use Rattle.elf_model.specs.Records.{e_phoff, segment_at, section_at, sh_offset, st_name, e_machine, r_sym}
@@ -63,31 +64,32 @@ Stopped-name a front at (Refused refusal) name answer read =
 Stopped-name a front at (Source fault offset) name answer read = Front-none a (named_row front at answer)
 
 -- a program header's line at its place
-pub segment_is : (file line : List ℕ) (at index : ℕ) → line ≡ segment_line file at index → at ≡ e_phoff file + index * 56 → segment_row file index ≡ Line line ∷ []
+pub segment_is : (file line : List ℕ) (style : Style) (at index : ℕ) → line ≡ segment_line style.gnu file at index → at ≡ e_phoff file + index * 56
+    → segment_row file style index ≡ Line line ∷ []
 unfolding segment_row
-segment_is file line at index same here =
+segment_is file line style at index same here =
     let place : at ≡ segment_at file index = omega arith in
-    sym (ap (λ text. Line text ∷ []) same ∙ ap (λ p. Line (segment_line file p index) ∷ []) place)
+    sym (ap (λ text. Line text ∷ []) same ∙ ap (λ p. Line (segment_line style.gnu file p index) ∷ []) place)
 
 -- a symbol's row at its place
-pub symbol_is : (file : List ℕ) (cap section index at : ℕ) (front table : List ℕ) (off : ℕ) → front ≡ symbol_front file at section index
+pub symbol_is : (file : List ℕ) (style : Style) (section index at : ℕ) (front table : List ℕ) (off : ℕ) → front ≡ symbol_front style.gnu (e_machine file) file at section index
     → table ≡ strings_of file (section_at file section) → off ≡ st_name file at → at ≡ sh_offset file (section_at file section) + index * 24
-    → symbol_row file cap section (section_at file section) index ≡ named_row front at (shown table off cap)
+    → symbol_row file style section (section_at file section) index ≡ named_row front at (shown table off style.cap)
 unfolding symbol_row
-symbol_is file cap section index at front table off same_front same_table same_name here =
+symbol_is file style section index at front table off same_front same_table same_name here =
     let place : at ≡ entry_at file (section_at file section) 24 index = omega arith in
-    sym (ap (λ text. named_row text at (shown table off cap)) same_front
-    ∙ (ap (λ names. named_row (symbol_front file at section index) at (shown names off cap)) same_table
-    ∙ (ap (λ name. named_row (symbol_front file at section index) at (shown (strings_of file (section_at file section)) name cap)) same_name
-    ∙ ap (λ p. named_row (symbol_front file p section index) p (shown (strings_of file (section_at file section)) (st_name file p) cap)) place)))
+    sym (ap (λ text. named_row text at (shown table off style.cap)) same_front
+    ∙ (ap (λ names. named_row (symbol_front style.gnu (e_machine file) file at section index) at (shown names off style.cap)) same_table
+    ∙ (ap (λ name. named_row (symbol_front style.gnu (e_machine file) file at section index) at (shown (strings_of file (section_at file section)) name style.cap)) same_name
+    ∙ ap (λ p. named_row (symbol_front style.gnu (e_machine file) file p section index) p (shown (strings_of file (section_at file section)) (st_name file p) style.cap)) place)))
 
 -- a relocation entry's row at its place
-pub relocation_is : (file front : List ℕ) (cap section at entry symbol index : ℕ) → entry ≡ sh_offset file at + index * 24
-    → front ≡ relocation_front file entry (e_machine file) section → symbol ≡ r_sym file entry
-    → relocation_row file cap section at index ≡ named_row front (symbol_named file cap at entry symbol).0 (symbol_named file cap at entry symbol).1
+pub relocation_is : (file front : List ℕ) (style : Style) (section at entry symbol index : ℕ) → entry ≡ sh_offset file at + index * 24
+    → front ≡ relocation_front style.gnu (e_machine file) file entry section → symbol ≡ r_sym file entry
+    → relocation_row file style section at index ≡ named_row front (symbol_named file style.cap at entry symbol).0 (symbol_named file style.cap at entry symbol).1
 unfolding relocation_row
-relocation_is file front cap section at entry symbol index here same names =
+relocation_is file front style section at entry symbol index here same names =
     let place : entry ≡ entry_at file at 24 index = omega arith in
-    let row : List ℕ → ℕ → ℕ → List Item = λ text e k. named_row text (symbol_named file cap at e k).0 (symbol_named file cap at e k).1 in
-    sym (ap (λ text. row text entry symbol) same ∙ (ap (λ k. row (relocation_front file entry (e_machine file) section) entry k) names
-    ∙ ap (λ e. row (relocation_front file e (e_machine file) section) e (r_sym file e)) place))
+    let row : List ℕ → ℕ → ℕ → List Item = λ text e k. named_row text (symbol_named file style.cap at e k).0 (symbol_named file style.cap at e k).1 in
+    sym (ap (λ text. row text entry symbol) same ∙ (ap (λ k. row (relocation_front style.gnu (e_machine file) file entry section) entry k) names
+    ∙ ap (λ e. row (relocation_front style.gnu (e_machine file) file e section) e (r_sym file e)) place))

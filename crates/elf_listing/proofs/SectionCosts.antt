@@ -1,9 +1,10 @@
 -- What the tables of a loaded file ask for, by the section headers in the store.
+use Rattle.elf_model.specs.Style.{Style, viewed as view_of}
 use Rattle.std.proofs.Common.{◌≡◌, ℕ, ◌+◌, ◌*◌, ◌/◌, ◌%◌, ◌<◌, ◌≤◌, ◌==◌, ◌&&◌, ◌||◌, ◌⊎◌, inl, inr, not, if◌then◌else◌, Bool, true, false, List, [], ◌∷◌, length, Option, None, Some, Result, Ok, refl, sym, ap, ◌∙◌, arith}
 use Rattle.std.proofs.lemmas.Bool.{cases_Bool, eqb-true}
 use Rattle.std.specs.Prelude.{is_none}
 use Rattle.elf_model.specs.Checks.{Check, first_refusal, pass, refuse, is_outside, header_checks, early_checks, section_name_checks, range_checks_of, table_checks_of, whole_checks_of}
-use Rattle.elf_model.specs.Cost.{sum_over, cost_where, table_cost, kinds_cost, is_loadable, sections_cost, segments_cost, tables_cost, behind_header, cost, ceiling}
+use Rattle.elf_model.specs.Cost.{sum_over, cost_where, table_cost, kinds_cost, is_loadable, sections_cost, segments_cost, tables_cost, behind_header, listing_cost, ceiling}
 use Rattle.elf_model.specs.Listing.{has, has_tables, SECTIONS, SEGMENTS, NOTES, DYNAMIC}
 use Rattle.elf_model.specs.CostLaws.{kind_by_kind}
 use Rattle.elf_model.specs.Names.{name_bytes}
@@ -268,6 +269,6 @@ pub few_headers : (loaded : Opened) (header : Ehdr) (size : ℕ) (store : Stored
     → (loaded.header.e_shnum ≤ slots) × (loaded.header.e_phnum ≤ slots)
 few_headers loaded header size store opened same = rw (opened.same_header, ← same) (opened.passes.few, opened.passes.few_segments)
 
-pub cost_is : (file : List ℕ) (headers cap parts : ℕ) → cost file headers cap parts ≡ 64 + behind_header file headers cap parts
-unfolding cost
-cost_is file headers cap parts = refl
+pub cost_is : (file : List ℕ) (headers : ℕ) (style : Style) (parts : ℕ) → listing_cost file headers style parts ≡ 64 + behind_header (view_of style file) headers style.cap parts
+unfolding listing_cost
+cost_is file headers style parts = refl

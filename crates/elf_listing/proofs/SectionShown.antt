@@ -1,4 +1,5 @@
 -- The items of one header, by what the store and the checks of a loaded file answer.
+use Rattle.elf_model.specs.Style.{Style}
 use Rattle.std.proofs.Common.{◌≡◌, ℕ, ◌/◌, ◌<◌, ◌==◌, ◌&&◌, not, Bool, true, false, inl, inr, if◌then◌else◌, List, [], ◌∷◌, ◌++◌, length, Option, None, Some, Result, Ok, Err, refl, sym, ap, ◌∙◌, subst, arith}
 use Rattle.std.proofs.lemmas.Bool.{cases_Bool, eqb-true}
 use Rattle.elf_model.specs.Bytes.{slice}
@@ -7,7 +8,7 @@ use Rattle.elf_model.specs.LineFronts.{section_front}
 use Rattle.elf_model.specs.Listing.{Item, each, guarded}
 use Rattle.elf_model.specs.Names.{shown}
 use Rattle.elf_model.specs.Numbers.{DT_STRSZ}
-use Rattle.elf_model.specs.Records.{e_shnum, e_shstrndx, sh_name, sh_offset, sh_size, sh_link, p_offset, p_filesz, section_at}
+use Rattle.elf_model.specs.Records.{e_machine, e_shnum, e_shstrndx, sh_name, sh_offset, sh_size, sh_link, p_offset, p_filesz, section_at}
 use Rattle.elf_model.specs.Report.{table_rows}
 use Rattle.elf_model.specs.TableKinds.{TableKind, section_dynamic}
 use Rattle.elf_model.specs.Rows.{section_row, section_name, dynamic_row, named_row, no_name}
@@ -34,20 +35,20 @@ use Rattle.elf_listing.proofs.RowLaws.{Stopped-first}
 use Rattle.elf_listing.proofs.ShowLaws.{Whole-none}
 
 -- a header that describes no table of a kind
-pub no_table : (kind : TableKind) (file : List ℕ) (cap index at : ℕ) (a : Written) → kind.has_table file at ≡ false → WroteItems a a (table_rows kind file cap index at)
+pub no_table : (kind : TableKind) (file : List ℕ) (style : Style) (index at : ℕ) (a : Written) → kind.has_table file at ≡ false → WroteItems a a (table_rows kind file style index at)
 unfolding table_rows
-no_table kind file cap index at a none = rw (none, table_rows) (Whole-none a)
+no_table kind file style index at a none = rw (none, table_rows) (Whole-none a)
 
 -- one that describes a table has its rows behind its checks: they pass, or the first refuses
-module _ (kind : TableKind) (file : List ℕ) (cap index at : ℕ) (has : kind.has_table file at ≡ true) where
-  rows_are : table_rows kind file cap index at ≡ guarded (all_checks kind.checks file at) (kind.rows file cap index at)
+module _ (kind : TableKind) (file : List ℕ) (style : Style) (index at : ℕ) (has : kind.has_table file at ≡ true) where
+  rows_are : table_rows kind file style index at ≡ guarded (all_checks kind.checks file at) (kind.rows file style index at)
   unfolding table_rows
   rows_are = rw (has, table_rows) refl
 
-  pub table_passes : first_refusal (all_checks kind.checks file at) ≡ None → table_rows kind file cap index at ≡ kind.rows file cap index at
+  pub table_passes : first_refusal (all_checks kind.checks file at) ≡ None → table_rows kind file style index at ≡ kind.rows file style index at
   table_passes pass = rows_are ∙ guarded-passes (all_checks kind.checks file at) _ pass
 
-  pub table_fails : (a : Written) (fault : Fault) → RefusedBy (all_checks kind.checks file at) fault → Stopped a a (stop_of fault) (table_rows kind file cap index at)
+  pub table_fails : (a : Written) (fault : Fault) → RefusedBy (all_checks kind.checks file at) fault → Stopped a a (stop_of fault) (table_rows kind file style index at)
   table_fails a fault by =
       Stopped-first a fault _ (λ refusal is other.
       rows_are ∙ guarded-fault (all_checks kind.checks file at) _ refusal (subst (RefusedBy (all_checks kind.checks file at)) is by))
@@ -68,14 +69,14 @@ some_sections : (n : ℕ) → 0 < n → (n == 0) ≡ false
 some_sections n h = grind (arith)
 
 -- the row of a section header, by its front and its name
-pub section_is : (file front : List ℕ) (names : Option Strings) (off at index cap : ℕ) → names ≡ section_names file → 0 < e_shnum file → at ≡ section_at file index
-    → off ≡ sh_name file (section_at file index) → front ≡ section_front file (section_at file index) index
-    → section_row file cap index ≡ named_row front at (shown_in file names off cap)
+pub section_is : (file front : List ℕ) (names : Option Strings) (off at index : ℕ) (style : Style) → names ≡ section_names file → 0 < e_shnum file → at ≡ section_at file index
+    → off ≡ sh_name file (section_at file index) → front ≡ section_front style.gnu (e_machine file) file (section_at file index) index
+    → section_row file style index ≡ named_row front at (shown_in file names off style.cap)
 unfolding section_row section_name
-section_is file front names off at index cap same some place is before =
+section_is file front names off at index style same some place is before =
     rw (before, place, is, same)
-    (ap (named_row (section_front file (section_at file index) index) (section_at file index))
-    (sym (name_by_cases file (e_shnum file == 0) (e_shstrndx file == 0) (names_at file (section_at file (e_shstrndx file))) _ cap (some_sections (e_shnum file) some))))
+    (ap (named_row (section_front style.gnu (e_machine file) file (section_at file index) index) (section_at file index))
+    (sym (name_by_cases file (e_shnum file == 0) (e_shstrndx file == 0) (names_at file (section_at file (e_shstrndx file))) _ style.cap (some_sections (e_shnum file) some))))
 
 -- the bytes of a range that is answered
 pub range_passes : (file : List ℕ) (offset size place : ℕ) (table : Rows) → bytes_of (length file) offset size place ≡ Ok table
@@ -90,13 +91,13 @@ range_passes file offset size place table h =
     )
 
 -- the dynamic entries that are listed, of so many at an offset, where the strings of an entry are told
-abbrev pub entries_at : List ℕ → ℕ → ℕ → ℕ → (ℕ → Result (List ℕ) Refusal) → List Item
-entries_at file most offset count strings = each (λ i. dynamic_row file most strings (dynamic_at offset i) i) 0 (dynamic_count file offset count)
+abbrev pub entries_at : List ℕ → Style → ℕ → ℕ → (ℕ → Result (List ℕ) Refusal) → List Item
+entries_at file style offset count strings = each (λ i. dynamic_row file style strings (dynamic_at offset i) i) 0 (dynamic_count file offset count)
 
 -- none of an empty section
-pub empty_dynamic : (file : List ℕ) (cap index : ℕ) (a : Written) (at : ℕ) → section_dynamic.has_table file at ≡ true → sh_size file at ≡ 0 → WroteItems a a (table_rows section_dynamic file cap index at)
+pub empty_dynamic : (file : List ℕ) (style : Style) (index : ℕ) (a : Written) (at : ℕ) → section_dynamic.has_table file at ≡ true → sh_size file at ≡ 0 → WroteItems a a (table_rows section_dynamic file style index at)
 unfolding section_dynamic each dynamic_count
-empty_dynamic file cap index a at has empty = rw (table_passes section_dynamic file cap index at has (rw empty refl)) (rw empty (Whole-none a))
+empty_dynamic file style index a at has empty = rw (table_passes section_dynamic file style index at has (rw empty refl)) (rw empty (Whole-none a))
 
 -- checks that refuse, behind others that pass and before more
 among : (front checks back : List Check) (fault : Fault) → first_refusal front ≡ None → RefusedBy checks fault → RefusedBy (front ++ (checks ++ back)) fault
@@ -123,10 +124,10 @@ module _ (file : List ℕ) (at : ℕ) where
 
     pub dynamic_passes : (names : Strings) → strings_linked file at ≡ Ok names
         → (first_refusal (dynamic_table_checks file at) ≡ None)
-        × ((cap : ℕ) → entries_at file cap (sh_offset file at) (entry_count file at 16) (λ entry. Ok (strings_of file at)) ≡ entries_at file cap table.at table.count (λ entry. Ok (slice file names.at names.size)))
+        × ((style : Style) → entries_at file style (sh_offset file at) (entry_count file at 16) (λ entry. Ok (strings_of file at)) ≡ entries_at file style table.at table.count (λ entry. Ok (slice file names.at names.size)))
     dynamic_passes names h =
         let linked = passed_first (first_refusal (strings_checks file at)) (names_at file (section_at file (sh_link file at))) names h in
-        (rw some (first_refusal-none (table_checks file at 16) (strings_checks file at) own.0 ∙ linked.0), λ cap. rw (← own.1, ← linked.1) refl)
+        (rw some (first_refusal-none (table_checks file at 16) (strings_checks file at) own.0 ∙ linked.0), λ style. rw (← own.1, ← linked.1) refl)
 
 -- the dynamic entries of a segment: their strings are where the entries tell
 strings_found : (file : List ℕ) (table : Rows) (found : DynStrings) → AreStrings file table found
@@ -139,13 +140,13 @@ strings_found file table found are =
 pub whole_fails : (file : List ℕ) (at : ℕ) (fault : Fault) → table_of_segment file at ≡ Err fault → RefusedBy (segment_dynamic_checks file at) fault
 whole_fails file at fault h = let all = rows (p_offset file at) (p_filesz file at / 16) 16 in (table-fails false all all (segment_dynamic_checks file at) fault h).1
 
-pub segment_passes : (file : List ℕ) (cap at : ℕ) (table : Rows) (found : DynStrings) → table_of_segment file at ≡ Ok table → AreStrings file table found
+pub segment_passes : (file : List ℕ) (style : Style) (at : ℕ) (table : Rows) (found : DynStrings) → table_of_segment file at ≡ Ok table → AreStrings file table found
     → (first_refusal (segment_dynamic_checks file at) ≡ None)
-    × (entries_at file cap (p_offset file at) (p_filesz file at / 16) (mapped_strings file (p_offset file at) (dynamic_count file (p_offset file at) (p_filesz file at / 16)))
-    ≡ entries_at file cap table.at table.count (λ entry. strings_mapped file entry found.address found.size))
-segment_passes file cap at table found h are =
+    × (entries_at file style (p_offset file at) (p_filesz file at / 16) (mapped_strings file (p_offset file at) (dynamic_count file (p_offset file at) (p_filesz file at / 16)))
+    ≡ entries_at file style table.at table.count (λ entry. strings_mapped file entry found.address found.size))
+segment_passes file style at table found h are =
     let p = passed_first (first_refusal (segment_dynamic_checks file at)) (rows (p_offset file at) (p_filesz file at / 16) 16) table h in (
       p.0,
-      ap (λ (t : Rows). entries_at file cap t.at t.count (mapped_strings file t.at (dynamic_count file t.at t.count))) p.1
-          ∙ ap (entries_at file cap table.at table.count) (strings_found file table found are),
+      ap (λ (t : Rows). entries_at file style t.at t.count (mapped_strings file t.at (dynamic_count file t.at t.count))) p.1
+          ∙ ap (entries_at file style table.at table.count) (strings_found file table found are),
     )

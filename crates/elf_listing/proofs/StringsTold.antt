@@ -1,4 +1,5 @@
 -- The string of a dynamic entry, by whether it tells of one.
+use Rattle.elf_model.specs.Style.{Style}
 use Rattle.std.proofs.Common.{◌≡◌, ℕ, Bool, true, false, List, [], ◌∷◌, Option, None, Some, Result, Ok, Err, refl, sym, ap, ◌∙◌, subst}
 use Rattle.elf_model.specs.Checks.{first_refusal}
 use Rattle.elf_model.specs.LineFronts.{dynamic_front}
@@ -38,17 +39,17 @@ row_by_cases false table front at name = refl
 row_by_cases true (Ok strings) front at name = refl
 row_by_cases true (Err refusal) front at name = refl
 
-pub row_told : (file : List ℕ) (cap : ℕ) (strings : ℕ → Result (List ℕ) Refusal) (at index : ℕ)
-    → dynamic_row file cap strings at index ≡ told_row (dynamic_front file at index) at (told_name strings file cap at)
+pub row_told : (file : List ℕ) (style : Style) (strings : ℕ → Result (List ℕ) Refusal) (at index : ℕ)
+    → dynamic_row file style strings at index ≡ told_row (dynamic_front style.gnu file at index) at (told_name strings file style.cap at)
 unfolding dynamic_row
-row_told file cap strings at index =
-    row_by_cases (is_string_tag (d_tag file at)) (strings at) (dynamic_front file at index) at (λ table. shown table (d_un file at) cap)
+row_told file style strings at index =
+    row_by_cases (is_string_tag (d_tag file at)) (strings at) (dynamic_front style.gnu file at index) at (λ table. shown table (d_un file at) style.cap)
 
 -- the row of an entry at its place, by its front
-pub entry_is : (file front : List ℕ) (cap at index place : ℕ) (strings : ℕ → Result (List ℕ) Refusal) → front ≡ dynamic_front file at index → at ≡ place
-    → dynamic_row file cap strings place index ≡ told_row front at (told_name strings file cap at)
-entry_is file front cap at index place strings same here =
-    ap (λ p. dynamic_row file cap strings p index) (sym here) ∙ (row_told file cap strings at index ∙ ap (λ text. told_row text at (told_name strings file cap at)) (sym same))
+pub entry_is : (file front : List ℕ) (style : Style) (at index place : ℕ) (strings : ℕ → Result (List ℕ) Refusal) → front ≡ dynamic_front style.gnu file at index → at ≡ place
+    → dynamic_row file style strings place index ≡ told_row front at (told_name strings file style.cap at)
+entry_is file front style at index place strings same here =
+    ap (λ p. dynamic_row file style strings p index) (sym here) ∙ (row_told file style strings at index ∙ ap (λ text. told_row text at (told_name strings file style.cap at)) (sym same))
 
 -- a string that could not be read
 pub Stopped-told : (a : Written) (front : List ℕ) (at : ℕ) (fault : Fault) (name : List ℕ) (told : Result (Result Shown Cause) Refusal) → ToldRead at (Err fault) name told

@@ -20,18 +20,18 @@ use Rattle.elf_listing.specs.declared.listing.Listing.{Listing}
 
 -- the name at an index of a string table, for the entry at an offset; without a table it is empty
 pub record FetchesName {S W : Type 0} {s : Sources S} {w : Sinks W} (old new : Listing S W s w) (result : Result NameEnd Fault) (names : Option Strings) (off at : ℕ) : Type 0 where
-  pub fetches : Fetches old new result (name_cost names old.cap.bytes)
-  pub read : (file : List ℕ) → old.src.now.seen.file ≡ Some file → NameRead at result new.name (shown_in file names off old.cap.bytes)
+  pub fetches : Fetches old new result (name_cost names old.style.cap.bytes)
+  pub read : (file : List ℕ) → old.src.now.seen.file ≡ Some file → NameRead at result new.name (shown_in file names off old.style.cap.bytes)
 
 -- the name of the symbol of an index, for the entry at an offset; symbol 0 has none, and for it nothing is read
 pub record FetchesSymbol {S W : Type 0} {s : Sources S} {w : Sinks W} (old new : Listing S W s w) (result : Result NameEnd Fault) (linked : Option (Rows × Strings)) (symbol at : ℕ) : Type 0 where
-  pub fetches : Fetches old new result (SYMBOL_SIZE + name_bytes old.cap.bytes)
+  pub fetches : Fetches old new result (SYMBOL_SIZE + name_bytes old.style.cap.bytes)
   pub unnamed : symbol ≡ 0 → new.src.now ≡ old.src.now
   pub read : (file : List ℕ) (header : ℕ) → old.src.now.seen.file ≡ Some file → RefersTo file header linked
-      → NameRead (symbol_named file old.cap.bytes header at symbol).0 result new.name (symbol_named file old.cap.bytes header at symbol).1
+      → NameRead (symbol_named file old.style.cap.bytes header at symbol).0 result new.name (symbol_named file old.style.cap.bytes header at symbol).1
 
 -- the string of the dynamic entry at an offset; it is empty where the entry tells of none
 pub record FetchesString {S W : Type 0} {s : Sources S} {w : Sinks W} (old new : Listing S W s w) (result : Result NameEnd Fault) (entry : Dyn) (strings : EntryStrings) (at : ℕ) : Type 0 where
-  pub fetches : Fetches old new result (name_bytes old.cap.bytes)
+  pub fetches : Fetches old new result (name_bytes old.style.cap.bytes)
   pub read : (file : List ℕ) → old.src.now.seen.file ≡ Some file → AreOf file strings → IsDyn file at entry
-      → ToldRead at result new.name (told_name (strings_told strings file) file old.cap.bytes at)
+      → ToldRead at result new.name (told_name (strings_told strings file) file old.style.cap.bytes at)

@@ -2,8 +2,10 @@
 use Rattle.std.specs.Prelude.{ℕ, ◌≡◌, ◌+◌, ◌*◌, ◌^◌, ◌<◌, List, Some, Result, IfSome, length}
 use Rattle.elf_model.specs.Bytes.{slice}
 use Rattle.elf_model.specs.Dynamic.{dynamic_at}
-use Rattle.elf_model.specs.Records.{e_phoff, e_machine, sh_offset, section_at}
+use Rattle.elf_model.specs.Records.{e_phoff, sh_offset, section_at}
 use Rattle.elf_model.specs.Names.{name_bytes}
+use Rattle.elf_model.specs.Style.{Style}
+use Rattle.elf_headers.specs.Permitted.{style_of}
 use Rattle.elf_model.specs.Tables.{SYMBOL_SIZE, RELA_SIZE, DYNAMIC_SIZE, strings_of}
 use Rattle.elf_model.specs.Listing.{Item, each}
 use Rattle.elf_model.specs.Rows.{segment_row, symbol_row, relocation_row, dynamic_row}
@@ -24,14 +26,14 @@ use Rattle.elf_headers.specs.declared.stop.Stop.{Stop}
 abbrev pub row_size : Kind → ℕ
 row_size Segments = 56
 row_size (Symbols section names) = SYMBOL_SIZE
-row_size (Relocations section machine linked) = RELA_SIZE
+row_size (Relocations section linked) = RELA_SIZE
 row_size (Dynamic strings) = DYNAMIC_SIZE
 
 -- how many bytes a row asks for at most beside its own
 abbrev pub own_cost : Kind → ℕ → ℕ
 own_cost Segments cap = 0
 own_cost (Symbols section names) cap = name_bytes cap
-own_cost (Relocations section machine linked) cap = SYMBOL_SIZE + name_bytes cap
+own_cost (Relocations section linked) cap = SYMBOL_SIZE + name_bytes cap
 own_cost (Dynamic strings) cap = name_bytes cap
 
 -- how many bytes the rows of a table ask for at most
@@ -39,34 +41,34 @@ abbrev pub rows_cost : Kind → Rows → ℕ → ℕ
 rows_cost kind table cap = table.count * (row_size kind + own_cost kind cap)
 
 -- the items of the row of an index, in a table at an offset
-abbrev pub row_items : Kind → List ℕ → ℕ → ℕ → ℕ → List Item
-row_items Segments file cap table_at index = segment_row file index
-row_items (Symbols section names) file cap table_at index = symbol_row file cap section (section_at file section) index
-row_items (Relocations section machine linked) file cap table_at index = relocation_row file cap section (section_at file section) index
-row_items (Dynamic strings) file cap table_at index = dynamic_row file cap (strings_told strings file) (dynamic_at table_at index) index
+abbrev pub row_items : Kind → List ℕ → Style → ℕ → ℕ → List Item
+row_items Segments file style table_at index = segment_row file style index
+row_items (Symbols section names) file style table_at index = symbol_row file style section (section_at file section) index
+row_items (Relocations section linked) file style table_at index = relocation_row file style section (section_at file section) index
+row_items (Dynamic strings) file style table_at index = dynamic_row file style (strings_told strings file) (dynamic_at table_at index) index
 
 -- the tables that a kind's names are read from lie within a source of this size
 abbrev pub KindWithin : ℕ → Kind → Type 0
 KindWithin size Segments = Unit {0}
 KindWithin size (Symbols section names) = StringsWithin size names
-KindWithin size (Relocations section machine linked) = IfSome linked (SymbolsWithin size)
+KindWithin size (Relocations section linked) = IfSome linked (SymbolsWithin size)
 KindWithin size (Dynamic strings) = AreWithin size strings
 
 -- a table at an offset is one of the file: it stands where the file's header or section tells, the tables that its names
--- are read from are those that the section refers to, and the machine is the file's
+-- are read from are those that the section refers to
 abbrev pub KindOf : List ℕ → ℕ → Kind → Type 0
 KindOf file table_at Segments = table_at ≡ e_phoff file
 KindOf file table_at (Symbols section names) =
     (strings_in file names ≡ strings_of file (section_at file section)) × (table_at ≡ sh_offset file (section_at file section))
-KindOf file table_at (Relocations section machine linked) =
-    (machine ≡ e_machine file) × RefersTo file (section_at file section) linked × (table_at ≡ sh_offset file (section_at file section))
+KindOf file table_at (Relocations section linked) =
+    RefersTo file (section_at file section) linked × (table_at ≡ sh_offset file (section_at file section))
 KindOf file table_at (Dynamic strings) = AreOf file strings
 
 -- an index of a kind's rows fits the column's type
 abbrev pub IndexFits : Kind → ℕ → Type 0
 IndexFits Segments index = index < 2 ^ 16
 IndexFits (Symbols section names) index = Unit {0}
-IndexFits (Relocations section machine linked) index = Unit {0}
+IndexFits (Relocations section linked) index = Unit {0}
 IndexFits (Dynamic strings) index = Unit {0}
 
 -- a table of the rows of a kind, which lies within a source of this size with what it refers to
@@ -90,13 +92,13 @@ pub record RowFits (size : ℕ) (kind : Kind) (row : Row) : Type 0 where
 -- what a call did that shows a row: where the row is the file's, its items
 abbrev pub ListsRow : {S W X : Type 0} {s : Sources S} {w : Sinks W} → Listing S W s w → Listing S W s w → Result X Stop → Kind → Row → Type 0
 ListsRow old new result kind row =
-    Lists old new result (own_cost kind old.cap.bytes)
+    Lists old new result (own_cost kind old.style.cap.bytes)
     ((file : List ℕ) → old.src.now.seen.file ≡ Some file → (table_at : ℕ) → KindOf file table_at kind → IsRowOf file table_at kind row
-    → Writes old.out.now new.out.now result (row_items kind file old.cap.bytes table_at row.index))
+    → Writes old.out.now new.out.now result (row_items kind file (style_of old.style) table_at row.index))
 
 -- what a call did that shows the rows of a table: where the table is the file's, the items of all that are listed
 abbrev pub ListsRows : {S W X : Type 0} {s : Sources S} {w : Sinks W} → Listing S W s w → Listing S W s w → Result X Stop → Kind → Rows → Type 0
 ListsRows old new result kind table =
-    Lists old new result (rows_cost kind table old.cap.bytes)
+    Lists old new result (rows_cost kind table old.style.cap.bytes)
     ((file : List ℕ) → old.src.now.seen.file ≡ Some file → (0 < table.count → KindOf file table.at kind)
-    → Writes old.out.now new.out.now result (each (row_items kind file old.cap.bytes table.at) 0 (rows_listed kind file table)))
+    → Writes old.out.now new.out.now result (each (row_items kind file (style_of old.style) table.at) 0 (rows_listed kind file table)))

@@ -32,7 +32,7 @@ ListsNote old new result row index =
 abbrev pub ListsNotes : {S W X : Type 0} {s : Sources S} {w : Sinks W} → Listing S W s w → Listing S W s w → Result X Stop → Rows → ℕ → ℕ → Type 0
 ListsNotes old new result table align index =
     Lists old new result table.count
-    (Shows old new result (λ file. walk_rows old.cap.bytes index table.at (walked (note_align align) (slice file table.at table.count))))
+    (Shows old new result (λ file. walk_rows old.style.cap.bytes index table.at (walked (note_align align) (slice file table.at table.count))))
 
 -- the rows of notes whose places are file offsets
 abbrev pub note_items : ℕ → ℕ → Walk → List Item

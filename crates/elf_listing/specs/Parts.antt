@@ -6,6 +6,7 @@ use Rattle.elf_model.specs.Names.{Shown, shown, name_bytes}
 use Rattle.elf_model.specs.Records.{section_at, segment_at}
 use Rattle.elf_model.specs.Report.{table_rows}
 use Rattle.elf_model.specs.Rows.{no_name, section_row, segment_row}
+use Rattle.elf_model.specs.Style.{Style}
 use Rattle.elf_model.specs.TableKinds.{symbols, relocations, section_notes, segment_notes, section_dynamic, segment_dynamic}
 use Rattle.elf_model.specs.declared.causes.Cause.{Cause}
 use Rattle.elf_headers.specs.Load.{Opened}
@@ -37,19 +38,19 @@ header_count SectionDynamic store = store.loaded
 header_count SegmentDynamic store = store.segments
 
 -- the items of the header of an index
-abbrev pub header_items : Part → ℕ → ℕ → List ℕ → List Item
-header_items Headers cap i file = section_row file cap i
-header_items Segments cap i file = segment_row file i
-header_items Symbols cap i file = table_rows symbols file cap i (section_at file i)
-header_items Relocations cap i file = table_rows relocations file cap i (section_at file i)
-header_items SectionNotes cap i file = table_rows section_notes file cap i (section_at file i)
-header_items SegmentNotes cap i file = table_rows segment_notes file cap i (segment_at file i)
-header_items SectionDynamic cap i file = table_rows section_dynamic file cap i (section_at file i)
-header_items SegmentDynamic cap i file = table_rows segment_dynamic file cap i (segment_at file i)
+abbrev pub header_items : Part → Style → ℕ → List ℕ → List Item
+header_items Headers style i file = section_row file style i
+header_items Segments style i file = segment_row file style i
+header_items Symbols style i file = table_rows symbols file style i (section_at file i)
+header_items Relocations style i file = table_rows relocations file style i (section_at file i)
+header_items SectionNotes style i file = table_rows section_notes file style i (section_at file i)
+header_items SegmentNotes style i file = table_rows segment_notes file style i (segment_at file i)
+header_items SectionDynamic style i file = table_rows section_dynamic file style i (section_at file i)
+header_items SegmentDynamic style i file = table_rows segment_dynamic file style i (segment_at file i)
 
 -- the items of so many headers
-abbrev pub part_items : Part → ℕ → ℕ → List ℕ → List Item
-part_items part cap count file = each (λ i. header_items part cap i file) 0 count
+abbrev pub part_items : Part → Style → ℕ → List ℕ → List Item
+part_items part style count file = each (λ i. header_items part style i file) 0 count
 
 -- the name that an index gives in a string table of the file, as it is shown; empty without a string table
 abbrev pub shown_in : List ℕ → Option Strings → ℕ → ℕ → Result Shown Cause

@@ -8,6 +8,7 @@ use Rattle.elf_model.specs.Listing.{has_tables}
 use Rattle.elf_model.specs.declared.causes.Refusal.{Refusal}
 use Rattle.elf_source.specs.Source.{Counting, Keeps, Faults}
 use Rattle.elf_source.specs.Output.{Written, Takes, TakesFront, OutFails}
+use Rattle.elf_headers.specs.Permitted.{style_of}
 use Rattle.elf_headers.specs.declared.caps.Caps.{Caps}
 use Rattle.elf_headers.specs.declared.stop.Stop.{Stop}
 use Rattle.elf_headers.specs.declared.stop.Stop.TheVariants.{Refused, Source, Out}
@@ -24,7 +25,7 @@ Wrote old new (Err (Out cause)) text fault = TakesFront old new text
 pub record Reports {X : Type 0} (file : List ℕ) (caps : Caps) (parts : ℕ) (old new : Written) (result : Result X Stop) : Type 0 where
   pub text : List ℕ
   pub fault : Option Refusal
-  pub listed : IsBudgeted caps.limits.budget file caps.limits.headers caps.name.bytes parts text fault
+  pub listed : IsBudgeted caps.limits.budget file caps.limits.headers (style_of caps.style) parts text fault
   pub wrote : Wrote old new result text fault
 
 -- what a fault says of the source and the output: the source's names the read that failed
@@ -37,7 +38,7 @@ FaultSays old new out (Out fault) = OutFails out fault
 -- header alone where no table is asked for; never more than the budget; and where the answer is that the budget is used up,
 -- fewer than 4,096 bytes of it are left, and the answer names the read that it had no room for
 pub record AsksWithin {X : Type 0} (caps : Caps) (parts : ℕ) (old new : Counting) (result : Result X Stop) : Type 0 where
-  pub ceiling : new.asked ≤ old.asked + ceiling old.seen.size caps.limits.headers caps.name.bytes
+  pub ceiling : new.asked ≤ old.asked + ceiling old.seen.size caps.limits.headers caps.style.cap.bytes
   pub unread : (refusal : Refusal) → first_refusal (length_checks old.seen.size) ≡ Some refusal → new.seen ≡ old.seen × new.asked ≡ old.asked
   pub alone : has_tables parts ≡ false → new.asked ≤ old.asked + 64
   pub budget : IfSome caps.limits.budget (λ bytes. new.asked ≤ old.asked + bytes)

@@ -24,7 +24,7 @@ rows_left file (Entries entries) = entries_left file entries
 abbrev pub rows_listed : Kind → List ℕ → Rows → ℕ
 rows_listed Segments file table = table.count
 rows_listed (Symbols section names) file table = table.count
-rows_listed (Relocations section machine linked) file table = table.count
+rows_listed (Relocations section linked) file table = table.count
 rows_listed (Dynamic strings) file table = dynamic_count file table.at table.count
 
 -- a cursor before the first row of a table

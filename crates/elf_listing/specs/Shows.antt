@@ -76,7 +76,7 @@ pub record SameFile {S W : Type 0} {s : Sources S} {w : Sinks W} (old new : List
   pub same_src : new.src.ghost_name ≡ old.src.ghost_name
   pub same_out : new.out.ghost_name ≡ old.out.ghost_name
   pub same_file : new.file ≡ old.file
-  pub same_cap : new.cap ≡ old.cap
+  pub same_style : new.style ≡ old.style
 
 -- what a call costs that has some credit before it, and some after it: it asked for no more than n bytes and what it took of
 -- the credit, and a stop says what is so

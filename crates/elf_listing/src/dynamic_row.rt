@@ -45,9 +45,10 @@ impl<S: Source, W: Sink> Listing<'_, '_, '_, S, W> {
         requires { RowFits self.old.src.now.seen.size (Dynamic strings.now) row.now }
         ensures { ListsRow self.old self.new result (Dynamic strings.now) row.now }
     {
+        let gnu = self.style.gnu;
         let entry = Dyn::decode(whole_row(row));
         let end = self.read_string(&entry, strings, row.at)?;
-        self.named_line(dynamic_front(row.index, &entry), end)
+        self.named_line(dynamic_front(row.index, &entry, gnu), end)
     }
 
     /// Reads the string that an entry at the file offset `at` tells of, which is empty where it

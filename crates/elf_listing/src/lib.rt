@@ -22,5 +22,5 @@ pub use elf_lines::{
     cause_word, dynamic_front, note_front, relocation_front, section_front, segment_row, show_note,
     show_refusal, show_steps, show_symbol, show_told, symbol_front,
 };
-pub use showing::show;
+pub use showing::{list, show};
 pub use telling::show_stop;

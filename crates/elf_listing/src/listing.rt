@@ -1,14 +1,17 @@
 //! What a listing is written with.
+ghost use Rattle.std.specs.Prelude.{◌≡◌, ℕ, List, Some};
+ghost use Rattle.elf_model.specs.Records.{e_machine};
 ghost use Rattle.elf_names.specs.Ahead.{AgreesWith};
 ghost use Rattle.elf_listing.specs.Viewed.{IsViewed};
 ghost use Rattle.elf_headers.specs.Load.{IsOpen};
 
+use elf_lines::Naming;
 use elf_names::ReadAhead;
 use elf_source::{Counted, Out, Sink, Source};
-use elf_table::{Cap, File, NameBuf};
+use elf_table::{File, NameBuf, Style};
 
-/// A source that is read, an output that is written, the file that was loaded, how many bytes of a
-/// name are shown, a buffer for a name, and the names and symbols that were read ahead. What shows
+/// A source that is read, an output that is written, the file that was loaded, how its rows are
+/// shown, a buffer for a name, and the names and symbols that were read ahead. What shows
 /// a part of the file is a method.
 #[derive(Drop)]
 pub struct Listing<'s, 'o, 'f, S: Source, W: Sink> {
@@ -18,8 +21,8 @@ pub struct Listing<'s, 'o, 'f, S: Source, W: Sink> {
     pub out: &'o mut Out<W>,
     /// The file that was loaded.
     pub file: File<'f>,
-    /// How many bytes of a name are shown.
-    pub cap: Cap,
+    /// How rows are shown.
+    pub style: Style,
     /// The last name that was read.
     pub name: NameBuf,
     /// The names and symbols that were read ahead.
@@ -27,4 +30,18 @@ pub struct Listing<'s, 'o, 'f, S: Source, W: Sink> {
     pub ghost loaded: { IsOpen src.now file.loaded file.store.now },
     pub ghost viewed: { IsViewed src.now.seen.file file.loaded file.store.now },
     pub ghost held: { AgreesWith src.now.seen.file ahead },
+}
+
+impl<S: Source, W: Sink> Listing<'_, '_, '_, S, W> {
+    /// How numbers are named in the file's lines.
+    pub(crate) fn naming(&self) -> Naming
+        ensures gnu { result.gnu ≡ self.now.style.gnu }
+        ensures machine { (file : List ℕ) → self.now.src.now.seen.file ≡ Some file →
+            result.machine ≡ e_machine file }
+    {
+        Naming {
+            gnu: self.style.gnu,
+            machine: self.file.loaded.header().e_machine,
+        }
+    }
 }

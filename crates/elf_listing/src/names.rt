@@ -18,7 +18,8 @@ impl<S: Source, W: Sink> Listing<'_, '_, '_, S, W> {
         requires { StringsWithin self.old.src.now.seen.size index.names }
         ensures { FetchesName self.old self.new result (Some index.names) index.off index.at }
     {
-        self.ahead.name(self.src, index, self.cap, &mut self.name)
+        self.ahead
+            .name(self.src, index, self.style.cap, &mut self.name)
     }
 
     /// Reads the name of a section at the index `off`; without a string table it is empty. A

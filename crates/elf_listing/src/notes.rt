@@ -20,7 +20,7 @@ impl<S: Source, W: Sink> Listing<'_, '_, '_, S, W> {
         ensures { ListsNotes self.old self.new result table align index }
     {
         let mut cursor = NoteCursor::new(table, align);
-        'notes: while cursor.advance(self.src, self.cap, &mut self.name)? {
+        'notes: while cursor.advance(self.src, self.style.cap, &mut self.name)? {
             self.note_row(&cursor.row(), index)?;
         }
         Ok(())

@@ -24,17 +24,17 @@ impl<S: Source, W: Sink> Listing<'_, '_, '_, S, W> {
         &mut self,
         row: &Row<'_>,
         section: u16,
-        machine: u16,
         linked: Linked,
     ) -> Result<(), Stop>
-        requires { let kind = Relocations section machine linked in
+        requires { let kind = Relocations section linked in
             RowFits self.old.src.now.seen.size kind row.now }
-        ensures { ListsRow self.old self.new result (Relocations section machine linked) row.now }
+        ensures { ListsRow self.old self.new result (Relocations section linked) row.now }
     {
+        let naming = self.naming();
         let entry = Rela::decode(whole_row(row));
         let symbol = entry.symbol();
         let end = self.read_symbol(linked, symbol, row.at)?;
-        self.named_line(relocation_front(section, machine, &entry), end)
+        self.named_line(relocation_front(section, &entry, naming), end)
     }
 
     /// Reads the name of the symbol of an index, which is empty for symbol 0 (gABI 4, Symbol

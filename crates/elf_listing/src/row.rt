@@ -18,7 +18,8 @@ impl<S: Source, W: Sink> Listing<'_, '_, '_, S, W> {
         ensures { ListsRow self.old self.new result Segments row.now }
     {
         let header = Phdr::decode(whole_row(row));
-        self.out.put(&segment_row(row.index as u16, &header))?;
+        self.out
+            .put(&segment_row(row.index as u16, &header, self.style.gnu))?;
         Ok(())
     }
 
@@ -33,6 +34,7 @@ impl<S: Source, W: Sink> Listing<'_, '_, '_, S, W> {
         requires { RowFits self.old.src.now.seen.size (Symbols section names.now) row.now }
         ensures { ListsRow self.old self.new result (Symbols section names.now) row.now }
     {
+        let naming = self.naming();
         let symbol = Sym::decode(whole_row(row));
         let off = u64::from(symbol.st_name);
         let end = self.read_name(NameIndex {
@@ -40,7 +42,7 @@ impl<S: Source, W: Sink> Listing<'_, '_, '_, S, W> {
             off,
             at: row.at,
         })?;
-        self.named_line(symbol_front(section, row.index, &symbol), end)
+        self.named_line(symbol_front(section, row.index, &symbol, naming), end)
     }
 
     /// Writes a line that ends in the name that was read.

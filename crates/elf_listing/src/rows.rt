@@ -23,8 +23,6 @@ pub enum Kind<'f> {
     Relocations {
         /// The index of the section.
         section: u16,
-        /// The machine of the file.
-        machine: u16,
         /// The symbols that they refer to, with their names.
         linked: Option<(Table, Names)>,
     },
@@ -57,11 +55,7 @@ impl<S: Source, W: Sink> Listing<'_, '_, '_, S, W> {
         match kind {
             Kind::Segments => self.segment_row(row),
             Kind::Symbols { section, names } => self.symbol_row(row, *section, names),
-            Kind::Relocations {
-                section,
-                machine,
-                linked,
-            } => self.relocation_row(row, *section, *machine, *linked),
+            Kind::Relocations { section, linked } => self.relocation_row(row, *section, *linked),
             Kind::Dynamic { strings } => self.dynamic_row(row, strings),
         }
     }

@@ -21,12 +21,13 @@ impl<S: Source, W: Sink> Listing<'_, '_, '_, S, W> {
         requires { section < self.old.file.store.now.loaded }
         ensures { ListsHeader Headers self.old self.new result section }
     {
+        let naming = self.naming();
         let header = self.file.section(section);
         let place = self.file.place(section);
         let names = self.file.names();
         let off = header.sh_name;
         let end = self.read_section_name(names, off, place)?;
-        self.named_line(section_front(section, &header), end)
+        self.named_line(section_front(section, &header, naming), end)
     }
 
     /// Shows the symbols of a section, where it holds symbols: a `Y` line each, or the first
@@ -55,15 +56,7 @@ impl<S: Source, W: Sink> Listing<'_, '_, '_, S, W> {
         }
         let found = self.file.relocations(section)?;
         let (table, linked) = found;
-        let machine = self.file.loaded.header().e_machine;
-        self.rows(
-            table,
-            &Kind::Relocations {
-                section,
-                machine,
-                linked,
-            },
-        )
+        self.rows(table, &Kind::Relocations { section, linked })
     }
 
     /// Shows the notes of a section, where it holds notes: an `N` line each, or the refusal of its

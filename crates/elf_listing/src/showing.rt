@@ -4,17 +4,19 @@ ghost use Rattle.std.specs.Prelude.{◌≡◌, ◌+◌, ◌-◌, ◌^◌, ◌≤
 ghost use Rattle.std.specs.Prelude.{Some, None, Ok, IfErr, OnOk};
 ghost use Rattle.elf_model.specs.Checks.{first_refusal, length_checks};
 ghost use Rattle.elf_model.specs.declared.causes.Refusal.{Refusal as Refuses};
-ghost use Rattle.elf_model.specs.Cost.{cost, ceiling, behind_header};
+ghost use Rattle.elf_model.specs.Cost.{listing_cost, ceiling, behind_header};
 ghost use Rattle.elf_model.specs.Lines.{header_line};
 ghost use Rattle.elf_model.specs.Listing.{Line as LineItem, has, has_tables, where_asked, HEADER};
 ghost use Rattle.elf_model.specs.Listing.{SEGMENTS, NOTES, DYNAMIC};
-ghost use Rattle.elf_model.specs.Report.{items, load_items, table_items};
+ghost use Rattle.elf_model.specs.Report.{listing as listed_items, load_items, table_items};
+ghost use Rattle.elf_model.specs.Style.{viewed as view_of};
 ghost use Rattle.elf_record.specs.Ehdr.{IsEhdr};
 ghost use Rattle.elf_listing.specs.Parts.{tables_listed};
 ghost use Rattle.elf_listing.specs.Viewed.{AwaitsView, IsReady, view_cost, viewed};
 ghost use Rattle.elf_source.specs.Source.{Reads};
 ghost use Rattle.elf_headers.specs.Faults.{HeaderRead, IsOfRead, Says};
 ghost use Rattle.elf_headers.specs.Load.{Belongs};
+ghost use Rattle.elf_headers.specs.Permitted.{style_of};
 ghost use Rattle.elf_headers.specs.Store.{HoldsSegments};
 ghost use Rattle.elf_listing.specs.Reports.{Reports, FaultSays, AsksWithin, Leaves};
 ghost use Rattle.elf_listing.specs.Shows.{Costs, IsOfOutput, Writes};
@@ -26,7 +28,7 @@ use elf_lines::header_row;
 use elf_names::ReadAhead;
 use elf_record::{Ehdr, Parts};
 use elf_source::{Counted, Out, Sink, Source};
-use elf_table::{Cap, Caps, Fault, File, HeaderStore, Loaded, NameBuf, Stop, header, load};
+use elf_table::{Caps, Fault, File, HeaderStore, Loaded, NameBuf, Stop, Style, header, load};
 
 /// All parts but the file header's.
 const TABLES: Parts = Parts(126);
@@ -34,7 +36,8 @@ const TABLES: Parts = Parts(126);
 /// Writes the listing of a file, as far as `parts` has it: the file header, the section headers,
 /// the program headers, the symbols, the relocation entries, the notes, the dynamic entries; at the
 /// first fault its line ends the listing. Notes and dynamic entries are those of the sections, and
-/// in a file without sections those of the segments. The store has a slot for each header that the
+/// in a file without sections those of the segments; by a style that finds tables by the program
+/// headers all files are listed as if their file header told of no sections. The store has a slot for each header that the
 /// caps permit, and is loaded with the file's section headers, or with the program headers of a
 /// file without any. At most 2^127 bytes were asked of the source before. Where the caps have a
 /// budget no more is read, and the line of a refusal for want of budget may end the listing sooner;
@@ -59,12 +62,13 @@ pub fn show<S: Source, W: Sink>(
     ensures text { (file : List ℕ) → src.old.seen.file ≡ Some file →
         Reports file caps parts.0 out.old out.new result }
     ensures cost { (file : List ℕ) → src.old.seen.file ≡ Some file →
-        src.new.asked ≤ src.old.asked + cost file caps.limits.headers caps.name.bytes parts.0 }
+        src.new.asked ≤ src.old.asked
+        + listing_cost file caps.limits.headers (style_of caps.style) parts.0 }
     // For every source.
     ensures asks { AsksWithin caps parts.0 src.old src.new result }
 {
     src.limit(caps.limits.budget);
-    let listed = list(src, store, caps.name, parts, out);
+    let listed = list(src, store, caps.style, parts, out);
     src.limit(None);
     match listed {
         Ok(()) => Ok(()),
@@ -72,29 +76,37 @@ pub fn show<S: Source, W: Sink>(
     }
 }
 
-/// Lists the file header and what stands behind it, up to the first fault.
-fn list<S: Source, W: Sink>(
+/// Writes the lines of a listing as [`show`] does, within the limit that is set on the source, and
+/// leaves it to the caller to tell why it stopped: no line of a refusal is written. The store is
+/// loaded as by `show`, for as many headers as it has slots.
+///
+/// # Errors
+/// A refusal of the file, or for want of budget: the lines before it were written. A fault of the
+/// source or of the output, as of `show`.
+pub fn list<S: Source, W: Sink>(
     src: &mut Counted<S>,
     store: &mut HeaderStore,
-    cap: Cap,
+    style: Style,
     parts: Parts,
     out: &mut Out<W>,
 ) -> Result<(), Stop>
     ensures slots { store.new.slots ≡ store.old.slots }
     ensures grows { Grows out.old out.new }
     ensures ceiling { Costs src.old src.new out.new result
-        (ceiling src.old.seen.size store.old.slots cap.bytes) }
+        (ceiling src.old.seen.size store.old.slots style.cap.bytes) }
     ensures unread { (refusal : Refuses) →
         first_refusal (length_checks src.old.seen.size) ≡ Some refusal → src.new ≡ src.old }
     ensures alone { has_tables parts.0 ≡ false → src.new.asked ≤ src.old.asked + 64 }
     ensures cost { (file : List ℕ) → src.old.seen.file ≡ Some file →
-        Costs src.old src.new out.new result (cost file store.old.slots cap.bytes parts.0) }
+        Costs src.old src.new out.new result
+        (listing_cost file store.old.slots (style_of style) parts.0) }
     ensures text { (file : List ℕ) → src.old.seen.file ≡ Some file →
-        Writes out.old out.new result (items file store.old.slots cap.bytes parts.0) }
+        Writes out.old out.new result
+        (listed_items file store.old.slots (style_of style) parts.0) }
 {
     let header = header(src)?;
     list_header(&header, parts, out)?;
-    list_loaded(src, store, &header, cap, parts, out)
+    list_viewed(src, store, &header, style, parts, out)
 }
 
 /// Lists the file header, where the parts have it: its `H` line (gABI 4, ELF Header).
@@ -111,13 +123,14 @@ fn list_header<W: Sink>(header: &Ehdr, parts: Parts, out: &mut Out<W>) -> Result
     Ok(())
 }
 
-/// Loads the headers and lists the tables, where the parts have more than the file header.
+/// Lists what stands behind the file header, of the file that the style looks at: where tables are
+/// found by the program headers, what the file header tells of section headers is hidden meanwhile.
 /// `header` is the file's header.
-fn list_loaded<S: Source, W: Sink>(
+fn list_viewed<S: Source, W: Sink>(
     src: &mut Counted<S>,
     store: &mut HeaderStore,
     header: &Ehdr,
-    cap: Cap,
+    style: Style,
     parts: Parts,
     out: &mut Out<W>,
 ) -> Result<(), Stop>
@@ -126,20 +139,55 @@ fn list_loaded<S: Source, W: Sink>(
     ensures slots { store.new.slots ≡ store.old.slots }
     ensures grows { Grows out.old out.new }
     ensures below { Costs src.old src.new out.new result
-        (ceiling src.old.seen.size store.old.slots cap.bytes - 64) }
+        (ceiling src.old.seen.size store.old.slots style.cap.bytes - 64) }
+    ensures alone { has_tables parts.0 ≡ false → src.new.asked ≡ src.old.asked }
+    ensures cost { (file : List ℕ) → src.old.seen.file ≡ Some file →
+        Costs src.old src.new out.new result
+        (behind_header (view_of (style_of style) file) store.old.slots style.cap.bytes parts.0) }
+    ensures text { (file : List ℕ) → src.old.seen.file ≡ Some file →
+        Writes out.old out.new result
+        (load_items (view_of (style_of style) file) store.old.slots (style_of style) parts.0) }
+{
+    if !style.by_segments {
+        return list_loaded(src, store, header, style, parts, out);
+    }
+    let hides = src.hides();
+    src.hide_sections(true);
+    let listed = list_loaded(src, store, &header.without_sections(), style, parts, out);
+    src.hide_sections(hides);
+    listed
+}
+
+/// Loads the headers and lists the tables, where the parts have more than the file header.
+/// `header` is the file's header.
+fn list_loaded<S: Source, W: Sink>(
+    src: &mut Counted<S>,
+    store: &mut HeaderStore,
+    header: &Ehdr,
+    style: Style,
+    parts: Parts,
+    out: &mut Out<W>,
+) -> Result<(), Stop>
+    requires header { (file : List ℕ) → src.old.seen.file ≡ Some file →
+        HeaderRead file (Ok header.now) }
+    ensures slots { store.new.slots ≡ store.old.slots }
+    ensures grows { Grows out.old out.new }
+    ensures below { Costs src.old src.new out.new result
+        (ceiling src.old.seen.size store.old.slots style.cap.bytes - 64) }
     ensures alone { has_tables parts.0 ≡ false → src.new ≡ src.old }
     ensures cost { (file : List ℕ) → src.old.seen.file ≡ Some file →
         Costs src.old src.new out.new result
-        (behind_header file store.old.slots cap.bytes parts.0) }
+        (behind_header file store.old.slots style.cap.bytes parts.0) }
     ensures text { (file : List ℕ) → src.old.seen.file ≡ Some file →
-        Writes out.old out.new result (load_items file store.old.slots cap.bytes parts.0) }
+        Writes out.old out.new result
+        (load_items file store.old.slots (style_of style) parts.0) }
 {
     if !parts.intersects(TABLES) {
         return Ok(());
     }
     let loaded = load(src, store, header)?;
     load_view(src, store, &loaded, parts)?;
-    list_tables(src, out, loaded, store, cap, parts)
+    list_tables(src, out, loaded, store, style, parts)
 }
 
 /// Loads the program headers of a file without sections, where the parts need them: to be shown, or
@@ -182,15 +230,15 @@ fn list_tables<S: Source, W: Sink>(
     out: &mut Out<W>,
     loaded: Loaded,
     store: &HeaderStore,
-    cap: Cap,
+    style: Style,
     parts: Parts,
 ) -> Result<(), Stop>
     requires { IsReady parts.0 src.old loaded store.now }
     ensures grows { Grows out.old out.new }
     ensures costs { Costs src.old src.new out.new result
-        (tables_listed parts.0 loaded store.now cap.bytes) }
+        (tables_listed parts.0 loaded store.now style.cap.bytes) }
     ensures text { (file : List ℕ) → src.old.seen.file ≡ Some file →
-        Writes out.old out.new result (table_items file cap.bytes parts.0) }
+        Writes out.old out.new result (table_items file (style_of style) parts.0) }
 {
     let name = NameBuf::new();
     let ahead = ReadAhead::new();
@@ -199,7 +247,7 @@ fn list_tables<S: Source, W: Sink>(
         src,
         out,
         file,
-        cap,
+        style,
         name,
         ahead,
     };

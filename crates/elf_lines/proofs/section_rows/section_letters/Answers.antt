@@ -1,68 +1,27 @@
--- The letters stand in the order of the puts, each by its own flag.
-use Rattle.std.proofs.Common.{◌≡◌, ◌==◌, Bool, true, false, not, if◌then◌else◌, List, [], ◌++◌, ℕ, refl, append_assoc, append-nil, bit_and}
-use Rattle.std.specs.Prelude.{codes}
-use Rattle.std.proofs.lemmas.Nat.{and_comm}
-use Rattle.bitflags.proofs.OnLiterals.{bitflags_on_literals}
-use Rattle.elf_model.specs.NameTables.{section_flags, section_flags_text, letters_of}
+-- The letters of both tables, the mark, and twelve columns.
+use Rattle.std.proofs.Common.{◌≡◌, ◌==◌, ◌++◌, ℕ, not, Bool, true, false, if◌then◌else◌, List, [], ◌∷◌, refl, sym, append_assoc, bit_and}
+use Rattle.elf_model.specs.NameTables.{section_flags, section_flags_text, standard_section_flags, further_section_flags, letters_of, letters_and_mark}
 use Rattle.elf_lines.proofs.section_rows.section_letters.Goals as goal
 
 if-not : (b : Bool) (xs ys : List ℕ) → (if not b then xs else ys) ≡ (if b then ys else xs)
 if-not true xs ys = refl
 if-not false xs ys = refl
 
--- twelve texts put one behind the other, and eleven of them before the last
-twelve-joined : (a b c d e f g h i j k q : List ℕ)
-    → a ++ b ++ c ++ d ++ e ++ f ++ g ++ h ++ i ++ j ++ k ++ q
-    ≡ (a ++ (b ++ (c ++ (d ++ (e ++ (f ++ (g ++ (h ++ (i ++ (j ++ (k ++ []))))))))))) ++ q
-twelve-joined a b c d e f g h i j k q = simp (append_assoc, append-nil)
-
--- a flag's letter where it is set
-abbrev letter : ℕ → ℕ → List ℕ → List ℕ
-letter bits flag text = if bit_and bits flag == flag then text else []
-
-letters-joined : (bits : ℕ)
-    → letter bits 0x1 (codes "W") ++ letter bits 0x2 (codes "A") ++ letter bits 0x4 (codes "X") ++ letter bits 0x10 (codes "M")
-    ++ letter bits 0x20 (codes "S") ++ letter bits 0x40 (codes "I") ++ letter bits 0x80 (codes "L") ++ letter bits 0x100 (codes "O")
-    ++ letter bits 0x200 (codes "G") ++ letter bits 0x400 (codes "T") ++ letter bits 0x800 (codes "C")
-    ++ (if bit_and bits 0xff7 == bits then [] else codes "?")
-    ≡ section_flags_text bits
-unfolding section_flags_text section_flags letters_of
-letters-joined bits =
-    twelve-joined (letter bits 0x1 (codes "W")) (letter bits 0x2 (codes "A")) (letter bits 0x4 (codes "X")) (letter bits 0x10 (codes "M"))
-    (letter bits 0x20 (codes "S")) (letter bits 0x40 (codes "I")) (letter bits 0x80 (codes "L")) (letter bits 0x100 (codes "O"))
-    (letter bits 0x200 (codes "G")) (letter bits 0x400 (codes "T")) (letter bits 0x800 (codes "C"))
-    (if bit_and bits 0xff7 == bits then [] else codes "?")
+letters-of-both : (flags more : List (ℕ × List ℕ)) (n : ℕ) → letters_of (flags ++ more) n ≡ letters_of flags n ++ letters_of more n
+unfolding letters_of
+letters-of-both [] more n = refl
+letters-of-both (entry ∷ flags) more n = rw (letters-of-both flags more n) (sym (append_assoc (if bit_and n entry.0 == entry.0 then entry.1 else []) (letters_of flags n) (letters_of more n)))
 
 pub returns-clause-text : goal.returns-clause-text
-unfolding bitflags_on_literals
+unfolding section_flags_text letters_and_mark section_flags
 returns-clause-text c =
     rw (
-      c.put_where-12.ensures.items,
-      c.put_where-11.ensures.items,
-      c.put_where-10.ensures.items,
-      c.put_where-9.ensures.items,
-      c.put_where-8.ensures.items,
-      c.put_where-7.ensures.items,
-      c.put_where-6.ensures.items,
-      c.put_where-5.ensures.items,
-      c.put_where-4.ensures.items,
-      c.put_where-3.ensures.items,
-      c.put_where-2.ensures.items,
+      c.in_twelve.ensures.text,
       c.put_where.ensures.items,
-      c.new-line.ensures,
-      c.contains.ensures tt,
-      c.contains-2.ensures tt,
-      c.contains-3.ensures tt,
-      c.contains-4.ensures tt,
-      c.contains-5.ensures tt,
-      c.contains-6.ensures tt,
-      c.contains-7.ensures tt,
-      c.contains-8.ensures tt,
-      c.contains-9.ensures tt,
-      c.contains-10.ensures tt,
-      c.contains-11.ensures tt,
-      c.contains_unknown_bits.ensures tt,
-      and_comm 0xff7 c.args.bits,
+      c.put_further_letters.ensures.items,
+      c.standard_letters-line.ensures.text,
+      c.flags_with_letters-known.ensures,
       if-not,
+      letters-of-both standard_section_flags (further_section_flags c.args.naming.gnu c.args.naming.machine) c.args.bits,
     )
-    (letters-joined c.args.bits)
+    refl

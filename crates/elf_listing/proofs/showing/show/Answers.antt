@@ -31,7 +31,7 @@ pub returns-in-Err-clause-asks : goal.returns-in-Err-clause-asks
 returns-in-Err-clause-asks g c =
     let end : c.list-listed.result ≡ Err c.in-Err.stop = search rules in
     let says = rw end at c.list-listed.ensures.ceiling.1 in
-    let n : ℕ = ceiling c.limit.new.self.seen.size c.args.store.now.slots c.args.caps.name.bytes in
+    let n : ℕ = ceiling c.limit.new.self.seen.size c.args.store.now.slots c.args.caps.style.cap.bytes in
     asks_within c.args.caps c.args.parts.0 c.args.src.now c.limit.new.self c.list-listed.new.src c.limit-2.new.self n _ c.requires.1 c.limit.ensures
     (rw (c.requires.0) at c.list-listed.ensures.ceiling.0) c.limit-2.ensures c.list-listed.ensures.unread c.list-listed.ensures.alone
     (λ refusal is. told_late _ _ _ _ _ n c.in-Err.stop _ c.show_stop.ensures.tells says refusal cc)

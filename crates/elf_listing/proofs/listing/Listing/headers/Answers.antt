@@ -1,8 +1,9 @@
 -- Each header is shown behind those before it.
+use Rattle.elf_headers.specs.Permitted.{style_of}
 use Rattle.std.proofs.Common.{◌≡◌, ℕ, List, refl, arith}
 use Rattle.std.proofs.lemmas.Result.{err_from_is_err_and}
 use Rattle.elf_model.specs.Listing.{Item}
-use Rattle.elf_headers.specs.declared.caps.Cap.{Cap}
+use Rattle.elf_headers.specs.declared.caps.Style.{Style}
 use Rattle.elf_table.specs.declared.file.File.{File}
 use Rattle.elf_listing.specs.Parts.{header_cost, header_count, header_items}
 use Rattle.elf_listing.specs.declared.parts.Part.{Part}
@@ -12,11 +13,11 @@ use Rattle.elf_listing.proofs.PartsLaws.{headers_stopped, headers_then}
 use Rattle.elf_listing.proofs.listing.Listing.headers.Goals as goal
 
 -- what a header asks for, and its items
-abbrev costs : Part → File → Cap → ℕ → ℕ
-costs part f cap = header_cost part f.loaded f.store.now cap.bytes
+abbrev costs : Part → File → Style → ℕ → ℕ
+costs part f style = header_cost part f.loaded f.store.now style.cap.bytes
 
-abbrev shown : Part → Cap → List ℕ → ℕ → List Item
-shown part cap file i = header_items part cap.bytes i file
+abbrev shown : Part → Style → List ℕ → ℕ → List Item
+shown part style file i = header_items part (style_of style) i file
 
 pub headers-init : goal.headers-init
 headers-init g c = record {

@@ -20,14 +20,14 @@ notes-init g c =
       same_table = n.its_table;
       same_align = n.its_align;
       not_failed = n.not_failed;
-      keeps = record { same_src = refl; same_out = refl; same_file = refl; same_cap = refl };
+      keeps = record { same_src = refl; same_out = refl; same_file = refl; same_style = refl };
       spends = Spends-none _ _ _ _ (omega arith);
       asked = omega (arith, unread);
       agrees = λ file held. rw n.ahead refl;
       grows = grows_not _;
       text = λ file held.
           let align = note_align c.args.align in
-          let cap = c.args.self.now.cap.bytes in
+          let cap = c.args.self.now.style.cap.bytes in
           let all = all_left align file c.new-cursor.result.ahead c.args.table.at c.args.table.count 4096 n.ahead in
           before_all _ _ _ (sym (ap (note_items cap c.args.index) all ∙ table_rows align cap c.args.index c.args.table.at (slice file c.args.table.at c.args.table.count)));
     }
@@ -43,7 +43,7 @@ returns-in_err-advance g c = record {
       let now = known.spends.reads.keeps.same_file ∙ held in
       let step = c.in_err-advance.ensures.steps in
       let tells = rw known.same_align at (step.tells file now (known.agrees file held) known.not_failed) in
-      rw (p.1, p.2) (before_fault _ _ _ c.args.self.now.cap.bytes c.args.index _ _ _ (step.leaves.1 known.not_failed) tells (known.text file held));
+      rw (p.1, p.2) (before_fault _ _ _ c.args.self.now.style.cap.bytes c.args.index _ _ _ (step.leaves.1 known.not_failed) tells (known.text file held));
 }
 
 pub returns-in_err-note_row : goal.returns-in_err-note_row
@@ -56,10 +56,10 @@ returns-in_err-note_row g c = record {
       let known = c.notes.invariant in
       let now = known.spends.reads.keeps.same_file ∙ held in
       let step = rw c.if-branch.true at c.in_ok-advance.ensures.steps in
-      let tells = rw (known.same_align, known.keeps.same_cap) at (step.tells file now (known.agrees file held)) in
+      let tells = rw (known.same_align, known.keeps.same_style) at (step.tells file now (known.agrees file held)) in
       let note = note_of _ _ _ tells.0 _ c.row.result _ c.row.ensures.shows tells.2 in
-      let next = ap (note_items c.args.self.now.cap.bytes c.args.index) tells.1 ∙ note_left c.args.self.now.cap.bytes c.args.index tells.0 _ in
-      rw (p.1, p.2) (before_stopped _ _ _ _ _ _ _ _ next (known.text file held) (c.in_err-note_row.ensures.shows c.args.self.now.cap.bytes tells.0 note));
+      let next = ap (note_items c.args.self.now.style.cap.bytes c.args.index) tells.1 ∙ note_left c.args.self.now.style.cap.bytes c.args.index tells.0 _ in
+      rw (p.1, p.2) (before_stopped _ _ _ _ _ _ _ _ next (known.text file held) (c.in_err-note_row.ensures.shows c.args.self.now.style.cap.bytes tells.0 note));
 }
 
 pub notes-preserved : goal.notes-preserved
@@ -81,7 +81,7 @@ notes-preserved g c =
         same_src = lists.same_src ∙ known.keeps.same_src;
         same_out = lists.same_out ∙ known.keeps.same_out;
         same_file = lists.same_file ∙ known.keeps.same_file;
-        same_cap = lists.same_cap ∙ known.keeps.same_cap;
+        same_style = lists.same_style ∙ known.keeps.same_style;
       };
       spends = Spends-to (Spends-then known.spends (Spends-then (Spends-reads credit reads) asks)) (omega (arith, known.asked, account, most));
       asked = omega (arith, known.asked, account, most);
@@ -89,10 +89,10 @@ notes-preserved g c =
       grows = grows_then known.grows c.in_ok-note_row.ensures.grows;
       text = λ file held.
           let now = known.spends.reads.keeps.same_file ∙ held in
-          let tells = rw (known.same_align, known.keeps.same_cap) at (step.tells file now (known.agrees file held)) in
+          let tells = rw (known.same_align, known.keeps.same_style) at (step.tells file now (known.agrees file held)) in
           let note = note_of _ _ _ tells.0 _ c.row.result _ c.row.ensures.shows tells.2 in
-          let next = ap (note_items c.args.self.now.cap.bytes c.args.index) tells.1 ∙ note_left c.args.self.now.cap.bytes c.args.index tells.0 _ in
-          before_more _ _ _ _ next (known.text file held) (c.in_ok-note_row.ensures.shows c.args.self.now.cap.bytes tells.0 note);
+          let next = ap (note_items c.args.self.now.style.cap.bytes c.args.index) tells.1 ∙ note_left c.args.self.now.style.cap.bytes c.args.index tells.0 _ in
+          before_more _ _ _ _ next (known.text file held) (c.in_ok-note_row.ensures.shows c.args.self.now.style.cap.bytes tells.0 note);
     }
 
 pub returns : goal.returns
@@ -105,7 +105,7 @@ returns g c = record {
       let now = known.spends.reads.keeps.same_file ∙ held in
       let step = rw c.if-branch.false at c.in_ok-advance.ensures.steps in
       let tells = rw known.same_align at (step.tells file now (known.agrees file held)) in
-      before_none c.args.self.now.cap.bytes c.args.index _ _ tells (known.text file held);
+      before_none c.args.self.now.style.cap.bytes c.args.index _ _ tells (known.text file held);
 }
 
 pub invariant_of-self : goal.invariant_of-self

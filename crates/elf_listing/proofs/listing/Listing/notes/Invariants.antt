@@ -13,7 +13,7 @@ use Rattle.elf_listing.proofs.listing.Listing.notes.Given as goal
 
 abbrev pub invariant-notes : goal.invariant-notes
 invariant-notes g l =
-    let cap = l.fn.self.cap.bytes in
+    let cap = l.fn.self.style.cap.bytes in
     let align = note_align l.fn.align in
     record {
       same_table : l.cursor.table ≡ l.fn.table;

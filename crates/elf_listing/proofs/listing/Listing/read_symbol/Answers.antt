@@ -14,7 +14,7 @@ returns-then-symbol-eq0 g c = record {
   fetches = search rules;
   unnamed = search rules;
   read = λ file header held linked.
-      rw (named_zero file c.args.self.now.cap.bytes header c.args.at c.args.symbol c.if-symbol-eq0.true) (ap (λ name. Ok (Whole name)) (sym c.clear.ensures));
+      rw (named_zero file c.args.self.now.style.cap.bytes header c.args.at c.args.symbol c.if-symbol-eq0.true) (ap (λ name. Ok (Whole name)) (sym c.clear.ensures));
 }
 
 pub returns-in_default : goal.returns-in_default
@@ -22,7 +22,7 @@ returns-in_default g c = record {
   fetches = search rules;
   unnamed = search rules;
   read = λ file header held linked.
-      rw c.refused.ensures (refuses_as _ _ _ (named_unlinked file c.args.self.now.cap.bytes header c.args.at c.args.symbol (ne_eqb c.args.symbol 0 c.if-symbol-eq0.false) (refers-nowhere file header _ c.in_default.is linked)));
+      rw c.refused.ensures (refuses_as _ _ _ (named_unlinked file c.args.self.now.style.cap.bytes header c.args.at c.args.symbol (ne_eqb c.args.symbol 0 c.if-symbol-eq0.false) (refers-nowhere file header _ c.in_default.is linked)));
 }
 
 pub returns-then-index-len : goal.returns-then-index-len
@@ -32,7 +32,7 @@ returns-then-index-len g c = record {
   read = λ file header held linked.
       let to = refers file header _ c.in-Some.found c.in-Some.is linked in
       let counted : c.len.result ≡ c.in-Some.found.0.count = c.len.ensures in
-      rw c.refused-then-index-len.ensures (refuses_as _ _ _ (named_beyond file c.args.self.now.cap.bytes header c.args.at c.args.symbol (ne_eqb c.args.symbol 0 c.if-symbol-eq0.false) to.0
+      rw c.refused-then-index-len.ensures (refuses_as _ _ _ (named_beyond file c.args.self.now.style.cap.bytes header c.args.at c.args.symbol (ne_eqb c.args.symbol 0 c.if-symbol-eq0.false) to.0
       (omega (arith, c.if-index-len.true, counted, c.from-index.ensures, to.1.counted))));
 }
 
@@ -44,9 +44,9 @@ returns g c = record {
       let to = refers file header _ c.in-Some.found c.in-Some.is linked in
       let counted : c.len.result ≡ c.in-Some.found.0.count = c.len.ensures in
       let below : c.args.symbol < c.in-Some.found.0.count = omega (arith, c.if-index-len.false, counted, c.from-index.ensures) in
-      let named = named_there file c.args.self.now.cap.bytes header c.args.at c.args.symbol (ne_eqb c.args.symbol 0 c.if-symbol-eq0.false) to.0 (omega (arith, below, to.1.counted)) in
+      let named = named_there file c.args.self.now.style.cap.bytes header c.args.at c.args.symbol (ne_eqb c.args.symbol 0 c.if-symbol-eq0.false) to.0 (omega (arith, below, to.1.counted)) in
       let decoded = c.in_ok-entry.ensures.read file held (c.args.self.now.held file held) in
-      let place = found_there file c.args.self.now.cap.bytes header c.args.symbol _ _ _ c.in-Some.found.0 c.in-Some.found.1 to.1 (omega (arith, below)) c.from-index.ensures c.place.ensures (c.from.ensures ∙ decoded.st_name) in
+      let place = found_there file c.args.self.now.style.cap.bytes header c.args.symbol _ _ _ c.in-Some.found.0 c.in-Some.found.1 to.1 (omega (arith, below)) c.from-index.ensures c.place.ensures (c.from.ensures ∙ decoded.st_name) in
       read_as _ _ _ _ (named ∙ place) (c.read_name.ensures.read file (c.in_ok-entry.ensures.ahead.costs.spends.reads.keeps.same_file ∙ held));
 }
 

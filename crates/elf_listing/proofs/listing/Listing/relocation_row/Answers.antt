@@ -1,6 +1,6 @@
 use Rattle.std.proofs.Common.{◌≡◌, ◌+◌, ◌*◌, ◌/◌, ◌^◌, ◌∙◌, ap, refl, [], arith}
 use Rattle.std.proofs.lemmas.Result.{err_from_is_err_and}
-use Rattle.elf_model.specs.LineFronts.{relocation_front}
+use Rattle.elf_headers.specs.Permitted.{style_of}
 use Rattle.elf_model.specs.Records.{section_at, sh_offset}
 use Rattle.elf_listing.proofs.RowLaws.{relocation_is, Writes-as, Stopped-name}
 use Rattle.elf_listing.proofs.ListsLaws.{Lists-named, Lists-unread}
@@ -11,17 +11,17 @@ returns-in_err-end g c =
     let p = err_from_is_err_and c.from_residual.result c.from_residual.ensures.1 in
     rw (p.1, p.2) (Lists-unread _ _ _ _ _ _ (omega arith) c.in_err-end.ensures.fetches (λ file held at of_kind row.
     let decoded = c.decode-entry.ensures.stands file c.args.row.now.at (c.whole_row.ensures ∙ row.bytes) in
-    let here : c.args.row.now.at ≡ sh_offset file (section_at file c.args.section) + c.args.row.now.index * 24 = omega (arith, of_kind.2, row.here) in
+    let here : c.args.row.now.at ≡ sh_offset file (section_at file c.args.section) + c.args.row.now.index * 24 = omega (arith, of_kind.1, row.here) in
     let symbol = c.symbol-symbol.ensures ∙ ap (λ n. n / 2 ^ 32) decoded.r_info in
-    rw (relocation_is file _ _ c.args.section (section_at file c.args.section) c.args.row.now.at _ c.args.row.now.index here refl symbol, c.in_err-end.ensures.fetches.1)
-    (Stopped-name _ _ _ _ [] _ (c.in_err-end.ensures.read file (section_at file c.args.section) held of_kind.1))))
+    rw (relocation_is file _ (style_of c.args.self.now.style) c.args.section (section_at file c.args.section) c.args.row.now.at _ c.args.row.now.index here refl symbol, c.in_err-end.ensures.fetches.1)
+    (Stopped-name _ _ _ _ [] _ (c.in_err-end.ensures.read file (section_at file c.args.section) held of_kind.0))))
 
 pub returns : goal.returns
 returns g c = Lists-named _ _ _ _ _ _ _ _ (omega arith) c.in_ok-end.ensures.fetches c.named_line.ensures (λ file held at of_kind row.
     let decoded = c.decode-entry.ensures.stands file c.args.row.now.at (c.whole_row.ensures ∙ row.bytes) in
-    let here : c.args.row.now.at ≡ sh_offset file (section_at file c.args.section) + c.args.row.now.index * 24 = omega (arith, of_kind.2, row.here) in
+    let here : c.args.row.now.at ≡ sh_offset file (section_at file c.args.section) + c.args.row.now.index * 24 = omega (arith, of_kind.1, row.here) in
     let symbol = c.symbol-symbol.ensures ∙ ap (λ n. n / 2 ^ 32) decoded.r_info in
-    let front = c.relocation_front.ensures file c.args.row.now.at decoded ∙ ap (λ m. relocation_front file c.args.row.now.at m c.args.section) of_kind.0 in
+    let front = rw (c.naming-naming.ensures.gnu, c.naming-naming.ensures.machine file held) at (c.relocation_front.ensures file c.args.row.now.at decoded) in
     rw (← c.in_ok-end.ensures.fetches.1)
-    (Writes-as _ _ _ (relocation_is file _ _ c.args.section (section_at file c.args.section) c.args.row.now.at _ c.args.row.now.index here front symbol)
-    (c.named_line.ensures.shows _ _ (c.in_ok-end.ensures.read file (section_at file c.args.section) held of_kind.1))))
+    (Writes-as _ _ _ (relocation_is file _ (style_of c.args.self.now.style) c.args.section (section_at file c.args.section) c.args.row.now.at _ c.args.row.now.index here front symbol)
+    (c.named_line.ensures.shows _ _ (c.in_ok-end.ensures.read file (section_at file c.args.section) held of_kind.0))))

@@ -1,4 +1,5 @@
 -- The table's checks and those of the symbols that it refers to stand before its rows.
+use Rattle.elf_headers.specs.Permitted.{style_of}
 use Rattle.std.proofs.Common.{rules, refl, sym, ap, ◌∙◌}
 use Rattle.std.proofs.lemmas.Bool.{eq-eqb, ne_eqb}
 use Rattle.std.proofs.lemmas.Result.{err_from_is_err_and}
@@ -33,13 +34,13 @@ pub returns : goal.returns
 unfolding relocations
 returns g c =
     let f = c.args.self.now.file in
-    let cap = c.args.self.now.cap.bytes in
+    let cap = c.args.self.now.style.cap.bytes in
+    let style = style_of c.args.self.now.style in
     let kind = sym c.section.ensures.fields.sh_type ∙ c.if-section-ne-SHT_RELA.false in
     Lists-within _ _ _ _ _ _ _ (section_within relocations (row f.store.now c.args.section) f.loaded.size _ cap 24 _ (eq-eqb _ _ kind) refl refl c.in_ok-found.ensures.table) c.rows.ensures (λ file held.
     let belongs = c.args.self.now.loaded.belongs file held in
     let at = section_at file c.args.section in
     let kind = sym (c.section.ensures.stands file belongs).sh_type ∙ c.if-section-ne-SHT_RELA.false in
     let found = c.in_ok-found.ensures.held file belongs in
-    let machine = ap (λ (header : Ehdr). header.e_machine) c.header-machine.ensures.value ∙ belongs.header.e_machine in
-    Writes-as _ _ _ (table_passes relocations file cap c.args.section at (eq-eqb _ _ kind) found.pass ∙ ap (each (relocation_row file cap c.args.section at) 0) (sym found.counted))
-    (c.rows.ensures.shows file held (λ some. (machine, found.refers some, found.placed))))
+    Writes-as _ _ _ (table_passes relocations file style c.args.section at (eq-eqb _ _ kind) found.pass ∙ ap (each (relocation_row file style c.args.section at) 0) (sym found.counted))
+    (c.rows.ensures.shows file held (λ some. (found.refers some, found.placed))))

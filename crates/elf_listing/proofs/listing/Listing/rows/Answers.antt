@@ -1,4 +1,5 @@
 -- Each row that the cursor gives is the file's, and is shown behind those before it.
+use Rattle.elf_headers.specs.Permitted.{style_of}
 use Rattle.std.proofs.Common.{rules, ◌≡◌, ◌+◌, ◌<◌, refl, ◌∙◌, arith}
 use Rattle.std.proofs.lemmas.Result.{err_from_is_err_and}
 use Rattle.elf_source.proofs.ReadsLaws.{Reads-then}
@@ -20,9 +21,9 @@ rows-init g c =
       same_table = n.its_table;
       not_failed = n.failed;
       counted = omega (arith, n.index, n.left);
-      keeps = record { same_src = refl; same_out = refl; same_file = refl; same_cap = refl };
+      keeps = record { same_src = refl; same_out = refl; same_file = refl; same_style = refl };
       spends = Spends-none _ _ _ _ (omega arith);
-      asked = omega (arith, account_begins (reading c.new-cursor.result) c.args.table c.args.kind.now c.args.self.now.cap.bytes c.requires.entry n.failed n.unread n.left);
+      asked = omega (arith, account_begins (reading c.new-cursor.result) c.args.table c.args.kind.now c.args.self.now.style.cap.bytes c.requires.entry n.failed n.unread n.left);
       agrees = λ file held. agrees_none file (reading c.new-cursor.result) n.held;
       listed = λ file held. omega (arith, n.index, n.rows file);
       grows = grows_not _;
@@ -37,7 +38,7 @@ returns-in_err-advance g c = record {
   shows = λ file held of_kind.
       let p = err_from_is_err_and c.from_residual.result c.from_residual.ensures.1 in
       let known = c.rows.invariant in
-      rw (p.1, p.2) (rows_unread (row_items c.args.kind.now file c.args.self.now.cap.bytes c.args.table.at) (reading c.rows.cursor).index _ _ _ _ _ (omega (arith, known.listed file held)) (c.in_err-advance.ensures.steps.at_next known.not_failed) (known.text file held of_kind));
+      rw (p.1, p.2) (rows_unread (row_items c.args.kind.now file (style_of c.args.self.now.style) c.args.table.at) (reading c.rows.cursor).index _ _ _ _ _ (omega (arith, known.listed file held)) (c.in_err-advance.ensures.steps.at_next known.not_failed) (known.text file held of_kind));
 }
 
 pub returns-in_err-row : goal.returns-in_err-row
@@ -47,7 +48,7 @@ returns-in_err-row g c = record {
     same_src = c.in_err-row.ensures.keeps.same_src ∙ c.rows.invariant.keeps.same_src;
     same_out = c.in_err-row.ensures.keeps.same_out ∙ c.rows.invariant.keeps.same_out;
     same_file = c.in_err-row.ensures.keeps.same_file ∙ c.rows.invariant.keeps.same_file;
-    same_cap = c.in_err-row.ensures.keeps.same_cap ∙ c.rows.invariant.keeps.same_cap;
+    same_style = c.in_err-row.ensures.keeps.same_style ∙ c.rows.invariant.keeps.same_style;
   };
   spent =
       let p = err_from_is_err_and c.from_residual-in_err-row.result c.from_residual-in_err-row.ensures.1 in
@@ -56,11 +57,11 @@ returns-in_err-row g c = record {
       let gives = step.gives in
       let account = c.in_ok-advance.ensures.account in
       let reads = c.in_ok-advance.ensures.reads in
-      let own = own_cost c.args.kind.now c.args.self.now.cap.bytes in
+      let own = own_cost c.args.kind.now c.args.self.now.style.cap.bytes in
       let credit = c.rows.self.ahead.credit in
       let within = account_row (reading c.rows.cursor) (reading c.advance.new.self) _ (c.advance.new.src.asked + credit) own _ gives.one_less (omega (arith, account)) known.asked in
-      let says = rw known.keeps.same_cap at c.in_err-row.ensures.spent.1 in
-      let asks = rw known.keeps.same_cap at c.in_err-row.ensures.spent.0 in
+      let says = rw known.keeps.same_style at c.in_err-row.ensures.spent.1 in
+      let asks = rw known.keeps.same_style at c.in_err-row.ensures.spent.0 in
       rw (p.1, p.2) (
         Spends-to (Spends-then known.spends (Spends-then (Spends-reads credit reads) asks)) (omega (arith, within, asks.account)),
         StopSays-then _ _ _ _ _ _ _ _ (omega (arith, within)) (Reads-then known.spends.reads reads) says,
@@ -75,8 +76,8 @@ returns-in_err-row g c = record {
       let below : (reading c.rows.cursor).index < rows_listed c.args.kind.now file c.args.table = omega (arith, known.listed file held, less) in
       let some : 0 < c.args.table.count = omega (arith, known.counted, gives.one_less) in
       let row = given_row file c.args.kind.now c.args.table gives c.row.ensures now (known.agrees file held) known.same_table c.requires.entry in
-      let shown = rw (given_index gives c.row.ensures, known.keeps.same_cap) at (c.in_err-row.ensures.shows file (c.in_ok-advance.ensures.reads.keeps.same_file ∙ now) c.args.table.at (of_kind some) row) in
-      rw (p.1, p.2) (rows_stopped (row_items c.args.kind.now file c.args.self.now.cap.bytes c.args.table.at) (reading c.rows.cursor).index _ _ _ _ _ below (known.text file held of_kind) shown);
+      let shown = rw (given_index gives c.row.ensures, known.keeps.same_style) at (c.in_err-row.ensures.shows file (c.in_ok-advance.ensures.reads.keeps.same_file ∙ now) c.args.table.at (of_kind some) row) in
+      rw (p.1, p.2) (rows_stopped (row_items c.args.kind.now file (style_of c.args.self.now.style) c.args.table.at) (reading c.rows.cursor).index _ _ _ _ _ below (known.text file held of_kind) shown);
 }
 
 pub rows-preserved : goal.rows-preserved
@@ -88,9 +89,9 @@ rows-preserved g c =
     let lists = c.in_ok-row.ensures.keeps in
     let asks = c.in_ok-row.ensures.spent.0 in
     let reads = c.in_ok-advance.ensures.reads in
-    let own = own_cost c.args.kind.now c.args.self.now.cap.bytes in
+    let own = own_cost c.args.kind.now c.args.self.now.style.cap.bytes in
     let credit = c.rows.self.ahead.credit in
-    let most = rw known.keeps.same_cap at asks.account in
+    let most = rw known.keeps.same_style at asks.account in
     let asked = account_step (reading c.rows.cursor) (reading c.advance.new.self) _ (c.advance.new.src.asked + credit) _ own _ gives.one_less (omega (arith, account)) (omega (arith, most)) known.asked in
     record {
       same_table = gives.same_table ∙ known.same_table;
@@ -100,7 +101,7 @@ rows-preserved g c =
         same_src = lists.same_src ∙ known.keeps.same_src;
         same_out = lists.same_out ∙ known.keeps.same_out;
         same_file = lists.same_file ∙ known.keeps.same_file;
-        same_cap = lists.same_cap ∙ known.keeps.same_cap;
+        same_style = lists.same_style ∙ known.keeps.same_style;
       };
       spends = Spends-to (Spends-then known.spends (Spends-then (Spends-reads credit reads) asks)) (omega (arith, asked));
       asked = asked;
@@ -113,8 +114,8 @@ rows-preserved g c =
           let now = known.spends.reads.keeps.same_file ∙ held in
           let some : 0 < c.args.table.count = omega (arith, known.counted, gives.one_less) in
           let row = given_row file c.args.kind.now c.args.table gives c.row.ensures now (known.agrees file held) known.same_table c.requires.entry in
-          let shown = rw (given_index gives c.row.ensures, known.keeps.same_cap) at (c.in_ok-row.ensures.shows file (reads.keeps.same_file ∙ now) c.args.table.at (of_kind some) row) in
-          rows_more (row_items c.args.kind.now file c.args.self.now.cap.bytes c.args.table.at) (reading c.rows.cursor).index _ gives.next_index (known.text file held of_kind) shown;
+          let shown = rw (given_index gives c.row.ensures, known.keeps.same_style) at (c.in_ok-row.ensures.shows file (reads.keeps.same_file ∙ now) c.args.table.at (of_kind some) row) in
+          rows_more (row_items c.args.kind.now file (style_of c.args.self.now.style) c.args.table.at) (reading c.rows.cursor).index _ gives.next_index (known.text file held of_kind) shown;
     }
 
 pub returns : goal.returns

@@ -1,4 +1,5 @@
 -- What was shown so far are the rows before the cursor's, and what may still be asked for is counted.
+use Rattle.elf_headers.specs.Permitted.{style_of}
 use Rattle.std.proofs.Common.{◌≡◌, ℕ, ◌+◌, ◌*◌, ◌<◌, ◌≤◌, List, None, Some}
 use Rattle.elf_model.specs.Listing.{each}
 use Rattle.elf_names.specs.Ahead.{Spends}
@@ -11,7 +12,7 @@ use Rattle.elf_listing.proofs.listing.Listing.rows.Given as goal
 
 abbrev pub invariant-rows : goal.invariant-rows
 invariant-rows g l =
-    let cap = l.fn.self.cap.bytes in
+    let cap = l.fn.self.style.cap.bytes in
     let now = reading l.cursor in
     record {
       same_table : now.table ≡ l.fn.table;
@@ -24,7 +25,7 @@ invariant-rows g l =
       listed : (file : List ℕ) → l.fn.self.src.now.seen.file ≡ Some file → now.index + rows_left file l.cursor ≡ rows_listed l.fn.kind file l.fn.table;
       grows : Grows l.fn.self.out.now l.self.out.now;
       text : (file : List ℕ) → l.fn.self.src.now.seen.file ≡ Some file → (0 < l.fn.table.count → KindOf file l.fn.table.at l.fn.kind)
-          → WroteItems l.fn.self.out.now l.self.out.now (each (row_items l.fn.kind file cap l.fn.table.at) 0 now.index);
+          → WroteItems l.fn.self.out.now l.self.out.now (each (row_items l.fn.kind file (style_of l.fn.self.style) l.fn.table.at) 0 now.index);
     }
 
 abbrev pub decreases-rows : goal.decreases-rows

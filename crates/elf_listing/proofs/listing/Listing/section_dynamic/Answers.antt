@@ -1,4 +1,5 @@
 -- The table's checks and its string table's stand before its entries.
+use Rattle.elf_headers.specs.Permitted.{style_of}
 use Rattle.std.proofs.Common.{rules, ◌≡◌, ◌==◌, false, refl, sym, ◌∙◌}
 use Rattle.std.proofs.lemmas.Bool.{eq-eqb, ne_eqb}
 use Rattle.std.proofs.lemmas.Result.{err_from_is_err_and}
@@ -49,7 +50,8 @@ pub returns : goal.returns
 unfolding section_dynamic
 returns g c =
     let f = c.args.self.now.file in
-    let cap = c.args.self.now.cap.bytes in
+    let cap = c.args.self.now.style.cap.bytes in
+    let style = style_of c.args.self.now.style in
     let kind = sym c.section-header.ensures.fields.sh_type ∙ c.if-header-ne-SHT_DYNAMIC.false in
     Lists-within _ _ _ _ _ _ _ (section_within section_dynamic (row f.store.now c.args.section) f.loaded.size _ cap 16 _ (eq-eqb _ _ kind) refl refl c.in_ok-table.ensures.value) c.rows.ensures (λ file held.
     let belongs = c.args.self.now.loaded.belongs file held in
@@ -58,5 +60,5 @@ returns g c =
     let kind = sym stands.sh_type ∙ c.if-header-ne-SHT_DYNAMIC.false in
     let some : (sh_size file at == 0) ≡ false = ne_eqb _ 0 (λ e. c.if-header-eq0.false (stands.sh_size ∙ e)) in
     let found = dynamic_passes file at some _ (sym (c.in_ok-table.ensures.held file belongs)) _ (sym (c.in_ok-names.ensures.held file belongs)) in
-    Writes-as _ _ _ (table_passes section_dynamic file cap c.args.section at (eq-eqb _ _ kind) found.0 ∙ found.1 cap)
+    Writes-as _ _ _ (table_passes section_dynamic file style c.args.section at (eq-eqb _ _ kind) found.0 ∙ found.1 style)
     (c.rows.ensures.shows file held (λ some. tt)))

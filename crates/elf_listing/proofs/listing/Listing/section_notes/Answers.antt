@@ -1,4 +1,5 @@
 -- The check of the section's range stands before its notes.
+use Rattle.elf_headers.specs.Permitted.{style_of}
 use Rattle.std.proofs.Common.{rules, ◌≡◌, refl, sym, ap, ◌∙◌, arith}
 use Rattle.std.proofs.lemmas.Bool.{eq-eqb, ne_eqb}
 use Rattle.std.proofs.lemmas.Result.{err_from_is_err_and}
@@ -38,7 +39,8 @@ pub returns : goal.returns
 unfolding section_notes
 returns g c =
     let f = c.args.self.now.file in
-    let cap = c.args.self.now.cap.bytes in
+    let cap = c.args.self.now.style.cap.bytes in
+    let style = style_of c.args.self.now.style in
     let fields = c.section-header.ensures.fields in
     let kind = sym fields.sh_type ∙ c.if-header-ne-SHT_NOTE.false in
     let value = rw (fields.sh_offset, fields.sh_size) at c.in_ok-table.ensures.value in
@@ -50,6 +52,6 @@ returns g c =
     let place : c.place-at.result ≡ at = omega (arith, c.place-at.ensures.value, belongs.header.e_shoff) in
     let value = rw (belongs.size, stands.sh_offset, stands.sh_size, place) at c.in_ok-table.ensures.value in
     let found = range_passes file _ (sh_size file at) at _ (sym value) in
-    Writes-as _ _ _ (table_passes section_notes file cap c.args.section at (eq-eqb _ _ kind) found.0
+    Writes-as _ _ _ (table_passes section_notes file style c.args.section at (eq-eqb _ _ kind) found.0
     ∙ ap (λ (t : Rows). walk_rows cap c.args.section t.at (walked (note_align (sh_addralign file at)) (slice file t.at t.count))) found.1)
     (rw stands.sh_addralign at (c.notes.ensures.shows file held)))

@@ -1,4 +1,5 @@
 -- The checks of the table and the first pass over its entries stand before the entries.
+use Rattle.elf_headers.specs.Permitted.{style_of}
 use Rattle.std.proofs.Common.{rules, ◌≡◌, ◌*◌, refl, sym, ap, ◌∙◌, arith}
 use Rattle.std.proofs.lemmas.Bool.{eq-eqb, ne_eqb}
 use Rattle.std.proofs.lemmas.Result.{err_from_is_err_and}
@@ -47,14 +48,14 @@ pub returns-in_err-told : goal.returns-in_err-told
 unfolding segment_dynamic
 returns-in_err-told g c = record {
   grows = grows_not _;
-  keeps = record { same_src = refl; same_out = refl; same_file = refl; same_cap = refl };
+  keeps = record { same_src = refl; same_out = refl; same_file = refl; same_style = refl };
   spent =
       let p = err_from_is_err_and c.from_residual-in_err-told.result c.from_residual-in_err-told.ensures.1 in
       let f = c.args.self.now.file in
       let fields = rw c.view-view.ensures.store at c.segment.ensures.fields in
       let kind = sym fields.p_type ∙ c.if-segment-ne-PT_DYNAMIC.false in
       let value = rw (c.view-view.ensures.store, c.view-view.ensures.loaded) at c.in_ok-table.ensures.value in
-      let within = segment_within (segment_bytes f.store.now c.args.segment) f.loaded.size _ c.args.self.now.cap.bytes _ (eq-eqb _ _ kind) value in
+      let within = segment_within (segment_bytes f.store.now c.args.segment) f.loaded.size _ c.args.self.now.style.cap.bytes _ (eq-eqb _ _ kind) value in
       let bytes : size_of c.in_ok-table.table ≡ c.in_ok-table.table.count * 16 = ap (λ n. c.in_ok-table.table.count * n) c.in_ok-table.ensures.entry in
       rw (p.1, p.2) (Spent-fault _ _ _ _ _ _ _ (omega (arith, within, bytes)) c.in_err-told.ensures.reads c.in_err-told.ensures.says);
   shows = λ file held.
@@ -70,21 +71,21 @@ returns g c = record {
     same_src = c.rows.ensures.keeps.same_src;
     same_out = c.rows.ensures.keeps.same_out;
     same_file = c.rows.ensures.keeps.same_file;
-    same_cap = c.rows.ensures.keeps.same_cap;
+    same_style = c.rows.ensures.keeps.same_style;
   };
   spent =
       let f = c.args.self.now.file in
       let fields = rw c.view-view.ensures.store at c.segment.ensures.fields in
       let kind = sym fields.p_type ∙ c.if-segment-ne-PT_DYNAMIC.false in
       let value = rw (c.view-view.ensures.store, c.view-view.ensures.loaded) at c.in_ok-table.ensures.value in
-      let within = segment_within (segment_bytes f.store.now c.args.segment) f.loaded.size _ c.args.self.now.cap.bytes _ (eq-eqb _ _ kind) value in
+      let within = segment_within (segment_bytes f.store.now c.args.segment) f.loaded.size _ c.args.self.now.style.cap.bytes _ (eq-eqb _ _ kind) value in
       let bytes : size_of c.in_ok-table.table ≡ c.in_ok-table.table.count * 16 = ap (λ n. c.in_ok-table.table.count * n) c.in_ok-table.ensures.entry in
       Spent-behind _ _ _ _ _ _ _ _ _ _ (omega (arith, within, bytes)) c.in_ok-told.ensures.reads c.rows.ensures.spent;
   shows = λ file held.
       let viewed = views file _ _ _ (c.args.self.now.loaded.belongs file held) c.args.self.now.viewed held (omega (arith, c.requires)) in
       let view : Views file c.view-view.result.loaded c.view-view.result.store.now = rw (c.view-view.ensures.loaded, c.view-view.ensures.store) viewed in
       let kind = sym (c.segment.ensures.stands file view).p_type ∙ c.if-segment-ne-PT_DYNAMIC.false in
-      let found = segment_passes file c.args.self.now.cap.bytes _ _ _ (sym (c.in_ok-table.ensures.held file view)) (c.in_ok-told.ensures.values file held) in
-      Writes-as _ _ _ (table_passes segment_dynamic file c.args.self.now.cap.bytes c.args.segment _ (eq-eqb _ _ kind) found.0 ∙ found.1)
+      let found = segment_passes file (style_of c.args.self.now.style) _ _ _ (sym (c.in_ok-table.ensures.held file view)) (c.in_ok-told.ensures.values file held) in
+      Writes-as _ _ _ (table_passes segment_dynamic file (style_of c.args.self.now.style) c.args.segment _ (eq-eqb _ _ kind) found.0 ∙ found.1)
       (c.rows.ensures.shows file (c.dynamic_strings.ensures.reads.keeps.same_file ∙ held) (λ some. view));
 }

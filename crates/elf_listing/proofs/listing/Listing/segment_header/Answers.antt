@@ -1,6 +1,7 @@
 -- The program header in the store is the file's.
 use Rattle.std.proofs.Common.{rules, ◌∙◌, arith}
 use Rattle.std.proofs.lemmas.Result.{err_from_is_err_and}
+use Rattle.elf_headers.specs.Permitted.{style_of}
 use Rattle.elf_model.specs.Records.{segment_at}
 use Rattle.elf_listing.proofs.RowLaws.{Whole-line, Stopped-line}
 use Rattle.elf_listing.proofs.SegmentShown.{segment_line_is, views}
@@ -16,7 +17,7 @@ returns-in_err-put g c = record {
       let viewed = views file _ _ _ (c.args.self.now.loaded.belongs file held) c.args.self.now.viewed held (omega (arith, c.requires)) in
       let stands = c.segment-header.ensures.stands file (rw (c.view.ensures.loaded, c.view.ensures.store) viewed) in
       let line = c.deref.ensures.0 ∙ c.segment_row.ensures file (segment_at file c.args.segment) stands in
-      rw (p.1, p.2, segment_line_is file _ c.args.segment line) (Stopped-line _ c.in_err-put.ensures.puts.0);
+      rw (p.1, p.2, segment_line_is file _ (style_of c.args.self.now.style) c.args.segment line) (Stopped-line _ c.in_err-put.ensures.puts.0);
 }
 
 pub returns : goal.returns
@@ -28,5 +29,5 @@ returns g c = record {
       let viewed = views file _ _ _ (c.args.self.now.loaded.belongs file held) c.args.self.now.viewed held (omega (arith, c.requires)) in
       let stands = c.segment-header.ensures.stands file (rw (c.view.ensures.loaded, c.view.ensures.store) viewed) in
       let line = c.deref.ensures.0 ∙ c.segment_row.ensures file (segment_at file c.args.segment) stands in
-      rw (segment_line_is file _ c.args.segment line) (Whole-line _ c.in_ok-put.ensures.puts.0);
+      rw (segment_line_is file _ (style_of c.args.self.now.style) c.args.segment line) (Whole-line _ c.in_ok-put.ensures.puts.0);
 }

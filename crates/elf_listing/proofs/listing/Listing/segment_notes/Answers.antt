@@ -1,4 +1,5 @@
 -- The check of the segment's range stands before its notes.
+use Rattle.elf_headers.specs.Permitted.{style_of}
 use Rattle.std.proofs.Common.{rules, ◌≡◌, refl, sym, ap, ◌∙◌, arith}
 use Rattle.std.proofs.lemmas.Bool.{eq-eqb, ne_eqb}
 use Rattle.std.proofs.lemmas.Result.{err_from_is_err_and}
@@ -42,7 +43,8 @@ pub returns : goal.returns
 unfolding segment_notes
 returns g c =
     let f = c.args.self.now.file in
-    let cap = c.args.self.now.cap.bytes in
+    let cap = c.args.self.now.style.cap.bytes in
+    let style = style_of c.args.self.now.style in
     let fields = rw c.view.ensures.store at c.segment-header.ensures.fields in
     let kind = sym fields.p_type ∙ c.if-header-ne-PT_NOTE.false in
     let value = rw (fields.p_offset, fields.p_filesz) at c.in_ok-table.ensures.value in
@@ -56,6 +58,6 @@ returns g c =
     let place : c.place-place.result ≡ at = omega (arith, told, belongs.header.e_phoff) in
     let value = rw (belongs.size, stands.p_offset, stands.p_filesz, place) at c.in_ok-table.ensures.value in
     let found = range_passes file _ (p_filesz file at) at _ (sym value) in
-    Writes-as _ _ _ (table_passes segment_notes file cap c.args.segment at (eq-eqb _ _ kind) found.0
+    Writes-as _ _ _ (table_passes segment_notes file style c.args.segment at (eq-eqb _ _ kind) found.0
     ∙ ap (λ (t : Rows). walk_rows cap c.args.segment t.at (walked (note_align (p_align file at)) (slice file t.at t.count))) found.1)
     (rw stands.p_align at (c.notes.ensures.shows file held)))

@@ -1,5 +1,6 @@
 use Rattle.std.proofs.Common.{rules, ◌≡◌, ◌+◌, ◌*◌, ◌∙◌, arith}
 use Rattle.std.proofs.lemmas.Result.{err_from_is_err_and}
+use Rattle.elf_headers.specs.Permitted.{style_of}
 use Rattle.elf_model.specs.Records.{e_phoff}
 use Rattle.elf_listing.proofs.RowLaws.{segment_is, Whole-line, Stopped-line}
 use Rattle.elf_listing.proofs.listing.Listing.segment_row.Goals as goal
@@ -14,7 +15,7 @@ returns-in_err-put g c = record {
       let decoded = c.decode-header.ensures.stands file c.args.row.now.at (c.whole_row.ensures ∙ row.bytes) in
       let here : c.args.row.now.at ≡ e_phoff file + c.args.row.now.index * 56 = omega (arith, of_kind, row.here) in
       let line = c.deref.ensures.0 ∙ c.segment_row.ensures file c.args.row.now.at decoded in
-      rw (p.1, p.2, segment_is file _ c.args.row.now.at c.args.row.now.index line here) (Stopped-line _ c.in_err-put.ensures.puts.0);
+      rw (p.1, p.2, segment_is file _ (style_of c.args.self.now.style) c.args.row.now.at c.args.row.now.index line here) (Stopped-line _ c.in_err-put.ensures.puts.0);
 }
 
 pub returns : goal.returns
@@ -26,5 +27,5 @@ returns g c = record {
       let decoded = c.decode-header.ensures.stands file c.args.row.now.at (c.whole_row.ensures ∙ row.bytes) in
       let here : c.args.row.now.at ≡ e_phoff file + c.args.row.now.index * 56 = omega (arith, of_kind, row.here) in
       let line = c.deref.ensures.0 ∙ c.segment_row.ensures file c.args.row.now.at decoded in
-      rw (segment_is file _ c.args.row.now.at c.args.row.now.index line here) (Whole-line _ c.in_ok-put.ensures.puts.0);
+      rw (segment_is file _ (style_of c.args.self.now.style) c.args.row.now.at c.args.row.now.index line here) (Whole-line _ c.in_ok-put.ensures.puts.0);
 }

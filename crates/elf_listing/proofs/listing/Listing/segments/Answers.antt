@@ -1,4 +1,5 @@
 -- The program headers of a file without sections are in the store, and those ask for nothing.
+use Rattle.elf_headers.specs.Permitted.{style_of}
 use Rattle.std.proofs.Common.{rules, ◌≡◌, ◌==◌, true, false, [], sym, ap, ◌∙◌, arith}
 use Rattle.elf_model.specs.Listing.{each, has, SEGMENTS}
 use Rattle.elf_model.specs.Records.{e_phnum, e_phoff}
@@ -26,7 +27,7 @@ returns-then-sections-eq0 g c = record {
       let none : (f.loaded.header.e_shnum == 0) ≡ true = ap (λ n. n == 0) zero in
       let asked : has c.args.parts.0 SEGMENTS ≡ true = search rules in
       let all : f.store.now.segments ≡ e_phnum file = c.requires ∙ (viewed_segments c.args.parts.0 f.loaded none asked ∙ belongs.header.e_phnum) in
-      Writes-as _ _ _ (ap (λ b. elim b [ true ↦ each (segment_row file) 0 (e_phnum file) | false ↦ [] ]) asked ∙ ap (each (segment_row file) 0) (sym all))
+      Writes-as _ _ _ (ap (λ b. elim b [ true ↦ each (segment_row file (style_of c.args.self.now.style)) 0 (e_phnum file) | false ↦ [] ]) asked ∙ ap (each (segment_row file (style_of c.args.self.now.style)) 0) (sym all))
       (c.headers.ensures.shows file held);
 }
 
@@ -40,6 +41,6 @@ returns g c = record {
       let asked : has c.args.parts.0 SEGMENTS ≡ true = search rules in
       let at : c.segments-table.result.at ≡ e_phoff file = ap (λ (rows : Rows). rows.at) c.segments-table.ensures.value ∙ belongs.header.e_phoff in
       let all : c.segments-table.result.count ≡ e_phnum file = ap (λ (rows : Rows). rows.count) c.segments-table.ensures.value ∙ belongs.header.e_phnum in
-      Writes-as _ _ _ (ap (λ b. elim b [ true ↦ each (segment_row file) 0 (e_phnum file) | false ↦ [] ]) asked ∙ ap (each (segment_row file) 0) (sym all))
+      Writes-as _ _ _ (ap (λ b. elim b [ true ↦ each (segment_row file (style_of c.args.self.now.style)) 0 (e_phnum file) | false ↦ [] ]) asked ∙ ap (each (segment_row file (style_of c.args.self.now.style)) 0) (sym all))
       (c.rows.ensures.shows file held (λ some. at));
 }

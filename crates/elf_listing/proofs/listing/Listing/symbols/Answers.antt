@@ -1,4 +1,5 @@
 -- The table's checks and its string table's stand before its rows.
+use Rattle.elf_headers.specs.Permitted.{style_of}
 use Rattle.std.proofs.Common.{rules, ◌≡◌, false, true, refl, sym, ap, ◌∙◌}
 use Rattle.std.proofs.lemmas.Result.{err_from_is_err_and}
 use Rattle.elf_model.specs.Checks.{is_symbol_table}
@@ -39,11 +40,11 @@ returns g c =
     let f = c.args.self.now.file in
     let bytes = row f.store.now c.args.section in
     let kind : is_symbol_table bytes 0 ≡ true = let is = c.holds_symbols.ensures bytes 0 c.section.ensures.fields in cc in
-    Lists-within _ _ _ _ _ _ _ (section_within symbols bytes f.loaded.size _ c.args.self.now.cap.bytes 24 _ kind refl refl c.in_ok-symbols.ensures.table) c.rows.ensures (λ file held.
+    Lists-within _ _ _ _ _ _ _ (section_within symbols bytes f.loaded.size _ c.args.self.now.style.cap.bytes 24 _ kind refl refl c.in_ok-symbols.ensures.table) c.rows.ensures (λ file held.
     let belongs = c.args.self.now.loaded.belongs file held in
     let at = section_at file c.args.section in
-    let cap = c.args.self.now.cap.bytes in
+    let style = style_of c.args.self.now.style in
     let kind : is_symbol_table file at ≡ true = let is = c.holds_symbols.ensures file at (c.section.ensures.stands file belongs) in cc in
     let found = symbols-pass file at _ (sym (c.in_ok-symbols.ensures.held file belongs)) in
-    Writes-as _ _ _ (table_passes symbols file cap c.args.section at kind found.0 ∙ ap (each (symbol_row file cap c.args.section at) 0) (sym found.1.counted))
+    Writes-as _ _ _ (table_passes symbols file style c.args.section at kind found.0 ∙ ap (each (symbol_row file style c.args.section at) 0) (sym found.1.counted))
     (c.rows.ensures.shows file held (λ some. (ap (λ (n : Strings). slice file n.at n.size) (found.1.named some), found.1.placed))))

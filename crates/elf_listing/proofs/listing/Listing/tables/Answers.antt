@@ -1,8 +1,9 @@
 -- The parts one behind the other.
+use Rattle.elf_headers.specs.Permitted.{style_of}
 use Rattle.std.proofs.Common.{ℕ, ◌+◌, List, ◌++◌}
 use Rattle.std.proofs.lemmas.Result.{err_from_is_err_and}
 use Rattle.elf_model.specs.Listing.{Item}
-use Rattle.elf_headers.specs.declared.caps.Cap.{Cap}
+use Rattle.elf_headers.specs.declared.caps.Style.{Style}
 use Rattle.elf_table.specs.declared.file.File.{File}
 use Rattle.elf_listing.specs.Parts.{segments_listed}
 use Rattle.elf_listing.specs.declared.parts.Part.{Part}
@@ -12,17 +13,17 @@ use Rattle.elf_listing.proofs.PartsLaws.{Parts-as, Parts-more, Parts-then, cost_
 use Rattle.elf_listing.proofs.listing.Listing.tables.Goals as goal
 
 -- what the program headers ask for, and their items; and those of two parts
-abbrev segments_cost : ℕ → File → Cap → ℕ
-segments_cost parts f cap = segments_listed parts f.loaded
+abbrev segments_cost : ℕ → File → Style → ℕ
+segments_cost parts f style = segments_listed parts f.loaded
 
-abbrev segments_shown : ℕ → File → Cap → List ℕ → List Item
-segments_shown parts f cap file = segment_part file parts
+abbrev segments_shown : ℕ → File → Style → List ℕ → List Item
+segments_shown parts f style file = segment_part file (style_of style) parts
 
-abbrev pair_cost : ℕ → Part → Part → File → Cap → ℕ
-pair_cost parts first second f cap = cost_asked parts first f cap + cost_asked parts second f cap
+abbrev pair_cost : ℕ → Part → Part → File → Style → ℕ
+pair_cost parts first second f style = cost_asked parts first f style + cost_asked parts second f style
 
-abbrev pair_items : ℕ → Part → Part → File → Cap → List ℕ → List Item
-pair_items parts first second f cap file = items_asked parts first f cap file ++ items_asked parts second f cap file
+abbrev pair_items : ℕ → Part → Part → File → Style → List ℕ → List Item
+pair_items parts first second f style file = items_asked parts first f style file ++ items_asked parts second f style file
 
 pub returns-in_err-part : goal.returns-in_err-part
 returns-in_err-part g c =

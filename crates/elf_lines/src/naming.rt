@@ -1,0 +1,26 @@
+//! How numbers are named.
+
+/// How numbers are named in the lines of a file: by the names of the standards alone, or by those of
+/// the GNU system too; and on which machine, since some names are of x86-64 alone.
+#[derive(Clone, Copy, Debug, PartialEq, Eq)]
+pub struct Naming {
+    /// Whether numbers of the GNU system have names.
+    pub gnu: bool,
+    /// The machine of the file (gABI 4, ELF Header).
+    pub machine: u16,
+}
+
+impl Naming {
+    ghost use Rattle.std.specs.Prelude.{◌≡◌, false};
+
+    /// The names of the standards alone.
+    pub fn standard(machine: u16) -> Naming
+        ensures gnu { result.gnu ≡ false }
+        ensures machine { result.machine ≡ machine }
+    {
+        Naming {
+            gnu: false,
+            machine,
+        }
+    }
+}
