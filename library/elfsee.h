@@ -60,7 +60,7 @@ enum {
     ELFSEE_NAME_UNENDED, ELFSEE_NOTE_CUT, ELFSEE_NO_HASH, ELFSEE_HASH_SHAPE, ELFSEE_HASH_INDEX,
     ELFSEE_HASH_CYCLE, ELFSEE_UNSUPPORTED, ELFSEE_OVERFLOW, ELFSEE_NOT_REL, ELFSEE_UNPLACED,
     ELFSEE_UNDEFINED, ELFSEE_PLACE_OUTSIDE, ELFSEE_SYMBOL_INDEX, ELFSEE_TOO_LONG, ELFSEE_BUDGET,
-    ELFSEE_UNMAPPED
+    ELFSEE_UNMAPPED, ELFSEE_THIN = 34, ELFSEE_NOT_ARCHIVE, ELFSEE_MEMBER_CUT
 };
 
 /* How much may be read and shown. */
@@ -240,6 +240,15 @@ uint32_t elfsee_dynamic(const uint8_t *file, size_t file_len, const struct elfse
                         uint16_t section, uint8_t *room, size_t room_len, struct elfsee_rows *rows,
                         struct elfsee_end *end);
 
+/* The dynamic entries of a segment, up to and with the first of tag 0: checks that they are whole
+ * entries within the file, and sets `rows` before the first. OK; ABSENT where there is none of that
+ * index or its type is not DYNAMIC; REFUSED where elfsee_segment is, and with ELFSEE_SIZE_NOT_WHOLE or
+ * ELFSEE_TABLE_OUTSIDE at the program header. `rows` has no string table: elfsee_mapped tells where
+ * that lies whose address and size the entries of the tags STRTAB (5) and STRSZ (10) tell. `asked`
+ * is 0. */
+uint32_t elfsee_segment_dynamic(const uint8_t *file, size_t file_len, uint16_t segment,
+                                struct elfsee_rows *rows, struct elfsee_end *end);
+
 /* Read up to `out_len` next rows, step over them, and answer how many there are in `out`: fewer
  * than `out_len` at the table's end, and 0 behind it or where the numbers of `rows` name no rows of
  * the file. */
@@ -286,6 +295,13 @@ uint32_t elfsee_next_note(const uint8_t *file, size_t file_len, struct elfsee_no
  * ELFSEE_NAME_UNENDED where there is no name. */
 uint32_t elfsee_name(const uint8_t *file, size_t file_len, const struct elfsee_range *strings,
                      uint64_t offset, struct elfsee_range *name, struct elfsee_end *end);
+
+/* Where `size` bytes from an address on lie in the file, by the first LOAD program header that holds
+ * them all among the bytes that it has in the file. OK; ABSENT where none does; REFUSED where
+ * elfsee_segment is, and with ELFSEE_TABLE_OUTSIDE at that program header where they end past the
+ * file. `asked` is 0. */
+uint32_t elfsee_mapped(const uint8_t *file, size_t file_len, uint64_t address, uint64_t size,
+                       struct elfsee_range *range, struct elfsee_end *end);
 
 /* Where the string table of section headers' names lies. OK, ABSENT, REFUSED, BAD_CALL. */
 uint32_t elfsee_section_names(const uint8_t *file, size_t file_len,

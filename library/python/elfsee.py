@@ -31,7 +31,6 @@ import ctypes
 import ctypes.util
 import enum
 import os
-import re
 import struct
 import types
 from typing import Any, Callable, Iterator, List, Mapping, NamedTuple, Optional, Sequence, Tuple, Union
@@ -50,17 +49,8 @@ MOST_HEADERS, MOST_NAME, MOST_NUMBER = 65279, 4096, (1 << 64) - 1
 DEFAULT_HEADERS, DEFAULT_NAME = 4096, 256
 # Section types, and the tags of dynamic entries whose value is a string (gABI).
 SHT_SYMTAB, SHT_RELA, SHT_DYNAMIC, SHT_NOBITS, SHT_DYNSYM = 2, 4, 6, 8, 11
-DT_NULL, DT_NEEDED, DT_SONAME, DT_RPATH, DT_RUNPATH = 0, 1, 14, 15, 29
+DT_NULL, DT_NEEDED, DT_STRTAB, DT_STRSZ, DT_SONAME, DT_RPATH, DT_RUNPATH = 0, 1, 5, 10, 14, 15, 29
 STRING_TAGS = frozenset((DT_NEEDED, DT_SONAME, DT_RPATH, DT_RUNPATH))
-# The tags of dynamic entries that have names in a listing, from 0 on.
-_TAGS = {name: tag for tag, name in enumerate(
-    "NULL NEEDED PLTRELSZ PLTGOT HASH STRTAB SYMTAB RELA RELASZ RELAENT STRSZ SYMENT INIT FINI SONAME RPATH "
-    "SYMBOLIC REL RELSZ RELENT PLTREL DEBUG TEXTREL JMPREL BIND_NOW INIT_ARRAY FINI_ARRAY INIT_ARRAYSZ "
-    "FINI_ARRAYSZ RUNPATH FLAGS".split())}
-# How a listing spells the bytes of a name that are no printing ones.
-_ESCAPE = re.compile(rb"\\(\\|x..)")
-_CUT = re.compile(rb"(?:[^\\]|\\\\|\\x..)*\\\+")
-_DYNAMIC_LINE = re.compile(rb"D +([0-9]+) ([A-Z_]+|[0-9a-f]{16}) *([0-9a-f]{16}) (.*)")
 # So many rows are fetched by one call of the library.
 BATCH = 4096
 
@@ -100,6 +90,9 @@ class Cause(enum.IntEnum):
     TOO_LONG = 27
     BUDGET = 28
     UNMAPPED = 29
+    THIN = 34
+    NOT_ARCHIVE = 35
+    MEMBER_CUT = 36
 
 
 # ---------------------------------------------------------------------------
@@ -177,6 +170,8 @@ _CALLS = {
     "name": (_U32, *_FILE, _to(_Range), _U64, _to(_Range), _to(_End)),
     "notes": (_U32, *_FILE, _U16, _to(_Notes), _to(_End)),
     "segment_notes": (_U32, *_FILE, _U16, _to(_Notes), _to(_End)),
+    "segment_dynamic": (_U32, *_FILE, _U16, _to(_Rows), _to(_End)),
+    "mapped": (_U32, *_FILE, _U64, _U64, _to(_Range), _to(_End)),
     "next_note": (_U32, *_FILE, _to(_Notes), _to(_Note), _to(_End)),
 }
 
@@ -364,12 +359,12 @@ class Note(NamedTuple):
 
 class Dynamic(NamedTuple):
     """A dynamic entry. `string` is what NEEDED, SONAME, RPATH and RUNPATH name, else None. `index`
-    is its place in `table`, a section, or None where the file has no sections and a segment tells it."""
+    is its place in `table`, a section, or a segment where the file has no sections."""
 
     tag: int
     value: int
     string: Optional[bytes]
-    table: Optional[int]
+    table: int
     index: int
 
 
@@ -416,16 +411,6 @@ def _name_bytes(name: Name, most: int) -> bytes:
     if len(text) > most or b"\0" in text:
         raise ValueError("a name has at most %d bytes, and no NUL" % most)
     return text
-
-
-def _bytes_of(spelt: bytes) -> bytes:
-    """The bytes of a name as a listing spells it. One that the listing has cut raises Full."""
-    def byte(found: "re.Match[bytes]") -> bytes:
-        return b"\\" if found[1] == b"\\" else bytes.fromhex(found[1][1:].decode("ascii"))
-
-    if _CUT.fullmatch(spelt):
-        raise Full("a name has more than %d bytes" % MOST_NAME)
-    return _ESCAPE.sub(byte, spelt)
 
 
 def _content(source: Union[str, bytes, "os.PathLike[str]", Any]) -> bytes:
@@ -730,14 +715,6 @@ class File:
         strings = (symbols.strings_at, symbols.strings_at + symbols.strings_len) if symbols else (0, 0)
         return name_of
 
-    def _listed(self, part: int) -> Iterator[bytes]:
-        """The lines of a part of the listing, and then its refusal. A name has at most 4,096 bytes."""
-        listing = self.show(part, MOST_NAME)
-        lines = listing.text.encode("ascii").split(b"\n")[:-1]
-        yield from lines[:-1] if listing.refused else lines
-        if listing.refused:
-            raise listing.refused
-
     def notes(self) -> Iterator[Note]:
         """The notes of all sections, or in a file without sections of all segments."""
         sections = self._section_rows()
@@ -750,32 +727,54 @@ class File:
                     desc = self.data[note.desc_at:note.desc_at + note.descsz]
                     yield Note(name, note.type, desc, note.namesz, note.descsz, table)
 
+    def mapped(self, address: int, size: int) -> Optional[int]:
+        """The file offset of so many bytes at an address, by the first LOAD program header that holds
+        them all among the bytes that it has in the file; None where none does."""
+        found = _Range()
+        status, _ = self._call("mapped", _within("address", address, 0, MOST_NUMBER),
+                               _within("size", size, 0, MOST_NUMBER), found)
+        return found.at if status == _OK else None
+
     def dynamic(self, section: Optional[int] = None) -> Iterator[Dynamic]:
         """The dynamic entries of a section, or of all of them, up to and with the first of tag NULL. In
-        a file without sections those of its segments, read from the listing, within the budget. Absent
-        where that section holds none."""
+        a file without sections those of its segments. Absent where that section holds none."""
         if section is None and not self._section_rows():
-            yield from self._dynamic_of_segments()
+            for table in range(self.header.phnum):
+                rows = _Rows()
+                if self._call("segment_dynamic", table, rows)[0] == _OK:
+                    yield from self._entries(rows, table, self._mapped_strings(rows))
             return
         for table in self._tables(section, (SHT_DYNAMIC,)):
-            yield from self._dynamic_of(table)
+            rows = self._opened("dynamic", table)
+            strings = rows.strings_at, rows.strings_at + rows.strings_len
+            yield from self._entries(rows, table, lambda entry, places=strings: places)
 
-    def _dynamic_of(self, table: int) -> Iterator[Dynamic]:
-        rows, index = self._opened("dynamic", table), 0
-        strings, at = (rows.strings_at, rows.strings_at + rows.strings_len), rows.at
+    def _entries(self, rows: Any, table: int, strings: Callable[[int], Tuple[int, int]]) -> Iterator[Dynamic]:
+        """The dynamic entries of a table; `strings` tells the string table for the entry at an offset."""
+        at, index = rows.at, 0
         for batch in self._batches("next_dynamic", rows, _DYNAMIC_FORM):
             for tag, value in batch:
-                text = self._name(strings, value, at + 16 * index) if tag in STRING_TAGS else None
+                entry = at + 16 * index
+                text = self._name(strings(entry), value, entry) if tag in STRING_TAGS else None
                 yield Dynamic(tag, value, text, table, index)
-                if tag == DT_NULL:
-                    return
                 index += 1
 
-    def _dynamic_of_segments(self) -> Iterator[Dynamic]:
-        for line in self._listed(DYNAMIC):
-            index, word, value, text = _DYNAMIC_LINE.fullmatch(line).groups()
-            tag = _TAGS.get(word.decode("ascii"))
-            # A tag without a name is written as 64 bits without a sign.
-            number = ctypes.c_int64(int(word, 16)).value if tag is None else tag
-            string = _bytes_of(text) if number in STRING_TAGS else None
-            yield Dynamic(number, int(value, 16), string, None, int(index))
+    def _mapped_strings(self, rows: Any) -> Callable[[int], Tuple[int, int]]:
+        """What tells the string table of a segment's dynamic entries, which its first entries of two
+        tags place in memory, for the entry at an offset."""
+        again, first = _Rows(rows.at, rows.count, 0, rows.entry, 0, 0), {}
+        for batch in self._batches("next_dynamic", again, _DYNAMIC_FORM):
+            for tag, value in batch:
+                if tag in (DT_STRTAB, DT_STRSZ):
+                    first.setdefault(tag, value)
+
+        def strings(entry: int) -> Tuple[int, int]:
+            if not found:
+                place = self.mapped(first[DT_STRTAB], first[DT_STRSZ]) if len(first) == 2 else None
+                if place is None:
+                    raise Refused(Cause.UNMAPPED, entry)
+                found.append((place, place + first[DT_STRSZ]))
+            return found[0]
+
+        found: List[Tuple[int, int]] = []
+        return strings

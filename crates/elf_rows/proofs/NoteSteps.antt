@@ -1,8 +1,8 @@
 -- What a step over the notes of a file says of those that are left.
-use Rattle.std.proofs.Common.{◌≡◌, ℕ, ◌+◌, ◌-◌, ◌<◌, ◌≤◌, min, true, false, List, length, take, drop, ap, sym, ◌∙◌, refl, arith}
+use Rattle.std.proofs.Common.{◌≡◌, ℕ, ◌+◌, ◌-◌, ◌<◌, ◌≤◌, min, true, false, List, length, drop, ap, sym, ◌∙◌, refl, arith}
 use Rattle.elf_model.specs.Bytes.{slice}
-use Rattle.elf_model.specs.Records.{n_namesz, n_descsz, n_type}
-use Rattle.elf_model.specs.Notes.{Note, are_zeros, first_note, first_end, to_next, descriptor_start, OneNote, gap_between, with_note}
+use Rattle.elf_model.specs.Records.{n_namesz, n_descsz}
+use Rattle.elf_model.specs.Notes.{are_zeros, first_note, first_end, to_next, descriptor_start, OneNote, gap_between, with_note}
 use Rattle.elf_model.proofs.Slices.{slice-size, slice-slice, slice-rest}
 use Rattle.elf_model.proofs.Spellings.{next-ends, next-tails, next-past, next-found}
 use Rattle.elf_model.proofs.Walks.{walk, walk-ends, walk-broken, walk-found}

@@ -2,9 +2,11 @@ pub mod Checked
 pub mod DynamicTables
 pub mod Entries
 pub mod Headers
+pub mod MappedBytes
 pub mod Names
 pub mod NoteRows
 pub mod Openings
 pub mod Rooms
 pub mod Rows
+pub mod SegmentDynamic
 pub mod Symbols

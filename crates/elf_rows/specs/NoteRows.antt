@@ -2,7 +2,7 @@
 use Rattle.std.specs.Prelude.{ℕ, ◌≡◌, ◌≢◌, ◌+◌, ◌<◌, ◌≤◌, ◌⊎◌, true, false, List, length, Option, None, Some, Result, Ok, Err}
 use Rattle.elf_model.specs.Bytes.{slice}
 use Rattle.elf_model.specs.Checks.{is_outside}
-use Rattle.elf_model.specs.Notes.{Note as Told, Walk, note_align, descriptor_start, with_note}
+use Rattle.elf_model.specs.Notes.{Note as Told, Walk, note_align, with_note}
 use Rattle.elf_model.specs.Numbers.{SHT_NOTE, PT_NOTE}
 use Rattle.elf_model.specs.Records.{e_shnum, e_phnum, sh_type, sh_offset, sh_size, sh_addralign, p_type, p_offset, p_filesz, p_align, section_at, segment_at}
 use Rattle.elf_model.specs.declared.causes.Cause.TheVariants.{NoteCut, TableOutside}

@@ -50,7 +50,7 @@ pub(crate) fn listed_rows(file: &[u8], table: Table, names: Names) -> Rows
 
 /// How many of `count` entries from the offset `at` on are listed: up to and with the first
 /// DT_NULL, or all.
-fn listed(file: &[u8], at: u64, count: u64) -> u64
+pub(crate) fn listed(file: &[u8], at: u64, count: u64) -> u64
     requires { 0 < count → at + count * 16 ≤ length file.now }
     ensures { result ≡ dynamic_count file.now at count }
 {

@@ -1,11 +1,13 @@
 -- What a sink over lent memory took is what stands at the front of the memory, and behind it.
-use Rattle.std.proofs.Common.{◌≡◌, ℕ, List, [], ◌∷◌, ◌++◌, take, length, Option, None, Some, Result, Ok, Err, Bool, IsTrue, IsSome, is_some, IfErr, refl, sym, ap, ◌∙◌, subst, arith}
+use Rattle.elf_headers.specs.Permitted.{style_of}
+use Rattle.std.proofs.Common.{◌≡◌, ℕ, List, [], ◌∷◌, ◌++◌, take, length, Option, None, Some, Result, Ok, Err, Bool, true, false, IsTrue, IsSome, is_some, IfErr, refl, sym, ap, ◌∙◌, subst, arith}
 use Rattle.std.proofs.lemmas.List.{take_all, append_assoc, append-nil}
 use Rattle.std.specs.Io.KnownBytes.{Appends}
 use Rattle.elf_model.specs.Budget.{IsBudgeted}
+use Rattle.elf_model.specs.Style.{without_sections}
 use Rattle.elf_model.specs.declared.causes.Refusal.{Refusal}
 use Rattle.elf_source.specs.Output.{Written}
-use Rattle.elf_source.specs.Source.{Counting, Seen, Faults, honest}
+use Rattle.elf_source.specs.Source.{Counting, Seen, Faults, file_by, honest, seen_by}
 use Rattle.elf_source.specs.declared.faults.SourceFault.{SourceFault}
 use Rattle.elf_source.specs.declared.faults.SourceFault.TheVariants.{Device, Ended}
 use Rattle.elf_headers.specs.declared.caps.Caps.{Caps}
@@ -20,13 +22,18 @@ use Rattle.elfsee_c.specs.Told.{told_from}
 behind : (name other : ℕ) (now bytes : List ℕ) → Appends (Some (name ∷ [])) (Some (other ∷ now)) bytes → now ≡ bytes
 behind name other now bytes p = cc
 
--- a source that gives these bytes never fails
-pub never : (file : List ℕ) (old new : Seen) (fault : SourceFault) → new ≡ honest file → Faults old new fault → ⊥
-never file old new Device is says =
+-- a source that gives these bytes never fails, whatever of them is hidden
+pub never : (file : List ℕ) (hides : Bool) (old new : Seen) (fault : SourceFault) → new ≡ seen_by hides (honest file) → Faults old new fault → ⊥
+never file hides old new Device is says =
     let none : new.failures ≡ 0 = ap (λ (s : Seen). s.failures) is in
     omega (arith, none, says)
-never file old new Ended is says =
-    says (record { file = file; gives = ap (λ (s : Seen). s.file) is; not_worn = omega (arith, ap (λ (s : Seen). s.failures) is) })
+never file hides old new Ended is says =
+    let given = shown hides in
+    says (record { file = given.0; gives = ap (λ (s : Seen). s.file) is ∙ given.1; not_worn = omega (arith, ap (λ (s : Seen). s.failures) is) })
+  where
+    shown : (hides : Bool) → (bytes : List ℕ) × (file_by hides (Some file) ≡ Some bytes)
+    shown true = (without_sections file, refl)
+    shown false = (file, refl)
 
 -- a new sink took nothing but its name
 pub nothing_took : (name len : ℕ) (out : List ℕ) (spare : Option ℕ) (taken : Option (List ℕ)) → taken ≡ Some (name ∷ (take len out ++ spared spare)) → len ≡ 0 → spare ≡ None → taken ≡ Some (name ∷ [])
@@ -57,19 +64,19 @@ module _ (IsText : List ℕ → Option Refusal → Type 0) where
 
 module _ (file : List ℕ) (caps : Caps) (parts : ℕ) where
   abbrev Is : List ℕ → Option Refusal → Type 0
-  Is text fault = IsBudgeted caps.limits.budget file caps.limits.headers caps.name.bytes parts text fault
+  Is text fault = IsBudgeted caps.limits.budget file caps.limits.headers (style_of caps.style) parts text fault
 
   -- WHAT STANDS IN THE MEMORY once a listing is written to it
   pub lists : {X : Type 0} (name other len : ℕ) (out bytes : List ℕ) (spare : Option ℕ) (failed : Bool) (old new : Written) (s t : Counting) (result : Result X Stop)
       → old.taken ≡ Some (name ∷ []) → Some (other ∷ (take len out ++ spared spare)) ≡ new.taken → failed ≡ new.failed → (IsSome spare → len ≡ length out)
-      → (IsTrue failed → IsSome spare) → honest bytes ≡ t.seen → IfErr result (FaultSays s t new) → Reports file caps parts old new result
+      → (IsTrue failed → IsSome spare) → honest bytes ≡ t.source → IfErr result (FaultSays s t new) → Reports file caps parts old new result
       → Lists file caps parts out len (told_from result (is_some spare))
   lists name other len out bytes None failed old new s t (Ok x) before after fails full over is says reports =
       told Is reports.text (take len out) reports.fault None (sym (append-nil (take len out)) ∙ took name other _ old.taken new.taken reports.text before after reports.wrote.0.appends) reports.wrote.1 reports.listed
   lists name other len out bytes None failed old new s t (Err (Refused refusal)) before after fails full over is says reports =
       told Is reports.text (take len out) reports.fault (Some refusal) (sym (append-nil (take len out)) ∙ took name other _ old.taken new.taken reports.text before after reports.wrote.0.appends) reports.wrote.1 reports.listed
   lists name other len out bytes None failed old new s t (Err (Source fault at)) before after fails full over is says reports =
-      absurd (never bytes s.seen t.seen fault (sym is) says.0)
+      absurd (never bytes t.hides s.seen t.seen fault (t.is_seen ∙ ap (seen_by t.hides) (sym is)) says.0)
   lists name other len out bytes None failed old new s t (Err (Out fault)) before after fails full over is says reports =
       let no = over (fails ∙ says.failed) in cc
   lists name other len out bytes (Some byte) failed old new s t (Ok x) before after fails full over is says reports =

@@ -26,3 +26,7 @@ abbrev pub IsTold : {A : Type 0} → ℕ → A → A → End → Result (Option 
 IsTold status old new end (Ok (Some row)) = (status ≡ 0) × (new ≡ row) × (end ≡ no_end)
 IsTold status old new end (Ok None) = (status ≡ 2) × (new ≡ old) × (end ≡ no_end)
 IsTold status old new end (Err refusal) = (status ≡ 1) × (new ≡ old) × (end ≡ refused_end refusal)
+
+-- WHAT A CALL READS, AS NUMBERS: an answer of that reading, told so
+abbrev pub TellsRead : {A : Type 0} → (Result (Option A) Refusal → Type 0) → ℕ → A → A → End → Type 0
+TellsRead {A} reads status old new end = (read : Result (Option A) Refusal) × reads read × IsTold status old new end read

@@ -1,4 +1,6 @@
 -- What limits and room permit.
+use Rattle.elf_headers.specs.Permitted.{style_of}
+use Rattle.elf_model.specs.Style.{standard}
 use Rattle.std.specs.Prelude.{ℕ, ◌≡◌, ◌≤◌, ◌/◌, ◌==◌, min, true, false, Option, None, Some}
 use Rattle.elf_headers.specs.Permitted.{AreHeaders, AreNameBytes}
 use Rattle.elf_headers.specs.declared.caps.Caps.{Caps}
@@ -30,4 +32,5 @@ GivesLimits limits room (Some permitted) = AreLimits limits room × (permitted.h
 abbrev pub GivesCaps : Limits → ℕ → Option Caps → Type 0
 GivesCaps limits room None = AreCaps limits room → ⊥
 GivesCaps limits room (Some caps) =
-    AreCaps limits room × (caps.limits.headers ≡ headers_of limits room) × (caps.limits.budget ≡ budget_of limits) × (caps.name.bytes ≡ limits.name)
+    AreCaps limits room × (caps.limits.headers ≡ headers_of limits room) × (caps.limits.budget ≡ budget_of limits)
+    × (style_of caps.style ≡ standard limits.name)

@@ -16,6 +16,10 @@ abbrev pub IsOpened : {A : Type 0} → ℕ → A → A → End → Option (Resul
 IsOpened status old new end (Some read) = IsTold status old new end read
 IsOpened status old new end None = (status ≡ 4) × (new ≡ old) × (end ≡ no_end)
 
+-- WHAT A CALL OPENS, AS NUMBERS: an answer of that opening, told so
+abbrev pub TellsOpened : {A : Type 0} → (Option (Result (Option A) Refusal) → Type 0) → ℕ → A → A → End → Type 0
+TellsOpened {A} opens status old new end = (opened : Option (Result (Option A) Refusal)) × opens opened × IsOpened status old new end opened
+
 -- what a call has of a section of rows of a kind: limits in their range, and room for a header
 abbrev pub OpensRows : Kind → List ℕ → Limits → ℕ → ℕ → Option (Result (Option Rows) Refusal) → Type 0
 OpensRows kind file limits room section (Some read) = AreLimits limits room × ReadsRows kind file (headers_of limits room) section read

@@ -1,4 +1,6 @@
 -- What a listing of a file in memory gives its caller.
+use Rattle.elf_model.specs.Style.{standard}
+use Rattle.elf_headers.specs.Permitted.{style_of}
 use Rattle.std.specs.Prelude.{ℕ, ◌≡◌, ◌≤◌, List, ◌∷◌, ◌++◌, take, length, Option, None, Some, IfSome}
 use Rattle.elf_model.specs.Budget.{IsBudgeted}
 use Rattle.elf_model.specs.Cost.{cost}
@@ -20,14 +22,14 @@ StandsIn IsText out written BadCall = ⊥
 
 -- what caps and parts list of a file stands in some memory
 abbrev pub Lists : List ℕ → Caps → ℕ → List ℕ → ℕ → Told → Type 0
-Lists file caps parts out written told = StandsIn (IsBudgeted caps.limits.budget file caps.limits.headers caps.name.bytes parts) out written told
+Lists file caps parts out written told = StandsIn (IsBudgeted caps.limits.budget file caps.limits.headers (style_of caps.style) parts) out written told
 
 -- what is listed of a file, its report or, where it costs more than the budget, a front of whole lines and the line of the
 -- budget, stands in the memory; or limits or room are outside their ranges, and nothing is asked for and written
 abbrev pub Shows : List ℕ → Limits → ℕ → ℕ → List ℕ → List ℕ → End → Told → Type 0
 Shows file limits room parts before out end BadCall = (AreCaps limits room → ⊥) × Untouched before out end
 Shows file limits room parts before out end told =
-    AreCaps limits room × StandsIn (IsBudgeted (budget_of limits) file (headers_of limits room) limits.name parts) out end.written told
+    AreCaps limits room × StandsIn (IsBudgeted (budget_of limits) file (headers_of limits room) (standard limits.name) parts) out end.written told
 
 -- WHAT A CALLER HAS of a listing, with so many bytes of room: what was told, as the memory and the numbers have it
 pub record IsShown (file : List ℕ) (limits : Limits) (room parts status : ℕ) (before out : List ℕ) (end : End) : Type 0 where

@@ -7,7 +7,7 @@ use Rattle.elfsee_c.specs.Causes.{cause_number}
 -- the cause of a number; none for 0, and for numbers above those of all causes
 abbrev pub IsNumbered : ℕ → Option Cause → Type 0
 IsNumbered number (Some cause) = cause_number cause ≡ number
-IsNumbered number None = (number ≡ 0) ⊎ (29 < number)
+IsNumbered number None = (number ≡ 0) ⊎ (((29 < number) × (number < 34)) ⊎ (36 < number))
 
 -- a word is put at the front of some memory, where there is room for it, and else nothing is
 abbrev pub PutsFront : List ℕ → List ℕ → List ℕ → ℕ → Type 0

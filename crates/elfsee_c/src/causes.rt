@@ -38,5 +38,8 @@ pub(crate) fn cause_number(cause: Cause) -> u32
         Cause::TooLong => 27,
         Cause::Budget => 28,
         Cause::Unmapped => 29,
+        Cause::Thin => 34,
+        Cause::NotArchive => 35,
+        Cause::MemberCut => 36,
     }
 }

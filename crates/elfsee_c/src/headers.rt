@@ -1,11 +1,6 @@
 //! The exports that read the headers of a file in memory.
-ghost use Rattle.std.specs.Prelude.{Option, Result};
-ghost use Rattle.elf_model.specs.declared.causes.Refusal.{Refusal as IsRefusal};
 ghost use Rattle.elf_rows.specs.Headers.{ReadsHeader, ReadsSection, ReadsSegment};
-ghost use Rattle.elf_rows.specs.declared.header.Header.{Header as IsHead};
-ghost use Rattle.elf_rows.specs.declared.section.Section.{Section as IsSection};
-ghost use Rattle.elf_rows.specs.declared.segment.Segment.{Segment as IsSegment};
-ghost use Rattle.elfsee_c.specs.Ends.{IsTold};
+ghost use Rattle.elfsee_c.specs.Ends.{TellsRead};
 
 use crate::end::End;
 use crate::tell::tell;
@@ -16,8 +11,7 @@ use elf_rows::{Header, Section, Segment, read_header, read_section, read_segment
 /// Answers 0 where it was read, and 1 where a check of it fails, with the first that does in `end`.
 #[unsafe(no_mangle)]
 pub extern "C" fn elfsee_header(file: &[u8], header: &mut Header, end: &mut End) -> u32
-    ensures { (read : Result (Option IsHead) IsRefusal) × ReadsHeader file.now read
-        × IsTold result header.old header.new end.new read }
+    ensures { TellsRead (ReadsHeader file.now) result header.old header.new end.new }
 {
     tell(read_header(file), header, end)
 }
@@ -35,8 +29,7 @@ pub extern "C" fn elfsee_section(
     section: &mut Section,
     end: &mut End,
 ) -> u32
-    ensures { (read : Result (Option IsSection) IsRefusal) × ReadsSection file.now index read
-        × IsTold result section.old section.new end.new read }
+    ensures { TellsRead (ReadsSection file.now index) result section.old section.new end.new }
 {
     tell(read_section(file, index), section, end)
 }
@@ -50,8 +43,7 @@ pub extern "C" fn elfsee_segment(
     segment: &mut Segment,
     end: &mut End,
 ) -> u32
-    ensures { (read : Result (Option IsSegment) IsRefusal) × ReadsSegment file.now index read
-        × IsTold result segment.old segment.new end.new read }
+    ensures { TellsRead (ReadsSegment file.now index) result segment.old segment.new end.new }
 {
     tell(read_segment(file, index), segment, end)
 }

@@ -15,6 +15,7 @@ mod items;
 mod lent_sink;
 mod limits;
 mod listing;
+mod loads;
 mod names;
 mod notes;
 mod opening;

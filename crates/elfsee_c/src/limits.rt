@@ -2,7 +2,7 @@
 ghost use Rattle.elfsee_c.specs.Limits.{GivesCaps, GivesLimits, budget_of};
 ghost use Rattle.std.specs.Prelude.{◌≡◌};
 
-use elf_table::{Cap, Caps};
+use elf_table::{Cap, Caps, Style};
 
 /// How many bytes of room a header takes.
 const HEADER_BYTES: usize = 64;
@@ -46,7 +46,7 @@ pub(crate) fn limits_of(limits: &Limits, room: usize) -> Option<elf_table::Limit
 pub(crate) fn caps_of(limits: &Limits, room: usize) -> Option<Caps>
     ensures { GivesCaps limits.now room result }
 {
-    let name = Cap::new(limits.name)?;
+    let style = Style::standard(Cap::new(limits.name)?);
     let limits = limits_of(limits, room)?;
-    Some(Caps { limits, name })
+    Some(Caps { limits, style })
 }

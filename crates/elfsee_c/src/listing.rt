@@ -1,6 +1,7 @@
 //! A listing of a file in memory, written to memory that a caller lent.
 ghost use Rattle.std.specs.Prelude.{◌≡◌, ◌≤◌, IfSome, length};
-ghost use Rattle.elf_model.specs.Cost.{cost};
+ghost use Rattle.elf_model.specs.Cost.{listing_cost};
+ghost use Rattle.elf_headers.specs.Permitted.{style_of};
 ghost use Rattle.elfsee_c.specs.Shown.{Lists};
 
 use crate::lent_sink::LentSink;
@@ -31,7 +32,7 @@ pub(crate) fn list(
     ensures within { result ≤ length out.new }
     ensures text { Lists file.now caps parts.0 out.new result outcome.new.told }
     ensures cost { outcome.new.asked
-        ≤ cost file.now caps.limits.headers caps.name.bytes parts.0 }
+        ≤ listing_cost file.now caps.limits.headers (style_of caps.style) parts.0 }
     ensures budget { IfSome caps.limits.budget (λ bytes. outcome.new.asked ≤ bytes) }
 {
     let LentSink {
@@ -56,7 +57,7 @@ fn list_to_sink<'a>(
     ensures same { result.buffer.ghost_name ≡ out.entry.ghost_name }
     ensures text { Lists file.now caps parts.0 result.buffer.now result.len outcome.new.told }
     ensures cost { outcome.new.asked
-        ≤ cost file.now caps.limits.headers caps.name.bytes parts.0 }
+        ≤ listing_cost file.now caps.limits.headers (style_of caps.style) parts.0 }
     ensures budget { IfSome caps.limits.budget (λ bytes. outcome.new.asked ≤ bytes) }
 {
     let mut src = Counted::new(MemorySource::new(file));

@@ -1,10 +1,8 @@
 //! The exports that tell where names in string tables lie.
-ghost use Rattle.std.specs.Prelude.{Option, Result, length};
-ghost use Rattle.elf_model.specs.declared.causes.Refusal.{Refusal as IsRefusal};
+ghost use Rattle.std.specs.Prelude.{length};
 ghost use Rattle.elf_rows.specs.Names.{FindsName};
-ghost use Rattle.elf_rows.specs.declared.name.Range.{Range as IsRange};
-ghost use Rattle.elfsee_c.specs.Ends.{IsTold};
-ghost use Rattle.elfsee_c.specs.Openings.{IsOpened, OpensNames};
+ghost use Rattle.elfsee_c.specs.Ends.{TellsRead};
+ghost use Rattle.elfsee_c.specs.Openings.{OpensNames, TellsOpened};
 
 use crate::end::End;
 use crate::limits::{Limits, limits_of};
@@ -28,9 +26,7 @@ pub extern "C" fn elfsee_name(
     name: &mut Range,
     end: &mut End,
 ) -> u32
-    ensures { (found : Result (Option IsRange) IsRefusal)
-        × FindsName file.now strings.now offset found
-        × IsTold result name.old name.new end.new found }
+    ensures { TellsRead (FindsName file.now strings.now offset) result name.old name.new end.new }
 {
     tell(find_name(file, *strings, offset), name, end)
 }
@@ -49,9 +45,8 @@ pub extern "C" fn elfsee_section_names(
     strings: &mut Range,
     end: &mut End,
 ) -> u32
-    ensures { (opened : Option (Result (Option IsRange) IsRefusal))
-        × OpensNames file.now limits.now (length room.old) opened
-        × IsOpened result strings.old strings.new end.new opened }
+    ensures { TellsOpened (OpensNames file.now limits.now (length room.old))
+        result strings.old strings.new end.new }
 {
     tell_opened(open_names(file, limits, room), strings, end)
 }

@@ -1,10 +1,6 @@
 //! The exports that go over the notes of a file in memory.
-ghost use Rattle.std.specs.Prelude.{Option, Result};
-ghost use Rattle.elf_model.specs.declared.causes.Refusal.{Refusal as IsRefusal};
 ghost use Rattle.elf_rows.specs.NoteRows.{ReadsSectionNotes, ReadsSegmentNotes, StepsNote};
-ghost use Rattle.elf_rows.specs.declared.notes.Note.{Note as IsNote};
-ghost use Rattle.elf_rows.specs.declared.notes.Notes.{Notes as IsPlace};
-ghost use Rattle.elfsee_c.specs.Ends.{IsTold};
+ghost use Rattle.elfsee_c.specs.Ends.{TellsRead};
 
 use crate::end::End;
 use crate::tell::tell;
@@ -18,9 +14,7 @@ use elf_rows::{Note, Notes, next_note, section_notes, segment_notes};
 /// as can be, or where the section ends past the end of the file; the first that fails is in `end`.
 #[unsafe(no_mangle)]
 pub extern "C" fn elfsee_notes(file: &[u8], section: u16, notes: &mut Notes, end: &mut End) -> u32
-    ensures { (read : Result (Option IsPlace) IsRefusal)
-        × ReadsSectionNotes file.now section read
-        × IsTold result notes.old notes.new end.new read }
+    ensures { TellsRead (ReadsSectionNotes file.now section) result notes.old notes.new end.new }
 {
     tell(section_notes(file, section), notes, end)
 }
@@ -34,9 +28,7 @@ pub extern "C" fn elfsee_segment_notes(
     notes: &mut Notes,
     end: &mut End,
 ) -> u32
-    ensures { (read : Result (Option IsPlace) IsRefusal)
-        × ReadsSegmentNotes file.now segment read
-        × IsTold result notes.old notes.new end.new read }
+    ensures { TellsRead (ReadsSegmentNotes file.now segment) result notes.old notes.new end.new }
 {
     tell(segment_notes(file, segment), notes, end)
 }
@@ -52,9 +44,7 @@ pub extern "C" fn elfsee_next_note(
     note: &mut Note,
     end: &mut End,
 ) -> u32
-    ensures { (read : Result (Option IsNote) IsRefusal)
-        × StepsNote file.now notes.old notes.new read
-        × IsTold result note.old note.new end.new read }
+    ensures { TellsRead (StepsNote file.now notes.old notes.new) result note.old note.new end.new }
 {
     tell(next_note(file, notes), note, end)
 }

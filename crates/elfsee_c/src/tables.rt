@@ -1,9 +1,7 @@
 //! The exports that open the rows of a section of a file in memory.
-ghost use Rattle.std.specs.Prelude.{Option, Result, length};
-ghost use Rattle.elf_model.specs.declared.causes.Refusal.{Refusal as IsRefusal};
+ghost use Rattle.std.specs.Prelude.{length};
 ghost use Rattle.elf_rows.specs.declared.kind.Kind.TheVariants.{Symbols, Relocations, Dynamic};
-ghost use Rattle.elf_rows.specs.declared.rows.Rows.{Rows as IsPlace};
-ghost use Rattle.elfsee_c.specs.Openings.{IsOpened, OpensRows};
+ghost use Rattle.elfsee_c.specs.Openings.{OpensRows, TellsOpened};
 
 use crate::end::End;
 use crate::limits::{Limits, limits_of};
@@ -27,9 +25,8 @@ pub extern "C" fn elfsee_symbols(
     rows: &mut Rows,
     end: &mut End,
 ) -> u32
-    ensures { (opened : Option (Result (Option IsPlace) IsRefusal))
-        × OpensRows Symbols file.now limits.now (length room.old) section opened
-        × IsOpened result rows.old rows.new end.new opened }
+    ensures { TellsOpened (OpensRows Symbols file.now limits.now (length room.old) section)
+        result rows.old rows.new end.new }
 {
     tell_opened(
         open_rows(file, limits, section, room, Kind::Symbols),
@@ -50,9 +47,8 @@ pub extern "C" fn elfsee_relocations(
     rows: &mut Rows,
     end: &mut End,
 ) -> u32
-    ensures { (opened : Option (Result (Option IsPlace) IsRefusal))
-        × OpensRows Relocations file.now limits.now (length room.old) section opened
-        × IsOpened result rows.old rows.new end.new opened }
+    ensures { TellsOpened (OpensRows Relocations file.now limits.now (length room.old) section)
+        result rows.old rows.new end.new }
 {
     tell_opened(
         open_rows(file, limits, section, room, Kind::Relocations),
@@ -73,9 +69,8 @@ pub extern "C" fn elfsee_dynamic(
     rows: &mut Rows,
     end: &mut End,
 ) -> u32
-    ensures { (opened : Option (Result (Option IsPlace) IsRefusal))
-        × OpensRows Dynamic file.now limits.now (length room.old) section opened
-        × IsOpened result rows.old rows.new end.new opened }
+    ensures { TellsOpened (OpensRows Dynamic file.now limits.now (length room.old) section)
+        result rows.old rows.new end.new }
 {
     tell_opened(
         open_rows(file, limits, section, room, Kind::Dynamic),

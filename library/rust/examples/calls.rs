@@ -4,7 +4,7 @@
 //!     calls find FILE NAME        the symbol and the steps
 //!     calls rows FILE..           all rows, as numbers; names in hexadecimal digits
 
-use elfsee::{Error, File, Refused};
+use elfsee::{DynamicEntries, Error, File, Notes, Refused};
 use std::process::exit;
 
 fn hex(bytes: &[u8]) -> String {
@@ -62,11 +62,29 @@ fn entries(file: &File, section: u16, room: &mut [u8]) -> Result<(), Error> {
     Ok(())
 }
 
-fn dynamic(file: &File, section: u16, room: &mut [u8]) -> Result<(), Error> {
-    for row in file.dynamic(section, room)?.into_iter().flatten() {
-        println!("D {section} {} {}", row.tag, row.value);
+fn notes(notes: Option<Notes>, header: u16) -> Result<(), Error> {
+    for note in notes.into_iter().flatten() {
+        let note = note?;
+        let name = note.name.split(|byte| *byte == 0).next().unwrap_or(&[]);
+        println!("N {header} {} {} {} {}", note.kind, note.name.len(), hex(name), hex(note.descriptor));
     }
     Ok(())
+}
+
+fn dynamic(rows: Option<DynamicEntries>, header: u16) {
+    for row in rows.into_iter().flatten() {
+        println!("D {header} {} {}", row.tag, row.value);
+    }
+}
+
+/// Notes and dynamic entries, those of segments where there are no sections.
+fn others(file: &File, sections: u16, segments: u16, room: &mut [u8]) -> Result<(), Error> {
+    if sections == 0 {
+        (0..segments).try_for_each(|index| notes(file.segment_notes(index)?, index))?;
+        return (0..segments).try_for_each(|index| Ok(dynamic(file.segment_dynamic(index)?, index)));
+    }
+    (0..sections).try_for_each(|index| notes(file.notes(index)?, index))?;
+    (0..sections).try_for_each(|index| Ok(dynamic(file.dynamic(index, room)?, index)))
 }
 
 fn rows(file: &File) -> Result<(), Error> {
@@ -88,7 +106,7 @@ fn rows(file: &File) -> Result<(), Error> {
     let tables = header.shnum;
     (0..tables).try_for_each(|index| symbols(file, index, &mut room))?;
     (0..tables).try_for_each(|index| entries(file, index, &mut room))?;
-    (0..tables).try_for_each(|index| dynamic(file, index, &mut room))
+    others(file, tables, header.phnum, &mut room)
 }
 
 fn main() {

@@ -68,12 +68,18 @@ pub enum Cause {
     Budget,
     /// No segment that is loaded has the bytes at an address.
     Unmapped,
+    /// The file is a thin archive: its members' bytes are in other files.
+    Thin = 34,
+    /// The file does not begin with an archive's magic string.
+    NotArchive,
+    /// No member of an archive stands where one should, or it ends past the end of the file.
+    MemberCut,
 }
 
 use Cause::*;
 
 /// The causes by their numbers.
-const CAUSES: [Cause; 30] = [
+const CAUSES: [Cause; 37] = [
     Unknown,
     Short,
     NotElf,
@@ -104,6 +110,13 @@ const CAUSES: [Cause; 30] = [
     TooLong,
     Budget,
     Unmapped,
+    Unknown,
+    Unknown,
+    Unknown,
+    Unknown,
+    Thin,
+    NotArchive,
+    MemberCut,
 ];
 
 impl Cause {

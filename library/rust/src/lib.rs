@@ -34,10 +34,12 @@
 extern crate std;
 
 mod error;
+mod notes;
 pub mod raw;
 mod rows;
 
 pub use error::{Cause, Error, Refused};
+pub use notes::{Note, Notes};
 pub use raw::{Dynamic, Header, Range, Relocation, Section, Segment, Symbol};
 pub use rows::{DynamicEntries, Relocations, Rows, Symbols};
 
@@ -349,10 +351,51 @@ impl<'a> File<'a> {
     }
 
     /// The dynamic entries of a section, up to and with the first of tag NULL; none where it holds none.
-    /// Those of a file without sections stand in its listing.
     pub fn dynamic(&self, section: u16, room: &mut [u8]) -> Result<Option<DynamicEntries<'a>>, Error> {
         let rows = self.open(raw::elfsee_dynamic, section, room)?;
         Ok(rows.map(|rows| Rows::new(self.bytes, rows)))
+    }
+
+    /// The dynamic entries of a segment, up to and with the first of tag NULL; none where it holds none.
+    /// No string table goes with these rows: [`File::mapped`] tells where that lies whose address and
+    /// size the first entries of the tags STRTAB (5) and STRSZ (10) tell, and [`File::name`] the names.
+    pub fn segment_dynamic(&self, segment: u16) -> Result<Option<DynamicEntries<'a>>, Refused> {
+        let (mut rows, mut end) = (raw::Rows::default(), raw::End::default());
+        // SAFETY: as in `header`.
+        let status = unsafe {
+            raw::elfsee_segment_dynamic(self.bytes.as_ptr(), self.bytes.len(), segment, &mut rows, &mut end)
+        };
+        let rows = row_of(status, rows, &end)?;
+        Ok(rows.map(|rows| Rows::new(self.bytes, rows)))
+    }
+
+    /// Where `size` bytes from an address on lie in the file, by the first LOAD program header that holds
+    /// them all among the bytes that it has in the file; none where none does.
+    pub fn mapped(&self, address: u64, size: u64) -> Result<Option<Range>, Refused> {
+        let (mut range, mut end) = (Range::default(), raw::End::default());
+        // SAFETY: as in `header`.
+        let status = unsafe {
+            raw::elfsee_mapped(self.bytes.as_ptr(), self.bytes.len(), address, size, &mut range, &mut end)
+        };
+        row_of(status, range, &end)
+    }
+
+    /// The notes of a section; none where it holds none.
+    pub fn notes(&self, section: u16) -> Result<Option<Notes<'a>>, Refused> {
+        self.open_notes(raw::elfsee_notes, section)
+    }
+
+    /// The notes of a segment; none where it holds none.
+    pub fn segment_notes(&self, segment: u16) -> Result<Option<Notes<'a>>, Refused> {
+        self.open_notes(raw::elfsee_segment_notes, segment)
+    }
+
+    fn open_notes(&self, call: raw::OpenNotes, header: u16) -> Result<Option<Notes<'a>>, Refused> {
+        let (mut notes, mut end) = (raw::Notes::default(), raw::End::default());
+        // SAFETY: as in `header`.
+        let status = unsafe { call(self.bytes.as_ptr(), self.bytes.len(), header, &mut notes, &mut end) };
+        let notes = row_of(status, notes, &end)?;
+        Ok(notes.map(|notes| Notes::new(self.bytes, notes)))
     }
 
     fn open(&self, call: raw::OpenTable, table: u16, room: &mut [u8]) -> Result<Option<raw::Rows>, Error> {

@@ -186,6 +186,9 @@ pub struct Note {
     pub header: u32,
 }
 
+/// A call that checks the notes that a header tells of and sets a place before the first.
+pub type OpenNotes = unsafe extern "C" fn(*const u8, usize, u16, *mut Notes, *mut End) -> u32;
+
 /// A call that checks a table and sets rows before its first.
 pub type OpenTable =
     unsafe extern "C" fn(*const u8, usize, *const Limits, u16, *mut u8, usize, *mut Rows, *mut End) -> u32;
@@ -273,6 +276,13 @@ extern "C" {
         rows: *mut Rows,
         end: *mut End,
     ) -> u32;
+    pub fn elfsee_segment_dynamic(
+        file: *const u8,
+        file_len: usize,
+        segment: u16,
+        rows: *mut Rows,
+        end: *mut End,
+    ) -> u32;
     pub fn elfsee_next_symbols(
         file: *const u8,
         file_len: usize,
@@ -321,6 +331,14 @@ extern "C" {
         strings: *const Range,
         offset: u64,
         name: *mut Range,
+        end: *mut End,
+    ) -> u32;
+    pub fn elfsee_mapped(
+        file: *const u8,
+        file_len: usize,
+        address: u64,
+        size: u64,
+        range: *mut Range,
         end: *mut End,
     ) -> u32;
     pub fn elfsee_section_names(

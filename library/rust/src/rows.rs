@@ -54,8 +54,8 @@ impl<'a, R: Fetch> Rows<'a, R> {
         Rows { file, rows, batch: [R::default(); BATCH], next: 0, fetched: 0 }
     }
 
-    /// How many rows the table has.
-    pub fn count(&self) -> u64 {
+    /// How many rows the table has, those too that the iterator has passed.
+    pub fn total(&self) -> u64 {
         self.rows.count
     }
 
@@ -98,7 +98,7 @@ pub(crate) fn name_in<'a>(file: &'a [u8], strings: &raw::Range, offset: u64) -> 
 }
 
 /// Bytes of a file that a call told; none where it has not so many.
-fn bytes_of(file: &[u8], at: u64, len: u64) -> &[u8] {
+pub(crate) fn bytes_of(file: &[u8], at: u64, len: u64) -> &[u8] {
     let end = at.checked_add(len).unwrap_or(u64::MAX);
     match (usize::try_from(at), usize::try_from(end)) {
         (Ok(at), Ok(end)) => file.get(at..end).unwrap_or(&[]),

@@ -26,6 +26,10 @@ fn short_files_are_refused() {
         assert_eq!(file.find(b"x", &mut room), Err(short.into()));
         assert_eq!(file.apply(1, &[], &mut room, &mut []), Err(short.into()));
         assert_eq!(file.symbols(0, &mut room).err(), Some(short.into()));
+        assert_eq!(file.segment_dynamic(0).err(), Some(short));
+        assert_eq!(file.notes(0).err(), Some(short));
+        assert_eq!(file.segment_notes(0).err(), Some(short));
+        assert_eq!(file.mapped(0, 1), Err(short));
         let listing = file.show(elfsee::ALL, &mut room, &mut out).unwrap();
         assert_eq!(listing.text, format!("! {:016x} short\n", length));
         assert_eq!(listing.refused, Some(short));
@@ -111,7 +115,62 @@ fn what_is_not_there_is_absent() {
     assert!(file.symbols(0, &mut [0; 64]).unwrap().is_none());
     assert!(file.relocations(7, &mut [0; 64]).unwrap().is_none());
     assert!(file.dynamic(65535, &mut [0; 64]).unwrap().is_none());
+    assert!(file.segment_dynamic(0).unwrap().is_none());
+    assert!(file.notes(0).unwrap().is_none());
+    assert!(file.segment_notes(65535).unwrap().is_none());
+    assert_eq!(file.mapped(0, 0), Ok(None));
+    assert_eq!(file.mapped(u64::MAX, u64::MAX), Ok(None));
     assert_eq!(file.section_names(&mut [0; 64]), Ok(None));
+}
+
+/// A file with one program header, of a type, whose bytes in the file are these at the address 0x1000.
+fn segment(kind: u8, content: &[u8]) -> Vec<u8> {
+    let mut bytes = header().to_vec();
+    (bytes[32], bytes[54], bytes[56]) = (64, 56, 1);
+    bytes.extend([0; 56]);
+    (bytes[64], bytes[72], bytes[81], bytes[96]) = (kind, 120, 0x10, content.len() as u8);
+    bytes.extend(content);
+    bytes
+}
+
+#[test]
+fn segments_have_rows() {
+    let entries: Vec<u8> =
+        [5u64, 0x1000, 10, 4, 0, 7, 1, 1].iter().flat_map(|word| word.to_le_bytes()).collect();
+    let bytes = segment(2, &entries);
+    let rows = File::new(&bytes).segment_dynamic(0).unwrap().unwrap();
+    assert_eq!((rows.total(), rows.place()), (3, (120, 16)));
+    assert_eq!(rows.map(|row| (row.tag, row.value)).collect::<Vec<_>>(), [(5, 0x1000), (10, 4), (0, 7)]);
+    let bytes = segment(2, &entries[..63]);
+    let part = Refused { cause: Cause::SizeNotWhole, at: 64 };
+    assert_eq!(File::new(&bytes).segment_dynamic(0).err(), Some(part));
+    let bytes = segment(2, &entries);
+    let cut = Refused { cause: Cause::TableOutside, at: 64 };
+    assert_eq!(File::new(&bytes[..183]).segment_dynamic(0).err(), Some(cut));
+    assert!(File::new(&bytes).segment_notes(0).unwrap().is_none());
+}
+
+#[test]
+fn addresses_are_mapped() {
+    let bytes = segment(1, &[7; 16]);
+    let file = File::new(&bytes);
+    assert_eq!(file.mapped(0x1004, 12), Ok(Some(elfsee::Range { at: 124, len: 12 })));
+    assert_eq!(file.mapped(0x1010, 0), Ok(Some(elfsee::Range { at: 136, len: 0 })));
+    assert_eq!(file.mapped(0x1004, 13), Ok(None));
+    assert_eq!(file.mapped(0xfff, 1), Ok(None));
+    let cut = Refused { cause: Cause::TableOutside, at: 64 };
+    assert_eq!(File::new(&bytes[..135]).mapped(0x1004, 12), Err(cut));
+}
+
+#[test]
+fn notes_end_behind_the_first_refusal() {
+    let note: Vec<u8> = [4u32, 2, 9].iter().flat_map(|word| word.to_le_bytes()).collect();
+    let bytes = segment(4, &[&note[..], b"GNU\0ab\0\0", &note[..]].concat());
+    let mut notes = File::new(&bytes).segment_notes(0).unwrap().unwrap();
+    let first = notes.next().unwrap().unwrap();
+    assert_eq!((first.name, first.descriptor, first.kind, first.at), (&b"GNU\0"[..], &b"ab"[..], 9, 120));
+    assert_eq!(notes.next(), Some(Err(Refused { cause: Cause::NoteCut, at: 140 })));
+    assert_eq!(notes.next(), None);
 }
 
 #[test]

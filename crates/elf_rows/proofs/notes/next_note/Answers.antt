@@ -1,5 +1,5 @@
 -- A step is that of the notes that are left.
-use Rattle.std.proofs.Common.{rules, ◌≡◌, ℕ, ◌+◌, ◌-◌, ◌<◌, ◌≤◌, List, min, length, drop, refl, ap, sym, ◌∙◌, arith, length-take}
+use Rattle.std.proofs.Common.{◌≡◌, ℕ, ◌+◌, ◌-◌, ◌<◌, ◌≤◌, min, length, drop, refl, ap, sym, ◌∙◌, arith, length-take}
 use Rattle.elf_model.specs.Bytes.{slice}
 use Rattle.elf_model.specs.Notes.{first_note, note_align, gap_between, descriptor_start, to_next}
 use Rattle.elf_record.specs.NoteHead.{IsNoteHead}

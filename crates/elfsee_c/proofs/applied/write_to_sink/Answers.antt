@@ -1,5 +1,5 @@
 -- What the sink took is the section.
-use Rattle.std.proofs.Common.{Some, ap, ◌∙◌}
+use Rattle.std.proofs.Common.{Some, ap, ◌∙◌, arith}
 use Rattle.elf_source.specs.Source.{Seen}
 use Rattle.elfsee_c.proofs.ApplyingLaws.{stands}
 use Rattle.elfsee_c.proofs.BudgetLaws.{spent}
@@ -22,3 +22,9 @@ returns-clause-text c =
 pub returns-clause-budget : goal.returns-clause-budget
 returns-clause-budget c =
     spent c.args.wanted.now.budget c.new-src.result c.limit.new.self c.apply-applied.new.src _ c.limit.ensures c.new-src.ensures.asked c.asked-outcome.ensures c.apply-applied.ensures.reads.within
+
+pub returns-clause-cost : goal.returns-clause-cost
+returns-clause-cost c =
+    let known = ap (λ (s : Seen). s.file) (c.limit.ensures.seen ∙ c.new-src.ensures.seen) ∙ ap Some c.new.ensures in
+    let cost = c.apply-applied.ensures.cost c.args.file.now known in
+    omega (arith, c.asked-outcome.ensures, c.limit.ensures.asked, c.new-src.ensures.asked, cost)
