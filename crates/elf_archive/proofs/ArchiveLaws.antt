@@ -1,0 +1,45 @@
+-- The listing of an archive, by its magic string and its members.
+use Rattle.std.proofs.Common.{◌≡◌, ℕ, ◌+◌, ◌≤◌, List, [], ◌∷◌, length, None, Err, refl, arith}
+use Rattle.std.specs.List.{list_any}
+use Rattle.elf_model.specs.Archive.{archive_checks, archive_items, before_members, is_refused, members_from, members_of, walk_items}
+use Rattle.elf_model.specs.ArchiveCost.{any_refused, archive_ceiling, archive_cost, members_cost}
+use Rattle.elf_model.specs.Budget.{IsBudget}
+use Rattle.elf_model.specs.Checks.{first_refusal}
+use Rattle.elf_model.specs.Listing.{Fault as FaultItem}
+use Rattle.elf_model.specs.Style.{Style}
+use Rattle.elf_model.specs.declared.causes.Refusal.{Refusal}
+use Rattle.elf_model.proofs.ListingLemmas.{guarded-passes, guarded-fault}
+use Rattle.elf_headers.specs.declared.fault.Fault.{Fault}
+use Rattle.elf_headers.specs.declared.fault.Fault.TheVariants.{Refused}
+use Rattle.elf_archive.specs.Archives.{MagicRead}
+
+pub magic_within : (size headers cap : ℕ) → 8 ≤ archive_ceiling size headers cap
+unfolding archive_ceiling
+magic_within size headers cap = omega arith
+
+pub magic_cost : (file : List ℕ) (headers : ℕ) (style : Style) (parts : ℕ) → 8 ≤ archive_cost file headers style parts
+unfolding archive_cost
+magic_cost file headers style parts = omega arith
+
+pub passed_cost : (file : List ℕ) (headers : ℕ) (style : Style) (parts : ℕ) → first_refusal (archive_checks file) ≡ None
+    → archive_cost file headers style parts ≡ 8 + members_cost (length file) file headers style parts before_members
+unfolding archive_cost
+passed_cost file headers style parts passed = rw passed refl
+
+pub passed_items : (file : List ℕ) (headers : ℕ) (style : Style) (parts : ℕ) → first_refusal (archive_checks file) ≡ None
+    → archive_items file headers style parts ≡ walk_items file headers style parts (members_from (length file) file style.cap before_members)
+unfolding archive_items members_of
+passed_items file headers style parts passed =
+    guarded-passes (archive_checks file) (walk_items file headers style parts (members_from (length file) file style.cap before_members)) passed
+
+pub all_refused : (file : List ℕ) (headers : ℕ) (style : Style) (parts : ℕ)
+    → any_refused file headers style parts ≡ list_any (is_refused file headers style parts) (members_from (length file) file style.cap before_members).members
+unfolding members_of
+all_refused file headers style parts = refl
+
+pub magic_alone : (file : List ℕ) (headers : ℕ) (style : Style) (parts : ℕ) (fault : Fault) → MagicRead {X = Unit {0}} file (Err fault) → (refusal : Refusal) → fault ≡ Refused refusal
+    → (IsBudget refusal → ⊥) → archive_items file headers style parts ≡ FaultItem refusal ∷ []
+unfolding archive_items members_of
+magic_alone file headers style parts fault read refusal is other =
+    let first = rw is at read in
+    guarded-fault (archive_checks file) (walk_items file headers style parts (members_from (length file) file style.cap before_members)) refusal (first other)

@@ -1,0 +1,13 @@
+mod FieldLaws
+mod MagicLaws
+mod MemberLaws
+mod NameLaws
+mod AskLaws
+mod ConsumeLaws
+mod NarrowLaws
+mod ToldLaws
+mod AllowanceLaws
+mod WalkLaws
+mod ListingLaws
+mod ArchiveLaws
+mod ReportLaws

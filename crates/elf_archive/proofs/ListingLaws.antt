@@ -1,0 +1,65 @@
+-- A member's line, and its listing behind it.
+use Rattle.std.proofs.Common.{◌≡◌, ℕ, ◌+◌, ◌-◌, ◌≤◌, nat_le, Bool, true, false, List, [], ◌∷◌, Err, refl, ap, ◌∙◌, subst, arith}
+use Rattle.std.proofs.lemmas.Bool.Decides.{nat_tests}
+use Rattle.elf_model.specs.Archive.{Extent, Member, Progress, bytes_in, is_elf, lists_members, next_member}
+use Rattle.elf_model.specs.ArchiveCost.{long_name_bytes, member_cost}
+use Rattle.elf_model.specs.Budget.{IsBudget}
+use Rattle.elf_model.specs.Cost.{ceiling, cost_where, listing_cost}
+use Rattle.elf_model.specs.Listing.{Fault as FaultItem}
+use Rattle.elf_model.specs.Style.{Style}
+use Rattle.elf_model.specs.declared.causes.Refusal.{Refusal}
+use Rattle.elf_headers.specs.declared.fault.Fault.{Fault}
+use Rattle.elf_headers.specs.declared.fault.Fault.TheVariants.{Refused, Source}
+use Rattle.elf_archive.specs.Listed.{allowance, next_items}
+use Rattle.elf_archive.specs.Members.{TellsMember, step_cost}
+use Rattle.elf_archive.proofs.AllowanceLaws.{allowed, header_allowed}
+use Rattle.elf_archive.proofs.AskLaws.{where_room}
+
+-- what a member costs where listings are asked for
+pub member_listed : (file : List ℕ) (headers : ℕ) (style : Style) (parts : ℕ) (m : Member) → lists_members parts ≡ true
+    → member_cost file headers style parts m ≡ 4 + cost_where (is_elf (bytes_in file m.extent)) (listing_cost (bytes_in file m.extent) headers style parts)
+unfolding member_cost
+member_listed file headers style parts m asked = rw asked refl
+
+pub member_elf : (file : List ℕ) (headers : ℕ) (style : Style) (parts : ℕ) (m : Member) (extent : Extent) → lists_members parts ≡ true → m.extent ≡ extent → is_elf (bytes_in file extent) ≡ true
+    → member_cost file headers style parts m ≡ 4 + listing_cost (bytes_in file extent) headers style parts
+member_elf file headers style parts m extent asked is elf =
+    member_listed file headers style parts m asked
+    ∙ (ap (λ (e : Extent). 4 + cost_where (is_elf (bytes_in file e)) (listing_cost (bytes_in file e) headers style parts)) is
+    ∙ ap (λ t. 4 + cost_where t (listing_cost (bytes_in file extent) headers style parts)) elf)
+
+-- a step takes no more than is allowed
+pub step_allowed : (size headers cap : ℕ) (p : Progress) → step_cost size cap p ≤ allowance (size - p.at) headers cap
+step_allowed size headers cap p = by_room (nat_le (p.at + 60) size) refl
+  where
+    by_room : (t : Bool) → nat_le (p.at + 60) size ≡ t → step_cost size cap p ≤ allowance (size - p.at) headers cap
+    by_room true e =
+        let room : p.at + 60 ≤ size = grind (arith, nat_tests) in
+        let most = header_allowed (size - p.at) headers cap (omega (arith, room)) in
+        omega (arith, where_room p.at size (60 + long_name_bytes cap) room, most)
+    by_room false e = let none : step_cost size cap p ≡ 0 = ap (λ t. cost_where t (60 + long_name_bytes cap)) e in omega (arith, none)
+
+-- a member, and the steps behind it
+pub member_allowed : (size headers cap bytes : ℕ) (p q : Progress) → p.at + 60 + bytes ≤ size → p.at + 60 + bytes ≤ q.at
+    → step_cost size cap p + (4 + ceiling bytes headers cap) + allowance (size - q.at) headers cap ≤ allowance (size - p.at) headers cap
+member_allowed size headers cap bytes p q within behind =
+    let all = allowed (size - p.at) (size - q.at) bytes headers cap (omega (arith, within, behind)) in
+    omega (arith, where_room p.at size (60 + long_name_bytes cap) (omega (arith, within)), all)
+
+-- a refusal that a step answers is what is listed
+pub unread_next : (file : List ℕ) (headers : ℕ) (style : Style) (parts : ℕ) (old new : Progress) (name : List ℕ) (fault : Fault) → TellsMember file style.cap old new name (Err fault)
+    → (refusal : Refusal) → fault ≡ Refused refusal → (IsBudget refusal → ⊥) → next_items file headers style parts (next_member file style.cap old) ≡ FaultItem refusal ∷ []
+unread_next file headers style parts old new name (Refused first) tells refusal is other =
+    let same : first ≡ refusal = cc in
+    ap (next_items file headers style parts) (tells (λ budget. other (subst (λ (r : Refusal). IsBudget r) same budget))) ∙ ap (λ (r : Refusal). FaultItem r ∷ []) same
+unread_next file headers style parts old new name (Source fault at) tells refusal is other = cc
+
+-- a step more, within what is allowed
+pub step_within : (size now headers slots cap bytes more total : ℕ) (p q : Progress) → now ≡ size → slots ≡ headers → bytes + allowance (size - p.at) headers cap ≤ total
+    → more + allowance (now - q.at) slots cap ≤ allowance (now - p.at) slots cap → (bytes + more) + allowance (size - q.at) headers cap ≤ total
+step_within size now headers slots cap bytes more total p q same_size same_slots so_far step =
+    let behind : allowance (now - q.at) slots cap ≡ allowance (size - q.at) headers cap =
+    ap (λ n. allowance (n - q.at) slots cap) same_size ∙ ap (λ h. allowance (size - q.at) h cap) same_slots in
+    let before : allowance (now - p.at) slots cap ≡ allowance (size - p.at) headers cap =
+    ap (λ n. allowance (n - p.at) slots cap) same_size ∙ ap (λ h. allowance (size - p.at) h cap) same_slots in
+    omega (arith, so_far, step, behind, before)

@@ -1,0 +1,97 @@
+-- What a member's header tells, and what the walk does by it.
+use Rattle.std.proofs.Common.{◌≡◌, ℕ, ◌+◌, ◌<◌, ◌≤◌, ◌==◌, ◌&&◌, ◌%◌, nat_lt, add-zero, true, false, List, length, take, Option, None, Some, Ok, Err, refl, sym, ap, ◌∙◌, arith}
+use Rattle.std.proofs.lemmas.Bool.Decides.{nat_tests}
+use Rattle.elf_model.specs.Bytes.{slice, field}
+use Rattle.elf_model.specs.Names.{Shown}
+use Rattle.elf_model.specs.Archive.{Extent, Member, Ends, Broken, OneMember, Progress, behind, member_name, names_behind, next_member}
+use Rattle.elf_headers.specs.declared.fault.Fault.{Fault}
+use Rattle.elf_headers.specs.declared.fault.Fault.TheVariants.{Refused, Source}
+use Rattle.elf_table.specs.NamesRead.{Refuses}
+use Rattle.elf_archive.specs.Members.{TellsMember, names_passed}
+use Rattle.elf_model.specs.Archive.{is_name_table, member_size, name_field, told_size}
+use Rattle.elf_model.specs.declared.causes.Cause.{Cause}
+use Rattle.elf_model.specs.declared.causes.Cause.TheVariants.{MemberCut}
+use Rattle.elf_model.proofs.Slices.{slice-slice, field-slice}
+
+-- the size that a header tells is the one that it tells in the file
+pub told-of : (file header : List ℕ) (at size : ℕ) → size ≡ 60 → header ≡ slice file at size → told_size header 0 ≡ told_size file at
+unfolding told_size
+told-of file header at size sixty is =
+    rw (is, sixty) (rw (field-slice file at 60 58 2 (omega arith), slice-slice file at 60 48 10 (omega arith)) refl)
+
+pub table-of : (file header : List ℕ) (at : ℕ) → header ≡ slice file at 60 → is_name_table header 0 ≡ is_name_table file at
+table-of file header at is =
+    rw is (ap (λ n. n == 0x2020202020202f2f && field (slice file at 60) 8 8 == 0x2020202020202020) (field-slice file at 60 0 8 (omega arith) ∙ ap (λ n. field file n 8) (add-zero at))
+    ∙ ap (λ n. field file at 8 == 0x2020202020202f2f && n == 0x2020202020202020) (field-slice file at 60 8 8 (omega arith)))
+
+pub name-of : (file header : List ℕ) (at : ℕ) → header ≡ slice file at 60 → take 16 header ≡ name_field file at
+name-of file header at is = rw is (slice-slice file at 60 0 16 (omega arith) ∙ ap (λ n. slice file n 16) (add-zero at))
+
+-- no header stands at an offset
+pub size-short : (file : List ℕ) (at : ℕ) → length file < at + 60 → member_size file at ≡ Err MemberCut
+unfolding member_size
+size-short file at short = grind (arith, nat_tests)
+
+pub size-none : (file : List ℕ) (at : ℕ) → told_size file at ≡ None → member_size file at ≡ Err MemberCut
+unfolding member_size
+size-none file at none = grind (arith, nat_tests, none)
+
+pub size-outside : (file : List ℕ) (at size : ℕ) → told_size file at ≡ Some size → length file < at + 60 + size → member_size file at ≡ Err MemberCut
+unfolding member_size
+size-outside file at size told outside = grind (arith, nat_tests, told)
+
+pub size-inside : (file : List ℕ) (at size : ℕ) → told_size file at ≡ Some size → at + 60 + size ≤ length file → member_size file at ≡ Ok size
+unfolding member_size
+size-inside file at size told inside = grind (arith, nat_tests, told)
+
+-- the walk at the file's end
+pub next-ends : (file : List ℕ) (cap : ℕ) (p : Progress) → length file ≤ p.at → next_member file cap p ≡ Ends
+unfolding next_member
+next-ends file cap p past = let no : nat_lt p.at (length file) ≡ false = grind (arith, nat_tests) in rw no refl
+
+-- where no member stands
+pub next-cut : (file : List ℕ) (cap : ℕ) (p : Progress) (cause : Cause) → p.at < length file → member_size file p.at ≡ Err cause
+    → next_member file cap p ≡ Broken (record { at = p.at; cause = cause })
+unfolding next_member
+next-cut file cap p cause below cut = let yes : nat_lt p.at (length file) ≡ true = grind (arith, nat_tests) in rw (yes, cut) refl
+
+-- where its name is refused
+pub next-unnamed : (file : List ℕ) (cap size : ℕ) (p : Progress) (cause : Cause) → p.at < length file → member_size file p.at ≡ Ok size → member_name file cap p.names p.at ≡ Err cause
+    → next_member file cap p ≡ Broken (record { at = p.at; cause = cause })
+unfolding next_member
+next-unnamed file cap size p cause below told cut = let yes : nat_lt p.at (length file) ≡ true = grind (arith, nat_tests) in rw (yes, told, cut) refl
+
+-- a member
+pub next-member : (file : List ℕ) (cap size : ℕ) (p : Progress) (name : Shown) → p.at < length file → member_size file p.at ≡ Ok size → member_name file cap p.names p.at ≡ Ok name
+    → next_member file cap p ≡ OneMember (record { index = p.index; extent = record { at = p.at + 60; size = size }; name = name })
+unfolding next_member
+next-member file cap size p name below told named = let yes : nat_lt p.at (length file) ≡ true = grind (arith, nat_tests) in rw (yes, told, named) refl
+
+-- what a refusal of the header, or of the name, tells of the walk
+pub tells-size : (file name : List ℕ) (cap : ℕ) (p : Progress) (fault : Fault) → p.at < length file → Refuses p.at fault (member_size file p.at) → TellsMember file cap p p name (Err fault)
+tells-size file name cap p (Refused refusal) below says = λ other.
+    let said = says other in
+    next-cut file cap p refusal.cause below said.1 ∙ ap (λ (a : ℕ). Broken (record { at = a; cause = refusal.cause })) (sym said.0)
+tells-size file name cap p (Source fault at) below says = tt
+
+pub tells-name : (file name : List ℕ) (cap size : ℕ) (p : Progress) (fault : Fault) → p.at < length file → member_size file p.at ≡ Ok size
+    → Refuses p.at fault (member_name file cap p.names p.at) → TellsMember file cap p p name (Err fault)
+tells-name file name cap size p (Refused refusal) below told says = λ other.
+    let said = says other in
+    next-unnamed file cap size p refusal.cause below told said.1 ∙ ap (λ (a : ℕ). Broken (record { at = a; cause = refusal.cause })) (sym said.0)
+tells-name file name cap size p (Source fault at) below told says = tt
+
+-- the table of names behind a member, by its header
+passed : (file header : List ℕ) (p : Progress) (extent : Extent) → header ≡ slice file p.at 60 → names_passed p.names header extent ≡ names_behind file p extent
+passed file header p extent is = go p.names refl
+  where
+    go : (names : Option Extent) → p.names ≡ names → names_passed p.names header extent ≡ names_behind file p extent
+    go (Some table) e = rw e refl
+    go None e = rw (e, table-of file header p.at is) refl
+
+-- the walk behind a member, by its header
+pub behind-is : (file header : List ℕ) (p new : Progress) (m : Member) → header ≡ slice file p.at 60 → new.at ≡ m.extent.at + m.extent.size + m.extent.size % 2
+    → new.index ≡ p.index + 1 → new.names ≡ names_passed p.names header m.extent → new ≡ behind file p m
+behind-is file header p new m is at index names =
+    let all = names ∙ passed file header p m.extent is in
+    rw (← at, ← index, ← all) refl

@@ -1,0 +1,105 @@
+-- The names of members, by what was read of them.
+use Rattle.std.proofs.Common.{◌≡◌, ℕ, Bool, ◌+◌, ◌-◌, ◌<◌, ◌≤◌, ◌++◌, List, length, take, drop, take-take, true, false, nat_lt, length-take, length-take-le, Option, None, Some, Result, Ok, Err, refl, sym, ap, ◌∙◌, drop-drop, arith}
+use Rattle.std.specs.Prelude.{OnOk}
+use Rattle.std.proofs.Math.Seq.{take-add}
+use Rattle.std.proofs.lemmas.Bool.Decides.{nat_tests}
+use Rattle.std.proofs.lemmas.List.{take_all}
+use Rattle.elf_model.specs.Bytes.{slice}
+use Rattle.elf_model.specs.Archive.{Extent, long_name, long_of, long_offset, member_name, newline_in, short_name, without_slash}
+use Rattle.elf_model.specs.Notes.{capped}
+use Rattle.elf_model.specs.declared.causes.Cause.TheVariants.{NameOutside, NameUnended}
+use Rattle.elf_model.proofs.Slices.{slice-rest}
+use Rattle.elf_archive.proofs.MemberLaws.{name-of}
+
+-- two slices, one behind the other
+pub two_slices : (file first rest : List ℕ) (at n m : ℕ) → first ≡ slice file at n → rest ≡ slice file (at + n) m → first ++ rest ≡ slice file at (n + m)
+two_slices file first rest at n m p q =
+    rw (p, q) (ap (λ r. take n (drop at file) ++ take m r) (sym (drop-drop n at file)) ∙ sym (take-add n m (drop at file)))
+
+-- what two reads gave, one behind the other
+pub two_reads : {X E : Type 0} (result : Result X E) (file first rest : List ℕ) (at n m whole : ℕ) → n ≡ 4096 → n + m ≡ whole → first ≡ slice file at n
+    → OnOk result (rest ≡ slice file (at + 4096) m) → OnOk result (first ++ rest ≡ slice file at whole)
+two_reads (Ok x) file first rest at n m whole first_is all p q =
+    rw (← all) (two_slices file first rest at n m p (q ∙ ap (λ k. slice file (at + k) m) (sym first_is)))
+two_reads (Err fault) file first rest at n m whole first_is all p q = tt
+
+-- without a table of names there is no long name
+pub long-none : (file : List ℕ) (cap offset : ℕ) → long_name file cap None offset ≡ Err NameOutside
+unfolding long_name
+long-none file cap offset = refl
+
+pub long-outside : (file : List ℕ) (cap offset : ℕ) (table : Extent) → table.size ≤ offset → long_name file cap (Some table) offset ≡ Err NameOutside
+unfolding long_name
+long-outside file cap offset table past =
+    let no : nat_lt offset table.size ≡ false = grind (arith, nat_tests) in rw no refl
+
+-- the bytes that were read are those of the name
+front_is : (file : List ℕ) (at size offset cap n : ℕ) → offset ≤ size → n ≤ cap + 2 → offset + n ≤ size → (n < cap + 2 → offset + n ≡ size)
+    → slice (slice file at size) offset (cap + 2) ≡ slice file (at + offset) n
+front_is file at size offset cap n inside few within whole = by_size (nat_lt n (cap + 2)) refl
+  where
+    rest : drop offset (slice file at size) ≡ slice file (at + offset) (size - offset)
+    rest = slice-rest file at size offset inside
+
+    by_size : (t : Bool) → nat_lt n (cap + 2) ≡ t → slice (slice file at size) offset (cap + 2) ≡ slice file (at + offset) n
+    by_size true e =
+        let less : n < cap + 2 = grind (arith, nat_tests) in
+        let all : size - offset ≡ n = omega (arith, whole less) in
+        ap (take (cap + 2)) (rest ∙ ap (slice file (at + offset)) all)
+        ∙ take_all (cap + 2) (slice file (at + offset) n) (omega (arith, length-take n (drop (at + offset) file)))
+    by_size false e =
+        let more : cap + 2 ≤ n = grind (arith, nat_tests) in
+        let same : n ≡ cap + 2 = omega arith in
+        ap (take (cap + 2)) rest ∙ take-take (cap + 2) (size - offset) (drop (at + offset) file) (omega arith) ∙ ap (slice file (at + offset)) (sym same)
+
+-- a long name, by the bytes that were read
+pub long_read : (file front : List ℕ) (table : Extent) (offset cap n : ℕ) → offset < table.size → n ≤ cap + 2 → offset + n ≤ table.size → (n < cap + 2 → offset + n ≡ table.size)
+    → front ≡ slice file (table.at + offset) n → long_name file cap (Some table) offset ≡ long_of cap front (newline_in front)
+unfolding long_name
+long_read file front table offset cap n inside few within whole is =
+    let yes : nat_lt offset table.size ≡ true = grind (arith, nat_tests) in
+    let same = front_is file table.at table.size offset cap n (omega arith) few within whole ∙ sym is in
+    rw (yes, same) refl
+
+-- it ends before a newline
+pub long-found : (cap place : ℕ) (front : List ℕ) → newline_in front ≡ Some place → long_of cap front (newline_in front) ≡ Ok (capped cap (without_slash (take place front)))
+long-found cap place front is = rw is refl
+
+-- the table ends before it does
+pub long-unended : (cap : ℕ) (front : List ℕ) → newline_in front ≡ None → length front < cap + 2 → long_of cap front (newline_in front) ≡ Err NameUnended
+long-unended cap front none short =
+    let no : nat_lt (cap + 1) (length front) ≡ false = grind (arith, nat_tests) in rw (none, no) refl
+
+-- it is longer than what is looked at
+pub long-cut : (cap : ℕ) (front : List ℕ) → newline_in front ≡ None → cap + 2 ≤ length front → long_of cap front (newline_in front) ≡ Ok (capped cap front)
+long-cut cap front none long =
+    let yes : nat_lt (cap + 1) (length front) ≡ true = grind (arith, nat_tests) in
+    let more : nat_lt cap (length front) ≡ true = grind (arith, nat_tests) in rw (none, yes, more) refl
+
+-- a member's name, by the field of its name
+pub name-long : (file header : List ℕ) (cap at offset : ℕ) (names : Option Extent) → header ≡ slice file at 60 → long_offset (take 16 header) ≡ Some offset
+    → member_name file cap names at ≡ long_name file cap names offset
+unfolding member_name
+name-long file header cap at offset names is told =
+    let e : long_offset (slice file at 16) ≡ Some offset = ap long_offset (sym (name-of file header at is)) ∙ told in rw (e, member_name) refl
+
+pub name-short : (file header : List ℕ) (cap at : ℕ) (names : Option Extent) → header ≡ slice file at 60 → long_offset (take 16 header) ≡ None
+    → member_name file cap names at ≡ Ok (capped cap (short_name (take 16 header)))
+unfolding member_name
+name-short file header cap at names is told =
+    let e : long_offset (slice file at 16) ≡ None = ap long_offset (sym (name-of file header at is)) ∙ told in
+    rw (e, member_name) (ap (λ field. Ok (capped cap (short_name field))) (sym (name-of file header at is)))
+
+-- a long name, by the bytes at its offset
+pub long_front : (file : List ℕ) (table : Extent) (offset cap n : ℕ) → offset < table.size → n ≤ cap + 2 → offset + n ≤ table.size → (n < cap + 2 → offset + n ≡ table.size)
+    → long_name file cap (Some table) offset ≡ long_of cap (slice file (table.at + offset) n) (newline_in (slice file (table.at + offset) n))
+long_front file table offset cap n inside few within whole = long_read file (slice file (table.at + offset) n) table offset cap n inside few within whole refl
+
+-- and by those that were read into the front of a buffer
+pub long_buffer : (file buffer : List ℕ) (table : Extent) (offset cap want : ℕ) → want ≤ length buffer → offset < table.size → want ≤ cap + 2 → offset + want ≤ table.size
+    → (want < cap + 2 → offset + want ≡ table.size)
+    → long_name file cap (Some table) offset
+    ≡ long_of cap (slice file (table.at + offset) (length (take want buffer))) (newline_in (slice file (table.at + offset) (length (take want buffer))))
+long_buffer file buffer table offset cap want room inside few within whole =
+    let size : length (take want buffer) ≡ want = length-take-le want buffer room in
+    rw size (long_front file table offset cap want inside few within whole)

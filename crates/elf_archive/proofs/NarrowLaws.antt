@@ -1,0 +1,124 @@
+-- A call on a part of a source is one on the source.
+use Rattle.std.proofs.Common.{◌≡◌, ℕ, Bool, false, ◌+◌, ◌<◌, ◌≤◌, List, take, drop, Some, Result, Ok, Err, sym, ap, ◌∙◌, inl, inr, ◌⊎◌, arith}
+use Rattle.elf_model.specs.Budget.{IsBudget}
+use Rattle.elf_model.specs.declared.causes.Refusal.{Refusal}
+use Rattle.elf_model.proofs.BudgetLaws.{is_budget}
+use Rattle.elf_source.specs.Source.{Counting, Seen, Whole, Reads, OverLimit, Faults, IsHonest, SameView, seen_by}
+use Rattle.elf_source.specs.Ranges.{IsWhole, Narrows, Widens, file_within}
+use Rattle.elf_source.specs.Output.{Written}
+use Rattle.elf_source.specs.declared.faults.SourceFault.{SourceFault}
+use Rattle.elf_source.specs.declared.faults.SourceFault.TheVariants.{Device, Ended}
+use Rattle.elf_headers.specs.declared.stop.Stop.{Stop}
+use Rattle.elf_headers.specs.declared.stop.Stop.TheVariants.{Refused, Source, Out}
+use Rattle.elf_listing.specs.Shows.{Costs}
+use Rattle.elf_archive.specs.Listed.{Consumes, IsAll, TellsEnd, WroteEnd, behind_start}
+
+-- what a source is a range of where it is a range of all bytes
+abbrev all_of : Seen → Whole
+all_of seen = record { size = seen.size; file = seen.file }
+
+some_is : {X : Type 0} {x y : X} → Some x ≡ Some y → x ≡ y
+some_is e = cc
+
+-- what it is a range of is the same before and behind
+same_whole : (a b c d : Counting) (n start size : ℕ) → IsAll a → Narrows a b start size → Reads b c n → Widens c d
+    → Some (all_of d.seen) ≡ Some (all_of a.seen)
+same_whole a b c d n start size whole narrows reads widens =
+    sym widens.is_whole ∙ (widens.same_whole ∙ (reads.keeps.same_whole ∙ (narrows.same_whole ∙ whole.whole)))
+
+-- where nothing is hidden, what was given to be read is what is seen
+all_shown : (c : Counting) → c.hides ≡ false → c.seen ≡ seen_by false c.source
+all_shown c shows = c.is_seen ∙ ap (λ b. seen_by b c.source) shows
+
+-- so that it is kept where that is
+same_view : (a d : Counting) → a.hides ≡ false → d.hides ≡ false → all_of d.seen ≡ all_of a.seen → a.seen.failures ≤ d.seen.failures → d.seen.whole ≡ a.seen.whole → SameView a d
+same_view a d first last same fewer whole =
+    let p = all_shown a first in
+    let q = all_shown d last in
+    record {
+      keeps = record {
+        same_size = sym (ap (λ (s : Seen). s.size) q) ∙ ap (λ (w : Whole). w.size) same ∙ ap (λ (s : Seen). s.size) p;
+        no_fewer = omega (arith, ap (λ (s : Seen). s.failures) p, ap (λ (s : Seen). s.failures) q, fewer);
+        same_file = sym (ap (λ (s : Seen). s.file) q) ∙ ap (λ (w : Whole). w.file) same ∙ ap (λ (s : Seen). s.file) p;
+        same_whole = sym (ap (λ (s : Seen). s.whole) q) ∙ whole ∙ ap (λ (s : Seen). s.whole) p;
+      };
+      hides = last ∙ sym first;
+    }
+
+-- the reads of a part are reads of the source
+pub part_reads : (a b c d : Counting) (n start size : ℕ) → IsAll a → Narrows a b start size → Reads b c n → Widens c d → Reads a d n
+part_reads a b c d n start size whole narrows reads widens =
+    let same : all_of d.seen ≡ all_of a.seen = some_is {X = Whole} (same_whole a b c d n start size whole narrows reads widens) in
+    record {
+      keeps = record {
+        same_size = ap (λ (w : Whole). w.size) same;
+        no_fewer = omega (arith, narrows.same_failures, widens.same_failures, reads.keeps.no_fewer);
+        same_file = ap (λ (w : Whole). w.file) same;
+        same_whole = widens.same_whole ∙ (reads.keeps.same_whole ∙ narrows.same_whole);
+      };
+      grows = omega (arith, narrows.same_asked, widens.same_asked, reads.grows);
+      at_most = omega (arith, narrows.same_asked, widens.same_asked, reads.at_most);
+      same_limit = widens.same_limit ∙ (reads.same_limit ∙ narrows.same_limit);
+      view = same_view a d whole.shows widens.shows same (omega (arith, narrows.same_failures, widens.same_failures, reads.keeps.no_fewer))
+          (widens.same_whole ∙ (reads.keeps.same_whole ∙ narrows.same_whole));
+    }
+
+-- a part of a file
+pub part_file : (a b : Counting) (file : List ℕ) (start size : ℕ) → IsAll a → Narrows a b start size → a.seen.file ≡ Some file → b.seen.file ≡ Some (take size (drop start file))
+part_file a b file start size whole narrows held =
+    narrows.file_is (all_of a.seen) whole.whole ∙ ap (λ f. file_within f start size) held
+
+-- a source that is honest gives an honest part
+honest_part : (a b c d : Counting) (n start size : ℕ) → IsAll a → Narrows a b start size → Reads b c n → Widens c d → IsHonest d.seen → IsHonest c.seen
+honest_part a b c d n start size whole narrows reads widens honest =
+    let all = part_reads a b c d n start size whole narrows reads widens in
+    record {
+      file = take size (drop start honest.file);
+      gives = reads.keeps.same_file ∙ part_file a b honest.file start size whole narrows (sym all.keeps.same_file ∙ honest.gives);
+      not_worn = rw (sym widens.same_failures) honest.not_worn;
+    }
+
+part_faults : (a b c d : Counting) (n start size : ℕ) (fault : SourceFault) → IsAll a → Narrows a b start size → Reads b c n → Widens c d → Faults b.seen c.seen fault → Faults a.seen d.seen fault
+part_faults a b c d n start size Device whole narrows reads widens says = omega (arith, narrows.same_failures, widens.same_failures, says)
+part_faults a b c d n start size Ended whole narrows reads widens says = λ honest. says (honest_part a b c d n start size whole narrows reads widens honest)
+
+part_limit : (a b c d : Counting) (n start size : ℕ) → Narrows a b start size → Widens c d → OverLimit b c n → OverLimit a d n
+part_limit a b c d n start size narrows widens over = record {
+  most = over.most;
+  is_set = sym narrows.same_limit ∙ over.is_set;
+  above = omega (arith, narrows.same_asked, over.above);
+  late = omega (arith, widens.same_asked, over.late);
+}
+
+-- an offset of a part is one of the source
+part_offset : (start at size all : ℕ) → at < size → start + size ≤ all → behind_start start at < all
+part_offset start at size all inside lies = omega arith
+
+-- what a member's refusal that is told says: nothing, unless the output failed
+wrote_explains : (a d : Counting) (b c : Written) (refusal : Refusal) (result : Result Bool Stop) (n : ℕ) → Reads a d n → WroteEnd b c refusal result → Consumes a d c result n
+wrote_explains a d b c refusal (Ok refused) n reads wrote = (reads, tt)
+wrote_explains a d b c refusal (Err (Refused other)) n reads wrote = absurd wrote
+wrote_explains a d b c refusal (Err (Source fault at)) n reads wrote = absurd wrote
+wrote_explains a d b c refusal (Err (Out fault)) n reads wrote = (reads, wrote.0)
+
+-- WHAT A MEMBER'S LISTING TAKES OF THE ARCHIVE is what it takes of the member
+pub part_consumes : {X : Type 0} (a b c d : Counting) (v w : Written) (n start size : ℕ) (listed : Result X Stop) (result : Result Bool Stop) → IsAll a → start + size ≤ a.seen.size
+    → Narrows a b start size → Costs b c v listed n → Widens c d → TellsEnd start v w listed result → Consumes a d w result n
+part_consumes a b c d v w n start size (Ok x) result whole lies narrows costs widens tells =
+    rw (tells.0) (part_reads a b c d n start size whole narrows costs.0 widens, tt)
+part_consumes a b c d v w n start size (Err (Refused refusal)) result whole lies narrows costs widens tells = by_cause (is_budget refusal.cause)
+  where
+    reads : Reads a d n
+    reads = part_reads a b c d n start size whole narrows costs.0 widens
+
+    by_cause : (IsBudget refusal) ⊎ (IsBudget refusal → ⊥) → Consumes a d w result n
+    by_cause (inl budget) =
+        let told = tells.0 budget in
+        let over = costs.1 budget in
+        let inside : behind_start start refusal.at < a.seen.size = part_offset start refusal.at size a.seen.size (omega (arith, over.0, narrows.size_is)) lies in
+        rw (told.0) (reads, λ is. (inside, part_limit a b c d n start size narrows widens over.1))
+    by_cause (inr other) = wrote_explains a d v w refusal result n reads (tells.1 other)
+part_consumes a b c d v w n start size (Err (Source fault at)) result whole lies narrows costs widens tells =
+    rw (tells.0) (part_reads a b c d n start size whole narrows costs.0 widens, part_faults a b c d n start size fault whole narrows costs.0 widens costs.1.0)
+part_consumes a b c d v w n start size (Err (Out fault)) result whole lies narrows costs widens tells =
+    rw (tells.0, tells.1) (part_reads a b c d n start size whole narrows costs.0 widens, costs.1)

@@ -1,0 +1,203 @@
+-- The report of an archive, and of one that a budget cuts short.
+use Rattle.std.proofs.Common.{◌≡◌, ℕ, Bool, ◌+◌, ◌^◌, ◌≤◌, List, ◌∷◌, ◌++◌, length, None, Some, Result, Ok, Err, Option, option_map, refl, sym, ap, subst, ◌∙◌, inl, inr, ◌⊎◌, append-nil, arith}
+use Rattle.std.specs.Prelude.{IfSome}
+use Rattle.elf_model.specs.Archive.{archive_items, archive_length_checks}
+use Rattle.elf_model.specs.ArchiveCost.{IsArchiveBudgeted, any_refused, archive_ceiling, archive_cost}
+use Rattle.elf_model.specs.Budget.{IsBudget, IsReport}
+use Rattle.elf_model.specs.Checks.{first_refusal}
+use Rattle.elf_model.specs.Lines.{refusal_line}
+use Rattle.elf_model.specs.Listing.{Item, Fault as FaultItem, lines_of, fault_of, report_of, end_text}
+use Rattle.elf_model.specs.Style.{Style}
+use Rattle.elf_model.specs.declared.causes.Cause.TheVariants.{Budget}
+use Rattle.elf_model.specs.declared.causes.Refusal.{Refusal}
+use Rattle.elf_model.proofs.BudgetLaws.{is_budget}
+use Rattle.elf_model.proofs.ListingLemmas.{listings_append}
+use Rattle.elf_source.specs.Source.{Counting, Seen, Limits, Reads, counted}
+use Rattle.elf_source.specs.Output.{Written, TakesFront}
+use Rattle.elf_source.proofs.LimitLaws.{budget_below, late_budget, within_budget}
+use Rattle.elf_source.proofs.PutsLaws.{Takes-then, TakesFront-then, TakesFront-more, TakesFront-all}
+use Rattle.elf_headers.specs.Permitted.{style_of}
+use Rattle.elf_headers.specs.declared.caps.Caps.{Caps}
+use Rattle.elf_headers.specs.declared.stop.Stop.{Stop}
+use Rattle.elf_headers.specs.declared.stop.Stop.TheVariants.{Refused, Source, Out}
+use Rattle.elf_listing.specs.Reports.{Wrote, WroteRefusal, TellsStop}
+use Rattle.elf_listing.specs.Shows.{WroteItems, Front, IsNext, EndsRefused, Stopped}
+use Rattle.elf_listing.proofs.EachLaws.{lines_front}
+use Rattle.elf_archive.specs.Listed.{ArchiveSays, AsksInArchive, BudgetSays, Explains, ReportsArchive}
+
+-- a report is what is listed, within every budget
+report_listed : (budget : Option ℕ) (file : List ℕ) (headers : ℕ) (style : Style) (parts : ℕ) (text : List ℕ) (fault : Option Refusal) → IsReport (archive_items file headers style parts) text fault
+    → IsArchiveBudgeted budget file headers style parts text fault
+report_listed None file headers style parts text fault is = is
+report_listed (Some budget) file headers style parts text fault is = inl is
+
+-- what is listed with these caps
+abbrev items_with : List ℕ → Caps → ℕ → List Item
+items_with file caps parts = archive_items file caps.limits.headers (style_of caps.style) parts
+
+-- a listing without a fault is its report
+pub whole_archive : {a b : Written} (file : List ℕ) (caps : Caps) (parts : ℕ) (any : Bool) → any ≡ any_refused file caps.limits.headers (style_of caps.style) parts
+    → WroteItems a b (archive_items file caps.limits.headers (style_of caps.style) parts) → ReportsArchive file caps parts a b (Ok any)
+whole_archive file caps parts any is whole =
+    let all : List Item = items_with file caps parts in
+    let text : lines_of all ≡ report_of all = sym (ap (λ end. lines_of all ++ end_text end) whole.no_fault ∙ append-nil (lines_of all)) in
+    record {
+      text = lines_of all;
+      fault = None;
+      listed = report_listed caps.limits.budget file caps.limits.headers (style_of caps.style) parts (lines_of all) None (record { text_is = text; fault_is = sym whole.no_fault });
+      wrote = (whole.takes, refl);
+      refused = λ same e. let here : any ≡ same = cc in sym here ∙ is;
+    }
+
+-- a fault that is no refusal
+abbrev IsFault : Stop → Type 0
+IsFault (Refused refusal) = ⊥
+IsFault (Source cause at) = Unit {0}
+IsFault (Out cause) = Unit {0}
+
+wrote_front : {a b : Written} (stop : Stop) (text : List ℕ) (fault : Option Refusal) → IsFault stop → TakesFront a b text → Wrote {X = Bool} a b (Err stop) text fault
+wrote_front (Refused refusal) text fault is front = absurd is
+wrote_front (Source cause at) text fault is front = front
+wrote_front (Out cause) text fault is front = front
+
+-- a front of a listing is a front of its report
+front_report : {a b : Written} (file : List ℕ) (caps : Caps) (parts : ℕ) (stop : Stop) → IsFault stop → TakesFront a b (lines_of (items_with file caps parts)) → ReportsArchive file caps parts a b (Err stop)
+front_report file caps parts stop is front =
+    let all : List Item = items_with file caps parts in
+    record {
+      text = report_of all;
+      fault = fault_of all;
+      listed = report_listed caps.limits.budget file caps.limits.headers (style_of caps.style) parts (report_of all) (fault_of all) (record { text_is = refl; fault_is = refl });
+      wrote = wrote_front stop (report_of all) (fault_of all) is (TakesFront-more (lines_of all) (end_text (fault_of all)) front);
+      refused = λ any e. cc;
+    }
+
+-- whole lines of a listing are a front of its lines
+front_lines : {a b : Written} (all : List Item) → Front a b all → TakesFront a b (lines_of all)
+front_lines all front =
+    let more = lines_front front.front front.rest in
+    let split = ap lines_of front.split ∙ more.1 in
+    rw split (TakesFront-all (lines_of front.front) more.0 front.takes)
+
+-- a listing that ended in a refusal, and what was put of its line
+ended : {a b : Written} (refusal : Refusal) (all : List Item) (ends : EndsRefused a b refusal all) → IsNext refusal ends.front.rest
+    → (lines_of all ≡ lines_of ends.front.front) × (fault_of all ≡ Some refusal)
+ended refusal all ends next =
+    let front = ends.front.front in
+    let whole : all ≡ front ++ (FaultItem refusal ∷ next.behind) = ends.front.split ∙ ap (λ rest. front ++ rest) next.is_next in
+    let both = listings_append front (FaultItem refusal ∷ next.behind) ends.front.no_fault in
+    (ap lines_of whole ∙ both.0 ∙ append-nil (lines_of front), ap fault_of whole ∙ both.1)
+
+-- the text of a listing that ended in a refusal
+ended_listed : {a b : Written} (file : List ℕ) (caps : Caps) (parts : ℕ) (refusal : Refusal) (before limited after : Counting) → before.asked ≤ 2 ^ 127
+    → Limits before limited caps.limits.budget → before.seen.size ≡ length file → BudgetSays limited after (archive_cost file caps.limits.headers (style_of caps.style) parts) refusal
+    → (ends : EndsRefused a b refusal (items_with file caps parts))
+    → IsArchiveBudgeted caps.limits.budget file caps.limits.headers (style_of caps.style) parts (lines_of ends.front.front ++ refusal_line refusal) (Some refusal)
+ended_listed file caps parts refusal before limited after small limits sized says ends = by_cause (is_budget refusal.cause)
+  where
+    cut : (budget : Option ℕ) → caps.limits.budget ≡ budget → IsBudget refusal → IsArchiveBudgeted budget file caps.limits.headers (style_of caps.style) parts (lines_of ends.front.front ++ refusal_line refusal) (Some refusal)
+    cut None none for_budget =
+        let over = (says for_budget).1 in
+        let most = limits.most ∙ ap (option_map (counted before.asked)) none in
+        let set = over.is_set in
+        cc
+    cut (Some budget) some for_budget =
+        let said = says for_budget in
+        let over = said.1 in
+        let most : Some (counted before.asked budget) ≡ Some over.most = ap (option_map (counted before.asked)) (sym some) ∙ sym limits.most ∙ over.is_set in
+        let is : counted before.asked budget ≡ over.most = cc in
+        let same = limits.asked in
+        let fits = limits.small budget some in
+        let size = ap (λ seen. seen.size) limits.seen in
+        inr (
+          budget_below budget before.asked over.most (archive_cost file caps.limits.headers (style_of caps.style) parts) small (sym is) fits (omega (arith, over.above, same)),
+          record {
+            front = ends.front.front;
+            rest = ends.front.rest;
+            split = ends.front.split;
+            no_fault = ends.front.no_fault;
+            refusal = refusal;
+            for_budget = for_budget;
+            inside = omega (arith, said.0, size, sized);
+            text_is = refl;
+            fault_is = refl;
+          },
+        )
+
+    by_cause : (refusal.cause ≡ Budget) ⊎ (refusal.cause ≡ Budget → ⊥)
+        → IsArchiveBudgeted caps.limits.budget file caps.limits.headers (style_of caps.style) parts (lines_of ends.front.front ++ refusal_line refusal) (Some refusal)
+    by_cause (inl for_budget) = cut caps.limits.budget refl for_budget
+    by_cause (inr other) =
+        let all : List Item = items_with file caps parts in
+        let is = ended refusal all ends (ends.next other) in
+        report_listed caps.limits.budget file caps.limits.headers (style_of caps.style) parts _ _
+        (record { text_is = sym (ap (λ lines. lines ++ end_text (fault_of all)) is.0 ∙ ap (λ end. lines_of ends.front.front ++ end_text end) is.1); fault_is = sym is.1 })
+
+-- a listing that ended in a refusal, whose line was told
+ended_report : {a b c : Written} (file : List ℕ) (caps : Caps) (parts : ℕ) (refusal : Refusal) (told : Stop) (before limited after : Counting) → before.asked ≤ 2 ^ 127
+    → Limits before limited caps.limits.budget → before.seen.size ≡ length file → BudgetSays limited after (archive_cost file caps.limits.headers (style_of caps.style) parts) refusal
+    → EndsRefused a b refusal (items_with file caps parts) → WroteRefusal b c refusal told → ReportsArchive file caps parts a c (Err told)
+ended_report {a} {b} {c} file caps parts refusal told before limited after small limits sized says ends line = record {
+  text = lines_of ends.front.front ++ refusal_line refusal;
+  fault = Some refusal;
+  listed = ended_listed file caps parts refusal before limited after small limits sized says ends;
+  wrote = wrote told line;
+  refused = λ any e. cc;
+}
+  where
+    wrote : (told : Stop) → WroteRefusal b c refusal told → Wrote {X = Bool} a c (Err told) (lines_of ends.front.front ++ refusal_line refusal) (Some refusal)
+    wrote (Refused same) line = (Takes-then (lines_of ends.front.front) (refusal_line refusal) ends.front.takes line.1, ap Some line.0)
+    wrote (Source cause at) line = absurd line
+    wrote (Out cause) line = TakesFront-then (lines_of ends.front.front) (refusal_line refusal) ends.front.takes line.1
+
+-- a listing that stopped, and what was told of that
+pub stopped_archive : {a c : Written} (b : Written) (file : List ℕ) (caps : Caps) (parts : ℕ) (stop told : Stop) (before limited after : Counting) (out : Written) → before.asked ≤ 2 ^ 127
+    → Limits before limited caps.limits.budget → before.seen.size ≡ length file → Explains limited after out (archive_cost file caps.limits.headers (style_of caps.style) parts) stop
+    → Stopped a b stop (archive_items file caps.limits.headers (style_of caps.style) parts) → TellsStop b c stop told → ReportsArchive file caps parts a c (Err told)
+stopped_archive b file caps parts (Refused refusal) told before limited after out small limits sized says ends tells =
+    ended_report file caps parts refusal told before limited after small limits sized says ends tells
+stopped_archive b file caps parts (Source cause at) told before limited after out small limits sized says ends tells =
+    rw (tells.0, tells.1) (front_report file caps parts (Source cause at) tt (front_lines _ ends))
+stopped_archive b file caps parts (Out cause) told before limited after out small limits sized says ends tells =
+    rw (tells.0, tells.1) (front_report file caps parts (Out cause) tt ends)
+
+-- what is asked for within a budget
+pub asks_in_archive : (caps : Caps) (s0 s1 s2 s3 : Counting) (n : ℕ) (result : Result Bool Stop) → s0.asked ≤ 2 ^ 127 → Limits s0 s1 caps.limits.budget
+    → Reads s1 s2 (archive_ceiling s1.seen.size caps.limits.headers caps.style.cap.bytes) → Limits s2 s3 None
+    → ((refusal : Refusal) → first_refusal (archive_length_checks s1.seen.size) ≡ Some refusal → s2 ≡ s1)
+    → ((refusal : Refusal) → result ≡ Err (Refused refusal) → BudgetSays s1 s2 n refusal) → AsksInArchive caps s0 s3 result
+asks_in_archive caps s0 s1 s2 s3 n result small set reads unset unread late =
+    let same = ap (λ (seen : Seen). archive_ceiling seen.size caps.limits.headers caps.style.cap.bytes) set.seen in
+    let size : s1.seen.size ≡ s0.seen.size = ap (λ (seen : Seen). seen.size) set.seen in
+    let within : IfSome caps.limits.budget (λ bytes. s2.asked ≤ s0.asked + bytes) = within_budget caps.limits.budget s0 s1 s2 set reads.same_limit in
+    record {
+      ceiling = omega (arith, reads.at_most, set.asked, unset.asked, same);
+      unread = λ refusal first.
+          let is = unread refusal (ap (λ (seen : Seen). first_refusal (archive_length_checks seen.size)) set.seen ∙ first) in
+          (unset.seen ∙ (ap (λ (s : Counting). s.seen) is ∙ set.seen), unset.asked ∙ (ap (λ (s : Counting). s.asked) is ∙ set.asked));
+      budget = rw unset.asked within;
+      late = λ refusal is budget.
+          let over = late_budget caps.limits.budget s0 s1 s2 n small set (late refusal is budget).1 in
+          (over.0, over.1, omega (arith, over.2, unset.asked));
+      inside = λ refusal is budget. omega (arith, (late refusal is budget).0, size);
+    }
+
+-- a refusal that was told is the one that stopped the listing
+pub told_late : (s1 s2 : Counting) (a b out : Written) (n : ℕ) (stop told : Stop) → TellsStop a b stop told → Explains s1 s2 out n stop
+    → (refusal : Refusal) → told ≡ Refused refusal → BudgetSays s1 s2 n refusal
+told_late s1 s2 a b out n (Refused first) (Refused same) tells says refusal is =
+    let all : first ≡ refusal = cc in subst (λ (r : Refusal). BudgetSays s1 s2 n r) all says
+told_late s1 s2 a b out n (Refused first) (Source cause at) tells says refusal is = absurd tells
+told_late s1 s2 a b out n (Refused first) (Out cause) tells says refusal is = cc
+told_late s1 s2 a b out n (Source cause at) told tells says refusal is = let other = tells.1 in cc
+told_late s1 s2 a b out n (Out cause) told tells says refusal is = let other = tells.1 in cc
+
+-- what was told of a stop says of the source and the output what the stop did
+pub told_says : (s0 s1 s2 s3 : Counting) (a b : Written) (n : ℕ) (budget : Option ℕ) (stop told : Stop) → Limits s0 s1 budget → Limits s2 s3 None
+    → TellsStop a b stop told → Explains s1 s2 a n stop → ArchiveSays s0 s3 b told
+told_says s0 s1 s2 s3 a b n budget (Refused first) (Refused same) set unset tells says = tt
+told_says s0 s1 s2 s3 a b n budget (Refused first) (Source cause at) set unset tells says = absurd tells
+told_says s0 s1 s2 s3 a b n budget (Refused first) (Out cause) set unset tells says = tells.0
+told_says s0 s1 s2 s3 a b n budget (Source cause at) told set unset tells says =
+    rw (tells.1, unset.seen, sym set.seen) says
+told_says s0 s1 s2 s3 a b n budget (Out cause) told set unset tells says = rw (tells.0, tells.1) says

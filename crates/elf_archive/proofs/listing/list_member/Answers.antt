@@ -1,0 +1,41 @@
+-- A member that is an ELF file is listed behind the four bytes that tell it.
+use Rattle.std.proofs.Common.{rules, ◌≡◌, true, ◌∙◌, arith}
+use Rattle.std.proofs.lemmas.Result.{err_from_is_err_and}
+use Rattle.elf_model.specs.Archive.{bytes_in, is_elf, lists_members}
+use Rattle.elf_model.specs.Cost.{listing_cost}
+use Rattle.elf_source.proofs.ReadsLaws.{Reads-to}
+use Rattle.elf_headers.specs.Permitted.{style_of}
+use Rattle.elf_listing.proofs.RowLaws.{Stopped-unread-first}
+use Rattle.elf_archive.specs.Members.{extent_of}
+use Rattle.elf_archive.proofs.ConsumeLaws.{Consumes-fault, Consumes-then}
+use Rattle.elf_archive.proofs.ListingLaws.{member_listed, member_elf}
+use Rattle.elf_archive.proofs.listing.list_member.Goals as goal
+
+pub returns-in_err-begins_elf-clause-cost : goal.returns-in_err-begins_elf-clause-cost
+returns-in_err-begins_elf-clause-cost g c = λ file held member is.
+    let p = err_from_is_err_and c.from_residual.result c.from_residual.ensures.1 in
+    let asked : lists_members c.args.choice.parts.0 ≡ true = search rules in
+    let cost = member_listed file c.args.store.now.slots (style_of c.args.choice.style) c.args.choice.parts.0 member asked in
+    rw (p.1, p.2) (Consumes-fault _ _ c.args.out.now _ 4 _ (omega (arith, cost)) c.in_err-begins_elf.ensures.reads c.in_err-begins_elf.ensures.says)
+
+pub returns-in_err-begins_elf-clause-text : goal.returns-in_err-begins_elf-clause-text
+returns-in_err-begins_elf-clause-text g c = λ file held member is.
+    let p = err_from_is_err_and c.from_residual.result c.from_residual.ensures.1 in
+    rw (p.1, p.2) (Stopped-unread-first _ _ _ c.in_err-begins_elf.ensures.fault, tt)
+
+pub returns-then-not-branch-clause-cost : goal.returns-then-not-branch-clause-cost
+returns-then-not-branch-clause-cost g c = λ file held member is.
+    let asked : lists_members c.args.choice.parts.0 ≡ true = search rules in
+    let cost = member_listed file c.args.store.now.slots (style_of c.args.choice.style) c.args.choice.parts.0 member asked in
+    let reads = c.in_ok-begins_elf.ensures.reads in
+    (Reads-to reads (omega (arith, cost, reads.at_most)), tt)
+
+pub returns-clause-cost : goal.returns-clause-cost
+returns-clause-cost g c = λ file held member is.
+    let asked : lists_members c.args.choice.parts.0 ≡ true = search rules in
+    let told = c.in_ok-begins_elf.ensures.read file held in
+    let elf : is_elf (bytes_in file (extent_of c.args.extent)) ≡ true = search rules in
+    let cost = member_elf file c.args.store.now.slots (style_of c.args.choice.style) c.args.choice.parts.0 member (extent_of c.args.extent) asked is elf in
+    let reads = c.in_ok-begins_elf.ensures.reads in
+    Consumes-then _ _ _ _ _ 4 (listing_cost (bytes_in file (extent_of c.args.extent)) c.args.store.now.slots (style_of c.args.choice.style) c.args.choice.parts.0) _ (omega (arith, cost)) reads
+    (c.list_range.ensures.cost file (reads.keeps.same_file ∙ held))

@@ -1,0 +1,91 @@
+-- Each step lists the next member behind those before it.
+use Rattle.std.proofs.Common.{rules, ◌≡◌, ℕ, ◌+◌, ◌||◌, length, None, refl, sym, ap, ◌∙◌, subst, arith}
+use Rattle.std.proofs.lemmas.Result.{err_from_is_err_and}
+use Rattle.elf_model.specs.Archive.{before_members}
+use Rattle.elf_source.proofs.GrowthLaws.{grows_not, grows_then}
+use Rattle.elf_source.proofs.ReadsLaws.{Reads-none, Reads-then}
+use Rattle.elf_headers.specs.Permitted.{style_of}
+use Rattle.elf_archive.specs.Members.{StandsIn}
+use Rattle.elf_archive.proofs.ListingLaws.{step_within}
+use Rattle.elf_archive.proofs.WalkLaws.{walk_begins, walk_ends, walk_more, walk_stops}
+use Rattle.elf_archive.proofs.listing.list_members.Goals as goal
+
+pub members-init : goal.members-init
+members-init g c = rw c.new-cursor.ensures (record {
+  stands = record { within = omega (arith, c.requires.size.0); passed = omega arith; names = tt };
+  slots = refl;
+  grows = grows_not _;
+  bytes = 0;
+  within = omega arith;
+  reads = Reads-none _ 0;
+  walks = λ file held. walk_begins file c.args.store.now.slots (style_of c.args.choice.style) c.args.choice.parts.0 (length file) before_members _ _ (omega arith);
+})
+
+pub returns-in_err-refused-clause-grows : goal.returns-in_err-refused-clause-grows
+returns-in_err-refused-clause-grows g c = grows_then c.members.invariant.grows c.in_err-refused.ensures.grows
+
+pub returns-in_err-refused-clause-walks : goal.returns-in_err-refused-clause-walks
+returns-in_err-refused-clause-walks g c = λ file held.
+    let p = err_from_is_err_and c.from_residual.result c.from_residual.ensures.1 in
+    let known = c.members.invariant in
+    let now = known.reads.keeps.same_file ∙ held in
+    let takes = rw known.slots at (c.in_err-refused.ensures.cost file now) in
+    let text = rw known.slots at (c.in_err-refused.ensures.text file now) in
+    rw (p.1, p.2) (walk_stops file c.args.store.now.slots (style_of c.args.choice.style) c.args.choice.parts.0 (length file) before_members c.members.cursor _ _ _ _ _ _ c.members.any _ (known.walks file held) takes text)
+
+pub members-preserved-then-any : goal.members-preserved-then-any
+members-preserved-then-any g c =
+    let known = c.members.invariant in
+    let stands = rw c.in-Some.is at c.in_ok-refused.ensures.stands in
+    let step = rw c.in-Some.is at c.in_ok-refused.ensures.within in
+    record {
+      stands = subst (λ (n : ℕ). StandsIn n c.list_next.new.cursor) known.reads.keeps.same_size stands.0;
+      slots = c.in_ok-refused.ensures.slots ∙ known.slots;
+      grows = grows_then known.grows c.in_ok-refused.ensures.grows;
+      bytes = known.bytes + step.bytes;
+      within = step_within c.args.src.now.seen.size c.members.src.seen.size c.args.store.now.slots c.members.store.slots c.args.choice.style.cap.bytes known.bytes step.bytes _ c.members.cursor c.list_next.new.cursor
+          known.reads.keeps.same_size known.slots known.within step.within;
+      reads = Reads-then known.reads step.takes.0;
+      walks = λ file held.
+          let now = known.reads.keeps.same_file ∙ held in
+          let takes = rw known.slots at (c.in_ok-refused.ensures.cost file now) in
+          let text = rw known.slots at (c.in_ok-refused.ensures.text file now) in
+          let steps = rw (c.in-Some.is, known.slots) at (c.in_ok-refused.ensures.steps file now) in
+          walk_more file c.args.store.now.slots (style_of c.args.choice.style) c.args.choice.parts.0 (length file) before_members c.members.cursor c.list_next.new.cursor _ _ _ _ _ _ c.members.any c.in-Some.refused _ (ap (λ a. a || c.in-Some.refused) c.if-any.true ∙ sym c.if-any.true) stands.1
+          (known.walks file held) steps takes text;
+    }
+
+pub members-preserved : goal.members-preserved
+members-preserved g c =
+    let known = c.members.invariant in
+    let stands = rw c.in-Some.is at c.in_ok-refused.ensures.stands in
+    let step = rw c.in-Some.is at c.in_ok-refused.ensures.within in
+    record {
+      stands = subst (λ (n : ℕ). StandsIn n c.list_next.new.cursor) known.reads.keeps.same_size stands.0;
+      slots = c.in_ok-refused.ensures.slots ∙ known.slots;
+      grows = grows_then known.grows c.in_ok-refused.ensures.grows;
+      bytes = known.bytes + step.bytes;
+      within = step_within c.args.src.now.seen.size c.members.src.seen.size c.args.store.now.slots c.members.store.slots c.args.choice.style.cap.bytes known.bytes step.bytes _ c.members.cursor c.list_next.new.cursor
+          known.reads.keeps.same_size known.slots known.within step.within;
+      reads = Reads-then known.reads step.takes.0;
+      walks = λ file held.
+          let now = known.reads.keeps.same_file ∙ held in
+          let takes = rw known.slots at (c.in_ok-refused.ensures.cost file now) in
+          let text = rw known.slots at (c.in_ok-refused.ensures.text file now) in
+          let steps = rw (c.in-Some.is, known.slots) at (c.in_ok-refused.ensures.steps file now) in
+          walk_more file c.args.store.now.slots (style_of c.args.choice.style) c.args.choice.parts.0 (length file) before_members c.members.cursor c.list_next.new.cursor _ _ _ _ _ _ c.members.any c.in-Some.refused _ (ap (λ a. a || c.in-Some.refused) c.if-any.false) stands.1
+          (known.walks file held) steps takes text;
+    }
+
+pub returns-clause-grows : goal.returns-clause-grows
+returns-clause-grows g c = grows_then c.members.invariant.grows c.in_ok-refused.ensures.grows
+
+pub returns-clause-walks : goal.returns-clause-walks
+returns-clause-walks g c = λ file held.
+    let known = c.members.invariant in
+    let none : c.in_ok-refused.field-0 ≡ None = search rules in
+    let now = known.reads.keeps.same_file ∙ held in
+    let takes = rw known.slots at (c.in_ok-refused.ensures.cost file now) in
+    let text = rw known.slots at (c.in_ok-refused.ensures.text file now) in
+    let steps = rw none at (c.in_ok-refused.ensures.steps file now) in
+    walk_ends file c.args.store.now.slots (style_of c.args.choice.style) c.args.choice.parts.0 (length file) before_members c.members.cursor c.list_next.new.cursor _ _ _ _ _ _ c.members.any (known.walks file held) steps takes text

@@ -1,0 +1,29 @@
+-- What was listed so far are the members before the cursor's, and what may still be asked for is left for those behind.
+use Rattle.std.proofs.Common.{◌≡◌, ℕ, ◌+◌, ◌-◌, ◌≤◌, List, length, Some}
+use Rattle.elf_model.specs.Archive.{before_members}
+use Rattle.elf_source.specs.Growth.{Grows}
+use Rattle.elf_source.specs.Source.{Reads}
+use Rattle.elf_headers.specs.Permitted.{style_of}
+use Rattle.elf_archive.specs.Listed.{allowance}
+use Rattle.elf_archive.specs.Members.{StandsIn}
+use Rattle.elf_archive.proofs.WalkLaws.{WalkSoFar}
+use Rattle.elf_archive.proofs.listing.list_members.Given as goal
+
+abbrev pub invariant-members : goal.invariant-members
+invariant-members g l =
+    let size = l.fn.src.seen.size in
+    let headers = l.fn.store.slots in
+    let cap = l.fn.choice.style.cap.bytes in
+    record {
+      stands : StandsIn size l.cursor;
+      slots : l.store.slots ≡ headers;
+      grows : Grows l.fn.out l.out;
+      bytes : ℕ;
+      within : bytes + allowance (size - l.cursor.at) headers cap ≤ allowance (size - 8) headers cap;
+      reads : Reads l.fn.src l.src bytes;
+      walks : (file : List ℕ) → l.fn.src.seen.file ≡ Some file
+          → WalkSoFar file headers (style_of l.fn.choice.style) l.fn.choice.parts.0 (length file) before_members l.cursor l.fn.src l.src l.fn.out l.out l.any;
+    }
+
+abbrev pub decreases-members : goal.decreases-members
+decreases-members g l = l.fn.src.seen.size + 1 - l.cursor.at

@@ -1,0 +1,105 @@
+-- A member's line stands behind those before it, and its listing behind that.
+use Rattle.std.proofs.Common.{◌+◌, [], ◌∷◌, Ok, Err, refl, ◌∙◌, arith}
+use Rattle.std.proofs.lemmas.Result.{err_from_is_err_and}
+use Rattle.elf_model.specs.Archive.{Member, member_line, member_listing, told}
+use Rattle.elf_model.specs.Cost.{ceiling}
+use Rattle.elf_model.specs.Listing.{Line}
+use Rattle.elf_source.proofs.GrowthLaws.{grows_then}
+use Rattle.elf_headers.specs.Permitted.{style_of}
+use Rattle.elf_listing.proofs.RowLaws.{Stopped-first, Whole-line}
+use Rattle.elf_listing.proofs.ShowLaws.{Stopped-then, Whole-then}
+use Rattle.elf_archive.specs.Members.{member_of, step_cost}
+use Rattle.elf_archive.proofs.ConsumeLaws.{Consumes-fault, Consumes-then}
+use Rattle.elf_archive.proofs.ListingLaws.{member_allowed, step_allowed, unread_next}
+use Rattle.elf_archive.proofs.listing.list_next.Goals as goal
+
+pub returns-in_err-member-clause-within : goal.returns-in_err-member-clause-within
+returns-in_err-member-clause-within g c =
+    let p = err_from_is_err_and c.from_residual.result c.from_residual.ensures.1 in
+    let most = step_allowed c.args.src.now.seen.size c.args.store.now.slots c.args.choice.style.cap.bytes c.args.cursor.now in
+    rw (p.1, p.2) (record {
+      bytes = step_cost c.args.src.now.seen.size c.args.choice.style.cap.bytes c.args.cursor.now;
+      within = omega (arith, most);
+      takes = Consumes-fault _ _ c.args.out.now _ (step_cost c.args.src.now.seen.size c.args.choice.style.cap.bytes c.args.cursor.now) _ (omega arith) c.in_err-member.ensures.asks.0 c.in_err-member.ensures.asks.1;
+    })
+
+pub returns-in_err-member-clause-text : goal.returns-in_err-member-clause-text
+returns-in_err-member-clause-text g c = λ file held.
+    let p = err_from_is_err_and c.from_residual.result c.from_residual.ensures.1 in
+    rw (p.1, p.2) (Stopped-first _ _ _
+    (unread_next file c.args.store.now.slots (style_of c.args.choice.style) c.args.choice.parts.0 c.args.cursor.now c.advance.new.self c.advance.new.name _ (c.in_err-member.ensures.tells file held)))
+
+pub returns-in_err-show_member-clause-within : goal.returns-in_err-show_member-clause-within
+returns-in_err-show_member-clause-within g c =
+    let p = err_from_is_err_and c.from_residual-in_err-show_member.result c.from_residual-in_err-show_member.ensures.1 in
+    let most = step_allowed c.args.src.now.seen.size c.args.store.now.slots c.args.choice.style.cap.bytes c.args.cursor.now in
+    rw (p.1, p.2) (record {
+      bytes = step_cost c.args.src.now.seen.size c.args.choice.style.cap.bytes c.args.cursor.now;
+      within = omega (arith, most);
+      takes = (c.in_ok-member.ensures.asks.0, c.in_err-show_member.ensures.puts.1);
+    })
+
+pub returns-in_err-refused-clause-grows : goal.returns-in_err-refused-clause-grows
+returns-in_err-refused-clause-grows g c =
+    grows_then (record { bytes = _; takes = c.in_ok-show_member.ensures.puts.0 }) c.in_err-refused.ensures.grows
+
+pub returns-in_err-refused-clause-within : goal.returns-in_err-refused-clause-within
+returns-in_err-refused-clause-within g c =
+    let p = err_from_is_err_and c.from_residual-in_err-refused.result c.from_residual-in_err-refused.ensures.1 in
+    let size = c.args.src.now.seen.size in
+    let headers = c.args.store.now.slots in
+    let cap = c.args.choice.style.cap.bytes in
+    let passes = rw c.in-Some.is at c.in_ok-member.ensures.steps in
+    let most = member_allowed size headers cap c.in-Some.member.extent.size c.args.cursor.now c.advance.new.self
+    (omega (arith, passes.begins, passes.lies)) (omega (arith, passes.begins, passes.ends)) in
+    rw (p.1, p.2) (record {
+      bytes = step_cost size cap c.args.cursor.now + (4 + ceiling c.in-Some.member.extent.size headers cap);
+      within = omega (arith, most);
+      takes = Consumes-then {X = Unit {0}} _ _ _ c.list_member.new.out (Err c.in_err-refused.field-0.0) (step_cost size cap c.args.cursor.now) (4 + ceiling c.in-Some.member.extent.size headers cap) _ (omega arith)
+          c.in_ok-member.ensures.asks.0 c.in_err-refused.ensures.ceiling;
+    })
+
+pub returns-in_err-refused-clause-text : goal.returns-in_err-refused-clause-text
+returns-in_err-refused-clause-text g c = λ file held.
+    let p = err_from_is_err_and c.from_residual-in_err-refused.result c.from_residual-in_err-refused.ensures.1 in
+    let tells = rw c.in-Some.is at (c.in_ok-member.ensures.tells file held) in
+    let m : Member = member_of c.in-Some.member c.advance.new.name in
+    let now = c.in_ok-member.ensures.asks.0.keeps.same_file ∙ held in
+    let shown = c.in_err-refused.ensures.text file now m refl in
+    rw (p.1, p.2, tells.0) (Stopped-then _ _ _ _ (Line (member_line m) ∷ []) (told (member_listing file c.args.store.now.slots (style_of c.args.choice.style) c.args.choice.parts.0 m))
+    (Whole-line (member_line m) c.in_ok-show_member.ensures.puts.0) shown.0)
+
+pub returns-clause-grows : goal.returns-clause-grows
+returns-clause-grows g c =
+    grows_then (record { bytes = _; takes = c.in_ok-show_member.ensures.puts.0 }) c.in_ok-refused.ensures.grows
+
+pub returns-clause-within : goal.returns-clause-within
+returns-clause-within g c =
+    let size = c.args.src.now.seen.size in
+    let headers = c.args.store.now.slots in
+    let cap = c.args.choice.style.cap.bytes in
+    let passes = rw c.in-Some.is at c.in_ok-member.ensures.steps in
+    let most = member_allowed size headers cap c.in-Some.member.extent.size c.args.cursor.now c.advance.new.self
+    (omega (arith, passes.begins, passes.lies)) (omega (arith, passes.begins, passes.ends)) in
+    record {
+      bytes = step_cost size cap c.args.cursor.now + (4 + ceiling c.in-Some.member.extent.size headers cap);
+      within = omega (arith, most);
+      takes = Consumes-then {X = Unit {0}} _ _ _ c.list_member.new.out (Ok tt) (step_cost size cap c.args.cursor.now) (4 + ceiling c.in-Some.member.extent.size headers cap) _ (omega arith)
+          c.in_ok-member.ensures.asks.0 (c.in_ok-refused.ensures.ceiling.0, tt);
+    }
+
+pub returns-clause-text : goal.returns-clause-text
+returns-clause-text g c = λ file held.
+    let tells = rw c.in-Some.is at (c.in_ok-member.ensures.tells file held) in
+    let m : Member = member_of c.in-Some.member c.advance.new.name in
+    let now = c.in_ok-member.ensures.asks.0.keeps.same_file ∙ held in
+    let shown = c.in_ok-refused.ensures.text file now m refl in
+    rw (tells.0) (Whole-then (Whole-line (member_line m) c.in_ok-show_member.ensures.puts.0) shown.0)
+
+pub returns-clause-steps : goal.returns-clause-steps
+returns-clause-steps g c = λ file held.
+    let tells = rw c.in-Some.is at (c.in_ok-member.ensures.tells file held) in
+    let m : Member = member_of c.in-Some.member c.advance.new.name in
+    let now = c.in_ok-member.ensures.asks.0.keeps.same_file ∙ held in
+    let shown = c.in_ok-refused.ensures.text file now m refl in
+    (m, tells.0, tells.1, shown.1)

@@ -1,0 +1,144 @@
+-- What the calls did that list the members of an archive.
+use Rattle.std.specs.Prelude.{ℕ, ◌≡◌, ◌<◌, ◌≤◌, ◌+◌, ◌-◌, ◌*◌, ◌/◌, ◌^◌, min, is_some, Bool, true, false, List, [], ◌∷◌, Option, None, Some, Result, Ok, Err, IfErr, IfOk, IfSome}
+use Rattle.std.specs.List.{list_any}
+use Rattle.elf_model.specs.Archive.{Member, Next, Ends, Broken, OneMember, Progress, archive_length_checks, behind, is_refused, member_items, members_from, next_member, told, walk_items}
+use Rattle.elf_model.specs.ArchiveCost.{IsArchiveBudgeted, any_refused, archive_ceiling, header_cost, long_name_bytes, member_cost, members_cost}
+use Rattle.elf_model.specs.Budget.{IsBudget}
+use Rattle.elf_model.specs.Checks.{first_refusal}
+use Rattle.elf_model.specs.Cost.{ceiling}
+use Rattle.elf_model.specs.Lines.{refusal_line}
+use Rattle.elf_model.specs.Listing.{Item, Fault, fault_of}
+use Rattle.elf_model.specs.Names.{name_bytes}
+use Rattle.elf_model.specs.Style.{Style}
+use Rattle.elf_model.specs.declared.causes.Refusal.{Refusal}
+use Rattle.elf_source.specs.Source.{Counting, Faults, OverLimit, Reads}
+use Rattle.elf_source.specs.Ranges.{IsWhole}
+use Rattle.elf_source.specs.Output.{Written, Takes, TakesFront, OutFails}
+use Rattle.elf_headers.specs.Permitted.{style_of}
+use Rattle.elf_headers.specs.declared.caps.Caps.{Caps}
+use Rattle.elf_headers.specs.declared.stop.Stop.{Stop}
+use Rattle.elf_headers.specs.declared.stop.Stop.TheVariants.{Refused, Source, Out}
+use Rattle.elf_listing.specs.Reports.{Wrote}
+use Rattle.elf_listing.specs.Shows.{Writes}
+use Rattle.elf_archive.specs.Members.{StandsIn}
+
+-- a source is a range of all bytes of an archive, and nothing of it is hidden
+pub record IsAll (c : Counting) : Type 0 where
+  pub whole : IsWhole c.seen
+  pub shows : c.hides ≡ false
+
+-- what a refusal says of the source, by reads of at most n bytes: where it is for want of budget, it names an offset of the file
+abbrev pub BudgetSays : Counting → Counting → ℕ → Refusal → Type 0
+BudgetSays old new n refusal = IsBudget refusal → (refusal.at < old.seen.size) × OverLimit old new n
+
+-- what a stop says of the source and the output
+abbrev pub Explains : Counting → Counting → Written → ℕ → Stop → Type 0
+Explains old new out n (Refused refusal) = BudgetSays old new n refusal
+Explains old new out n (Source fault at) = Faults old.seen new.seen fault
+Explains old new out n (Out fault) = OutFails out fault
+
+-- WHAT A CALL TAKES of the source: it asked for at most n bytes, and a stop says what is so
+abbrev pub Consumes : {X : Type 0} → Counting → Counting → Written → Result X Stop → ℕ → Type 0
+Consumes old new out result n = Reads old new n × IfErr result (Explains old new out n)
+
+-- an offset behind another one, as far as 64 bits go
+abbrev pub behind_start : ℕ → ℕ → ℕ
+behind_start start at = min (start + at) (2 ^ 64 - 1)
+
+-- the line of a member's refusal was written, and the answer is that there was one; or the output failed
+abbrev pub WroteEnd : Written → Written → Refusal → Result Bool Stop → Type 0
+WroteEnd old new refusal (Ok refused) = (refused ≡ true) × Takes old new (refusal_line refusal)
+WroteEnd old new refusal (Err (Refused other)) = ⊥
+WroteEnd old new refusal (Err (Source fault at)) = ⊥
+WroteEnd old new refusal (Err (Out fault)) = OutFails new fault × TakesFront old new (refusal_line refusal)
+
+-- how the listing of a member that begins at an offset of a file ended, as the archive's listing has it: a refusal of the member
+-- is a line; what else stopped it stops the archive's listing, with an offset of the file
+abbrev pub TellsEnd : {X : Type 0} → ℕ → Written → Written → Result X Stop → Result Bool Stop → Type 0
+TellsEnd start old new (Ok x) result = (result ≡ Ok false) × (new ≡ old)
+TellsEnd start old new (Err (Refused refusal)) result =
+    (IsBudget refusal → (result ≡ Err (Refused (record { at = behind_start start refusal.at; cause = refusal.cause }))) × (new ≡ old))
+    × ((IsBudget refusal → ⊥) → WroteEnd old new refusal result)
+TellsEnd start old new (Err (Source fault at)) result = (result ≡ Err (Source fault (behind_start start at))) × (new ≡ old)
+TellsEnd start old new (Err (Out fault)) result = (result ≡ Err (Out fault)) × (new ≡ old)
+
+-- the listing of a member was written, its refusal as a line, and the answer is whether there was one
+abbrev pub ListsTold : Written → Written → Result Bool Stop → List Item → Type 0
+ListsTold old new result items = Writes old new result (told items) × IfOk result (λ refused. refused ≡ is_some (fault_of items))
+
+-- what is listed at the next place of a walk
+abbrev pub next_items : List ℕ → ℕ → Style → ℕ → Next → List Item
+next_items file headers style parts Ends = []
+next_items file headers style parts (Broken refusal) = Fault refusal ∷ []
+next_items file headers style parts (OneMember member) = member_items file headers style parts member
+
+-- what that costs at most
+abbrev pub next_cost : List ℕ → ℕ → Style → ℕ → Progress → Next → ℕ
+next_cost file headers style parts p Ends = header_cost file style.cap p
+next_cost file headers style parts p (Broken refusal) = header_cost file style.cap p
+next_cost file headers style parts p (OneMember member) = header_cost file style.cap p + member_cost file headers style parts member
+
+-- a step of a listing tells where its walk has come to, and whether the member was refused
+abbrev pub Steps : List ℕ → ℕ → Style → ℕ → Progress → Progress → Result (Option Bool) Stop → Type 0
+Steps file headers style parts old new (Ok None) = next_member file style.cap old ≡ Ends
+Steps file headers style parts old new (Ok (Some refused)) =
+    (member : Member) × (next_member file style.cap old ≡ OneMember member) × (new ≡ behind file old member)
+    × (refused ≡ is_refused file headers style parts member)
+Steps file headers style parts old new (Err stop) = Unit {0}
+
+-- a walk over at most so many members wrote what is listed of them, for no more than they cost, and answers whether one was refused
+pub record Walks (file : List ℕ) (headers : ℕ) (style : Style) (parts most : ℕ) (p : Progress) (a b : Counting) (old new : Written) (result : Result Bool Stop) : Type 0 where
+  pub takes : Consumes a b new result (members_cost most file headers style parts p)
+  pub text : Writes old new result (walk_items file headers style parts (members_from most file style.cap p))
+  pub refused : IfOk result (λ any. any ≡ list_any (is_refused file headers style parts) (members_from most file style.cap p).members)
+
+-- what members in so many bytes may cost: for each 60 bytes a header, a long name, the four bytes that tell an ELF file and what
+-- an empty file may cost, and what the data may
+abbrev pub allowance : ℕ → ℕ → ℕ → ℕ
+allowance room headers cap =
+    room / 60 * (64 + long_name_bytes cap + ceiling 0 headers cap) + headers * (room + room / 16 * (32 + name_bytes cap))
+
+-- what is kept of that for the members behind a step
+abbrev pub kept_for : ℕ → ℕ → ℕ → Progress → Result (Option Bool) Stop → ℕ
+kept_for size headers cap new (Ok None) = 0
+kept_for size headers cap new (Ok (Some refused)) = allowance (size - new.at) headers cap
+kept_for size headers cap new (Err stop) = 0
+
+-- what a step takes for every source
+pub record StepsWithin (headers cap : ℕ) (old new : Progress) (a b : Counting) (out : Written) (result : Result (Option Bool) Stop) : Type 0 where
+  pub bytes : ℕ
+  pub within : bytes + kept_for a.seen.size headers cap new result ≤ allowance (a.seen.size - old.at) headers cap
+  pub takes : Consumes a b out result bytes
+
+-- the walk behind a member stands in the source still, and further on
+abbrev pub StandsBehind : ℕ → Progress → Progress → Result (Option Bool) Stop → Type 0
+StandsBehind size old new (Ok None) = Unit {0}
+StandsBehind size old new (Ok (Some refused)) = StandsIn size new × (old.at < new.at)
+StandsBehind size old new (Err stop) = Unit {0}
+
+-- THE TEXT: what these caps and parts list of an archive was written, its report or, where it costs more than the budget, a
+-- front of whole lines and the line of the budget; at a fault of the source or the output a front of that. At the end the answer
+-- is whether the listing of a member was refused
+pub record ReportsArchive (file : List ℕ) (caps : Caps) (parts : ℕ) (old new : Written) (result : Result Bool Stop) : Type 0 where
+  pub text : List ℕ
+  pub fault : Option Refusal
+  pub listed : IsArchiveBudgeted caps.limits.budget file caps.limits.headers (style_of caps.style) parts text fault
+  pub wrote : Wrote old new result text fault
+  pub refused : (any : Bool) → result ≡ Ok any → any ≡ any_refused file caps.limits.headers (style_of caps.style) parts
+
+-- what a fault says of the source and the output
+abbrev pub ArchiveSays : Counting → Counting → Written → Stop → Type 0
+ArchiveSays old new out (Refused refusal) = Unit {0}
+ArchiveSays old new out (Source fault at) = Faults old.seen new.seen fault
+ArchiveSays old new out (Out fault) = OutFails out fault
+
+-- WHAT IS ASKED FOR, for every source: no more than the ceiling, and nothing where the length refuses the file; never more than
+-- the budget; and where the answer is that the budget is used up, fewer than 4,096 bytes of it are left, and the answer names an
+-- offset of the file
+pub record AsksInArchive (caps : Caps) (old new : Counting) (result : Result Bool Stop) : Type 0 where
+  pub ceiling : new.asked ≤ old.asked + archive_ceiling old.seen.size caps.limits.headers caps.style.cap.bytes
+  pub unread : (refusal : Refusal) → first_refusal (archive_length_checks old.seen.size) ≡ Some refusal → new.seen ≡ old.seen × new.asked ≡ old.asked
+  pub budget : IfSome caps.limits.budget (λ bytes. new.asked ≤ old.asked + bytes)
+  pub late : (refusal : Refusal) → result ≡ Err (Refused refusal) → IsBudget refusal
+      → (bytes : ℕ) × (caps.limits.budget ≡ Some bytes) × (old.asked + bytes < new.asked + 4096)
+  pub inside : (refusal : Refusal) → result ≡ Err (Refused refusal) → IsBudget refusal → refusal.at < old.seen.size

@@ -1,0 +1,96 @@
+-- What a cursor over members tells.
+use Rattle.std.specs.Prelude.{ℕ, ◌≡◌, ◌+◌, ◌*◌, ◌≤◌, if◌then◌else◌, is_some, nat_le, Bool, List, take, Option, None, Some, Result, Ok, Err, IfErr, IfSome, option_map}
+use Rattle.elf_source.specs.Source.{Counting, Reads}
+use Rattle.elf_headers.specs.Faults.{Says}
+use Rattle.elf_model.specs.Archive.{Extent, Member, Ends, Broken, OneMember, Progress, behind, is_name_table, long_of, long_offset, newline_in, next_member}
+use Rattle.elf_model.specs.ArchiveCost.{long_name_bytes}
+use Rattle.elf_model.specs.Budget.{IsBudget}
+use Rattle.elf_model.specs.Cost.{cost_where}
+use Rattle.elf_model.specs.Names.{Shown}
+use Rattle.elf_model.specs.declared.causes.Cause.{Cause}
+use Rattle.elf_model.specs.declared.causes.Cause.TheVariants.{NameUnended}
+use Rattle.elf_headers.specs.declared.fault.Fault.{Fault}
+use Rattle.elf_headers.specs.declared.fault.Fault.TheVariants.{Refused, Source}
+use Rattle.elf_lines.specs.Pieces.{shown_as}
+use Rattle.elf_table.specs.NamesRead.{Refuses}
+use Rattle.elf_archive.specs.declared.member.Extent.{Extent as Place}
+use Rattle.elf_archive.specs.declared.member.Member.{Member as Given}
+
+-- some bytes of a file
+abbrev pub extent_of : Place → Extent
+extent_of place = record { at = place.at; size = place.size }
+
+-- the table of names, if there was one
+abbrev pub names_of : Option Place → Option Extent
+names_of names = option_map extent_of names
+
+-- a member, with the bytes of its name that are shown
+abbrev pub member_of : Given → List ℕ → Member
+member_of given name = record { index = given.index; extent = extent_of given.extent; name = shown_as given.is_cut name }
+
+-- some bytes lie within a source of this size
+abbrev pub LiesIn : ℕ → Extent → Type 0
+LiesIn size extent = extent.at + extent.size ≤ size
+
+-- a walk over the members stands within a source of this size, or just behind its end, and has passed over 60 bytes a member
+pub record StandsIn (size : ℕ) (p : Progress) : Type 0 where
+  pub within : p.at ≤ size + 1
+  pub passed : 8 + 60 * p.index ≤ p.at
+  pub names : IfSome p.names (LiesIn size)
+
+-- a read of the size of a member's data at an offset answers it, or refuses for its cause
+abbrev pub SizeRead : ℕ → Result ℕ Fault → Result ℕ Cause → Type 0
+SizeRead at (Ok size) answer = answer ≡ Ok size
+SizeRead at (Err fault) answer = Refuses at fault answer
+
+-- a read of a member's name answers whether it is cut, and leaves its bytes, or refuses for its cause
+abbrev pub NameShown : ℕ → Result Bool Fault → List ℕ → Result Shown Cause → Type 0
+NameShown at (Ok cut) name answer = answer ≡ Ok (shown_as cut name)
+NameShown at (Err fault) name answer = Refuses at fault answer
+
+-- a read of the bytes at a long name's offset answers whether the name is cut, and leaves its bytes, or none where the bytes end
+-- before the name does
+abbrev pub FrontRead : List ℕ → ℕ → Result (Option Bool) Fault → List ℕ → Type 0
+FrontRead front cap (Ok (Some cut)) name = long_of cap front (newline_in front) ≡ Ok (shown_as cut name)
+FrontRead front cap (Ok None) name = long_of cap front (newline_in front) ≡ Err NameUnended
+FrontRead front cap (Err fault) name = Unit {0}
+
+-- a step over the next member: it is given, with the bytes of its name, or the file's end is told, or its refusal
+abbrev pub TellsMember : List ℕ → ℕ → Progress → Progress → List ℕ → Result (Option Given) Fault → Type 0
+TellsMember file cap old new name (Ok None) = next_member file cap old ≡ Ends
+TellsMember file cap old new name (Ok (Some given)) =
+    (next_member file cap old ≡ OneMember (member_of given name)) × (new ≡ behind file old (member_of given name))
+TellsMember file cap old new name (Err (Refused refusal)) = (IsBudget refusal → ⊥) → next_member file cap old ≡ Broken refusal
+TellsMember file cap old new name (Err (Source fault at)) = Unit {0}
+
+-- what a step passes over: a member that it gives lies within the source, behind its header, and the walk stands behind it
+pub record PassesMember (size : ℕ) (old new : Progress) (given : Given) : Type 0 where
+  pub index : given.index ≡ old.index
+  pub begins : given.extent.at ≡ old.at + 60
+  pub lies : LiesIn size (extent_of given.extent)
+  pub stands : StandsIn size new
+  pub counts : new.index ≡ old.index + 1
+  pub ends : given.extent.at + given.extent.size ≤ new.at
+
+-- the same of an answer
+abbrev pub StepsOver : ℕ → Progress → Progress → Result (Option Given) Fault → Type 0
+StepsOver size old new (Ok None) = Unit {0}
+StepsOver size old new (Ok (Some given)) = PassesMember size old new given
+StepsOver size old new (Err fault) = Unit {0}
+
+-- the table of names behind a member with this header and these data: the first one decides
+abbrev pub names_passed : Option Extent → List ℕ → Extent → Option Extent
+names_passed (Some table) header extent = Some table
+names_passed None header extent = if is_name_table header 0 then Some extent else None
+
+-- what a name costs by the header
+abbrev pub name_cost : List ℕ → ℕ → ℕ
+name_cost header cap = cost_where (is_some (long_offset (take 16 header))) (long_name_bytes cap)
+
+-- what a step over the next member asks for at most, whatever stands there: nothing where no header has room
+abbrev pub step_cost : ℕ → ℕ → Progress → ℕ
+step_cost size cap p = cost_where (nat_le (p.at + 60) size) (60 + long_name_bytes cap)
+
+-- what reads did: they asked for at most n bytes, and a fault says what is so
+abbrev pub Asks : {X : Type 0} → Counting → Counting → Result X Fault → ℕ → Type 0
+Asks old new result n = Reads old new n × IfErr result (Says old new n)

@@ -1,0 +1,146 @@
+//! A cursor over the members of an archive.
+ghost use Rattle.std.specs.Prelude.{◌≡◌, ℕ, ◌+◌, ◌%◌, ◌^◌, ◌<◌, ◌≤◌, nat_le, List, Some, IfOk, OnOk};
+ghost use Rattle.elf_model.specs.Archive.{before_members, member_size};
+ghost use Rattle.elf_model.specs.ArchiveCost.{header_cost};
+ghost use Rattle.elf_model.specs.Bytes.{slice};
+ghost use Rattle.elf_model.specs.Cost.{cost_where};
+ghost use Rattle.elf_archive.specs.Members.{Asks, SizeRead, StandsIn, StepsOver, TellsMember, extent_of};
+ghost use Rattle.elf_archive.specs.Members.{names_of, names_passed, step_cost};
+
+use crate::fields::{HEADER_BYTES, is_name_table, told_size};
+use crate::member::{Extent, Member};
+use crate::names::read_name;
+use elf_headers::{Cap, Fault, fill, refused};
+use elf_record::Cause;
+use elf_source::{Counted, Source};
+use elf_table::NameBuf;
+use std::marker::Model;
+
+/// The size of the magic string in bytes: the first member's header stands behind it.
+pub(crate) const MAGIC_BYTES: u64 = 8;
+
+/// Goes over the members of an archive, from the first on. It holds no bytes.
+#[derive(Drop)]
+pub struct MemberCursor {
+    at: u64,
+    index: u64,
+    names: Option<Extent>,
+}
+
+impl Model for MemberCursor {
+    ghost use Rattle.elf_model.specs.Archive.{Progress};
+    ghost use Rattle.elf_archive.specs.Members.{names_of};
+
+    ghost Value = { Progress };
+
+    ghost view = { λ c. record { at = c.at; index = c.index; names = names_of c.names } };
+}
+
+impl MemberCursor {
+    /// A cursor before the first member.
+    pub fn new() -> MemberCursor
+        ensures { result ≡ before_members }
+    {
+        MemberCursor {
+            at: MAGIC_BYTES,
+            index: 0,
+            names: None,
+        }
+    }
+
+    /// Goes over the next member, of which the header is read, and the name where it stands in the
+    /// table of names. Its data are passed over, with the byte behind them where their size is odd.
+    /// At most `cap` bytes of its name are then in `name`. None at the file's end, which is below
+    /// 2^63.
+    ///
+    /// # Errors
+    /// Refused at the offset of the member's header: `MemberCut` where no header stands there, or
+    /// it or the data end past the end of the file; `NameOutside` where the name begins past the
+    /// table of names, or there is none, and `NameUnended` where the table ends before the name
+    /// does. A fault of a read, or a refusal for want of budget, names the offset that was asked
+    /// for. The cursor then stands where it stood.
+    pub fn advance<S: Source>(
+        &mut self,
+        src: &mut Counted<S>,
+        cap: Cap,
+        name: &mut NameBuf,
+    ) -> Result<Option<Member>, Fault>
+        requires size { src.old.seen.size < 2 ^ 63 }
+        requires stands { StandsIn src.old.seen.size self.old }
+        ensures asks { Asks src.old src.new result
+            (step_cost src.old.seen.size cap.bytes self.old) }
+        ensures cost { (file : List ℕ) → src.old.seen.file ≡ Some file →
+            Asks src.old src.new result (header_cost file cap.bytes self.old) }
+        ensures steps { StepsOver src.old.seen.size self.old self.new result }
+        ensures tells { (file : List ℕ) → src.old.seen.file ≡ Some file →
+            TellsMember file cap.bytes self.old self.new name.new result }
+    {
+        if self.at >= src.length() {
+            return Ok(None);
+        }
+        let at = self.at;
+        let mut header = [0; HEADER_BYTES];
+        let size = read_header(src, at, &mut header)?;
+        let is_cut = read_name(src, self.names, &header, at, cap, name)?;
+        let extent = Extent {
+            at: at + HEADER_BYTES as u64,
+            size,
+        };
+        let index = self.index;
+        self.pass(&header, extent);
+        Ok(Some(Member {
+            index,
+            extent,
+            is_cut,
+        }))
+    }
+
+    /// Goes behind the member with this header and these data.
+    fn pass(&mut self, header: &[u8; HEADER_BYTES], extent: Extent)
+        requires ends { extent.at + extent.size < 2 ^ 63 }
+        requires count { self.old.index < 2 ^ 63 }
+        ensures at { self.new.at ≡ extent.at + extent.size + extent.size % 2 }
+        ensures index { self.new.index ≡ self.old.index + 1 }
+        ensures names { self.new.names ≡ names_passed self.old.names header.now (extent_of extent) }
+    {
+        if self.names.is_none() && is_name_table(header) {
+            self.names = Some(extent);
+        }
+        self.at = extent.at + extent.size + extent.size % 2;
+        self.index += 1;
+    }
+}
+
+/// Reads the header of the member at an offset below the source's length, and answers the size of
+/// its data, which end at or below that length.
+///
+/// # Errors
+/// Refused at `at` with `MemberCut` where no header stands there, or it or the data end past the
+/// end of the file. Else a fault of the read, at its offset.
+fn read_header<S: Source>(
+    src: &mut Counted<S>,
+    at: u64,
+    header: &mut [u8; HEADER_BYTES],
+) -> Result<u64, Fault>
+    requires { (src.old.seen.size < 2 ^ 63) × (at < src.old.seen.size) }
+    ensures asks { Asks src.old src.new result
+        (cost_where (nat_le (at + 60) src.old.seen.size) 60) }
+    ensures lies { IfOk result (λ size. at + 60 + size ≤ src.old.seen.size) }
+    ensures header { (file : List ℕ) → src.old.seen.file ≡ Some file →
+        OnOk result (header.new ≡ slice file at 60) }
+    ensures size { (file : List ℕ) → src.old.seen.file ≡ Some file →
+        SizeRead at result (member_size file at) }
+{
+    let left = src.length() - at;
+    if left < HEADER_BYTES as u64 {
+        return refused(at, Cause::MemberCut);
+    }
+    fill(src, at, header)?;
+    let Some(size) = told_size(header) else {
+        return refused(at, Cause::MemberCut);
+    };
+    if left - (HEADER_BYTES as u64) < size {
+        return refused(at, Cause::MemberCut);
+    }
+    Ok(size)
+}

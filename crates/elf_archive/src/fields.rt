@@ -1,0 +1,142 @@
+//! The fields of a member's header: text in columns, each filled up with spaces.
+ghost use Rattle.std.specs.Prelude.{◌≡◌, ◌==◌, ◌+◌, ◌^◌, ◌<◌, ◌≤◌, length, position, if◌then◌else◌, Some, None, IfSome};
+ghost use Rattle.elf_model.specs.Archive.{are_spaces, digits_then_spaces, is_decimal};
+ghost use Rattle.elf_model.specs.Archive.{is_name_table, long_offset, padded_decimal, short_name};
+ghost use Rattle.elf_model.specs.Archive.{told_size, trimmed, without_slash};
+
+use elf_record::{u16_at, u64_at};
+use memchr::memchr;
+
+/// The size of a member's header in bytes.
+pub(crate) const HEADER_BYTES: usize = 60;
+
+/// The size of the field of the name in bytes.
+pub(crate) const NAME_BYTES: usize = 16;
+
+/// The two bytes that end a header, a grave accent and a newline.
+const HEADER_MARK: u16 = 0x0a60;
+
+/// The size of its data that a header tells; None where the header does not end in its mark, or the
+/// field is no decimal number.
+#[tactic(auto, unfolding(elf_model::specs::Archive::told_size))]
+pub(crate) fn told_size(header: &[u8; HEADER_BYTES]) -> Option<u64>
+    ensures value { result ≡ told_size header.now 0 }
+    ensures small { IfSome result (λ size. size < 2 ^ 62) }
+{
+    if u16_at(header, 58) != HEADER_MARK {
+        return None;
+    }
+    padded_decimal(&header[48..58])
+}
+
+/// Whether a header is that of the table of names: its name is two slashes.
+pub(crate) fn is_name_table(header: &[u8; HEADER_BYTES]) -> bool
+    ensures { result ≡ is_name_table header.now 0 }
+{
+    u64_at(header, 0) == 0x2020_2020_2020_2f2f && u64_at(header, 8) == 0x2020_2020_2020_2020
+}
+
+/// The offset in the table of names that the field of a name tells, where it tells one.
+#[tactic(auto, unfolding(elf_model::specs::Archive::long_offset))]
+pub(crate) fn long_offset(field: &[u8]) -> Option<u64>
+    requires { length field.now ≡ 16 }
+    ensures value { result ≡ long_offset field.now }
+    ensures small { IfSome result (λ offset. offset < 2 ^ 62) }
+{
+    if field[0] != b'/' {
+        return None;
+    }
+    padded_decimal(&field[1..16])
+}
+
+/// The name that stands in its field itself.
+#[tactic(auto, unfolding(elf_model::specs::Archive::short_name))]
+pub(crate) fn short_name(field: &[u8]) -> &[u8]
+    ensures { result.now ≡ short_name field.now }
+{
+    match find_byte(b'/', field) {
+        None | Some(0) => trimmed(field),
+        Some(place) => &field[..place],
+    }
+}
+
+/// A name of the table of names without the slash at its end.
+#[tactic(auto, unfolding(elf_model::specs::Archive::without_slash))]
+pub(crate) fn without_slash(name: &[u8]) -> &[u8]
+    ensures { result.now ≡ without_slash name.now }
+{
+    if name.is_empty() || name[name.len() - 1] != b'/' {
+        return name;
+    }
+    &name[..name.len() - 1]
+}
+
+/// The place of the first byte that is `byte`.
+pub(crate) fn find_byte(byte: u8, bytes: &[u8]) -> Option<usize>
+    ensures first { position (λ b. b == byte) bytes.now ≡ result }
+    ensures below { IfSome result (λ place. place < length bytes.now) }
+{
+    memchr(byte, bytes)
+}
+
+/// The decimal number in a field of at most 15 bytes: a digit or more, then spaces up to the end.
+#[tactic(auto, unfolding(elf_model::specs::Archive::padded_decimal))]
+fn padded_decimal(field: &[u8]) -> Option<u64>
+    requires some { 0 < length field.now }
+    requires few { length field.now ≤ 15 }
+    ensures value { result ≡ padded_decimal field.now }
+    ensures small { IfSome result (λ number. number < 2 ^ 62) }
+{
+    if !is_decimal(field[0]) {
+        return None;
+    }
+    digits_then_spaces(field)
+}
+
+/// The number that the digits before any other byte spell, where spaces alone stand from there on.
+fn digits_then_spaces(field: &[u8]) -> Option<u64>
+    requires { length field.now ≤ 15 }
+    ensures value { result ≡ digits_then_spaces 0 field.now }
+    ensures small { IfSome result (λ number. number < 2 ^ 62) }
+{
+    let mut number: u64 = 0;
+    for (place, byte) in field.iter().enumerate() {
+        if !is_decimal(*byte) {
+            return spaced(number, &field[place..]);
+        }
+        number = 10 * number + u64::from(*byte - b'0');
+    }
+    Some(number)
+}
+
+/// A number behind which spaces alone stand.
+fn spaced(number: u64, rest: &[u8]) -> Option<u64>
+    ensures { result ≡ (if are_spaces rest.now then Some number else None) }
+{
+    if are_spaces(rest) { Some(number) } else { None }
+}
+
+/// Whether a byte is a decimal digit.
+fn is_decimal(byte: u8) -> bool
+    ensures { result ≡ is_decimal byte }
+{
+    byte.is_ascii_digit()
+}
+
+/// Whether all bytes are spaces.
+fn are_spaces(bytes: &[u8]) -> bool
+    ensures { result ≡ are_spaces bytes.now }
+{
+    bytes.iter().all(|byte| *byte == b' ')
+}
+
+/// Bytes without the spaces at their end.
+fn trimmed(bytes: &[u8]) -> &[u8]
+    ensures { result.now ≡ trimmed bytes.now }
+{
+    let mut end = bytes.len();
+    while end > 0 && bytes[end - 1] == b' ' {
+        end -= 1;
+    }
+    &bytes[..end]
+}

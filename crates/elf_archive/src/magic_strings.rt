@@ -1,0 +1,80 @@
+//! The magic strings of an archive and of an ELF file.
+ghost use Rattle.std.specs.Prelude.{◌≡◌, ℕ, ◌^◌, ◌<◌, ◌≤◌, List, Some, Err, IfErr, IfOk, OnOk};
+ghost use Rattle.elf_model.specs.Archive.{archive_length_checks, bytes_in, is_elf};
+ghost use Rattle.elf_model.specs.Checks.{first_refusal};
+ghost use Rattle.elf_model.specs.declared.causes.Refusal.{Refusal as Refuses};
+ghost use Rattle.elf_headers.specs.Faults.{IsOfRead, Says};
+ghost use Rattle.elf_source.specs.Source.{Reads};
+ghost use Rattle.elf_archive.specs.Archives.{MagicRead};
+ghost use Rattle.elf_archive.specs.Members.{LiesIn, extent_of};
+
+use crate::cursor::MAGIC_BYTES;
+use crate::member::Extent;
+use elf_headers::{Fault, fill, refused};
+use elf_record::{Cause, u64_at, word};
+use elf_source::{Counted, Source};
+
+/// The magic string of an archive, `!<arch>` and a newline.
+const ARCHIVE_MAGIC: u64 = 0x0a3e_6863_7261_3c21;
+
+/// That of an archive whose members are in other files, `!<thin>` and a newline.
+const THIN_MAGIC: u64 = 0x0a3e_6e69_6874_3c21;
+
+/// The first four bytes of an ELF file (gABI 4, ELF Identification).
+const ELF_MAGIC: u32 = 0x464c_457f;
+
+/// Reads and checks the magic string of an archive: one read of 8 bytes at offset 0, or none where
+/// the length alone refuses the file.
+///
+/// # Errors
+/// Refused at offset 0: `TooLong` where the length is 2^63 or more, `Short` where it is below 8,
+/// both with nothing read; `Thin` for the magic string of a thin archive, `NotArchive` for other
+/// bytes. Else a fault of the read, or a refusal for want of budget, at offset 0.
+pub fn magic<S: Source>(src: &mut Counted<S>) -> Result<(), Fault>
+    ensures reads { Reads src.old src.new 8 }
+    ensures says { IfErr result (Says src.old src.new 8) }
+    ensures unread { (refusal : Refuses) →
+        first_refusal (archive_length_checks src.old.seen.size) ≡ Some refusal →
+        (result ≡ Err (Fault.Refused refusal)) × (src.new ≡ src.old) }
+    ensures size { OnOk result ((8 ≤ src.old.seen.size) × (src.old.seen.size < 2 ^ 63)) }
+    ensures read { (file : List ℕ) → src.old.seen.file ≡ Some file → MagicRead file result }
+{
+    let length = src.length();
+    if length >= 1 << 63 {
+        return refused(0, Cause::TooLong);
+    }
+    if length < MAGIC_BYTES {
+        return refused(0, Cause::Short);
+    }
+    let mut bytes = [0; MAGIC_BYTES as usize];
+    fill(src, 0, &mut bytes)?;
+    let magic = u64_at(&bytes, 0);
+    if magic == THIN_MAGIC {
+        return refused(0, Cause::Thin);
+    }
+    if magic != ARCHIVE_MAGIC {
+        return refused(0, Cause::NotArchive);
+    }
+    Ok(())
+}
+
+/// Whether some bytes of a file, as a member's data, begin with the magic number of ELF: one read of
+/// four bytes, or none where they are fewer. They end at or below the source's length.
+///
+/// # Errors
+/// A fault of the read, or a refusal for want of budget, at the offset of the bytes.
+pub fn begins_elf<S: Source>(src: &mut Counted<S>, extent: Extent) -> Result<bool, Fault>
+    requires lies { LiesIn src.old.seen.size (extent_of extent) }
+    ensures reads { Reads src.old src.new 4 }
+    ensures says { IfErr result (Says src.old src.new 4) }
+    ensures fault { IfErr result IsOfRead }
+    ensures read { (file : List ℕ) → src.old.seen.file ≡ Some file →
+        IfOk result (λ elf. elf ≡ is_elf (bytes_in file (extent_of extent))) }
+{
+    if extent.size < 4 {
+        return Ok(false);
+    }
+    let mut bytes = [0; 4];
+    fill(src, extent.at, &mut bytes)?;
+    Ok(word(&bytes) == ELF_MAGIC)
+}

@@ -1,0 +1,21 @@
+//! A member of an archive.
+
+/// Some bytes of a file: the offset of the first, and how many there are.
+#[derive(Clone, Copy, Debug, PartialEq, Eq)]
+pub struct Extent {
+    /// The file offset in bytes.
+    pub at: u64,
+    /// The number of bytes.
+    pub size: u64,
+}
+
+/// A member of an archive.
+#[derive(Clone, Copy, Debug, PartialEq, Eq)]
+pub struct Member {
+    /// Its index among the members, from 0 on.
+    pub index: u64,
+    /// Its data.
+    pub extent: Extent,
+    /// Whether its name has more bytes than are shown.
+    pub is_cut: bool,
+}

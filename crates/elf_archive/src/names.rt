@@ -1,0 +1,154 @@
+//! The names of members.
+ghost use Rattle.std.specs.Prelude.{◌≡◌, ◌+◌, ℕ, ◌^◌, ◌<◌, ◌≤◌, List, length, Some, IfErr, IfSome, OnOk};
+ghost use Rattle.elf_model.specs.Archive.{long_name, member_name};
+ghost use Rattle.elf_model.specs.ArchiveCost.{long_name_bytes};
+ghost use Rattle.elf_model.specs.Bytes.{slice};
+ghost use Rattle.elf_model.specs.Notes.{capped};
+ghost use Rattle.elf_headers.specs.Faults.{IsOfRead, Says};
+ghost use Rattle.elf_lines.specs.Pieces.{shown_as};
+ghost use Rattle.elf_source.specs.Source.{Reads};
+ghost use Rattle.elf_archive.specs.Members.{FrontRead, LiesIn, NameShown, name_cost, names_of};
+
+use crate::fields::{HEADER_BYTES, NAME_BYTES, find_byte, long_offset, short_name, without_slash};
+use crate::member::Extent;
+use elf_headers::{Cap, Fault, fill, refused};
+use elf_record::Cause;
+use elf_source::{Counted, READ_BYTES, Source};
+use elf_table::NameBuf;
+
+/// The most bytes of a long name that are looked at: a slash and a newline more than are shown.
+pub(crate) const LONG_NAME_BYTES: usize = 4098;
+
+/// Leaves in `name` what is shown of a member's name with at most `cap` bytes, and answers whether
+/// that is cut. `header` is the member's header, which stands at `at`, and `names` is the table of
+/// names, which lies within the source. A long name is read: at most `cap + 2` bytes, never past
+/// the table's end.
+///
+/// # Errors
+/// Refused at `at`: `NameOutside` where there is no table of names or the name begins past its end,
+/// `NameUnended` where the table ends before the name does. Else a fault of a read, at its offset.
+pub(crate) fn read_name<S: Source>(
+    src: &mut Counted<S>,
+    names: Option<Extent>,
+    header: &[u8; HEADER_BYTES],
+    at: u64,
+    cap: Cap,
+    name: &mut NameBuf,
+) -> Result<bool, Fault>
+    requires size { src.old.seen.size < 2 ^ 63 }
+    requires lies { IfSome (names_of names) (LiesIn src.old.seen.size) }
+    ensures reads { Reads src.old src.new (name_cost header.now cap.bytes) }
+    ensures says { IfErr result (Says src.old src.new (name_cost header.now cap.bytes)) }
+    ensures read { (file : List ℕ) → src.old.seen.file ≡ Some file →
+        header.now ≡ slice file at 60 →
+        NameShown at result name.new (member_name file cap.bytes (names_of names) at) }
+{
+    let field = &header[..NAME_BYTES];
+    match long_offset(field) {
+        Some(offset) => read_long(src, names, offset, at, cap, name),
+        None => Ok(put_name(short_name(field), cap, name)),
+    }
+}
+
+/// Reads the name at an offset of the table of names.
+///
+/// # Errors
+/// As [`read_name`].
+fn read_long<S: Source>(
+    src: &mut Counted<S>,
+    names: Option<Extent>,
+    offset: u64,
+    at: u64,
+    cap: Cap,
+    name: &mut NameBuf,
+) -> Result<bool, Fault>
+    requires size { src.old.seen.size < 2 ^ 63 }
+    requires lies { IfSome (names_of names) (LiesIn src.old.seen.size) }
+    ensures reads { Reads src.old src.new (long_name_bytes cap.bytes) }
+    ensures says { IfErr result (Says src.old src.new (long_name_bytes cap.bytes)) }
+    ensures read { (file : List ℕ) → src.old.seen.file ≡ Some file →
+        NameShown at result name.new (long_name file cap.bytes (names_of names) offset) }
+{
+    let Some(table) = names else {
+        return refused(at, Cause::NameOutside);
+    };
+    if offset >= table.size {
+        return refused(at, Cause::NameOutside);
+    }
+    let want = (u64::from(cap.bytes) + 2).min(table.size - offset);
+    let mut buffer = [0; LONG_NAME_BYTES];
+    match read_ended(
+        src,
+        table.at + offset,
+        &mut buffer[..want as usize],
+        cap,
+        name,
+    )? {
+        Some(is_cut) => Ok(is_cut),
+        None => refused(at, Cause::NameUnended),
+    }
+}
+
+/// Reads the bytes from the offset `at` on into `front`, at most `cap + 2`, and leaves in `name` what
+/// is shown of the name that they begin with: it ends before a newline. Answers whether that is cut;
+/// None where they are fewer than `cap + 2` and have no newline.
+///
+/// # Errors
+/// A fault of a read, at its offset.
+fn read_ended<S: Source>(
+    src: &mut Counted<S>,
+    at: u64,
+    front: &mut [u8],
+    cap: Cap,
+    name: &mut NameBuf,
+) -> Result<Option<bool>, Fault>
+    requires size { src.old.seen.size < 2 ^ 63 }
+    requires within { at + length front.old ≤ src.old.seen.size }
+    requires few { length front.old ≤ cap.bytes + 2 }
+    ensures reads { Reads src.old src.new (length front.old) }
+    ensures says { IfErr result (Says src.old src.new (length front.old)) }
+    ensures fault { IfErr result IsOfRead }
+    ensures read { (file : List ℕ) → src.old.seen.file ≡ Some file →
+        FrontRead (slice file at (length front.old)) cap.bytes result name.new }
+{
+    read_front(src, at, front)?;
+    if let Some(place) = find_byte(b'\n', front) {
+        return Ok(Some(put_name(without_slash(&front[..place]), cap, name)));
+    }
+    if front.len() < usize::from(cap.bytes) + 2 {
+        return Ok(None);
+    }
+    Ok(Some(put_name(front, cap, name)))
+}
+
+/// Leaves in `name` at most `cap` bytes of a name, and answers whether it has more.
+fn put_name(bytes: &[u8], cap: Cap, name: &mut NameBuf) -> bool
+    ensures { capped cap.bytes bytes.now ≡ shown_as result name.new }
+{
+    name.clear();
+    name.add(bytes, cap);
+    bytes.len() > usize::from(cap.bytes)
+}
+
+/// Fills `out`, at most 4,098 bytes, with the bytes from the offset `at` on: in one read, or two
+/// where one may not have as many.
+///
+/// # Errors
+/// A fault of a read, at its offset.
+fn read_front<S: Source>(src: &mut Counted<S>, at: u64, out: &mut [u8]) -> Result<(), Fault>
+    requires size { src.old.seen.size < 2 ^ 63 }
+    requires within { at + length out.old ≤ src.old.seen.size }
+    requires few { length out.old ≤ 4098 }
+    ensures reads { Reads src.old src.new (length out.old) }
+    ensures says { IfErr result (Says src.old src.new (length out.old)) }
+    ensures fault { IfErr result IsOfRead }
+    ensures read { (file : List ℕ) → src.old.seen.file ≡ Some file →
+        OnOk result (out.new ≡ slice file at (length out.old)) }
+{
+    if out.len() <= READ_BYTES {
+        return fill(src, at, out);
+    }
+    let (first, rest) = out.split_at_mut(READ_BYTES);
+    fill(src, at, first)?;
+    fill(src, at + READ_BYTES as u64, rest)
+}
