@@ -1,0 +1,175 @@
+//! What is kept from one file to the next, and the lines.
+ghost use Rattle.std.specs.Prelude.{◌≡◌, ◌+◌, ◌-◌, ◌^◌, ◌<◌, ℕ, List, Some, max, min, OnOk, Ok};
+ghost use Rattle.elf_check.specs.Checked.{Finds};
+ghost use Rattle.elf_check.specs.Statuses.{state_status};
+ghost use Rattle.elf_many.specs.Telling.{TellsOf};
+ghost use Rattle.elf_model.specs.Checking.{check_line, unnamed_line};
+ghost use Rattle.elf_source.specs.Output.{Puts};
+
+use elf_check::{check, worse};
+use elf_lines::{show_check, show_unnamed};
+use elf_model::FileState;
+use elf_record::Parts;
+use elf_source::{Counted, Out, OutFault, Sink, Source};
+use elf_table::{Caps, HeaderStore};
+use std::io::Write;
+
+/// How many files are checked between two words of how far it is.
+const TELL_EVERY: u64 = 512;
+
+/// A check of many files: what each file's check uses again, and what has come of them so far.
+#[derive(Drop)]
+pub struct Checks<'a, W: Sink, E: Write + Drop> {
+    pub(crate) out: Out<W>,
+    pub(crate) store: HeaderStore<'a>,
+    pub(crate) caps: Caps,
+    pub(crate) parts: Parts,
+    pub(crate) status: u8,
+    pub(crate) unnamed: u64,
+    pub(crate) files: u64,
+    pub(crate) terminal: Option<E>,
+    pub(crate) ghost slots: { store.slots ≡ caps.limits.headers },
+}
+
+impl<'a, W: Sink, E: Write + Drop> Checks<'a, W, E> {
+    /// A check that has no file yet. The store has a slot for each header that the caps permit. Where
+    /// there is a terminal it is told how far the check is.
+    pub fn new(
+        out: Out<W>,
+        store: HeaderStore<'a>,
+        caps: Caps,
+        parts: Parts,
+        terminal: Option<E>,
+    ) -> Self
+        requires { store.slots ≡ caps.limits.headers }
+        ensures out { result.out ≡ out }
+        ensures asked { (result.caps ≡ caps) × (result.parts ≡ parts) }
+        ensures status { result.status ≡ 0 }
+        ensures unnamed { result.unnamed ≡ 0 }
+    {
+        Checks {
+            out,
+            store,
+            caps,
+            parts,
+            status: 0,
+            unnamed: 0,
+            files: 0,
+            terminal,
+        }
+    }
+
+    /// Checks a file, and writes its line: what its own listing ends with within what is asked for,
+    /// whatever files came before it.
+    ///
+    /// # Errors
+    /// A fault of the output, with a front of the line written.
+    pub fn check_source<S: Source + Drop>(&mut self, source: S, path: &[u8]) -> Result<(), OutFault>
+        ensures tells { (file : List ℕ) → (S.seen source).file ≡ Some file →
+            TellsOf self.old.caps self.old.parts.0 file path.now result
+            self.old.out self.new.out self.old.status self.new.status }
+        ensures unnamed { self.new.unnamed ≡ self.old.unnamed }
+        ensures asked { (self.new.caps ≡ self.old.caps) × (self.new.parts ≡ self.old.parts) }
+    {
+        let state = self.state(source);
+        self.tell(state, path)
+    }
+
+    /// The state of a file, whatever files came before it.
+    fn state<S: Source + Drop>(&mut self, source: S) -> FileState
+        ensures state { (file : List ℕ) → (S.seen source).file ≡ Some file →
+            Finds self.old.caps self.old.parts.0 file result }
+        ensures asked { (self.new.caps ≡ self.old.caps) × (self.new.parts ≡ self.old.parts) }
+        ensures status { self.new.status ≡ self.old.status }
+        ensures unnamed { self.new.unnamed ≡ self.old.unnamed }
+        ensures out { self.new.out ≡ self.old.out }
+    {
+        let mut src = Counted::new(source);
+        check(&mut src, &mut self.store, self.caps, self.parts)
+    }
+
+    /// Writes the line of a file, and keeps the status that its state calls for.
+    ///
+    /// # Errors
+    /// A fault of the output, with a front of the line written.
+    pub(crate) fn tell(&mut self, state: FileState, path: &[u8]) -> Result<(), OutFault>
+        ensures puts { Puts self.old.out self.new.out result (check_line state path.now) }
+        ensures status { OnOk result
+            (self.new.status ≡ max self.old.status (state_status state)) }
+        ensures unnamed { self.new.unnamed ≡ self.old.unnamed }
+        ensures asked { (self.new.caps ≡ self.old.caps) × (self.new.parts ≡ self.old.parts) }
+    {
+        show_check(state, path, &mut self.out)?;
+        self.status = worse(self.status, state);
+        self.files = self.files.saturating_add(1);
+        self.tell_terminal();
+        Ok(())
+    }
+
+    /// Counts paths that could not be named.
+    pub(crate) fn count_unnamed(&mut self, count: u64)
+        ensures unnamed { self.new.unnamed ≡ min (self.old.unnamed + count) (2 ^ 64 - 1) }
+        ensures out { self.new.out ≡ self.old.out }
+        ensures status { self.new.status ≡ self.old.status }
+        ensures asked { (self.new.caps ≡ self.old.caps) × (self.new.parts ≡ self.old.parts) }
+    {
+        self.unnamed = self.unnamed.saturating_add(count);
+    }
+
+    /// Tells a terminal how far the check is, now and then.
+    fn tell_terminal(&mut self)
+        ensures out { self.new.out ≡ self.old.out }
+        ensures status { self.new.status ≡ self.old.status }
+        ensures unnamed { self.new.unnamed ≡ self.old.unnamed }
+        ensures asked { (self.new.caps ≡ self.old.caps) × (self.new.parts ≡ self.old.parts) }
+    {
+        if self.files % TELL_EVERY != 0 {
+            return;
+        }
+        if let Some(terminal) = &mut self.terminal {
+            let _ = write!(terminal, "\r{} files", self.files);
+        }
+    }
+
+    /// Ends the check: writes the last line, where paths could not be named, and answers the exit
+    /// status, which is 3 then.
+    ///
+    /// # Errors
+    /// A fault of the output, with a front of the line written.
+    pub fn end(&mut self) -> Result<u8, OutFault>
+        ensures named { self.old.unnamed ≡ 0 → result ≡ Ok self.old.status }
+        ensures quiet { self.old.unnamed ≡ 0 → self.new.out ≡ self.old.out }
+        ensures told { 0 < self.old.unnamed → OnOk result (result ≡ Ok 3) }
+        ensures puts { 0 < self.old.unnamed →
+            Puts self.old.out self.new.out result (unnamed_line self.old.unnamed) }
+    {
+        self.clear_terminal();
+        if self.unnamed == 0 {
+            return Ok(self.status);
+        }
+        show_unnamed(self.unnamed, &mut self.out)?;
+        Ok(3)
+    }
+
+    /// Takes back what a terminal was told.
+    fn clear_terminal(&mut self)
+        ensures out { self.new.out ≡ self.old.out }
+        ensures status { self.new.status ≡ self.old.status }
+        ensures unnamed { self.new.unnamed ≡ self.old.unnamed }
+    {
+        if self.files < TELL_EVERY {
+            return;
+        }
+        if let Some(terminal) = &mut self.terminal {
+            let _ = write!(terminal, "\r                          \r");
+        }
+    }
+
+    /// Gives the output back.
+    pub fn into_out(self) -> Out<W>
+        ensures { result ≡ self.entry.out }
+    {
+        let Checks { out, .. } = self;
+        out
+    }
+}

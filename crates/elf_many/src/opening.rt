@@ -1,0 +1,48 @@
+//! One file, opened and checked.
+use crate::checks::Checks;
+use elf_model::FileState;
+use elf_source::{OffsetReader, OutFault, Sink, StreamSource};
+use std::fs;
+use std::io::{Error, ErrorKind, Write};
+use std::os::unix::fs::FileExt;
+use std::rt::Files;
+
+/// The state of a path that can't be looked at or opened.
+pub(crate) fn unopened(error: &Error) -> FileState {
+    if error.kind() == ErrorKind::OutOfMemory {
+        return FileState::Memory;
+    }
+    FileState::Unread
+}
+
+/// Checks the file at a path, and writes its line.
+///
+/// # Errors
+/// A fault of the output.
+pub(crate) fn check_file<R: Files, W: Sink, E: Write + Drop>(
+    rt: &R,
+    checks: &mut Checks<'_, W, E>,
+    path: &str,
+) -> Result<(), OutFault>
+where
+    R::File: FileExt,
+{
+    match open(rt, path) {
+        Ok(source) => checks.check_source(source, path.as_bytes()),
+        Err(state) => checks.tell(state, path.as_bytes()),
+    }
+}
+
+/// Opens a file that is read at offsets.
+///
+/// # Errors
+/// The state of a file that can't be opened, or whose length can't be found.
+fn open<R: Files>(rt: &R, path: &str) -> Result<StreamSource<OffsetReader<R::File>>, FileState>
+where
+    R::File: FileExt,
+{
+    match fs::open(rt, path) {
+        Ok(file) => StreamSource::over(OffsetReader::new(file)).map_err(|_| FileState::Unread),
+        Err(error) => Err(unopened(&error)),
+    }
+}

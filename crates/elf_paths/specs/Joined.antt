@@ -1,0 +1,14 @@
+-- A name behind the path of its folder.
+use Rattle.std.specs.Prelude.{ℕ, ◌-◌, ◌==◌, ◌&&◌, not, Bool, if◌then◌else◌, List, ◌∷◌, ◌++◌, length, slice_index}
+
+-- `/`
+abbrev pub SLASH : ℕ
+SLASH = 47
+
+-- a slash is to stand behind a folder's path
+abbrev pub needs_slash : List ℕ → Bool
+needs_slash path = not (length path == 0) && not (slice_index path (length path - 1) == SLASH)
+
+-- the path of a name in a folder
+abbrev pub joined : List ℕ → List ℕ → List ℕ
+joined path name = if needs_slash path then path ++ SLASH ∷ name else path ++ name

@@ -1,0 +1,4 @@
+pub mod Joined
+pub mod Kept
+pub mod Order
+pub mod Passes
