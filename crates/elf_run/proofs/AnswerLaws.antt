@@ -1,11 +1,13 @@
 -- What a listing's report is as the answer of a run.
 use Rattle.std.proofs.Common.{◌≡◌, ℕ, ◌+◌, ◌≤◌, List, ◌++◌, Option, None, Some, Result, Ok, Err, ap, sym, ◌∙◌, inl, inr, refl}
 use Rattle.std.specs.Prelude.{IfErr}
-use Rattle.elf_model.specs.Answer.{Answer, IsShown, status_of, show_answer}
+use Rattle.elf_model.specs.Answer.{Answer, IsShown, status_of, show_answer_by}
 use Rattle.elf_model.specs.Budget.{IsBudget, IsBudgeted, IsReport}
-use Rattle.elf_model.specs.Cost.{cost}
-use Rattle.elf_model.specs.Listing.{Item, end_text, lines_of}
-use Rattle.elf_model.specs.Report.{items, report}
+use Rattle.elf_model.specs.Cost.{listing_cost}
+use Rattle.elf_model.specs.Listing.{Item, end_text, lines_of, report_of}
+use Rattle.elf_model.specs.Report.{listing}
+use Rattle.elf_model.specs.Style.{Style}
+use Rattle.elf_headers.specs.Permitted.{style_of}
 use Rattle.elf_model.specs.declared.causes.Refusal.{Refusal}
 use Rattle.elf_source.specs.Growth.{Grows}
 use Rattle.elf_source.specs.Source.{Counting}
@@ -20,27 +22,27 @@ use Rattle.elf_run.specs.Requests.{RunsShow}
 abbrev answer_of : List ℕ → Option Refusal → Answer
 answer_of text fault = record { text = text; status = status_of fault }
 
-report_shown : (file : List ℕ) (headers cap parts : ℕ) (text : List ℕ) (fault : Option Refusal) → IsReport (items file headers cap parts) text fault
-    → answer_of text fault ≡ show_answer file headers cap parts
-report_shown file headers cap parts text fault is =
-    ap (λ t. answer_of t fault) is.text_is ∙ ap (λ f. answer_of (report file headers cap parts) f) is.fault_is
+report_shown : (file : List ℕ) (headers : ℕ) (style : Style) (parts : ℕ) (text : List ℕ) (fault : Option Refusal) → IsReport (listing file headers style parts) text fault
+    → answer_of text fault ≡ show_answer_by file headers style parts
+report_shown file headers style parts text fault is =
+    ap (λ t. answer_of t fault) is.text_is ∙ ap (λ f. answer_of (report_of (listing file headers style parts)) f) is.fault_is
 
 -- a report whose fault is not for want of budget is the whole answer
-whole_report : (budget : Option ℕ) (file : List ℕ) (headers cap parts : ℕ) (text : List ℕ) (fault : Option Refusal) → IsBudgeted budget file headers cap parts text fault
-    → ((refusal : Refusal) → fault ≡ Some refusal → IsBudget refusal → ⊥) → answer_of text fault ≡ show_answer file headers cap parts
-whole_report None file headers cap parts text fault is other = report_shown file headers cap parts text fault is
-whole_report (Some budget) file headers cap parts text fault (inl is) other = report_shown file headers cap parts text fault is
-whole_report (Some budget) file headers cap parts text fault (inr is) other = absurd (other is.1.refusal is.1.fault_is is.1.for_budget)
+whole_report : (budget : Option ℕ) (file : List ℕ) (headers : ℕ) (style : Style) (parts : ℕ) (text : List ℕ) (fault : Option Refusal) → IsBudgeted budget file headers style parts text fault
+    → ((refusal : Refusal) → fault ≡ Some refusal → IsBudget refusal → ⊥) → answer_of text fault ≡ show_answer_by file headers style parts
+whole_report None file headers style parts text fault is other = report_shown file headers style parts text fault is
+whole_report (Some budget) file headers style parts text fault (inl is) other = report_shown file headers style parts text fault is
+whole_report (Some budget) file headers style parts text fault (inr is) other = absurd (other is.1.refusal is.1.fault_is is.1.for_budget)
 
 -- the line of its fault ends a report
 report_ends : (all : List Item) (text : List ℕ) (fault : Option Refusal) (refusal : Refusal) → Some refusal ≡ fault → IsReport all text fault → EndsIn refusal text
 report_ends all text fault refusal some is = (lines_of all, is.text_is ∙ ap (λ end. lines_of all ++ end_text end) (sym (some ∙ is.fault_is)))
 
-ends_in : (budget : Option ℕ) (file : List ℕ) (headers cap parts : ℕ) (text : List ℕ) (fault : Option Refusal) (refusal : Refusal) → Some refusal ≡ fault
-    → IsBudgeted budget file headers cap parts text fault → EndsIn refusal text
-ends_in None file headers cap parts text fault refusal some is = report_ends (items file headers cap parts) text fault refusal some is
-ends_in (Some budget) file headers cap parts text fault refusal some (inl is) = report_ends (items file headers cap parts) text fault refusal some is
-ends_in (Some budget) file headers cap parts text fault refusal some (inr is) =
+ends_in : (budget : Option ℕ) (file : List ℕ) (headers : ℕ) (style : Style) (parts : ℕ) (text : List ℕ) (fault : Option Refusal) (refusal : Refusal) → Some refusal ≡ fault
+    → IsBudgeted budget file headers style parts text fault → EndsIn refusal text
+ends_in None file headers style parts text fault refusal some is = report_ends (listing file headers style parts) text fault refusal some is
+ends_in (Some budget) file headers style parts text fault refusal some (inl is) = report_ends (listing file headers style parts) text fault refusal some is
+ends_in (Some budget) file headers style parts text fault refusal some (inr is) =
     let same : is.1.refusal ≡ refusal = let two = some ∙ is.1.fault_is in cc in (lines_of is.1.front, rw same at is.1.text_is)
 
 -- what a task answers that lists
@@ -49,21 +51,21 @@ listed_status (Ok x) = Ok 0
 listed_status (Err stop) = Err stop
 
 module _ (file : List ℕ) (caps : Caps) (parts : ℕ) (s t : Counting) (a b : Written) (text : List ℕ) (fault : Option Refusal)
-    (is : IsBudgeted caps.limits.budget file caps.limits.headers caps.name.bytes parts text fault) where
+    (is : IsBudgeted caps.limits.budget file caps.limits.headers (style_of caps.style) parts text fault) where
   wrote_as : (result : Result (Unit {0}) Stop) → Wrote a b result text fault → WroteAnswer a b (listed_status result) (answer_of text fault)
   wrote_as (Ok x) wrote = (wrote.0, ap status_of wrote.1)
   wrote_as (Err (Refused refusal)) wrote =
-      (wrote.0, ap status_of wrote.1, ends_in caps.limits.budget file caps.limits.headers caps.name.bytes parts text fault refusal wrote.1 is)
+      (wrote.0, ap status_of wrote.1, ends_in caps.limits.budget file caps.limits.headers (style_of caps.style) parts text fault refusal wrote.1 is)
   wrote_as (Err (Source cause at)) wrote = wrote
   wrote_as (Err (Out cause)) wrote = wrote
 
   whole_or_used : (result : Result (Unit {0}) Stop) → Wrote a b result text fault → AsksWithin caps parts s t result
-      → WholeOrUsedUp caps.limits.budget s t (listed_status result) (show_answer file caps.limits.headers caps.name.bytes parts) (answer_of text fault)
+      → WholeOrUsedUp caps.limits.budget s t (listed_status result) (show_answer_by file caps.limits.headers (style_of caps.style) parts) (answer_of text fault)
   whole_or_used (Ok x) wrote asks =
-      whole_report caps.limits.budget file caps.limits.headers caps.name.bytes parts text fault is (λ refusal some budget. let none = wrote.1 in cc)
+      whole_report caps.limits.budget file caps.limits.headers (style_of caps.style) parts text fault is (λ refusal some budget. let none = wrote.1 in cc)
   whole_or_used (Err (Refused refusal)) wrote asks = (
     λ budget. (asks.late refusal refl budget, asks.place refusal refl budget),
-    λ other. whole_report caps.limits.budget file caps.limits.headers caps.name.bytes parts text fault is (λ same some budget.
+    λ other. whole_report caps.limits.budget file caps.limits.headers (style_of caps.style) parts text fault is (λ same some budget.
         let one : same ≡ refusal = let two = wrote.1 in cc in other (ap (λ (r : Refusal). r.cause) (sym one) ∙ budget)),
   )
   whole_or_used (Err (Source cause at)) wrote asks = tt
@@ -82,7 +84,7 @@ says_as s t out (Err stop) says = says
 
 -- a listing, as a task
 pub show_runs : {s t : Counting} {a b : Written} (caps : Caps) (parts : ℕ) (result : Result (Unit {0}) Stop) → Grows a b → Leaves s t → IfErr result (FaultSays s t b)
-    → AsksWithin caps parts s t result → ((file : List ℕ) → s.seen.file ≡ Some file → t.asked ≤ s.asked + cost file caps.limits.headers caps.name.bytes parts)
+    → AsksWithin caps parts s t result → ((file : List ℕ) → s.seen.file ≡ Some file → t.asked ≤ s.asked + listing_cost file caps.limits.headers (style_of caps.style) parts)
     → ((file : List ℕ) → s.seen.file ≡ Some file → Reports file caps parts a b result) → RunsShow caps parts s t a b (listed_status result)
 show_runs {s} {t} {a} {b} caps parts result grows leaves says asks costs reports = record {
   grows = grows;

@@ -16,7 +16,7 @@ use Rattle.elf_source.specs.Growth.{Grows}
 use Rattle.elf_source.specs.Source.{Counting, Keeps, Limits, counted}
 use Rattle.elf_source.specs.Output.{Written, Takes, TakesFront}
 use Rattle.elf_source.proofs.LimitLaws.{budget_below, late_budget}
-use Rattle.elf_source.proofs.PutsLaws.{Takes-nothing, TakesFront-all, TakesFront-then}
+use Rattle.elf_source.proofs.PutsLaws.{Takes-nothing, TakesFront-all, TakesFront-more, TakesFront-then}
 use Rattle.elf_headers.specs.Faults.{RefusalSays, Says}
 use Rattle.elf_headers.specs.Stops.{stop_of}
 use Rattle.elf_headers.specs.declared.fault.Fault.{Fault}
@@ -35,19 +35,10 @@ use Rattle.elf_run.specs.Requests.{AsksUpTo, Runs}
 pub front_then : {a b c : Written} (xs ys : List ℕ) → Takes a b xs → TakesFront b c ys → TakesFront a c (xs ++ ys)
 front_then xs ys first next = TakesFront-then xs ys first next
 
-no_front : (front rest : List ℕ) → [] ≡ front ++ rest → front ≡ []
-no_front [] rest is = refl
-no_front (x ∷ front) rest is = cc
-
 -- a front of a section is one of the answer's text: of a section that is refused nothing was written
 pub front_of_answer : {old new : Written} (answer : Result (List ℕ) Refusal) → TakesFront old new (text_of answer) → TakesFront old new (applied_text answer)
 front_of_answer (Ok text) front = front
-front_of_answer {old = old} {new = new} (Err refusal) front = record {
-  front = [];
-  rest = refusal_line refusal;
-  split = refl;
-  takes = subst (λ bytes. Takes old new bytes) (no_front front.front front.rest front.split) front.takes;
-}
+front_of_answer (Err refusal) front = TakesFront-more [] (refusal_line refusal) front
 
 -- a refusal for want of budget is inside the source, and so many bytes more would pass the limit that is set
 abbrev pub IsOver : Counting → ℕ → Refusal → Type 0
@@ -139,19 +130,13 @@ runs budget s0 s1 s3 n cost set grows keeps free most within says known =
       text = λ file held. (known file (ap (λ seen. seen.file) set.seen ∙ held)).1;
     }
 
--- a fault of the output alone
-pub says_output : (s t : Counting) (out : Written) (result : Result ℕ Stop) → IfErr result (IsOfOutput out) → IfErr result (FaultSays s t out)
-says_output s t out (Ok status) fails = tt
-says_output s t out (Err (Refused refusal)) fails = tt
-says_output s t out (Err (Source fault at)) fails = absurd fails
-says_output s t out (Err (Out fault)) fails = fails
-
--- what was written without a refusal is the whole answer
-pub looked_whole : (budget : Option ℕ) (s t : Counting) (out : Written) (result : Result ℕ Stop) (whole : Answer) → IfErr result (IsOfOutput out) → WholeOrUsedUp budget s t result whole whole
-looked_whole budget s t out (Ok status) whole fails = refl
-looked_whole budget s t out (Err (Refused refusal)) whole fails = absurd fails
-looked_whole budget s t out (Err (Source fault at)) whole fails = tt
-looked_whole budget s t out (Err (Out fault)) whole fails = tt
+-- a fault of the output alone, and else the whole answer
+pub output_alone : (budget : Option ℕ) (s t : Counting) (out : Written) (result : Result ℕ Stop) → IfErr result (IsOfOutput out)
+    → IfErr result (FaultSays s t out) × ((whole : Answer) → WholeOrUsedUp budget s t result whole whole)
+output_alone budget s t out (Ok status) fails = (tt, λ whole. refl)
+output_alone budget s t out (Err (Refused refusal)) fails = absurd fails
+output_alone budget s t out (Err (Source fault at)) fails = absurd fails
+output_alone budget s t out (Err (Out fault)) fails = (fails, λ whole. tt)
 
 -- where a lookup stopped
 pub lookup_stops : (s1 s2 : Counting) (a : Written) (file : List ℕ) (headers : ℕ) (wanted : List ℕ) (n : ℕ) (fault : Fault) → Says s1 s2 n fault

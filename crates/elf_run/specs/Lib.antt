@@ -1,3 +1,4 @@
 pub mod Answers
 pub mod Lookups
 pub mod Requests
+pub mod ArchiveAnswers

@@ -1,14 +1,15 @@
 -- What a request does: what it gives of a file, what it costs, and what it asks for.
 use Rattle.std.specs.Prelude.{ℕ, ◌≡◌, ◌≤◌, ◌+◌, ⊤, List, length, Option, Some, Result, IfErr, IfSome}
-use Rattle.elf_model.specs.Answer.{IsShown, show_answer}
+use Rattle.elf_model.specs.Answer.{IsShown, show_answer_by}
 use Rattle.elf_model.specs.ApplyCost.{apply_cost_by_order}
-use Rattle.elf_model.specs.Cost.{cost}
+use Rattle.elf_model.specs.Cost.{listing_cost}
 use Rattle.elf_model.specs.Find.{find_cost}
 use Rattle.elf_model.specs.FindApplyAnswer.{IsAnswered, apply_answer, find_answer}
 use Rattle.elf_model.specs.Placing.{Layout}
 use Rattle.elf_source.specs.Growth.{Grows}
 use Rattle.elf_source.specs.Source.{Counting}
 use Rattle.elf_source.specs.Output.{Written}
+use Rattle.elf_headers.specs.Permitted.{style_of}
 use Rattle.elf_headers.specs.declared.caps.Caps.{Caps}
 use Rattle.elf_headers.specs.declared.caps.Limits.{Limits}
 use Rattle.elf_headers.specs.declared.stop.Stop.{Stop}
@@ -37,9 +38,9 @@ pub record Runs (old new : Counting) (before after : Written) (result : Result �
 -- a listing, by its caps and its parts
 abbrev pub RunsShow : Caps → ℕ → Counting → Counting → Written → Written → Result ℕ Stop → Type 0
 RunsShow caps parts old new before after result =
-    Runs old new before after result (AsksWithin caps parts old new result) (λ file. cost file caps.limits.headers caps.name.bytes parts)
-    (λ file. Answers before after result (IsShown caps.limits.budget file caps.limits.headers caps.name.bytes parts)
-    (WholeOrUsedUp caps.limits.budget old new result (show_answer file caps.limits.headers caps.name.bytes parts)))
+    Runs old new before after result (AsksWithin caps parts old new result) (λ file. listing_cost file caps.limits.headers (style_of caps.style) parts)
+    (λ file. Answers before after result (IsShown caps.limits.budget file caps.limits.headers (style_of caps.style) parts)
+    (WholeOrUsedUp caps.limits.budget old new result (show_answer_by file caps.limits.headers (style_of caps.style) parts)))
 
 -- a lookup of a name
 abbrev pub RunsFind : Limits → List ℕ → Counting → Counting → Written → Written → Result ℕ Stop → Type 0
@@ -61,6 +62,6 @@ RunsApply limits section layout old new before after result =
 
 -- a task, within its limits
 abbrev pub RunsTask : Limits → Task → Counting → Counting → Written → Written → Result ℕ Stop → Type 0
-RunsTask limits (Show parts name) old new before after result = RunsShow (record { limits = limits; name = name }) parts.0 old new before after result
+RunsTask limits (Show parts style) old new before after result = RunsShow (record { limits = limits; style = style }) parts.0 old new before after result
 RunsTask limits (Find wanted) old new before after result = RunsFind limits wanted.bytes.now old new before after result
 RunsTask limits (Apply section layout) old new before after result = RunsApply limits section layout.now old new before after result

@@ -32,7 +32,7 @@ pub fn run<S: Source, W: Sink>(
 {
     let limits = request.limits;
     match request.task {
-        Task::Show { parts, name } => list(src, store, Caps { limits, name }, parts, out),
+        Task::Show { parts, style } => list(src, store, Caps { limits, style }, parts, out),
         Task::Find(wanted) => look_up(src, store, limits, wanted.bytes, out),
         Task::Apply { section, layout } => write_applied(src, store, limits, section, layout, out),
     }

@@ -1,13 +1,15 @@
-//! A request carried out: a listing, a lookup, or a section with its relocations applied; and how the
-//! program ends.
+//! A request carried out: a listing, of a file or of an archive, a lookup, or a section with its
+//! relocations applied; and how the program ends.
 #![tactic(auto)]
 
 mod answering;
 mod applying;
+mod archives;
 mod endings;
 mod finding;
 
 pub use answering::run;
+pub use archives::run_archive;
 pub use endings::{
     CANNOT_OPEN, Ending, NOT_UTF8, OUT_OF_MEMORY, READ_FAULT, WRITE_FAULT, outcome, refused,
 };

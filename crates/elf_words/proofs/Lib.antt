@@ -1,3 +1,4 @@
+pub mod CheckLaws
 pub mod ApplyLaws
 pub mod FaultLaws
 pub mod ItemLaws

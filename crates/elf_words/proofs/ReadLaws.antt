@@ -10,6 +10,7 @@ use Rattle.clap.specs.Walk.{Text, one_of, rows_of}
 use Rattle.clap.proofs.WalkLemmas.{one_text-rows}
 use Rattle.clap.specs.declared.parser.matches.Found.{Found}
 use Rattle.elf_model.specs.Text.{name_of}
+use Rattle.elf_words.specs.Archives.{is_member_part, member_part_names}
 use Rattle.elf_words.specs.Asked.{HasNumber, is_part, part_names}
 
 module _ (E : Type 0) (G : List ℕ → Result ℕ E → Type 0) (only : (u : List ℕ) (x : Result ℕ E) → G u x → ParsesUnsigned 64 10 u x) where
@@ -60,3 +61,6 @@ in_table (entry ∷ rest) n name e =
 -- a text that names no part is the name of no set of parts
 pub no_part : (name : Text) (n : ℕ) → is_part name ≡ false → name_of part_names n ≡ Some name → ⊥
 no_part name n not is = let bad : true ≡ false = sym (in_table part_names n name is) ∙ not in cc
+
+pub no_member_part : (name : Text) (n : ℕ) → is_member_part name ≡ false → name_of member_part_names n ≡ Some name → ⊥
+no_member_part name n not is = let bad : true ≡ false = sym (in_table member_part_names n name is) ∙ not in cc

@@ -1,26 +1,20 @@
 -- What the words of a command line ask for.
-use Rattle.std.specs.Prelude.{Bool, bytes_eq, ℕ, ⊤, ◌≡◌, ◌<◌, ◌≤◌, ◌^◌, ◌⊎◌, length, unwrap_or, Result, Ok, Err, List, [], ◌∷◌, codes, map, Option, None, Some}
+use Rattle.std.specs.Prelude.{Bool, false, bytes_eq, ℕ, ◌≡◌, ◌<◌, ◌≤◌, ◌^◌, length, unwrap_or, Result, Ok, Err, List, [], ◌∷◌, codes, Option, None, Some}
 use Rattle.std.specs.Borrow.{Bor}
 use Rattle.std.specs.List.{list_any}
 use Rattle.std.specs.Str.Parse.{IsNumeral, digits_value, without_leading_plus}
-use Rattle.clap.specs.Walk.{Row, Text, all_of, first_of, one_of, texts}
-use Rattle.clap.specs.Simple.{subcommand_of}
-use Rattle.clap.specs.Faults.{fault_of}
-use Rattle.clap.specs.Kinds.{IsAmong, Kinds}
-use Rattle.clap.specs.Values.{kind_of}
-use Rattle.clap.specs.declared.error.kind.ErrorKind.TheVariants as kind
+use Rattle.clap.specs.Walk.{Row, Text, all_of, first_of, one_of}
 use Rattle.elf_model.specs.NameLaws.{IsWanted}
 use Rattle.elf_model.specs.Text.{name_of as name_in_table}
 use Rattle.elf_model.specs.Listing.{HEADER, SECTIONS, SEGMENTS, SYMBOLS, RELOCS, NOTES, DYNAMIC}
 use Rattle.elf_record.specs.declared.parts.Parts.{Parts}
-use Rattle.elf_headers.specs.declared.caps.Cap.{Cap}
 use Rattle.elf_headers.specs.declared.caps.Limits.{Limits}
-use Rattle.elf_words.specs.CommandLine.{Words, program}
+use Rattle.elf_headers.specs.declared.caps.Style.{Style}
 use Rattle.elf_model.specs.Placing.{Layout}
 use Rattle.elf_words.specs.Layouts.{Lays, no_items}
 use Rattle.elf_words.specs.declared.requests.Request.{Request}
 use Rattle.elf_words.specs.declared.requests.RequestFault.{RequestFault}
-use Rattle.elf_words.specs.declared.requests.RequestFault.TheVariants.{Memory, BadName, Words as Told}
+use Rattle.elf_words.specs.declared.requests.RequestFault.TheVariants.{BadName}
 use Rattle.elf_words.specs.declared.requests.Task.{Task}
 use Rattle.elf_words.specs.declared.requests.Wanted.{Wanted}
 use Rattle.elf_words.specs.declared.requests.Task.TheVariants.{Show, Find, Apply}
@@ -53,9 +47,16 @@ pub record AreLimits (rows : List Row) (limits : Limits) : Type 0 where
   pub headers : HasNumber (one_of (codes "headers") rows) (Some limits.headers)
   pub budget : HasNumber (one_of (codes "max-read") rows) limits.budget
 
--- how many bytes of a name are shown, by the value of the option
-abbrev pub IsNameCap : List Row → Cap → Type 0
-IsNameCap rows cap = HasNumber (one_of (codes "names") rows) (Some cap.bytes)
+-- whether an option without a value is set, by its text among the rows
+abbrev pub is_set : Option Text → Bool
+is_set None = false
+is_set (Some text) = bytes_eq text (codes "true")
+
+-- how rows are shown, by the values of the options
+pub record IsStyle (rows : List Row) (style : Style) : Type 0 where
+  pub cap : HasNumber (one_of (codes "names") rows) (Some style.cap.bytes)
+  pub gnu : style.gnu ≡ is_set (first_of (codes "gnu") rows)
+  pub by_segments : style.by_segments ≡ is_set (first_of (codes "by-segments") rows)
 
 -- the part with this name, or without a name all seven
 abbrev pub AreParts : Option Text → Parts → Type 0
@@ -93,8 +94,8 @@ pub record IsApplying (command : Text) (rows : List Row) (file : Option (Bor Tex
 
 -- a task with its file, by the values of the options
 abbrev pub IsTask : Text → List Row → Option (Bor Text) → Task → Type 0
-IsTask command rows file (Show parts name) =
-    IsNameCap rows name × AreParts (first_of (codes "only") rows) parts × IsOfFile command rows file
+IsTask command rows file (Show parts style) =
+    IsStyle rows style × AreParts (first_of (codes "only") rows) parts × IsOfFile command rows file
 IsTask command rows file (Find wanted) = IsFinding command rows file wanted
 IsTask command rows file (Apply section layout) = IsApplying command rows file section layout.now
 
@@ -119,34 +120,10 @@ HasFault None fault = ⊥
 HasFault (Some (command, rows)) BadName = NamesBadly command rows
 HasFault (Some (command, rows)) fault = LaysBadly command rows fault
 
--- the names of the parts, as the reader of the words has them
-abbrev pub ArePartNames : Words → Type 0
-ArePartNames parts = texts parts.now ≡ map (λ part. part.1) part_names
-
--- THE REQUEST: the command line takes the words, and what it makes of them is what is asked for
-pub record WordsAsk (words : List Text) (request : Request) : Type 0 where
-  pub parts : Words
-  pub named : ArePartNames parts
-  pub taken : fault_of (program parts) words ≡ []
-  pub asks : AsksBy (subcommand_of (program parts) words) request
-
 -- nothing is asked for, not even with a fault in the words for it
 pub record AsksNothing (matches : Option (Text × List Row)) : Type 0 where
   pub nothing : (request : Request) → AsksBy matches request → ⊥
   pub faultless : (fault : RequestFault) → HasFault matches fault → ⊥
-
--- there was no memory; or the command line refuses the words, with one of these kinds; or it takes them, and they have a
--- fault, or ask for nothing, which is told by the kind `Format`
-abbrev pub IsRefusal : Kinds → Option (Text × List Row) → RequestFault → Type 0
-IsRefusal kinds matches Memory = ⊤
-IsRefusal kinds matches (Told error) = IsAmong (kind_of error) kinds ⊎ ((kind_of error ≡ kind.Format) × (kinds ≡ []) × AsksNothing matches)
-IsRefusal kinds matches fault = (kinds ≡ []) × HasFault matches fault
-
--- WHY WORDS ARE REFUSED: the command line has a fault for them, or what they ask for has one, or they ask for nothing
-pub record WordsRefused (words : List Text) (fault : RequestFault) : Type 0 where
-  pub parts : Words
-  pub named : ArePartNames parts
-  pub refusal : IsRefusal (fault_of (program parts) words) (subcommand_of (program parts) words) fault
 
 -- what a command with the values of its arguments comes to: a request, nothing, or a fault
 abbrev pub ComesTo : Option (Text × List Row) → Result (Option Request) RequestFault → Type 0

@@ -4,6 +4,7 @@ use Rattle.std.specs.Borrow.{Bor}
 use Rattle.clap.specs.Walk.{Rule, Text}
 use Rattle.clap.specs.Simple.{App, new_app, new_rule, with_rule, with_subcommand}
 use Rattle.clap.specs.Lexer.{usize_max}
+use Rattle.clap.specs.declared.builder.action.ArgAction.TheVariants.{SetTrue}
 use Rattle.clap.specs.declared.builder.value_parser.ValueParser.{ValueParser}
 use Rattle.clap.specs.declared.builder.value_parser.ValueParser.TheVariants.{Signed, Unsigned, Names}
 
@@ -27,13 +28,23 @@ max_read_option = option (codes "max-read") (Unsigned 0 9223372036854775807)
 abbrev pub only_option : Words → Rule
 only_option parts = option (codes "only") (Names parts)
 
+-- an option without a value, which is set where it stands among the words
+abbrev pub flag : Text → Rule
+flag name = record (new_rule name) { long = Some name; action = Some SetTrue }
+
+abbrev pub gnu_option : Rule
+gnu_option = flag (codes "gnu")
+
+abbrev pub by_segments_option : Rule
+by_segments_option = flag (codes "by-segments")
+
 abbrev pub file_argument : Rule
 file_argument = record (new_rule (codes "FILE")) { required = true }
 
 -- a command with the options of a listing
 abbrev pub with_listing_options : Words → App → App
 with_listing_options parts command =
-    with_rule (with_rule (with_rule (with_rule command headers_option) names_option) max_read_option) (only_option parts)
+    with_rule (with_rule (with_rule (with_rule (with_rule (with_rule command headers_option) names_option) max_read_option) (only_option parts)) gnu_option) by_segments_option
 
 abbrev pub show_command : Words → App
 show_command parts = with_rule (with_listing_options parts (new_app (codes "show"))) file_argument
@@ -71,5 +82,32 @@ without_command = let app = new_app (codes "elfsee") in
 abbrev pub with_listings : Words → App
 with_listings parts = with_subcommand (with_subcommand without_command (show_command parts).top) (sample_command parts).top
 
-abbrev pub program : Words → App
-program parts = with_subcommand (with_subcommand (with_listings parts) find_command.top) apply_command.top
+-- the program, with the commands that read one file
+abbrev pub with_one_file : Words → App
+with_one_file parts = with_subcommand (with_subcommand (with_listings parts) find_command.top) apply_command.top
+
+-- a file that has paths, each ended by NUL
+abbrev pub list_option : Rule
+list_option = record (new_rule (codes "files0-from")) { long = Some (codes "files0-from"); value_names = 1 }
+
+-- any number of paths
+abbrev pub path_argument : Rule
+path_argument = record (new_rule (codes "PATH")) { range = Some (record { start_inclusive = 0; end_inclusive = usize_max }) }
+
+abbrev pub check_command : Words → App
+check_command parts = with_rule (with_rule (with_listing_options parts (new_app (codes "check"))) list_option) path_argument
+
+-- the program, with the commands that read one file, or many
+abbrev pub with_checks : Words → App
+with_checks parts = with_subcommand (with_one_file parts) (check_command parts).top
+
+-- the names of the parts of a listing, and of those of an archive's
+pub record PartWords : Type 0 where
+  pub listed : Words
+  pub archived : Words
+
+abbrev pub archive_command : Words → App
+archive_command parts = with_rule (with_listing_options parts (new_app (codes "archive"))) file_argument
+
+abbrev pub program : PartWords → App
+program parts = with_subcommand (with_checks parts.listed) (archive_command parts.archived).top

@@ -4,13 +4,17 @@ ghost use Rattle.std.specs.Prelude.{◌≡◌, IfOk, false};
 ghost use Rattle.clap.specs.Words.{app_of, rule_of};
 ghost use Rattle.clap.specs.declared.builder.command.Command.TheViews.{out-Command as fields_of};
 ghost use Rattle.elf_words.specs.CommandLine.{apply_command, file_argument, find_command};
+ghost use Rattle.elf_words.specs.CommandLine.{gnu_option, by_segments_option};
+ghost use Rattle.elf_words.specs.CommandLine.{with_checks, with_one_file};
 ghost use Rattle.elf_words.specs.CommandLine.{headers_option, item_argument, max_read_option};
 ghost use Rattle.elf_words.specs.CommandLine.{name_argument, names_option, only_option, program};
 ghost use Rattle.elf_words.specs.CommandLine.{sample_command, section_argument, show_command};
 ghost use Rattle.elf_words.specs.CommandLine.{with_listing_options, with_listings};
 ghost use Rattle.elf_words.specs.CommandLine.{with_reading_options, without_command};
 
-use clap::{Arg, Command, value_parser};
+use crate::archive_command::archive;
+use crate::check_command::check;
+use clap::{Arg, ArgAction, Command, value_parser};
 use std::alloc::{AllocError, Global};
 
 const ABOUT: &str = "\
@@ -24,6 +28,8 @@ Examples:
   elfsee sample --only header
   elfsee find /lib/libexample.so printf
   elfsee apply example.o 1 at:1=0x401000 def:main=0x401200
+  elfsee check /usr/lib
+  elfsee archive --only symbols /usr/lib/x86_64-linux-gnu/libc.a
 
 Options, before or behind FILE; find and apply have --headers, --max-read and -- alone:
   --headers N   permit so many section headers, and as many program headers:
@@ -32,13 +38,19 @@ Options, before or behind FILE; find and apply have --headers, --max-read and --
   --max-read N  read no more than so many bytes of the file: 0 to 9223372036854775807
                 [default: any number]
   --only PART   list one part: header, sections, segments, symbols, relocs, notes or dynamic
-                [default: all of them]
-  --            end the options, so that FILE or NAME may begin with a hyphen
+                [default: all of them]; of archive also: members
+  --gnu         name the numbers of the GNU system too
+  --by-segments find tables by the program headers, as a loader does, and list the file as if it
+                had no section headers
+  --files0-from FILE
+                of check alone: check the paths in FILE too, each ended by NUL
+  --            end the options, so that FILE, PATH or NAME may begin with a hyphen
 
 Exit status:
-  0  listed, found or applied
+  0  listed, found or applied; of check: no file is at fault
   1  refused, or out of its reads: the last line is '!', an offset in the file and the cause;
-     or there is no such name: the line 'F absent' with the number of names compared
+     or there is no such name: the line 'F absent' with the number of names compared;
+     of check: some files are refused; of archive: it is, or a member of it
   2  the words are wrong, or ask for help, and no file is opened: standard error has what is
      wrong with which word, or the help, or one of these lines:
        elfsee: words are not UTF-8
@@ -46,8 +58,9 @@ Exit status:
        elfsee: bad item       an item has another form, or an index or a name out of range
        elfsee: layout-full    there are too many items of one sort
        elfsee: layout-repeat  two items of one sort have the same INDEX or NAME
-  3  a read or write fault, a file that cannot be opened, or want of memory: standard error has
-     one of these lines:
+  3  of check: some files could not be read or named; else, and of check for its list and its
+     output, a read or write fault, a file that cannot be opened, or want of memory: standard
+     error has one of these lines:
        elfsee: read fault, elfsee: write fault, elfsee: cannot open, elfsee: out of memory";
 
 const ITEMS: &str = "\
@@ -65,9 +78,28 @@ whatever its version and place; a loader may take another.
 
 Example: elfsee find /lib/libexample.so printf";
 
-/// The command line, with the names of the parts.
-pub fn command_line<'a>(alloc: Global, parts: &'a [&'a str]) -> Result<Command<'a>, AllocError>
-    ensures { IfOk result (λ command. app_of command ≡ program parts.entry) }
+/// The command line, with the names of the parts of a listing, and of those of an archive's.
+pub fn command_line<'a>(
+    alloc: Global,
+    parts: &'a [&'a str],
+    member_parts: &'a [&'a str],
+) -> Result<Command<'a>, AllocError>
+    ensures { IfOk result (λ command. app_of command
+        ≡ program (record { listed = parts.entry; archived = member_parts.entry })) }
+{
+    checks(alloc, parts)?.subcommand(archive(alloc, member_parts)?)
+}
+
+/// The program, with the commands that read one file, or many.
+fn checks<'a>(alloc: Global, parts: &'a [&'a str]) -> Result<Command<'a>, AllocError>
+    ensures { IfOk result (λ command. app_of command ≡ with_checks parts.entry) }
+{
+    one_file(alloc, parts)?.subcommand(check(alloc, parts)?)
+}
+
+/// The program, with the commands that read one file.
+fn one_file<'a>(alloc: Global, parts: &'a [&'a str]) -> Result<Command<'a>, AllocError>
+    ensures { IfOk result (λ command. app_of command ≡ with_one_file parts.entry) }
 {
     listings(alloc, parts)?
         .subcommand(find(alloc)?)?
@@ -88,7 +120,7 @@ fn program<'a>(alloc: Global) -> Result<Command<'a>, AllocError>
     ensures { IfOk result (λ command. app_of command ≡ without_command) }
 {
     let program = Command::new(alloc, "elfsee")
-        .subcommand_value_name("show|sample|find|apply")
+        .subcommand_value_name("show|sample|find|apply|check|archive")
         .about(ABOUT)
         .after_help(MORE)
         .no_binary_name(true)
@@ -147,7 +179,7 @@ fn apply<'a>(alloc: Global) -> Result<Command<'a>, AllocError>
 }
 
 /// A command with the options of a listing.
-fn listing_options<'a>(
+pub(crate) fn listing_options<'a>(
     alloc: Global,
     command: Command<'a>,
     parts: &'a [&'a str],
@@ -161,7 +193,9 @@ fn listing_options<'a>(
         .arg(headers(alloc))?
         .arg(names(alloc))?
         .arg(max_read(alloc))?
-        .arg(only(alloc, parts))
+        .arg(only(alloc, parts))?
+        .arg(gnu(alloc))?
+        .arg(by_segments(alloc))
 }
 
 /// A command with the options of what reads a file and lists nothing.
@@ -175,7 +209,7 @@ fn reading_options<'a>(alloc: Global, command: Command<'a>) -> Result<Command<'a
 }
 
 /// The file's path.
-fn file<'a>(alloc: Global) -> Arg<'a>
+pub(crate) fn file<'a>(alloc: Global) -> Arg<'a>
     ensures rule { rule_of result ≡ file_argument }
     ensures local { result.global ≡ false }
 {
@@ -253,6 +287,28 @@ fn max_read<'a>(alloc: Global) -> Arg<'a>
         .help(
             "Read no more than so many bytes of the file: 0 to 9223372036854775807 [default: any]",
         )
+}
+
+/// Whether numbers of the GNU system have names.
+fn gnu<'a>(alloc: Global) -> Arg<'a>
+    ensures rule { rule_of result ≡ gnu_option }
+    ensures local { result.global ≡ false }
+{
+    Arg::new(alloc, "gnu")
+        .long("gnu")
+        .action(ArgAction::SetTrue)
+        .help("Name the numbers of the GNU system too")
+}
+
+/// Whether tables are found by the program headers also where there are section headers.
+fn by_segments<'a>(alloc: Global) -> Arg<'a>
+    ensures rule { rule_of result ≡ by_segments_option }
+    ensures local { result.global ≡ false }
+{
+    Arg::new(alloc, "by-segments")
+        .long("by-segments")
+        .action(ArgAction::SetTrue)
+        .help("Find tables by the program headers, as a loader does")
 }
 
 /// The one part that is listed.

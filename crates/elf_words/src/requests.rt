@@ -9,7 +9,7 @@ ghost use Rattle.elf_words.specs.declared.requests.RequestFault.TheVariants.{Mem
 use clap::error::ErrorKind;
 use elf_layout::Layout;
 use elf_record::Parts;
-use elf_table::{Cap, Limits};
+use elf_table::{Limits, Style};
 use std::alloc::AllocError;
 use thiserror::Error;
 
@@ -31,8 +31,8 @@ pub enum Task<'a> {
     Show {
         /// The parts.
         parts: Parts,
-        /// How many bytes of a name are shown.
-        name: Cap,
+        /// How rows are shown.
+        style: Style,
     },
     /// A name is looked up in it.
     Find(Wanted<'a>),

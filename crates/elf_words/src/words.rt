@@ -1,29 +1,37 @@
 //! The words of a command line.
-ghost use Rattle.std.specs.Prelude.{◌≡◌, ◌<◌, ◌^◌, ℕ, IfErr, IfOk, IfSome, None, Ok, Err};
+ghost use Rattle.std.specs.Prelude.{◌≡◌, ◌≢◌, ◌<◌, ◌^◌, ℕ, IfErr, IfOk, IfSome, None, Ok, Err};
 ghost use Rattle.std.specs.Prelude.{Option, Some, codes, false, map, option_map};
 ghost use Rattle.std.specs.Borrow.{Bor};
+ghost use Rattle.clap.specs.Values.{kind_of};
+ghost use Rattle.clap.specs.declared.error.kind.ErrorKind.TheVariants.{Format};
 ghost use Rattle.clap.specs.Walk.{Text, first_of, one_of, rows_of};
 ghost use Rattle.clap.specs.Words.{found_of, subcommand_rows_of};
 ghost use Rattle.elf_model.specs.Text.{name_of};
 ghost use Rattle.elf_words.specs.Asked.{AreLimits, AreParts, ComesTo, HasNumber, IsFileNamed};
-ghost use Rattle.elf_words.specs.Asked.{IsNameCap, WordsAsk, WordsRefused, is_part};
+ghost use Rattle.elf_words.specs.Answered.{WordsAsk, WordsRefused};
+ghost use Rattle.elf_words.specs.Asked.{IsStyle, is_part, is_set};
+ghost use Rattle.elf_words.specs.Checks.{Becomes};
 ghost use Rattle.elf_words.specs.Asked.{item_words, part_names};
 ghost use Rattle.elf_words.specs.Layouts.{Lays, no_items};
 ghost use Rattle.elf_words.specs.Faults.{IsUnasked};
 ghost use Rattle.elf_words.specs.declared.requests.Task.TheVariants.{Show};
 ghost use Rattle.elf_record.specs.declared.parts.Parts.{Parts};
-ghost use Rattle.elf_headers.specs.declared.caps.Cap.{Cap};
 ghost use Rattle.elf_headers.specs.declared.caps.Limits.{Limits};
+ghost use Rattle.elf_headers.specs.declared.caps.Style.{Style};
 
+use crate::archive_words::{MEMBER_PARTS, archive_asked};
+use crate::check_command::check;
+use crate::check_words::check_asked;
+use crate::checks::Asked;
 use crate::command_line::command_line;
 use crate::items::lay;
 use crate::names::checked_name;
 use crate::requests::{Request, RequestFault, Task};
 use clap::error::ErrorKind;
-use clap::{ArgMatches, Command};
+use clap::{ArgMatches, Error};
 use elf_layout::Layout;
 use elf_record::Parts;
-use elf_table::{Cap, Limits};
+use elf_table::{Cap, Limits, Style};
 use std::alloc::{AllocError, Global};
 use std::convert::AsStr;
 
@@ -31,6 +39,9 @@ use std::convert::AsStr;
 static PARTS: [&str; 7] = [
     "header", "sections", "segments", "symbols", "relocs", "notes", "dynamic",
 ];
+
+/// What `check` without a path is told, as other commands are of their FILE.
+const NO_PATH: &str = "the following required arguments were not provided:\n  <PATH>";
 
 /// All parts of a listing.
 const WHOLE: Parts = Parts(127);
@@ -46,46 +57,88 @@ pub fn request<'a, S: AsStr>(
     alloc: Global,
     words: &'a [S],
     layout: &'a mut Layout,
-) -> Result<Request<'a>, RequestFault>
+) -> Result<Asked<'a>, RequestFault>
     ensures asked { IfOk result (WordsAsk (map S.text words.entry.now)) }
     ensures refused { IfErr result (WordsRefused (map S.text words.entry.now)) }
 {
-    let mut commands = command_line(alloc, PARTS.as_slice())?;
+    let mut commands = command_line(alloc, PARTS.as_slice(), MEMBER_PARTS.as_slice())?;
     let matches = match commands.try_get_matches_from_mut(words) {
         Ok(matches) => matches,
         Err(error) => return Err(error.into()),
     };
-    match asked(&matches, layout)? {
-        Some(request) => Ok(request),
-        None => Err(unasked(&mut commands)),
+    match asked(alloc, &matches, layout)? {
+        Some(asked) => Ok(asked),
+        None => Err(unasked(alloc)),
     }
 }
 
-/// The answer to words that the command line lets through though they ask for nothing.
-fn unasked(commands: &mut Command<'_>) -> RequestFault
+/// The answer to words that the command line lets through though they ask for nothing: to `check`
+/// where it has neither a path nor a file with paths.
+fn unasked(alloc: Global) -> RequestFault
     ensures { IsUnasked result }
 {
-    match commands.error(ErrorKind::Format, "bad words") {
+    match missing_path(alloc) {
         Ok(error) => error.into(),
         Err(AllocError) => RequestFault::Memory,
     }
 }
 
+/// The error of `check` without a path.
+fn missing_path(alloc: Global) -> Result<Error, AllocError>
+    ensures { IfOk result (λ error. kind_of error ≡ Format) }
+{
+    let mut command = check(alloc, PARTS.as_slice())?.bin_name("elfsee check")?;
+    command.error(ErrorKind::Format, NO_PATH)
+}
+
 /// What words that the command line let through ask for, or None where they ask for nothing.
 fn asked<'a>(
+    alloc: Global,
     matches: &ArgMatches<'a>,
     layout: &'a mut Layout,
-) -> Result<Option<Request<'a>>, RequestFault>
-    ensures { ComesTo (subcommand_rows_of matches.now) result }
+) -> Result<Option<Asked<'a>>, RequestFault>
+    ensures { Becomes (subcommand_rows_of matches.now) result }
 {
     match matches.subcommand() {
-        Some((command, options)) => asked_by(command, options, layout),
+        Some((command, options)) => asked_by(alloc, command, options, layout),
         None => Ok(None),
     }
 }
 
 /// What a command with these arguments asks for.
 fn asked_by<'a>(
+    alloc: Global,
+    command: &str,
+    options: &ArgMatches<'a>,
+    layout: &'a mut Layout,
+) -> Result<Option<Asked<'a>>, RequestFault>
+    ensures { Becomes (Some (command.now, rows_of (found_of options.now))) result }
+{
+    match command {
+        "check" => check_asked(alloc, options),
+        "archive" => Ok(archive_asked(options)),
+        _ => file_asked(command, options, layout),
+    }
+}
+
+/// What another command than `check` and `archive` with these arguments asks for.
+fn file_asked<'a>(
+    command: &str,
+    options: &ArgMatches<'a>,
+    layout: &'a mut Layout,
+) -> Result<Option<Asked<'a>>, RequestFault>
+    requires { (command.now ≢ codes "check") × (command.now ≢ codes "archive") }
+    ensures { Becomes (Some (command.now, rows_of (found_of options.now))) result }
+{
+    match of_file(command, options, layout) {
+        Ok(Some(request)) => Ok(Some(Asked::File(request))),
+        Ok(None) => Ok(None),
+        Err(fault) => Err(fault),
+    }
+}
+
+/// What another command with these arguments asks for, of one file.
+fn of_file<'a>(
     command: &str,
     options: &ArgMatches<'a>,
     layout: &'a mut Layout,
@@ -111,23 +164,23 @@ fn listing_of_file<'a>(options: &ArgMatches<'a>) -> Option<Request<'a>>
 /// A listing of a file, or of the sample where there is none, with the options that are asked for.
 fn listing<'a>(file: Option<&'a str>, options: &ArgMatches<'a>) -> Option<Request<'a>>
     ensures file { IfSome result (λ request. request.file ≡ file.entry) }
-    ensures task { IfSome result (λ request. (parts : Parts) × (name : Cap)
-        × (request.task ≡ Show parts name) × IsNameCap (rows_of (found_of options.now)) name
+    ensures task { IfSome result (λ request. (parts : Parts) × (style : Style)
+        × (request.task ≡ Show parts style) × IsStyle (rows_of (found_of options.now)) style
         × AreParts (first_of (codes "only") (rows_of (found_of options.now))) parts) }
     ensures limits { IfSome result (λ request.
         AreLimits (rows_of (found_of options.now)) request.limits) }
-    ensures none { result ≡ None → (limits : Limits) (name : Cap) (parts : Parts)
+    ensures none { result ≡ None → (limits : Limits) (style : Style) (parts : Parts)
         → AreLimits (rows_of (found_of options.now)) limits
-        → IsNameCap (rows_of (found_of options.now)) name
+        → IsStyle (rows_of (found_of options.now)) style
         → AreParts (first_of (codes "only") (rows_of (found_of options.now))) parts → ⊥ }
 {
     let limits = limits_of(options)?;
-    let name = name_cap_of(options)?;
+    let style = style_of(options)?;
     let parts = parts_of(options)?;
     Some(Request {
         file,
         limits,
-        task: Task::Show { parts, name },
+        task: Task::Show { parts, style },
     })
 }
 
@@ -206,7 +259,7 @@ fn in_file<'a>(options: &ArgMatches<'a>, task: Task<'a>) -> Option<Request<'a>>
 }
 
 /// The limits that the options ask for.
-fn limits_of(options: &ArgMatches<'_>) -> Option<Limits>
+pub(crate) fn limits_of(options: &ArgMatches<'_>) -> Option<Limits>
     ensures some { IfSome result (AreLimits (rows_of (found_of options.now))) }
     ensures none { result ≡ None → (limits : Limits)
         → AreLimits (rows_of (found_of options.now)) limits → ⊥ }
@@ -216,17 +269,34 @@ fn limits_of(options: &ArgMatches<'_>) -> Option<Limits>
     Limits::new(headers, budget)
 }
 
-/// How many bytes of a name are shown, by the options.
-fn name_cap_of(options: &ArgMatches<'_>) -> Option<Cap>
-    ensures some { IfSome result (IsNameCap (rows_of (found_of options.now))) }
-    ensures none { result ≡ None → (cap : Cap)
-        → IsNameCap (rows_of (found_of options.now)) cap → ⊥ }
+/// How rows are shown, by the options.
+pub(crate) fn style_of(options: &ArgMatches<'_>) -> Option<Style>
+    ensures some { IfSome result (IsStyle (rows_of (found_of options.now))) }
+    ensures none { result ≡ None → (style : Style)
+        → IsStyle (rows_of (found_of options.now)) style → ⊥ }
 {
-    Cap::new(small_number_of(options, "names")?)
+    let cap = Cap::new(small_number_of(options, "names")?)?;
+    let gnu = is_set(options, "gnu");
+    let by_segments = is_set(options, "by-segments");
+    Some(Style {
+        cap,
+        gnu,
+        by_segments,
+    })
+}
+
+/// Whether an option without a value is set.
+fn is_set(options: &ArgMatches<'_>, option: &str) -> bool
+    ensures { result ≡ is_set (first_of option.now (rows_of (found_of options.now))) }
+{
+    match text_of(options, option) {
+        Some(text) => text == "true",
+        None => false,
+    }
 }
 
 /// The parts that the options ask for.
-fn parts_of(options: &ArgMatches<'_>) -> Option<Parts>
+pub(crate) fn parts_of(options: &ArgMatches<'_>) -> Option<Parts>
     ensures some { IfSome result
         (AreParts (first_of (codes "only") (rows_of (found_of options.now)))) }
     ensures none { result ≡ None → (parts : Parts)
@@ -239,7 +309,7 @@ fn parts_of(options: &ArgMatches<'_>) -> Option<Parts>
 }
 
 /// The value of an argument, where it has one.
-fn text_of<'a>(options: &ArgMatches<'a>, argument: &str) -> Option<&'a str>
+pub(crate) fn text_of<'a>(options: &ArgMatches<'a>, argument: &str) -> Option<&'a str>
     ensures { option_map (λ text. text.now) result
         ≡ first_of argument.now (rows_of (found_of options.now)) }
 {

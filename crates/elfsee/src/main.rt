@@ -1,12 +1,15 @@
 //! elfsee lists ELF64 files, safely and in bounded memory.
 #![tactic(auto)]
 
+mod archives;
+mod many;
 mod sample;
 
 ghost use Rattle.std.specs.Prelude.{◌≡◌, ◌⊎◌, codes, IfErr};
 ghost use Rattle.elf_run.specs.Answers.{refused_line, refused_status};
 ghost use Rattle.elf_words.specs.declared.requests.RequestFault.{RequestFault};
 
+use archives::list_archive;
 use elf_layout::Layout;
 use elf_listing::show_told;
 use elf_run::{
@@ -14,11 +17,12 @@ use elf_run::{
 };
 use elf_source::{Counted, MemorySource, OffsetReader, Out, Source, StreamSource, WriteSink};
 use elf_table::{HeaderRoom, HeaderStore, Stop};
-use elf_words::{Request, RequestFault, request};
+use elf_words::{Asked, Request, RequestFault, request};
+use many::check_many;
 use sample::sample;
 use std::alloc::{AllocError, Global};
 use std::fs::File;
-use std::io::{BufWriter, ErrorKind, Write};
+use std::io::{BufWriter, ErrorKind, Input, IsTerminal, Write};
 use std::os::unix::fs::{FileExt, FileTypeExt};
 use std::process::ExitCode;
 use std::rt::{Env, Files};
@@ -31,7 +35,13 @@ const OUTPUT_BYTES: usize = 65_536;
 const TOLD_BYTES: usize = 4_096;
 
 fn main(rt: HostRuntime) -> ExitCode {
-    let (status, line) = match answer(&rt, rt.stderr()) {
+    let terminal = rt.stderr();
+    let terminal = if terminal.is_terminal() {
+        Some(terminal)
+    } else {
+        None
+    };
+    let (status, line) = match answer(&rt, rt.stderr(), terminal) {
         Ok(ending) => ending,
         Err(ending) => ending,
     };
@@ -42,18 +52,33 @@ fn main(rt: HostRuntime) -> ExitCode {
     ExitCode::from(status)
 }
 
-/// Reads the words, makes what memory is needed, opens the file, and carries the request out. What
-/// is wrong with words, and help, is written to `errors`.
-fn answer<R: Env + Files + Print + AllocGlobal, W: Write + Drop>(
+/// Reads the words, and carries out what they ask for. What is wrong with words, and help, is written
+/// to `errors`; a terminal, where there is one, is told how far a check of many files is.
+fn answer<R: Env + Files + Print + Input + AllocGlobal, W: Write + Drop, E: Write + Drop>(
     rt: &R,
     errors: W,
+    terminal: Option<E>,
 ) -> Result<Ending, Ending>
 where
     R::File: FileExt,
 {
     let words = read_words(rt)?;
     let mut layout = Layout::new();
-    let request = read_request(rt.alloc(), words.as_slice(), &mut layout, errors)?;
+    match read_request(rt.alloc(), words.as_slice(), &mut layout, errors)? {
+        Asked::File(request) => answer_request(rt, &request),
+        Asked::Check(asked) => check_many(rt, &asked, terminal),
+        Asked::Archive(asked) => list_archive(rt, &asked),
+    }
+}
+
+/// Makes what memory is needed, opens the file, and carries the request out.
+fn answer_request<R: Files + Print + AllocGlobal>(
+    rt: &R,
+    request: &Request<'_>,
+) -> Result<Ending, Ending>
+where
+    R::File: FileExt,
+{
     let Ok(mut room) = HeaderRoom::new(rt.alloc(), request.headers()) else {
         return Err(OUT_OF_MEMORY);
     };
@@ -64,11 +89,11 @@ where
     match request.file {
         Some(path) => {
             let source = open(rt, path)?;
-            Ok(write_answer(&request, source, store, output))
+            Ok(write_answer(request, source, store, output))
         }
         None => {
             let source = MemorySource::new(sample());
-            Ok(write_answer(&request, source, store, output))
+            Ok(write_answer(request, source, store, output))
         }
     }
 }
@@ -87,18 +112,18 @@ fn read_words<R: Env + AllocGlobal>(rt: &R) -> Result<Vec<String>, Ending>
     words.collect(rt.alloc()).map_err(|_| OUT_OF_MEMORY)
 }
 
-/// Reads the request, and tells what is wrong with words that are none.
+/// Reads what is asked for, and tells what is wrong with words that ask for nothing.
 fn read_request<'a, W: Write + Drop>(
     alloc: Global,
     words: &'a [String],
     layout: &'a mut Layout,
     errors: W,
-) -> Result<Request<'a>, Ending>
+) -> Result<Asked<'a>, Ending>
     ensures { IfErr result (λ ending. (fault : RequestFault)
         × (ending.0 ≡ refused_status fault) × (ending.1.now ≡ refused_line fault)) }
 {
     let fault = match request(alloc, words, layout) {
-        Ok(request) => return Ok(request),
+        Ok(asked) => return Ok(asked),
         Err(fault) => fault,
     };
     if let RequestFault::Words(told) = &fault {
@@ -146,8 +171,7 @@ where
     StreamSource::over(OffsetReader::new(file)).map_err(|_| READ_FAULT)
 }
 
-/// Carries a request out and writes what is left of the output. After a fault of the output nothing
-/// more is written. It is not made part of its caller, whose stack would hold the buffers of a listing
+/// Carries a request out and writes what is left of the output. It is not made part of its caller, whose stack would hold the buffers of a listing
 /// twice, one for each kind of source.
 #[inline(never)]
 fn write_answer<S: Source + Drop, W: Write + Drop>(
@@ -161,10 +185,15 @@ fn write_answer<S: Source + Drop, W: Write + Drop>(
     let mut src = Counted::new(source);
     let mut out = Out::new(WriteSink::new(output));
     let answer = run(request, &mut src, &mut store, &mut out);
-    let mut output = out.into_inner().into_inner();
+    end_answer(&answer, out.into_inner().into_inner())
+}
+
+/// Writes what is left of the output, and answers how the program ends. After a fault of the output
+/// nothing more is written.
+fn end_answer<W: Write + Drop>(answer: &Result<u8, Stop>, mut output: BufWriter<W>) -> Ending {
     if let Err(Stop::Out(_)) = answer {
         let _ = output.into_parts();
-        return outcome(&answer);
+        return outcome(answer);
     }
     if output.flush().is_err() {
         let _ = output.into_parts();
@@ -172,5 +201,5 @@ fn write_answer<S: Source + Drop, W: Write + Drop>(
             return WRITE_FAULT;
         }
     }
-    outcome(&answer)
+    outcome(answer)
 }

@@ -6,7 +6,7 @@ use Rattle.elf_hash.specs.Lookups.{find_bytes}
 use Rattle.elf_headers.specs.Stops.{stop_of}
 use Rattle.elf_listing.proofs.AskLaws.{told_says}
 use Rattle.elf_listing.proofs.ShowLaws.{StopSays-fault}
-use Rattle.elf_run.proofs.TaskLaws.{answered_stop, answered_whole, lookup_stops, lookup_used, looked_whole, runs, says_output}
+use Rattle.elf_run.proofs.TaskLaws.{answered_stop, answered_whole, lookup_stops, lookup_used, output_alone, runs}
 use Rattle.elf_run.proofs.finding.look_up.Goals as goal
 
 pub returns-in-Ok-clause-runs : goal.returns-in-Ok-clause-runs
@@ -16,11 +16,12 @@ returns-in-Ok-clause-runs g c =
     let found : c.find-found.result ≡ Ok c.in-Ok.lookup = search rules in
     let reads = c.find-found.ensures.did.costs.reads in
     let most = rw (c.requires.slots.0, set.seen) at reads.at_most in
+    let alone = output_alone c.args.limits.budget c.args.src.now c.limit-2.new.self c.show_lookup.new.out c.show_lookup.result c.show_lookup.ensures.fails in
     runs c.args.limits.budget c.args.src.now c.limit.new.self c.limit-2.new.self _ _ set c.show_lookup.ensures.grows (rw (unset.seen) reads.keeps) unset.most (omega (arith, most, unset.asked))
-    (rw (unset.asked) (within_budget c.args.limits.budget c.args.src.now c.limit.new.self c.find-found.new.src set reads.same_limit)) (says_output c.args.src.now c.limit-2.new.self c.show_lookup.new.out c.show_lookup.result c.show_lookup.ensures.fails) (λ file now.
+    (rw (unset.asked) (within_budget c.args.limits.budget c.args.src.now c.limit.new.self c.find-found.new.src set reads.same_limit)) alone.0 (λ file now.
     let finds = rw (c.requires.slots.0, found) at (c.find-found.ensures.did.known file now) in (
       omega (arith, finds.costs.reads.at_most, unset.asked),
-      answered_whole _ _ _ _ _ (c.show_lookup.ensures.text file (looked file c.args.limits.headers c.args.wanted.now) finds.finds) (looked_whole c.args.limits.budget c.args.src.now c.limit-2.new.self c.show_lookup.new.out c.show_lookup.result _ c.show_lookup.ensures.fails),
+      answered_whole _ _ _ _ _ (c.show_lookup.ensures.text file (looked file c.args.limits.headers c.args.wanted.now) finds.finds) (alone.1 _),
     ))
 
 pub returns-in-Err-clause-runs : goal.returns-in-Err-clause-runs

@@ -5,6 +5,5 @@ use Rattle.elf_words.proofs.command_line.command_line.Goals as goal
 
 pub returns : goal.returns
 returns c =
-    let one = c.in_ok-subcommand.ensures.shape c.in_ok-find.ensures.local ∙ ap₂ with_subcommand c.in_ok-listings.ensures (ap (λ app. app.top) c.in_ok-find.ensures.app) in
-    IfOk-weaker c.subcommand-2.result _ _ (λ whole added. added.shape c.in_ok-apply.ensures.local ∙ ap₂ with_subcommand one (ap (λ app. app.top) c.in_ok-apply.ensures.app))
-    c.subcommand-2.ensures
+    IfOk-weaker c.subcommand.result _ _ (λ whole added. added.shape c.in_ok-archive.ensures.local ∙ ap₂ with_subcommand c.in_ok-checks.ensures (ap (λ app. app.top) c.in_ok-archive.ensures.app))
+    c.subcommand.ensures

@@ -1,0 +1,51 @@
+-- What the words of a command line ask for, of one file, of many or of an archive.
+use Rattle.std.specs.Prelude.{⊤, ◌≡◌, List, [], Result, Ok, Err, codes, Option, None, Some, option_map, unwrap_or}
+use Rattle.clap.specs.Walk.{Row, Text, all_of, first_of, texts}
+use Rattle.elf_words.specs.Asked.{AreLimits, AreParts, AsksBy, AsksNothing, HasFault, IsStyle}
+use Rattle.elf_words.specs.declared.checks.Asked.{Asked}
+use Rattle.elf_words.specs.declared.checks.Asked.TheVariants.{File, Check, Archive}
+use Rattle.elf_words.specs.Archives.{ArchivesBy, NothingArchived}
+use Rattle.elf_words.specs.declared.checks.Checking.{Checking}
+use Rattle.elf_words.specs.declared.requests.RequestFault.{RequestFault}
+use Rattle.elf_words.specs.declared.requests.RequestFault.TheVariants.{Memory}
+
+-- the words for the paths that are checked
+abbrev pub path_words : List Row → List Text
+path_words rows = unwrap_or (all_of (codes "PATH") rows) []
+
+-- a check of the files and folders whose paths stand among the values, and of those that a file has; of nothing there is
+-- no check
+pub record IsChecking (command : Text) (rows : List Row) (asked : Checking) : Type 0 where
+  pub check : command ≡ codes "check"
+  pub paths : texts asked.paths.items ≡ path_words rows
+  pub list : option_map (λ path. path.now) asked.list ≡ first_of (codes "files0-from") rows
+  pub some : path_words rows ≡ [] → first_of (codes "files0-from") rows ≡ None → ⊥
+  pub limits : AreLimits rows asked.limits
+  pub style : IsStyle rows asked.style
+  pub parts : AreParts (first_of (codes "only") rows) asked.parts
+
+-- a command with the values of its arguments asks for this check
+abbrev pub ChecksBy : Option (Text × List Row) → Checking → Type 0
+ChecksBy None asked = ⊥
+ChecksBy (Some (command, rows)) asked = IsChecking command rows asked
+
+-- a command with the values of its arguments asks for just this
+abbrev pub IsAsked : Option (Text × List Row) → Asked → Type 0
+IsAsked matches (File request) = AsksBy matches request
+IsAsked matches (Check asked) = ChecksBy matches asked
+IsAsked matches (Archive asked) = ArchivesBy matches asked
+
+-- no check is asked for
+abbrev pub NothingChecked : Option (Text × List Row) → Type 0
+NothingChecked matches = (asked : Checking) → ChecksBy matches asked → ⊥
+
+-- nothing is asked for
+abbrev pub NothingAsked : Option (Text × List Row) → Type 0
+NothingAsked matches = AsksNothing matches × NothingChecked matches × NothingArchived matches
+
+-- what a command with the values of its arguments comes to: what is asked for, nothing, or a fault
+abbrev pub Becomes : Option (Text × List Row) → Result (Option Asked) RequestFault → Type 0
+Becomes matches (Ok (Some asked)) = IsAsked matches asked
+Becomes matches (Ok None) = NothingAsked matches
+Becomes matches (Err Memory) = ⊤
+Becomes matches (Err fault) = HasFault matches fault

@@ -1,0 +1,31 @@
+//! The command that lists an archive, with its help.
+ghost use Rattle.std.specs.Prelude.{◌≡◌, IfOk, false};
+ghost use Rattle.clap.specs.Words.{app_of};
+ghost use Rattle.clap.specs.declared.builder.command.Command.TheViews.{out-Command as fields_of};
+ghost use Rattle.elf_words.specs.CommandLine.{archive_command};
+
+use crate::command_line::{file, listing_options};
+use clap::Command;
+use std::alloc::{AllocError, Global};
+
+const LINES: &str = "\
+Each member has a line: A, its index, the offset and the size of its data, and its name. Behind
+it stands the listing of a member that is an ELF file, as 'show' has it of the file that the
+data are; where that file is refused the next member follows.
+  --only PART  the members and one part of each listing; --only members: the members alone
+  --max-read N read no more than so many bytes of the archive
+
+Exit status: 1 where the archive or a member is refused.
+
+Example: elfsee archive --only symbols /usr/lib/x86_64-linux-gnu/libc.a";
+
+/// The command that lists an archive, with the names of its parts.
+pub(crate) fn archive<'a>(alloc: Global, parts: &'a [&'a str]) -> Result<Command<'a>, AllocError>
+    ensures app { IfOk result (λ command. app_of command ≡ archive_command parts.entry) }
+    ensures local { IfOk result (λ command. (fields_of command).has_globals ≡ false) }
+{
+    let command = Command::new(alloc, "archive")
+        .about("List the members of an archive, as a static library, and what is in each")
+        .after_help(LINES);
+    listing_options(alloc, command, parts)?.arg(file(alloc))
+}

@@ -1,0 +1,59 @@
+//! The command that checks many files, with its help.
+ghost use Rattle.std.specs.Prelude.{◌≡◌, IfOk, false};
+ghost use Rattle.clap.specs.Words.{app_of, rule_of};
+ghost use Rattle.clap.specs.declared.builder.command.Command.TheViews.{out-Command as fields_of};
+ghost use Rattle.elf_words.specs.CommandLine.{check_command, list_option, path_argument};
+
+use crate::command_line::listing_options;
+use clap::{Arg, Command};
+use std::alloc::{AllocError, Global};
+
+const LINES: &str = "\
+Each file has one line: C, its state, where it is at fault and why, and its path.
+  ok       'show' with these options ends with status 0
+  refused  it ends with status 1: behind the state stand an offset in the file and the cause
+  no-elf   it does not begin with the magic number
+  unread   it cannot be opened or read, or lies more than 64 folders deep
+  memory   there was no memory for it
+A PATH that is a folder is gone through, its files in the order of their names, without the
+links in it. Last comes 'C unnamed' with a number, where so many names are not UTF-8 or too long.
+
+Exit status: 0 all are ok or no-elf, 1 some are refused, 3 some are unread, memory or unnamed.
+
+Examples:
+  elfsee check --only header /usr/lib
+  find /opt -name '*.so' -print0 | elfsee check --files0-from -";
+
+/// The command that checks many files.
+pub(crate) fn check<'a>(alloc: Global, parts: &'a [&'a str]) -> Result<Command<'a>, AllocError>
+    ensures app { IfOk result (λ command. app_of command ≡ check_command parts.entry) }
+    ensures local { IfOk result (λ command. (fields_of command).has_globals ≡ false) }
+{
+    let command = Command::new(alloc, "check")
+        .about("Tell of many files which are at fault, where and why")
+        .after_help(LINES);
+    listing_options(alloc, command, parts)?
+        .arg(list(alloc))?
+        .arg(path(alloc))
+}
+
+/// The file with paths.
+fn list<'a>(alloc: Global) -> Arg<'a>
+    ensures rule { rule_of result ≡ list_option }
+    ensures local { result.global ≡ false }
+{
+    Arg::new(alloc, "files0-from")
+        .long("files0-from")
+        .value_name("FILE")
+        .help("Check the paths in FILE too, each ended by NUL; - is standard input")
+}
+
+/// The paths.
+fn path<'a>(alloc: Global) -> Arg<'a>
+    ensures rule { rule_of result ≡ path_argument }
+    ensures local { result.global ≡ false }
+{
+    Arg::new(alloc, "PATH")
+        .num_args(0..)
+        .help("A file to check, or a folder of files")
+}

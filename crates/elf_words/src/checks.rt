@@ -1,0 +1,73 @@
+//! What can be asked for: of one file, of many, or of an archive.
+ghost use Rattle.std.specs.Prelude.{◌≡◌, ◌≤◌};
+
+use crate::requests::Request;
+use elf_record::Parts;
+use elf_table::{Limits, Style};
+
+/// What is asked for.
+#[derive(Drop)]
+pub enum Asked<'a> {
+    /// Something is done with one file.
+    File(Request<'a>),
+    /// Many files are checked.
+    Check(Checking<'a>),
+    /// The members of an archive are listed.
+    Archive(Archiving<'a>),
+}
+
+/// A check of many files: whose they are, how much of each may be read, and which parts of its listing
+/// count.
+#[derive(Drop)]
+pub struct Checking<'a> {
+    /// The paths of files and folders.
+    pub paths: Vec<&'a str>,
+    /// The path of a file that has more paths, each ended by NUL; `-` is standard input.
+    pub list: Option<&'a str>,
+    /// How many headers are permitted, and how many bytes may be read, of each file.
+    pub limits: Limits,
+    /// The parts of a listing that count.
+    pub parts: Parts,
+    /// How rows are shown in such a listing.
+    pub style: Style,
+}
+
+impl<'a> Checking<'a> {
+    ghost use Rattle.std.specs.Prelude.{◌≤◌};
+
+    /// How many slots the header store needs, 1 to 65,279.
+    pub fn headers(&self) -> u16
+        ensures value { result ≡ self.now.limits.headers }
+        ensures some { 1 ≤ result }
+        ensures few { result ≤ 65279 }
+    {
+        self.limits.headers
+    }
+}
+
+/// A listing of an archive: where it is, how much may be read, how rows are shown, and which parts of
+/// its members' listings there are; without a part its members alone are listed.
+#[derive(Drop)]
+pub struct Archiving<'a> {
+    /// The path of the archive.
+    pub file: &'a str,
+    /// How many headers of a member are permitted, and how many bytes may be read of the archive.
+    pub limits: Limits,
+    /// The parts of a listing.
+    pub parts: Parts,
+    /// How rows are shown.
+    pub style: Style,
+}
+
+impl<'a> Archiving<'a> {
+    ghost use Rattle.std.specs.Prelude.{◌≤◌};
+
+    /// How many slots the header store needs, 1 to 65,279.
+    pub fn headers(&self) -> u16
+        ensures value { result ≡ self.now.limits.headers }
+        ensures some { 1 ≤ result }
+        ensures few { result ≤ 65279 }
+    {
+        self.limits.headers
+    }
+}

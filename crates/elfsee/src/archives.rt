@@ -1,0 +1,47 @@
+//! The listing of an archive.
+ghost use Rattle.std.specs.Prelude.{◌≡◌};
+
+use crate::{OUTPUT_BYTES, end_answer, open};
+use elf_run::{Ending, OUT_OF_MEMORY, run_archive};
+use elf_source::{Counted, Out, RangeSource, Source, WriteSink};
+use elf_table::{HeaderRoom, HeaderStore};
+use elf_words::Archiving;
+use std::io::{self, BufWriter, Write};
+use std::os::unix::fs::FileExt;
+use std::rt::Files;
+
+/// Makes what memory is needed, opens the archive, and lists it.
+///
+/// # Errors
+/// There is no memory, or the archive can't be opened.
+pub fn list_archive<R: Files + Print + AllocGlobal>(
+    rt: &R,
+    asked: &Archiving<'_>,
+) -> Result<Ending, Ending>
+where
+    R::File: FileExt,
+{
+    let Ok(mut room) = HeaderRoom::new(rt.alloc(), asked.headers()) else {
+        return Err(OUT_OF_MEMORY);
+    };
+    let Ok(output) = BufWriter::with_capacity(rt.alloc(), OUTPUT_BYTES, io::writer(rt)) else {
+        return Err(OUT_OF_MEMORY);
+    };
+    let source = open(rt, asked.file)?;
+    Ok(write_archive(asked, source, room.store(), output))
+}
+
+/// Lists an archive and writes what is left of the output.
+fn write_archive<S: Source + Drop, W: Write + Drop>(
+    asked: &Archiving<'_>,
+    source: S,
+    mut store: HeaderStore<'_>,
+    output: BufWriter<W>,
+) -> Ending
+    requires { store.slots ≡ asked.now.limits.headers }
+{
+    let mut src = Counted::new(RangeSource::new(source));
+    let mut out = Out::new(WriteSink::new(output));
+    let answer = run_archive(asked, &mut src, &mut store, &mut out);
+    end_answer(&answer, out.into_inner().into_inner())
+}
