@@ -7,7 +7,7 @@ use elf_run::{outcome, run};
 use elf_source::{
     Counted, FailSource, MemorySource, Out, OutFault, SliceSink, Source, SourceFault, WriteSink,
 };
-use elf_table::{Cap, HeaderRoom, HeaderStore, Limits, Stop};
+use elf_table::{Cap, HeaderRoom, HeaderStore, Limits, Stop, Style};
 use elf_words::{Request, Task};
 use std::process::Abort;
 use std::test::Fail;
@@ -27,8 +27,8 @@ pub(crate) fn request(headers: u16, task: Task<'_>) -> Result<Request<'_>, Fail>
 
 /// A listing of some parts, with names of 63 bytes.
 pub(crate) fn listing(headers: u16, parts: Parts) -> Result<Request<'static>, Fail> {
-    let name = Cap::new(63).ok_or("cap")?;
-    request(headers, Task::Show { parts, name })
+    let style = Style::standard(Cap::new(63).ok_or("cap")?);
+    request(headers, Task::Show { parts, style })
 }
 
 /// The same request within a budget.

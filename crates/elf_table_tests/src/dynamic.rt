@@ -37,7 +37,9 @@ fn walk_twice(
 ) -> (Result<u64, Fault>, Result<u64, Fault>, u32) {
     let mut src = Counted::new(Planned::new(bytes, failing));
     let mut cursor = dynamic_rows(Table::new(0, bytes.len() as u64 / 16, 16));
+    assert!(rt; src.length() == bytes.len() as u64);
     let first = entries_given(&mut cursor, &mut src, rt);
+    assert!(rt; src.length() == bytes.len() as u64);
     let second = entries_given(&mut cursor, &mut src, rt);
     (first, second, src.into_inner().reads)
 }

@@ -7,15 +7,20 @@ use std::process::Abort;
 
 // The answers where a long name of a string table at 20 is read, and where it is compared, if the
 // read with the number `failing` fails.
-fn read_and_compare(failing: u32) -> (Result<NameEnd, Fault>, Result<bool, Fault>) {
+fn read_and_compare(
+    failing: u32,
+    rt: &impl Abort,
+) -> (Result<NameEnd, Fault>, Result<bool, Fault>) {
     let bytes = [b'a'; 220];
     let names = Names::new(20, 200);
     let (off, at) = (10, 7);
     let index = NameIndex { names, off, at };
     let mut name = NameBuf::new();
     let mut src = Counted::new(Planned::new(&bytes, failing));
+    assert!(rt; src.length() == 220);
     let read = ReadAhead::new().name(&mut src, index, Cap { bytes: 180 }, &mut name);
     let mut src = Counted::new(Planned::new(&bytes, failing));
+    assert!(rt; src.length() == 220);
     let compared = names.equals(&mut src, off, at, &[b'a'; 180]);
     (read, compared)
 }
@@ -25,9 +30,9 @@ fn a_fault_in_any_piece_names_its_offset(rt: HostRuntime) {
     let fault = SourceFault::Device;
     let first = Fault::Source { fault, at: 30 };
     let second = Fault::Source { fault, at: 94 };
-    assert!(rt; read_and_compare(1) == (Err(first), Err(first)));
-    assert!(rt; read_and_compare(2) == (Err(second), Ok(false)));
-    assert!(rt; read_and_compare(3) == (Ok(NameEnd::Cut), Ok(false)));
+    assert!(rt; read_and_compare(1, &rt) == (Err(first), Err(first)));
+    assert!(rt; read_and_compare(2, &rt) == (Err(second), Ok(false)));
+    assert!(rt; read_and_compare(3, &rt) == (Ok(NameEnd::Cut), Ok(false)));
 }
 
 // How many reads a comparison takes with a name of `count` bytes, of a string table of nothing else.

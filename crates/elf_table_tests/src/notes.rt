@@ -32,6 +32,7 @@ fn walk(bytes: &[u8], cap: u16, rt: &impl Abort) -> (Result<u64, Fault>, u128) {
     let mut name = NameBuf::new();
     let mut src = Counted::new(MemorySource::new(bytes));
     let mut cursor = NoteCursor::new(Table::new(0, bytes.len() as u64, 1), 4);
+    assert!(rt; src.length() == bytes.len() as u64);
     let given = notes_given(&mut cursor, &mut src, Cap { bytes: cap }, &mut name);
     (given, src.asked())
 }
@@ -68,7 +69,9 @@ fn long_name_twice(
     let mut name = NameBuf::new();
     let mut src = Counted::new(Planned::new(&bytes[..size], failing));
     let mut cursor = NoteCursor::new(Table::new(0, size as u64, 1), 4);
+    assert!(rt; src.length() == size as u64);
     let first = notes_given(&mut cursor, &mut src, cap, &mut name);
+    assert!(rt; src.length() == size as u64);
     let second = notes_given(&mut cursor, &mut src, cap, &mut name);
     (first, second, src.into_inner().reads)
 }

@@ -38,7 +38,9 @@ fn walk_twice(
     assert!(rt; count <= 171);
     let mut src = Counted::new(Planned::new(&bytes, failing));
     let mut cursor = Cursor::new(Table::new(0, count, 24));
+    assert!(rt; src.length() == 4104);
     let first = rows_given(&mut cursor, &mut src, rt);
+    assert!(rt; src.length() == 4104);
     let second = rows_given(&mut cursor, &mut src, rt);
     let asked = src.asked();
     (first, second, src.into_inner().reads, asked)
@@ -69,8 +71,10 @@ fn a_symbol_that_failed_is_read_again(rt: HostRuntime) {
     let table = Table::new(0, 3, 24);
     let mut src = Counted::new(Planned::new(&bytes, 1));
     let fault = SourceFault::Device;
+    assert!(rt; src.length() == 72);
     let answer = table.symbol(&mut src, 2);
     assert!(rt; answer == Err(Fault::Source { fault, at: 48 }));
+    assert!(rt; src.length() == 72);
     assert!(rt; table.symbol(&mut src, 2).is_ok());
     assert!(rt; src.asked() == 48);
 }
