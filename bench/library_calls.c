@@ -1,10 +1,10 @@
 /* Times the library's calls over a file in memory, for bench/library:
  *
- *     library_calls FILE RUNS
+ *     library_calls FILE RUNS PARTS
  *
- * Printed are lines `WHAT SECONDS COUNT SUM`, the best of so many runs: `rows` goes over all symbols with their
- * names, `libelf` does the same by libelf where it is built with -DWITH_LIBELF, `listing` lists the file into
- * memory that was written before. COUNT and SUM are of symbols and of bytes of names, or of bytes. */
+ * Printed are lines `WHAT SECONDS COUNT SUM`, with the least seconds of processor of so many runs: `rows` goes over
+ * all symbols with their names, `libelf` does the same by libelf where it is built with -DWITH_LIBELF, `listing` lists
+ * those parts of the file into memory that was written before. COUNT and SUM are of symbols and of bytes of names, or of bytes. */
 #define _GNU_SOURCE
 #include "elfsee.h"
 
@@ -26,6 +26,7 @@ struct done {
 
 static uint8_t *file, *room, *out;
 static size_t file_len, room_len, out_len;
+static uint8_t parts; /* of a listing */
 static const struct elfsee_limits LIMITS = {65279, 256, 0, 0};
 
 /* Goes over the rows of one table. */
@@ -66,7 +67,7 @@ static struct done rows(void) {
 
 static struct done listing(void) {
     struct elfsee_end end = {0, 0, 0, 0, 0};
-    uint32_t status = elfsee_show(file, file_len, &LIMITS, ELFSEE_ALL, room, room_len, out, out_len, &end);
+    uint32_t status = elfsee_show(file, file_len, &LIMITS, parts, room, room_len, out, out_len, &end);
     struct done done = {end.written, status};
     return done;
 }
@@ -96,7 +97,7 @@ static struct done libelf(void) {
 
 static double now(void) {
     struct timespec at;
-    clock_gettime(CLOCK_MONOTONIC, &at);
+    clock_gettime(CLOCK_PROCESS_CPUTIME_ID, &at);
     return (double)at.tv_sec + 1e-9 * (double)at.tv_nsec;
 }
 
@@ -126,8 +127,9 @@ static void read_file(const char *path) {
 }
 
 int main(int argc, char **argv) {
-    if (argc < 3) return 2;
+    if (argc < 4) return 2;
     read_file(argv[1]);
+    parts = (uint8_t)atoi(argv[3]);
     room_len = (size_t)elfsee_room(file, file_len, LIMITS.headers);
     room = malloc(room_len);
     out_len = 32 * file_len + (1 << 20);

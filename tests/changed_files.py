@@ -18,6 +18,14 @@ def put(content, at, width, number):
         content[at:at + width] = struct.pack("<Q", number % (1 << 64))[:width]
 
 
+def without_sections(content):
+    """A file without section headers: its program headers tell its tables."""
+    content = bytearray(content)
+    put(content, 40, 8, 0)
+    put(content, 60, 4, 0)
+    return bytes(content)
+
+
 def number(rng, size):
     """A number that is likely to be near a bound."""
     if rng.random() < 0.3:

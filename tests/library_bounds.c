@@ -189,6 +189,7 @@ static void short_files(void) {
     struct elfsee_found found;
     struct elfsee_header header;
     struct elfsee_rows rows;
+    struct elfsee_range range;
     struct elfsee_job job = {0, 0, 1, 0};
     struct elfsee_item none = {0, object.bytes, 0, 0, 0};
     int all = 1;
@@ -207,6 +208,10 @@ static void short_files(void) {
         status = elfsee_header(file.bytes, len, &header, &end);
         all &= status == ELFSEE_REFUSED && end.cause == ELFSEE_SHORT && end.at == len;
         status = elfsee_symbols(file.bytes, len, &limits, 0, room.bytes, ROOM, &rows, &end);
+        all &= status == ELFSEE_REFUSED && end.cause == ELFSEE_SHORT && end.at == len;
+        status = elfsee_segment_dynamic(file.bytes, len, 0, &rows, &end);
+        all &= status == ELFSEE_REFUSED && end.cause == ELFSEE_SHORT && end.at == len;
+        status = elfsee_mapped(file.bytes, len, 0, 0, &range, &end);
         all &= status == ELFSEE_REFUSED && end.cause == ELFSEE_SHORT && end.at == len;
         all &= elfsee_room(file.bytes, len, 4096) == 64;
         take_back(&file);
@@ -242,11 +247,18 @@ static void small_out(void) {
           "no room for a symbol");
 }
 
+/* 30 to 33 are no causes. */
+static int is_cause(uint32_t cause) {
+    return (cause >= ELFSEE_SHORT && cause <= ELFSEE_UNMAPPED) ||
+           (cause >= ELFSEE_THIN && cause <= ELFSEE_MEMBER_CUT);
+}
+
 static void cause_words(void) {
     uint8_t word[40];
     int all = 1, none = 1;
     uint32_t cause;
-    for (cause = 1; cause <= ELFSEE_UNMAPPED; cause += 1) {
+    for (cause = 1; cause <= ELFSEE_MEMBER_CUT; cause += 1) {
+        if (!is_cause(cause)) continue;
         size_t len = elfsee_cause_word(cause, word, sizeof word), less;
         all &= len > 0 && len <= 32;
         for (less = 0; less < len; less += 1) {
@@ -261,10 +273,9 @@ static void cause_words(void) {
         take_back(&just);
     }
     check(all, "the words of causes, with room and without");
-    for (cause = ELFSEE_UNMAPPED + 1; cause < 100000; cause += 1)
-        none &= elfsee_cause_word(cause, word, sizeof word) == 0;
-    check(none && !elfsee_cause_word(0, word, sizeof word) &&
-              !elfsee_cause_word(UINT32_MAX, word, sizeof word),
+    for (cause = 0; cause < 100000; cause += 1)
+        none &= is_cause(cause) || elfsee_cause_word(cause, word, sizeof word) == 0;
+    check(none && !elfsee_cause_word(UINT32_MAX, word, sizeof word),
           "numbers that are no cause");
 }
 
@@ -654,6 +665,32 @@ static int any_open(void) {
     return take_back(&some_room) && all;
 }
 
+/* The dynamic entries of a segment, and bytes at any address, of a changed file. */
+static int any_mapped(void) {
+    struct lent file = changed(&library);
+    struct elfsee_end end = ODD;
+    struct elfsee_limits none = {1, 1, 0, 0};
+    struct elfsee_rows rows = any_rows(file.len), old = rows;
+    struct elfsee_range range = {77, 77};
+    uint64_t address = any(file.len), size = any(file.len);
+    uint32_t status = elfsee_segment_dynamic(file.bytes, file.len, (uint16_t)any(10), &rows, &end);
+    int all = status <= ELFSEE_ABSENT && is_end(&end, status, &none, 0) && end.asked == 0;
+    if (status == ELFSEE_OK) {
+        all &= rows.index == 0 && rows.entry == 16 && rows.strings_at == 0 && rows.strings_len == 0;
+        all &= rows.count == 0 || (rows.at <= file.len && rows.count <= (file.len - rows.at) / 16);
+    } else {
+        all &= !memcmp(&rows, &old, sizeof rows);
+    }
+    status = elfsee_mapped(file.bytes, file.len, address, size, &range, &end);
+    all &= status <= ELFSEE_ABSENT && is_end(&end, status, &none, 0) && end.asked == 0;
+    if (status == ELFSEE_OK)
+        all &= range.len == size && range.at <= file.len && size <= file.len - range.at;
+    else
+        all &= range.at == 77 && range.len == 77;
+    take_back(&file);
+    return all;
+}
+
 static int any_header(void) {
     struct lent file = changed(next() & 1 ? &object : &library);
     struct elfsee_end end = ODD;
@@ -710,6 +747,7 @@ int main(int argc, char **argv) {
     many("notes, by any numbers", any_notes, tries);
     many("names, in any range", any_name, tries);
     many("headers of changed files", any_header, tries);
+    many("segments of changed files, at any address", any_mapped, tries);
     many("listings of changed files, with any limits", any_show, tries);
     many("lookups in changed files, with any limits", any_find, tries);
     many("sections of changed files, with any items", any_apply, tries);

@@ -304,6 +304,10 @@ static int say_relocations(struct walk *walk, uint16_t section) {
     return 1;
 }
 
+static int is_string(int64_t tag) {
+    return tag == 1 || tag == 14 || tag == 15 || tag == 29;
+}
+
 static int say_dynamic(struct walk *walk, uint16_t section) {
     struct elfsee_rows rows = {7, 7, 7, 7, 7, 7};
     struct elfsee_dynamic entry;
@@ -313,10 +317,47 @@ static int say_dynamic(struct walk *walk, uint16_t section) {
     if (status != ELFSEE_OK) return status == ELFSEE_ABSENT;
     for (; elfsee_next_dynamic(walk->file->bytes, walk->file->len, &rows, &entry, 1); index += 1) {
         struct elfsee_range strings = {rows.strings_at, rows.strings_len};
-        int64_t tag = entry.tag;
-        say(walk, "D %" PRIu64 " %" PRIi64 " %" PRIu64 " ", index, tag, entry.value);
-        if ((tag == 1 || tag == 14 || tag == 15 || tag == 29) && !say_name(walk, &strings, entry.value))
-            return 0;
+        say(walk, "D %" PRIu64 " %" PRIi64 " %" PRIu64 " ", index, entry.tag, entry.value);
+        if (is_string(entry.tag) && !say_name(walk, &strings, entry.value)) return 0;
+        say(walk, "\n");
+    }
+    return 1;
+}
+
+/* Where the strings of a segment's dynamic entries are in memory: the values of the first entry of the tag
+ * STRTAB, and of that of the tag STRSZ. Whether both are told. */
+static int strings_told(const struct walk *walk, struct elfsee_rows rows, uint64_t *address, uint64_t *size) {
+    struct elfsee_dynamic some[5];
+    size_t i, count = 5;
+    int has_address = 0, has_size = 0;
+    while (count == 5) {
+        count = elfsee_next_dynamic(walk->file->bytes, walk->file->len, &rows, some, 5);
+        for (i = 0; i < count; i += 1) {
+            if (some[i].tag == 5 && !has_address) *address = some[i].value, has_address = 1;
+            if (some[i].tag == 10 && !has_size) *size = some[i].value, has_size = 1;
+        }
+    }
+    return has_address && has_size;
+}
+
+static int say_segment_dynamic(struct walk *walk, uint16_t segment) {
+    const struct lent *file = walk->file;
+    struct elfsee_rows rows = {7, 7, 7, 7, 7, 7};
+    struct elfsee_dynamic entry;
+    uint32_t status = elfsee_segment_dynamic(file->bytes, file->len, segment, &rows, &walk->end);
+    uint64_t index = 0, address = 0, size = 0;
+    if (status != ELFSEE_OK) return status == ELFSEE_ABSENT;
+    expect(rows.strings_at == 0 && rows.strings_len == 0, "strings of a segment's entries");
+    int told = strings_told(walk, rows, &address, &size);
+    for (; elfsee_next_dynamic(file->bytes, file->len, &rows, &entry, 1); index += 1) {
+        say(walk, "D %" PRIu64 " %" PRIi64 " %" PRIu64 " ", index, entry.tag, entry.value);
+        if (is_string(entry.tag)) {
+            struct elfsee_range strings = {7, 7};
+            if (!told || elfsee_mapped(file->bytes, file->len, address, size, &strings, &walk->end)) return 0;
+            expect(strings.len == size && strings.at <= file->len && size <= file->len - strings.at,
+                   "mapped bytes outside the file");
+            if (!say_name(walk, &strings, entry.value)) return 0;
+        }
         say(walk, "\n");
     }
     return 1;
@@ -422,7 +463,8 @@ static int say_all(struct walk *walk) {
            say_each(walk, header.shnum, say_symbols) && say_each(walk, header.shnum, say_relocations) &&
            (header.shnum ? say_each(walk, header.shnum, say_section_notes)
                          : say_each(walk, header.phnum, say_segment_notes)) &&
-           say_each(walk, header.shnum, say_dynamic);
+           (header.shnum ? say_each(walk, header.shnum, say_dynamic)
+                         : say_each(walk, header.phnum, say_segment_dynamic));
 }
 
 static void rows(const struct lent *file) {

@@ -72,6 +72,7 @@ static void call_dynamic(void) {
     struct elfsee_dynamic entry;
     if (elfsee_dynamic(file, file_len, &LIMITS, section, room, ROOM, &rows, &end) == ELFSEE_OK)
         elfsee_next_dynamic(file, file_len, &rows, &entry, 1);
+    elfsee_segment_dynamic(file, file_len, section, &rows, &end);
 }
 
 static void call_notes(void) {
@@ -97,6 +98,7 @@ static void call_headers(void) {
     elfsee_segment(file, file_len, section, &segment, &end);
     elfsee_section_names(file, file_len, &LIMITS, room, ROOM, &range, &end);
     elfsee_name(file, file_len, &range, one.name, &name, &end);
+    elfsee_mapped(file, file_len, segment.vaddr, segment.filesz, &name, &end);
     elfsee_room(file, file_len, LIMITS.headers);
     elfsee_cost(file_len, &LIMITS);
     elfsee_cause_word(end.cause, out, OUT);

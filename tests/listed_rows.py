@@ -14,7 +14,7 @@ def names_of_numbers():
     """Of each field that the page names: the number's names."""
     with open(os.path.join(TOP, "docs", "FORMAT.md"), encoding="utf-8") as file:
         part = file.read().split("## Names of numbers")[1].split("\n## ")[0]
-    rows = re.findall(r"^\| (?!Field)([^|]*?) \| ([^|]* \d+[^|]*) \|$", part, re.M)
+    rows = re.findall(r"^\| (?!Field)([^|]*?) \| ([^|]* \d+[^|]*?) \|[^|]*\|$", part, re.M)
     return {field: {int(number): name for name, number in map(str.split, names.split(", "))}
             for field, names in rows}
 
