@@ -4,7 +4,8 @@
 _elfsee_options() {
     local option given
     case $1 in
-    show | sample) set -- --headers --names --max-read --only ;;
+    show | sample | archive) set -- --headers --names --max-read --only --gnu --by-segments ;;
+    check) set -- --headers --names --max-read --only --gnu --by-segments --files0-from ;;
     find | apply) set -- --headers --max-read ;;
     *) set -- ;;
     esac
@@ -57,12 +58,13 @@ _elfsee() {
         else
             case $word in
             --) ended=1 before= ;;
-            --headers | --names | --max-read | --only) skip=1 ;;
+            --headers | --names | --max-read | --only | --files0-from) skip=1 ;;
             -*) ;;
             *) if [[ $command ]]; then files=$((files + 1)); else command=$word; fi ;;
             esac
         fi
     done
+    [[ $command == archive ]] && parts="members $parts"
     if [[ -z $ended ]]; then
         case $before in
         --only)
@@ -70,6 +72,10 @@ _elfsee() {
             return
             ;;
         --headers | --names | --max-read) return ;;
+        --files0-from)
+            _elfsee_files
+            return
+            ;;
         esac
         case $current in
         --only=*)
@@ -84,9 +90,10 @@ _elfsee() {
         esac
     fi
     case $command in
-    '') mapfile -t COMPREPLY < <(compgen -W 'show sample find apply help' -- "$current") ;;
-    help) [[ $files != 0 ]] || mapfile -t COMPREPLY < <(compgen -W 'show sample find apply' -- "$current") ;;
-    show | find) [[ $files != 0 ]] || _elfsee_files ;;
+    '') mapfile -t COMPREPLY < <(compgen -W 'show sample find apply check archive help' -- "$current") ;;
+    help) [[ $files != 0 ]] || mapfile -t COMPREPLY < <(compgen -W 'show sample find apply check archive' -- "$current") ;;
+    show | find | archive) [[ $files != 0 ]] || _elfsee_files ;;
+    check) _elfsee_files ;;
     apply)
         case $files in
         0) _elfsee_files ;;

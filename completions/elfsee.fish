@@ -1,7 +1,7 @@
 # Completion of elfsee for fish.
 
-set -l commands show sample find apply help
-set -l listing '__fish_seen_subcommand_from show sample'
+set -l commands show sample find apply check archive help
+set -l listing '__fish_seen_subcommand_from show sample check archive'
 set -l parts 'header\t"the file header"
 sections\t"the section headers"
 segments\t"the program headers"
@@ -9,6 +9,7 @@ symbols\t"the symbols"
 relocs\t"the relocation entries"
 notes\t"the notes"
 dynamic\t"the dynamic entries"'
+set -l members 'members\t"the members alone"'
 
 # The words behind the program's name that are no options, and an empty line where the value of an
 # option comes next.
@@ -25,7 +26,7 @@ function __elfsee_plain_words
             set -a plain $word
         else if test "$word" = --
             set ended 1
-        else if contains -- $word --headers --names --max-read --only
+        else if contains -- $word --headers --names --max-read --only --files0-from
             set skip 1
         else if not string match -q -- '-*' $word
             set -a plain $word
@@ -38,7 +39,8 @@ end
 # Whether the file is still to be named.
 function __elfsee_wants_file
     set -l plain (__elfsee_plain_words)
-    test (count $plain) -eq 1; and contains -- $plain[1] show find apply
+    test (count $plain) -eq 1; and contains -- $plain[1] show find apply archive; and return
+    test (count $plain) -ge 1; and test $plain[1] = check
 end
 
 # Whether items of a layout may follow.
@@ -58,14 +60,20 @@ complete -c elfsee -n "not __fish_seen_subcommand_from $commands" -a show -d 'li
 complete -c elfsee -n "not __fish_seen_subcommand_from $commands" -a sample -d 'list a small file that the program carries'
 complete -c elfsee -n "not __fish_seen_subcommand_from $commands" -a find -d 'look a name up through the hash table of a file'
 complete -c elfsee -n "not __fish_seen_subcommand_from $commands" -a apply -d 'write a section with its relocations applied'
+complete -c elfsee -n "not __fish_seen_subcommand_from $commands" -a check -d 'tell of many files which are at fault, where and why'
+complete -c elfsee -n "not __fish_seen_subcommand_from $commands" -a archive -d 'list the members of an archive, and what is in each'
 complete -c elfsee -n "not __fish_seen_subcommand_from $commands" -a help -d 'tell of the commands and options'
-complete -c elfsee -n '__fish_seen_subcommand_from help; and test (count (commandline -opc)) -eq 2' -a 'show sample find apply'
+complete -c elfsee -n '__fish_seen_subcommand_from help; and test (count (commandline -opc)) -eq 2' -a 'show sample find apply check archive'
 complete -c elfsee -n __elfsee_wants_file -F
 complete -c elfsee -n __elfsee_wants_item -a at: -d 'the address of a section, at:INDEX=ADDR'
 complete -c elfsee -n __elfsee_wants_item -a def: -d 'the address of an undefined or common symbol, def:NAME=ADDR'
 complete -c elfsee -n __elfsee_wants_item -a plt: -d 'the address of an entry in the procedure linkage table, plt:NAME=ADDR'
-complete -c elfsee -n "__fish_seen_subcommand_from show sample find apply; and __elfsee_lacks --headers" -l headers -x -d 'permit so many headers of each kind, 1 to 65279 [4096]'
+complete -c elfsee -n "__fish_seen_subcommand_from show sample find apply check archive; and __elfsee_lacks --headers" -l headers -x -d 'permit so many headers of each kind, 1 to 65279 [4096]'
 complete -c elfsee -n "$listing; and __elfsee_lacks --names" -l names -x -d 'show so many bytes of a name, 1 to 4096 [256]'
-complete -c elfsee -n "__fish_seen_subcommand_from show sample find apply; and __elfsee_lacks --max-read" -l max-read -x -d 'read no more than so many bytes of the file'
+complete -c elfsee -n "__fish_seen_subcommand_from show sample find apply check archive; and __elfsee_lacks --max-read" -l max-read -x -d 'read no more than so many bytes of the file'
 complete -c elfsee -n "$listing; and __elfsee_lacks --only" -l only -x -a $parts -d 'list one part'
+complete -c elfsee -n '__fish_seen_subcommand_from archive; and __elfsee_lacks --only' -l only -x -a $members -d 'list one part'
+complete -c elfsee -n "$listing; and __elfsee_lacks --gnu" -l gnu -d 'name the numbers of the GNU system too'
+complete -c elfsee -n "$listing; and __elfsee_lacks --by-segments" -l by-segments -d 'find tables by the program headers'
+complete -c elfsee -n '__fish_seen_subcommand_from check; and __elfsee_lacks --files0-from' -l files0-from -r -F -d 'check the paths in a file too, each ended by NUL'
 complete -c elfsee -s h -l help -d 'tell of the commands and options'
