@@ -107,6 +107,7 @@ kinds_are : (file : List ℕ) (style : Style) (parts : ℕ) (loaded : Opened) (s
     ≡ ((of_headers file style parts Symbols store.loaded ++ of_headers file style parts Relocations store.loaded)
     ++ (of_headers file style parts SectionNotes store.loaded ++ of_headers file style parts SegmentNotes store.segments))
     ++ (of_headers file style parts SectionDynamic store.loaded ++ of_headers file style parts SegmentDynamic store.segments)
+unfolding segment_notes segment_dynamic
 kinds_are file style parts loaded store belongs view =
     let count : store.loaded ≡ e_shnum file = belongs.count ∙ belongs.header.e_shnum in
     elim (cases_Bool (e_shnum file == 0)) [

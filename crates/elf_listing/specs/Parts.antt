@@ -7,7 +7,7 @@ use Rattle.elf_model.specs.Records.{section_at, segment_at}
 use Rattle.elf_model.specs.Report.{table_rows}
 use Rattle.elf_model.specs.Rows.{no_name, section_row, segment_row}
 use Rattle.elf_model.specs.Style.{Style}
-use Rattle.elf_model.specs.TableKinds.{symbols, relocations, section_notes, segment_notes, section_dynamic, segment_dynamic}
+use Rattle.elf_model.specs.TableKinds.{TableKind, symbols, relocations, section_notes, segment_notes, section_dynamic, segment_dynamic}
 use Rattle.elf_model.specs.declared.causes.Cause.{Cause}
 use Rattle.elf_headers.specs.Load.{Opened}
 use Rattle.elf_headers.specs.Store.{Stored, row, segment_bytes}

@@ -84,6 +84,7 @@ impl<S: Source, W: Sink> Listing<'_, '_, '_, S, W> {
 }
 
 /// The bit of a part.
+#[tactic(auto, unfolding(elf_model::proofs::OnLiterals::on_literals))]
 fn bit(part: Part) -> Parts
     ensures { result.0 ≡ (listed_by part).bit }
 {
