@@ -60,7 +60,7 @@ complete -c elfsee -n "not __fish_seen_subcommand_from $commands" -a show -d 'li
 complete -c elfsee -n "not __fish_seen_subcommand_from $commands" -a sample -d 'list a small file that the program carries'
 complete -c elfsee -n "not __fish_seen_subcommand_from $commands" -a find -d 'look a name up through the hash table of a file'
 complete -c elfsee -n "not __fish_seen_subcommand_from $commands" -a apply -d 'write a section with its relocations applied'
-complete -c elfsee -n "not __fish_seen_subcommand_from $commands" -a check -d 'tell of many files which are at fault, where and why'
+complete -c elfsee -n "not __fish_seen_subcommand_from $commands" -a check -d 'check many files: which are at fault, where and why'
 complete -c elfsee -n "not __fish_seen_subcommand_from $commands" -a archive -d 'list the members of an archive, and what is in each'
 complete -c elfsee -n "not __fish_seen_subcommand_from $commands" -a help -d 'tell of the commands and options'
 complete -c elfsee -n '__fish_seen_subcommand_from help; and test (count (commandline -opc)) -eq 2' -a 'show sample find apply check archive'

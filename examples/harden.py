@@ -24,7 +24,7 @@ DT_TEXTREL, DT_BIND_NOW, DT_FLAGS, DT_FLAGS_1 = 22, 24, 30, 0x6ffffffb
 DF_TEXTREL, DF_BIND_NOW, DF_1_NOW = 4, 8, 1
 EXEC, SHARED = 2, 3
 FOLDERS = ("/lib64", "/usr/lib64", "/lib", "/usr/lib", "/usr/local/lib")
-# A file of strangers may read so much of itself, and no more.
+# How many bytes of one file may be read: the files are not trusted.
 BUDGET = 100000000
 
 

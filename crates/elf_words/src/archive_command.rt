@@ -9,11 +9,11 @@ use clap::Command;
 use std::alloc::{AllocError, Global};
 
 const LINES: &str = "\
-Each member has a line: A, its index, the offset and the size of its data, and its name. Behind
-it stands the listing of a member that is an ELF file, as 'show' has it of the file that the
-data are; where that file is refused the next member follows.
-  --only PART  the members and one part of each listing; --only members: the members alone
-  --max-read N read no more than so many bytes of the archive
+Each member has a line: A, its index, the offset and the size of its data, and its name. If it
+is an ELF file, its listing follows, with offsets from the first byte of its data. If that file
+is refused, the next member follows.
+  --only PART  the members and one part of each listing; --only members: the members only
+  --max-read N read at most N bytes of the archive
 
 Exit status: 1 where the archive or a member is refused.
 
@@ -25,7 +25,7 @@ pub(crate) fn archive<'a>(alloc: Global, parts: &'a [&'a str]) -> Result<Command
     ensures local { IfOk result (λ command. (fields_of command).has_globals ≡ false) }
 {
     let command = Command::new(alloc, "archive")
-        .about("List the members of an archive, as a static library, and what is in each")
+        .about("List the members of an archive, such as a static library, and what is in each")
         .after_help(LINES);
     listing_options(alloc, command, parts)?.arg(file(alloc))
 }

@@ -11,12 +11,12 @@ use std::alloc::{AllocError, Global};
 const LINES: &str = "\
 Each file has one line: C, its state, where it is at fault and why, and its path.
   ok       'show' with these options ends with status 0
-  refused  it ends with status 1: behind the state stand an offset in the file and the cause
+  refused  it ends with status 1: an offset in the file and the cause follow the state
   no-elf   it does not begin with the magic number
   unread   it cannot be opened or read, or lies more than 64 folders deep
   memory   there was no memory for it
-A PATH that is a folder is gone through, its files in the order of their names, without the
-links in it. Last comes 'C unnamed' with a number, where so many names are not UTF-8 or too long.
+If a PATH is a folder, all files in it are checked, in the order of their names; links in it are
+not followed. If some names are not UTF-8 or too long, a last line 'C unnamed' counts them.
 
 Exit status: 0 all are ok or no-elf, 1 some are refused, 3 some are unread, memory or unnamed.
 
@@ -30,7 +30,7 @@ pub(crate) fn check<'a>(alloc: Global, parts: &'a [&'a str]) -> Result<Command<'
     ensures local { IfOk result (λ command. (fields_of command).has_globals ≡ false) }
 {
     let command = Command::new(alloc, "check")
-        .about("Tell of many files which are at fault, where and why")
+        .about("Check many files: which are at fault, where and why")
         .after_help(LINES);
     listing_options(alloc, command, parts)?
         .arg(list(alloc))?

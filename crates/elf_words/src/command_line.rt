@@ -19,7 +19,7 @@ use std::alloc::{AllocError, Global};
 
 const ABOUT: &str = "\
 Lists what is in an ELF64 file, looks names up in it, and applies its relocations.
-Whatever bytes the file has, elfsee ends, and stays within the memory and the reads it may use.";
+Whatever bytes the file has, elfsee always finishes, within its limits of memory and reads.";
 
 const MORE: &str = "\
 Examples:
@@ -31,35 +31,35 @@ Examples:
   elfsee check /usr/lib
   elfsee archive --only symbols /usr/lib/x86_64-linux-gnu/libc.a
 
-Options, before or behind FILE; find and apply have --headers, --max-read and -- alone:
-  --headers N   permit so many section headers, and as many program headers:
+Options, before or behind FILE; find and apply have only --headers, --max-read and --:
+  --headers N   permit N section headers, and as many program headers:
                 1 to 65279 [default: 4096]
-  --names N     show so many bytes of a name: 1 to 4096 [default: 256]
-  --max-read N  read no more than so many bytes of the file: 0 to 9223372036854775807
+  --names N     show N bytes of a name: 1 to 4096 [default: 256]
+  --max-read N  read at most N bytes of the file: 0 to 9223372036854775807
                 [default: any number]
   --only PART   list one part: header, sections, segments, symbols, relocs, notes or dynamic
-                [default: all of them]; of archive also: members
+                [default: all of them]; archive also has: members
   --gnu         name the numbers of the GNU system too
   --by-segments find tables by the program headers, as a loader does, and list the file as if it
                 had no section headers
   --files0-from FILE
-                of check alone: check the paths in FILE too, each ended by NUL
+                for check only: check the paths in FILE too, each ended by NUL
   --            end the options, so that FILE, PATH or NAME may begin with a hyphen
 
 Exit status:
-  0  listed, found or applied; of check: no file is at fault
-  1  refused, or out of its reads: the last line is '!', an offset in the file and the cause;
+  0  listed, found or applied; check: no file is at fault
+  1  refused, or more to read than permitted: the last line is '!', an offset and the cause;
      or there is no such name: the line 'F absent' with the number of names compared;
-     of check: some files are refused; of archive: it is, or a member of it
-  2  the words are wrong, or ask for help, and no file is opened: standard error has what is
-     wrong with which word, or the help, or one of these lines:
+     check: some files are refused; archive: the archive or a member is refused
+  2  the words are wrong, or ask for help, and no file is opened: standard error tells which
+     word is wrong and why, or has the help, or one of these lines:
        elfsee: words are not UTF-8
        elfsee: bad name       NAME is empty, or longer than 4096 bytes
-       elfsee: bad item       an item has another form, or an index or a name out of range
+       elfsee: bad item       an item has another form, or its index or name is out of range
        elfsee: layout-full    there are too many items of one sort
        elfsee: layout-repeat  two items of one sort have the same INDEX or NAME
-  3  of check: some files could not be read or named; else, and of check for its list and its
-     output, a read or write fault, a file that cannot be opened, or want of memory: standard
+  3  check: some files could not be read or named; else, and for the list and the output of
+     check, a read or write fault, a file that cannot be opened, or no memory: standard
      error has one of these lines:
        elfsee: read fault, elfsee: write fault, elfsee: cannot open, elfsee: out of memory";
 
@@ -238,7 +238,7 @@ fn headers<'a>(alloc: Global) -> Arg<'a>
         .value_name("N")
         .value_parser(value_parser!(u16).range(1..=65279))
         .default_value("4096")
-        .help("Permit so many section headers, and as many program headers: 1 to 65279")
+        .help("Permit N section headers, and as many program headers: 1 to 65279")
 }
 
 /// The section that is written.
@@ -272,7 +272,7 @@ fn names<'a>(alloc: Global) -> Arg<'a>
         .value_name("N")
         .value_parser(value_parser!(u16).range(1..=4096))
         .default_value("256")
-        .help("Show so many bytes of a name: 1 to 4096")
+        .help("Show N bytes of a name: 1 to 4096")
 }
 
 /// How many bytes may be read.
@@ -284,9 +284,7 @@ fn max_read<'a>(alloc: Global) -> Arg<'a>
         .long("max-read")
         .value_name("N")
         .value_parser(value_parser!(u64).range(0..=i64::MAX))
-        .help(
-            "Read no more than so many bytes of the file: 0 to 9223372036854775807 [default: any]",
-        )
+        .help("Read at most N bytes of the file: 0 to 9223372036854775807 [default: any]")
 }
 
 /// Whether numbers of the GNU system have names.

@@ -1,0 +1,65 @@
+"""Reads a listing, as bytes, into rows: a letter and fields, numbers as numbers, texts as texts, names as
+bytes with whether they are whole. docs/FORMAT.md has the columns; tests/format runs this module."""
+
+import re
+
+# Fields by their kinds and widths: d decimal, x hexadecimal, a addend, t text, n name,
+# c descriptor. A comma behind a width: the field grows.
+FORMS = {"H": "t4 d5 x16 x16 x16 x8 d5 d5 d5",
+         "S": "d5 t13 t12 x16 x16 x16 x8 x8 n",
+         "P": "d5 t8 t3 x16 x16 x16 x16 x16 x16",
+         "Y": "d5 d10, x16 x16 t7 t6 t9 t5 n",
+         "R": "d5 x16 t10, x8 a17 n",
+         "N": "d5 x8 x8 x8 n c",
+         "D": "d5, t16 x16 n",
+         "F": "t6 d10",
+         "!": "x16 t1,"}
+BYTES = {"d": "[ 0-9]{%s}", "x": "[0-9a-f]{%s}", "a": "[+-][0-9a-f]{16}", "t": "[ -~]{%s}",
+         "n": r"(?:[^\\]|\\\\|\\x[0-9a-f]{2})*(?:\\\+)?", "c": r"(?:[0-9a-f]{2})*(?:\\\+)?"}
+
+
+def line_of(letter, form):
+    fields = "".join(" (" + BYTES[field[0]].replace("%s", field[1:]) + ")" for field in form.split())
+    return re.compile((re.escape(letter) + fields).encode())
+
+
+LINES = {letter: line_of(letter, form) for letter, form in FORMS.items()}
+ESCAPE = re.compile(rb"\\(\\|\+|x..)")
+
+
+def name_of(text):
+    """The bytes that a name of a listing stands for, and whether they are the whole name."""
+    whole = True
+
+    def byte(escape):
+        nonlocal whole
+        if escape[1] == b"+":
+            whole = False
+            return b""
+        return b"\\" if escape[1] == b"\\" else bytes.fromhex(escape[1][1:].decode())
+
+    return ESCAPE.sub(byte, text), whole
+
+
+def field_of(form, text):
+    if form[0] == "d":
+        return int(text)
+    if form[0] in "xa":
+        return int(text, 16)
+    if form[0] == "n":
+        return name_of(text)
+    if form[0] == "c":
+        return bytes.fromhex(text.removesuffix(b"\\+").decode()), not text.endswith(b"+")
+    return text.decode().strip()
+
+
+def rows(lines):
+    """The rows of a listing: of each line its letter and its fields. Lines of an unknown letter
+    are passed over, as a later version may have them."""
+    for line in lines:
+        letter = line[:1].decode()
+        if letter in FORMS:
+            found = LINES[letter].fullmatch(line.removesuffix(b"\n"))
+            if found is None:
+                raise ValueError(line)
+            yield letter, *map(field_of, FORMS[letter].split(), found.groups())
