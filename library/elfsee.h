@@ -1,5 +1,5 @@
-/* elfsee: lists ELF64 files, looks names up in them, applies relocations and reads their rows, over
- * memory that the caller lends.
+/* elfsee: lists ELF64 files, looks names up in them, applies relocations and reads their rows, and the
+ * members of archives, over memory that the caller lends.
  *
  * WHAT IS PROMISED is proved: the contract of each function stands in the crate elfsee_c, and the
  * comment at a function here says it in words. Whatever bytes a file has and whatever numbers the
@@ -288,6 +288,38 @@ uint32_t elfsee_segment_notes(const uint8_t *file, size_t file_len, uint16_t seg
  * was. A name and a descriptor of an OK lie within the file, whatever the numbers of `notes` were. */
 uint32_t elfsee_next_note(const uint8_t *file, size_t file_len, struct elfsee_notes *notes,
                           struct elfsee_note *note, struct elfsee_end *end);
+
+/* A place in a walk over the members of an archive, as a static library: plain numbers, as those of
+ * elfsee_rows. */
+struct elfsee_members {
+    uint64_t at;               /* the file offset of the next member's header */
+    struct elfsee_range names; /* the data of the table of names, where it was passed */
+    uint32_t has_names;        /* 0: it was not */
+    uint32_t none;             /* 0 */
+};
+
+/* A member of an archive. Its bytes lie in the file: `content` is its data, which may be passed to
+ * each call as a file of its own; and `name` its name, or the first 4,096 bytes of it. */
+struct elfsee_member {
+    uint64_t at; /* the file offset of its header */
+    struct elfsee_range content, name;
+    uint32_t is_cut; /* 1: its name has more bytes; else 0 */
+    uint32_t none;   /* 0 */
+};
+
+/* The members of an archive: sets `members` before the first. OK; REFUSED with ELFSEE_SHORT,
+ * ELFSEE_THIN or ELFSEE_NOT_ARCHIVE at 0 where the file is no archive. `asked` is 0. */
+uint32_t elfsee_members(const uint8_t *file, size_t file_len, struct elfsee_members *members,
+                        struct elfsee_end *end);
+
+/* Reads the next member and steps over it, by at least 60 bytes. The index of symbols, of the name
+ * `/`, and the table of names, `//`, are members too. OK; ABSENT at the file's end; REFUSED with
+ * ELFSEE_MEMBER_CUT, ELFSEE_NAME_OUTSIDE or ELFSEE_NAME_UNENDED at `members->at` where no member
+ * stands there, or its name does not. Where it is not OK `members` is as it was. The data and the name
+ * of an OK lie within the file, whatever the numbers of `members` were. At most 4,098 bytes of a name
+ * are looked at. `asked` is 0. */
+uint32_t elfsee_next_member(const uint8_t *file, size_t file_len, struct elfsee_members *members,
+                            struct elfsee_member *member, struct elfsee_end *end);
 
 /* Where the name at an offset in a string table lies, without its NUL: the table is the `strings`
  * of `rows`, or any range of the file, as far as it lies in the file. In a table of no bytes the

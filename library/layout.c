@@ -118,6 +118,17 @@ static void rows(void) {
     FIELD(elfsee_note, descsz);
     FIELD(elfsee_note, type);
     FIELD(elfsee_note, header);
+    WHOLE(elfsee_members);
+    FIELD(elfsee_members, at);
+    FIELD(elfsee_members, names);
+    FIELD(elfsee_members, has_names);
+    FIELD(elfsee_members, none);
+    WHOLE(elfsee_member);
+    FIELD(elfsee_member, at);
+    FIELD(elfsee_member, content);
+    FIELD(elfsee_member, name);
+    FIELD(elfsee_member, is_cut);
+    FIELD(elfsee_member, none);
 }
 
 int main(void) {

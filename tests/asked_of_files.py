@@ -122,14 +122,19 @@ def said_by_ar(words):
     return subprocess.run(["ar", *words], stdout=subprocess.PIPE, stderr=subprocess.DEVNULL, check=False).stdout
 
 
+def static_libraries():
+    """The machine's static libraries."""
+    return sorted(os.path.join(at, name) for at, _, names in os.walk("/usr/lib")
+                  for name in names if name.endswith(".a"))
+
+
 def members_of_libraries(folder, most):
     """At most so many members of the machine's static libraries, spread over them, taken out with ar."""
     paths = []
     if not shutil.which("ar"):
         return paths
-    libraries = [os.path.join(at, name) for at, _, names in os.walk("/usr/lib")
-                 for name in names if name.endswith(".a")]
-    for library in sorted(libraries):
+    libraries = static_libraries()
+    for library in libraries:
         names = sorted(set(said_by_ar(["t", library]).decode("utf-8", "replace").split("\n")) - {""})
         share = max(1, most // max(1, len(libraries)))
         for name in names[::max(1, len(names) // share)][:share]:

@@ -559,6 +559,111 @@ static int any_name(void) {
            library.bytes[name.at + name.len] == 0;
 }
 
+static struct lent archive; /* made of the two files */
+
+/* A member behind those so far: its header, its data and the byte behind them where it is due. */
+static size_t add_member(uint8_t *bytes, size_t at, const char *name, const uint8_t *content, size_t len) {
+    char header[61];
+    snprintf(header, sizeof header, "%-48s%-10zu`\n", name, len);
+    memcpy(bytes + at, header, 60);
+    memcpy(bytes + at + 60, content, len);
+    if (len % 2) bytes[at + 60 + len] = '\n';
+    return at + 60 + len + len % 2;
+}
+
+static void make_archive(void) {
+    static const char table[] = "a_name_of_some_bytes.o/\nanother_name.so/\n";
+    size_t at = 8, room_len = object.len + library.len + 1000;
+    uint8_t *bytes = (uint8_t *)malloc(room_len);
+    if (!bytes) abort();
+    memcpy(bytes, "!<arch>\n", 8);
+    at = add_member(bytes, at, "//", (const uint8_t *)table, sizeof table - 1);
+    at = add_member(bytes, at, "/0", object.bytes, object.len);
+    at = add_member(bytes, at, "/24", library.bytes, library.len);
+    at = add_member(bytes, at, "short/", object.bytes, 3);
+    archive = lend_copy(bytes, at, 0);
+    free(bytes);
+}
+
+/* Members of an archive, or of bytes that are none, from any place on. */
+static int any_members(void) {
+    const struct lent *file = next() % 4 ? &archive : &library;
+    struct elfsee_members members = {any(file->len), {any(file->len), any(file->len)}, next() & 1, 7}, old;
+    struct elfsee_member member;
+    struct elfsee_end end = ODD;
+    uint32_t status;
+    unsigned front = next() % 3;
+    if (front) members.at = 8;
+    if (front == 2) members.names.at = 68, members.names.len = 41, members.has_names = 1;
+    old = members;
+    memset(&member, 7, sizeof member);
+    while ((status = elfsee_next_member(file->bytes, file->len, &members, &member, &end)) == ELFSEE_OK) {
+        if (member.at != old.at || member.content.at != old.at + 60 || members.at < old.at + 60) return 0;
+        if (member.content.at > file->len || member.content.len > file->len - member.content.at) return 0;
+        if (member.name.at > file->len || member.name.len > file->len - member.name.at) return 0;
+        if (member.name.len > 4096 || member.is_cut > 1 || member.none != 0 || members.none != 7) return 0;
+        if (end.asked || end.written || end.cause || end.at) return 0;
+        old = members;
+    }
+    return !memcmp(&old, &members, sizeof old) && end.asked == 0 && end.written == 0 &&
+           (status == ELFSEE_ABSENT
+                ? members.at >= file->len
+                : status == ELFSEE_REFUSED && end.at == members.at &&
+                      (end.cause == ELFSEE_MEMBER_CUT || end.cause == ELFSEE_NAME_OUTSIDE ||
+                       end.cause == ELFSEE_NAME_UNENDED));
+}
+
+/* The first place of an archive, and of what is none. */
+static void first_members(void) {
+    struct elfsee_members members = {7, {7, 7}, 7, 7};
+    struct elfsee_end end = ODD;
+    int all = 1;
+    size_t len;
+    for (len = 0; len < 8; len += 1) {
+        all &= elfsee_members(archive.bytes, len, &members, &end) == ELFSEE_REFUSED &&
+               end.cause == ELFSEE_SHORT && end.at == 0 && end.asked == 0 && members.at == 7 && members.none == 7;
+    }
+    check(all, "archives of 0 to 7 bytes");
+    check(elfsee_members(object.bytes, object.len, &members, &end) == ELFSEE_REFUSED &&
+              end.cause == ELFSEE_NOT_ARCHIVE && end.at == 0 && members.at == 7,
+          "an object is no archive");
+    check(elfsee_members((const uint8_t *)"!<thin>\n", 8, &members, &end) == ELFSEE_REFUSED &&
+              end.cause == ELFSEE_THIN && end.at == 0 && members.at == 7,
+          "a thin archive");
+    check(elfsee_members(archive.bytes, 8, &members, &end) == ELFSEE_OK && members.at == 8 &&
+              members.names.at == 0 && members.names.len == 0 && members.has_names == 0 && members.none == 0 &&
+              end.cause == 0 && end.none == 0,
+          "an archive without members");
+}
+
+/* The members of an archive that is cut anywhere: as many as end before that. */
+static void cut_archives(void) {
+    struct elfsee_members members;
+    struct elfsee_member member;
+    struct elfsee_end end;
+    int all = 1;
+    size_t len, count, ends[5];
+    memset(&members, 0, sizeof members);
+    memset(&member, 0, sizeof member);
+    all &= elfsee_members(archive.bytes, archive.len, &members, &end) == ELFSEE_OK;
+    for (count = 0; count < 4; count += 1) {
+        all &= elfsee_next_member(archive.bytes, archive.len, &members, &member, &end) == ELFSEE_OK;
+        ends[count] = (size_t)(member.content.at + member.content.len);
+    }
+    all &= elfsee_next_member(archive.bytes, archive.len, &members, &member, &end) == ELFSEE_ABSENT;
+    ends[4] = SIZE_MAX;
+    for (len = 8; len < archive.len; len += len < 200 || archive.len - len < 100 ? 1 : 97) {
+        struct lent file = lend_copy(archive.bytes, len, len & 1);
+        uint32_t status = elfsee_members(file.bytes, len, &members, &end);
+        for (count = 0; status == ELFSEE_OK && count < 6; count += 1)
+            status = elfsee_next_member(file.bytes, len, &members, &member, &end);
+        all &= count >= 1 && (count == 1 || ends[count - 2] <= len) && len < ends[count - 1];
+        all &= status == ELFSEE_ABSENT ? members.at >= len : end.cause == ELFSEE_MEMBER_CUT && end.at == members.at;
+        take_back(&file);
+    }
+    check(all, "archives that are cut");
+}
+
 /* A file with some of its bytes changed, or cut. */
 static struct lent changed(const struct lent *whole) {
     size_t len = next() % 4 ? whole->len : next() % (whole->len + 1), count = next() % 8;
@@ -728,6 +833,7 @@ int main(int argc, char **argv) {
     unsigned tries = (unsigned)atoi(argv[3]);
     object = read_file(argv[1]);
     library = read_file(argv[2]);
+    make_archive();
     out = lend(OUT, 0);
     room = lend(ROOM, 0);
     paint();
@@ -745,6 +851,9 @@ int main(int argc, char **argv) {
     small_section();
     many("next rows, by any numbers", any_steps, tries);
     many("notes, by any numbers", any_notes, tries);
+    first_members();
+    cut_archives();
+    many("members, by any numbers", any_members, tries);
     many("names, in any range", any_name, tries);
     many("headers of changed files", any_header, tries);
     many("segments of changed files, at any address", any_mapped, tries);
@@ -752,7 +861,7 @@ int main(int argc, char **argv) {
     many("lookups in changed files, with any limits", any_find, tries);
     many("sections of changed files, with any items", any_apply, tries);
     many("tables of changed files, with any limits", any_open, tries);
-    check(is_whole(&out) && is_whole(&room) && is_whole(&object) && is_whole(&library),
+    check(is_whole(&out) && is_whole(&room) && is_whole(&object) && is_whole(&library) && is_whole(&archive),
           "nothing beside was written");
     printf("%u passed, %u failed\n", passed, failed);
     return failed != 0;

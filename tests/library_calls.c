@@ -4,6 +4,7 @@
  *     find HEADERS BUDGET NAME PATH          NAME in hexadecimal digits, or -
  *     apply HEADERS BUDGET SECTION ITEMS PATH
  *     rows PATH
+ *     members PATH                           the lines of the members of an archive
  *     words                                  the words of the causes
  *
  * BUDGET is a number, or - for none; ITEMS are KIND:INDEX:NAME:ADDRESS joined by commas, with the name in
@@ -480,6 +481,40 @@ static void rows(const struct lent *file) {
     expect(take_back(&walk.room), "room was written outside");
 }
 
+/* The members of an archive, a line for each as the program lists them with 4,096 bytes of a name. */
+static void members(const struct lent *file) {
+    struct walk walk;
+    struct elfsee_members place = {7, {7, 7}, 7, 7}, before;
+    struct elfsee_member member;
+    uint64_t index = 0;
+    memset(&walk, 0, sizeof walk);
+    memset(&member, 7, sizeof member);
+    walk.file = file;
+    walk.limits.name = 4096;
+    uint32_t status = elfsee_members(file->bytes, file->len, &place, &walk.end);
+    before = place;
+    if (status == ELFSEE_OK) {
+        expect(place.at == 8 && place.has_names == 0 && place.none == 0, "another first place");
+        status = elfsee_next_member(file->bytes, file->len, &place, &member, &walk.end);
+    }
+    for (; status == ELFSEE_OK; index += 1) {
+        expect(member.at == before.at && member.content.at == before.at + 60, "a member of another place");
+        expect(place.at == member.content.at + member.content.len + member.content.len % 2, "a step over a member");
+        expect(member.content.at + member.content.len <= file->len && member.name.len <= 4096 &&
+                   member.name.at + member.name.len <= file->len && member.is_cut <= 1 && member.none == 0,
+               "a member outside the file");
+        say(&walk, "A %5" PRIu64 " %016" PRIx64 " %016" PRIx64 " ", index, member.content.at, member.content.len);
+        say_bytes(&walk, member.name.at, member.name.len);
+        say(&walk, member.is_cut ? "\\+\n" : "\n");
+        before = place;
+        status = elfsee_next_member(file->bytes, file->len, &place, &member, &walk.end);
+    }
+    if (before.at >= 8) expect(!memcmp(&before, &place, sizeof before), "a step without a member");
+    expect(walk.end.asked == 0 && walk.end.written == 0, "bytes that were asked for");
+    answer(status == ELFSEE_ABSENT ? ELFSEE_OK : status, &walk.end, UINT64_MAX, walk.text, walk.len);
+    free(walk.text);
+}
+
 /* The words of the causes, a line for each number. */
 static void words_of_causes(void) {
     static const struct elfsee_end none;
@@ -521,6 +556,7 @@ static void answer_line(char *line) {
     if (!strcmp(words[0], "find")) find(&file, words + 1);
     if (!strcmp(words[0], "apply")) apply(&file, words + 1);
     if (!strcmp(words[0], "rows")) rows(&file);
+    if (!strcmp(words[0], "members")) members(&file);
     take_back(&file);
 }
 

@@ -85,6 +85,18 @@ static void call_notes(void) {
     elfsee_next_note(file, file_len, &notes, &note, &end);
 }
 
+/* The first members; of a file that is no archive the bytes at its front, by a place in them. */
+static void call_members(void) {
+    struct elfsee_members members;
+    struct elfsee_member member;
+    unsigned count;
+    memset(&members, 0, sizeof members);
+    memset(&member, 0, sizeof member);
+    elfsee_members(file, file_len, &members, &end);
+    for (count = 0; count < 10; count += 1)
+        elfsee_next_member(file, file_len, &members, &member, &end);
+}
+
 static void call_headers(void) {
     struct elfsee_header header;
     struct elfsee_section one;
@@ -129,7 +141,7 @@ static const struct {
 } CALLS[] = {{"nothing", call_nothing, 0}, {"show", call_show, 0},       {"find", call_find, 0},
              {"apply", call_apply, 1},     {"symbols", call_symbols, 1}, {"relocations", call_relocations, 1},
              {"dynamic", call_dynamic, 1},     {"headers", call_headers, 1},
-             {"notes", call_notes, 1}};
+             {"notes", call_notes, 1},     {"members", call_members, 0}};
 enum { COUNT = sizeof CALLS / sizeof *CALLS };
 
 static void measure(const char *path, size_t *most) {

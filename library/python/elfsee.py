@@ -37,8 +37,8 @@ from typing import Any, Callable, Iterator, List, Mapping, NamedTuple, Optional,
 
 __all__ = [
     "ALL", "DYNAMIC", "HEADER", "NOTES", "RELOCS", "SECTIONS", "SEGMENTS", "SYMBOLS",
-    "Absent", "Cause", "Dynamic", "File", "Full", "Header", "Layout", "Listing", "Lookup", "Note",
-    "Refused", "Relocation", "Section", "Segment", "Symbol", "VERSION",
+    "Absent", "Cause", "Dynamic", "File", "Full", "Header", "Layout", "Listing", "Lookup", "Member",
+    "Note", "Refused", "Relocation", "Section", "Segment", "Symbol", "VERSION",
 ]
 
 # The parts of a listing.
@@ -132,8 +132,10 @@ _Range = _struct("elfsee_range", (_U64, "at len"))
 _Rows = _struct("elfsee_rows", (_U64, "at count index entry strings_at strings_len"))
 _Notes = _struct("elfsee_notes", (_U64, "at left align"), (_U32, "header none"))
 _Note = _struct("elfsee_note", (_U64, "at name_at desc_at"), (_U32, "namesz descsz type header"))
+_Members = _struct("elfsee_members", (_U64, "at"), (_Range, "names"), (_U32, "has_names none"))
+_Member = _struct("elfsee_member", (_U64, "at"), (_Range, "content name"), (_U32, "is_cut none"))
 STRUCTS = (_Limits, _End, _Symbol, _Found, _Item, _Job, _Header, _Section, _Segment, _Relocation,
-           _Dynamic, _Range, _Rows, _Notes, _Note)
+           _Dynamic, _Range, _Rows, _Notes, _Note, _Members, _Member)
 
 # The same as forms of `struct`, of the rows that are read in batches.
 _SYMBOL_FORM, _RELOCATION_FORM, _DYNAMIC_FORM = "=QQIHBB", "=QQq", "=qQ"
@@ -173,6 +175,8 @@ _CALLS = {
     "segment_dynamic": (_U32, *_FILE, _U16, _to(_Rows), _to(_End)),
     "mapped": (_U32, *_FILE, _U64, _U64, _to(_Range), _to(_End)),
     "next_note": (_U32, *_FILE, _to(_Notes), _to(_Note), _to(_End)),
+    "members": (_U32, *_FILE, _to(_Members), _to(_End)),
+    "next_member": (_U32, *_FILE, _to(_Members), _to(_Member), _to(_End)),
 }
 
 
@@ -366,6 +370,19 @@ class Dynamic(NamedTuple):
     string: Optional[bytes]
     table: int
     index: int
+
+
+class Member(NamedTuple):
+    """A member of an archive. `at` is the offset of its header, `offset` that of its data, and `content`
+    are these bytes of the archive, not copied: `File(member.content)` is the file that they are.
+    `is_cut` tells that its name has more bytes than the 4,096 of `name`."""
+
+    name: bytes
+    at: int
+    offset: int
+    size: int
+    is_cut: bool
+    content: memoryview
 
 
 class Lookup(NamedTuple):
@@ -726,6 +743,17 @@ class File:
                     name = self.data[note.name_at:note.name_at + note.namesz].split(b"\0", 1)[0]
                     desc = self.data[note.desc_at:note.desc_at + note.descsz]
                     yield Note(name, note.type, desc, note.namesz, note.descsz, table)
+
+    def members(self) -> Iterator[Member]:
+        """The members of an archive, as a static library, in their order. The index of symbols, of the
+        name `/`, and the table of names, `//`, are members too."""
+        members, member = _Members(), _Member()
+        self._call("members", members)
+        content = memoryview(self.data)
+        while self._call("next_member", members, member)[0] == _OK:
+            name, (at, size) = member.name, (member.content.at, member.content.len)
+            yield Member(self.data[name.at:name.at + name.len], member.at, at, size, member.is_cut != 0,
+                         content[at:at + size])
 
     def mapped(self, address: int, size: int) -> Optional[int]:
         """The file offset of so many bytes at an address, by the first LOAD program header that holds

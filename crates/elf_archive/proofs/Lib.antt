@@ -2,6 +2,7 @@ mod FieldLaws
 mod MagicLaws
 mod MemberLaws
 mod NameLaws
+mod RowLaws
 mod AskLaws
 mod ConsumeLaws
 mod NarrowLaws

@@ -4,7 +4,7 @@ use Rattle.elf_model.specs.Budget.{IsBudget}
 use Rattle.elf_model.specs.declared.causes.Refusal.{Refusal}
 use Rattle.elf_model.proofs.BudgetLaws.{is_budget}
 use Rattle.elf_source.specs.Source.{Counting, Seen, Whole, Reads, OverLimit, Faults, IsHonest, SameView, seen_by}
-use Rattle.elf_source.specs.Ranges.{IsWhole, Narrows, Widens, file_within}
+use Rattle.elf_source.specs.Ranges.{Narrows, Widens, file_within}
 use Rattle.elf_source.specs.Output.{Written}
 use Rattle.elf_source.specs.declared.faults.SourceFault.{SourceFault}
 use Rattle.elf_source.specs.declared.faults.SourceFault.TheVariants.{Device, Ended}

@@ -1,3 +1,4 @@
 pub mod Members
+pub mod MemberRows
 pub mod Archives
 pub mod Listed

@@ -1,5 +1,5 @@
 -- What a cursor over members tells.
-use Rattle.std.specs.Prelude.{ℕ, ◌≡◌, ◌+◌, ◌*◌, ◌≤◌, if◌then◌else◌, is_some, nat_le, Bool, List, take, Option, None, Some, Result, Ok, Err, IfErr, IfSome, option_map}
+use Rattle.std.specs.Prelude.{ℕ, ◌≡◌, ◌+◌, ◌*◌, ◌<◌, ◌≤◌, if◌then◌else◌, is_some, nat_le, Bool, List, length, take, Option, None, Some, Result, Ok, Err, IfErr, IfSome, option_map}
 use Rattle.elf_source.specs.Source.{Counting, Reads}
 use Rattle.elf_headers.specs.Faults.{Says}
 use Rattle.elf_model.specs.Archive.{Extent, Member, Ends, Broken, OneMember, Progress, behind, is_name_table, long_of, long_offset, newline_in, next_member}
@@ -7,8 +7,9 @@ use Rattle.elf_model.specs.ArchiveCost.{long_name_bytes}
 use Rattle.elf_model.specs.Budget.{IsBudget}
 use Rattle.elf_model.specs.Cost.{cost_where}
 use Rattle.elf_model.specs.Names.{Shown}
+use Rattle.elf_model.specs.Notes.{capped}
 use Rattle.elf_model.specs.declared.causes.Cause.{Cause}
-use Rattle.elf_model.specs.declared.causes.Cause.TheVariants.{NameUnended}
+use Rattle.elf_model.specs.declared.causes.Cause.TheVariants.{MemberCut, NameUnended}
 use Rattle.elf_headers.specs.declared.fault.Fault.{Fault}
 use Rattle.elf_headers.specs.declared.fault.Fault.TheVariants.{Refused, Source}
 use Rattle.elf_lines.specs.Pieces.{shown_as}
@@ -43,6 +44,11 @@ abbrev pub SizeRead : ℕ → Result ℕ Fault → Result ℕ Cause → Type 0
 SizeRead at (Ok size) answer = answer ≡ Ok size
 SizeRead at (Err fault) answer = Refuses at fault answer
 
+-- a size that a header tells is that of its member's data, or there is no member
+abbrev pub SizeTold : Option ℕ → Result ℕ Cause → Type 0
+SizeTold (Some size) answer = answer ≡ Ok size
+SizeTold None answer = answer ≡ Err MemberCut
+
 -- a read of a member's name answers whether it is cut, and leaves its bytes, or refuses for its cause
 abbrev pub NameShown : ℕ → Result Bool Fault → List ℕ → Result Shown Cause → Type 0
 NameShown at (Ok cut) name answer = answer ≡ Ok (shown_as cut name)
@@ -54,6 +60,12 @@ abbrev pub FrontRead : List ℕ → ℕ → Result (Option Bool) Fault → List 
 FrontRead front cap (Ok (Some cut)) name = long_of cap front (newline_in front) ≡ Ok (shown_as cut name)
 FrontRead front cap (Ok None) name = long_of cap front (newline_in front) ≡ Err NameUnended
 FrontRead front cap (Err fault) name = Unit {0}
+
+-- the bytes at a long name's offset begin with a name of so many bytes, or they end before the name does
+abbrev pub LengthTold : List ℕ → ℕ → Option ℕ → Type 0
+LengthTold front cap (Some size) =
+    (size ≤ length front) × (0 < length front) × (long_of cap front (newline_in front) ≡ Ok (capped cap (take size front)))
+LengthTold front cap None = long_of cap front (newline_in front) ≡ Err NameUnended
 
 -- a step over the next member: it is given, with the bytes of its name, or the file's end is told, or its refusal
 abbrev pub TellsMember : List ℕ → ℕ → Progress → Progress → List ℕ → Result (Option Given) Fault → Type 0

@@ -7,7 +7,7 @@ ghost use Rattle.elf_model.specs.Cost.{cost_where};
 ghost use Rattle.elf_archive.specs.Members.{Asks, SizeRead, StandsIn, StepsOver, TellsMember, extent_of};
 ghost use Rattle.elf_archive.specs.Members.{names_of, names_passed, step_cost};
 
-use crate::fields::{HEADER_BYTES, is_name_table, told_size};
+use crate::fields::{HEADER_BYTES, is_name_table, size_within};
 use crate::member::{Extent, Member};
 use crate::names::read_name;
 use elf_headers::{Cap, Fault, fill, refused};
@@ -136,11 +136,8 @@ fn read_header<S: Source>(
         return refused(at, Cause::MemberCut);
     }
     fill(src, at, header)?;
-    let Some(size) = told_size(header) else {
-        return refused(at, Cause::MemberCut);
-    };
-    if left - (HEADER_BYTES as u64) < size {
-        return refused(at, Cause::MemberCut);
+    match size_within(header, left) {
+        Some(size) => Ok(size),
+        None => refused(at, Cause::MemberCut),
     }
-    Ok(size)
 }

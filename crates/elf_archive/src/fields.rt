@@ -1,8 +1,10 @@
 //! The fields of a member's header: text in columns, each filled up with spaces.
-ghost use Rattle.std.specs.Prelude.{◌≡◌, ◌==◌, ◌+◌, ◌^◌, ◌<◌, ◌≤◌, length, position, if◌then◌else◌, Some, None, IfSome};
+ghost use Rattle.std.specs.Prelude.{◌≡◌, ◌==◌, ◌+◌, ◌^◌, ◌<◌, ◌≤◌, List, ℕ, length, position, take, if◌then◌else◌, Some, None, IfSome};
 ghost use Rattle.elf_model.specs.Archive.{are_spaces, digits_then_spaces, is_decimal};
 ghost use Rattle.elf_model.specs.Archive.{is_name_table, long_offset, padded_decimal, short_name};
-ghost use Rattle.elf_model.specs.Archive.{told_size, trimmed, without_slash};
+ghost use Rattle.elf_model.specs.Archive.{member_size, told_size, trimmed, without_slash};
+ghost use Rattle.elf_model.specs.Bytes.{slice};
+ghost use Rattle.elf_archive.specs.Members.{SizeTold};
 
 use elf_record::{u16_at, u64_at};
 use memchr::memchr;
@@ -29,6 +31,23 @@ pub(crate) fn told_size(header: &[u8; HEADER_BYTES]) -> Option<u64>
     padded_decimal(&header[48..58])
 }
 
+/// The size of the data that a header tells, where the header and they have room in `left` bytes, of
+/// which the header has 60; None where no such size is told.
+pub(crate) fn size_within(header: &[u8; HEADER_BYTES], left: u64) -> Option<u64>
+    requires { 60 ≤ left }
+    ensures lies { IfSome result (λ size. 60 + size ≤ left) }
+    ensures size { (file : List ℕ) (at : ℕ) → header.now ≡ slice file at 60 →
+        length file ≡ at + left → SizeTold result (member_size file at) }
+{
+    let Some(size) = told_size(header) else {
+        return None;
+    };
+    if left - (HEADER_BYTES as u64) < size {
+        return None;
+    }
+    Some(size)
+}
+
 /// Whether a header is that of the table of names: its name is two slashes.
 pub(crate) fn is_name_table(header: &[u8; HEADER_BYTES]) -> bool
     ensures { result ≡ is_name_table header.now 0 }
@@ -49,26 +68,28 @@ pub(crate) fn long_offset(field: &[u8]) -> Option<u64>
     padded_decimal(&field[1..16])
 }
 
-/// The name that stands in its field itself.
+/// How many bytes the name has that stands in its field itself, at the front of it.
 #[tactic(auto, unfolding(elf_model::specs::Archive::short_name))]
-pub(crate) fn short_name(field: &[u8]) -> &[u8]
-    ensures { result.now ≡ short_name field.now }
+pub(crate) fn short_length(field: &[u8]) -> usize
+    ensures name { take result field.now ≡ short_name field.now }
+    ensures within { result ≤ length field.now }
 {
     match find_byte(b'/', field) {
-        None | Some(0) => trimmed(field),
-        Some(place) => &field[..place],
+        None | Some(0) => trimmed_length(field),
+        Some(place) => place,
     }
 }
 
-/// A name of the table of names without the slash at its end.
+/// How many bytes a name of the table of names has without the slash at its end.
 #[tactic(auto, unfolding(elf_model::specs::Archive::without_slash))]
-pub(crate) fn without_slash(name: &[u8]) -> &[u8]
-    ensures { result.now ≡ without_slash name.now }
+pub(crate) fn slashless_length(name: &[u8]) -> usize
+    ensures name { take result name.now ≡ without_slash name.now }
+    ensures within { result ≤ length name.now }
 {
     if name.is_empty() || name[name.len() - 1] != b'/' {
-        return name;
+        return name.len();
     }
-    &name[..name.len() - 1]
+    name.len() - 1
 }
 
 /// The place of the first byte that is `byte`.
@@ -130,13 +151,14 @@ fn are_spaces(bytes: &[u8]) -> bool
     bytes.iter().all(|byte| *byte == b' ')
 }
 
-/// Bytes without the spaces at their end.
-fn trimmed(bytes: &[u8]) -> &[u8]
-    ensures { result.now ≡ trimmed bytes.now }
+/// How many bytes there are without the spaces at their end.
+fn trimmed_length(bytes: &[u8]) -> usize
+    ensures name { take result bytes.now ≡ trimmed bytes.now }
+    ensures within { result ≤ length bytes.now }
 {
     let mut end = bytes.len();
     while end > 0 && bytes[end - 1] == b' ' {
         end -= 1;
     }
-    &bytes[..end]
+    end
 }

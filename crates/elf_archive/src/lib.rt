@@ -1,5 +1,5 @@
-//! Archives of object files, as `ar` writes static libraries: a cursor over the members, and the
-//! call that lists them. No call takes memory.
+//! Archives of object files, as `ar` writes static libraries: a cursor over the members, the call
+//! that lists them, and steps over the members of an archive in memory. No call takes memory.
 #![tactic(auto)]
 
 mod cursor;
@@ -8,8 +8,10 @@ mod listing;
 mod magic_strings;
 mod member;
 mod names;
+mod rows;
 
 pub use cursor::MemberCursor;
 pub use listing::show_archive;
 pub use magic_strings::{begins_elf, magic};
 pub use member::{Extent, Member};
+pub use rows::{MemberRow, Members, next_member, open_members};

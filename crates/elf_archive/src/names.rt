@@ -7,9 +7,11 @@ ghost use Rattle.elf_model.specs.Notes.{capped};
 ghost use Rattle.elf_headers.specs.Faults.{IsOfRead, Says};
 ghost use Rattle.elf_lines.specs.Pieces.{shown_as};
 ghost use Rattle.elf_source.specs.Source.{Reads};
-ghost use Rattle.elf_archive.specs.Members.{FrontRead, LiesIn, NameShown, name_cost, names_of};
+ghost use Rattle.elf_archive.specs.Members.{FrontRead, LengthTold, LiesIn, NameShown, name_cost, names_of};
 
-use crate::fields::{HEADER_BYTES, NAME_BYTES, find_byte, long_offset, short_name, without_slash};
+use crate::fields::{
+    HEADER_BYTES, NAME_BYTES, find_byte, long_offset, short_length, slashless_length,
+};
 use crate::member::Extent;
 use elf_headers::{Cap, Fault, fill, refused};
 use elf_record::Cause;
@@ -46,7 +48,7 @@ pub(crate) fn read_name<S: Source>(
     let field = &header[..NAME_BYTES];
     match long_offset(field) {
         Some(offset) => read_long(src, names, offset, at, cap, name),
-        None => Ok(put_name(short_name(field), cap, name)),
+        None => Ok(put_name(&field[..short_length(field)], cap, name)),
     }
 }
 
@@ -112,13 +114,26 @@ fn read_ended<S: Source>(
         FrontRead (slice file at (length front.old)) cap.bytes result name.new }
 {
     read_front(src, at, front)?;
+    match long_length(front, cap.bytes) {
+        Some(size) => Ok(Some(put_name(&front[..size], cap, name))),
+        None => Ok(None),
+    }
+}
+
+/// How many bytes the name has that the bytes at its offset in the table of names begin with, at most
+/// `cap + 2` of them: it ends before a newline, without a slash there; of a name without an end in so
+/// many bytes they are the front. None where they are fewer and have no newline.
+pub(crate) fn long_length(front: &[u8], cap: u16) -> Option<usize>
+    requires { length front.now ≤ cap + 2 }
+    ensures { LengthTold front.now cap result }
+{
     if let Some(place) = find_byte(b'\n', front) {
-        return Ok(Some(put_name(without_slash(&front[..place]), cap, name)));
+        return Some(slashless_length(&front[..place]));
     }
-    if front.len() < usize::from(cap.bytes) + 2 {
-        return Ok(None);
+    if front.len() < usize::from(cap) + 2 {
+        return None;
     }
-    Ok(Some(put_name(front, cap, name)))
+    Some(front.len())
 }
 
 /// Leaves in `name` at most `cap` bytes of a name, and answers whether it has more.

@@ -3,7 +3,7 @@ ghost use Rattle.std.specs.Prelude.{◌≡◌, ◌≤◌, ◌+◌, length};
 ghost use Rattle.elf_model.specs.Bytes.{slice};
 
 /// `N` bytes from the offset `at` on, within the file.
-pub(crate) fn chunk_at<const N: usize>(file: &[u8], at: usize) -> &[u8; N]
+pub fn chunk_at<const N: usize>(file: &[u8], at: usize) -> &[u8; N]
     requires { at + N ≤ length file.now }
     ensures { result.now ≡ slice file.now at N }
 {

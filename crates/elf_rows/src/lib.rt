@@ -25,11 +25,12 @@ mod symbol;
 mod symbols;
 mod tables;
 
+pub use bytes::chunk_at;
 pub use dynamic::{Dynamic, next_dynamic};
 pub use header::{Header, read_header};
 pub use kind::Kind;
 pub use mapped_bytes::find_mapped;
-pub use name::{Range, find_name};
+pub use name::{Range, bytes_of, find_name};
 pub use names::names_in;
 pub use note_tables::{section_notes, segment_notes};
 pub use notes::{Note, Notes, next_note};

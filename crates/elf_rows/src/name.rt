@@ -53,7 +53,7 @@ pub fn find_name(file: &[u8], strings: Range, offset: u64) -> Result<Option<Rang
 }
 
 /// The bytes of a range, as far as they lie within the file.
-pub(crate) fn bytes_of(file: &[u8], range: Range) -> &[u8]
+pub fn bytes_of(file: &[u8], range: Range) -> &[u8]
     ensures bytes { result.now ≡ slice file.now range.at range.len }
     ensures within { 0 < length result.now → range.at + length result.now ≤ length file.now }
 {

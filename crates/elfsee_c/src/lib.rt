@@ -16,6 +16,7 @@ mod lent_sink;
 mod limits;
 mod listing;
 mod loads;
+mod members;
 mod names;
 mod notes;
 mod opening;

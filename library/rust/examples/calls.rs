@@ -3,6 +3,7 @@
 //!     calls show FILE             the listing
 //!     calls find FILE NAME        the symbol and the steps
 //!     calls rows FILE..           all rows, as numbers; names in hexadecimal digits
+//!     calls members ARCHIVE       the members of an archive, so, with the listing of each ELF file
 
 use elfsee::{DynamicEntries, Error, File, Notes, Refused};
 use std::process::exit;
@@ -109,6 +110,20 @@ fn rows(file: &File) -> Result<(), Error> {
     others(file, tables, header.phnum, &mut room)
 }
 
+/// The members of an archive: where each lies, and what of its listing is the file header.
+fn members(file: &File) -> Result<(), Error> {
+    for member in file.members()? {
+        let member = member?;
+        let (name, size) = (hex(member.name), member.content.len());
+        println!("A {} {} {size} {} {name}", member.at, member.content_at, u8::from(member.is_cut));
+        if member.content.starts_with(b"\x7fELF") {
+            let one = File::new(member.content);
+            print!("{}", one.show(elfsee::HEADER, &mut vec![0; one.room()], &mut [0; 256])?.text);
+        }
+    }
+    Ok(())
+}
+
 fn main() {
     let words: Vec<String> = std::env::args().skip(1).collect();
     let mut ended = 0;
@@ -118,6 +133,7 @@ fn main() {
         let done = match &words[0][..] {
             "show" => show(&file),
             "find" => find(&file, words[2].as_bytes()),
+            "members" => members(&file),
             _ => rows(&file),
         };
         if let Err(error) = done {

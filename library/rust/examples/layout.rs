@@ -44,4 +44,6 @@ fn main() {
     tell!("elfsee_rows", raw::Rows, at count index entry strings_at strings_len);
     tell!("elfsee_notes", raw::Notes, at left align header none);
     tell!("elfsee_note", raw::Note, at name_at desc_at namesz descsz kind header);
+    tell!("elfsee_members", raw::Members, at names has_names none);
+    tell!("elfsee_member", raw::Member, at content name is_cut none);
 }

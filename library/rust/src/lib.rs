@@ -34,11 +34,13 @@
 extern crate std;
 
 mod error;
+mod members;
 mod notes;
 pub mod raw;
 mod rows;
 
 pub use error::{Cause, Error, Refused};
+pub use members::{Member, Members};
 pub use notes::{Note, Notes};
 pub use raw::{Dynamic, Header, Range, Relocation, Section, Segment, Symbol};
 pub use rows::{DynamicEntries, Relocations, Rows, Symbols};
@@ -388,6 +390,18 @@ impl<'a> File<'a> {
     /// The notes of a segment; none where it holds none.
     pub fn segment_notes(&self, segment: u16) -> Result<Option<Notes<'a>>, Refused> {
         self.open_notes(raw::elfsee_segment_notes, segment)
+    }
+
+    /// The members of an archive, as a static library.
+    pub fn members(&self) -> Result<Members<'a>, Refused> {
+        let (mut members, mut end) = (raw::Members::default(), raw::End::default());
+        // SAFETY: as in `header`.
+        let status =
+            unsafe { raw::elfsee_members(self.bytes.as_ptr(), self.bytes.len(), &mut members, &mut end) };
+        match status {
+            raw::OK => Ok(Members::new(self.bytes, members)),
+            _ => Err(Refused::of(&end)),
+        }
     }
 
     fn open_notes(&self, call: raw::OpenNotes, header: u16) -> Result<Option<Notes<'a>>, Refused> {

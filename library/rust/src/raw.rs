@@ -186,6 +186,27 @@ pub struct Note {
     pub header: u32,
 }
 
+/// A place in a walk over the members of an archive: plain numbers.
+#[repr(C)]
+#[derive(Clone, Copy, Debug, Default, PartialEq, Eq)]
+pub struct Members {
+    pub at: u64,
+    pub names: Range,
+    pub has_names: u32,
+    pub none: u32,
+}
+
+/// A member of an archive: where its header, its data and its name stand in the file.
+#[repr(C)]
+#[derive(Clone, Copy, Debug, Default, PartialEq, Eq)]
+pub struct Member {
+    pub at: u64,
+    pub content: Range,
+    pub name: Range,
+    pub is_cut: u32,
+    pub none: u32,
+}
+
 /// A call that checks the notes that a header tells of and sets a place before the first.
 pub type OpenNotes = unsafe extern "C" fn(*const u8, usize, u16, *mut Notes, *mut End) -> u32;
 
@@ -323,6 +344,14 @@ extern "C" {
         file_len: usize,
         notes: *mut Notes,
         note: *mut Note,
+        end: *mut End,
+    ) -> u32;
+    pub fn elfsee_members(file: *const u8, file_len: usize, members: *mut Members, end: *mut End) -> u32;
+    pub fn elfsee_next_member(
+        file: *const u8,
+        file_len: usize,
+        members: *mut Members,
+        member: *mut Member,
         end: *mut End,
     ) -> u32;
     pub fn elfsee_name(

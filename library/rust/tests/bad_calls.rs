@@ -173,6 +173,39 @@ fn notes_end_behind_the_first_refusal() {
     assert_eq!(notes.next(), None);
 }
 
+/// A member of an archive: a header of 60 bytes of text, the data, and a byte where their size is odd.
+fn member(name: &str, content: &str) -> String {
+    let padding = if content.len() % 2 == 1 { "\n" } else { "" };
+    format!("{name:<48}{:<10}`\n{content}{padding}", content.len())
+}
+
+#[test]
+fn members_end_behind_the_first_refusal() {
+    let bytes =
+        ["!<arch>\n", &member("//", "a_long_name.o/\n"), &member("/0", "odd"), &member("/15", "")].concat();
+    let mut members = File::new(bytes.as_bytes()).members().unwrap();
+    let table = members.next().unwrap().unwrap();
+    assert_eq!((table.name, table.content), (&b"//"[..], &b"a_long_name.o/\n"[..]));
+    let named = members.next().unwrap().unwrap();
+    assert_eq!((named.name, named.content, named.is_cut), (&b"a_long_name.o"[..], &b"odd"[..], false));
+    assert_eq!((named.at, named.content_at), (84, 144));
+    assert_eq!(members.next(), Some(Err(Refused { cause: Cause::NameOutside, at: 148 })));
+    assert_eq!(members.next(), None);
+    let whole = File::new(&bytes.as_bytes()[..148]);
+    assert!(whole.members().unwrap().all(|member| member.is_ok()));
+    let cut = File::new(&bytes.as_bytes()[..207]).members().unwrap().last().unwrap();
+    assert_eq!(cut, Err(Refused { cause: Cause::MemberCut, at: 148 }));
+}
+
+#[test]
+fn other_files_have_no_members() {
+    let refusal = |bytes: &[u8]| File::new(bytes).members().err();
+    assert_eq!(refusal(&header()), Some(Refused { cause: Cause::NotArchive, at: 0 }));
+    assert_eq!(refusal(b"!<thin>\n"), Some(Refused { cause: Cause::Thin, at: 0 }));
+    assert_eq!(refusal(b"!<arch>"), Some(Refused { cause: Cause::Short, at: 0 }));
+    assert_eq!(refusal(b"!<arch>\n"), None);
+}
+
 #[test]
 fn names_lie_in_any_bytes() {
     let file = File::new(b"\0ab\0cd");

@@ -11,4 +11,4 @@ returns-in-Some-clause-read g c = λ file held is.
 pub returns-in-None-clause-read : goal.returns-in-None-clause-read
 returns-in-None-clause-read g c = λ file held is.
     name-short file c.args.header.now c.args.cap.bytes c.args.at _ is (sym c.long_offset.ensures.value ∙ c.in-None.is)
-    ∙ ap Ok (ap (capped c.args.cap.bytes) (sym c.short_name.ensures) ∙ c.put_name.ensures)
+    ∙ ap Ok (ap (capped c.args.cap.bytes) (sym c.short_length.ensures.name) ∙ c.put_name.ensures)

@@ -1,6 +1,6 @@
 use Rattle.std.proofs.Common.{◌≡◌, ◌≤◌, length, take}
 use Rattle.elf_model.specs.Archive.{trimmed}
-use Rattle.elf_archive.proofs.fields.trimmed.Given as goal
+use Rattle.elf_archive.proofs.fields.trimmed_length.Given as goal
 
 abbrev pub invariant-loop-end : goal.invariant-loop-end
 invariant-loop-end l = record {

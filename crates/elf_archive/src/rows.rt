@@ -1,0 +1,235 @@
+//! The members of an archive in memory, as a caller goes over them: each is told by where its header,
+//! its data and its name lie, so that nothing is copied. A place is plain numbers, and no number that
+//! a caller sets is a wrong one: each step tests them.
+ghost use Rattle.std.specs.Prelude.{◌≡◌, ◌+◌, ◌%◌, ◌^◌, ◌<◌, ◌≤◌, if◌then◌else◌, length};
+ghost use Rattle.elf_model.specs.Archive.{long_name, member_name};
+ghost use Rattle.elf_model.specs.Bytes.{slice};
+ghost use Rattle.elf_model.specs.declared.causes.Cause.TheVariants.{MemberCut};
+ghost use Rattle.elf_archive.specs.MemberRows.{IsNamed, Names, OpensMembers, StepsMember};
+ghost use Rattle.elf_archive.specs.MemberRows.{extent_in, names_in};
+ghost use Rattle.elf_archive.specs.Members.{extent_of, names_of, names_passed};
+
+use crate::cursor::MAGIC_BYTES;
+use crate::fields::{
+    HEADER_BYTES, NAME_BYTES, is_name_table, long_offset, short_length, size_within,
+};
+use crate::magic_strings::magic;
+use crate::member::Extent;
+use crate::names::{LONG_NAME_BYTES, long_length};
+use elf_headers::Fault;
+use elf_record::{Cause, Refusal};
+use elf_rows::{Range, bytes_of, chunk_at};
+use elf_source::{Counted, MemorySource};
+
+/// The most bytes of a name that a row tells.
+const NAME_CAP: u16 = 4096;
+
+/// A place in a walk over the members of an archive.
+#[repr(C)]
+#[derive(Clone, Copy)]
+pub struct Members {
+    /// The file offset of the next member's header.
+    pub at: u64,
+    /// The data of the table of names, where there was one.
+    pub names: Range,
+    /// Whether a table of names was passed: none where it is 0.
+    pub has_names: u32,
+    /// 0.
+    pub none: u32,
+}
+
+/// A member of an archive: where it and its parts lie.
+#[repr(C)]
+#[derive(Clone, Copy)]
+pub struct MemberRow {
+    /// The file offset of its header.
+    pub at: u64,
+    /// Its data.
+    pub content: Range,
+    /// Its name, or the first 4,096 bytes of it.
+    pub name: Range,
+    /// Whether its name has more bytes: 1, else 0.
+    pub is_cut: u32,
+    /// 0.
+    pub none: u32,
+}
+
+/// Where a name lies, or the first 4,096 bytes of it, and whether it has more.
+#[derive(Clone, Copy)]
+struct Named {
+    place: Range,
+    is_cut: bool,
+}
+
+/// A place before the first member; there is always one, or a refusal.
+///
+/// # Errors
+/// Refused at offset 0 where the file is no archive: `Short` where it has fewer than 8 bytes, `Thin`
+/// for the magic string of a thin archive, `NotArchive` for other bytes.
+pub fn open_members(file: &[u8]) -> Result<Option<Members>, Refusal>
+    ensures { OpensMembers file.now result }
+{
+    let mut src = Counted::new(MemorySource::new(file));
+    let read = magic(&mut src);
+    let _ = src.into_inner();
+    match read {
+        Ok(()) => Ok(Some(Members {
+            at: MAGIC_BYTES,
+            names: Range { at: 0, len: 0 },
+            has_names: 0,
+            none: 0,
+        })),
+        Err(Fault::Refused(refusal)) => Err(refusal),
+        Err(Fault::Source { .. }) => unreachable!(),
+    }
+}
+
+/// The next member, and steps over it, with the byte behind its data where their size is odd; None at
+/// or behind the file's end.
+///
+/// # Errors
+/// Refused at the offset of the member's header: `MemberCut` where no header stands there, or it or
+/// the data end past the end of the file; `NameOutside` where the name begins past the table of names,
+/// or there is none, and `NameUnended` where the table, as far as it lies in the file, ends before the
+/// name does. Then the place is as it was.
+pub fn next_member(file: &[u8], members: &mut Members) -> Result<Option<MemberRow>, Refusal>
+    ensures { StepsMember file.now members.old members.new result }
+{
+    let at = members.at;
+    let length = file.len() as u64;
+    if at >= length {
+        return Ok(None);
+    }
+    let left = length - at;
+    if left < HEADER_BYTES as u64 {
+        return Err(cut(at));
+    }
+    let header = chunk_at(file, at as usize);
+    let Some(size) = size_within(header, left) else {
+        return Err(cut(at));
+    };
+    let name = match find_name(file, table_in(members), header, at) {
+        Ok(name) => name,
+        Err(cause) => return Err(Refusal { at, cause }),
+    };
+    let content = Range {
+        at: at + HEADER_BYTES as u64,
+        len: size,
+    };
+    pass(members, header, content);
+    Ok(Some(MemberRow {
+        at,
+        content,
+        name: name.place,
+        is_cut: flag(name.is_cut),
+        none: 0,
+    }))
+}
+
+/// A flag as a number.
+fn flag(is_set: bool) -> u32
+    ensures { result ≡ (if is_set then 1 else 0) }
+{
+    if is_set { 1 } else { 0 }
+}
+
+/// The refusal of a place where no member stands.
+fn cut(at: u64) -> Refusal
+    ensures { result ≡ record { at = at; cause = MemberCut } }
+{
+    Refusal {
+        at,
+        cause: Cause::MemberCut,
+    }
+}
+
+/// The table of names that was passed, if one was.
+fn table_in(members: &Members) -> Option<Extent>
+    ensures { names_of result ≡ names_in members.now }
+{
+    if members.has_names == 0 {
+        return None;
+    }
+    Some(Extent {
+        at: members.names.at,
+        size: members.names.len,
+    })
+}
+
+/// Goes behind the member with this header and these data.
+fn pass(members: &mut Members, header: &[u8; HEADER_BYTES], content: Range)
+    requires { content.at + content.len < 2 ^ 63 }
+    ensures at { members.new.at ≡ content.at + content.len + content.len % 2 }
+    ensures names { names_in members.new
+        ≡ names_passed (names_in members.old) header.now (extent_in content) }
+    ensures none { members.new.none ≡ members.old.none }
+{
+    if members.has_names == 0 && is_name_table(header) {
+        members.has_names = 1;
+        members.names = content;
+    }
+    members.at = content.at + content.len + content.len % 2;
+}
+
+/// Where the name of the member with this header lies, which stands at `at`.
+///
+/// # Errors
+/// As [`next_member`].
+fn find_name(
+    file: &[u8],
+    names: Option<Extent>,
+    header: &[u8; HEADER_BYTES],
+    at: u64,
+) -> Result<Named, Cause>
+    requires within { at + 60 ≤ length file.now }
+    requires header { header.now ≡ slice file.now at 60 }
+    ensures { IsNamed file.now result (member_name file.now 4096 (names_of names) at) }
+{
+    let field = &header[..NAME_BYTES];
+    match long_offset(field) {
+        Some(offset) => find_long(file, names, offset),
+        None => Ok(shortened(file, at, short_length(field))),
+    }
+}
+
+/// Where the name at an offset of the table of names lies.
+///
+/// # Errors
+/// As [`next_member`].
+fn find_long(file: &[u8], names: Option<Extent>, offset: u64) -> Result<Named, Cause>
+    ensures { IsNamed file.now result (long_name file.now 4096 (names_of names) offset) }
+{
+    let Some(table) = names else {
+        return Err(Cause::NameOutside);
+    };
+    if offset >= table.size {
+        return Err(Cause::NameOutside);
+    }
+    let range = Range {
+        at: table.at,
+        len: table.size,
+    };
+    let looked_at = Range {
+        at: offset,
+        len: LONG_NAME_BYTES as u64,
+    };
+    let front = bytes_of(bytes_of(file, range), looked_at);
+    match long_length(front, NAME_CAP) {
+        Some(size) => Ok(shortened(file, table.at + offset, size)),
+        None => Err(Cause::NameUnended),
+    }
+}
+
+/// A name of so many bytes at an offset, or the first 4,096 bytes of it.
+fn shortened(file: &[u8], at: u64, size: usize) -> Named
+    requires { at + size ≤ length file.now }
+    ensures { Names file.now at size result }
+{
+    Named {
+        place: Range {
+            at,
+            len: size.min(usize::from(NAME_CAP)) as u64,
+        },
+        is_cut: size > usize::from(NAME_CAP),
+    }
+}

@@ -1,0 +1,36 @@
+//! The exports that go over the members of an archive in memory.
+ghost use Rattle.elf_archive.specs.MemberRows.{OpensMembers, StepsMember};
+ghost use Rattle.elfsee_c.specs.Ends.{TellsRead};
+
+use crate::end::End;
+use crate::tell::tell;
+use elf_archive::{MemberRow, Members, next_member, open_members};
+
+/// Checks that a file that lies in memory is an archive, and sets `members` before its first member.
+///
+/// Answers 0 where it is, and 1 where it is none, with the first check that fails in `end`: `Short`,
+/// `Thin` or `NotArchive`, at offset 0.
+#[unsafe(no_mangle)]
+pub extern "C" fn elfsee_members(file: &[u8], members: &mut Members, end: &mut End) -> u32
+    ensures { TellsRead (OpensMembers file.now) result members.old members.new end.new }
+{
+    tell(open_members(file), members, end)
+}
+
+/// Reads the header of the next member and steps over the member.
+///
+/// Answers 0 where it was read, 2 at or behind the file's end, and 1 where no member stands at the
+/// place, with `MemberCut`, `NameOutside` or `NameUnended` and the place in `end`. Where it was not
+/// read `members` is as it was.
+#[unsafe(no_mangle)]
+pub extern "C" fn elfsee_next_member(
+    file: &[u8],
+    members: &mut Members,
+    member: &mut MemberRow,
+    end: &mut End,
+) -> u32
+    ensures { TellsRead (StepsMember file.now members.old members.new)
+        result member.old member.new end.new }
+{
+    tell(next_member(file, members), member, end)
+}
