@@ -35,7 +35,7 @@ _elfsee_words() {
 # Completes the last word as an item of `apply`, whose colon parts words for the line's editor.
 _elfsee_items() {
     [[ $current == *:* ]] && return
-    mapfile -t COMPREPLY < <(compgen -W 'at: def: plt:' -- "$current")
+    mapfile -t COMPREPLY < <(compgen -W 'at: def: plt: got: tpgot:' -- "$current")
     compopt -o nospace
 }
 

@@ -68,6 +68,8 @@ complete -c elfsee -n __elfsee_wants_file -F
 complete -c elfsee -n __elfsee_wants_item -a at: -d 'the address of a section, at:INDEX=ADDR'
 complete -c elfsee -n __elfsee_wants_item -a def: -d 'the address of an undefined or common symbol, def:NAME=ADDR'
 complete -c elfsee -n __elfsee_wants_item -a plt: -d 'the address of an entry in the procedure linkage table, plt:NAME=ADDR'
+complete -c elfsee -n __elfsee_wants_item -a got: -d 'the address of an entry in the global offset table, got:NAME=ADDR'
+complete -c elfsee -n __elfsee_wants_item -a tpgot: -d 'the address of an entry there of an offset from the thread pointer, tpgot:NAME=ADDR'
 complete -c elfsee -n "__fish_seen_subcommand_from show sample find apply check archive; and __elfsee_lacks --headers" -l headers -x -d 'permit so many headers of each kind, 1 to 65279 [4096]'
 complete -c elfsee -n "$listing; and __elfsee_lacks --names" -l names -x -d 'show so many bytes of a name, 1 to 4096 [256]'
 complete -c elfsee -n "__fish_seen_subcommand_from show sample find apply check archive; and __elfsee_lacks --max-read" -l max-read -x -d 'read no more than so many bytes of the file'

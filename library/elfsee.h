@@ -139,20 +139,27 @@ uint32_t elfsee_find(const uint8_t *file, size_t file_len, const struct elfsee_l
                      struct elfsee_found *found, struct elfsee_end *end);
 
 /* What a layout gives an address for. */
-enum { ELFSEE_SECTION = 0, ELFSEE_DEFINE = 1, ELFSEE_ENTRY = 2 };
+enum {
+    ELFSEE_SECTION = 0,
+    ELFSEE_DEFINE = 1,
+    ELFSEE_ENTRY = 2,
+    ELFSEE_TABLE = 3,
+    ELFSEE_THREAD = 4
+};
 
-/* An address: of a section (by `index`), of a symbol that the file does not define, or of a
- * symbol's entry in the procedure linkage table (by the symbol's name, 1 to 255 bytes, no NUL). */
+/* An address: of a section (by `index`); or, by the symbol's name of 1 to 255 bytes without NUL, of
+ * a symbol that the file does not define, or of a symbol's entry: in the procedure linkage table, in
+ * the global offset table, or there that of its offset from the thread pointer. */
 struct elfsee_item {
     uint64_t address;
     const uint8_t *name;
     size_t name_len;
-    uint32_t kind;  /* ELFSEE_SECTION, ELFSEE_DEFINE, ELFSEE_ENTRY */
+    uint32_t kind;  /* ELFSEE_SECTION to ELFSEE_THREAD */
     uint32_t index; /* of the section, up to 65,535 */
 };
 
 /* A section, and at which addresses it and what it refers to are to lie: at most 64 sections, 32
- * definitions and 32 entries, none twice. */
+ * definitions and 32 entries of each kind, none twice. */
 struct elfsee_job {
     const struct elfsee_item *items;
     size_t items_len;

@@ -4,19 +4,25 @@ module. It is written for plainness alone, and reads whole files."""
 import struct
 
 SYMBOL_TABLES, STRTAB, RELA, NO_BYTES = (2, 11), 3, 4, (0, 8)
-# Of each type that is applied: its bytes, what stands in its formula, and between what bounds a value fits.
+# Of each type that is applied: its bytes, what stands in its formula, and between what bounds a value fits. G is the
+# address of the symbol's entry in the global offset table, T that of the entry of its offset from the thread pointer.
 SIGNED = (-2 ** 31, 2 ** 31)
 TYPES = {
     0: (0, "", None),
     1: (8, "S", None),
     2: (4, "SP", SIGNED),
     4: (4, "LP", SIGNED),
+    9: (4, "GP", SIGNED),
     10: (4, "S", (0, 2 ** 32)),
     11: (4, "S", SIGNED),
     12: (2, "S", (-2 ** 15, 2 ** 16)),
     14: (1, "S", (-2 ** 7, 2 ** 8)),
+    22: (4, "TP", SIGNED),
     24: (8, "SP", None),
+    41: (4, "GP", SIGNED),
+    42: (4, "GP", SIGNED),
 }
+TABLES = {"G": "got", "T": "tpgot"}
 IDENT = ((0, b"\x7fELF", "not-elf"), (4, b"\2", "class"), (5, b"\1", "data"), (6, b"\1", "version"))
 
 
@@ -99,14 +105,14 @@ class Layout:
     """The addresses that words give."""
 
     def __init__(self, words):
-        self.sections, self.definitions, self.entries = {}, [], []
+        self.sections, self.named = {}, {"def": [], "plt": [], "got": [], "tpgot": []}
         for word in words:
             sort, rest = word.split(":", 1)
             key, address = rest.rsplit("=", 1)
             if sort == "at":
                 self.sections[int(key)] = int(address, 16)
             else:
-                (self.definitions if sort == "def" else self.entries).append((key.encode(), int(address, 16)))
+                self.named[sort].append((key.encode(), int(address, 16)))
 
 
 class Section:
@@ -127,7 +133,7 @@ class Section:
         if place == 0xfff1:
             return value
         if place in (0, 0xfff2):
-            found = self.named(strings, at, self.layout.definitions)
+            found = self.named(strings, at, self.layout.named["def"])
             refuse_where(found is None and not (place == 0 and info >> 4 == 2), entry, "undefined")
             return found or 0
         refuse_where(place >= 0xff00 or place not in self.layout.sections, entry, "unplaced")
@@ -138,9 +144,12 @@ class Section:
         offset, kind, symbol, addend = struct.unpack_from("<QIIq", self.content, at)
         refuse_where(kind not in TYPES, at, "unsupported")
         width, formula, span = TYPES[kind]
+        table = self.layout.named[TABLES[formula[0]]] if formula[:1] in TABLES else None
+        refuse_where(table == [], at, "unsupported")
         if not width:
             return 0, b""
         refuse_where(offset + width > size, at, "place-outside")
+        refuse_where(table is not None and not symbol, at, "unsupported")
         value = self.value(at, linked, symbol, formula) if symbol else 0
         if "P" in formula:
             refuse_where(self.index not in self.layout.sections, at, "unplaced")
@@ -155,8 +164,12 @@ class Section:
         symbols, strings = linked
         refuse_where(symbol >= symbols.size // 24, at, "symbol-index")
         place = symbols.offset + 24 * symbol
+        if formula[0] in TABLES:
+            found = self.named(strings, place, self.layout.named[TABLES[formula[0]]])
+            refuse_where(found is None, at, "unsupported")
+            return found
         if "L" in formula:
-            found = self.named(strings, place, self.layout.entries)
+            found = self.named(strings, place, self.layout.named["plt"])
             if found is not None:
                 return found
         return self.symbol_value(strings, place, at)

@@ -16,7 +16,7 @@
 #include <sys/stat.h>
 #include <unistd.h>
 
-enum { OUT = 1 << 16, ROOM = 64 * 100, NAMED = 32, ITEMS = 130 };
+enum { OUT = 1 << 16, ROOM = 64 * 100, NAMED = 32, ITEMS = 200 };
 
 static unsigned passed, failed;
 static struct lent object, library, room, out;
@@ -362,10 +362,14 @@ static void many_items(void) {
     check(is_bad_items(add(0, ELFSEE_DEFINE, 33)), "33 definitions");
     check(are_good_items(add(0, ELFSEE_ENTRY, 32)), "32 entries");
     check(is_bad_items(add(0, ELFSEE_ENTRY, 33)), "33 entries");
-    check(are_good_items(add(add(add(0, ELFSEE_SECTION, 64), ELFSEE_DEFINE, 32), ELFSEE_ENTRY, 32)),
-          "as many items as a layout holds, with the same names of two kinds");
-    check(is_bad_items(add(add(add(0, ELFSEE_SECTION, 64), ELFSEE_DEFINE, 32), ELFSEE_ENTRY, 33)),
-          "one item more");
+    check(are_good_items(add(0, ELFSEE_TABLE, 32)), "32 entries of the global offset table");
+    check(is_bad_items(add(0, ELFSEE_TABLE, 33)), "33 entries of the global offset table");
+    check(are_good_items(add(0, ELFSEE_THREAD, 32)), "32 entries of thread-local symbols");
+    check(is_bad_items(add(0, ELFSEE_THREAD, 33)), "33 entries of thread-local symbols");
+    size_t all = add(add(add(0, ELFSEE_SECTION, 64), ELFSEE_DEFINE, 32), ELFSEE_ENTRY, 32);
+    check(are_good_items(add(add(all, ELFSEE_TABLE, 32), ELFSEE_THREAD, 32)),
+          "as many items as a layout holds, with the same names of four kinds");
+    check(is_bad_items(add(add(all, ELFSEE_TABLE, 32), ELFSEE_THREAD, 33)), "one item more");
 }
 
 static void odd_items(void) {
@@ -385,8 +389,17 @@ static void odd_items(void) {
     item_names[5][1] = item_names[4][1];
     check(is_bad_items(count), "an entry twice");
     item_names[5][1] = 200;
-    items[4].kind = 3;
-    check(is_bad_items(count), "an item of kind 3");
+    items[4].kind = items[5].kind = ELFSEE_TABLE;
+    check(are_good_items(count), "two entries of the global offset table");
+    item_names[5][1] = item_names[4][1];
+    check(is_bad_items(count), "an entry of the global offset table twice");
+    items[5].kind = ELFSEE_THREAD;
+    check(are_good_items(count), "entries of two kinds with one name");
+    items[4].kind = ELFSEE_THREAD;
+    check(is_bad_items(count), "an entry of a thread-local symbol twice");
+    item_names[5][1] = 200;
+    items[4].kind = 5;
+    check(is_bad_items(count), "an item of kind 5");
     items[4].kind = UINT32_MAX;
     check(is_bad_items(count), "an item of kind 4,294,967,295");
 }
@@ -398,8 +411,7 @@ static void item_lengths(void) {
     memset(bytes, 'n', sizeof bytes);
     for (len = 0; len < 300; len += 1) {
         struct lent name = lend_copy(bytes, len, len & 1);
-        struct elfsee_item item = {0x1000, name.bytes, len, len & 2 ? ELFSEE_DEFINE : ELFSEE_ENTRY,
-                                   UINT32_MAX};
+        struct elfsee_item item = {0x1000, name.bytes, len, ELFSEE_DEFINE + len % 4, UINT32_MAX};
         items[0] = item;
         if (len >= 1 && len <= 255)
             good &= are_good_items(1);
@@ -412,7 +424,7 @@ static void item_lengths(void) {
     for (at = 0; at < 255; at += 1) {
         bytes[at] = 0;
         struct lent name = lend_copy(bytes, 255, at & 1);
-        struct elfsee_item item = {0x1000, name.bytes, 255, at & 2 ? ELFSEE_DEFINE : ELFSEE_ENTRY, 0};
+        struct elfsee_item item = {0x1000, name.bytes, 255, ELFSEE_DEFINE + at % 4, 0};
         items[0] = item;
         nul &= is_bad_items(1);
         take_back(&name);
@@ -733,7 +745,7 @@ static int any_apply(void) {
     unsigned odd;
     for (odd = next() % 3; odd && job.items_len; odd -= 1) {
         struct elfsee_item *item = &items[next() % job.items_len];
-        item->kind = (uint32_t)any(3);
+        item->kind = (uint32_t)any(5);
         item->index = (uint32_t)any(65536);
         item->name_len = next() % 5;
         item->address = next();

@@ -40,16 +40,16 @@ static void call_find(void) {
 
 /* A layout with all that it can hold, so that as many entries as can be are applied. */
 static void call_apply(void) {
-    static struct elfsee_item items[128];
-    static uint8_t names[128][255];
-    struct elfsee_job job = {items, 128, section, 0};
+    static struct elfsee_item items[192];
+    static uint8_t names[192][255];
+    struct elfsee_job job = {items, 192, section, 0};
     unsigned i;
-    for (i = 0; i < 128; i += 1) {
+    for (i = 0; i < 192; i += 1) {
         struct elfsee_item item = {0x400000 + 0x1000 * i, names[i], 0, ELFSEE_SECTION, i + 1};
         if (i >= 64) {
             memset(names[i], 'a' + (int)i % 32, 255);
             item.name_len = 255;
-            item.kind = i < 96 ? ELFSEE_DEFINE : ELFSEE_ENTRY;
+            item.kind = ELFSEE_DEFINE + (i - 64) / 32;
         }
         items[i] = item;
     }

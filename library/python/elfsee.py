@@ -405,13 +405,16 @@ _NOTHING: Mapping[Any, int] = types.MappingProxyType({})
 
 
 class Layout(NamedTuple):
-    """Addresses for `File.apply`: of sections by their index, of symbols that the file does not
-    define by their name, and of symbols' entries in the procedure linkage table by the symbol's
-    name. At most 64 sections, 32 definitions and 32 entries; names of 1 to 255 bytes."""
+    """Addresses for `File.apply`: of sections by their index; by the symbol's name, of symbols that
+    the file does not define, and of symbols' entries: in the procedure linkage table, in the global
+    offset table, and there those of their offsets from the thread pointer. At most 64 sections, 32
+    definitions and 32 entries of each kind; names of 1 to 255 bytes."""
 
     sections: Mapping[int, int] = _NOTHING
     define: Mapping[Name, int] = _NOTHING
     entries: Mapping[Name, int] = _NOTHING
+    table: Mapping[Name, int] = _NOTHING
+    thread: Mapping[Name, int] = _NOTHING
 
 
 # ---------------------------------------------------------------------------
@@ -450,7 +453,8 @@ def _items_of(layout: Layout) -> List[Any]:
     items = [_Item(_within("an address", address, 0, MOST_NUMBER), b"", 0, 0,
                    _within("a section", index, 0, 65535))
              for index, address in layout.sections.items()]
-    for kind, addresses in ((1, layout.define), (2, layout.entries)):
+    named = (layout.define, layout.entries, layout.table, layout.thread)
+    for kind, addresses in enumerate(named, 1):
         for name, address in addresses.items():
             text = _name_bytes(name, 255)
             items.append(_Item(_within("an address", address, 0, MOST_NUMBER), text, len(text), kind, 0))

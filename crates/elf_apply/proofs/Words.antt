@@ -1,9 +1,9 @@
 -- The definitions that functions calculate, opened for their checks.
 use Rattle.elf_model.specs.Apply.{apply_checks, held_bytes, entry_changes, change_of, entry_checks, named_value}
-use Rattle.elf_model.specs.Placing.{linkage_value, place_value}
+use Rattle.elf_model.specs.Placing.{linkage_value, base_value, place_value}
 use Rattle.elf_model.specs.Values.{patch_of, whole}
 use Rattle.elf_layout.proofs.LayoutSteps.{names_cost}
-use Rattle.elf_apply.specs.Entries.{term_of, taken_value, taken_place}
+use Rattle.elf_apply.specs.Entries.{term_of, taken_place}
 use Rattle.elf_apply.specs.Walk.{walk_left, steps_left}
 
 -- the request
@@ -18,13 +18,17 @@ entry = tt
 
 -- an entry of a type
 unfoldable pub typed : Unit {0}
-unfolding change_of entry_checks term_of taken_value taken_place patch_of whole
+unfolding change_of entry_checks term_of taken_place patch_of whole
 typed = tt
 
--- S or L
+-- B
 unfoldable pub term : Unit {0}
-unfolding term_of taken_value named_value
+unfolding term_of named_value
 term = tt
+
+unfoldable pub based : Unit {0}
+unfolding base_value
+based = tt
 
 unfoldable pub linkage : Unit {0}
 unfolding linkage_value

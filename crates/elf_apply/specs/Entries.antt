@@ -3,11 +3,12 @@ use Rattle.std.specs.Prelude.{ℕ, ◌≡◌, ◌+◌, ◌≤◌, IfSome, true, 
 use Rattle.elf_model.specs.Budget.{IsBudget}
 use Rattle.elf_model.specs.Apply.{Target, Patch, Change, Put, Fails, named_value, symbol_checks}
 use Rattle.elf_model.specs.Checks.{first_refusal}
-use Rattle.elf_model.specs.Placing.{symbol_value, linkage_value, place_value}
+use Rattle.elf_model.specs.Placing.{place_value}
 use Rattle.elf_model.specs.Records.{r_sym}
-use Rattle.elf_model.specs.Values.{takes_linkage, takes_place}
+use Rattle.elf_model.specs.Values.{takes_place}
 use Rattle.elf_model.specs.declared.causes.Cause.{Cause}
 use Rattle.elf_model.specs.declared.causes.Refusal.{Refusal}
+use Rattle.elf_model.specs.declared.relocation_types.Base.{Base}
 use Rattle.elf_model.specs.declared.relocation_types.Formula.{Formula}
 use Rattle.elf_reloc.specs.Types.{patched_bytes}
 use Rattle.elf_headers.specs.declared.fault.Fault.{Fault}
@@ -48,20 +49,12 @@ abbrev pub value_or : Option ℕ → ℕ → Cause → Result ℕ Refusal
 value_or (Some value) at cause = Ok value
 value_or None at cause = Err (record { at = at; cause = cause })
 
--- S, or L where the formula takes it
-unfoldable pub taken_value : Formula → Target → ℕ → ℕ → Result ℕ Refusal
-taken_value formula target at rela =
-    elim (takes_linkage formula) [
-      | true ↦ named_value linkage_value target at rela
-      | false ↦ named_value symbol_value target at rela
-    ]
-
--- that value, where the symbol's checks pass
-unfoldable pub term_of : Formula → Target → ℕ → ℕ → Result ℕ Refusal
-term_of formula target at rela =
+-- B, where the symbol's checks pass
+unfoldable pub term_of : Base → Target → ℕ → ℕ → Result ℕ Refusal
+term_of base target at rela =
     elim (first_refusal (symbol_checks target.file at rela)) [
       | Some refusal ↦ Err refusal
-      | None ↦ taken_value formula target at rela
+      | None ↦ named_value base target at rela
     ]
 
 -- P where the formula takes it, else 0
@@ -75,8 +68,7 @@ taken_place formula target rela =
 -- what an entry took of a symbol is what each entry takes that names it so
 abbrev pub IsTaken : List ℕ → TargetCode → ℕ → Taken → Type 0
 IsTaken file target header taken =
-    (formula : Formula) (rela : ℕ) → taken.linkage ≡ takes_linkage formula → taken.symbol ≡ r_sym file rela
-    → term_of formula (target_as file target) header rela ≡ Ok taken.value
+    (rela : ℕ) → taken.symbol ≡ r_sym file rela → term_of taken.base (target_as file target) header rela ≡ Ok taken.value
 
 -- the symbols that the entries of the section with this header refer to, and what the last of them took
 pub record Refers (file : List ℕ) (target : TargetCode) (header : ℕ) (symbols : Symbols) : Type 0 where

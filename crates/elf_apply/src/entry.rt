@@ -1,42 +1,42 @@
 //! What a relocation entry stores.
 ghost use Rattle.std.specs.Prelude.{◌≡◌, ◌+◌, ℕ, List, Some, IfErr, IfOk, IfSome, nat_lt};
-ghost use Rattle.elf_model.specs.Apply.{change_of, entry_changes};
+ghost use Rattle.elf_model.specs.Apply.{change_of, entry_changes, where_based};
 ghost use Rattle.elf_model.specs.ApplyCost.{layout_names_cost};
+ghost use Rattle.elf_model.specs.Placing.{unnamed_value};
 ghost use Rattle.elf_model.specs.Records.{r_offset, r_sym};
+ghost use Rattle.elf_model.specs.Values.{kind_of};
 ghost use Rattle.elf_model.specs.declared.causes.Cause.TheVariants.{Unplaced};
 ghost use Rattle.elf_reloc.specs.Types.{IsSized, IsWidth};
 ghost use Rattle.elf_record.specs.Rela.{IsRela};
 ghost use Rattle.elf_source.specs.Source.{Reads};
-ghost use Rattle.elf_headers.specs.Faults.{Says};
+ghost use Rattle.elf_headers.specs.Faults.{IsOfCheck, Says};
 ghost use Rattle.elf_table.specs.Relocations.{RefersTo};
 ghost use Rattle.elf_table.specs.Tables.{SymbolsWithin};
 ghost use Rattle.elf_apply.specs.Costs.{ValueOrRefusal};
 ghost use Rattle.elf_apply.specs.Entries.{Changes, Does, IsPlacedInside, Refers, target_as};
 ghost use Rattle.elf_apply.specs.Entries.{taken_place, term_of, value_or};
 
-use crate::lookup::{Symbol, linkage_value, symbol_value};
+use crate::lookup::{Symbol, base_value};
 use elf_headers::refused;
 use elf_layout::Layout;
 use elf_record::numbers::R_X86_64_NONE;
 use elf_record::{Cause, Rela};
-use elf_reloc::{
-    Formula, Patch, RelocationType, patch_of, relocation_type, takes_linkage, takes_place,
-};
+use elf_reloc::{Base, Formula, Patch, RelocationType, patch_of, relocation_type, takes_place};
 use elf_source::{Counted, Source};
 use elf_table::{Fault, File, Names, Table};
 
 /// Symbols with the string table of their names.
 pub(crate) type Linked = Option<(Table, Names)>;
 
-/// The value that an entry took of a symbol: L where `linkage` says so, else S.
+/// The address of a symbol that an entry took, as its type's base tells.
 #[derive(Clone, Copy)]
 pub(crate) struct Taken {
     pub(crate) symbol: u32,
-    pub(crate) linkage: bool,
+    pub(crate) base: Base,
     pub(crate) value: u64,
 }
 
-/// The symbols that the entries of a section refer to, and the value that the last of them took.
+/// The symbols that the entries of a section refer to, and the address that the last of them took.
 /// An entry that takes the same reads nothing for it.
 #[derive(Clone, Copy)]
 pub(crate) struct Symbols {
@@ -90,13 +90,27 @@ pub(crate) fn entry_change<S: Source>(
     if kind == R_X86_64_NONE {
         return Ok(None);
     }
-    let Some(found) = relocation_type(kind) else {
+    let Some(found) = based_type(target.layout, kind) else {
         return refused(at, Cause::Unsupported);
     };
     match stored(src, target, entry, at, symbols, found) {
         Ok(placed) => Ok(Some(placed)),
         Err(fault) => Err(fault),
     }
+}
+
+/// The relocation type of a number, where the layout has addresses that its base may tell.
+#[tactic(auto, unfolding(elf_model::specs::Apply::where_based))]
+fn based_type(layout: &Layout, kind: u32) -> Option<RelocationType>
+    ensures value { result ≡ where_based layout.now (kind_of kind) }
+    ensures width { IfSome result (λ found. IsWidth found.width) }
+    ensures sized { IfSome result (λ found. IsSized found.range found.width) }
+{
+    let found = relocation_type(kind)?;
+    if !layout.has_base(found.base) {
+        return None;
+    }
+    Some(found)
 }
 
 /// What an entry of a type stores.
@@ -128,14 +142,14 @@ fn stored<S: Source>(
     if ends_past(offset, found.width, target.size) {
         return refused(at, Cause::PlaceOutside);
     }
-    let value = match taken_value(src, target, entry.symbol(), at, symbols, found.formula) {
+    let value = match taken_value(src, target, entry.symbol(), at, symbols, found.base) {
         Ok(value) => value,
         Err(fault) => return Err(fault),
     };
     let Some(place) = place_value(target, offset, found.formula) else {
         return refused(at, Cause::Unplaced);
     };
-    match patch_of(found, value, value, entry.r_addend, place) {
+    match patch_of(found, value, entry.r_addend, place) {
         Ok(patch) => Ok(Placed { at, offset, patch }),
         Err(_) => refused(at, Cause::Overflow),
     }
@@ -148,15 +162,15 @@ fn ends_past(offset: u64, width: u32, size: u64) -> bool
     u128::from(offset) + u128::from(width) > u128::from(size)
 }
 
-/// S, or L where the formula takes it, of the symbol of an index, which the entry at `at` names:
-/// what the last entry took where that is the same.
+/// B of the symbol of an index, which the entry at `at` names: what the last entry took where that
+/// is the same.
 fn taken_value<S: Source>(
     src: &mut Counted<S>,
     target: &Target<'_>,
     symbol: u32,
     at: u64,
     symbols: &mut Symbols,
-    formula: Formula,
+    base: Base,
 ) -> Result<u64, Fault>
     requires within { IfSome symbols.old.linked (SymbolsWithin src.old.seen.size) }
     ensures same { symbols.new.linked ≡ symbols.old.linked }
@@ -166,22 +180,21 @@ fn taken_value<S: Source>(
     ensures value { (file : List ℕ) (header : ℕ) → src.old.seen.file ≡ Some file →
         Refers file target.now header symbols.old → symbol ≡ r_sym file at →
         ValueOrRefusal result
-        (term_of formula (target_as file target.now) header at) }
+        (term_of base (target_as file target.now) header at) }
     ensures refers { (file : List ℕ) (header : ℕ) → src.old.seen.file ≡ Some file →
         Refers file target.now header symbols.old → symbol ≡ r_sym file at →
         Refers file target.now header symbols.new }
 {
-    let linkage = takes_linkage(formula);
     if let Some(last) = symbols.last {
-        if last.symbol == symbol && last.linkage == linkage {
+        if last.symbol == symbol && last.base == base {
             return Ok(last.value);
         }
     }
-    match named_value(src, target, symbol, at, symbols.linked, formula) {
+    match named_value(src, target, symbol, at, symbols.linked, base) {
         Ok(value) => {
             symbols.last = Some(Taken {
                 symbol,
-                linkage,
+                base,
                 value,
             });
             Ok(value)
@@ -190,8 +203,19 @@ fn taken_value<S: Source>(
     }
 }
 
-/// S, or L where the formula takes it, of the symbol of an index, which the entry at `at` names; 0
-/// of symbol 0, and nothing is read.
+/// B of symbol 0, which the entry at `at` names: S and L are 0, and it has no other entry.
+#[tactic(auto, unfolding(elf_model::specs::Placing::unnamed_value))]
+fn unnamed_value(base: Base, at: u64) -> Result<u64, Fault>
+    ensures value { ValueOrRefusal result (unnamed_value base at) }
+    ensures refusal { IfErr result IsOfCheck }
+{
+    match base {
+        Base::Symbol | Base::Linkage => Ok(0),
+        Base::Table | Base::Thread => refused(at, Cause::Unsupported),
+    }
+}
+
+/// B of the symbol of an index, which the entry at `at` names; of symbol 0 nothing is read.
 #[tactic(auto, using(crate::proofs::Words::names), unfolding(crate::proofs::Words::term))]
 fn named_value<S: Source>(
     src: &mut Counted<S>,
@@ -199,7 +223,7 @@ fn named_value<S: Source>(
     symbol: u32,
     at: u64,
     linked: Linked,
-    formula: Formula,
+    base: Base,
 ) -> Result<u64, Fault>
     requires within { IfSome linked (SymbolsWithin src.old.seen.size) }
     ensures reads { Reads src.old src.new (24 + layout_names_cost target.now.layout.now) }
@@ -208,10 +232,10 @@ fn named_value<S: Source>(
     ensures unnamed { symbol ≡ 0 → src.new ≡ src.old }
     ensures value { (file : List ℕ) (header : ℕ) → src.old.seen.file ≡ Some file →
         RefersTo file header linked → symbol ≡ r_sym file at → ValueOrRefusal result
-        (term_of formula (target_as file target.now) header at) }
+        (term_of base (target_as file target.now) header at) }
 {
     if symbol == 0 {
-        return Ok(0);
+        return unnamed_value(base, at);
     }
     let Some(found) = linked else {
         return refused(at, Cause::BadLink);
@@ -231,11 +255,7 @@ fn named_value<S: Source>(
         names,
         at: place,
     };
-    if takes_linkage(formula) {
-        linkage_value(src, target.layout, &named, at)
-    } else {
-        symbol_value(src, target.layout, &named, at)
-    }
+    base_value(src, target.layout, &named, at, base)
 }
 
 /// P, the section's address and an offset modulo 2^64, where the section has an address; 0 where

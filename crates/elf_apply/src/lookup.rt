@@ -1,7 +1,8 @@
-//! The value of a symbol in a layout.
+//! The address of a symbol in a layout.
 ghost use Rattle.std.specs.Prelude.{◌≡◌, ℕ, List, Some, Err, IfErr};
 ghost use Rattle.elf_model.specs.ApplyCost.{layout_names_cost};
-ghost use Rattle.elf_model.specs.Placing.{address_named, linkage_value, named_or};
+ghost use Rattle.elf_model.specs.Placing.{address_named, base_value, entry_value};
+ghost use Rattle.elf_model.specs.Placing.{linkage_value, named_or};
 ghost use Rattle.elf_model.specs.Placing.{placed_at, symbol_value, undefined_value};
 ghost use Rattle.elf_model.specs.Records.{st_name};
 ghost use Rattle.elf_record.specs.Sym.{IsSym};
@@ -15,6 +16,7 @@ use elf_headers::refused;
 use elf_layout::{Layout, Named};
 use elf_record::numbers::{SHN_UNDEF, STB_WEAK};
 use elf_record::{Cause, Place, Sym};
+use elf_reloc::Base;
 use elf_source::{Counted, Source};
 use elf_table::{Fault, Names};
 
@@ -107,7 +109,7 @@ fn defined_value<S: Source>(
 /// S, the value of a symbol (gABI 4, Symbol Values). Refusals that are none of its name are at the
 /// entry that names it.
 #[tactic(auto, unfolding(elf_model::specs::Placing::symbol_value))]
-pub(crate) fn symbol_value<S: Source>(
+fn symbol_value<S: Source>(
     src: &mut Counted<S>,
     layout: &Layout,
     symbol: &Symbol,
@@ -135,7 +137,7 @@ pub(crate) fn symbol_value<S: Source>(
 
 /// L, the address of a symbol's procedure linkage table entry, where the layout has one; else S.
 #[tactic(auto, using(crate::proofs::Words::names), unfolding(crate::proofs::Words::linkage))]
-pub(crate) fn linkage_value<S: Source>(
+fn linkage_value<S: Source>(
     src: &mut Counted<S>,
     layout: &Layout,
     symbol: &Symbol,
@@ -152,5 +154,53 @@ pub(crate) fn linkage_value<S: Source>(
         Ok(Some(address)) => Ok(address),
         Ok(None) => symbol_value(src, layout, symbol, entry),
         Err(fault) => Err(fault),
+    }
+}
+
+/// The address of a symbol's entry among some items; without one the entry at `entry` is refused as
+/// one of a type that is not applied.
+#[tactic(auto, unfolding(elf_model::specs::Placing::entry_value))]
+fn entry_value<S: Source>(
+    src: &mut Counted<S>,
+    items: &[Named],
+    symbol: &Symbol,
+    entry: u64,
+) -> Result<u64, Fault>
+    requires within { StringsWithin src.old.seen.size symbol.now.names }
+    ensures reads { Reads src.old src.new (items_cost items.now) }
+    ensures says { IfErr result (Says src.old src.new (items_cost items.now)) }
+    ensures told { (file : List ℕ) → src.old.seen.file ≡ Some file →
+        IsSym file symbol.now.at symbol.now.fields → ValueOrRefusal result
+        (entry_value items.now file (strings_in file symbol.now.names) entry symbol.now.at) }
+{
+    match address_named(src, symbol, items) {
+        Ok(Some(address)) => Ok(address),
+        Ok(None) => refused(entry, Cause::Unsupported),
+        Err(fault) => Err(fault),
+    }
+}
+
+/// B, the address of a symbol that a base tells. Refusals that are none of its name are at the entry
+/// that names it.
+#[tactic(auto, using(crate::proofs::Words::names), unfolding(crate::proofs::Words::based))]
+pub(crate) fn base_value<S: Source>(
+    src: &mut Counted<S>,
+    layout: &Layout,
+    symbol: &Symbol,
+    entry: u64,
+    base: Base,
+) -> Result<u64, Fault>
+    requires within { StringsWithin src.old.seen.size symbol.now.names }
+    ensures reads { Reads src.old src.new (layout_names_cost layout.now) }
+    ensures says { IfErr result (Says src.old src.new (layout_names_cost layout.now)) }
+    ensures told { (file : List ℕ) → src.old.seen.file ≡ Some file →
+        IsSym file symbol.now.at symbol.now.fields → ValueOrRefusal result
+        (base_value base file (strings_in file symbol.now.names) layout.now entry symbol.now.at) }
+{
+    match base {
+        Base::Symbol => symbol_value(src, layout, symbol, entry),
+        Base::Linkage => linkage_value(src, layout, symbol, entry),
+        Base::Table => entry_value(src, layout.table(), symbol, entry),
+        Base::Thread => entry_value(src, layout.thread(), symbol, entry),
     }
 }

@@ -24,7 +24,7 @@ WeakAloneIsZero =
 
 -- section 1, the last index of a section, and the first that is reserved, all at 0x1000
 abbrev pub last_layout : Layout
-last_layout = record { sections = (1, 0x1000) ∷ (0xfeff, 0x1000) ∷ (0xff00, 0x1000) ∷ []; definitions = []; linkage = [] }
+last_layout = record { sections = (1, 0x1000) ∷ (0xfeff, 0x1000) ∷ (0xff00, 0x1000) ∷ []; definitions = []; linkage = []; table = []; thread = [] }
 
 abbrev pub ReservedIndicesAreUnplaced : Type 0
 ReservedIndicesAreUnplaced =
@@ -118,8 +118,8 @@ EntriesOfTheSection =
 abbrev pub OtherTypesAreUnsupported : Type 0
 OtherTypesAreUnsupported =
     map (λ type. value type 0 0 (pos 0) 0)
-    (3 ∷ 5 ∷ 6 ∷ 7 ∷ 8 ∷ 9 ∷ 13 ∷ numbers_from 15 9 ++ numbers_from 25 18 ++ 256 ∷ 65537 ∷ [])
-    ≡ replicate 36 (Err Unsupported)
+    (3 ∷ 5 ∷ 6 ∷ 7 ∷ 8 ∷ 13 ∷ numbers_from 15 7 ++ 23 ∷ numbers_from 25 16 ++ 43 ∷ 256 ∷ 265 ∷ 65537 ∷ [])
+    ≡ replicate 34 (Err Unsupported)
 
 -- a definition is for a weak symbol too, and its name is looked at
 abbrev pub WeakIsDefined : Type 0
@@ -135,7 +135,7 @@ EntriesPastTheLastSection =
 
 -- section 1, a definition of `f` and its procedure linkage table entry at addresses of their own
 abbrev pub layout_of : ℕ → List (List ℕ × ℕ) → List (List ℕ × ℕ) → Layout
-layout_of address definitions linkage = record { sections = (1, address) ∷ []; definitions = definitions; linkage = linkage }
+layout_of address definitions linkage = record { sections = (1, address) ∷ []; definitions = definitions; linkage = linkage; table = []; thread = [] }
 
 -- an address may be 0: a definition's, a linkage table entry's, a section's as the place and as the symbol's
 abbrev pub AddressesMayBeZero : Type 0
@@ -151,10 +151,10 @@ FirstItemStands =
     WritesSection one_call (layout_of 0x1000 ((codes "f", 0x3000) ∷ (codes "f", 0x9000) ∷ []) []) (0xe8 ∷ 0xfb ∷ 0x1f ∷ 0 ∷ 0 ∷ [])
     × WritesSection one_call (layout_of 0x1000 [] ((codes "f", 0x2000) ∷ (codes "f", 0x9000) ∷ [])) (0xe8 ∷ 0xfb ∷ 0x0f ∷ 0 ∷ 0 ∷ [])
     × WritesSection one_call
-    (record { sections = (1, 0x1000) ∷ (1, 0x9000) ∷ []; definitions = []; linkage = (codes "f", 0x2000) ∷ [] })
+    (record { sections = (1, 0x1000) ∷ (1, 0x9000) ∷ []; definitions = []; linkage = (codes "f", 0x2000) ∷ []; table = []; thread = [] })
     (0xe8 ∷ 0xfb ∷ 0x0f ∷ 0 ∷ 0 ∷ [])
     × WritesSection one_call
-    (record { sections = (0x101, 0x9000) ∷ (1, 0x1000) ∷ []; definitions = []; linkage = (codes "f", 0x2000) ∷ [] })
+    (record { sections = (0x101, 0x9000) ∷ (1, 0x1000) ∷ []; definitions = []; linkage = (codes "f", 0x2000) ∷ []; table = []; thread = [] })
     (0xe8 ∷ 0xfb ∷ 0x0f ∷ 0 ∷ 0 ∷ [])
 
 -- a name that another item's is not equal to may still be one that cannot be compared: here the table ends behind `f`

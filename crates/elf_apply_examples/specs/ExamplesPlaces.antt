@@ -13,7 +13,7 @@ use Rattle.elf_model.specs.declared.causes.Cause.TheVariants.{Undefined, Unplace
 
 -- sections 1 and 4 at addresses of their own, and a procedure linkage table entry of `f`
 abbrev pub two_sections : Layout
-two_sections = record { sections = (1, 0x1000) ∷ (4, 0x5000) ∷ []; definitions = []; linkage = (codes "f", 0x2000) ∷ [] }
+two_sections = record { sections = (1, 0x1000) ∷ (4, 0x5000) ∷ []; definitions = []; linkage = (codes "f", 0x2000) ∷ []; table = []; thread = [] }
 
 -- the call's entry for section 4, of eight bytes: the place is in that section, and section 1 has no entries
 abbrev pub OtherSectionIsApplied : Type 0

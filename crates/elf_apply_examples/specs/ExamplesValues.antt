@@ -59,4 +59,4 @@ Bits8 =
 
 -- R_X86_64_NONE stores nothing, and a type outside the table is not applied
 abbrev pub OtherTypes : Type 0
-OtherTypes = Stores 0 1 (pos 1) 1 [] × (value 9 0 0 (pos 0) 0 ≡ Err Unsupported)
+OtherTypes = Stores 0 1 (pos 1) 1 [] × (value 3 0 0 (pos 0) 0 ≡ Err Unsupported)

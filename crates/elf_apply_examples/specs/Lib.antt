@@ -3,5 +3,6 @@ pub mod ExamplesApplyCost
 pub mod ExamplesApplyOrder
 pub mod ExamplesLayouts
 pub mod ExamplesPlaces
+pub mod ExamplesTables
 pub mod ExamplesValues
 pub mod ListedRelocations

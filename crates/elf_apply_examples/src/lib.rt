@@ -9,4 +9,5 @@ mod apply_rows;
 mod layout_rows;
 mod listed_relocations;
 mod place_rows;
+mod table_rows;
 mod value_rows;

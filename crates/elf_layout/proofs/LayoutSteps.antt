@@ -1,5 +1,5 @@
 -- The items of a layout, one after another.
-use Rattle.std.proofs.Common.{◌≡◌, ℕ, suc, ◌+◌, ◌<◌, ◌≤◌, ◌==◌, ◌≢◌, Bool, MatchBool, is_some, true, false, List, [], ◌∷◌, length, drop, get_or, None, Some, refl, sym, ap, ◌∙◌, arith, inl, inr, add-one, drop-cons, eq-eqb}
+use Rattle.std.proofs.Common.{◌≡◌, ℕ, suc, ◌+◌, ◌<◌, ◌≤◌, ◌==◌, ◌≢◌, Bool, MatchBool, is_some, true, false, List, [], ◌∷◌, ◌++◌, length, drop, get_or, None, Some, refl, sym, ap, ◌∙◌, arith, inl, inr, add-one, drop-cons, eq-eqb}
 use Rattle.std.proofs.lemmas.List.{drop_all}
 use Rattle.std.proofs.lemmas.List.Elements.{All-cons}
 use Rattle.std.proofs.lemmas.List.Sums.{sum_by-cons, sum_by-append}
@@ -57,6 +57,12 @@ pub cost_step : (i : ℕ) (items : List (List ℕ × ℕ)) (item : List ℕ × �
 cost_step i items item name below is named = ap items_cost (drop-at items i item item below is) ∙ (sum_by-cons (λ (x : List ℕ × ℕ). pad64 (length x.0 + 1)) item (drop (i + 1) items) ∙ ap (λ n. pad64 (length n + 1) + items_cost (drop (i + 1) items)) (sym named))
 
 -- what the names of a layout cost
-pub names_cost : (layout : Layout) → layout_names_cost layout ≡ items_cost layout.definitions + items_cost layout.linkage
+pub names_cost :
+    (layout : Layout) → layout_names_cost layout
+    ≡ items_cost layout.definitions + (items_cost layout.linkage + (items_cost layout.table + items_cost layout.thread))
 unfolding layout_names_cost
-names_cost layout = sum_by-append (λ (x : List ℕ × ℕ). pad64 (length x.0 + 1)) layout.definitions layout.linkage
+names_cost layout =
+    let cost : List ℕ × ℕ → ℕ = λ (x : List ℕ × ℕ). pad64 (length x.0 + 1) in
+    sum_by-append cost layout.definitions (layout.linkage ++ (layout.table ++ layout.thread))
+    ∙ ap (λ n. items_cost layout.definitions + n) (sum_by-append cost layout.linkage (layout.table ++ layout.thread))
+    ∙ ap (λ n. items_cost layout.definitions + (items_cost layout.linkage + n)) (sum_by-append cost layout.table layout.thread)

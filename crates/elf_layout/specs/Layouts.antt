@@ -3,7 +3,7 @@ use Rattle.std.specs.Prelude.{ℕ, ◌≡◌, ◌≢◌, ◌+◌, ◌≤◌, ◌
 use Rattle.elf_model.specs.Names.{pad64}
 use Rattle.elf_model.specs.Placing.{Layout}
 use Rattle.elf_layout.specs.declared.layout.Item.{Item}
-use Rattle.elf_layout.specs.declared.layout.Item.TheVariants.{Section, Define, Entry}
+use Rattle.elf_layout.specs.declared.layout.Item.TheVariants.{Section, Define, Entry, Table, Thread}
 use Rattle.elf_layout.specs.declared.layout.LayoutFault.{LayoutFault}
 use Rattle.elf_layout.specs.declared.layout.LayoutFault.TheVariants.{Full, Repeat}
 
@@ -16,6 +16,8 @@ abbrev pub NamesOf : Item → (List ℕ → Type 0) → Type 0
 NamesOf (Section index address) P = Unit {0}
 NamesOf (Define name address) P = P name.now
 NamesOf (Entry name address) P = P name.now
+NamesOf (Table name address) P = P name.now
+NamesOf (Thread name address) P = P name.now
 
 -- one of some items has this index, or name
 abbrev pub HasKey : {K : Type 0} → List (K × ℕ) → K → Type 0
@@ -34,11 +36,20 @@ Adds most key address old new (Err Repeat) = (new ≡ old) × HasKey old key
 -- an item is put behind those of its sort, and the others stay
 abbrev pub Pushes : {X : Type 0} → Item → Layout → Layout → Result X LayoutFault → Type 0
 Pushes (Section index address) old new result =
-    Adds 64 index address old.sections new.sections result × (new.definitions ≡ old.definitions) × (new.linkage ≡ old.linkage)
+    Adds 64 index address old.sections new.sections result
+    × (new.definitions ≡ old.definitions) × (new.linkage ≡ old.linkage) × (new.table ≡ old.table) × (new.thread ≡ old.thread)
 Pushes (Define name address) old new result =
-    Adds 32 name.now address old.definitions new.definitions result × (new.sections ≡ old.sections) × (new.linkage ≡ old.linkage)
+    Adds 32 name.now address old.definitions new.definitions result
+    × (new.sections ≡ old.sections) × (new.linkage ≡ old.linkage) × (new.table ≡ old.table) × (new.thread ≡ old.thread)
 Pushes (Entry name address) old new result =
-    Adds 32 name.now address old.linkage new.linkage result × (new.sections ≡ old.sections) × (new.definitions ≡ old.definitions)
+    Adds 32 name.now address old.linkage new.linkage result
+    × (new.sections ≡ old.sections) × (new.definitions ≡ old.definitions) × (new.table ≡ old.table) × (new.thread ≡ old.thread)
+Pushes (Table name address) old new result =
+    Adds 32 name.now address old.table new.table result
+    × (new.sections ≡ old.sections) × (new.definitions ≡ old.definitions) × (new.linkage ≡ old.linkage) × (new.thread ≡ old.thread)
+Pushes (Thread name address) old new result =
+    Adds 32 name.now address old.thread new.thread result
+    × (new.sections ≡ old.sections) × (new.definitions ≡ old.definitions) × (new.linkage ≡ old.linkage) × (new.table ≡ old.table)
 
 -- what a comparison with each of some names costs
 abbrev pub items_cost : List (List ℕ × ℕ) → ℕ

@@ -1,17 +1,18 @@
-//! The addresses that are given for sections, names and procedure linkage table entries.
+//! The addresses that are given for sections, names and entries of names.
 ghost use Rattle.std.specs.Prelude.{◌≡◌, ◌≤◌, ◌<◌, ◌^◌, [], length, MatchBool};
 ghost use Rattle.elf_model.specs.ApplyCost.{layout_names_cost};
-ghost use Rattle.elf_model.specs.Placing.{address_in};
+ghost use Rattle.elf_model.specs.Placing.{address_in, has_base};
 ghost use Rattle.elf_layout.specs.Layouts.{Adds, IsName, NamesOf, Pushes, HasKey, LacksKey};
 
 use crate::named::{Named, has_name, names_cost};
 use arrayvec::ArrayVec;
+use elf_model::Base;
 use std::marker::Model;
 use thiserror::Error;
 
 /// The most sections that a layout gives addresses for.
 const SECTIONS: usize = 64;
-/// The most names that it defines, and the most procedure linkage table entries.
+/// The most names that it defines, and the most entries of each sort.
 const NAMES: usize = 32;
 
 /// What a layout gives an address for.
@@ -40,6 +41,21 @@ pub enum Item<'a> {
         /// The address of the entry.
         address: u64,
     },
+    /// A symbol's global offset table entry, by the symbol's name of 1 to 255 bytes without a NUL.
+    Table {
+        /// The symbol's name.
+        name: &'a [u8],
+        /// The address of the entry.
+        address: u64,
+    },
+    /// The global offset table entry of a symbol's offset from the thread pointer, by the symbol's
+    /// name of 1 to 255 bytes without a NUL.
+    Thread {
+        /// The symbol's name.
+        name: &'a [u8],
+        /// The address of the entry.
+        address: u64,
+    },
 }
 
 /// Why an item was not put into a layout, which is then as it was.
@@ -53,14 +69,16 @@ pub enum LayoutFault {
     Repeat,
 }
 
-/// Addresses for at most 64 sections, 32 definitions and 32 procedure linkage table entries, in the
-/// order in which they were given. It takes no memory: it is fixed arrays of some 18,000 bytes, and
-/// holds copies of the names.
+/// Addresses for at most 64 sections, 32 definitions, 32 procedure linkage table entries, 32 global
+/// offset table entries and 32 of offsets from the thread pointer, in the order in which they were
+/// given. It takes no memory: it is fixed arrays of some 36,000 bytes, and holds copies of the names.
 #[derive(Drop)]
 pub struct Layout {
     sections: ArrayVec<(u16, u64), SECTIONS>,
     definitions: ArrayVec<Named, NAMES>,
     entries: ArrayVec<Named, NAMES>,
+    table: ArrayVec<Named, NAMES>,
+    thread: ArrayVec<Named, NAMES>,
 }
 
 impl Model for Layout {
@@ -72,18 +90,28 @@ impl Model for Layout {
       sections = l.sections.items;
       definitions = l.definitions.items;
       linkage = l.entries.items;
+      table = l.table.items;
+      thread = l.thread.items;
     } };
 }
 
 impl Layout {
     /// A layout without an item.
     pub fn new() -> Layout
-        ensures { result ≡ record { sections = []; definitions = []; linkage = [] } }
+        ensures { result ≡ record {
+          sections = [];
+          definitions = [];
+          linkage = [];
+          table = [];
+          thread = [];
+        } }
     {
         Layout {
             sections: ArrayVec::new(),
             definitions: ArrayVec::new(),
             entries: ArrayVec::new(),
+            table: ArrayVec::new(),
+            thread: ArrayVec::new(),
         }
     }
 
@@ -108,20 +136,48 @@ impl Layout {
         self.entries.as_slice()
     }
 
+    /// The global offset table entries, in the order in which they were given.
+    pub fn table(&self) -> &[Named]
+        ensures { result.now ≡ self.now.table }
+    {
+        self.table.as_slice()
+    }
+
+    /// The global offset table entries of offsets from the thread pointer, in the order in which they
+    /// were given.
+    pub fn thread(&self) -> &[Named]
+        ensures { result.now ≡ self.now.thread }
+    {
+        self.thread.as_slice()
+    }
+
+    /// Whether a base may tell an address: one of an entry only where there is an item of its sort.
+    #[tactic(auto, unfolding(elf_model::specs::Placing::has_base))]
+    pub fn has_base(&self, base: Base) -> bool
+        ensures { result ≡ has_base self.now base }
+    {
+        match base {
+            Base::Symbol | Base::Linkage => true,
+            Base::Table => !self.table.is_empty(),
+            Base::Thread => !self.thread.is_empty(),
+        }
+    }
+
     /// How many bytes a comparison with each of the names may ask for: for each as many as it has
     /// with its NUL, in whole pieces of 64.
     pub fn names_cost(&self) -> u128
         ensures value { result ≡ layout_names_cost self.now }
-        ensures few { result < 2 ^ 74 }
+        ensures few { result < 2 ^ 75 }
     {
-        names_cost(self.definitions()) + names_cost(self.linkage())
+        let names = names_cost(self.definitions()) + names_cost(self.linkage());
+        names + names_cost(self.table()) + names_cost(self.thread())
     }
 
     /// Puts an item behind those of its sort. A name is copied; it has 1 to 255 bytes, none a NUL.
     ///
     /// # Errors
     /// `Repeat` where there is an item of this sort with this index or name; else `Full` where
-    /// there are 64 sections, 32 definitions or 32 entries. Either leaves the layout as it was.
+    /// there are 64 sections, 32 definitions or 32 entries of this sort. Either leaves the layout as it was.
     pub fn push(&mut self, item: Item<'_>) -> Result<(), LayoutFault>
         requires { NamesOf item IsName }
         ensures { Pushes item.entry self.old self.new result }
@@ -130,6 +186,8 @@ impl Layout {
             Item::Section { index, address } => push_section(&mut self.sections, index, address),
             Item::Define { name, address } => push_named(&mut self.definitions, name, address),
             Item::Entry { name, address } => push_named(&mut self.entries, name, address),
+            Item::Table { name, address } => push_named(&mut self.table, name, address),
+            Item::Thread { name, address } => push_named(&mut self.thread, name, address),
         }
     }
 }

@@ -1,5 +1,5 @@
-//! Layouts: the addresses that are given for sections, names and procedure linkage table entries. No
-//! call takes memory.
+//! Layouts: the addresses that are given for sections, names and their entries in the procedure linkage
+//! table and in the global offset table. No call takes memory.
 #![tactic(auto)]
 
 mod layout;

@@ -3,14 +3,14 @@ use Rattle.std.proofs.Common.{◌≡◌, ℕ, zero, suc, ◌+◌, ◌/◌, ◌�
 use Rattle.std.proofs.lemmas.Bool.{cases_Bool, ltb-false}
 use Rattle.std.proofs.lemmas.List.Elements.{All-nil, All-cons, All-append, All-head, All-tail}
 use Rattle.elf_model.specs.Bytes.{little}
-use Rattle.elf_model.specs.Apply.{Patch, Change, Put, Fails, Target, named_value, symbol_checks, value_checks, terms_of, entry_checks, change_of, entry_changes, applies_to, relocation_entries, section_headers, section_changes, changes_of, and_patches, patches_of}
+use Rattle.elf_model.specs.Apply.{Patch, Change, Put, Fails, Target, named_value, symbol_checks, value_checks, terms_of, entry_checks, change_of, where_based, entry_changes, applies_to, relocation_entries, section_headers, section_changes, changes_of, and_patches, patches_of}
 use Rattle.elf_model.specs.ApplyLaws.{IsInside, AllInside, EntryStoresValue, ChangesInside}
 use Rattle.elf_model.specs.Checks.{refuse, first_refusal}
-use Rattle.elf_model.specs.Placing.{symbol_value, linkage_value, place_value}
+use Rattle.elf_model.specs.Placing.{has_base, place_value}
 use Rattle.elf_model.specs.Records.{r_offset, r_type}
 use Rattle.elf_model.specs.Numbers.{R_X86_64_NONE}
 use Rattle.elf_model.specs.Tables.{relocation_table_checks}
-use Rattle.elf_model.specs.Values.{Terms, takes_linkage, takes_place, kind_of, overflows, value_of, low_bytes, patch_of, value}
+use Rattle.elf_model.specs.Values.{Terms, takes_place, kind_of, overflows, value_of, low_bytes, patch_of}
 use Rattle.elf_model.specs.declared.relocation_types.RelocationType.{RelocationType}
 use Rattle.elf_model.specs.declared.causes.Cause.TheVariants.{Overflow, PlaceOutside}
 use Rattle.elf_model.specs.declared.causes.Refusal.{Refusal}
@@ -66,7 +66,7 @@ module _ (target : Target) where
   checked_inside at rela type (Some refusal) e = rw (e, change_of) tt
   checked_inside at rela type None e =
       let fits = room at rela type e in
-      let long = length-little type.width (value_of type (terms_of target at rela)) in
+      let long = length-little type.width (value_of type (terms_of target at rela type)) in
       rw (e, change_of) (omega arith)
 
   change_inside : (at rela : ℕ) (type : Option RelocationType) → IsInsideChange target.size (change_of target at rela type)
@@ -103,16 +103,15 @@ module _ (target : Target) where
 -- What an entry stores.
 module _ (target : Target) (at rela : ℕ) where
   -- the last check of an entry
-  in_range : (type : RelocationType) → first_refusal (entry_checks target at rela type) ≡ None → overflows type (terms_of target at rela) ≡ false
+  in_range : (type : RelocationType) → first_refusal (entry_checks target at rela type) ≡ None → overflows type (terms_of target at rela type) ≡ false
   unfolding entry_checks
   in_range type e =
       let before = refuse (nat_lt target.size (r_offset target.file rela + type.width)) rela PlaceOutside
       ∷ symbol_checks target.file at rela
-      ++ value_checks (takes_linkage type.formula) (named_value linkage_value target at rela)
-      ++ value_checks (not (takes_linkage type.formula)) (named_value symbol_value target at rela)
+      ++ value_checks true (named_value type.base target at rela)
       ++ value_checks (takes_place type.formula) (place_value target.file target.layout target.section rela) in
-      let last = first_refusal-back before (refuse (overflows type (terms_of target at rela)) rela Overflow ∷ []) e in
-      elim (cases_Bool (overflows type (terms_of target at rela))) [
+      let last = first_refusal-back before (refuse (overflows type (terms_of target at rela type)) rela Overflow ∷ []) e in
+      elim (cases_Bool (overflows type (terms_of target at rela type))) [
         | inl over ↦ let f = rw over at last in absurd (cc)
         | inr fits ↦ fits
       ]
@@ -120,29 +119,44 @@ module _ (target : Target) (at rela : ℕ) where
   stored :
       (type : RelocationType) (patch : Patch) (refusal : Option Refusal) → first_refusal (entry_checks target at rela type) ≡ refusal
       → change_of target at rela (Some type) ≡ Put patch
-      → (patch.at ≡ r_offset target.file rela) × (patch_of type (terms_of target at rela) ≡ Ok patch.bytes)
+      → (patch.at ≡ r_offset target.file rela) × (patch_of type (terms_of target at rela type) ≡ Ok patch.bytes)
   unfolding change_of patch_of
   stored type patch (Some refusal) e is =
       let here : change_of target at rela (Some type) ≡ Fails refusal = rw (e, change_of) refl in absurd (cc)
   stored type patch None e is =
-      let put : Patch = record { at = r_offset target.file rela; bytes = low_bytes type (terms_of target at rela) } in
+      let put : Patch = record { at = r_offset target.file rela; bytes = low_bytes type (terms_of target at rela type) } in
       let here : change_of target at rela (Some type) ≡ Put put = rw (e, change_of) refl in
       let same : put ≡ patch = cc in
       let fits = in_range type e in
-      let value_is : patch_of type (terms_of target at rela) ≡ Ok (low_bytes type (terms_of target at rela)) = rw (fits, patch_of) refl in
+      let value_is : patch_of type (terms_of target at rela type) ≡ Ok (low_bytes type (terms_of target at rela type)) = rw (fits, patch_of) refl in
       (ap (λ (p : Patch). p.at) (sym same), value_is ∙ ap (λ (p : Patch). Ok p.bytes) same)
+
+  where_based-some : (type : RelocationType) → has_base target.layout type.base ≡ true → where_based target.layout (Some type) ≡ Some type
+  unfolding where_based
+  where_based-some type based = rw (based, where_based) refl
+
+  where_based-none : (type : RelocationType) → has_base target.layout type.base ≡ false → where_based target.layout (Some type) ≡ None
+  unfolding where_based
+  where_based-none type none = rw (none, where_based) refl
 
   value_stored :
       (type : Option RelocationType) (patch : Patch) → kind_of (r_type target.file rela) ≡ type
-      → (r_type target.file rela == R_X86_64_NONE) ≡ false → change_of target at rela type ≡ Put patch
-      → (patch.at ≡ r_offset target.file rela)
-      × (value (r_type target.file rela) (terms_of target at rela).symbol (terms_of target at rela).linkage
-      (terms_of target at rela).addend (terms_of target at rela).place ≡ Ok patch.bytes)
-  unfolding change_of value
-  value_stored None patch k other is = absurd (cc)
-  value_stored (Some type) patch k other is =
-      let s = stored type patch _ refl is in
-      (s.0, rw (other, value) (rw (k, value) s.1))
+      → change_of target at rela (where_based target.layout type) ≡ Put patch
+      → (type : RelocationType)
+      × (kind_of (r_type target.file rela) ≡ Some type)
+      × (patch.at ≡ r_offset target.file rela)
+      × (patch_of type (terms_of target at rela type) ≡ Ok patch.bytes)
+  unfolding change_of where_based
+  value_stored None patch k is = absurd (cc)
+  value_stored (Some type) patch k is =
+      elim (cases_Bool (has_base target.layout type.base)) [
+        | inl based ↦
+            let here : change_of target at rela (Some type) ≡ Put patch = ap (change_of target at rela) (sym (where_based-some type based)) ∙ is in
+            let s = stored type patch _ refl here in
+            (type, k, s.0, s.1)
+        | inr none ↦
+            let here : change_of target at rela None ≡ Put patch = ap (change_of target at rela) (sym (where_based-none type none)) ∙ is in absurd (cc)
+      ]
 
 pub entry_stores_value : EntryStoresValue
 unfolding entry_changes
@@ -150,8 +164,8 @@ entry_stores_value target at rela patch e =
     elim (cases_Bool (r_type target.file rela == R_X86_64_NONE)) [
       | inl none ↦ let f = rw (none, entry_changes) at e in absurd (cc)
       | inr some ↦
-          let f : change_of target at rela (kind_of (r_type target.file rela)) ∷ [] ≡ Put patch ∷ [] = rw (some, entry_changes) at e in
-          value_stored target at rela _ patch refl some (cc)
+          let f : change_of target at rela (where_based target.layout (kind_of (r_type target.file rela))) ∷ [] ≡ Put patch ∷ [] = rw (some, entry_changes) at e in
+          value_stored target at rela _ patch refl (cc)
     ]
 
 -- where no change is a fault, the patches are what the changes store

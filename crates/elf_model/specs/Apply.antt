@@ -4,10 +4,11 @@ use Rattle.std.specs.Prelude.{ℕ, zero, suc, ◌+◌, ◌==◌, ◌&&◌, ◌||
 use Rattle.elf_model.specs.Checks.{Check, refuse, first_refusal, header_checks, load_checks, range_checks}
 use Rattle.elf_model.specs.Hash.{symbol_at}
 use Rattle.elf_model.specs.Numbers.{ET_REL, EM_X86_64, SHT_NULL, SHT_NOBITS, SHT_RELA, R_X86_64_NONE}
-use Rattle.elf_model.specs.Placing.{Layout, symbol_value, linkage_value, place_value}
+use Rattle.elf_model.specs.Placing.{Layout, base_value, unnamed_value, has_base, place_value}
 use Rattle.elf_model.specs.Records.{e_type, e_machine, e_shnum, sh_type, sh_info, r_offset, r_sym, r_type, r_addend, twos_complement, section_at}
 use Rattle.elf_model.specs.Tables.{RELA_SIZE, section_bytes, linked_at, strings_of, entry_count, entry_at, relocation_table_checks, symbol_checks_of}
-use Rattle.elf_model.specs.Values.{Terms, takes_linkage, takes_place, kind_of, overflows, low_bytes}
+use Rattle.elf_model.specs.Values.{Terms, takes_place, kind_of, overflows, low_bytes}
+use Rattle.elf_model.specs.declared.relocation_types.Base.{Base}
 use Rattle.elf_model.specs.declared.relocation_types.RelocationType.{RelocationType}
 use Rattle.elf_model.specs.declared.causes.Cause.TheVariants.{NotRel, BadLink, Unsupported, Overflow, PlaceOutside}
 use Rattle.elf_model.specs.declared.causes.Refusal.{Refusal}
@@ -27,14 +28,14 @@ pub record Target : Type 0 where
   pub size : ℕ
   pub layout : Layout
 
--- S or L, by its definition, of the symbol that an entry names; of symbol 0 both are 0 (gABI 4, Relocation)
-unfoldable pub named_value : (List ℕ → List ℕ → Layout → ℕ → ℕ → Result ℕ Refusal) → Target → ℕ → ℕ → Result ℕ Refusal
-named_value value target at rela =
+-- B, by its base, of the symbol that an entry names
+unfoldable pub named_value : Base → Target → ℕ → ℕ → Result ℕ Refusal
+named_value base target at rela =
     let file = target.file in
     let symbols = linked_at file at in
     elim (r_sym file rela == 0) [
-      | true ↦ Ok 0
-      | false ↦ value file (strings_of file symbols) target.layout rela (symbol_at file symbols (r_sym file rela))
+      | true ↦ unnamed_value base rela
+      | false ↦ base_value base file (strings_of file symbols) target.layout rela (symbol_at file symbols (r_sym file rela))
     ]
 
 -- the symbol that an entry names is one of the linked table's, or symbol 0
@@ -51,27 +52,25 @@ abbrev pub value_or_zero : Result ℕ Refusal → ℕ
 value_or_zero (Ok value) = value
 value_or_zero (Err refusal) = 0
 
--- S, L, A and P of a relocation entry
-abbrev pub terms_of : Target → ℕ → ℕ → Terms
-terms_of target at rela =
+-- B, A and P of a relocation entry
+abbrev pub terms_of : Target → ℕ → ℕ → RelocationType → Terms
+terms_of target at rela type =
     record {
-      symbol = value_or_zero (named_value symbol_value target at rela);
-      linkage = value_or_zero (named_value linkage_value target at rela);
+      base = value_or_zero (named_value type.base target at rela);
       addend = twos_complement (r_addend target.file rela);
       place = value_or_zero (place_value target.file target.layout target.section rela);
     }
 
 -- The checks of a relocation entry by its type, in their order; the first that fails refuses the entry. Its bytes lie in
--- the section; its symbol is one; L, S and P are there, each where the formula takes it; its value is in the type's range.
--- They refuse at the entry, but for a name that cannot be compared: that is at its symbol.
+-- the section; its symbol is one; B is there, and P where the formula takes it; its value is in the type's range. They
+-- refuse at the entry, but for a name that cannot be compared: that is at its symbol.
 unfoldable pub entry_checks : Target → ℕ → ℕ → RelocationType → List Check
 entry_checks target at rela type =
     refuse (nat_lt target.size (r_offset target.file rela + type.width)) rela PlaceOutside
     ∷ symbol_checks target.file at rela
-    ++ value_checks (takes_linkage type.formula) (named_value linkage_value target at rela)
-    ++ value_checks (not (takes_linkage type.formula)) (named_value symbol_value target at rela)
+    ++ value_checks true (named_value type.base target at rela)
     ++ value_checks (takes_place type.formula) (place_value target.file target.layout target.section rela)
-    ++ refuse (overflows type (terms_of target at rela)) rela Overflow
+    ++ refuse (overflows type (terms_of target at rela type)) rela Overflow
     ∷ []
 
 -- bytes that are stored at an offset of a section
@@ -90,15 +89,20 @@ change_of target at rela None = Fails (record { at = rela; cause = Unsupported }
 change_of target at rela (Some type) =
     elim (first_refusal (entry_checks target at rela type)) [
       | Some refusal ↦ Fails refusal
-      | None ↦ Put (record { at = r_offset target.file rela; bytes = low_bytes type (terms_of target at rela) })
+      | None ↦ Put (record { at = r_offset target.file rela; bytes = low_bytes type (terms_of target at rela type) })
     ]
+
+-- a relocation type, where a layout has addresses that its base may tell
+unfoldable pub where_based : Layout → Option RelocationType → Option RelocationType
+where_based layout None = None
+where_based layout (Some type) = elim (has_base layout type.base) [ true ↦ Some type | false ↦ None ]
 
 -- what an entry does, if anything: R_X86_64_NONE does nothing, and nothing of it is checked
 unfoldable pub entry_changes : Target → ℕ → ℕ → List Change
 entry_changes target at rela =
     elim (r_type target.file rela == R_X86_64_NONE) [
       | true ↦ []
-      | false ↦ change_of target at rela (kind_of (r_type target.file rela)) ∷ []
+      | false ↦ change_of target at rela (where_based target.layout (kind_of (r_type target.file rela))) ∷ []
     ]
 
 -- the places of so many entries of a table, from an index on

@@ -44,7 +44,7 @@ offsets_never_fall file section = never_fall_from 0 (offsets_at file (entries_fo
 
 -- what the names of a layout may cost, each once
 unfoldable pub layout_names_cost : Layout → ℕ
-layout_names_cost layout = sum_by (λ item. pad64 (length item.0 + 1)) (layout.definitions ++ layout.linkage)
+layout_names_cost layout = sum_by (λ item. pad64 (length item.0 + 1)) (layout.definitions ++ (layout.linkage ++ (layout.table ++ layout.thread)))
 
 -- what one pass through the entries for a section may cost: for each the entry, a symbol and the layout's names
 abbrev pub pass_cost : List ℕ → ℕ → Layout → ℕ

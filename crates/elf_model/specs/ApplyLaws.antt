@@ -1,10 +1,11 @@
 -- Laws of patches: what an entry stores, what a part of a patched section holds, and which parts later patches leave alone.
-use Rattle.std.specs.Prelude.{ℕ, ◌+◌, ◌-◌, ◌≤◌, ◌≡◌, ◌&&◌, nat_lt, nat_le, if◌then◌else◌, min, List, [], ◌∷◌, length, get_or, take, drop, map, All, Ok}
+use Rattle.std.specs.Prelude.{ℕ, ◌+◌, ◌-◌, ◌≤◌, ◌≡◌, ◌&&◌, nat_lt, nat_le, if◌then◌else◌, min, List, [], ◌∷◌, length, get_or, take, drop, map, All, Some, Ok}
 use Rattle.elf_model.specs.Apply.{Patch, Put, Target, terms_of, entry_changes, changes_of, patches_of, patched, held_size, applied}
 use Rattle.elf_model.specs.Bytes.{slice}
 use Rattle.elf_model.specs.Placing.{Layout}
 use Rattle.elf_model.specs.Records.{r_offset, r_type}
-use Rattle.elf_model.specs.Values.{value}
+use Rattle.elf_model.specs.Values.{kind_of, patch_of}
+use Rattle.elf_model.specs.declared.relocation_types.RelocationType.{RelocationType}
 
 -- a patch lies within so many bytes
 abbrev pub IsInside : ℕ → Patch → Type 0
@@ -64,14 +65,15 @@ KeptAbove =
     → AllInside (length base) patches → All (λ patch. patch.at + length patch.bytes ≤ high) patches
     → drop high (patched patches base) ≡ drop high base
 
--- an entry that stores bytes stores the value of its S, L, A and P at its offset
+-- an entry that stores bytes stores the value of its type's B, A and P at its offset
 abbrev pub EntryStoresValue : Type 0
 EntryStoresValue =
     (target : Target) (at rela : ℕ) (patch : Patch)
     → entry_changes target at rela ≡ Put patch ∷ []
-    → let terms = terms_of target at rela in
-    (patch.at ≡ r_offset target.file rela)
-    × (value (r_type target.file rela) terms.symbol terms.linkage terms.addend terms.place ≡ Ok patch.bytes)
+    → (type : RelocationType)
+    × (kind_of (r_type target.file rela) ≡ Some type)
+    × (patch.at ≡ r_offset target.file rela)
+    × (patch_of type (terms_of target at rela type) ≡ Ok patch.bytes)
 
 -- what the relocation entries store lies in the section
 abbrev pub ChangesInside : Type 0

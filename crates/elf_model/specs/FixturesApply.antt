@@ -82,29 +82,47 @@ linked_to_zero = with_bytes 0x98 (section_header 2 0 0x60 0x30 4 1 0 24) (with_e
 
 -- no section, no definition and no procedure linkage table entry has an address
 unfoldable pub empty_layout : Layout
-empty_layout = record { sections = []; definitions = []; linkage = [] }
+empty_layout = record { sections = []; definitions = []; linkage = []; table = []; thread = [] }
 
 -- section 1 at 0x1000
 unfoldable pub placed_layout : Layout
-placed_layout = record { sections = (1, 0x1000) ∷ []; definitions = []; linkage = [] }
+placed_layout = record { sections = (1, 0x1000) ∷ []; definitions = []; linkage = []; table = []; thread = [] }
 
 -- section 1 at 0x1000, and a definition of `f`
 unfoldable pub defined_layout : Layout
-defined_layout = record { sections = (1, 0x1000) ∷ []; definitions = (codes "f", 0x3000) ∷ []; linkage = [] }
+defined_layout = record { sections = (1, 0x1000) ∷ []; definitions = (codes "f", 0x3000) ∷ []; linkage = []; table = []; thread = [] }
 
 -- section 1 at 0x1000, and a procedure linkage table entry of `f`
 unfoldable pub entry_layout : Layout
-entry_layout = record { sections = (1, 0x1000) ∷ []; definitions = []; linkage = (codes "f", 0x2000) ∷ [] }
+entry_layout = record { sections = (1, 0x1000) ∷ []; definitions = []; linkage = (codes "f", 0x2000) ∷ []; table = []; thread = [] }
 
 -- a procedure linkage table entry of `f` alone
 unfoldable pub unplaced_layout : Layout
-unplaced_layout = record { sections = []; definitions = []; linkage = (codes "f", 0x2000) ∷ [] }
+unplaced_layout = record { sections = []; definitions = []; linkage = (codes "f", 0x2000) ∷ []; table = []; thread = [] }
 
 -- sections 1 and 0xff05 at 0x1000
 unfoldable pub special_layout : Layout
-special_layout = record { sections = (1, 0x1000) ∷ (0xff05, 0x1000) ∷ []; definitions = []; linkage = [] }
+special_layout = record { sections = (1, 0x1000) ∷ (0xff05, 0x1000) ∷ []; definitions = []; linkage = []; table = []; thread = [] }
 
 -- a definition and a procedure linkage table entry of `f`
 unfoldable pub full_layout : Layout
 full_layout =
-    record { sections = (1, 0x1000) ∷ []; definitions = (codes "f", 0x3000) ∷ []; linkage = (codes "f", 0x2000) ∷ [] }
+    record {
+      sections = (1, 0x1000) ∷ [];
+      definitions = (codes "f", 0x3000) ∷ [];
+      linkage = (codes "f", 0x2000) ∷ [];
+      table = [];
+      thread = [];
+    }
+
+-- section 1 at 0x1000, and two global offset table entries of `f`: that of its address, and that of its offset from the
+-- thread pointer
+unfoldable pub table_layout : Layout
+table_layout =
+    record {
+      sections = (1, 0x1000) ∷ [];
+      definitions = [];
+      linkage = [];
+      table = (codes "f", 0x4000) ∷ [];
+      thread = (codes "f", 0x5000) ∷ [];
+    }

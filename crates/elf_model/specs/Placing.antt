@@ -1,19 +1,23 @@
--- A layout: the addresses that are given for sections, names and procedure linkage table entries; and what S, L and P
--- are in it (psABI 4.4, Relocation). A relocation entry stands at an offset `rela` of the file, and its symbol at another.
-use Rattle.std.specs.Prelude.{ℕ, ◌+◌, ◌%◌, ◌^◌, ◌==◌, ◌&&◌, ◌||◌, nat_lt, if◌then◌else◌, true, false, List, [], ◌∷◌, Option, None, Some, Result, Ok, Err}
+-- A layout: the addresses that are given for sections, names and the entries of names in the procedure linkage table and in
+-- the global offset table; and what B and P are in it (psABI 4.4, Relocation). A relocation entry stands at an offset `rela` of the file, and its symbol at another.
+use Rattle.std.specs.Prelude.{ℕ, ◌+◌, ◌%◌, ◌^◌, ◌==◌, ◌&&◌, ◌||◌, nat_lt, not, if◌then◌else◌, Bool, true, false, List, [], ◌∷◌, length, Option, None, Some, Result, Ok, Err}
 use Rattle.elf_model.specs.Names.{same}
 use Rattle.elf_model.specs.Numbers.{SHN_UNDEF, SHN_LORESERVE, SHN_ABS, SHN_COMMON, STB_WEAK}
 use Rattle.elf_model.specs.Records.{st_name, st_shndx, st_value, st_bind, r_offset}
 use Rattle.elf_model.specs.declared.causes.Cause.{Cause}
-use Rattle.elf_model.specs.declared.causes.Cause.TheVariants.{Unplaced, Undefined}
+use Rattle.elf_model.specs.declared.causes.Cause.TheVariants.{Unplaced, Undefined, Unsupported}
 use Rattle.elf_model.specs.declared.causes.Refusal.{Refusal}
+use Rattle.elf_model.specs.declared.relocation_types.Base.{Base}
+use Rattle.elf_model.specs.declared.relocation_types.Base.TheVariants.{Symbol, Linkage, Table, Thread}
 
--- sections by their index, definitions and procedure linkage table entries by their name, each with its address,
--- in the order in which they were given
+-- sections by their index; by their name definitions, procedure linkage table entries, global offset table entries, and
+-- those of offsets from the thread pointer; each with its address, in the order in which they were given
 pub record Layout : Type 0 where
   pub sections : List (ℕ × ℕ)
   pub definitions : List (List ℕ × ℕ)
   pub linkage : List (List ℕ × ℕ)
+  pub table : List (List ℕ × ℕ)
+  pub thread : List (List ℕ × ℕ)
 
 -- the address of a section
 unfoldable pub address_in : List (ℕ × ℕ) → ℕ → Option ℕ
@@ -67,6 +71,33 @@ symbol_value file strings layout rela symbol =
 unfoldable pub linkage_value : List ℕ → List ℕ → Layout → ℕ → ℕ → Result ℕ Refusal
 linkage_value file strings layout rela symbol =
     named_or symbol (address_named strings (st_name file symbol) layout.linkage) (symbol_value file strings layout rela symbol)
+
+-- the address of a symbol's entry, where it is among some items; else the entry is refused as one of a type that is not
+-- applied
+unfoldable pub entry_value : List (List ℕ × ℕ) → List ℕ → List ℕ → ℕ → ℕ → Result ℕ Refusal
+entry_value items file strings rela symbol =
+    named_or symbol (address_named strings (st_name file symbol) items) (refusal_at rela Unsupported)
+
+-- B, the address of a symbol that a base tells
+unfoldable pub base_value : Base → List ℕ → List ℕ → Layout → ℕ → ℕ → Result ℕ Refusal
+base_value Symbol file strings layout rela symbol = symbol_value file strings layout rela symbol
+base_value Linkage file strings layout rela symbol = linkage_value file strings layout rela symbol
+base_value Table file strings layout rela symbol = entry_value layout.table file strings rela symbol
+base_value Thread file strings layout rela symbol = entry_value layout.thread file strings rela symbol
+
+-- B of symbol 0: S and L are 0 (gABI 4, Relocation), and it has no entry
+unfoldable pub unnamed_value : Base → ℕ → Result ℕ Refusal
+unnamed_value Symbol rela = Ok 0
+unnamed_value Linkage rela = Ok 0
+unnamed_value Table rela = refusal_at rela Unsupported
+unnamed_value Thread rela = refusal_at rela Unsupported
+
+-- a layout has addresses that a base may tell: S and L have a value without any
+unfoldable pub has_base : Layout → Base → Bool
+has_base layout Symbol = true
+has_base layout Linkage = true
+has_base layout Table = not (length layout.table == 0)
+has_base layout Thread = not (length layout.thread == 0)
 
 -- P, the place of the bytes that are relocated: their offset from their section's address
 unfoldable pub place_value : List ℕ → Layout → ℕ → ℕ → Result ℕ Refusal

@@ -1,40 +1,34 @@
--- Relocation values for x86-64 (psABI 4.4, Relocation). S is the value of the symbol, L the address of its procedure
--- linkage table entry, A the addend, P the place of the bytes that are relocated.
+-- Relocation values for x86-64 (psABI 4.4, Relocation). B is the address of the symbol that its type's base tells: S, its
+-- value; L, that of its procedure linkage table entry; that of its global offset table entry. A is the addend, P the place
+-- of the bytes that are relocated.
 use Rattle.std.specs.Prelude.{ℕ, ◌-◌, ◌*◌, ◌%◌, ◌^◌, ◌==◌, ◌||◌, nat_lt, not, Bool, true, false, ℤ, pos, negsuc, ◌+ℤ◌, ◌-ℤ◌, List, [], ◌∷◌, Option, None, Some, Result, Ok, Err}
 use Rattle.elf_model.specs.Bytes.{little}
 use Rattle.elf_model.specs.Numbers.{R_X86_64_NONE}
 use Rattle.elf_model.specs.declared.causes.Cause.{Cause}
 use Rattle.elf_model.specs.declared.causes.Cause.TheVariants.{Unsupported, Overflow}
+use Rattle.elf_model.specs.declared.relocation_types.Base.{Base}
+use Rattle.elf_model.specs.declared.relocation_types.Base.TheVariants.{Symbol, Linkage, Table, Thread}
 use Rattle.elf_model.specs.declared.relocation_types.Formula.{Formula}
-use Rattle.elf_model.specs.declared.relocation_types.Formula.TheVariants.{Absolute, Relative, LinkageRelative}
+use Rattle.elf_model.specs.declared.relocation_types.Formula.TheVariants.{Absolute, Relative}
 use Rattle.elf_model.specs.declared.relocation_types.Range.{Range}
 use Rattle.elf_model.specs.declared.relocation_types.Range.TheVariants.{Any, Unsigned, Signed, Either}
 use Rattle.elf_model.specs.declared.relocation_types.RelocationType.{RelocationType}
-
--- the formula takes L in place of S
-abbrev pub takes_linkage : Formula → Bool
-takes_linkage Absolute = false
-takes_linkage Relative = false
-takes_linkage LinkageRelative = true
 
 -- the formula takes P
 abbrev pub takes_place : Formula → Bool
 takes_place Absolute = false
 takes_place Relative = true
-takes_place LinkageRelative = true
 
--- the terms of a formula: S, L, A and P
+-- the terms of a formula: B, A and P
 pub record Terms : Type 0 where
-  pub symbol : ℕ
-  pub linkage : ℕ
+  pub base : ℕ
   pub addend : ℤ
   pub place : ℕ
 
 -- a formula's value, as a whole number
 unfoldable pub whole : Formula → Terms → ℤ
-whole Absolute terms = pos terms.symbol +ℤ terms.addend
-whole Relative terms = (pos terms.symbol +ℤ terms.addend) -ℤ pos terms.place
-whole LinkageRelative terms = (pos terms.linkage +ℤ terms.addend) -ℤ pos terms.place
+whole Absolute terms = pos terms.base +ℤ terms.addend
+whole Relative terms = (pos terms.base +ℤ terms.addend) -ℤ pos terms.place
 
 -- a whole number modulo 2^64
 unfoldable pub modulo_2_64 : ℤ → ℕ
@@ -56,21 +50,26 @@ fits Unsigned width value = is_unsigned (8 * width) value
 fits Signed width value = is_signed (8 * width) value
 fits Either width value = is_unsigned (8 * width) value || is_signed (8 * width) value
 
--- a relocation type by its width, formula and range
-abbrev pub kind : ℕ → Formula → Range → RelocationType
-kind width formula range = record { width = width; formula = formula; range = range }
+-- a relocation type by its width, base, formula and range
+abbrev pub kind : ℕ → Base → Formula → Range → RelocationType
+kind width base formula range = record { width = width; base = base; formula = formula; range = range }
 
--- the relocation types that store a value: R_X86_64_64, PC32, PLT32, 32, 32S, 16, 8, PC64
+-- the relocation types that store a value: R_X86_64_64, PC32, PLT32, GOTPCREL, 32, 32S, 16, 8, GOTTPOFF, PC64, GOTPCRELX,
+-- REX_GOTPCRELX
 unfoldable pub kinds : List (ℕ × RelocationType)
 kinds =
-    (1, kind 8 Absolute Any)
-    ∷ (2, kind 4 Relative Signed)
-    ∷ (4, kind 4 LinkageRelative Signed)
-    ∷ (10, kind 4 Absolute Unsigned)
-    ∷ (11, kind 4 Absolute Signed)
-    ∷ (12, kind 2 Absolute Either)
-    ∷ (14, kind 1 Absolute Either)
-    ∷ (24, kind 8 Relative Any)
+    (1, kind 8 Symbol Absolute Any)
+    ∷ (2, kind 4 Symbol Relative Signed)
+    ∷ (4, kind 4 Linkage Relative Signed)
+    ∷ (9, kind 4 Table Relative Signed)
+    ∷ (10, kind 4 Symbol Absolute Unsigned)
+    ∷ (11, kind 4 Symbol Absolute Signed)
+    ∷ (12, kind 2 Symbol Absolute Either)
+    ∷ (14, kind 1 Symbol Absolute Either)
+    ∷ (22, kind 4 Thread Relative Signed)
+    ∷ (24, kind 8 Symbol Relative Any)
+    ∷ (41, kind 4 Table Relative Signed)
+    ∷ (42, kind 4 Table Relative Signed)
     ∷ []
 
 -- the relocation type of a number, in a table
@@ -98,13 +97,21 @@ low_bytes type terms = little type.width (value_of type terms)
 unfoldable pub patch_of : RelocationType → Terms → Result (List ℕ) Cause
 patch_of type terms = elim (overflows type terms) [ true ↦ Err Overflow | false ↦ Ok (low_bytes type terms) ]
 
--- the bytes that a relocation stores: its type's number, S, L, A and P
+-- L where a base tells it, else the other address of the symbol: S, or that of its entry
+abbrev pub address_by : Base → ℕ → ℕ → ℕ
+address_by Symbol s l = s
+address_by Linkage s l = l
+address_by Table s l = s
+address_by Thread s l = s
+
+-- the bytes that a relocation stores: its type's number, S or the address of the symbol's global offset table entry where
+-- the type's base tells that, L, A and P
 unfoldable pub value : ℕ → ℕ → ℕ → ℤ → ℕ → Result (List ℕ) Cause
 value n s l a p =
     elim (n == R_X86_64_NONE) [
       | true ↦ Ok []
       | false ↦ elim (kind_of n) [
         | None ↦ Err Unsupported
-        | Some type ↦ patch_of type (record { symbol = s; linkage = l; addend = a; place = p })
+        | Some type ↦ patch_of type (record { base = address_by type.base s l; addend = a; place = p })
       ]
     ]

@@ -27,7 +27,7 @@ pub fn kept_above()
     ensures { KeptAbove }
 {}
 
-/// An entry that stores bytes stores the value of its S, L, A and P at its offset.
+/// An entry that stores bytes stores the value of its type's B, A and P at its offset.
 pub fn entry_stores_value()
     ensures { EntryStoresValue }
 {}

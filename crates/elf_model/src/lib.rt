@@ -19,5 +19,5 @@ mod style_laws;
 mod value_laws;
 
 pub use causes::{Cause, Refusal};
-pub use relocation_types::{Formula, Range, RelocationType};
+pub use relocation_types::{Base, Formula, Range, RelocationType};
 pub use states::FileState;

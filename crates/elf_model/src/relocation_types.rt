@@ -1,16 +1,26 @@
 //! What a relocation type is: how its value is calculated, and where it fits.
 
-/// How the value of a relocation type is calculated: S is the symbol's value, L the address of its
-/// procedure linkage table entry, A the addend, P the place of the bytes that are relocated (x86-64
-/// psABI, Relocation).
+/// Which address of a symbol a relocation type's formula begins with (x86-64 psABI, Relocation).
+#[derive(Clone, Copy, Debug, PartialEq, Eq)]
+pub enum Base {
+    /// S, the symbol's value.
+    Symbol,
+    /// L, the address of its procedure linkage table entry.
+    Linkage,
+    /// The address of its global offset table entry, G + GOT.
+    Table,
+    /// The address of the global offset table entry of its offset from the thread pointer.
+    Thread,
+}
+
+/// How the value of a relocation type is calculated: B is the address that its base tells, A the
+/// addend, P the place of the bytes that are relocated (x86-64 psABI, Relocation).
 #[derive(Clone, Copy, Debug, PartialEq, Eq)]
 pub enum Formula {
-    /// S + A.
+    /// B + A.
     Absolute,
-    /// S + A - P.
+    /// B + A - P.
     Relative,
-    /// L + A - P.
-    LinkageRelative,
 }
 
 /// Which values a relocation type takes, of those modulo 2^64.
@@ -31,6 +41,8 @@ pub enum Range {
 pub struct RelocationType {
     /// How many bytes it changes: 1, 2, 4 or 8.
     pub width: u32,
+    /// Which address of the symbol its formula begins with.
+    pub base: Base,
     /// How its value is calculated.
     pub formula: Formula,
     /// Which values it takes.

@@ -5,17 +5,17 @@ use Rattle.std.proofs.lemmas.Bool.{ne_eqb}
 use Rattle.std.specs.Int.{cast_signed, cast_unsigned, w64}
 use Rattle.elf_model.specs.Bytes.{little}
 use Rattle.elf_model.specs.Numbers.{R_X86_64_NONE}
-use Rattle.elf_model.specs.Values.{Terms, kind_of, fits, patch_of, value_of, value}
+use Rattle.elf_model.specs.Values.{Terms, kind_of, fits, patch_of, value_of, address_by, value}
 use Rattle.elf_model.specs.declared.causes.Cause.{Cause}
 use Rattle.elf_model.specs.declared.causes.Cause.TheVariants.{Unsupported, Overflow}
 use Rattle.elf_model.specs.declared.relocation_types.RelocationType.{RelocationType}
 use Rattle.elf_reloc.specs.Types.{terms}
 
-abbrev stored_of : Terms → Option RelocationType → Result (List ℕ) Cause
-stored_of given type = elim type [ None ↦ Err Unsupported | Some type ↦ patch_of type given ]
+abbrev stored_of : ℕ → ℕ → ℤ → ℕ → Option RelocationType → Result (List ℕ) Cause
+stored_of s l a p type = elim type [ None ↦ Err Unsupported | Some type ↦ patch_of type (terms (address_by type.base s l) a p) ]
 
 value_is :
-    (n s l : ℕ) (a : ℤ) (p : ℕ) → n ≢ R_X86_64_NONE → stored_of (terms s l a p) (kind_of n) ≡ value n s l a p
+    (n s l : ℕ) (a : ℤ) (p : ℕ) → n ≢ R_X86_64_NONE → stored_of s l a p (kind_of n) ≡ value n s l a p
 unfolding value
 value_is n s l a p other = let f : (n == R_X86_64_NONE) ≡ false = ne_eqb n R_X86_64_NONE other in rw (f, value) refl
 
@@ -34,18 +34,20 @@ nothing n s l a p none = rw (none, value) refl
 
 pub unsupported :
     (n s l : ℕ) (a : ℤ) (p : ℕ) → n ≢ R_X86_64_NONE → None ≡ kind_of n → Err Unsupported ≡ value n s l a p
-unsupported n s l a p other is = ap (stored_of (terms s l a p)) is ∙ value_is n s l a p other
+unsupported n s l a p other is = ap (stored_of s l a p) is ∙ value_is n s l a p other
 
 pub patch_by :
-    (s l : ℕ) (a : ℤ) (p : ℕ) (type : RelocationType) (number : ℕ) (in_range : Bool) → SFits w64 a
-    → number ≡ value_of type (terms s l (cast_signed w64 (cast_unsigned w64 a)) p) → in_range ≡ fits type.range type.width number
-    → patch_in type number in_range ≡ patch_of type (terms s l a p)
-patch_by s l a p type number in_range small same ranged =
-    ap (patch_in type number) ranged ∙ ap (λ m. patch_in type m (fits type.range type.width m)) (same ∙ ap (λ z. value_of type (terms s l z p)) (to_z-of_z small))
-    ∙ patch_is type (terms s l a p)
+    (b : ℕ) (a : ℤ) (p : ℕ) (type : RelocationType) (number : ℕ) (in_range : Bool) → SFits w64 a
+    → number ≡ value_of type (terms b (cast_signed w64 (cast_unsigned w64 a)) p) → in_range ≡ fits type.range type.width number
+    → patch_in type number in_range ≡ patch_of type (terms b a p)
+patch_by b a p type number in_range small same ranged =
+    ap (patch_in type number) ranged ∙ ap (λ m. patch_in type m (fits type.range type.width m)) (same ∙ ap (λ z. value_of type (terms b z p)) (to_z-of_z small))
+    ∙ patch_is type (terms b a p)
 
 pub found :
-    (n s l : ℕ) (a : ℤ) (p : ℕ) (type : RelocationType) → n ≢ R_X86_64_NONE → SFits w64 a → Some type ≡ kind_of n
-    → patch_of type (terms s l (cast_signed w64 (cast_unsigned w64 a)) p) ≡ value n s l a p
-found n s l a p type other small is =
-    ap (λ z. patch_of type (terms s l z p)) (to_z-of_z small) ∙ (ap (stored_of (terms s l a p)) is ∙ value_is n s l a p other)
+    (n s l : ℕ) (a : ℤ) (p : ℕ) (type : RelocationType) (b : ℕ) → n ≢ R_X86_64_NONE → SFits w64 a → Some type ≡ kind_of n
+    → b ≡ address_by type.base s l → patch_of type (terms b (cast_signed w64 (cast_unsigned w64 a)) p) ≡ value n s l a p
+found n s l a p type b other small is based =
+    ap (λ z. patch_of type (terms b z p)) (to_z-of_z small)
+    ∙ ap (λ c. patch_of type (terms c a p)) based
+    ∙ (ap (stored_of s l a p) is ∙ value_is n s l a p other)

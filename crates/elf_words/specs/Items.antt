@@ -3,7 +3,7 @@ use Rattle.std.specs.Prelude.{ℕ, ◌≡◌, ◌≢◌, ◌≤◌, List, ◌∷
 use Rattle.std.specs.Str.Parse.{IsNumeral, digits_value}
 use Rattle.elf_layout.specs.Layouts.{IsName}
 use Rattle.elf_layout.specs.declared.layout.Item.{Item}
-use Rattle.elf_layout.specs.declared.layout.Item.TheVariants.{Section, Define, Entry}
+use Rattle.elf_layout.specs.declared.layout.Item.TheVariants.{Section, Define, Entry, Table, Thread}
 
 -- `=`
 abbrev pub EQUALS : ℕ
@@ -25,17 +25,29 @@ IsAddress text address = (digits : List ℕ) × (text ≡ codes "0x" ++ digits) 
 abbrev pub IsIndex : List ℕ → ℕ → Type 0
 IsIndex digits index = IsNumber 10 5 digits index × (1 ≤ index) × (index ≤ 65279)
 
--- what an item is of: a section, by its index; the definition of a symbol, or the symbol's entry in the procedure linkage
--- table, by its name
+-- what an item is of: a section, by its index; by its name the definition of a symbol, or the symbol's entry in the procedure
+-- linkage table, in the global offset table, or there of its offset from the thread pointer
 abbrev pub IsItemOf : List ℕ → Item → Type 0
 IsItemOf key (Section index address) = (digits : List ℕ) × (key ≡ codes "at:" ++ digits) × IsIndex digits index
 IsItemOf key (Define name address) = (key ≡ codes "def:" ++ name.now) × IsName name.now
 IsItemOf key (Entry name address) = (key ≡ codes "plt:" ++ name.now) × IsName name.now
+IsItemOf key (Table name address) = (key ≡ codes "got:" ++ name.now) × IsName name.now
+IsItemOf key (Thread name address) = (key ≡ codes "tpgot:" ++ name.now) × IsName name.now
+
+-- an item is a symbol's entry
+abbrev pub IsEntry : Item → Type 0
+IsEntry (Section index address) = ⊥
+IsEntry (Define name address) = ⊥
+IsEntry (Entry name address) = Unit {0}
+IsEntry (Table name address) = Unit {0}
+IsEntry (Thread name address) = Unit {0}
 
 abbrev pub item_address : Item → ℕ
 item_address (Section index address) = address
 item_address (Define name address) = address
 item_address (Entry name address) = address
+item_address (Table name address) = address
+item_address (Thread name address) = address
 
 -- THE ITEM that a word spells: what it is of, and its address
 pub record Spells (word : List ℕ) (item : Item) : Type 0 where

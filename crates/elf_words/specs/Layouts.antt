@@ -11,7 +11,7 @@ use Rattle.elf_words.specs.declared.requests.RequestFault.TheVariants.{BadItem, 
 
 -- a layout without an item
 abbrev pub no_items : Layout
-no_items = record { sections = []; definitions = []; linkage = [] }
+no_items = record { sections = []; definitions = []; linkage = []; table = []; thread = [] }
 
 -- a word spells an item, which is put behind those of its sort
 abbrev pub PutsItem : Text → Layout → Layout → Type 0

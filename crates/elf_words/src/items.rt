@@ -4,7 +4,8 @@ ghost use Rattle.std.specs.Prelude.{IsNone, length, Ok, Err};
 ghost use Rattle.std.specs.Str.Parse.{IsNumeral};
 ghost use Rattle.elf_layout.specs.Layouts.{IsName};
 ghost use Rattle.elf_layout.specs.declared.layout.Item.{Item};
-ghost use Rattle.elf_words.specs.Items.{IsAddress, IsIndex, IsNumber, IsItemOf, IsParted};
+ghost use Rattle.elf_words.specs.Items.{IsAddress, IsEntry, IsIndex, IsNumber, IsItemOf};
+ghost use Rattle.elf_words.specs.Items.{IsParted};
 ghost use Rattle.elf_words.specs.Items.{Spells, item_address};
 ghost use Rattle.elf_words.specs.Layouts.{Lays, PutsItem, RefusesItem, no_items};
 ghost use Rattle.clap.specs.Walk.{texts};
@@ -24,7 +25,7 @@ const LAST_INDEX: u64 = 65_279;
 /// # Errors
 /// `BadItem` for a word that spells no item; `LayoutRepeat` for an item of the same sort with the
 /// same index or name as an earlier one; else `LayoutFull` where there are 64 sections, 32
-/// definitions or 32 entries before it. The first such word decides; the layout is left with the
+/// definitions or 32 entries of its sort before it. The first such word decides; the layout is left with the
 /// items before it.
 pub fn lay(layout: &mut Layout, words: &[&str]) -> Result<(), RequestFault>
     ensures laid { IfOk result (λ _. Lays no_items (texts words.now) (Ok layout.new)) }
@@ -53,8 +54,9 @@ fn put(layout: &mut Layout, word: &str) -> Result<(), RequestFault>
 }
 
 /// The item that a word spells: `at:INDEX=ADDR`, the address of a section; `def:NAME=ADDR`, that of
-/// a symbol; `plt:NAME=ADDR`, that of a symbol's procedure linkage table entry. The last `=` parts
-/// them. INDEX is 1 to 5 decimal digits, from 1 to 65279; NAME 1 to 255 bytes without NUL; ADDR
+/// a symbol; `plt:NAME=ADDR`, that of a symbol's procedure linkage table entry; `got:NAME=ADDR`, that
+/// of its global offset table entry; `tpgot:NAME=ADDR`, that of the global offset table entry of its
+/// offset from the thread pointer. The last `=` parts them. INDEX is 1 to 5 decimal digits, from 1 to 65279; NAME 1 to 255 bytes without NUL; ADDR
 /// `0x` and 1 to 16 hexadecimal digits of either case. None for another word.
 pub(crate) fn item(word: &str) -> Option<Item<'_>>
     ensures spelled { IfSome result (Spells word.now) }
@@ -115,8 +117,25 @@ fn item_of(key: &str, address: u64) -> Option<Item<'_>>
         let name = name_of(word)?;
         return Some(Item::Define { name, address });
     }
-    let name = name_of(behind(key, "plt:")?)?;
-    Some(Item::Entry { name, address })
+    entry_of(key, address)
+}
+
+/// The item of a symbol's entry that stands before an address.
+fn entry_of(key: &str, address: u64) -> Option<Item<'_>>
+    ensures is_of { IfSome result (IsItemOf key.now) }
+    ensures address { IfSome result (λ item. item_address item ≡ address) }
+    ensures none { IsNone result → (item : Item) → IsEntry item → IsItemOf key.now item → ⊥ }
+{
+    if let Some(word) = behind(key, "plt:") {
+        let name = name_of(word)?;
+        return Some(Item::Entry { name, address });
+    }
+    if let Some(word) = behind(key, "got:") {
+        let name = name_of(word)?;
+        return Some(Item::Table { name, address });
+    }
+    let name = name_of(behind(key, "tpgot:")?)?;
+    Some(Item::Thread { name, address })
 }
 
 /// The index of a section that digits spell.

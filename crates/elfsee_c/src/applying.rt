@@ -19,8 +19,7 @@ const LAST_INDEX: u32 = 65_535;
 #[repr(C)]
 #[derive(Clone, Copy)]
 pub struct Job<'a> {
-    /// The addresses: of at most 64 sections, 32 definitions and 32 entries of the procedure linkage
-    /// table, none twice.
+    /// The addresses: of at most 64 sections, 32 definitions and 32 entries of each kind, none twice.
     pub items: &'a [Item<'a>],
     /// The index of the section, up to 65,535.
     pub section: u32,

@@ -12,6 +12,10 @@ const SECTION: u32 = 0;
 const DEFINE: u32 = 1;
 /// An address of a symbol's entry in the procedure linkage table.
 const ENTRY: u32 = 2;
+/// An address of a symbol's entry in the global offset table.
+const TABLE: u32 = 3;
+/// An address of the entry in the global offset table of a symbol's offset from the thread pointer.
+const THREAD: u32 = 4;
 
 /// The most bytes of a name.
 const NAME_BYTES: usize = 255;
@@ -27,7 +31,8 @@ pub struct Item<'a> {
     /// The name of the symbol, 1 to 255 bytes without a NUL. Of a section it is not looked at.
     pub name: &'a [u8],
     /// What the address is of: 0 a section, 1 a symbol that the file does not define, 2 a symbol's
-    /// entry in the procedure linkage table.
+    /// entry in the procedure linkage table, 3 one in the global offset table, 4 one there of its
+    /// offset from the thread pointer.
     pub kind: u32,
     /// The index of the section, up to 65,535. Of a symbol it is not looked at.
     pub index: u32,
@@ -71,13 +76,16 @@ fn item_of<'a>(item: &Item<'a>) -> Option<elf_layout::Item<'a>>
             address,
         });
     }
-    if item.kind == DEFINE && is_name(name) {
-        return Some(elf_layout::Item::Define { name, address });
+    if !is_name(name) {
+        return None;
     }
-    if item.kind == ENTRY && is_name(name) {
-        return Some(elf_layout::Item::Entry { name, address });
+    match item.kind {
+        DEFINE => Some(elf_layout::Item::Define { name, address }),
+        ENTRY => Some(elf_layout::Item::Entry { name, address }),
+        TABLE => Some(elf_layout::Item::Table { name, address }),
+        THREAD => Some(elf_layout::Item::Thread { name, address }),
+        _ => None,
     }
-    None
 }
 
 /// Whether bytes are a name that an item may have: 1 to 255 bytes, none a NUL.

@@ -148,6 +148,16 @@ impl<'n> Item<'n> {
         Item::new(raw::ENTRY, name, 0, address)
     }
 
+    /// The address of a symbol's entry in the global offset table.
+    pub fn table(name: &'n [u8], address: u64) -> Item<'n> {
+        Item::new(raw::TABLE, name, 0, address)
+    }
+
+    /// The address of the entry in the global offset table of a symbol's offset from the thread pointer.
+    pub fn thread(name: &'n [u8], address: u64) -> Item<'n> {
+        Item::new(raw::THREAD, name, 0, address)
+    }
+
     fn new(kind: u32, name: &'n [u8], index: u16, address: u64) -> Item<'n> {
         let item =
             raw::Item { address, name: name.as_ptr(), name_len: name.len(), kind, index: index.into() };
@@ -255,7 +265,7 @@ impl<'a> File<'a> {
     }
 
     /// Writes a section's bytes with its relocations applied, for the addresses of a layout: at most 64
-    /// sections, 32 definitions and 32 entries, none twice. `out` has to be as long as the section.
+    /// sections, 32 definitions and 32 entries of each kind, none twice. `out` has to be as long as the section.
     pub fn apply<'o>(
         &self,
         section: u16,

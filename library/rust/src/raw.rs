@@ -14,6 +14,8 @@ pub const BAD_CALL: u32 = 4;
 pub const SECTION: u32 = 0;
 pub const DEFINE: u32 = 1;
 pub const ENTRY: u32 = 2;
+pub const TABLE: u32 = 3;
+pub const THREAD: u32 = 4;
 
 #[repr(C)]
 #[derive(Clone, Copy, Debug, Default, PartialEq, Eq)]

@@ -88,6 +88,8 @@ fn names_have_ranges() {
     for name in [&b""[..], b"a\0", &[b'a'; 256]] {
         assert_eq!(apply(&[Item::define(name, 0)]), Err(Error::BadCall));
         assert_eq!(apply(&[Item::entry(name, 0)]), Err(Error::BadCall));
+        assert_eq!(apply(&[Item::table(name, 0)]), Err(Error::BadCall));
+        assert_eq!(apply(&[Item::thread(name, 0)]), Err(Error::BadCall));
     }
 }
 
@@ -97,7 +99,7 @@ fn layouts_have_bounds() {
     assert_eq!(apply(&sections), Err(Error::BadCall));
     assert!(matches!(apply(&sections[..64]), Err(Error::Refused(_))));
     let names: Vec<_> = (0..33).map(|number| format!("n{}", number)).collect();
-    for item in [Item::define, Item::entry] {
+    for item in [Item::define, Item::entry, Item::table, Item::thread] {
         let items: Vec<_> = names.iter().map(|name| item(name.as_bytes(), 0)).collect();
         assert_eq!(apply(&items), Err(Error::BadCall));
         assert!(matches!(apply(&items[..32]), Err(Error::Refused(_))));

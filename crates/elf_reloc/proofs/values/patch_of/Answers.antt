@@ -5,13 +5,13 @@ use Rattle.elf_reloc.proofs.values.patch_of.Goals as goal
 
 pub returns-then-not-fits-clause-value : goal.returns-then-not-fits-clause-value
 returns-then-not-fits-clause-value c =
-    patch_by c.args.s c.args.l c.args.a c.args.p c.args.found c.calculated-number.result false c.ranges.a
+    patch_by c.args.b c.args.a c.args.p c.args.found c.calculated-number.result false c.ranges.a
     c.calculated-number.ensures (sym c.if-not-fits.true ∙ c.fits.ensures)
 
 pub returns-clause-value : goal.returns-clause-value
 returns-clause-value c =
     ap Ok c.new.ensures ∙
-    patch_by c.args.s c.args.l c.args.a c.args.p c.args.found c.calculated-number.result true c.ranges.a
+    patch_by c.args.b c.args.a c.args.p c.args.found c.calculated-number.result true c.ranges.a
     c.calculated-number.ensures (sym c.if-not-fits.false ∙ c.fits.ensures)
 
 pub returns-clause-width : goal.returns-clause-width
