@@ -1,9 +1,9 @@
 -- The layouts that words give, word by word.
-use Rattle.std.proofs.Common.{◌≡◌, ℕ, zero, suc, ◌<◌, List, [], ◌∷◌, length, drop, slice_index_or, Result, Err, refl, sym, subst, inl, inr, arith}
+use Rattle.std.proofs.Common.{◌≡◌, ℕ, zero, suc, ◌+◌, ◌<◌, List, [], ◌∷◌, length, drop, slice_index_or, Result, Err, refl, sym, subst, inl, inr, arith}
 use Rattle.std.specs.Borrow.{Bor}
 use Rattle.clap.specs.Walk.{Text, texts}
 use Rattle.elf_model.specs.Placing.{Layout}
-use Rattle.elf_words.specs.Layouts.{Lays, RefusesItem}
+use Rattle.elf_words.specs.Layouts.{Lays, PutsItem, RefusesItem}
 use Rattle.elf_words.specs.declared.requests.RequestFault.{RequestFault}
 
 -- a word that is refused decides
@@ -12,6 +12,19 @@ pub refused_at : (words : List (Bor Text)) (i : ℕ) (d : Bor Text) (old : Layou
 refused_at [] i d old fault result within refuses is = absurd (omega arith)
 refused_at (word ∷ words) zero d old fault result within refuses is = inr (fault, is, refuses)
 refused_at (word ∷ words) (suc i) d old fault result within refuses is = refused_at words i d old fault result (omega arith) refuses is
+
+put_before : (words : List (Bor Text)) (i : ℕ) (d : Bor Text) (old new : Layout) (result : Result Layout RequestFault) → i < length words
+    → PutsItem (slice_index_or words i d).now old new → Lays new (texts (drop (suc i) words)) result → Lays old (texts (drop i words)) result
+put_before [] i d old new result within puts lays = absurd (omega arith)
+put_before (word ∷ words) zero d old new result within puts lays = inl (new, puts, lays)
+put_before (word ∷ words) (suc i) d old new result within puts lays = put_before words i d old new result (omega arith) puts lays
+
+-- a word whose item is put goes before what the rest of the words gives
+pub put_at : (words : List (Bor Text)) (i : ℕ) (d : Bor Text) (old new : Layout) (result : Result Layout RequestFault) → i < length words
+    → PutsItem (slice_index_or words i d).now old new → Lays new (texts (drop (i + 1) words)) result → Lays old (texts (drop i words)) result
+put_at words i d old new result within puts lays =
+    let one : i + 1 ≡ suc i = omega arith in
+    put_before words i d old new result within puts (subst (λ n. Lays new (texts (drop n words)) result) one lays)
 
 error_same : (result : Result Layout RequestFault) (x y : RequestFault) → result ≡ Err x → result ≡ Err y → x ≡ y
 error_same result x y one other = cc

@@ -64,10 +64,13 @@ Exit status:
        elfsee: read fault, elfsee: write fault, elfsee: cannot open, elfsee: out of memory";
 
 const ITEMS: &str = "\
-Items, at most 64 sections, 32 definitions and 32 entries, no index or name of a sort twice:
+Items, at most 64 sections and 32 of each other sort, no index or name of a sort twice:
   at:INDEX=ADDR  the address of section INDEX, 1 to 65279
   def:NAME=ADDR  the address of a symbol that is undefined or common
   plt:NAME=ADDR  the address of a symbol's entry in the procedure linkage table
+  got:NAME=ADDR  the address of a symbol's entry in the global offset table
+  tpgot:NAME=ADDR
+                 the address of the entry there of a symbol's offset from the thread pointer
 NAME has 1 to 255 bytes, and the last '=' ends it; ADDR is 0x and 1 to 16 hexadecimal digits.
 
 Example: elfsee apply example.o 1 at:1=0x401000 def:main=0x401200";
@@ -258,7 +261,7 @@ fn item<'a>(alloc: Global) -> Arg<'a>
     ensures local { result.global ≡ false }
 {
     Arg::new(alloc, "ITEM").num_args(0..).help(
-        "An address: at:INDEX=ADDR, def:NAME=ADDR or plt:NAME=ADDR",
+        "An address: at:INDEX=ADDR, or NAME=ADDR behind def:, plt:, got: or tpgot:",
     )
 }
 
