@@ -11,7 +11,7 @@ use Rattle.elf_model.specs.declared.causes.Cause.TheVariants.{NoHash}
 use Rattle.elf_model.specs.declared.causes.Refusal.{Refusal}
 
 -- one word more goes on
-pub goes_on_more : (ends : ℕ → Option LookupEnd) (words : ℕ → ℕ) (n : ℕ) → GoesOn ends words n → ends (words n) ≡ None → GoesOn ends words (suc n)
+pub goes_on_more : {E : Type 0} (ends : ℕ → Option E) (words : ℕ → ℕ) (n : ℕ) → GoesOn ends words n → ends (words n) ≡ None → GoesOn ends words (suc n)
 goes_on_more ends words n goes here i low =
     elim (cases_eq i n) [ inl same ↦ rw same here | inr other ↦ goes i (omega arith) ]
 

@@ -13,7 +13,7 @@ unfolding walk_word
 same_from next start i j zero e = rw (add-zero, add-zero) e
 same_from next start i j (suc d) e = rw (add-suc, add-suc) (ap next (same_from next start i j d e))
 
-module _ (ends : ℕ → Option LookupEnd) (next : ℕ → ℕ) (start n : ℕ) where
+module _ {E : Type 0} (ends : ℕ → Option E) (next : ℕ → ℕ) (start n : ℕ) where
   -- all words below a number go on, the later ones as the ones at the earlier turn
   goes_on_below :
       Repeats (walk_word next start) n → GoesOn ends (walk_word next start) n
@@ -62,29 +62,29 @@ long_walk_never_ends ends next start n bounded some goes =
     repeat_never_ends ends next start n (long_walk_repeats ends (walk_word next start) n bounded some goes) goes
 
 -- a walk ends at a word, or goes on
-pub ends_or_goes : (end : Option LookupEnd) → ((e : LookupEnd) × (end ≡ Some e)) ⊎ (end ≡ None)
+pub ends_or_goes : {E : Type 0} (end : Option E) → ((e : E) × (end ≡ Some e)) ⊎ (end ≡ None)
 ends_or_goes None = inr refl
 ends_or_goes (Some e) = inl (e, refl)
 
 -- it does not do both
-pub not_both : (end : Option LookupEnd) (e : LookupEnd) → end ≡ Some e → end ≡ None → ⊥
+pub not_both : {E : Type 0} (end : Option E) (e : E) → end ≡ Some e → end ≡ None → ⊥
 not_both end e some none = cc
 
 -- a word at which the walk ends is found
 pub found_here :
-    (ends : ℕ → Option LookupEnd) (next : ℕ → ℕ) (word i n : ℕ) (end : LookupEnd) → ends word ≡ Some end
+    {E : Type 0} (ends : ℕ → Option E) (next : ℕ → ℕ) (word i n : ℕ) (end : E) → ends word ≡ Some end
     → end_among ends next word i (suc n) ≡ Some (i, end)
 unfolding end_among
 found_here ends next word i n end t = rw (t, end_among) refl
 
 -- a word at which it does not is passed over
 pub passed_over :
-    (ends : ℕ → Option LookupEnd) (next : ℕ → ℕ) (word i n : ℕ) → ends word ≡ None
+    {E : Type 0} (ends : ℕ → Option E) (next : ℕ → ℕ) (word i n : ℕ) → ends word ≡ None
     → end_among ends next word i (suc n) ≡ end_among ends next (next word) (suc i) n
 unfolding end_among
 passed_over ends next word i n t = rw (t, end_among) refl
 
-module _ (ends : ℕ → Option LookupEnd) (next : ℕ → ℕ) (start : ℕ) where
+module _ {E : Type 0} (ends : ℕ → Option E) (next : ℕ → ℕ) (start : ℕ) where
   -- none found: the walk goes on at all words looked at
   pub none_found :
       (n i : ℕ) → end_among ends next (walk_word next start i) i n ≡ None
@@ -102,7 +102,7 @@ module _ (ends : ℕ → Option LookupEnd) (next : ℕ → ℕ) (start : ℕ) wh
 
   -- one found: it is the first
   pub one_found :
-      (n i k : ℕ) (end : LookupEnd) → end_among ends next (walk_word next start i) i n ≡ Some (k, end)
+      (n i k : ℕ) (end : E) → end_among ends next (walk_word next start i) i n ≡ Some (k, end)
       → ((j : ℕ) → j < i → ends (walk_word next start j) ≡ None)
       → IsFirst ends (walk_word next start) k end
   unfolding end_among walk_word
@@ -112,8 +112,8 @@ module _ (ends : ℕ → Option LookupEnd) (next : ℕ → ℕ) (start : ℕ) wh
         | inl found ↦
             let f = found_here ends next (walk_word next start i) i n found.0 found.1 in
             let both : (i, found.0) ≡ (k, end) = cc in
-            let same : i ≡ k = ap (λ (p : ℕ × LookupEnd). p.0) both in
-            let why : found.0 ≡ end = ap (λ (p : ℕ × LookupEnd). p.1) both in
+            let same : i ≡ k = ap (λ (p : ℕ × E). p.0) both in
+            let why : found.0 ≡ end = ap (λ (p : ℕ × E). p.1) both in
             record { here = rw (← same) (found.1 ∙ ap Some why); none_before = rw (← same) before }
         | inr goes ↦ one_found n (suc i) k end (sym (passed_over ends next (walk_word next start i) i n goes) ∙ e) (λ j low. elim (cases_eq j i) [
           | inl same ↦ rw same goes
@@ -123,7 +123,7 @@ module _ (ends : ℕ → Option LookupEnd) (next : ℕ → ℕ) (start : ℕ) wh
 
   -- there is one first word only
   pub first_is_one :
-      (i j : ℕ) (a b : LookupEnd) → IsFirst ends (walk_word next start) i a → IsFirst ends (walk_word next start) j b → i ≡ j
+      (i j : ℕ) (a b : E) → IsFirst ends (walk_word next start) i a → IsFirst ends (walk_word next start) j b → i ≡ j
   first_is_one i j a b f g =
       elim (cases_lt i j) [
         | inl low ↦ absurd (not_both (ends (walk_word next start i)) a f.here (g.none_before i low))
@@ -135,5 +135,5 @@ module _ (ends : ℕ → Option LookupEnd) (next : ℕ → ℕ) (start : ℕ) wh
 
   -- which ends in one way
   pub end_is_one :
-      (i : ℕ) (a b : LookupEnd) → IsFirst ends (walk_word next start) i a → IsFirst ends (walk_word next start) i b → a ≡ b
+      (i : ℕ) (a b : E) → IsFirst ends (walk_word next start) i a → IsFirst ends (walk_word next start) i b → a ≡ b
   end_is_one i a b f g = let here = f.here in let there = g.here in cc
