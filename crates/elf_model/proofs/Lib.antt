@@ -6,6 +6,7 @@ pub mod ChangeSteps
 pub mod CheckSteps
 pub mod CostLemmas
 pub mod DynamicLaws
+pub mod GnuHashLaws
 pub mod ListingLemmas
 pub mod LookupLaws
 pub mod LookupSteps

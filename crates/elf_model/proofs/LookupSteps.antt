@@ -3,7 +3,7 @@ use Rattle.std.proofs.Common.{◌≡◌, ℕ, zero, suc, ◌+◌, ◌*◌, ◌<�
 use Rattle.std.proofs.lemmas.Bool.{cases_eq}
 use Rattle.elf_model.specs.Checks.{first_refusal, header_checks, early_checks, load_checks}
 use Rattle.elf_model.specs.Find.{first_that, first_hash, hash_checks, shape_checks, looked_in, looked, find_cost}
-use Rattle.elf_model.specs.Hash.{LookupEnd, refused_after, looked_up}
+use Rattle.elf_model.specs.Hash.{refused_after, looked_up}
 use Rattle.elf_model.specs.HashLaws.{GoesOn}
 use Rattle.elf_model.specs.Names.{pad64}
 use Rattle.elf_model.specs.Records.{e_shnum, section_at}

@@ -43,6 +43,9 @@ pub mod Apply
 pub mod ApplyCost
 pub mod FindApplyAnswer
 pub mod HashLaws
+pub mod Chains
+pub mod GnuHash
+pub mod GnuHashLaws
 pub mod ApplyLaws
 pub mod ValueLaws
 pub mod Checking

@@ -8,6 +8,7 @@ mod apply_laws;
 mod causes;
 mod cost_laws;
 mod dynamic;
+mod gnu_hash_laws;
 mod hash_laws;
 mod listing_laws;
 mod names;
