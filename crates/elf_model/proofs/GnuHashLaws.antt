@@ -7,7 +7,7 @@ use Rattle.elf_model.specs.GnuHashLaws.{GnuLookupAnswers, GnuLookupIsOne, IsWith
 use Rattle.elf_model.specs.Hash.{walk_word, IsFirst}
 use Rattle.elf_model.specs.declared.causes.Refusal.{Refusal}
 use Rattle.elf_model.proofs.CostLemmas.{sum_over-le}
-use Rattle.elf_model.proofs.WalkLaws.{none_found, one_found, not_both}
+use Rattle.elf_model.proofs.WalkLaws.{none_found, searched_first, gives_one, not_both}
 
 -- the words of a walk that goes from each to the next number
 rises : (start i : ℕ) → walk_word (λ y. suc y) start i ≡ start + i
@@ -97,10 +97,10 @@ module _ (file : List ℕ) (table : HashTable) (hash : ℕ) (trial : ℕ → Res
   pub first_in_chain :
       (i : ℕ) (end : ChainEnd) → gnu_walk_end file table hash trial ≡ Some (i, end)
       → IsFirst (gnu_end file table hash trial) (gnu_symbol file table.place hash) i end
-  unfolding gnu_walk_end walk_word
+  unfolding gnu_walk_end
   first_in_chain i end e =
       by_rising (gnu_end file table hash trial) (gnu_start file table.place hash) i end
-      (one_found _ _ _ (suc table.symbols) 0 i end e (λ j low. absurd (omega arith)))
+      (searched_first _ _ _ table.symbols i end e)
 
   looked_up-none : holds_none file table.place hash ≡ true → gnu_looked_up file table hash trial ≡ nothing_tried
   unfolding gnu_looked_up
@@ -129,36 +129,13 @@ module _ (file : List ℕ) (table : HashTable) (hash : ℕ) (trial : ℕ → Res
 pub gnu_lookup_answers : GnuLookupAnswers
 gnu_lookup_answers file table hash trial = answers_by file table hash trial (cases_Bool (holds_none file table.place hash))
 
--- there is one first number only, which ends in one way
-first_numbers_same : {E : Type 0} (ends : ℕ → Option E) (words : ℕ → ℕ) (i j : ℕ) (a b : E) → IsFirst ends words i a → IsFirst ends words j b → i ≡ j
-first_numbers_same ends words i j a b f g =
-    elim (cases_lt i j) [
-      | inl low ↦ absurd (not_both (ends (words i)) a f.here (g.none_before i low))
-      | inr high ↦ elim (cases_lt j i) [
-        | inl low ↦ absurd (not_both (ends (words j)) b g.here (f.none_before j low))
-        | inr same ↦ omega arith
-      ]
-    ]
-
-first_ends_same : {E : Type 0} (ends : ℕ → Option E) (words : ℕ → ℕ) (i : ℕ) (a b : E) → IsFirst ends words i a → IsFirst ends words i b → a ≡ b
-first_ends_same ends words i a b f g = let here = f.here in let there = g.here in cc
-
 module _ (file : List ℕ) (table : HashTable) (hash : ℕ) (trial : ℕ → Result Bool Refusal) where
-  same_end :
-      (i j : ℕ) (a b : ChainEnd) → i ≡ j → IsFirst (gnu_end file table hash trial) (gnu_symbol file table.place hash) i a
-      → IsFirst (gnu_end file table hash trial) (gnu_symbol file table.place hash) j b
-      → gnu_walked_at file table.place hash i a ≡ gnu_walked_at file table.place hash j b
-  same_end i j a b e f g =
-      let first : IsFirst (gnu_end file table hash trial) (gnu_symbol file table.place hash) j a = rw (← e) f in
-      rw e (ap (gnu_walked_at file table.place hash j) (first_ends_same _ _ j a b first g))
-
   one_lookup : (first second : Walked) → IsGnuLookup file table hash trial first → IsGnuLookup file table hash trial second → first ≡ second
   one_lookup first second (inl a) (inl b) = a.gives ∙ sym b.gives
   one_lookup first second (inl a) (inr b) = let x = a.told in let y = b.told in absurd (cc)
   one_lookup first second (inr a) (inl b) = let x = a.told in let y = b.told in absurd (cc)
   one_lookup first second (inr a) (inr b) =
-      let same = first_numbers_same _ _ a.number b.number a.end b.end a.first b.first in
-      a.gives ∙ same_end a.number b.number a.end b.end same a.first b.first ∙ sym b.gives
+      a.gives ∙ gives_one _ _ (gnu_walked_at file table.place hash) a.number b.number a.end b.end a.first b.first ∙ sym b.gives
 
 pub gnu_lookup_is_one : GnuLookupIsOne
 gnu_lookup_is_one file table hash trial first second a b = one_lookup file table hash trial first second a b

@@ -31,4 +31,5 @@ pub mod StoreLemmas
 pub mod StyleLemmas
 pub mod ValueLaws
 pub mod WalkLaws
+pub mod SysvWalkLaws
 pub mod Walks

@@ -46,6 +46,8 @@ pub mod HashLaws
 pub mod Chains
 pub mod GnuHash
 pub mod GnuHashLaws
+pub mod SysvWalk
+pub mod SysvWalkLaws
 pub mod ApplyLaws
 pub mod ValueLaws
 pub mod Checking
