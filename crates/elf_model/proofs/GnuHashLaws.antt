@@ -1,7 +1,7 @@
 -- Lookups in a hash table of the GNU system: what is calculated is the one lookup, and it is bounded.
 use Rattle.std.proofs.Common.{◌≡◌, ℕ, zero, suc, ◌+◌, ◌-◌, ◌*◌, ◌<◌, ◌≤◌, ◌⊎◌, inl, inr, Bool, true, false, not, List, nat_lt, if◌then◌else◌, Option, None, Some, Result, Ok, Err, refl, sym, ap, ◌∙◌, arith}
 use Rattle.std.proofs.lemmas.Bool.{cases_eq, cases_lt, cases_Bool, and_parts, ltb-true}
-use Rattle.elf_model.specs.Chains.{HashTable, ChainEnd, NotThere, Untried, Answers, Last, end_of_trial, Walked, nothing_tried}
+use Rattle.elf_model.specs.Chains.{HashTable, WalkEnd, NotThere, Untried, Answers, Last, end_of_trial, Walked, nothing_tried}
 use Rattle.elf_model.specs.GnuHash.{gnu_first, gnu_start, gnu_symbol, gnu_tried, gnu_end, gnu_walked_at, gnu_walked_by, gnu_walk_end, gnu_looked_up, holds_none, before_chains, in_chains, is_chained, chain_word, ends_chain, end_of_chain, is_of_hash, EndsInChain, IsGnuLookup}
 use Rattle.elf_model.specs.GnuHashLaws.{GnuLookupAnswers, GnuLookupIsOne, IsWithinTable, GnuLookupIsBounded, IsFound, GnuFoundAnswers, IsHeld, GnuAbsentMeansNone, GnuFoundIsFirst}
 use Rattle.elf_model.specs.Hash.{walk_word, IsFirst}
@@ -53,7 +53,7 @@ module _ (file : List ℕ) (table : HashTable) (hash : ℕ) (trial : ℕ → Res
   end-tried y t f = rw (t, gnu_end) (rw (f) refl)
 
   -- an end other than that no symbol is there
-  end_is_there : (y : ℕ) (end : Option ChainEnd) → gnu_end file table hash trial y ≡ end → (end ≡ Some NotThere → ⊥) → is_chained file table y ≡ true
+  end_is_there : (y : ℕ) (end : Option WalkEnd) → gnu_end file table hash trial y ≡ end → (end ≡ Some NotThere → ⊥) → is_chained file table y ≡ true
   end_is_there y end e other =
       elim (cases_Bool (is_chained file table y)) [
         | inl is ↦ is
@@ -95,7 +95,7 @@ module _ (file : List ℕ) (table : HashTable) (hash : ℕ) (trial : ℕ → Res
       omega arith
 
   pub first_in_chain :
-      (i : ℕ) (end : ChainEnd) → gnu_walk_end file table hash trial ≡ Some (i, end)
+      (i : ℕ) (end : WalkEnd) → gnu_walk_end file table hash trial ≡ Some (i, end)
       → IsFirst (gnu_end file table hash trial) (gnu_symbol file table.place hash) i end
   unfolding gnu_walk_end
   first_in_chain i end e =
@@ -114,7 +114,7 @@ module _ (file : List ℕ) (table : HashTable) (hash : ℕ) (trial : ℕ → Res
 
   -- what the search for the end says
   answered :
-      (end : Option (ℕ × ChainEnd)) → holds_none file table.place hash ≡ false → gnu_walk_end file table hash trial ≡ end
+      (end : Option (ℕ × WalkEnd)) → holds_none file table.place hash ≡ false → gnu_walk_end file table hash trial ≡ end
       → EndsInChain file table hash trial (gnu_walked_by file table.place hash end)
   answered None f e = absurd (ends_somewhere e)
   answered (Some found) f e =
@@ -166,11 +166,11 @@ module _ (file : List ℕ) (table : HashTable) (hash : ℕ) (trial : ℕ → Res
       let w = within read h in
       record { tried_are_read = few; within_symbols = w.0; within_bytes = w.1 }
 
-  there_before : (i : ℕ) (end : ChainEnd) → IsFirst (gnu_end file table hash trial) (gnu_symbol file table.place hash) i end
+  there_before : (i : ℕ) (end : WalkEnd) → IsFirst (gnu_end file table hash trial) (gnu_symbol file table.place hash) i end
       → (j : ℕ) → j < i → is_chained file table (gnu_symbol file table.place hash j) ≡ true
   there_before i end f j low = goes_on_there file table hash trial (gnu_symbol file table.place hash j) (f.none_before j low)
 
-  there_with : (i : ℕ) (end : ChainEnd) → IsFirst (gnu_end file table hash trial) (gnu_symbol file table.place hash) i end
+  there_with : (i : ℕ) (end : WalkEnd) → IsFirst (gnu_end file table hash trial) (gnu_symbol file table.place hash) i end
       → (end ≡ NotThere → ⊥) → (j : ℕ) → j < suc i → is_chained file table (gnu_symbol file table.place hash j) ≡ true
   there_with i end f other j low =
       elim (cases_eq j i) [
@@ -178,7 +178,7 @@ module _ (file : List ℕ) (table : HashTable) (hash : ℕ) (trial : ℕ → Res
         | inr before ↦ there_before i end f j (omega arith)
       ]
 
-  bounded : (i : ℕ) (end : ChainEnd) → IsFirst (gnu_end file table hash trial) (gnu_symbol file table.place hash) i end
+  bounded : (i : ℕ) (end : WalkEnd) → IsFirst (gnu_end file table hash trial) (gnu_symbol file table.place hash) i end
       → IsWithinTable table (gnu_walked_at file table.place hash i end)
   unfolding gnu_walked_at
   bounded i NotThere f = bounded_at _ _ (tried_le file table.place hash i) (there_before i NotThere f) _
@@ -195,7 +195,7 @@ gnu_lookup_is_bounded file table hash trial = bounded_by file table hash trial (
 
 -- what a symbol that is found is
 module _ (file : List ℕ) (table : HashTable) (hash : ℕ) (trial : ℕ → Result Bool Refusal) where
-  found_at : (i y : ℕ) (end : ChainEnd) → (gnu_walked_at file table.place hash i end).answer ≡ Ok (Some y)
+  found_at : (i y : ℕ) (end : WalkEnd) → (gnu_walked_at file table.place hash i end).answer ≡ Ok (Some y)
       → (end ≡ Answers) × (y ≡ gnu_symbol file table.place hash i)
   unfolding gnu_walked_at
   found_at i y NotThere e = absurd (cc)
@@ -203,7 +203,7 @@ module _ (file : List ℕ) (table : HashTable) (hash : ℕ) (trial : ℕ → Res
   found_at i y Answers e = (refl, cc)
   found_at i y Last e = absurd (cc)
 
-  absent_at : (i : ℕ) (end : ChainEnd) → (gnu_walked_at file table.place hash i end).answer ≡ Ok None → end ≡ Last
+  absent_at : (i : ℕ) (end : WalkEnd) → (gnu_walked_at file table.place hash i end).answer ≡ Ok None → end ≡ Last
   unfolding gnu_walked_at
   absent_at i NotThere e = absurd (cc)
   absent_at i (Untried refusal) e = absurd (cc)
@@ -247,7 +247,7 @@ module _ (file : List ℕ) (table : HashTable) (hash : ℕ) (trial : ℕ → Res
   found_by walked y (inl a) e = let g = ap (λ (w : Walked). w.answer) a.gives in absurd (cc)
   found_by walked y (inr b) e =
       let here = found_at b.number y b.end (sym (ap (λ (w : Walked). w.answer) b.gives) ∙ e) in
-      rw (here.1) (answers_is (gnu_symbol file table.place hash b.number) (b.first.here ∙ ap (λ (x : ChainEnd). Some x) here.0))
+      rw (here.1) (answers_is (gnu_symbol file table.place hash b.number) (b.first.here ∙ ap (λ (x : WalkEnd). Some x) here.0))
 
 pub gnu_found_answers : GnuFoundAnswers
 gnu_found_answers file table hash trial y e =

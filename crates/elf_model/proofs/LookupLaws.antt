@@ -1,8 +1,8 @@
 -- Lookups: what is calculated is the one lookup.
 use Rattle.std.proofs.Common.{◌≡◌, ℕ, zero, suc, ◌<◌, ◌≤◌, ◌⊎◌, inl, inr, Bool, true, false, List, [], ◌∷◌, ◌++◌, length, drop, nat_lt, ◌==◌, Option, None, Some, Result, Ok, Err, refl, sym, ap, ◌∙◌, arith}
 use Rattle.std.proofs.lemmas.Bool.{cases_eq, cases_lt, cases_Bool, and_parts, ltb-true}
-use Rattle.elf_model.specs.Hash.{nchain, walk_word, lookup_word, end_at_word, end_of_name, is_index, same_symbol, LookupEnd, ChainEnd, NoIndex, Nameless, Wanted, Outcome, Found, Absent, Refused, Lookup, lookup_at, lookup_by, cycle, IsFirst, IsEndless, IsLookup, lookup_end, looked_up}
-use Rattle.elf_model.specs.HashLaws.{GoesOn, LookupIsBounded, LookupAnswers, LookupIsOne, CycleExactly, CycleIsEndless, ComparedWithinChains}
+use Rattle.elf_model.specs.Hash.{nchain, lookup_word, end_at_word, end_of_name, is_index, same_symbol, LookupEnd, ChainEnd, NoIndex, Nameless, Wanted, Outcome, Found, Absent, Refused, Lookup, lookup_at, lookup_by, cycle, IsFirst, IsEndless, IsLookup, lookup_end, looked_up}
+use Rattle.elf_model.specs.HashLaws.{LookupIsBounded, LookupAnswers, LookupIsOne, CycleExactly, CycleIsEndless, ComparedWithinChains}
 use Rattle.elf_model.specs.Tables.{linked_at}
 use Rattle.elf_model.specs.Names.{same, begins, is_empty_at_zero}
 use Rattle.elf_model.specs.declared.causes.Cause.TheVariants.{NoHash, HashCycle}

@@ -11,14 +11,14 @@ pub record HashTable : Type 0 where
 
 -- why a walk ends at a symbol index: no symbol and no chain word has it; the symbol cannot be tried; it answers; the chain
 -- ends
-pub data ChainEnd : Type 0 where
-  NotThere : ChainEnd
-  Untried : Refusal → ChainEnd
-  Answers : ChainEnd
-  Last : ChainEnd
+pub data WalkEnd : Type 0 where
+  NotThere : WalkEnd
+  Untried : Refusal → WalkEnd
+  Answers : WalkEnd
+  Last : WalkEnd
 
 -- why a walk ends at a symbol that is tried: where it does not answer, as is told
-abbrev pub end_of_trial : Result Bool Refusal → Option ChainEnd → Option ChainEnd
+abbrev pub end_of_trial : Result Bool Refusal → Option WalkEnd → Option WalkEnd
 end_of_trial (Err refusal) otherwise = Some (Untried refusal)
 end_of_trial (Ok true) otherwise = Some Answers
 end_of_trial (Ok false) otherwise = otherwise

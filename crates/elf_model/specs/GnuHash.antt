@@ -3,7 +3,7 @@
 -- `first` on, words of four bytes. A chain is the symbols from its bucket's on, one behind the other.
 use Rattle.std.specs.Prelude.{ℕ, zero, suc, ◌+◌, ◌-◌, ◌*◌, ◌/◌, ◌%◌, ◌^◌, ◌==◌, ◌&&◌, ◌||◌, ◌≡◌, ◌⊎◌, nat_lt, not, if◌then◌else◌, Bool, true, false, List, fold, Option, None, Some, Result, Ok}
 use Rattle.elf_model.specs.Bytes.{field}
-use Rattle.elf_model.specs.Chains.{HashTable, ChainEnd, NotThere, Untried, Answers, Last, end_of_trial, Walked, nothing_tried, refused_walk}
+use Rattle.elf_model.specs.Chains.{HashTable, WalkEnd, NotThere, Untried, Answers, Last, end_of_trial, Walked, nothing_tried, refused_walk}
 use Rattle.elf_model.specs.Cost.{sum_over}
 use Rattle.elf_model.specs.Hash.{IsFirst, end_among}
 use Rattle.elf_model.specs.declared.causes.Cause.TheVariants.{HashIndex}
@@ -104,11 +104,11 @@ gnu_word_at file place hash zero = gnu_bucket_of file place hash
 gnu_word_at file place hash (suc i) = gnu_chain_at file place (gnu_symbol file place hash i)
 
 -- the end of the chain, where a chain word says so
-abbrev pub end_of_chain : ℕ → Option ChainEnd
+abbrev pub end_of_chain : ℕ → Option WalkEnd
 end_of_chain word = if ends_chain word then Some Last else None
 
 -- why a walk ends at a symbol index, if it does: a symbol whose chain word is of the hash is tried
-unfoldable pub gnu_end : List ℕ → HashTable → ℕ → (ℕ → Result Bool Refusal) → ℕ → Option ChainEnd
+unfoldable pub gnu_end : List ℕ → HashTable → ℕ → (ℕ → Result Bool Refusal) → ℕ → Option WalkEnd
 gnu_end file table hash trial y =
     let word = chain_word file table.place y in
     elim (is_chained file table y) [
@@ -125,7 +125,7 @@ gnu_tried file place hash count =
     sum_over (λ y. if is_of_hash (chain_word file place y) hash then 1 else 0) (gnu_start file place hash) count
 
 -- what a walk gives that ends at symbol number i
-unfoldable pub gnu_walked_at : List ℕ → ℕ → ℕ → ℕ → ChainEnd → Walked
+unfoldable pub gnu_walked_at : List ℕ → ℕ → ℕ → ℕ → WalkEnd → Walked
 gnu_walked_at file place hash i NotThere =
     refused_walk (gnu_tried file place hash i) i (record { at = gnu_word_at file place hash i; cause = HashIndex })
 gnu_walked_at file place hash i (Untried refusal) = refused_walk (gnu_tried file place hash (suc i)) (suc i) refusal
@@ -143,7 +143,7 @@ pub record IsPassedOver (file : List ℕ) (table : HashTable) (hash : ℕ) (walk
 pub record EndsInChain (file : List ℕ) (table : HashTable) (hash : ℕ) (trial : ℕ → Result Bool Refusal) (walked : Walked) : Type 0 where
   pub told : holds_none file table.place hash ≡ false
   pub number : ℕ
-  pub end : ChainEnd
+  pub end : WalkEnd
   pub first : IsFirst (gnu_end file table hash trial) (gnu_symbol file table.place hash) number end
   pub gives : walked ≡ gnu_walked_at file table.place hash number end
 
@@ -154,12 +154,12 @@ IsGnuLookup file table hash trial walked = IsPassedOver file table hash walked �
 -- The calculation. By the laws `GnuLookupAnswers` and `GnuLookupIsOne` it gives the one lookup that `IsGnuLookup` tells.
 
 -- what a walk gives by its end; by the law it has one
-abbrev pub gnu_walked_by : List ℕ → ℕ → ℕ → Option (ℕ × ChainEnd) → Walked
+abbrev pub gnu_walked_by : List ℕ → ℕ → ℕ → Option (ℕ × WalkEnd) → Walked
 gnu_walked_by file place hash None = nothing_tried
 gnu_walked_by file place hash (Some found) = gnu_walked_at file place hash found.0 found.1
 
 -- where a walk ends: as its symbols rise, it does so at one more than there are symbols, if not before
-unfoldable pub gnu_walk_end : List ℕ → HashTable → ℕ → (ℕ → Result Bool Refusal) → Option (ℕ × ChainEnd)
+unfoldable pub gnu_walk_end : List ℕ → HashTable → ℕ → (ℕ → Result Bool Refusal) → Option (ℕ × WalkEnd)
 gnu_walk_end file table hash trial =
     end_among (gnu_end file table hash trial) (λ y. suc y) (gnu_start file table.place hash) 0 (suc table.symbols)
 

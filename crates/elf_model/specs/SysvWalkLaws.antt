@@ -1,11 +1,9 @@
 -- Laws of walks for a symbol that answers in a hash table of the gABI.
-use Rattle.std.specs.Prelude.{ℕ, ◌≤◌, ◌≡◌, Bool, true, Option, None, Some, Result, Ok, Err, List}
+use Rattle.std.specs.Prelude.{ℕ, ◌≤◌, ◌≡◌, Bool, true, Some, Result, Ok, List}
 use Rattle.elf_model.specs.Chains.{HashTable, Walked}
-use Rattle.elf_model.specs.Hash.{IsEndless, sysv_hash, sysv_nchain, symbol_count, symbol_at, same_symbol, Outcome, Found, Absent, Refused, Lookup, looked_up}
-use Rattle.elf_model.specs.Records.{sh_offset, sh_size, sh_link}
-use Rattle.elf_model.specs.SysvWalk.{sysv_end, sysv_word, sysv_cycle, IsSysvWalk, sysv_walked}
+use Rattle.elf_model.specs.Hash.{sysv_hash, sysv_nchain, looked_up}
+use Rattle.elf_model.specs.SysvWalk.{IsSysvWalk, sysv_walked, section_table_of, has_name, lookup_of}
 use Rattle.elf_model.specs.Tables.{linked_at}
-use Rattle.elf_model.specs.declared.causes.Cause.{Cause}
 use Rattle.elf_model.specs.declared.causes.Refusal.{Refusal}
 
 -- what is calculated is what a walk gives
@@ -33,3 +31,10 @@ SysvFoundAnswers =
     (file : List ℕ) (table : HashTable) (hash : ℕ) (trial : ℕ → Result Bool Refusal) (y : ℕ)
     → (sysv_walked file table hash trial).answer ≡ Ok (Some y)
     → trial y ≡ Ok true
+
+-- the lookup of a name in a HASH section is the walk for a symbol that has it
+abbrev pub SysvWalkIsLookup : Type 0
+SysvWalkIsLookup =
+    (file : List ℕ) (at : ℕ) (wanted : List ℕ)
+    → lookup_of file at (sysv_walked file (section_table_of file at) (sysv_hash wanted) (has_name file (linked_at file at) wanted))
+    ≡ looked_up file at wanted

@@ -17,6 +17,7 @@ mod record_laws;
 mod relocation_types;
 mod states;
 mod style_laws;
+mod sysv_walk_laws;
 mod value_laws;
 
 pub use causes::{Cause, Refusal};
