@@ -46,3 +46,7 @@ pub mod HashLaws
 pub mod ApplyLaws
 pub mod ValueLaws
 pub mod Checking
+pub mod Versions
+pub mod VersionRows
+pub mod VersionCost
+pub mod FixturesVersions

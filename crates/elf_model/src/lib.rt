@@ -17,7 +17,9 @@ mod relocation_types;
 mod states;
 mod style_laws;
 mod value_laws;
+mod versions;
 
 pub use causes::{Cause, Refusal};
 pub use relocation_types::{Formula, Range, RelocationType};
 pub use states::FileState;
+pub use versions::VersionKind;
