@@ -1,6 +1,6 @@
 -- Archives, as `ar` writes static libraries: the magic string and members one behind the other. A member is a header of 60
 -- bytes of text, its data, and where its size is odd one byte of padding, which may be missing at the file's end.
-use Rattle.std.specs.Prelude.{ℕ, zero, suc, ◌+◌, ◌-◌, ◌*◌, ◌%◌, ◌^◌, ◌==◌, ◌&&◌, nat_le, nat_lt, not, Bool, if◌then◌else◌, List, [], ◌∷◌, ◌++◌, length, take, position, slice_index, is_some, Option, None, Some, Result, Ok, Err, codes}
+use Rattle.std.specs.Prelude.{ℕ, zero, suc, ◌+◌, ◌-◌, ◌*◌, ◌%◌, ◌^◌, ◌==◌, ◌&&◌, min, nat_le, nat_lt, not, Bool, true, false, if◌then◌else◌, List, [], ◌∷◌, ◌++◌, length, take, position, slice_index, is_some, Option, None, Some, Result, Ok, Err, codes}
 use Rattle.std.specs.Int.RustNames.{bit_and}
 use Rattle.std.specs.List.{list_all}
 use Rattle.elf_model.specs.Bytes.{slice, field}

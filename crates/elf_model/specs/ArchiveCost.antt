@@ -1,9 +1,9 @@
 -- How many bytes the listing of an archive asks for at most, and what it never passes.
-use Rattle.std.specs.Prelude.{ℕ, zero, suc, ◌<◌, ◌+◌, ◌*◌, ◌/◌, nat_le, is_some, Bool, List, length, Option, None, Some, ◌⊎◌}
+use Rattle.std.specs.Prelude.{ℕ, zero, suc, ◌≡◌, ◌<◌, ◌+◌, ◌*◌, ◌/◌, ◌&&◌, nat_le, nat_lt, is_some, Bool, true, false, if◌then◌else◌, List, [], ◌∷◌, length, Option, None, Some, ◌⊎◌}
 use Rattle.std.specs.List.{list_any}
-use Rattle.elf_model.specs.Archive.{Member, Ends, Broken, OneMember, Progress, MAGIC_SIZE, MEMBER_HEADER_SIZE, archive_checks, archive_items, before_members, behind, bytes_in, is_elf, is_refused, lists_members, long_offset, members_of, name_field, next_member}
+use Rattle.elf_model.specs.Archive.{Member, Members, Next, Ends, Broken, OneMember, Progress, MAGIC_SIZE, MEMBER_HEADER_SIZE, archive_checks, archive_items, before_members, behind, bytes_in, is_elf, is_refused, lists_members, long_offset, members_of, name_field, next_member}
 use Rattle.elf_model.specs.Budget.{IsCut, IsReport}
-use Rattle.elf_model.specs.Checks.{pass}
+use Rattle.elf_model.specs.Checks.{first_refusal, pass}
 use Rattle.elf_model.specs.Cost.{ceiling, cost_where, listing_cost}
 use Rattle.elf_model.specs.Names.{pad64}
 use Rattle.elf_model.specs.Style.{Style}
