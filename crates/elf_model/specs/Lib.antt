@@ -51,3 +51,7 @@ pub mod SysvWalkLaws
 pub mod ApplyLaws
 pub mod ValueLaws
 pub mod Checking
+pub mod Versions
+pub mod VersionRows
+pub mod VersionCost
+pub mod FixturesVersions

@@ -37,6 +37,17 @@ SHT_NOBITS = 8
 abbrev pub SHT_DYNSYM : ℕ
 SHT_DYNSYM = 11
 
+-- section types of the GNU system: definitions, needs and numbers of symbol versions (Linux Standard Base Core, Symbol
+-- Versioning)
+abbrev pub SHT_GNU_VERDEF : ℕ
+SHT_GNU_VERDEF = 0x6ffffffd
+
+abbrev pub SHT_GNU_VERNEED : ℕ
+SHT_GNU_VERNEED = 0x6ffffffe
+
+abbrev pub SHT_GNU_VERSYM : ℕ
+SHT_GNU_VERSYM = 0x6fffffff
+
 -- segment types (gABI 5, Segment Types)
 abbrev pub PT_LOAD : ℕ
 PT_LOAD = 1

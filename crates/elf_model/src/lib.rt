@@ -19,7 +19,9 @@ mod states;
 mod style_laws;
 mod sysv_walk_laws;
 mod value_laws;
+mod versions;
 
 pub use causes::{Cause, Refusal};
 pub use relocation_types::{Formula, Range, RelocationType};
 pub use states::FileState;
+pub use versions::VersionKind;
