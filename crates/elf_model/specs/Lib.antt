@@ -48,6 +48,7 @@ pub mod GnuHash
 pub mod GnuHashLaws
 pub mod SysvWalk
 pub mod SysvWalkLaws
+pub mod Loader
 pub mod ApplyLaws
 pub mod ValueLaws
 pub mod Checking
