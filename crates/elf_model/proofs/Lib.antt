@@ -18,6 +18,7 @@ pub mod NoteLoops
 pub mod NoteRowLaws
 pub mod Nuls
 pub mod OnLiterals
+pub mod OnLoader
 pub mod PatchLaws
 pub mod Pigeons
 pub mod RecordLemmas

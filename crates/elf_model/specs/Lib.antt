@@ -49,6 +49,9 @@ pub mod GnuHashLaws
 pub mod SysvWalk
 pub mod SysvWalkLaws
 pub mod Loader
+pub mod LoaderScope
+pub mod LoaderFind
+pub mod LoaderAnswer
 pub mod ApplyLaws
 pub mod ValueLaws
 pub mod Checking

@@ -1,13 +1,12 @@
 -- Which symbol of a file a loader of the GNU system takes for a name, or for a name and a version (as `dlsym` and `dlvsym` do
 -- in one object): by its record, its name and the number of its version.
-use Rattle.std.specs.Prelude.{ℕ, zero, suc, ◌+◌, ◌*◌, ◌/◌, ◌==◌, ◌&&◌, ◌||◌, nat_lt, not, is_some, is_none, if◌then◌else◌, Bool, true, false, List, [], ◌∷◌, ◌++◌, length, take, drop, position, Option, None, Some, Result, Ok, Err}
-use Rattle.elf_model.specs.Checks.{first_refusal}
+use Rattle.std.specs.Prelude.{ℕ, zero, suc, ◌+◌, ◌*◌, ◌==◌, ◌&&◌, ◌||◌, nat_lt, not, is_some, if◌then◌else◌, Bool, true, false, List, [], ◌∷◌, ◌++◌, length, take, drop, position, Option, None, Some, Result, Ok, Err}
 use Rattle.elf_model.specs.Names.{same}
 use Rattle.elf_model.specs.Numbers.{SHN_UNDEF, SHN_ABS, STB_GLOBAL, STB_WEAK, STB_GNU_UNIQUE, STT_NOTYPE, STT_OBJECT, STT_FUNC, STT_COMMON, STT_TLS, STT_GNU_IFUNC, STV_DEFAULT, STV_PROTECTED}
 use Rattle.elf_model.specs.Records.{st_name, st_shndx, st_value, st_type, st_bind, st_visibility, versym}
 use Rattle.elf_model.specs.Tables.{SYMBOL_SIZE}
 use Rattle.elf_model.specs.VersionRows.{VERSYM_SIZE}
-use Rattle.elf_model.specs.Versions.{Met, Stand, Versions, number_in, number_word, named_at, name_index, names_version, names_number, record_size, most_records, first_stand, behind, versions_in}
+use Rattle.elf_model.specs.Versions.{Met, Stand, number_in, number_word, named_at, name_index, names_version, names_number, record_size, most_records, first_stand, behind, versions_in}
 use Rattle.elf_model.specs.declared.causes.Cause.TheVariants.{VersionCut}
 use Rattle.elf_model.specs.declared.causes.Refusal.{Refusal}
 use Rattle.elf_model.specs.declared.versions.VersionKind.{VersionKind}
