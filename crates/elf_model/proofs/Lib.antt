@@ -29,5 +29,8 @@ pub mod Spellings
 pub mod StoreLemmas
 pub mod StyleLemmas
 pub mod ValueLaws
+pub mod VersionLaws
+pub mod VersionRowLaws
+pub mod VersionSteps
 pub mod WalkLaws
 pub mod Walks

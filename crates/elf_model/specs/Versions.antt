@@ -76,13 +76,12 @@ pub record Stand : Type 0 where
 abbrev pub met_at : ℕ → Stand → Met
 met_at table stand = record { kind = stand.kind; at = table + stand.place }
 
--- the checks of a record, in a table at an offset and of some bytes, in this order: it is in the table; its version is 1;
--- its number is not too large; its name is in the table
-unfoldable pub record_checks : List ℕ → (table size : ℕ) → Stand → List Check
-record_checks file table size stand =
+-- the checks of a record that is in the table, in this order: its version is 1; its number is not too large; its name is in the
+-- table
+unfoldable pub kind_checks : List ℕ → (table size : ℕ) → Stand → List Check
+kind_checks file table size stand =
     let at = table + stand.place in
-    refuse (nat_lt size (stand.place + record_size stand.kind)) stand.from VersionCut
-    ∷ elim stand.kind [
+    elim stand.kind [
       | Definition ↦
           refuse (not (vd_version file at == 1)) at BadVersion
           ∷ refuse (not (nat_lt (number_in (vd_ndx file at)) VERSION_NUMBERS)) at VersionIndex
@@ -91,6 +90,11 @@ record_checks file table size stand =
       | File ↦ refuse (not (vn_version file at == 1)) at BadVersion ∷ []
       | Need ↦ refuse (not (nat_lt (number_in (vna_other file at)) VERSION_NUMBERS)) at VersionIndex ∷ []
     ]
+
+-- the checks of a record, in a table at an offset and of some bytes: it is in the table, then those of its kind
+unfoldable pub record_checks : List ℕ → (table size : ℕ) → Stand → List Check
+record_checks file table size stand =
+    refuse (nat_lt size (stand.place + record_size stand.kind)) stand.from VersionCut ∷ kind_checks file table size stand
 
 -- where a record leads by the distance from it to the next of its kind, of which 0 is the end of the chain
 abbrev pub along : (table : ℕ) → VersionKind → (place distance owner : ℕ) → Option Stand

@@ -17,6 +17,7 @@ mod relocation_types;
 mod states;
 mod style_laws;
 mod value_laws;
+mod version_laws;
 mod versions;
 
 pub use causes::{Cause, Refusal};
