@@ -1,12 +1,12 @@
 -- The laws of symbol versions.
-use Rattle.std.proofs.Common.{◌≡◌, ℕ, zero, suc, ◌≤◌, true, false, List, [], ◌∷◌, ◌++◌, length, All, Option, None, Some, refl, ap, sym, ◌∙◌, arith, inl, inr, zero-le}
+use Rattle.std.proofs.Common.{◌≡◌, ℕ, zero, suc, ◌<◌, ◌≤◌, true, false, List, [], ◌∷◌, ◌++◌, length, All, Option, None, Some, refl, ap, sym, ◌∙◌, arith, inl, inr, zero-le}
 use Rattle.std.proofs.lemmas.Bool.{cases_Bool}
 use Rattle.std.proofs.lemmas.List.Elements.{All-nil, All-cons}
 use Rattle.elf_model.specs.Checks.{first_refusal}
 use Rattle.elf_model.specs.declared.causes.Refusal.{Refusal}
-use Rattle.elf_model.specs.Versions.{Met, Stand, record_checks, behind, met_at, met_from, versions_in, first_stand, most_records, names_number, named_by}
-use Rattle.elf_model.specs.VersionLaws.{RecordsAreBounded, StandsInTable, RecordsStand, NamedIsFirst, UnnamedHasNone, FirstListNamesFirst}
-use Rattle.elf_model.proofs.VersionSteps.{met-ended, met-most, met-record, met-refused, ends-inside}
+use Rattle.elf_model.specs.Versions.{VERSION_NUMBERS, number_in, number_word, Met, Stand, record_checks, behind, met_at, met_from, versions_in, first_stand, most_records, names_number, named_by}
+use Rattle.elf_model.specs.VersionLaws.{RecordsAreBounded, StandsInTable, RecordsStand, NamedIsFirst, UnnamedHasNone, FirstListNamesFirst, NumbersAreSmall}
+use Rattle.elf_model.proofs.VersionSteps.{met-ended, met-most, met-record, met-refused, ends-inside, number-small}
 
 -- no more records are met than may be
 bounded : (file : List ℕ) (table size most : ℕ) (stand : Option Stand) → length (met_from file table size stand most).met ≤ most
@@ -45,6 +45,27 @@ inside file table size (suc most) (Some stand) =
 pub records_stand : RecordsStand
 unfolding versions_in
 records_stand kind file head table size = inside file table size (most_records kind size) (first_stand kind head size)
+
+-- and has a small number
+small : (file : List ℕ) (table size most : ℕ) (stand : Option Stand)
+    → All (λ (m : Met). number_in (number_word file m) < VERSION_NUMBERS) (met_from file table size stand most).met
+small file table size most None = rw (met-ended file table size most) (All-nil _)
+small file table size zero (Some stand) = rw (met-most file table size stand) (All-nil _)
+small file table size (suc most) (Some stand) =
+    go (small file table size most (behind file table stand)) (first_refusal (record_checks file table size stand)) refl
+  where
+    go : All (λ (m : Met). number_in (number_word file m) < VERSION_NUMBERS) (met_from file table size (behind file table stand) most).met
+        → (refusal : Option Refusal) → first_refusal (record_checks file table size stand) ≡ refusal
+        → All (λ (m : Met). number_in (number_word file m) < VERSION_NUMBERS) (met_from file table size (Some stand) (suc most)).met
+    go more (Some refusal) h = rw (met-refused file table size stand most refusal h) (All-nil _)
+    go more None h =
+        rw (met-record file table size stand most h)
+        (All-cons (λ (m : Met). number_in (number_word file m) < VERSION_NUMBERS) (met_at table stand)
+        (met_from file table size (behind file table stand) most).met (number-small file table size stand h) more)
+
+pub numbers_are_small : NumbersAreSmall
+unfolding versions_in
+numbers_are_small kind file head table size = small file table size (most_records kind size) (first_stand kind head size)
 
 -- a record that names a number, and one that does not
 pub named-here :

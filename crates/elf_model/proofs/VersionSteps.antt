@@ -1,11 +1,11 @@
 -- Walks over symbol versions, a record at a time.
-use Rattle.std.proofs.Common.{◌≡◌, ℕ, zero, suc, ◌+◌, ◌≤◌, nat_lt, false, List, ◌∷◌, None, Some, refl, arith, inl, inr}
+use Rattle.std.proofs.Common.{[], ◌<◌, ◌==◌, not, ◌≡◌, ℕ, zero, suc, ◌+◌, ◌≤◌, nat_lt, false, List, ◌∷◌, None, Some, refl, arith, inl, inr}
 use Rattle.std.proofs.lemmas.Bool.{cases_Bool}
 use Rattle.std.proofs.lemmas.Bool.Decides.{nat_tests}
 use Rattle.elf_model.specs.Checks.{Check, refuse, first_refusal}
-use Rattle.elf_model.specs.declared.causes.Cause.TheVariants.{VersionCut}
+use Rattle.elf_model.specs.declared.causes.Cause.TheVariants.{BadVersion, VersionCut, VersionIndex}
 use Rattle.elf_model.specs.declared.causes.Refusal.{Refusal}
-use Rattle.elf_model.specs.Versions.{Stand, record_size, kind_checks, record_checks, behind, met_at, met_from, no_versions, with_met}
+use Rattle.elf_model.specs.Versions.{Stand, record_size, word_checks, record_checks, behind, met_at, met_from, no_versions, with_met, VERSION_NUMBERS, number_in, number_word, version_word, name_end}
 use Rattle.elf_model.specs.VersionLaws.{RecordIsMet, RecordIsRefused}
 
 -- a walk that has ended meets nothing more
@@ -55,5 +55,20 @@ pub ends-inside :
     → stand.place + record_size stand.kind ≤ size
 unfolding record_checks
 ends-inside file table size stand h =
-    let inside : nat_lt size (stand.place + record_size stand.kind) ≡ false = first-passes (refuse (nat_lt size (stand.place + record_size stand.kind)) stand.from VersionCut) (kind_checks file table size stand) h in
+    let inside : nat_lt size (stand.place + record_size stand.kind) ≡ false = first-passes (refuse (nat_lt size (stand.place + record_size stand.kind)) stand.from VersionCut) (word_checks file size stand.place (met_at table stand)) h in
+    grind (arith, nat_tests)
+
+-- its number is not too large
+pub number-small :
+    (file : List ℕ) (table size : ℕ) (stand : Stand) → first_refusal (record_checks file table size stand) ≡ None
+    → number_in (number_word file (met_at table stand)) < VERSION_NUMBERS
+unfolding record_checks
+number-small file table size stand h =
+    let met = met_at table stand in
+    let inside_ = refuse (nat_lt size (stand.place + record_size stand.kind)) stand.from VersionCut in
+    let layout = refuse (not (version_word file met == 1)) met.at BadVersion in
+    let small = refuse (not (nat_lt (number_in (number_word file met)) VERSION_NUMBERS)) met.at VersionIndex in
+    let named = refuse (nat_lt size (stand.place + name_end file met)) met.at VersionCut in
+    let words = others-pass inside_ (layout ∷ small ∷ named ∷ []) h in
+    let passes = first-passes small (named ∷ []) (others-pass layout (small ∷ named ∷ []) words) in
     grind (arith, nat_tests)

@@ -1,13 +1,13 @@
 -- Laws of symbol versions: how many records are met, where they stand, which of them names a number, and how many rows the
 -- versions of symbols have.
-use Rattle.std.specs.Prelude.{ℕ, suc, ◌≡◌, ◌+◌, ◌==◌, ◌≤◌, nat_lt, true, false, if◌then◌else◌, List, ◌∷◌, ◌++◌, length, None, Some}
+use Rattle.std.specs.Prelude.{◌<◌, ℕ, suc, ◌≡◌, ◌+◌, ◌==◌, ◌≤◌, nat_lt, true, false, if◌then◌else◌, List, ◌∷◌, ◌++◌, length, None, Some}
 use Rattle.std.specs.List.{All}
 use Rattle.elf_model.specs.Checks.{first_refusal}
 use Rattle.elf_model.specs.Records.{sh_size}
 use Rattle.elf_model.specs.Style.{Style}
 use Rattle.elf_model.specs.Tables.{entry_count}
 use Rattle.elf_model.specs.VersionRows.{VERSYM_SIZE, symbol_version_rows, versioned_symbols}
-use Rattle.elf_model.specs.Versions.{Met, Stand, most_records, record_size, record_checks, behind, met_at, met_from, no_versions, with_met, versions_in, names_number, named_by}
+use Rattle.elf_model.specs.Versions.{Met, Stand, most_records, record_size, record_checks, behind, met_at, met_from, no_versions, with_met, versions_in, names_number, named_by, VERSION_NUMBERS, number_in, number_word}
 use Rattle.elf_model.specs.declared.causes.Refusal.{Refusal}
 use Rattle.elf_model.specs.declared.versions.VersionKind.{VersionKind}
 
@@ -27,6 +27,12 @@ abbrev pub RecordsStand : Type 0
 RecordsStand =
     (kind : VersionKind) (file : List ℕ) (head table size : ℕ)
     → All (StandsInTable table size) (versions_in kind file head table size).met
+
+-- and its number is one of those that versions may have
+abbrev pub NumbersAreSmall : Type 0
+NumbersAreSmall =
+    (kind : VersionKind) (file : List ℕ) (head table size : ℕ)
+    → All (λ met. number_in (number_word file met) < VERSION_NUMBERS) (versions_in kind file head table size).met
 
 -- a record whose checks pass is met, and the walk goes on where it leads
 abbrev pub RecordIsMet : Type 0

@@ -1,5 +1,5 @@
 //! The laws of symbol versions.
-ghost use Rattle.elf_model.specs.VersionLaws.{RecordsAreBounded, RecordsStand, RecordIsMet, RecordIsRefused, NamedIsFirst, UnnamedHasNone, FirstListNamesFirst, RowsAreSymbols};
+ghost use Rattle.elf_model.specs.VersionLaws.{RecordsAreBounded, RecordsStand, NumbersAreSmall, RecordIsMet, RecordIsRefused, NamedIsFirst, UnnamedHasNone, FirstListNamesFirst, RowsAreSymbols};
 
 /// No more records are met than could stand in the table one behind the other.
 #[tactic(auto, using(crate::proofs::VersionLaws::records_are_bounded))]
@@ -11,6 +11,12 @@ pub fn records_are_bounded()
 #[tactic(auto, using(crate::proofs::VersionLaws::records_stand))]
 pub fn records_stand()
     ensures { RecordsStand }
+{}
+
+/// The number of each is one of those that versions may have.
+#[tactic(auto, using(crate::proofs::VersionLaws::numbers_are_small))]
+pub fn numbers_are_small()
+    ensures { NumbersAreSmall }
 {}
 
 /// A record whose checks pass is met, and the walk goes on where it leads.

@@ -10,3 +10,4 @@ mod stretch;
 pub use buffers::BUFFER_BYTES;
 pub use name_index::NameIndex;
 pub use read_ahead::ReadAhead;
+pub use stretch::Stretch;
