@@ -10,4 +10,3 @@ mod stretch;
 pub use buffers::BUFFER_BYTES;
 pub use name_index::NameIndex;
 pub use read_ahead::ReadAhead;
-pub use stretch::Stretch;

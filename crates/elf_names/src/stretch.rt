@@ -15,7 +15,7 @@ const NEAR: u64 = 64;
 /// there is room, where that one served: where bytes were found in the stretch, or those now wanted
 /// stand right behind it.
 #[derive(Drop)]
-pub struct Stretch<const N: usize> {
+pub(crate) struct Stretch<const N: usize> {
     at: u64,
     held: u64,
     few: u64,
@@ -38,7 +38,7 @@ impl<const N: usize> Model for Stretch<N> {
 
 impl<const N: usize> Stretch<N> {
     /// A stretch of no bytes. A read where bytes are wanted that don't follow takes `few`.
-    pub fn new(few: u64) -> Stretch<N>
+    pub(crate) fn new(few: u64) -> Stretch<N>
         requires room { N ≤ 4096 }
         requires fits { few ≤ N }
         ensures { result.bytes ≡ [] }
@@ -59,7 +59,7 @@ impl<const N: usize> Stretch<N> {
     ///
     /// # Errors
     /// A fault of the read, or a refusal for want of budget, at `at`. Then nothing is held.
-    pub fn bring<S: Source>(
+    pub(crate) fn bring<S: Source>(
         &mut self,
         src: &mut Counted<S>,
         at: u64,
@@ -105,7 +105,7 @@ impl<const N: usize> Stretch<N> {
     }
 
     /// The bytes that are held from the offset `at` on, at most `most`.
-    pub fn part(&self, at: u64, most: u64) -> &[u8]
+    pub(crate) fn part(&self, at: u64, most: u64) -> &[u8]
         requires begins { self.now.at ≤ at }
         requires ends { at ≤ reach self.now }
         ensures size { length result.now ≡ min most (reach self.now - at) }
