@@ -31,6 +31,9 @@ pub mod Spellings
 pub mod StoreLemmas
 pub mod StyleLemmas
 pub mod ValueLaws
+pub mod VersionLaws
+pub mod VersionRowLaws
+pub mod VersionSteps
 pub mod WalkLaws
 pub mod SysvWalkLaws
 pub mod Walks

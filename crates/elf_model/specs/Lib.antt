@@ -56,6 +56,7 @@ pub mod ApplyLaws
 pub mod ValueLaws
 pub mod Checking
 pub mod Versions
+pub mod VersionLaws
 pub mod VersionRows
 pub mod VersionCost
 pub mod FixturesVersions

@@ -41,7 +41,11 @@ pub record Met : Type 0 where
   pub kind : VersionKind
   pub at : ℕ
 
--- what a met record holds as its number, its flags and its hash; a needed file has none
+-- what a met record holds, by its kind: the version of its layout, of which a needed version has none; its number, its flags
+-- and its hash, of which a needed file has none
+unfoldable pub version_word : List ℕ → Met → ℕ
+version_word file met = elim met.kind [ Definition ↦ vd_version file met.at | File ↦ vn_version file met.at | Need ↦ 1 ]
+
 unfoldable pub number_word : List ℕ → Met → ℕ
 number_word file met = elim met.kind [ Definition ↦ vd_ndx file met.at | File ↦ 0 | Need ↦ vna_other file met.at ]
 
@@ -51,11 +55,23 @@ flags_word file met = elim met.kind [ Definition ↦ vd_flags file met.at | File
 unfoldable pub hash_word : List ℕ → Met → ℕ
 hash_word file met = elim met.kind [ Definition ↦ vd_hash file met.at | File ↦ 0 | Need ↦ vna_hash file met.at ]
 
--- the offset in the file of the record that holds the index of its name: a definition's first name
-unfoldable pub named_at : List ℕ → Met → ℕ
-named_at file met = elim met.kind [ Definition ↦ met.at + vd_aux file met.at | File ↦ met.at | Need ↦ met.at ]
+-- the distance from it to the next record of its kind, of which 0 is the end of the chain
+unfoldable pub next_word : List ℕ → Met → ℕ
+next_word file met = elim met.kind [ Definition ↦ vd_next file met.at | File ↦ vn_next file met.at | Need ↦ vna_next file met.at ]
 
--- that index, in the string table
+-- the distance from it to what holds the index of its name: a definition's first name, else the record itself; and to the end
+-- of that
+unfoldable pub name_distance : List ℕ → Met → ℕ
+name_distance file met = elim met.kind [ Definition ↦ vd_aux file met.at | File ↦ 0 | Need ↦ 0 ]
+
+unfoldable pub name_end : List ℕ → Met → ℕ
+name_end file met =
+    elim met.kind [ Definition ↦ vd_aux file met.at + DEFINED_NAME_SIZE | File ↦ NEED_SIZE | Need ↦ NEED_SIZE ]
+
+-- where that stands in the file, and the index, in the string table
+abbrev pub named_at : List ℕ → Met → ℕ
+named_at file met = met.at + name_distance file met
+
 unfoldable pub name_index : List ℕ → Met → ℕ
 name_index file met =
     elim met.kind [
@@ -76,43 +92,42 @@ pub record Stand : Type 0 where
 abbrev pub met_at : ℕ → Stand → Met
 met_at table stand = record { kind = stand.kind; at = table + stand.place }
 
--- the checks of a record, in a table at an offset and of some bytes, in this order: it is in the table; its version is 1;
--- its number is not too large; its name is in the table
-unfoldable pub record_checks : List ℕ → (table size : ℕ) → Stand → List Check
-record_checks file table size stand =
-    let at = table + stand.place in
-    refuse (nat_lt size (stand.place + record_size stand.kind)) stand.from VersionCut
-    ∷ elim stand.kind [
-      | Definition ↦
-          refuse (not (vd_version file at == 1)) at BadVersion
-          ∷ refuse (not (nat_lt (number_in (vd_ndx file at)) VERSION_NUMBERS)) at VersionIndex
-          ∷ refuse (nat_lt size (stand.place + vd_aux file at + DEFINED_NAME_SIZE)) at VersionCut
-          ∷ []
-      | File ↦ refuse (not (vn_version file at == 1)) at BadVersion ∷ []
-      | Need ↦ refuse (not (nat_lt (number_in (vna_other file at)) VERSION_NUMBERS)) at VersionIndex ∷ []
-    ]
+-- the checks of a record, in a table at an offset and of some bytes, in this order: it is in the table; the version of its
+-- layout is 1; its number is not too large; its name is in the table
+abbrev pub place_checks : (size : ℕ) → Stand → List Check
+place_checks size stand = refuse (nat_lt size (stand.place + record_size stand.kind)) stand.from VersionCut ∷ []
 
--- where a record leads by the distance from it to the next of its kind, of which 0 is the end of the chain
+abbrev pub word_checks : List ℕ → (size place : ℕ) → Met → List Check
+word_checks file size place met =
+    refuse (not (version_word file met == 1)) met.at BadVersion
+    ∷ refuse (not (nat_lt (number_in (number_word file met)) VERSION_NUMBERS)) met.at VersionIndex
+    ∷ refuse (nat_lt size (place + name_end file met)) met.at VersionCut
+    ∷ []
+
+unfoldable pub record_checks : List ℕ → (table size : ℕ) → Stand → List Check
+record_checks file table size stand = place_checks size stand ++ word_checks file size stand.place (met_at table stand)
+
+-- where a record leads by the distance from it to the next of its kind
 abbrev pub along : (table : ℕ) → VersionKind → (place distance owner : ℕ) → Option Stand
 along table kind place distance owner =
     if distance == 0 then None
     else Some (record { kind = kind; place = place + distance; from = table + place; owner = owner })
 
--- where a needed file leads once its versions are met
-abbrev pub along_files : List ℕ → (table owner : ℕ) → Option Stand
-along_files file table owner = along table File owner (vn_next file (table + owner)) 0
+-- where a needed version leads by the distance to the next and by that from its file to the next file: the last of a file's
+-- versions leads where the file does
+abbrev pub along_needs : (table : ℕ) → (place distance owner files : ℕ) → Option Stand
+along_needs table place distance owner files =
+    if distance == 0 then along table File owner files 0 else along table Need place distance owner
 
 -- where a record leads: a definition to the next; a needed file to its first version; a version to the next of its file, and
 -- the last of them to the next file
 unfoldable pub behind : List ℕ → ℕ → Stand → Option Stand
 behind file table stand =
-    let at = table + stand.place in
+    let met = met_at table stand in
     elim stand.kind [
-      | Definition ↦ along table Definition stand.place (vd_next file at) 0
-      | File ↦ Some (record { kind = Need; place = stand.place + vn_aux file at; from = at; owner = stand.place })
-      | Need ↦
-          if vna_next file at == 0 then along_files file table stand.owner
-          else along table Need stand.place (vna_next file at) stand.owner
+      | Definition ↦ along table Definition stand.place (next_word file met) 0
+      | File ↦ Some (record { kind = Need; place = stand.place + vn_aux file met.at; from = met.at; owner = stand.place })
+      | Need ↦ along_needs table stand.place (next_word file met) stand.owner (vn_next file (table + stand.owner))
     ]
 
 -- THE RECORDS OF A TABLE, in the order in which they are met, up to the refusal of what is none, if there is one

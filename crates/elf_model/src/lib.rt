@@ -19,6 +19,7 @@ mod states;
 mod style_laws;
 mod sysv_walk_laws;
 mod value_laws;
+mod version_laws;
 mod versions;
 
 pub use causes::{Cause, Refusal};
