@@ -4,3 +4,4 @@ pub mod ExamplesChains
 pub mod ExamplesOffered
 pub mod ExamplesNumbers
 pub mod ExamplesRests
+pub mod ExamplesGnuHash

@@ -3,6 +3,7 @@
 #![tactic(auto)]
 
 mod chain_rows;
+mod hash_rows;
 mod library_rows;
 mod number_rows;
 mod offered_rows;
