@@ -4,4 +4,6 @@ pub mod ExamplesChains
 pub mod ExamplesOffered
 pub mod ExamplesNumbers
 pub mod ExamplesRests
+pub mod ExamplesBefore
 pub mod ExamplesGnuHash
+pub mod ExamplesWanted
