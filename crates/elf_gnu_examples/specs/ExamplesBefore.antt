@@ -63,3 +63,13 @@ VersionsBySegments =
     × Fails (with_bytes 0x2c8 (little 8 0x2f0) versioned_without_sections) (codes "f") (codes "! 00000000000002c0 unmapped\n")
     × Finds (with_bytes 0x2c8 (little 8 0x2f0) (with_bytes 0x290 (little 8 0x63) versioned_without_sections)) (codes "f") (codes "Y     1          3 00000000000002a8 0000000000000001 FUNC    GLOBAL DEFAULT       7 f\n" ++ found_1)
     × Fails (with_bytes 0x2a0 (little 8 0x63) versioned_without_sections) (codes "f@GLIBC_2.2.5") absent_2
+
+-- a hash table without room for its counts is refused before its link is looked at, and before the other rows are
+abbrev pub SizesComeFirst : Type 0
+SizesComeFirst =
+    Fails (with_bytes 0x358 (little 4 3) (with_bytes 0x350 (little 8 0xf) versioned_library)) (codes "f") (codes "! 0000000000000330 hash-shape\n")
+    × Fails (with_bytes 0x358 (little 4 3) (with_bytes 0x350 (little 8 0x10) versioned_library)) (codes "f") (codes "! 0000000000000330 bad-link\n")
+    × Fails (with_bytes 0x358 (little 4 3) (with_bytes 0x350 (little 8 7) (with_bytes 0x334 (little 4 5) versioned_library))) (codes "f") (codes "! 0000000000000330 hash-shape\n")
+    × Fails (with_bytes 0x358 (little 4 3) (with_bytes 0x350 (little 8 8) (with_bytes 0x334 (little 4 5) versioned_library))) (codes "f") (codes "! 0000000000000330 bad-link\n")
+    × Fails (with_bytes 0x278 (little 8 0x2f0) (with_bytes 0x258 (little 8 0x2e1) versioned_without_sections)) (codes "f") (codes "! 0000000000000250 hash-shape\n")
+    × Fails (with_bytes 0x278 (little 8 0x2f0) (with_bytes 0x258 (little 8 0x2e0) versioned_without_sections)) (codes "f") (codes "! 0000000000000270 unmapped\n")

@@ -1,5 +1,5 @@
 //! Worked lookups by what tells of their tables, each computed by the prover.
-ghost use Rattle.elf_gnu_examples.specs.ExamplesBefore.{HeadersAreChecked, GnuTablesComeFirst, FirstSectionsCount, FirstSegmentCounts, TablesOfTheGabiBySegments, VersionsBySegments};
+ghost use Rattle.elf_gnu_examples.specs.ExamplesBefore.{HeadersAreChecked, GnuTablesComeFirst, FirstSectionsCount, FirstSegmentCounts, TablesOfTheGabiBySegments, VersionsBySegments, SizesComeFirst};
 
 /// The file header, and how many headers are permitted, before all else; the section of the
 /// section names once the headers are read.
@@ -39,4 +39,11 @@ pub fn tables_of_the_gabi_by_segments()
 #[tactic(auto, unfolding(elf_model::proofs::OnLiterals::on_literals, elf_model::proofs::OnLoader::on_loader))]
 pub fn versions_by_segments()
     ensures { VersionsBySegments }
+{}
+
+/// A hash table without room for its counts is refused before its link is looked at, and before
+/// the other rows are.
+#[tactic(auto, unfolding(elf_model::proofs::OnLiterals::on_literals, elf_model::proofs::OnLoader::on_loader))]
+pub fn sizes_come_first()
+    ensures { SizesComeFirst }
 {}
