@@ -107,6 +107,8 @@ pub fn cause_word(cause: Cause) -> &'static str
         Cause::Thin => "thin",
         Cause::NotArchive => "not-archive",
         Cause::MemberCut => "member-cut",
+        Cause::VersionCut => "version-cut",
+        Cause::VersionIndex => "version-index",
     }
 }
 

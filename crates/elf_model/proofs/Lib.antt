@@ -6,6 +6,7 @@ pub mod ChangeSteps
 pub mod CheckSteps
 pub mod CostLemmas
 pub mod DynamicLaws
+pub mod GnuHashLaws
 pub mod ListingLemmas
 pub mod LookupLaws
 pub mod LookupSteps
@@ -17,6 +18,7 @@ pub mod NoteLoops
 pub mod NoteRowLaws
 pub mod Nuls
 pub mod OnLiterals
+pub mod OnLoader
 pub mod PatchLaws
 pub mod Pigeons
 pub mod RecordLemmas
@@ -29,5 +31,9 @@ pub mod Spellings
 pub mod StoreLemmas
 pub mod StyleLemmas
 pub mod ValueLaws
+pub mod VersionLaws
+pub mod VersionRowLaws
+pub mod VersionSteps
 pub mod WalkLaws
+pub mod SysvWalkLaws
 pub mod Walks

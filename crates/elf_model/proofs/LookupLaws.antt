@@ -1,13 +1,13 @@
 -- Lookups: what is calculated is the one lookup.
 use Rattle.std.proofs.Common.{◌≡◌, ℕ, zero, suc, ◌<◌, ◌≤◌, ◌⊎◌, inl, inr, Bool, true, false, List, [], ◌∷◌, ◌++◌, length, drop, nat_lt, ◌==◌, Option, None, Some, Result, Ok, Err, refl, sym, ap, ◌∙◌, arith}
 use Rattle.std.proofs.lemmas.Bool.{cases_eq, cases_lt, cases_Bool, and_parts, ltb-true}
-use Rattle.elf_model.specs.Hash.{nchain, walk_word, lookup_word, end_at_word, end_of_name, is_index, same_symbol, LookupEnd, ChainEnd, NoIndex, Nameless, Wanted, Outcome, Found, Absent, Refused, Lookup, lookup_at, lookup_by, cycle, IsFirst, IsEndless, IsLookup, lookup_end, looked_up}
-use Rattle.elf_model.specs.HashLaws.{GoesOn, LookupIsBounded, LookupAnswers, LookupIsOne, CycleExactly, CycleIsEndless, ComparedWithinChains}
+use Rattle.elf_model.specs.Hash.{nchain, lookup_word, end_at_word, end_of_name, is_index, same_symbol, LookupEnd, ChainEnd, NoIndex, Nameless, Wanted, Outcome, Found, Absent, Refused, Lookup, lookup_at, lookup_by, cycle, IsFirst, IsEndless, IsLookup, lookup_end, looked_up}
+use Rattle.elf_model.specs.HashLaws.{LookupIsBounded, LookupAnswers, LookupIsOne, CycleExactly, CycleIsEndless, ComparedWithinChains}
 use Rattle.elf_model.specs.Tables.{linked_at}
 use Rattle.elf_model.specs.Names.{same, begins, is_empty_at_zero}
 use Rattle.elf_model.specs.declared.causes.Cause.TheVariants.{NoHash, HashCycle}
 use Rattle.elf_model.specs.declared.causes.Cause.{Cause}
-use Rattle.elf_model.proofs.WalkLaws.{long_walk_never_ends, none_found, one_found, first_is_one, end_is_one, not_both}
+use Rattle.elf_model.proofs.WalkLaws.{long_walk_never_ends, searched_endless, searched_first, gives_one, not_both}
 
 module _ (file : List ℕ) (at : ℕ) (wanted : List ℕ) where
   -- a word other than 0 that is no index
@@ -38,26 +38,18 @@ cycle_is_endless file at wanted some goes =
     long_walk_never_ends _ _ _ (nchain file at) (lookup_is_bounded file at wanted) some goes
 
 module _ (file : List ℕ) (at : ℕ) (wanted : List ℕ) where
-  -- a lookup that goes on for one word more than there are chains never ends
-  never_ends :
-      GoesOn (end_at_word file at wanted) (lookup_word file at wanted) (suc (nchain file at))
-      → IsEndless (end_at_word file at wanted) (lookup_word file at wanted)
-  never_ends goes =
-      let low = goes_on_below file at wanted (lookup_word file at wanted 0) (goes 0 (omega arith)) in
-      cycle_is_endless file at wanted (omega arith) (λ i h. goes i (omega arith))
-
   -- it ends at none of the words looked at: it never ends
   pub endless_where :
       lookup_end file at wanted (suc (nchain file at)) ≡ None → IsEndless (end_at_word file at wanted) (lookup_word file at wanted)
-  unfolding lookup_end walk_word
-  endless_where e = never_ends (λ i h. none_found _ _ _ (suc (nchain file at)) 0 e i (omega arith) (omega arith))
+  unfolding lookup_end
+  endless_where e = searched_endless _ _ _ (nchain file at) (lookup_is_bounded file at wanted) e
 
   -- it ends at one of them: it is the first
   pub first_where :
       (i : ℕ) (end : LookupEnd) → lookup_end file at wanted (suc (nchain file at)) ≡ Some (i, end)
       → IsFirst (end_at_word file at wanted) (lookup_word file at wanted) i end
-  unfolding lookup_end walk_word
-  first_where i end e = one_found _ _ _ (suc (nchain file at)) 0 i end e (λ j low. absurd (omega arith))
+  unfolding lookup_end
+  first_where i end e = searched_first _ _ _ (nchain file at) i end e
 
   -- what the search for the end says
   answered :
@@ -70,19 +62,9 @@ pub lookup_answers : LookupAnswers
 unfolding looked_up
 lookup_answers file at wanted = answered file at wanted _ refl
 
-module _ (file : List ℕ) (at : ℕ) (wanted : List ℕ) where
-  same_end :
-      (i j : ℕ) (a b : LookupEnd) → i ≡ j → IsFirst (end_at_word file at wanted) (lookup_word file at wanted) i a
-      → IsFirst (end_at_word file at wanted) (lookup_word file at wanted) j b
-      → lookup_at file at wanted i a ≡ lookup_at file at wanted j b
-  same_end i j a b e f g =
-      let first : IsFirst (end_at_word file at wanted) (lookup_word file at wanted) j a = rw (← e) f in
-      rw e (ap (lookup_at file at wanted j) (end_is_one _ _ _ j a b first g))
-
 pub lookup_is_one : LookupIsOne
 lookup_is_one file at wanted first second (inl a) (inl b) =
-    let same = first_is_one _ _ _ a.number b.number a.end b.end a.first b.first in
-    a.gives ∙ same_end file at wanted a.number b.number a.end b.end same a.first b.first ∙ sym b.gives
+    a.gives ∙ gives_one _ _ (lookup_at file at wanted) a.number b.number a.end b.end a.first b.first ∙ sym b.gives
 lookup_is_one file at wanted first second (inl a) (inr b) =
     absurd (not_both _ a.end a.first.here (b.endless a.number))
 lookup_is_one file at wanted first second (inr a) (inl b) =

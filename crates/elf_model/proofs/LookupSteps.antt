@@ -3,7 +3,7 @@ use Rattle.std.proofs.Common.{◌≡◌, ℕ, zero, suc, ◌+◌, ◌*◌, ◌<�
 use Rattle.std.proofs.lemmas.Bool.{cases_eq}
 use Rattle.elf_model.specs.Checks.{first_refusal, header_checks, early_checks, load_checks}
 use Rattle.elf_model.specs.Find.{first_that, first_hash, hash_checks, shape_checks, looked_in, looked, find_cost}
-use Rattle.elf_model.specs.Hash.{LookupEnd, refused_after, looked_up}
+use Rattle.elf_model.specs.Hash.{refused_after, looked_up}
 use Rattle.elf_model.specs.HashLaws.{GoesOn}
 use Rattle.elf_model.specs.Names.{pad64}
 use Rattle.elf_model.specs.Records.{e_shnum, section_at}
@@ -11,7 +11,7 @@ use Rattle.elf_model.specs.declared.causes.Cause.TheVariants.{NoHash}
 use Rattle.elf_model.specs.declared.causes.Refusal.{Refusal}
 
 -- one word more goes on
-pub goes_on_more : (ends : ℕ → Option LookupEnd) (words : ℕ → ℕ) (n : ℕ) → GoesOn ends words n → ends (words n) ≡ None → GoesOn ends words (suc n)
+pub goes_on_more : {E : Type 0} (ends : ℕ → Option E) (words : ℕ → ℕ) (n : ℕ) → GoesOn ends words n → ends (words n) ≡ None → GoesOn ends words (suc n)
 goes_on_more ends words n goes here i low =
     elim (cases_eq i n) [ inl same ↦ rw same here | inr other ↦ goes i (omega arith) ]
 

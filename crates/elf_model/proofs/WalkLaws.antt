@@ -1,8 +1,8 @@
 -- Walks: a walk that comes to a word again never ends, and so does one that is longer than its words are many.
 use Rattle.std.proofs.Common.{◌≡◌, ℕ, zero, suc, ◌+◌, ◌-◌, ◌<◌, ◌≤◌, ◌⊎◌, inl, inr, Option, None, Some, refl, sym, ap, ◌∙◌, arith, add-suc, add-zero}
 use Rattle.std.proofs.lemmas.Bool.{cases_eq, cases_lt}
-use Rattle.elf_model.specs.Hash.{walk_word, LookupEnd, end_among, IsFirst}
-use Rattle.elf_model.specs.HashLaws.{Repeats, GoesOn, RepeatNeverEnds, LongWalkRepeats, LongWalkNeverEnds}
+use Rattle.elf_model.specs.Hash.{walk_word, end_among, IsFirst, IsEndless}
+use Rattle.elf_model.specs.HashLaws.{Repeats, GoesOn, IsBounded, RepeatNeverEnds, LongWalkRepeats, LongWalkNeverEnds}
 use Rattle.elf_model.proofs.Pigeons.{two_are_the_same}
 
 -- from the same word on a walk is the same
@@ -13,7 +13,7 @@ unfolding walk_word
 same_from next start i j zero e = rw (add-zero, add-zero) e
 same_from next start i j (suc d) e = rw (add-suc, add-suc) (ap next (same_from next start i j d e))
 
-module _ (ends : ℕ → Option LookupEnd) (next : ℕ → ℕ) (start n : ℕ) where
+module _ {E : Type 0} (ends : ℕ → Option E) (next : ℕ → ℕ) (start n : ℕ) where
   -- all words below a number go on, the later ones as the ones at the earlier turn
   goes_on_below :
       Repeats (walk_word next start) n → GoesOn ends (walk_word next start) n
@@ -34,17 +34,22 @@ module _ (ends : ℕ → Option LookupEnd) (next : ℕ → ℕ) (start n : ℕ) 
             rw (← same) before
       ]
 
+pub repeats_endless :
+    {E : Type 0} (ends : ℕ → Option E) (next : ℕ → ℕ) (start n : ℕ)
+    → Repeats (walk_word next start) n → GoesOn ends (walk_word next start) n → IsEndless ends (walk_word next start)
+repeats_endless ends next start n r goes i = goes_on_below ends next start n r goes (suc i) i (omega arith)
+
 pub repeat_never_ends : RepeatNeverEnds
-repeat_never_ends ends next start n r goes i = goes_on_below ends next start n r goes (suc i) i (omega arith)
+repeat_never_ends ends next start n r goes = repeats_endless ends next start n r goes
 
 -- a word that goes on, less one
 less_one : (ℕ → ℕ) → ℕ → ℕ
 less_one words i = words i - 1
 
-pub long_walk_repeats : LongWalkRepeats
+long_repeats : {E : Type 0} (ends : ℕ → Option E) (words : ℕ → ℕ) (n : ℕ) → IsBounded ends n → 0 < n → GoesOn ends words n → Repeats words n
 unfolding less_one
-long_walk_repeats ends words zero bounded some goes = absurd (omega arith)
-long_walk_repeats ends words (suc n) bounded some goes =
+long_repeats ends words zero bounded some goes = absurd (omega arith)
+long_repeats ends words (suc n) bounded some goes =
     let r = two_are_the_same n (less_one words) (λ i within.
     let go : ends (words i) ≡ None = goes i (omega arith) in
     let a : 0 < words i = bounded.above (words i) go in
@@ -57,34 +62,42 @@ long_walk_repeats ends words (suc n) bounded some goes =
     let above_two : 0 < words r.later = bounded.above (words r.later) (goes r.later (omega arith)) in
     record { earlier = r.earlier; later = r.later; before = b; within = omega arith; again = omega arith }
 
+pub long_walk_repeats : LongWalkRepeats
+long_walk_repeats ends words n bounded some goes = long_repeats ends words n bounded some goes
+
+pub long_endless :
+    {E : Type 0} (ends : ℕ → Option E) (next : ℕ → ℕ) (start n : ℕ)
+    → IsBounded ends n → 0 < n → GoesOn ends (walk_word next start) n → IsEndless ends (walk_word next start)
+long_endless ends next start n bounded some goes =
+    repeats_endless ends next start n (long_repeats ends (walk_word next start) n bounded some goes) goes
+
 pub long_walk_never_ends : LongWalkNeverEnds
-long_walk_never_ends ends next start n bounded some goes =
-    repeat_never_ends ends next start n (long_walk_repeats ends (walk_word next start) n bounded some goes) goes
+long_walk_never_ends ends next start n bounded some goes = long_endless ends next start n bounded some goes
 
 -- a walk ends at a word, or goes on
-pub ends_or_goes : (end : Option LookupEnd) → ((e : LookupEnd) × (end ≡ Some e)) ⊎ (end ≡ None)
+pub ends_or_goes : {E : Type 0} (end : Option E) → ((e : E) × (end ≡ Some e)) ⊎ (end ≡ None)
 ends_or_goes None = inr refl
 ends_or_goes (Some e) = inl (e, refl)
 
 -- it does not do both
-pub not_both : (end : Option LookupEnd) (e : LookupEnd) → end ≡ Some e → end ≡ None → ⊥
+pub not_both : {E : Type 0} (end : Option E) (e : E) → end ≡ Some e → end ≡ None → ⊥
 not_both end e some none = cc
 
 -- a word at which the walk ends is found
 pub found_here :
-    (ends : ℕ → Option LookupEnd) (next : ℕ → ℕ) (word i n : ℕ) (end : LookupEnd) → ends word ≡ Some end
+    {E : Type 0} (ends : ℕ → Option E) (next : ℕ → ℕ) (word i n : ℕ) (end : E) → ends word ≡ Some end
     → end_among ends next word i (suc n) ≡ Some (i, end)
 unfolding end_among
 found_here ends next word i n end t = rw (t, end_among) refl
 
 -- a word at which it does not is passed over
 pub passed_over :
-    (ends : ℕ → Option LookupEnd) (next : ℕ → ℕ) (word i n : ℕ) → ends word ≡ None
+    {E : Type 0} (ends : ℕ → Option E) (next : ℕ → ℕ) (word i n : ℕ) → ends word ≡ None
     → end_among ends next word i (suc n) ≡ end_among ends next (next word) (suc i) n
 unfolding end_among
 passed_over ends next word i n t = rw (t, end_among) refl
 
-module _ (ends : ℕ → Option LookupEnd) (next : ℕ → ℕ) (start : ℕ) where
+module _ {E : Type 0} (ends : ℕ → Option E) (next : ℕ → ℕ) (start : ℕ) where
   -- none found: the walk goes on at all words looked at
   pub none_found :
       (n i : ℕ) → end_among ends next (walk_word next start i) i n ≡ None
@@ -102,7 +115,7 @@ module _ (ends : ℕ → Option LookupEnd) (next : ℕ → ℕ) (start : ℕ) wh
 
   -- one found: it is the first
   pub one_found :
-      (n i k : ℕ) (end : LookupEnd) → end_among ends next (walk_word next start i) i n ≡ Some (k, end)
+      (n i k : ℕ) (end : E) → end_among ends next (walk_word next start i) i n ≡ Some (k, end)
       → ((j : ℕ) → j < i → ends (walk_word next start j) ≡ None)
       → IsFirst ends (walk_word next start) k end
   unfolding end_among walk_word
@@ -112,8 +125,8 @@ module _ (ends : ℕ → Option LookupEnd) (next : ℕ → ℕ) (start : ℕ) wh
         | inl found ↦
             let f = found_here ends next (walk_word next start i) i n found.0 found.1 in
             let both : (i, found.0) ≡ (k, end) = cc in
-            let same : i ≡ k = ap (λ (p : ℕ × LookupEnd). p.0) both in
-            let why : found.0 ≡ end = ap (λ (p : ℕ × LookupEnd). p.1) both in
+            let same : i ≡ k = ap (λ (p : ℕ × E). p.0) both in
+            let why : found.0 ≡ end = ap (λ (p : ℕ × E). p.1) both in
             record { here = rw (← same) (found.1 ∙ ap Some why); none_before = rw (← same) before }
         | inr goes ↦ one_found n (suc i) k end (sym (passed_over ends next (walk_word next start i) i n goes) ∙ e) (λ j low. elim (cases_eq j i) [
           | inl same ↦ rw same goes
@@ -121,19 +134,41 @@ module _ (ends : ℕ → Option LookupEnd) (next : ℕ → ℕ) (start : ℕ) wh
         ])
       ]
 
+-- A walk over words below a bound: what the search for its end says, among one word more than the bound.
+module _ {E : Type 0} (ends : ℕ → Option E) (next : ℕ → ℕ) (start n : ℕ) where
+  -- it ends at one of them: it is the first
+  pub searched_first : (i : ℕ) (end : E) → end_among ends next start 0 (suc n) ≡ Some (i, end) → IsFirst ends (walk_word next start) i end
+  unfolding walk_word
+  searched_first i end e = one_found ends next start (suc n) 0 i end e (λ j low. absurd (omega arith))
+
+  -- it ends at none: it never ends
+  pub searched_endless : IsBounded ends n → end_among ends next start 0 (suc n) ≡ None → IsEndless ends (walk_word next start)
+  unfolding walk_word
+  searched_endless bounded e =
+      let goes : GoesOn ends (walk_word next start) (suc n) = λ i h. none_found ends next start (suc n) 0 e i (omega arith) (omega arith) in
+      let low = bounded.below (walk_word next start 0) (goes 0 (omega arith)) in
+      long_endless ends next start n bounded (omega arith) (λ i h. goes i (omega arith))
+
+-- A walk that ends at one word has one end.
+module _ {E : Type 0} (ends : ℕ → Option E) (words : ℕ → ℕ) where
   -- there is one first word only
-  pub first_is_one :
-      (i j : ℕ) (a b : LookupEnd) → IsFirst ends (walk_word next start) i a → IsFirst ends (walk_word next start) j b → i ≡ j
+  pub first_is_one : (i j : ℕ) (a b : E) → IsFirst ends words i a → IsFirst ends words j b → i ≡ j
   first_is_one i j a b f g =
       elim (cases_lt i j) [
-        | inl low ↦ absurd (not_both (ends (walk_word next start i)) a f.here (g.none_before i low))
+        | inl low ↦ absurd (not_both (ends (words i)) a f.here (g.none_before i low))
         | inr high ↦ elim (cases_lt j i) [
-          | inl low ↦ absurd (not_both (ends (walk_word next start j)) b g.here (f.none_before j low))
+          | inl low ↦ absurd (not_both (ends (words j)) b g.here (f.none_before j low))
           | inr same ↦ omega arith
         ]
       ]
 
   -- which ends in one way
-  pub end_is_one :
-      (i : ℕ) (a b : LookupEnd) → IsFirst ends (walk_word next start) i a → IsFirst ends (walk_word next start) i b → a ≡ b
+  pub end_is_one : (i : ℕ) (a b : E) → IsFirst ends words i a → IsFirst ends words i b → a ≡ b
   end_is_one i a b f g = let here = f.here in let there = g.here in cc
+
+  -- so what is told by it is one
+  pub gives_one : {X : Type 0} (gives : ℕ → E → X) (i j : ℕ) (a b : E) → IsFirst ends words i a → IsFirst ends words j b → gives i a ≡ gives j b
+  gives_one gives i j a b f g =
+      let e = first_is_one i j a b f g in
+      let first : IsFirst ends words j a = rw (← e) f in
+      rw e (ap (gives j) (end_is_one j a b first g))

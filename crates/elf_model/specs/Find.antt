@@ -17,12 +17,16 @@ first_that test first (suc n) = elim (test first) [ true ↦ Some first | false 
 unfoldable pub first_hash : List ℕ → Option ℕ
 first_hash file = first_that (λ i. sh_type file (section_at file i) == SHT_HASH) 0 (e_shnum file)
 
--- the checks of a HASH section before its words are read
-unfoldable pub hash_checks : List ℕ → ℕ → List Check
-hash_checks file at =
+-- the checks of a section that is a hash table, of so many bytes at least, before its words are read
+abbrev pub hash_checks_from : ℕ → List ℕ → ℕ → List Check
+hash_checks_from least file at =
     range_checks file at
-    ++ (refuse (nat_lt (sh_size file at) 8) at HashShape ∷ refuse (sh_link file at == 0 || not (has_symbols file at)) at BadLink ∷ [])
+    ++ (refuse (nat_lt (sh_size file at) least) at HashShape ∷ refuse (sh_link file at == 0 || not (has_symbols file at)) at BadLink ∷ [])
     ++ symbol_table_checks file (linked_at file at)
+
+-- those of a HASH section
+unfoldable pub hash_checks : List ℕ → ℕ → List Check
+hash_checks file at = hash_checks_from 8 file at
 
 -- the check of a hash table's counts against its size
 unfoldable pub shape_checks : List ℕ → ℕ → List Check

@@ -18,20 +18,33 @@ hash_byte hash byte =
 unfoldable pub sysv_hash : List ℕ → ℕ
 sysv_hash name = fold hash_byte 0 name
 
--- The table of the HASH section whose header stands at an offset of the file.
+-- The table that stands at a place of the file: its counts, and where the words of a bucket and of a chain stand.
+abbrev pub sysv_nbucket : List ℕ → ℕ → ℕ
+sysv_nbucket file place = field file place 4
+
+abbrev pub sysv_nchain : List ℕ → ℕ → ℕ
+sysv_nchain file place = field file (place + 4) 4
+
+abbrev pub sysv_bucket_at : ℕ → ℕ → ℕ
+sysv_bucket_at place i = place + (8 + 4 * i)
+
+abbrev pub sysv_chain_at : List ℕ → ℕ → ℕ → ℕ
+sysv_chain_at file place i = place + (8 + 4 * sysv_nbucket file place + 4 * i)
+
+-- The same of the HASH section whose header stands at an offset of the file.
 abbrev pub nbucket : List ℕ → ℕ → ℕ
-nbucket file at = field file (sh_offset file at) 4
+nbucket file at = sysv_nbucket file (sh_offset file at)
 
 abbrev pub nchain : List ℕ → ℕ → ℕ
-nchain file at = field file (sh_offset file at + 4) 4
+nchain file at = sysv_nchain file (sh_offset file at)
 
 -- where the word of a bucket stands
 abbrev pub bucket_at : List ℕ → ℕ → ℕ → ℕ
-bucket_at file at i = sh_offset file at + (8 + 4 * i)
+bucket_at file at i = sysv_bucket_at (sh_offset file at) i
 
 -- where the word of a chain stands
 abbrev pub chain_at : List ℕ → ℕ → ℕ → ℕ
-chain_at file at i = sh_offset file at + (8 + 4 * nbucket file at + 4 * i)
+chain_at file at i = sysv_chain_at file (sh_offset file at) i
 
 -- how many symbols a symbol table has
 abbrev pub symbol_count : List ℕ → ℕ → ℕ
@@ -126,12 +139,12 @@ abbrev pub cycle : List ℕ → ℕ → List ℕ → Lookup
 cycle file at wanted = refused_after (nchain file at) (record { at = bucket_of file at wanted; cause = HashCycle })
 
 -- i is the least number at whose word a walk ends
-pub record IsFirst (ends : ℕ → Option LookupEnd) (words : ℕ → ℕ) (i : ℕ) (end : LookupEnd) : Type 0 where
+pub record IsFirst {E : Type 0} (ends : ℕ → Option E) (words : ℕ → ℕ) (i : ℕ) (end : E) : Type 0 where
   pub here : ends (words i) ≡ Some end
   pub none_before : (j : ℕ) → j < i → ends (words j) ≡ None
 
 -- a walk ends at no word
-abbrev pub IsEndless : (ℕ → Option LookupEnd) → (ℕ → ℕ) → Type 0
+abbrev pub IsEndless : {E : Type 0} → (ℕ → Option E) → (ℕ → ℕ) → Type 0
 IsEndless ends words = (i : ℕ) → ends (words i) ≡ None
 
 -- a lookup ends at word number `number`, which says what it gives
@@ -153,7 +166,7 @@ IsLookup file at wanted lookup = EndsWith file at wanted lookup ⊎ NeverEnds fi
 -- The calculation. By the laws `LookupAnswers` and `LookupIsOne` it gives the one lookup that `IsLookup` tells.
 
 -- the least number, from i on and among so many, at whose word a walk ends, and why
-unfoldable pub end_among : (ℕ → Option LookupEnd) → (ℕ → ℕ) → ℕ → ℕ → ℕ → Option (ℕ × LookupEnd)
+unfoldable pub end_among : {E : Type 0} → (ℕ → Option E) → (ℕ → ℕ) → ℕ → ℕ → ℕ → Option (ℕ × E)
 end_among ends next word i zero = None
 end_among ends next word i (suc n) =
     elim (ends word) [ Some end ↦ Some (i, end) | None ↦ end_among ends next (next word) (suc i) n ]

@@ -11,12 +11,12 @@ pub record Repeats (words : ℕ → ℕ) (n : ℕ) : Type 0 where
   pub again : words earlier ≡ words later
 
 -- a word at which a walk does not end is above 0 and below a bound
-pub record IsBounded (ends : ℕ → Option LookupEnd) (bound : ℕ) : Type 0 where
+pub record IsBounded {E : Type 0} (ends : ℕ → Option E) (bound : ℕ) : Type 0 where
   pub above : (word : ℕ) → ends word ≡ None → 0 < word
   pub below : (word : ℕ) → ends word ≡ None → word < bound
 
 -- a walk does not end at its first words, so many
-abbrev pub GoesOn : (ℕ → Option LookupEnd) → (ℕ → ℕ) → ℕ → Type 0
+abbrev pub GoesOn : {E : Type 0} → (ℕ → Option E) → (ℕ → ℕ) → ℕ → Type 0
 GoesOn ends words n = (i : ℕ) → i < n → ends (words i) ≡ None
 
 -- a walk that comes to a word again before it ends never ends

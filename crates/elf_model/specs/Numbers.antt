@@ -37,6 +37,21 @@ SHT_NOBITS = 8
 abbrev pub SHT_DYNSYM : ℕ
 SHT_DYNSYM = 11
 
+-- the type of a hash table of the GNU system
+abbrev pub SHT_GNU_HASH : ℕ
+SHT_GNU_HASH = 0x6ffffff6
+
+-- section types of the GNU system: definitions, needs and numbers of symbol versions (Linux Standard Base Core, Symbol
+-- Versioning)
+abbrev pub SHT_GNU_VERDEF : ℕ
+SHT_GNU_VERDEF = 0x6ffffffd
+
+abbrev pub SHT_GNU_VERNEED : ℕ
+SHT_GNU_VERNEED = 0x6ffffffe
+
+abbrev pub SHT_GNU_VERSYM : ℕ
+SHT_GNU_VERSYM = 0x6fffffff
+
 -- segment types (gABI 5, Segment Types)
 abbrev pub PT_LOAD : ℕ
 PT_LOAD = 1
@@ -54,8 +69,14 @@ DT_NULL = 0
 abbrev pub DT_NEEDED : ℕ
 DT_NEEDED = 1
 
+abbrev pub DT_HASH : ℕ
+DT_HASH = 4
+
 abbrev pub DT_STRTAB : ℕ
 DT_STRTAB = 5
+
+abbrev pub DT_SYMTAB : ℕ
+DT_SYMTAB = 6
 
 abbrev pub DT_STRSZ : ℕ
 DT_STRSZ = 10
@@ -68,6 +89,19 @@ DT_RPATH = 15
 
 abbrev pub DT_RUNPATH : ℕ
 DT_RUNPATH = 29
+
+-- dynamic array tags of the GNU system: its hash table, and numbers, definitions and needs of symbol versions
+abbrev pub DT_GNU_HASH : ℕ
+DT_GNU_HASH = 0x6ffffef5
+
+abbrev pub DT_VERSYM : ℕ
+DT_VERSYM = 0x6ffffff0
+
+abbrev pub DT_VERDEF : ℕ
+DT_VERDEF = 0x6ffffffc
+
+abbrev pub DT_VERNEED : ℕ
+DT_VERNEED = 0x6ffffffe
 
 -- special section indices (gABI 4, Special Section Indexes)
 abbrev pub SHN_UNDEF : ℕ
@@ -82,9 +116,41 @@ SHN_ABS = 0xfff1
 abbrev pub SHN_COMMON : ℕ
 SHN_COMMON = 0xfff2
 
--- the weak symbol binding (gABI 4, Symbol Binding)
+-- symbol bindings (gABI 4, Symbol Binding), and one of the GNU system
+abbrev pub STB_GLOBAL : ℕ
+STB_GLOBAL = 1
+
 abbrev pub STB_WEAK : ℕ
 STB_WEAK = 2
+
+abbrev pub STB_GNU_UNIQUE : ℕ
+STB_GNU_UNIQUE = 10
+
+-- symbol types (gABI 4, Symbol Types), and one of the GNU system
+abbrev pub STT_NOTYPE : ℕ
+STT_NOTYPE = 0
+
+abbrev pub STT_OBJECT : ℕ
+STT_OBJECT = 1
+
+abbrev pub STT_FUNC : ℕ
+STT_FUNC = 2
+
+abbrev pub STT_COMMON : ℕ
+STT_COMMON = 5
+
+abbrev pub STT_TLS : ℕ
+STT_TLS = 6
+
+abbrev pub STT_GNU_IFUNC : ℕ
+STT_GNU_IFUNC = 10
+
+-- symbol visibilities (gABI 4, Symbol Visibility)
+abbrev pub STV_DEFAULT : ℕ
+STV_DEFAULT = 0
+
+abbrev pub STV_PROTECTED : ℕ
+STV_PROTECTED = 3
 
 -- the relocation type of x86-64 that stores nothing (x86-64 psABI, Relocation Types)
 abbrev pub R_X86_64_NONE : ℕ

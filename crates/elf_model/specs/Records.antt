@@ -174,6 +174,62 @@ n_descsz bytes at = field bytes (at + 4) 4
 abbrev pub n_type : List ℕ → ℕ → ℕ
 n_type bytes at = field bytes (at + 8) 4
 
+-- A version definition, 20 bytes (Linux Standard Base Core, Symbol Versioning).
+abbrev pub vd_version : List ℕ → ℕ → ℕ
+vd_version bytes at = field bytes at 2
+
+abbrev pub vd_flags : List ℕ → ℕ → ℕ
+vd_flags bytes at = field bytes (at + 2) 2
+
+abbrev pub vd_ndx : List ℕ → ℕ → ℕ
+vd_ndx bytes at = field bytes (at + 4) 2
+
+abbrev pub vd_hash : List ℕ → ℕ → ℕ
+vd_hash bytes at = field bytes (at + 8) 4
+
+abbrev pub vd_aux : List ℕ → ℕ → ℕ
+vd_aux bytes at = field bytes (at + 12) 4
+
+abbrev pub vd_next : List ℕ → ℕ → ℕ
+vd_next bytes at = field bytes (at + 16) 4
+
+-- A name of a version definition, 8 bytes (Linux Standard Base Core, Symbol Versioning).
+abbrev pub vda_name : List ℕ → ℕ → ℕ
+vda_name bytes at = field bytes at 4
+
+-- A file of which versions are needed, 16 bytes (Linux Standard Base Core, Symbol Versioning).
+abbrev pub vn_version : List ℕ → ℕ → ℕ
+vn_version bytes at = field bytes at 2
+
+abbrev pub vn_file : List ℕ → ℕ → ℕ
+vn_file bytes at = field bytes (at + 4) 4
+
+abbrev pub vn_aux : List ℕ → ℕ → ℕ
+vn_aux bytes at = field bytes (at + 8) 4
+
+abbrev pub vn_next : List ℕ → ℕ → ℕ
+vn_next bytes at = field bytes (at + 12) 4
+
+-- A version that is needed of it, 16 bytes (Linux Standard Base Core, Symbol Versioning).
+abbrev pub vna_hash : List ℕ → ℕ → ℕ
+vna_hash bytes at = field bytes at 4
+
+abbrev pub vna_flags : List ℕ → ℕ → ℕ
+vna_flags bytes at = field bytes (at + 4) 2
+
+abbrev pub vna_other : List ℕ → ℕ → ℕ
+vna_other bytes at = field bytes (at + 6) 2
+
+abbrev pub vna_name : List ℕ → ℕ → ℕ
+vna_name bytes at = field bytes (at + 8) 4
+
+abbrev pub vna_next : List ℕ → ℕ → ℕ
+vna_next bytes at = field bytes (at + 12) 4
+
+-- The version of a symbol, a word of 2 bytes (Linux Standard Base Core, Symbol Versioning).
+abbrev pub versym : List ℕ → ℕ → ℕ
+versym bytes at = field bytes at 2
+
 -- where a section header stands in the file
 abbrev pub section_at : List ℕ → ℕ → ℕ
 section_at file i = e_shoff file + SECTION_HEADER_SIZE * i

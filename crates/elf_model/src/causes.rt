@@ -69,6 +69,10 @@ pub enum Cause {
     NotArchive,
     /// No member of an archive stands where one should, or it ends past the end of the file.
     MemberCut,
+    /// A record of symbol versions leads to a place where none is.
+    VersionCut,
+    /// The number of a symbol version is too large, or no record names it.
+    VersionIndex,
 }
 
 /// A refusal: its cause, and the file offset that it points to.

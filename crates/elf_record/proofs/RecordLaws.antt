@@ -15,6 +15,12 @@ use Rattle.elf_record.specs.Dyn.{IsDyn}
 use Rattle.elf_record.specs.declared.dyn_entry.Dyn.{Dyn}
 use Rattle.elf_record.specs.NoteHead.{IsNoteHead, note_head_parts}
 use Rattle.elf_record.specs.declared.note_head.NoteHead.{NoteHead}
+use Rattle.elf_record.specs.Verdef.{IsVerdef, verdef_parts}
+use Rattle.elf_record.specs.declared.verdef.Verdef.{Verdef}
+use Rattle.elf_record.specs.Verneed.{IsVerneed, verneed_parts}
+use Rattle.elf_record.specs.declared.verneed.Verneed.{Verneed}
+use Rattle.elf_record.specs.Vernaux.{IsVernaux, vernaux_parts}
+use Rattle.elf_record.specs.declared.vernaux.Vernaux.{Vernaux}
 use Rattle.elf_record.proofs.PartLaws.{parts_in_file}
 
 pub shdr_in_file : (file : List ℕ) (at : ℕ) (bytes : List ℕ) (r : Shdr) → bytes ≡ slice file at 64 → IsShdr bytes 0 r → IsShdr file at r
@@ -28,6 +34,15 @@ sym_in_file file at bytes r is stands = let there = parts_in_file file at bytes 
 
 pub note_head_in_file : (file : List ℕ) (at : ℕ) (bytes : List ℕ) (r : NoteHead) → bytes ≡ slice file at 12 → IsNoteHead bytes 0 r → IsNoteHead file at r
 note_head_in_file file at bytes r is stands = let there = parts_in_file file at bytes (note_head_parts r) is (assumption stands) in assumption there
+
+pub verdef_in_file : (file : List ℕ) (at : ℕ) (bytes : List ℕ) (r : Verdef) → bytes ≡ slice file at 20 → IsVerdef bytes 0 r → IsVerdef file at r
+verdef_in_file file at bytes r is stands = let there = parts_in_file file at bytes (verdef_parts r) is (assumption stands) in assumption there
+
+pub verneed_in_file : (file : List ℕ) (at : ℕ) (bytes : List ℕ) (r : Verneed) → bytes ≡ slice file at 16 → IsVerneed bytes 0 r → IsVerneed file at r
+verneed_in_file file at bytes r is stands = let there = parts_in_file file at bytes (verneed_parts r) is (assumption stands) in assumption there
+
+pub vernaux_in_file : (file : List ℕ) (at : ℕ) (bytes : List ℕ) (r : Vernaux) → bytes ≡ slice file at 16 → IsVernaux bytes 0 r → IsVernaux file at r
+vernaux_in_file file at bytes r is stands = let there = parts_in_file file at bytes (vernaux_parts r) is (assumption stands) in assumption there
 
 -- a field of some bytes of a file is a field of the file
 field_in : (file : List ℕ) (at size : ℕ) (bytes : List ℕ) (k width : ℕ) → bytes ≡ slice file at size → k + width ≤ size → field bytes k width ≡ field file (at + k) width

@@ -6,3 +6,6 @@ pub mod Phdr
 pub mod Rela
 pub mod Shdr
 pub mod Sym
+pub mod Verdef
+pub mod Verneed
+pub mod Vernaux

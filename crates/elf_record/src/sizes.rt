@@ -10,3 +10,10 @@ pub const SYMBOL_BYTES: u64 = 24;
 pub const RELOCATION_BYTES: u64 = 24;
 /// The size of a dynamic entry (gABI 5, Dynamic Section).
 pub const DYNAMIC_BYTES: u64 = 16;
+/// The size of a version definition (Linux Standard Base Core, Symbol Versioning).
+pub const VERSION_DEFINITION_BYTES: u64 = 20;
+/// The size of a name of a version definition (Linux Standard Base Core, Symbol Versioning).
+pub const VERSION_NAME_BYTES: u64 = 8;
+/// The size of a file of which versions are needed, and of such a version (Linux Standard Base Core,
+/// Symbol Versioning).
+pub const VERSION_NEED_BYTES: u64 = 16;

@@ -6,7 +6,7 @@ use Rattle.elf_model.specs.Lines.{header_line, segment_line, escaped}
 use Rattle.elf_model.specs.LineFronts.{section_front, symbol_front, relocation_front, dynamic_front}
 use Rattle.elf_model.specs.Causes.{cause_word}
 use Rattle.elf_model.specs.FixturesTables.{numbers_from}
-use Rattle.elf_model.specs.declared.causes.Cause.TheVariants.{Short, NotElf, BadClass, BadData, BadVersion, ExtendedNumbering, TooManyHeaders, EntrySize, TableOutside, BadLink, NotStrings, SizeNotWhole, NameOutside, NameUnended, NoteCut, NoHash, HashShape, HashIndex, HashCycle, Unsupported, Overflow, NotRel, Unplaced, Undefined, PlaceOutside, SymbolIndex, TooLong, Budget, Unmapped, Thin, NotArchive, MemberCut}
+use Rattle.elf_model.specs.declared.causes.Cause.TheVariants.{Short, NotElf, BadClass, BadData, BadVersion, ExtendedNumbering, TooManyHeaders, EntrySize, TableOutside, BadLink, NotStrings, SizeNotWhole, NameOutside, NameUnended, NoteCut, NoHash, HashShape, HashIndex, HashCycle, Unsupported, Overflow, NotRel, Unplaced, Undefined, PlaceOutside, SymbolIndex, TooLong, Budget, Unmapped, Thin, NotArchive, MemberCut, VersionCut, VersionIndex}
 
 -- 128 bytes, each of which is its own place
 unfoldable pub places_as_bytes : List ℕ
@@ -147,14 +147,15 @@ CausesHaveWords =
     (Short ∷ NotElf ∷ BadClass ∷ BadData ∷ BadVersion ∷ ExtendedNumbering ∷ TooManyHeaders ∷ EntrySize ∷ TableOutside ∷ BadLink
     ∷ NotStrings ∷ SizeNotWhole ∷ NameOutside ∷ NameUnended ∷ NoteCut ∷ NoHash ∷ HashShape ∷ HashIndex ∷ HashCycle
     ∷ Unsupported ∷ Overflow ∷ NotRel ∷ Unplaced ∷ Undefined ∷ PlaceOutside ∷ SymbolIndex
-    ∷ TooLong ∷ Budget ∷ Unmapped ∷ Thin ∷ NotArchive ∷ MemberCut ∷ [])
+    ∷ TooLong ∷ Budget ∷ Unmapped ∷ Thin ∷ NotArchive ∷ MemberCut ∷ VersionCut ∷ VersionIndex ∷ [])
     ≡ codes "short" ∷ codes "not-elf" ∷ codes "class" ∷ codes "data" ∷ codes "version" ∷ codes "extended-numbering"
     ∷ codes "too-many-headers" ∷ codes "entry-size" ∷ codes "table-outside" ∷ codes "bad-link" ∷ codes "not-strings"
     ∷ codes "size-not-whole" ∷ codes "name-outside" ∷ codes "name-unended" ∷ codes "note-cut" ∷ codes "no-hash"
     ∷ codes "hash-shape" ∷ codes "hash-index" ∷ codes "hash-cycle" ∷ codes "unsupported" ∷ codes "overflow"
     ∷ codes "not-rel" ∷ codes "unplaced" ∷ codes "undefined"
     ∷ codes "place-outside" ∷ codes "symbol-index" ∷ codes "too-long" ∷ codes "budget" ∷ codes "unmapped"
-    ∷ codes "thin" ∷ codes "not-archive" ∷ codes "member-cut" ∷ []
+    ∷ codes "thin" ∷ codes "not-archive" ∷ codes "member-cut" ∷ codes "version-cut"
+    ∷ codes "version-index" ∷ []
 
 -- the first and the last printing character and their neighbours, and those of the backslash
 abbrev pub BytesAreSpelt : Type 0

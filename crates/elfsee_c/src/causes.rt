@@ -38,6 +38,8 @@ pub(crate) fn cause_number(cause: Cause) -> u32
         Cause::TooLong => 27,
         Cause::Budget => 28,
         Cause::Unmapped => 29,
+        Cause::VersionCut => 32,
+        Cause::VersionIndex => 33,
         Cause::Thin => 34,
         Cause::NotArchive => 35,
         Cause::MemberCut => 36,

@@ -73,6 +73,8 @@ fn cause_of(number: u32) -> Option<Cause>
         27 => Some(Cause::TooLong),
         28 => Some(Cause::Budget),
         29 => Some(Cause::Unmapped),
+        32 => Some(Cause::VersionCut),
+        33 => Some(Cause::VersionIndex),
         34 => Some(Cause::Thin),
         35 => Some(Cause::NotArchive),
         36 => Some(Cause::MemberCut),

@@ -1,0 +1,58 @@
+-- Worked examples of what is wanted: a name and a version; and of long names of versions.
+use Rattle.std.specs.Prelude.{◌≡◌, ℕ, ◌+◌, ◌*◌, true, false, List, [], ◌∷◌, ◌++◌, codes, replicate}
+use Rattle.elf_model.specs.Bytes.{little}
+use Rattle.elf_model.specs.Fixtures.{zeros, with_bytes}
+use Rattle.elf_model.specs.FixturesHash.{words}
+use Rattle.elf_model.specs.FixturesVersions.{versioned_library}
+use Rattle.elf_model.specs.Loader.{Wanted, NoVersion, Version, DefaultVersion, wanted_of, is_complete}
+use Rattle.elf_gnu_examples.specs.LoaderWords.{Finds, Asks, second_f, found_2}
+
+-- the text of a name alone, of a version behind one sign and behind two, and of versions that hold such signs
+abbrev pub TextsAreParted : Type 0
+TextsAreParted =
+    (wanted_of (codes "f") ≡ record { name = codes "f"; asked = NoVersion })
+    × (wanted_of (codes "f@V1") ≡ record { name = codes "f"; asked = Version (codes "V1") })
+    × (wanted_of (codes "f@@V1") ≡ record { name = codes "f"; asked = DefaultVersion (codes "V1") })
+    × (wanted_of (codes "f@V@1") ≡ record { name = codes "f"; asked = Version (codes "V@1") })
+    × (wanted_of (codes "f@@@1") ≡ record { name = codes "f"; asked = DefaultVersion (codes "@1") })
+
+-- an empty name, and an empty version
+abbrev pub EmptyNamesAreNone : Type 0
+EmptyNamesAreNone =
+    (is_complete (wanted_of []) ≡ false)
+    × (is_complete (wanted_of (codes "@V1")) ≡ false)
+    × (is_complete (wanted_of (codes "f@")) ≡ false)
+    × (is_complete (wanted_of (codes "f@@")) ≡ false)
+    × (is_complete (wanted_of (codes "f")) ≡ true)
+    × (is_complete (wanted_of (codes "f@V")) ≡ true)
+    × (is_complete (wanted_of (codes "f@@V")) ≡ true)
+
+-- the library with other strings, behind it: `f`, and so many letters that are the name of the second version
+unfoldable pub long_version : ℕ → List ℕ
+long_version count =
+    with_bytes 0x128 (little 4 1)
+    (with_bytes 0x140 (little 4 1)
+    (with_bytes 0x1e0 (little 4 1)
+    (with_bytes 0x1fc (little 4 3)
+    (with_bytes 0x228 (little 4 1)
+    (with_bytes 0x3c8 (little 8 0x4f0 ++ little 8 304)
+    (versioned_library ++ (0 ∷ 102 ∷ 0 ∷ replicate count 97) ++ zeros 301))))))
+
+-- a name of 256 bytes is told whole, one more is cut; the wanted one is told whole
+abbrev pub LongVersionsAreCut : Type 0
+LongVersionsAreCut =
+    Finds (long_version 256) (codes "f") (second_f ++ codes "X     4          4     3 - " ++ replicate 256 97 ++ codes "\n" ++ found_2)
+    × Finds (long_version 257) (codes "f") (second_f ++ codes "X     4          4     3 - " ++ replicate 256 97 ++ codes "\\+\n" ++ found_2)
+    × Finds (long_version 300) (codes "f@" ++ replicate 300 97)
+    (second_f ++ codes "X     4          4     3 - " ++ replicate 300 97 ++ codes "\n" ++ found_2)
+
+-- a wanted version is read in whole pieces of 64 bytes with each record, and a wanted name with each symbol
+abbrev pub LongNamesAsk : Type 0
+LongNamesAsk =
+    Asks (long_version 300) (codes "f@" ++ replicate 300 97) (604 + 188 + 5 * (28 + 320))
+    × Asks (long_version 300) (codes "f@" ++ replicate 63 97) (604 + 192 + 5 * (28 + 64))
+    × Asks (long_version 300) (codes "f@" ++ replicate 64 97) (604 + 192 + 5 * (28 + 128))
+    × Asks (long_version 300) (codes "f") (604 + 188 + 3 * 28 + 320)
+    × Asks (with_bytes 0x334 (little 4 5) (with_bytes 0xb0 (words (1 ∷ 6 ∷ 1 ∷ 0 ∷ 2 ∷ 3 ∷ 4 ∷ 5 ∷ 0 ∷ [])) versioned_library))
+    (replicate 64 97) (604 + 5 * (4 + 26 + 128))
+    × Asks (with_bytes 0xc0 (replicate 8 0xff) versioned_library) (replicate 64 97) (604 + 4 * 3)

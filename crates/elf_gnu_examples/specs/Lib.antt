@@ -1,0 +1,9 @@
+pub mod LoaderWords
+pub mod ExamplesLoader
+pub mod ExamplesChains
+pub mod ExamplesOffered
+pub mod ExamplesNumbers
+pub mod ExamplesRests
+pub mod ExamplesBefore
+pub mod ExamplesGnuHash
+pub mod ExamplesWanted

@@ -1,0 +1,43 @@
+//! Worked lookups in a library without section headers, each computed by the prover.
+ghost use Rattle.elf_gnu_examples.specs.ExamplesRests.{TablesBySegments, RestsEnd, RowsAreRead, FirstRowsCount, EntriesAreChecked, EntriesEnd};
+
+/// No bucket; a bucket past the symbols of the section headers: symbols and chain words go on
+/// to the end of the segment.
+#[tactic(auto, unfolding(elf_model::proofs::OnLiterals::on_literals, elf_model::proofs::OnLoader::on_loader))]
+pub fn tables_by_segments()
+    ensures { TablesBySegments }
+{}
+
+/// A segment that ends with its last byte but one; that ends past the end of the file; before
+/// the symbols, within the hash table, before the strings' end, within the words of versions.
+#[tactic(auto, unfolding(elf_model::proofs::OnLiterals::on_literals, elf_model::proofs::OnLoader::on_loader))]
+pub fn rests_end()
+    ensures { RestsEnd }
+{}
+
+/// Words of versions at the segment's last bytes; no symbols; strings past the segment; a hash
+/// table past it; definitions of which 16 bytes are left.
+#[tactic(auto, unfolding(elf_model::proofs::OnLiterals::on_literals, elf_model::proofs::OnLoader::on_loader))]
+pub fn rows_are_read()
+    ensures { RowsAreRead }
+{}
+
+/// A second row of symbols is not looked at; no row of strings, or of their size, is refused at
+/// the hash table's.
+#[tactic(auto, unfolding(elf_model::proofs::OnLiterals::on_literals, elf_model::proofs::OnLoader::on_loader))]
+pub fn first_rows_count()
+    ensures { FirstRowsCount }
+{}
+
+/// Dynamic entries of no whole number, none, too few of them, past the end of the file; no
+/// segment of them.
+#[tactic(auto, unfolding(elf_model::proofs::OnLiterals::on_literals, elf_model::proofs::OnLoader::on_loader))]
+pub fn entries_are_checked()
+    ensures { EntriesAreChecked }
+{}
+
+/// A row behind the first null entry is none.
+#[tactic(auto, unfolding(elf_model::proofs::OnLiterals::on_literals, elf_model::proofs::OnLoader::on_loader))]
+pub fn entries_end()
+    ensures { EntriesEnd }
+{}

@@ -1,0 +1,26 @@
+//! Worked parting of texts, and lookups of long names, each computed by the prover.
+ghost use Rattle.elf_gnu_examples.specs.ExamplesWanted.{TextsAreParted, EmptyNamesAreNone, LongVersionsAreCut, LongNamesAsk};
+
+/// A name alone, and with a version behind one sign or two.
+#[tactic(auto, unfolding(elf_model::proofs::OnLiterals::on_literals, elf_model::proofs::OnLoader::on_loader, crate::proofs::OnExamples::on_examples))]
+pub fn texts_are_parted()
+    ensures { TextsAreParted }
+{}
+
+/// An empty name, and an empty version.
+#[tactic(auto, unfolding(elf_model::proofs::OnLiterals::on_literals, elf_model::proofs::OnLoader::on_loader, crate::proofs::OnExamples::on_examples))]
+pub fn empty_names_are_none()
+    ensures { EmptyNamesAreNone }
+{}
+
+/// The name of a version is told up to its 256th byte, and the wanted one whole.
+#[tactic(auto, unfolding(elf_model::proofs::OnLiterals::on_literals, elf_model::proofs::OnLoader::on_loader, crate::proofs::OnExamples::on_examples))]
+pub fn long_versions_are_cut()
+    ensures { LongVersionsAreCut }
+{}
+
+/// What long names ask for.
+#[tactic(auto, unfolding(elf_model::proofs::OnLiterals::on_literals, elf_model::proofs::OnLoader::on_loader, crate::proofs::OnExamples::on_examples))]
+pub fn long_names_ask()
+    ensures { LongNamesAsk }
+{}

@@ -1,0 +1,62 @@
+-- How many rows the versions of symbols have.
+use Rattle.std.proofs.Common.{◌≡◌, ℕ, zero, suc, ◌+◌, ◌<◌, ◌≤◌, min, nat_lt, true, false, List, [], ◌++◌, length, length-append, Option, None, Some, Result, Ok, Err, refl, ◌∙◌, arith, inl, inr}
+use Rattle.std.proofs.lemmas.Bool.{cases_Bool}
+use Rattle.std.proofs.lemmas.Bool.Decides.{nat_tests}
+use Rattle.elf_model.specs.Listing.{Item, each}
+use Rattle.elf_model.specs.Names.{Shown}
+use Rattle.elf_model.specs.Rows.{named_row, refused_row}
+use Rattle.elf_model.specs.Style.{Style}
+use Rattle.elf_model.specs.Tables.{entry_count}
+use Rattle.elf_model.specs.Versions.{Met}
+use Rattle.elf_model.specs.VersionRows.{VERSYM_SIZE, numbered_row, symbol_version_row, symbol_version_rows, versioned_count, versioned_symbols, version_named}
+use Rattle.elf_model.specs.declared.causes.Cause.{Cause}
+use Rattle.elf_model.specs.declared.causes.Cause.TheVariants.{VersionCut}
+use Rattle.elf_model.specs.VersionLaws.{RowsAreSymbols}
+
+-- a row with a name is one member
+named-one : (front : List ℕ) (at : ℕ) (name : Result Shown Cause) → length (named_row front at name) ≡ 1
+named-one front at (Ok name) = refl
+named-one front at (Err cause) = refl
+
+-- and so is the row of a number
+numbered-one :
+    (file : List ℕ) (style : Style) (front : List ℕ) (entry number : ℕ) → length (numbered_row file style front entry number) ≡ 1
+unfolding numbered_row
+numbered-one file style front entry number =
+    elim (cases_Bool (nat_lt number 2)) [
+      | inl few ↦ rw few refl
+      | inr many ↦ go many (version_named file number) refl
+    ]
+  where
+    go : nat_lt number 2 ≡ false → (named : Option Met) → version_named file number ≡ named
+        → length (numbered_row file style front entry number) ≡ 1
+    go many None same = rw (many, same) refl
+    go many (Some met) same = rw (many, same) (named-one front _ _)
+
+-- as many rows as there are entries, where each is one member
+each-one :
+    (row : ℕ → List Item) → ((i : ℕ) → length (row i) ≡ 1) → (first count : ℕ) → length (each row first count) ≡ count
+unfolding each
+each-one row one first zero = refl
+each-one row one first (suc count) =
+    length-append (row first) (each row (suc first) count)
+    ∙ (let here = one first in let more = each-one row one (suc first) count in omega arith)
+
+-- as many rows as the smaller of two numbers, and one more where that is the first
+one-more : (rows last : List Item) (a b : ℕ) → length rows ≡ min a b → length last ≡ 1 → nat_lt a b ≡ true → length (rows ++ last) ≡ a + 1
+one-more rows last a b n one few = let l = length-append rows last in let t : a < b = grind (arith, nat_tests) in omega arith
+
+no-more : (rows : List Item) (a b : ℕ) → length rows ≡ min a b → nat_lt a b ≡ false → length (rows ++ []) ≡ b
+no-more rows a b n many = let l = length-append rows [] in let t : b ≤ a = grind (arith, nat_tests) in omega arith
+
+pub rows_are_symbols : RowsAreSymbols
+unfolding symbol_version_rows symbol_version_row
+rows_are_symbols file style section at some =
+    let rows = each (symbol_version_row file style section at) 0 (versioned_count file at) in
+    let counted : length rows ≡ versioned_count file at =
+    each-one (symbol_version_row file style section at) (λ i. numbered-one file style _ _ _) 0 (versioned_count file at) in
+    elim (cases_Bool (nat_lt (entry_count file at VERSYM_SIZE) (versioned_symbols file at))) [
+      | inl few ↦
+          rw (some, few) (one-more rows (refused_row at VersionCut) (entry_count file at VERSYM_SIZE) (versioned_symbols file at) counted refl few)
+      | inr many ↦ rw (some, many) (no-more rows (entry_count file at VERSYM_SIZE) (versioned_symbols file at) counted many)
+    ]

@@ -1,0 +1,5 @@
+use Rattle.elf_model.proofs.GnuHashLaws.{gnu_found_is_first}
+use Rattle.elf_model.proofs.gnu_hash_laws.gnu_found_is_first.Goals as goal
+
+pub returns : goal.returns
+returns c = gnu_found_is_first

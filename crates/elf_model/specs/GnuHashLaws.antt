@@ -1,0 +1,66 @@
+-- Laws of lookups in a hash table of the GNU system: what the calculation gives is the one lookup, which reads no more words
+-- than the table has and tries no more symbols than there are.
+use Rattle.std.specs.Prelude.{ℕ, ◌*◌, ◌<◌, ◌≤◌, ◌≡◌, Bool, true, false, None, Some, Result, Ok, List}
+use Rattle.elf_model.specs.Chains.{HashTable, Walked}
+use Rattle.elf_model.specs.GnuHash.{gnu_symbol, holds_none, is_chained, chain_word, ends_chain, is_of_hash, IsGnuLookup, gnu_looked_up}
+use Rattle.elf_model.specs.declared.causes.Refusal.{Refusal}
+
+-- what is calculated is what a lookup gives
+abbrev pub GnuLookupAnswers : Type 0
+GnuLookupAnswers =
+    (file : List ℕ) (table : HashTable) (hash : ℕ) (trial : ℕ → Result Bool Refusal)
+    → IsGnuLookup file table hash trial (gnu_looked_up file table hash trial)
+
+-- it gives nothing else
+abbrev pub GnuLookupIsOne : Type 0
+GnuLookupIsOne =
+    (file : List ℕ) (table : HashTable) (hash : ℕ) (trial : ℕ → Result Bool Refusal) (first second : Walked)
+    → IsGnuLookup file table hash trial first → IsGnuLookup file table hash trial second → first ≡ second
+
+-- THE BOUND: it reads no more chain words than the table has bytes for, behind its four words, and no more than there are
+-- symbols; each symbol that it tries has such a word
+pub record IsWithinTable (table : HashTable) (walked : Walked) : Type 0 where
+  pub tried_are_read : walked.tried ≤ walked.read
+  pub within_symbols : walked.read ≤ table.symbols
+  pub within_bytes : 4 * walked.read ≤ table.size
+
+abbrev pub GnuLookupIsBounded : Type 0
+GnuLookupIsBounded =
+    (file : List ℕ) (table : HashTable) (hash : ℕ) (trial : ℕ → Result Bool Refusal)
+    → IsWithinTable table (gnu_looked_up file table hash trial)
+
+-- a symbol that is found answers; it is one that the table knows, and its chain word is of the hash
+pub record IsFound (file : List ℕ) (table : HashTable) (hash : ℕ) (trial : ℕ → Result Bool Refusal) (y : ℕ) : Type 0 where
+  pub chained : is_chained file table y ≡ true
+  pub of_hash : is_of_hash (chain_word file table.place y) hash ≡ true
+  pub answers : trial y ≡ Ok true
+
+abbrev pub GnuFoundAnswers : Type 0
+GnuFoundAnswers =
+    (file : List ℕ) (table : HashTable) (hash : ℕ) (trial : ℕ → Result Bool Refusal) (y : ℕ)
+    → (gnu_looked_up file table hash trial).answer ≡ Ok (Some y)
+    → IsFound file table hash trial y
+
+-- a table holds symbol y for a hash: the filter and the bucket tell of it, no symbol of the chain before it is the last,
+-- and its chain word is of the hash
+pub record IsHeld (file : List ℕ) (table : HashTable) (hash y : ℕ) : Type 0 where
+  pub told : holds_none file table.place hash ≡ false
+  pub number : ℕ
+  pub in_chain : y ≡ gnu_symbol file table.place hash number
+  pub goes_on : (i : ℕ) → i < number → ends_chain (chain_word file table.place (gnu_symbol file table.place hash i)) ≡ false
+  pub of_hash : is_of_hash (chain_word file table.place y) hash ≡ true
+
+-- where a table holds each symbol that answers, and none is found, none answers
+abbrev pub GnuAbsentMeansNone : Type 0
+GnuAbsentMeansNone =
+    (file : List ℕ) (table : HashTable) (hash : ℕ) (trial : ℕ → Result Bool Refusal)
+    → ((y : ℕ) → trial y ≡ Ok true → IsHeld file table hash y)
+    → (gnu_looked_up file table hash trial).answer ≡ Ok None
+    → (y : ℕ) → trial y ≡ Ok true → ⊥
+
+-- and the one that is found is the first of the chain that answers
+abbrev pub GnuFoundIsFirst : Type 0
+GnuFoundIsFirst =
+    (file : List ℕ) (table : HashTable) (hash : ℕ) (trial : ℕ → Result Bool Refusal) (found y : ℕ)
+    → (gnu_looked_up file table hash trial).answer ≡ Ok (Some found)
+    → trial y ≡ Ok true → IsHeld file table hash y → found ≤ y

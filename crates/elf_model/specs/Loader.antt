@@ -1,0 +1,232 @@
+-- Which symbol of a file a loader of the GNU system takes for a name, or for a name and a version (as `dlsym` and `dlvsym` do
+-- in one object): by its record, its name and the number of its version.
+use Rattle.std.specs.Prelude.{ℕ, zero, suc, ◌+◌, ◌*◌, ◌==◌, ◌&&◌, ◌||◌, nat_lt, not, is_some, if◌then◌else◌, Bool, true, false, List, [], ◌∷◌, ◌++◌, length, take, drop, position, Option, None, Some, Result, Ok, Err}
+use Rattle.elf_model.specs.Names.{same}
+use Rattle.elf_model.specs.Numbers.{SHN_UNDEF, SHN_ABS, STB_GLOBAL, STB_WEAK, STB_GNU_UNIQUE, STT_NOTYPE, STT_OBJECT, STT_FUNC, STT_COMMON, STT_TLS, STT_GNU_IFUNC, STV_DEFAULT, STV_PROTECTED}
+use Rattle.elf_model.specs.Records.{st_name, st_shndx, st_value, st_type, st_bind, st_visibility, versym}
+use Rattle.elf_model.specs.Tables.{SYMBOL_SIZE}
+use Rattle.elf_model.specs.VersionRows.{VERSYM_SIZE}
+use Rattle.elf_model.specs.Versions.{Met, Stand, number_in, number_word, named_at, name_index, names_version, names_number, record_size, most_records, first_stand, behind, versions_in}
+use Rattle.elf_model.specs.declared.causes.Cause.TheVariants.{VersionCut}
+use Rattle.elf_model.specs.declared.causes.Refusal.{Refusal}
+use Rattle.elf_model.specs.declared.versions.VersionKind.{VersionKind}
+
+-- which version of a symbol is asked for: the one that a name alone takes; one by its name; one by its name that is to be the
+-- symbol's default version too
+pub data Asked : Type 0 where
+  NoVersion : Asked
+  Version : List ℕ → Asked
+  DefaultVersion : List ℕ → Asked
+
+-- WHAT IS WANTED: a symbol's name, and which version of it
+pub record Wanted : Type 0 where
+  pub name : List ℕ
+  pub asked : Asked
+
+-- what stands between a name and its version
+abbrev pub AT_SIGN : ℕ
+AT_SIGN = 0x40
+
+-- the version behind the first such sign: behind a second that follows directly it is to be the default one
+abbrev pub asked_behind : List ℕ → Asked
+asked_behind [] = Version []
+asked_behind (byte ∷ bytes) = if byte == AT_SIGN then DefaultVersion bytes else Version (byte ∷ bytes)
+
+-- a text NAME, NAME@VERSION or NAME@@VERSION, parted at its first such sign
+unfoldable pub wanted_of : List ℕ → Wanted
+wanted_of text = elim (position (λ byte. byte == AT_SIGN) text) [
+  | None ↦ record { name = text; asked = NoVersion }
+  | Some place ↦ record { name = take place text; asked = asked_behind (drop (suc place) text) }
+]
+
+-- the name of the version that is asked for, if one is
+abbrev pub asked_name : Asked → Option (List ℕ)
+asked_name NoVersion = None
+asked_name (Version version) = Some version
+asked_name (DefaultVersion version) = Some version
+
+-- neither the name nor a version that is asked for is empty
+unfoldable pub is_complete : Wanted → Bool
+is_complete wanted =
+    not (length wanted.name == 0) && elim (asked_name wanted.asked) [ None ↦ true | Some version ↦ not (length version == 0) ]
+
+-- a number is one of some
+abbrev pub is_among : ℕ → List ℕ → Bool
+is_among n numbers = is_some (position (λ other. other == n) numbers)
+
+-- A SYMBOL IS OFFERED to others: it is not undefined and of thread-local storage; it has a value, or it is absolute or of
+-- thread-local storage, where 0 is a value; and its type, its binding and its visibility are those of symbols for others
+unfoldable pub is_offered : List ℕ → ℕ → Bool
+is_offered file at =
+    let is_tls = st_type file at == STT_TLS in
+    not (is_tls && (st_shndx file at == SHN_UNDEF))
+    && (not (st_value file at == 0) || (st_shndx file at == SHN_ABS) || is_tls)
+    && is_among (st_type file at) (STT_NOTYPE ∷ STT_OBJECT ∷ STT_FUNC ∷ STT_COMMON ∷ STT_TLS ∷ STT_GNU_IFUNC ∷ [])
+    && is_among (st_bind file at) (STB_GLOBAL ∷ STB_WEAK ∷ STB_GNU_UNIQUE ∷ [])
+    && is_among (st_visibility file at) (STV_DEFAULT ∷ STV_PROTECTED ∷ [])
+
+-- the highest bit of the word of a symbol's version: the version is none that a name alone takes
+abbrev pub is_hidden : ℕ → Bool
+is_hidden word = not (word == number_in word)
+
+-- a version fits what is asked for, where the numbers of the version by its name are told: a name alone takes a version that
+-- is not hidden, and a symbol without one, whose number is 0 or 1
+unfoldable pub fits : Asked → (ℕ → Bool) → ℕ → Bool
+fits NoVersion is_wanted word = nat_lt (number_in word) 2 || not (is_hidden word)
+fits (Version version) is_wanted word = is_wanted (number_in word)
+fits (DefaultVersion version) is_wanted word = is_wanted (number_in word) && not (is_hidden word)
+
+-- THE WORDS OF SYMBOLS' VERSIONS: where the first stands in the file, how many there are, the offset of what tells of them,
+-- and its index
+pub record VersionWords : Type 0 where
+  pub place : ℕ
+  pub count : ℕ
+  pub head : ℕ
+  pub index : ℕ
+
+-- where the word of a symbol stands
+abbrev pub version_word_at : VersionWords → ℕ → ℕ
+version_word_at words y = words.place + VERSYM_SIZE * y
+
+-- A TABLE OF DEFINITIONS OR NEEDS of versions: the kind of its first record, the offset of what tells of it, where it stands
+-- in the file, how many bytes it has there, and the strings of its names
+pub record RecordTable : Type 0 where
+  pub kind : VersionKind
+  pub head : ℕ
+  pub place : ℕ
+  pub size : ℕ
+  pub strings : List ℕ
+
+-- WHAT A LOADER KNOWS OF THE SYMBOLS of a file: the index of what tells of them; where the first stands in the file; their
+-- strings; the words of their versions, if there are such; and the definitions and the needs of versions, in this order
+pub record Symbols : Type 0 where
+  pub index : ℕ
+  pub place : ℕ
+  pub strings : List ℕ
+  pub words : Option VersionWords
+  pub records : List RecordTable
+
+-- where a symbol stands in the file
+abbrev pub symbol_place : Symbols → ℕ → ℕ
+symbol_place symbols y = symbols.place + SYMBOL_SIZE * y
+
+-- whether the version of a symbol fits: without words of versions each does; a symbol without a word is refused at what tells
+-- of these
+unfoldable pub version_fits : List ℕ → Option VersionWords → Asked → (ℕ → Bool) → ℕ → Result Bool Refusal
+version_fits file None asked is_wanted y = Ok true
+version_fits file (Some words) asked is_wanted y =
+    if nat_lt y words.count then Ok (fits asked is_wanted (versym file (version_word_at words y)))
+    else Err (record { at = words.head; cause = VersionCut })
+
+-- WHETHER A SYMBOL ANSWERS: it has the wanted name, it is offered, and its version fits. It cannot be told where the name has
+-- a fault, at the symbol, or the symbol has no word of a version
+unfoldable pub answers : List ℕ → Symbols → Wanted → (ℕ → Bool) → ℕ → Result Bool Refusal
+answers file symbols wanted is_wanted y =
+    let at = symbol_place symbols y in
+    elim (same symbols.strings (st_name file at) wanted.name) [
+      | Err cause ↦ Err (record { at = at; cause = cause })
+      | Ok false ↦ Ok false
+      | Ok true ↦ elim (is_offered file at) [
+        | false ↦ Ok false
+        | true ↦ version_fits file symbols.words wanted.asked is_wanted y
+      ]
+    ]
+
+-- A RECORD OF VERSIONS THAT A WALK READS: one that is met, with the strings of its name; one that is refused; or that none
+-- stands where one is to come, so that nothing is read
+pub data Reading : Type 0 where
+  Meets : List ℕ → Met → Reading
+  Refuses : Refusal → Reading
+  Misses : Refusal → Reading
+
+-- where the walk over a table stands once so many records are met
+unfoldable pub stand_after : List ℕ → RecordTable → ℕ → Option Stand
+stand_after file table zero = first_stand table.kind table.head table.size
+stand_after file table (suc n) = elim (stand_after file table n) [ None ↦ None | Some stand ↦ behind file table.place stand ]
+
+-- a record stands there: no more are met than there is room for, and its bytes are in the table
+abbrev pub has_record : RecordTable → ℕ → Option Stand → Bool
+has_record table met None = false
+has_record table met (Some stand) =
+    nat_lt met (most_records table.kind table.size) && not (nat_lt table.size (stand.place + record_size stand.kind))
+
+-- how the records of a table end, once so many are met: they do, or the next is refused
+abbrev pub end_reading : Bool → Option Refusal → List Reading
+end_reading stands None = []
+end_reading stands (Some refusal) = if stands then Refuses refusal ∷ [] else Misses refusal ∷ []
+
+-- met records in front of those behind them
+unfoldable pub meetings : List ℕ → List Met → List Reading → List Reading
+meetings strings [] others = others
+meetings strings (met ∷ more) others = Meets strings met ∷ meetings strings more others
+
+-- the records that a walk over a table reads, in front of others
+unfoldable pub readings_of : List ℕ → RecordTable → List Reading → List Reading
+readings_of file table others =
+    let versions = versions_in table.kind file table.head table.place table.size in
+    let count = length versions.met in
+    meetings table.strings versions.met
+    (end_reading (has_record table count (stand_after file table count)) versions.cut ++ others)
+
+-- the records that a walk over some tables reads; behind a refusal none is read
+unfoldable pub readings : List ℕ → List RecordTable → List Reading
+readings file [] = []
+readings file (table ∷ tables) = readings_of file table (readings file tables)
+
+-- WHAT COMPARING GIVES: the numbers of the versions that have the wanted name; the refusal, if there is one; and how many
+-- records are read
+pub record Compared : Type 0 where
+  pub numbers : List ℕ
+  pub refused : Option Refusal
+  pub read : ℕ
+
+-- one record more is read
+abbrev pub one_more : Compared → Compared
+one_more compared = record { numbers = compared.numbers; refused = compared.refused; read = suc compared.read }
+
+-- a number in front of the others, where a version has the wanted name
+abbrev pub with_number : Bool → ℕ → Compared → Compared
+with_number is_wanted number compared =
+    record { numbers = if is_wanted then number ∷ compared.numbers else compared.numbers; refused = compared.refused; read = compared.read }
+
+-- comparing is refused at a record, which is read or not
+abbrev pub compared_until : ℕ → Refusal → Compared
+compared_until read refusal = record { numbers = []; refused = Some refusal; read = read }
+
+-- the records that name a version are compared with the wanted one; a fault of a name is at the record that holds it
+unfoldable pub compared_with : List ℕ → List ℕ → List Reading → Compared
+compared_with file wanted [] = record { numbers = []; refused = None; read = 0 }
+compared_with file wanted (Misses refusal ∷ others) = compared_until 0 refusal
+compared_with file wanted (Refuses refusal ∷ others) = compared_until 1 refusal
+compared_with file wanted (Meets strings met ∷ others) =
+    elim (names_version file met) [
+      | false ↦ one_more (compared_with file wanted others)
+      | true ↦ elim (same strings (name_index file met) wanted) [
+        | Err cause ↦ compared_until 1 (record { at = named_at file met; cause = cause })
+        | Ok is_wanted ↦
+            one_more (with_number is_wanted (number_in (number_word file met)) (compared_with file wanted others))
+      ]
+    ]
+
+-- WHAT THE NAME OF A NUMBER IS: the strings and the record of the first that has the number, if one has; else the refusal
+-- that comes before, if there is one; and how many records are read
+pub record Naming : Type 0 where
+  pub found : Option (List ℕ × Met)
+  pub refused : Option Refusal
+  pub read : ℕ
+
+abbrev pub one_later : Naming → Naming
+one_later naming = record { found = naming.found; refused = naming.refused; read = suc naming.read }
+
+abbrev pub named_until : ℕ → Refusal → Naming
+named_until read refusal = record { found = None; refused = Some refusal; read = read }
+
+unfoldable pub naming_of : List ℕ → ℕ → List Reading → Naming
+naming_of file number [] = record { found = None; refused = None; read = 0 }
+naming_of file number (Misses refusal ∷ others) = named_until 0 refusal
+naming_of file number (Refuses refusal ∷ others) = named_until 1 refusal
+naming_of file number (Meets strings met ∷ others) =
+    elim (names_number file number met) [
+      | true ↦ record { found = Some (strings, met); refused = None; read = 1 }
+      | false ↦ one_later (naming_of file number others)
+    ]

@@ -1,0 +1,203 @@
+-- The lookup of a name, with or without a version, as a loader of the GNU system does it in one file: its answer, and how many
+-- bytes it may ask for.
+use Rattle.std.specs.Prelude.{ℕ, ◌+◌, ◌*◌, ◌==◌, ◌||◌, nat_lt, not, count_ones, Bool, true, false, List, [], ◌∷◌, length, Option, None, Some, Ok, Err}
+use Rattle.elf_model.specs.Chains.{Walked}
+use Rattle.elf_model.specs.Checks.{Check, refuse, first_refusal, before_headers, pass}
+use Rattle.elf_model.specs.Cost.{cost_where}
+use Rattle.elf_model.specs.GnuHash.{gnu_hash, gnu_nbucket, gnu_nbloom, gnu_shift, before_chains, gnu_looked_up}
+use Rattle.elf_model.specs.Hash.{sysv_hash, sysv_nbucket, sysv_nchain, Found, Absent, Refused, Lookup}
+use Rattle.elf_model.specs.Loader.{Wanted, Asked, asked_name, VersionWords, version_word_at, symbol_place, answers, readings, Compared, compared_with, Naming, naming_of, is_among}
+use Rattle.elf_model.specs.Names.{Shown, shown, pad64}
+use Rattle.elf_model.specs.Names.Shown.{Whole}
+use Rattle.elf_model.specs.Records.{FILE_HEADER_SIZE, SECTION_HEADER_SIZE, PROGRAM_HEADER_SIZE, e_shnum, e_phnum, p_filesz, segment_at, versym}
+use Rattle.elf_model.specs.SysvWalk.{sysv_walked}
+use Rattle.elf_model.specs.Tables.{SYMBOL_SIZE, segment_dynamic_checks}
+use Rattle.elf_model.specs.VersionRows.{VERSYM_SIZE}
+use Rattle.elf_model.specs.Versions.{DEFINITION_SIZE, DEFINED_NAME_SIZE, number_in, named_at, name_index}
+use Rattle.elf_model.specs.declared.causes.Cause.TheVariants.{HashShape, VersionIndex}
+use Rattle.elf_model.specs.declared.causes.Refusal.{Refusal}
+use Rattle.elf_model.specs.LoaderScope.{GnuTable, SysvTable, Scope, scope_of, dynamic_segment_index}
+
+-- the check of a hash table's counts against its size. Of the GNU system's: it has a bucket; its filter's words are as many as
+-- a power of two tells; its shift leaves bits of a hash
+unfoldable pub counts_check : List ℕ → Scope → Check
+counts_check file scope =
+    let place = scope.table.place in
+    elim scope.kind [
+      | GnuTable ↦
+          refuse
+          ((gnu_nbucket file place == 0)
+          || not (count_ones (gnu_nbloom file place) == 1)
+          || not (nat_lt (gnu_shift file place) 32)
+          || nat_lt scope.table.size (before_chains file place))
+          scope.head HashShape
+      | SysvTable ↦
+          refuse
+          ((sysv_nbucket file place == 0)
+          || nat_lt scope.table.size (8 + 4 * sysv_nbucket file place + 4 * sysv_nchain file place))
+          scope.head HashShape
+    ]
+
+-- the walk for the symbol that answers, where the numbers of the version by its name are told
+unfoldable pub walk_in : List ℕ → Scope → Wanted → (ℕ → Bool) → Walked
+walk_in file scope wanted is_wanted = elim scope.kind [
+  | GnuTable ↦ gnu_looked_up file scope.table (gnu_hash wanted.name) (answers file scope.symbols wanted is_wanted)
+  | SysvTable ↦ sysv_walked file scope.table (sysv_hash wanted.name) (answers file scope.symbols wanted is_wanted)
+]
+
+-- the version of a symbol that is found: the index of what tells of its word, the word, and the name
+pub record FoundVersion : Type 0 where
+  pub index : ℕ
+  pub word : ℕ
+  pub name : Shown
+
+-- WHAT A LOOKUP GIVES: its answer, and how many symbols it tries; the version of the symbol, where the file has versions; how
+-- many chain words it reads, and how many records of versions; and whether it reads the name of a version to tell it
+pub record LoaderLookup : Type 0 where
+  pub lookup : Lookup
+  pub version : Option FoundVersion
+  pub chain_words : ℕ
+  pub records : ℕ
+  pub is_named : Bool
+
+-- a lookup that is refused, once it has read so much
+abbrev pub refused_lookup : (tried chain_words records : ℕ) → Bool → Refusal → LoaderLookup
+refused_lookup tried chain_words records is_named refusal = record {
+  lookup = record { answer = Refused refusal; compared = tried };
+  version = None;
+  chain_words = chain_words;
+  records = records;
+  is_named = is_named;
+}
+
+-- how many bytes of the name of a version are told
+abbrev pub TOLD_BYTES : ℕ
+TOLD_BYTES = 256
+
+-- the symbol that is found, where a walk gives it, and its version
+abbrev pub found_lookup : Scope → ℕ → Walked → (records : ℕ) → Bool → Option FoundVersion → LoaderLookup
+found_lookup scope y walked records is_named version = record {
+  lookup = record { answer = Found scope.symbols.index y (symbol_place scope.symbols y); compared = walked.tried };
+  version = version;
+  chain_words = walked.read;
+  records = records;
+  is_named = is_named;
+}
+
+-- the version of a symbol is told by the record that has its number: the record's name; a fault of the name, at the record that
+-- holds it, or the refusal that comes before; or that no record has it, at the symbol's word
+unfoldable pub told_by : List ℕ → Scope → VersionWords → ℕ → Walked → Naming → LoaderLookup
+told_by file scope words y walked naming =
+    let word_at = version_word_at words y in
+    elim naming.found [
+      | Some found ↦ elim (shown found.0 (name_index file found.1) TOLD_BYTES) [
+        | Ok name ↦
+            found_lookup scope y walked naming.read true
+            (Some (record { index = words.index; word = versym file word_at; name = name }))
+        | Err cause ↦
+            refused_lookup walked.tried walked.read naming.read true (record { at = named_at file found.1; cause = cause })
+      ]
+      | None ↦ elim naming.refused [
+        | Some refusal ↦ refused_lookup walked.tried walked.read naming.read false refusal
+        | None ↦ refused_lookup walked.tried walked.read naming.read false (record { at = word_at; cause = VersionIndex })
+      ]
+    ]
+
+-- the version of a symbol that is found: without words there is none; the wanted one is told as it is wanted; the numbers 0 and
+-- 1 have no name
+unfoldable pub found_in : List ℕ → Scope → Asked → (records : ℕ) → ℕ → Walked → Option VersionWords → LoaderLookup
+found_in file scope asked records y walked None = found_lookup scope y walked records false None
+found_in file scope asked records y walked (Some words) =
+    let word = versym file (version_word_at words y) in
+    elim (asked_name asked) [
+      | Some version ↦
+          found_lookup scope y walked records false (Some (record { index = words.index; word = word; name = Whole version }))
+      | None ↦ elim (nat_lt (number_in word) 2) [
+        | true ↦ found_lookup scope y walked records false (Some (record { index = words.index; word = word; name = Whole [] }))
+        | false ↦
+            told_by file scope words y walked (naming_of file (number_in word) (readings file scope.symbols.records))
+      ]
+    ]
+
+-- what a lookup gives by its walk, before which so many records are read
+unfoldable pub looked_by : List ℕ → Scope → Asked → (records : ℕ) → Walked → LoaderLookup
+looked_by file scope asked records walked = elim walked.answer [
+  | Err refusal ↦ refused_lookup walked.tried walked.read records false refusal
+  | Ok None ↦ record {
+    lookup = record { answer = Absent; compared = walked.tried };
+    version = None;
+    chain_words = walked.read;
+    records = records;
+    is_named = false;
+  }
+  | Ok (Some y) ↦ found_in file scope asked records y walked scope.symbols.words
+]
+
+-- the numbers of the version that is asked for by its name, where one is and the symbols have versions
+unfoldable pub wanted_numbers : List ℕ → Scope → Asked → Compared
+wanted_numbers file scope asked =
+    let none : Compared = record { numbers = []; refused = None; read = 0 } in
+    elim (asked_name asked) [
+      | None ↦ none
+      | Some version ↦ elim scope.symbols.words [
+        | None ↦ none
+        | Some words ↦ compared_with file version (readings file scope.symbols.records)
+      ]
+    ]
+
+-- a lookup once the checks of its scope pass: the table's counts, the numbers of the version, the walk
+unfoldable pub loaded_in : List ℕ → Scope → Wanted → LoaderLookup
+loaded_in file scope wanted = elim (first_refusal (counts_check file scope ∷ [])) [
+  | Some refusal ↦ refused_lookup 0 0 0 false refusal
+  | None ↦
+      let compared = wanted_numbers file scope wanted.asked in
+      elim compared.refused [
+        | Some refusal ↦ refused_lookup 0 0 compared.read false refusal
+        | None ↦
+            looked_by file scope wanted.asked compared.read
+            (walk_in file scope wanted (λ number. is_among number compared.numbers))
+      ]
+]
+
+-- WHAT A LOADER'S LOOKUP GIVES in a file, with so many headers permitted
+unfoldable pub loader_looked : List ℕ → ℕ → Wanted → LoaderLookup
+loader_looked file headers wanted = elim (scope_of file headers) [
+  | Err refusal ↦ refused_lookup 0 0 0 false refusal
+  | Ok scope ↦ loaded_in file scope wanted
+]
+
+-- HOW MANY BYTES IT MAY ASK FOR. What tells of the tables in a file without section headers: the program headers, and the first
+-- table of dynamic entries, where its checks pass
+unfoldable pub segments_asked : List ℕ → ℕ
+segments_asked file =
+    cost_where (e_shnum file == 0)
+    (PROGRAM_HEADER_SIZE * e_phnum file
+    + elim (dynamic_segment_index file) [
+      | None ↦ 0
+      | Some index ↦
+          let at = segment_at file index in
+          cost_where (pass (segment_dynamic_checks file at)) (p_filesz file at)
+    ])
+
+-- a record of versions, a definition with the first of its names, and the wanted version's name with each where one is asked for
+abbrev pub record_cost : Asked → ℕ
+record_cost asked = DEFINITION_SIZE + DEFINED_NAME_SIZE + elim (asked_name asked) [ None ↦ 0 | Some version ↦ pad64 (length version + 1) ]
+
+-- what is read once the headers are: the chain words; a symbol, the word of its version and its name for each that is tried;
+-- the records of versions; and the name of one that is told
+unfoldable pub lookup_asks : Wanted → LoaderLookup → ℕ
+lookup_asks wanted loader =
+    4 * loader.chain_words
+    + loader.lookup.compared * (SYMBOL_SIZE + VERSYM_SIZE + pad64 (length wanted.name + 1))
+    + loader.records * record_cost wanted.asked
+    + cost_where loader.is_named (pad64 (TOLD_BYTES + 1))
+
+-- the file header alone where the section headers are not read, else that, four counts, a word of a filter, a word of a bucket,
+-- the section headers, or the program headers and the dynamic entries, and what the lookup reads
+unfoldable pub loader_cost : List ℕ → ℕ → Wanted → ℕ
+loader_cost file headers wanted = elim (first_refusal (before_headers file headers)) [
+  | Some refusal ↦ FILE_HEADER_SIZE
+  | None ↦
+      FILE_HEADER_SIZE + 16 + 8 + 4 + SECTION_HEADER_SIZE * e_shnum file + segments_asked file
+      + lookup_asks wanted (loader_looked file headers wanted)
+]

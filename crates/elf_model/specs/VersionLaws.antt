@@ -1,0 +1,84 @@
+-- Laws of symbol versions: how many records are met, where they stand, which of them names a number, and how many rows the
+-- versions of symbols have.
+use Rattle.std.specs.Prelude.{◌<◌, ℕ, suc, ◌≡◌, ◌+◌, ◌==◌, ◌≤◌, nat_lt, true, false, if◌then◌else◌, List, ◌∷◌, ◌++◌, length, None, Some}
+use Rattle.std.specs.List.{All}
+use Rattle.elf_model.specs.Checks.{first_refusal}
+use Rattle.elf_model.specs.Records.{sh_size}
+use Rattle.elf_model.specs.Style.{Style}
+use Rattle.elf_model.specs.Tables.{entry_count}
+use Rattle.elf_model.specs.VersionRows.{VERSYM_SIZE, symbol_version_rows, versioned_symbols}
+use Rattle.elf_model.specs.Versions.{Met, Stand, most_records, record_size, record_checks, behind, met_at, met_from, no_versions, with_met, versions_in, names_number, named_by, VERSION_NUMBERS, number_in, number_word}
+use Rattle.elf_model.specs.declared.causes.Refusal.{Refusal}
+use Rattle.elf_model.specs.declared.versions.VersionKind.{VersionKind}
+
+-- no more records are met than could stand in the table one behind the other
+abbrev pub RecordsAreBounded : Type 0
+RecordsAreBounded =
+    (kind : VersionKind) (file : List ℕ) (head table size : ℕ)
+    → length (versions_in kind file head table size).met ≤ most_records kind size
+
+-- a record stands in a table at an offset and of some bytes
+pub record StandsInTable (table size : ℕ) (met : Met) : Type 0 where
+  pub begins : table ≤ met.at
+  pub ends : met.at + record_size met.kind ≤ table + size
+
+-- each record that is met stands in its table
+abbrev pub RecordsStand : Type 0
+RecordsStand =
+    (kind : VersionKind) (file : List ℕ) (head table size : ℕ)
+    → All (StandsInTable table size) (versions_in kind file head table size).met
+
+-- and its number is one of those that versions may have
+abbrev pub NumbersAreSmall : Type 0
+NumbersAreSmall =
+    (kind : VersionKind) (file : List ℕ) (head table size : ℕ)
+    → All (λ met. number_in (number_word file met) < VERSION_NUMBERS) (versions_in kind file head table size).met
+
+-- a record whose checks pass is met, and the walk goes on where it leads
+abbrev pub RecordIsMet : Type 0
+RecordIsMet =
+    (file : List ℕ) (table size : ℕ) (stand : Stand) (most : ℕ)
+    → first_refusal (record_checks file table size stand) ≡ None
+    → met_from file table size (Some stand) (suc most)
+    ≡ with_met (met_at table stand) (met_from file table size (behind file table stand) most)
+
+-- at a record of which a check fails it is cut
+abbrev pub RecordIsRefused : Type 0
+RecordIsRefused =
+    (file : List ℕ) (table size : ℕ) (stand : Stand) (most : ℕ) (refusal : Refusal)
+    → first_refusal (record_checks file table size stand) ≡ Some refusal
+    → met_from file table size (Some stand) (suc most) ≡ no_versions (Some refusal)
+
+-- of some records one is the first that names the version of a number
+pub record IsFirstNamed (file : List ℕ) (number : ℕ) (records : List Met) (met : Met) : Type 0 where
+  pub before : List Met
+  pub others : List Met
+  pub parts : records ≡ before ++ met ∷ others
+  pub names : names_number file number met ≡ true
+  pub none_before : All (λ other. names_number file number other ≡ false) before
+
+-- the record that names the version of a number is the first that does
+abbrev pub NamedIsFirst : Type 0
+NamedIsFirst =
+    (file : List ℕ) (number : ℕ) (records : List Met) (met : Met)
+    → named_by file number records ≡ Some met → IsFirstNamed file number records met
+
+-- where there is none no record names it
+abbrev pub UnnamedHasNone : Type 0
+UnnamedHasNone =
+    (file : List ℕ) (number : ℕ) (records : List Met)
+    → named_by file number records ≡ None → All (λ other. names_number file number other ≡ false) records
+
+-- the record that names a number among those of two lists: that of the first, else that of the second
+abbrev pub FirstListNamesFirst : Type 0
+FirstListNamesFirst =
+    (file : List ℕ) (number : ℕ) (first second : List Met) (met : Met)
+    → named_by file number first ≡ Some met → named_by file number (first ++ second) ≡ Some met
+
+-- one row for each symbol, and where these have no entry any more one that says so; entries past the last symbol have none
+abbrev pub RowsAreSymbols : Type 0
+RowsAreSymbols =
+    (file : List ℕ) (style : Style) (section at : ℕ) → (sh_size file at == 0) ≡ false
+    → length (symbol_version_rows file style section at)
+    ≡ (if nat_lt (entry_count file at VERSYM_SIZE) (versioned_symbols file at) then entry_count file at VERSYM_SIZE + 1
+    else versioned_symbols file at)

@@ -1,0 +1,188 @@
+-- Symbol versions (Linux Standard Base Core, Symbol Versioning): the records of a table of definitions or of needs, in the order
+-- in which they are met. The places alone lead from record to record: no count of them is looked at, and no hash. A table
+-- stands at an offset of the file; a place is an offset in it. Sums are whole numbers, so that a chain goes only forward.
+use Rattle.std.specs.Prelude.{ℕ, zero, suc, ◌+◌, ◌/◌, ◌%◌, ◌^◌, ◌==◌, ◌&&◌, nat_lt, not, Bool, true, false, if◌then◌else◌, List, [], ◌∷◌, ◌++◌, Option, None, Some}
+use Rattle.std.specs.Int.RustNames.{bit_and}
+use Rattle.elf_model.specs.Records.{vd_version, vd_flags, vd_ndx, vd_hash, vd_aux, vd_next, vda_name, vn_version, vn_file, vn_aux, vn_next, vna_hash, vna_flags, vna_other, vna_name, vna_next}
+use Rattle.elf_model.specs.Checks.{Check, refuse, first_refusal}
+use Rattle.elf_model.specs.declared.causes.Cause.TheVariants.{BadVersion, VersionCut, VersionIndex}
+use Rattle.elf_model.specs.declared.causes.Refusal.{Refusal}
+use Rattle.elf_model.specs.declared.versions.VersionKind.{VersionKind}
+use Rattle.elf_model.specs.declared.versions.VersionKind.TheVariants.{Definition, File, Need}
+
+-- the sizes of a definition, of a name of one, and of a needed file, which is that of a needed version too, in bytes
+abbrev pub DEFINITION_SIZE : ℕ
+DEFINITION_SIZE = 20
+
+abbrev pub DEFINED_NAME_SIZE : ℕ
+DEFINED_NAME_SIZE = 8
+
+abbrev pub NEED_SIZE : ℕ
+NEED_SIZE = 16
+
+-- the size of a record of a kind
+abbrev pub record_size : VersionKind → ℕ
+record_size kind = elim kind [ Definition ↦ DEFINITION_SIZE | File ↦ NEED_SIZE | Need ↦ NEED_SIZE ]
+
+-- how many numbers versions may have
+abbrev pub VERSION_NUMBERS : ℕ
+VERSION_NUMBERS = 1024
+
+-- the number in a word: its highest bit says that the version is hidden
+abbrev pub number_in : ℕ → ℕ
+number_in word = word % 2 ^ 15
+
+-- the flag of the definition that names the file itself
+abbrev pub VER_FLG_BASE : ℕ
+VER_FLG_BASE = 1
+
+-- A RECORD THAT IS MET: its kind and its offset in the file
+pub record Met : Type 0 where
+  pub kind : VersionKind
+  pub at : ℕ
+
+-- what a met record holds, by its kind: the version of its layout, of which a needed version has none; its number, its flags
+-- and its hash, of which a needed file has none
+unfoldable pub version_word : List ℕ → Met → ℕ
+version_word file met = elim met.kind [ Definition ↦ vd_version file met.at | File ↦ vn_version file met.at | Need ↦ 1 ]
+
+unfoldable pub number_word : List ℕ → Met → ℕ
+number_word file met = elim met.kind [ Definition ↦ vd_ndx file met.at | File ↦ 0 | Need ↦ vna_other file met.at ]
+
+unfoldable pub flags_word : List ℕ → Met → ℕ
+flags_word file met = elim met.kind [ Definition ↦ vd_flags file met.at | File ↦ 0 | Need ↦ vna_flags file met.at ]
+
+unfoldable pub hash_word : List ℕ → Met → ℕ
+hash_word file met = elim met.kind [ Definition ↦ vd_hash file met.at | File ↦ 0 | Need ↦ vna_hash file met.at ]
+
+-- the distance from it to the next record of its kind, of which 0 is the end of the chain
+unfoldable pub next_word : List ℕ → Met → ℕ
+next_word file met = elim met.kind [ Definition ↦ vd_next file met.at | File ↦ vn_next file met.at | Need ↦ vna_next file met.at ]
+
+-- the distance from it to what holds the index of its name: a definition's first name, else the record itself; and to the end
+-- of that
+unfoldable pub name_distance : List ℕ → Met → ℕ
+name_distance file met = elim met.kind [ Definition ↦ vd_aux file met.at | File ↦ 0 | Need ↦ 0 ]
+
+unfoldable pub name_end : List ℕ → Met → ℕ
+name_end file met =
+    elim met.kind [ Definition ↦ vd_aux file met.at + DEFINED_NAME_SIZE | File ↦ NEED_SIZE | Need ↦ NEED_SIZE ]
+
+-- where that stands in the file, and the index, in the string table
+abbrev pub named_at : List ℕ → Met → ℕ
+named_at file met = met.at + name_distance file met
+
+unfoldable pub name_index : List ℕ → Met → ℕ
+name_index file met =
+    elim met.kind [
+      | Definition ↦ vda_name file (named_at file met)
+      | File ↦ vn_file file met.at
+      | Need ↦ vna_name file met.at
+    ]
+
+-- WHERE A WALK STANDS: the kind of the record that is to come, its place in the table, the offset in the file of what led
+-- there, and, of a needed version, the place of its file
+pub record Stand : Type 0 where
+  pub kind : VersionKind
+  pub place : ℕ
+  pub from : ℕ
+  pub owner : ℕ
+
+-- the record there, in a table at an offset
+abbrev pub met_at : ℕ → Stand → Met
+met_at table stand = record { kind = stand.kind; at = table + stand.place }
+
+-- the checks of a record, in a table at an offset and of some bytes, in this order: it is in the table; the version of its
+-- layout is 1; its number is not too large; its name is in the table
+abbrev pub place_checks : (size : ℕ) → Stand → List Check
+place_checks size stand = refuse (nat_lt size (stand.place + record_size stand.kind)) stand.from VersionCut ∷ []
+
+abbrev pub word_checks : List ℕ → (size place : ℕ) → Met → List Check
+word_checks file size place met =
+    refuse (not (version_word file met == 1)) met.at BadVersion
+    ∷ refuse (not (nat_lt (number_in (number_word file met)) VERSION_NUMBERS)) met.at VersionIndex
+    ∷ refuse (nat_lt size (place + name_end file met)) met.at VersionCut
+    ∷ []
+
+unfoldable pub record_checks : List ℕ → (table size : ℕ) → Stand → List Check
+record_checks file table size stand = place_checks size stand ++ word_checks file size stand.place (met_at table stand)
+
+-- where a record leads by the distance from it to the next of its kind
+abbrev pub along : (table : ℕ) → VersionKind → (place distance owner : ℕ) → Option Stand
+along table kind place distance owner =
+    if distance == 0 then None
+    else Some (record { kind = kind; place = place + distance; from = table + place; owner = owner })
+
+-- where a needed version leads by the distance to the next and by that from its file to the next file: the last of a file's
+-- versions leads where the file does
+abbrev pub along_needs : (table : ℕ) → (place distance owner files : ℕ) → Option Stand
+along_needs table place distance owner files =
+    if distance == 0 then along table File owner files 0 else along table Need place distance owner
+
+-- where a record leads: a definition to the next; a needed file to its first version; a version to the next of its file, and
+-- the last of them to the next file
+unfoldable pub behind : List ℕ → ℕ → Stand → Option Stand
+behind file table stand =
+    let met = met_at table stand in
+    elim stand.kind [
+      | Definition ↦ along table Definition stand.place (next_word file met) 0
+      | File ↦ Some (record { kind = Need; place = stand.place + vn_aux file met.at; from = met.at; owner = stand.place })
+      | Need ↦ along_needs table stand.place (next_word file met) stand.owner (vn_next file (table + stand.owner))
+    ]
+
+-- THE RECORDS OF A TABLE, in the order in which they are met, up to the refusal of what is none, if there is one
+pub record Versions : Type 0 where
+  pub met : List Met
+  pub cut : Option Refusal
+
+-- no record
+abbrev pub no_versions : Option Refusal → Versions
+no_versions cut = record { met = []; cut = cut }
+
+-- a record in front of those behind it
+abbrev pub with_met : Met → Versions → Versions
+with_met met versions = record { met = met ∷ versions.met; cut = versions.cut }
+
+-- the records from where a walk stands, or none where it has ended: so many at most, and where there are more they are refused
+-- at what led there
+unfoldable pub met_from : List ℕ → (table size : ℕ) → Option Stand → ℕ → Versions
+met_from file table size None most = no_versions None
+met_from file table size (Some stand) zero = no_versions (Some (record { at = stand.from; cause = VersionCut }))
+met_from file table size (Some stand) (suc most) =
+    elim (first_refusal (record_checks file table size stand)) [
+      | Some refusal ↦ no_versions (Some refusal)
+      | None ↦ with_met (met_at table stand) (met_from file table size (behind file table stand) most)
+    ]
+
+-- where the walk over a table begins: at its first byte, to which what tells of the table led, at an offset of the file;
+-- nowhere in a table of no bytes
+abbrev pub first_stand : VersionKind → (head size : ℕ) → Option Stand
+first_stand kind head size = if size == 0 then None else Some (record { kind = kind; place = 0; from = head; owner = 0 })
+
+-- as many records as could stand in a table one behind the other; records may lie over each other, but no more are met
+abbrev pub most_records : VersionKind → ℕ → ℕ
+most_records kind size = size / record_size kind
+
+-- the definitions of a table, or the needed files and versions, by the kind of its first record
+unfoldable pub versions_in : VersionKind → List ℕ → (head table size : ℕ) → Versions
+versions_in kind file head table size = met_from file table size (first_stand kind head size) (most_records kind size)
+
+-- a met record names a version: a needed version does, and a definition that does not name the file itself
+unfoldable pub names_version : List ℕ → Met → Bool
+names_version file met =
+    elim met.kind [ Definition ↦ bit_and (vd_flags file met.at) VER_FLG_BASE == 0 | File ↦ false | Need ↦ true ]
+
+-- it names the version that has a number
+abbrev pub names_number : List ℕ → ℕ → Met → Bool
+names_number file number met = names_version file met && (number_in (number_word file met) == number)
+
+-- the first of some records that names the version of a number
+unfoldable pub named_by : List ℕ → ℕ → List Met → Option Met
+named_by file number [] = None
+named_by file number (met ∷ others) = if names_number file number met then Some met else named_by file number others
+
+-- THE RECORD THAT NAMES THE VERSION OF A NUMBER: the first definition that has it, else the first need; 0 and 1 are no
+-- version's numbers
+unfoldable pub version_of : List ℕ → (definitions needs : List Met) → ℕ → Option Met
+version_of file definitions needs number =
+    if nat_lt number 2 then None else named_by file number (definitions ++ needs)

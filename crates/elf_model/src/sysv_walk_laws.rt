@@ -1,0 +1,27 @@
+//! Laws of walks in a hash table of the gABI (5, Hash Table) for a symbol that answers, each proved of the definitions.
+ghost use Rattle.elf_model.specs.SysvWalkLaws.{SysvWalkAnswers, SysvWalkIsOne, SysvWalkIsBounded, SysvFoundAnswers, SysvWalkIsLookup};
+
+/// What is calculated is what a walk gives: its answer, and how many symbols it tries.
+pub fn sysv_walk_answers()
+    ensures { SysvWalkAnswers }
+{}
+
+/// A walk gives nothing else.
+pub fn sysv_walk_is_one()
+    ensures { SysvWalkIsOne }
+{}
+
+/// A walk tries no more symbols than there are chains, and reads one chain word for each.
+pub fn sysv_walk_is_bounded()
+    ensures { SysvWalkIsBounded }
+{}
+
+/// A symbol that is found answers.
+pub fn sysv_found_answers()
+    ensures { SysvFoundAnswers }
+{}
+
+/// The lookup of a name in a HASH section is the walk for a symbol that has it.
+pub fn sysv_walk_is_lookup()
+    ensures { SysvWalkIsLookup }
+{}

@@ -1,0 +1,56 @@
+//! The laws of symbol versions.
+ghost use Rattle.elf_model.specs.VersionLaws.{RecordsAreBounded, RecordsStand, NumbersAreSmall, RecordIsMet, RecordIsRefused, NamedIsFirst, UnnamedHasNone, FirstListNamesFirst, RowsAreSymbols};
+
+/// No more records are met than could stand in the table one behind the other.
+#[tactic(auto, using(crate::proofs::VersionLaws::records_are_bounded))]
+pub fn records_are_bounded()
+    ensures { RecordsAreBounded }
+{}
+
+/// Each record that is met stands in its table.
+#[tactic(auto, using(crate::proofs::VersionLaws::records_stand))]
+pub fn records_stand()
+    ensures { RecordsStand }
+{}
+
+/// The number of each is one of those that versions may have.
+#[tactic(auto, using(crate::proofs::VersionLaws::numbers_are_small))]
+pub fn numbers_are_small()
+    ensures { NumbersAreSmall }
+{}
+
+/// A record whose checks pass is met, and the walk goes on where it leads.
+#[tactic(auto, using(crate::proofs::VersionSteps::record_is_met))]
+pub fn record_is_met()
+    ensures { RecordIsMet }
+{}
+
+/// At a record of which a check fails the walk is cut.
+#[tactic(auto, using(crate::proofs::VersionSteps::record_is_refused))]
+pub fn record_is_refused()
+    ensures { RecordIsRefused }
+{}
+
+/// The record that names the version of a number is the first that does.
+#[tactic(auto, using(crate::proofs::VersionLaws::named_is_first))]
+pub fn named_is_first()
+    ensures { NamedIsFirst }
+{}
+
+/// Where there is none no record names it.
+#[tactic(auto, using(crate::proofs::VersionLaws::unnamed_has_none))]
+pub fn unnamed_has_none()
+    ensures { UnnamedHasNone }
+{}
+
+/// A record of the first of two lists that names a number names it among both.
+#[tactic(auto, using(crate::proofs::VersionLaws::first_list_names_first))]
+pub fn first_list_names_first()
+    ensures { FirstListNamesFirst }
+{}
+
+/// Versions of symbols have one row for each symbol, as far as these have entries.
+#[tactic(auto, using(crate::proofs::VersionRowLaws::rows_are_symbols))]
+pub fn rows_are_symbols()
+    ensures { RowsAreSymbols }
+{}

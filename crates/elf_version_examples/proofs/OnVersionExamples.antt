@@ -1,0 +1,6 @@
+-- What opens the words of the examples, beside those of the definitions.
+use Rattle.elf_version_examples.specs.ListedVersions.{versions_listed}
+
+unfoldable pub on_version_examples : Unit {0}
+unfolding versions_listed
+on_version_examples = tt
