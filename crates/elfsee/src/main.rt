@@ -63,12 +63,17 @@ where
     R::File: FileExt,
 {
     let words = read_words(rt)?;
-    let mut layout = Layout::new();
-    match read_request(rt.alloc(), words.as_slice(), &mut layout, errors)? {
+    let mut layout = make_layout(rt.alloc())?;
+    match read_request(rt.alloc(), words.as_slice(), &mut *layout, errors)? {
         Asked::File(request) => answer_request(rt, &request),
         Asked::Check(asked) => check_many(rt, &asked, terminal),
         Asked::Archive(asked) => list_archive(rt, &asked),
     }
+}
+
+/// Makes a layout without an item, in memory of its own: on the stack it would take a third of it.
+fn make_layout(alloc: Global) -> Result<Box<Layout>, Ending> {
+    Box::new(alloc, Layout::new()).map_err(|_| OUT_OF_MEMORY)
 }
 
 /// Makes what memory is needed, opens the file, and carries the request out.

@@ -1,4 +1,5 @@
 pub mod ApplyingLaws
 pub mod BudgetLaws
 pub mod FindingLaws
+pub mod ItemLaws
 pub mod ListingLaws
