@@ -8,6 +8,7 @@ pub mod CostLemmas
 pub mod DynamicLaws
 pub mod GnuHashLaws
 pub mod ListingLemmas
+pub mod LoaderLaws
 pub mod LookupLaws
 pub mod LookupSteps
 pub mod NameLaws
