@@ -1,8 +1,8 @@
 -- Laws of a loader's lookup.
-use Rattle.std.specs.Prelude.{ℕ, ◌≡◌, true, List, Ok}
+use Rattle.std.specs.Prelude.{ℕ, ◌≡◌, ◌≤◌, true, List, length, Ok}
 use Rattle.elf_model.specs.Hash.{Found}
 use Rattle.elf_model.specs.Loader.{Wanted, Symbols, symbol_place, is_offered, version_fits, is_among}
-use Rattle.elf_model.specs.LoaderFind.{wanted_numbers, loader_looked}
+use Rattle.elf_model.specs.LoaderFind.{wanted_numbers, loader_looked, loader_cost, loader_ceiling}
 use Rattle.elf_model.specs.LoaderScope.{Scope, scope_of}
 use Rattle.elf_model.specs.Names.{same}
 use Rattle.elf_model.specs.Records.{st_name}
@@ -26,3 +26,9 @@ LoaderFoundIsTaken =
     (file : List ℕ) (headers : ℕ) (wanted : Wanted) (section index symbol : ℕ)
     → (loader_looked file headers wanted).lookup.answer ≡ Found section index symbol
     → IsTaken file headers wanted section index symbol
+
+-- THE BOUND: a lookup asks for no more than the ceiling of its file's length, whatever the file's bytes are
+abbrev pub LoaderCostIsWithinCeiling : Type 0
+LoaderCostIsWithinCeiling =
+    (file : List ℕ) (headers : ℕ) (wanted : Wanted)
+    → loader_cost file headers wanted ≤ loader_ceiling (length file) headers wanted
