@@ -95,3 +95,16 @@ NeedsNameToo =
     × Asks (with_bytes 0x1a8 (little 2 4) versioned_library) (codes "f") 1252
     × Fails (with_bytes 0x22c (little 4 0x10) versioned_library) (codes "f@V2") (codes "! 0000000000000220 version-cut\n")
     × Asks (with_bytes 0x22c (little 4 0x10) versioned_library) (codes "f@V2") 1064
+
+-- records that lie over each other: no more are read than have room one behind the other; of a needed file whose versions
+-- are outside the file itself alone
+abbrev pub RecordsLieOver : Type 0
+RecordsLieOver =
+    Fails (with_bytes 0x226 (little 2 0) (with_bytes 0x224 (little 2 8) (with_bytes 0x220 (little 4 0x16) (with_bytes 0x218 (little 4 8) versioned_library)))) (codes "f@V9") (codes "! 0000000000000218 version-cut\n")
+    × Asks (with_bytes 0x226 (little 2 0) (with_bytes 0x224 (little 2 8) (with_bytes 0x220 (little 4 0x16) (with_bytes 0x218 (little 4 8) versioned_library)))) (codes "f@V9") 1064
+    × Fails (with_bytes 0x218 (little 4 0x11) versioned_library) (codes "f@V9") (codes "! 0000000000000210 version-cut\n")
+    × Asks (with_bytes 0x218 (little 4 0x11) versioned_library) (codes "f@V9") 972
+    × Fails (with_bytes 0x1d8 (little 4 0x39) versioned_library) (codes "f@V9") (codes "! 00000000000001cc version-cut\n")
+    × Asks (with_bytes 0x1d8 (little 4 0x39) versioned_library) (codes "f@V9") 788
+    × Fails (with_bytes 0x450 (little 8 0x13) versioned_library) (codes "f@V9") (codes "! 0000000000000430 version-cut\n")
+    × Asks (with_bytes 0x450 (little 8 0x13) versioned_library) (codes "f@V9") 604
