@@ -4,7 +4,7 @@ use Rattle.elf_model.specs.Bytes.{little}
 use Rattle.elf_model.specs.Fixtures.{zeros, with_bytes}
 use Rattle.elf_model.specs.FixturesHash.{words}
 use Rattle.elf_model.specs.FixturesVersions.{versioned_library}
-use Rattle.elf_model.specs.Loader.{Wanted, NoVersion, Version, DefaultVersion, wanted_of, is_complete}
+use Rattle.elf_model.specs.Loader.{NoVersion, Version, DefaultVersion, wanted_of, is_complete}
 use Rattle.elf_model.specs.LoaderFind.{loader_ceiling}
 use Rattle.elf_gnu_examples.specs.LoaderWords.{Finds, Asks, second_f, found_2}
 

@@ -1,6 +1,6 @@
 -- What a loader's lookup asks for is within its ceiling.
-use Rattle.std.proofs.Common.{◌≡◌, ℕ, zero, suc, ◌+◌, ◌-◌, ◌*◌, ◌/◌, ◌<◌, ◌≤◌, ◌==◌, ◌||◌, ◌&&◌, nat_lt, not, Bool, true, false, List, [], ◌∷◌, ◌++◌, length, Option, None, Some, Result, Ok, Err, inl, inr, refl, sym, ap, ◌∙◌, arith}
-use Rattle.std.proofs.Math.Nat.{mul-le-mul, mul-add, div-mul-le_self}
+use Rattle.std.proofs.Common.{◌≡◌, ℕ, suc, ◌+◌, ◌*◌, ◌/◌, ◌<◌, ◌≤◌, ◌==◌, nat_lt, Bool, true, false, List, [], ◌∷◌, ◌++◌, length, Option, None, Some, Result, Ok, Err, inl, inr, refl, ap, arith}
+use Rattle.std.proofs.Math.Nat.{mul-le-mul, mul-add}
 use Rattle.std.proofs.lemmas.Bool.{cases_Bool, and_parts, ltb-true, ltb-false, eqb-true}
 use Rattle.std.proofs.lemmas.Nat.{le-div}
 use Rattle.elf_model.specs.Chains.{Walked}
@@ -13,9 +13,9 @@ use Rattle.elf_model.specs.LoaderLaws.{LoaderCostIsWithinCeiling}
 use Rattle.elf_model.specs.LoaderScope.{HashKind, GnuTable, SysvTable, Scope, scope_of, dynamic_segment_index}
 use Rattle.elf_model.specs.Records.{e_shnum, e_phnum, p_offset, p_filesz, segment_at, versym}
 use Rattle.elf_model.specs.Tables.{segment_dynamic_checks}
-use Rattle.elf_model.specs.Loader.{Wanted, Asked, asked_name, VersionWords, version_word_at, answers, is_among, Reading, Meets, Refuses, Misses, RecordTable, Compared, Naming, stand_after, has_record, end_reading, meetings, readings_of, readings, compared_with, naming_of}
+use Rattle.elf_model.specs.Loader.{Wanted, Asked, asked_name, VersionWords, version_word_at, answers, is_among, Reading, Meets, Refuses, Misses, RecordTable, Naming, stand_after, has_record, end_reading, meetings, readings_of, readings, compared_with, naming_of}
 use Rattle.elf_model.specs.Names.{Shown, same, shown, pad64}
-use Rattle.elf_model.specs.Versions.{Met, Stand, number_in, names_version, names_number, name_index, most_records, record_size, versions_in}
+use Rattle.elf_model.specs.Versions.{Met, Stand, number_in, names_version, names_number, name_index, most_records, versions_in}
 use Rattle.elf_model.specs.declared.causes.Cause.{Cause}
 use Rattle.elf_model.specs.declared.causes.Refusal.{Refusal}
 use Rattle.elf_model.proofs.CostLemmas.{cost_where-le, cost_where-within, whole_within, loadable-within}

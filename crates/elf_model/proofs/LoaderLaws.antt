@@ -1,12 +1,12 @@
 -- A loader's lookup: a symbol that is found is one to take.
-use Rattle.std.proofs.Common.{◌≡◌, ℕ, Bool, true, false, nat_lt, List, [], ◌∷◌, Option, None, Some, Result, Ok, Err, inl, inr, refl, sym, ap, ◌∙◌}
+use Rattle.std.proofs.Common.{◌≡◌, ℕ, Bool, true, false, nat_lt, List, [], ◌∷◌, Option, None, Some, Result, Ok, Err, inl, inr, refl}
 use Rattle.std.proofs.lemmas.Bool.{cases_Bool}
 use Rattle.elf_model.specs.Chains.{Walked}
 use Rattle.elf_model.specs.Checks.{first_refusal}
-use Rattle.elf_model.specs.GnuHash.{gnu_hash, gnu_looked_up}
-use Rattle.elf_model.specs.Hash.{sysv_hash, Outcome, Found, Absent, Refused, Lookup}
-use Rattle.elf_model.specs.Loader.{Wanted, Asked, asked_name, VersionWords, version_word_at, Symbols, symbol_place, is_offered, version_fits, answers, readings, Compared, Naming, naming_of, is_among}
-use Rattle.elf_model.specs.LoaderFind.{LoaderLookup, counts_check, walk_in, refused_lookup, told_by, found_in, looked_by, wanted_numbers, loaded_in, loader_looked, TOLD_BYTES}
+use Rattle.elf_model.specs.GnuHash.{gnu_hash}
+use Rattle.elf_model.specs.Hash.{sysv_hash, Found, Refused}
+use Rattle.elf_model.specs.Loader.{Wanted, Asked, asked_name, VersionWords, version_word_at, Symbols, symbol_place, is_offered, version_fits, answers, Naming, is_among}
+use Rattle.elf_model.specs.LoaderFind.{counts_check, walk_in, told_by, found_in, looked_by, wanted_numbers, loaded_in, loader_looked, TOLD_BYTES}
 use Rattle.elf_model.specs.LoaderLaws.{IsTaken, LoaderFoundIsTaken}
 use Rattle.elf_model.specs.LoaderScope.{HashKind, GnuTable, SysvTable, Scope, scope_of}
 use Rattle.elf_model.specs.Names.{Shown, same, shown}

@@ -1,23 +1,23 @@
 -- A loader's lookup: its tables lie within the file, once their checks pass.
-use Rattle.std.proofs.Common.{◌≡◌, ℕ, zero, suc, ◌+◌, ◌-◌, ◌*◌, ◌/◌, ◌<◌, ◌≤◌, ◌==◌, ◌||◌, nat_lt, not, Bool, true, false, List, [], ◌∷◌, ◌++◌, length, Option, None, Some, Result, Ok, Err, inl, inr, refl, sym, ap, ◌∙◌, arith}
+use Rattle.std.proofs.Common.{◌≡◌, ℕ, ◌+◌, ◌/◌, ◌<◌, ◌≤◌, ◌==◌, ◌||◌, nat_lt, not, Bool, true, false, List, [], ◌∷◌, ◌++◌, length, Option, None, Some, Ok, refl, sym, ap, ◌∙◌, arith}
 use Rattle.std.proofs.Math.Nat.{div-mul-le_self}
 use Rattle.std.proofs.lemmas.Bool.{ltb-false}
 use Rattle.std.proofs.lemmas.Nat.{le-div}
 use Rattle.std.specs.Prelude.{is_none}
 use Rattle.elf_model.specs.Checks.{Check, refuse, first_refusal, unless_empty, table_checks, is_outside, header_checks, load_checks}
 use Rattle.elf_model.specs.Find.{hash_checks_from}
-use Rattle.elf_model.specs.Loader.{VersionWords, RecordTable}
-use Rattle.elf_model.specs.LoaderScope.{HashKind, least_size, Scope, hash_section, checks_of_type, version_checks, section_checks, records_of_type, section_words, records_with, section_scope, dynamic_segment_index, tagged_row, rest_checks, rest_place, rest_size, hash_row, checks_of_row, rows_checks, segment_checks, segment_strings, segment_words, records_of_tag, segment_symbols, segment_scope, scope_by_sections, scope_in_segment, scope_by_segments, scope_of}
+use Rattle.elf_model.specs.Loader.{RecordTable}
+use Rattle.elf_model.specs.LoaderScope.{HashKind, least_size, Scope, hash_section, checks_of_type, version_checks, section_checks, records_of_type, section_words, records_with, section_scope, dynamic_segment_index, tagged_row, rest_checks, rest_place, rest_size, hash_row, checks_of_row, rows_checks, segment_checks, segment_strings, segment_words, records_of_tag, segment_scope, scope_by_sections, scope_in_segment, scope_by_segments, scope_of}
 use Rattle.elf_model.specs.Mapped.{mapped_at, mapped_checks}
 use Rattle.elf_model.specs.Numbers.{SHT_GNU_VERSYM, SHT_GNU_VERDEF, SHT_GNU_VERNEED, DT_SYMTAB, DT_STRTAB, DT_STRSZ, DT_VERSYM, DT_VERDEF, DT_VERNEED}
-use Rattle.elf_model.specs.Records.{e_shnum, sh_offset, sh_size, sh_link, section_at, segment_at, p_offset, p_vaddr, p_filesz, d_un}
+use Rattle.elf_model.specs.Records.{e_shnum, sh_offset, sh_size, sh_link, section_at, segment_at, p_offset, p_filesz, d_un}
 use Rattle.elf_model.specs.Tables.{all_checks, strings_of, segment_dynamic_checks}
 use Rattle.elf_model.specs.VersionRows.{VERSYM_SIZE, first_of_type, version_table}
 use Rattle.elf_model.specs.Versions.{record_size, most_records}
 use Rattle.elf_model.specs.declared.causes.Cause.TheVariants.{BadLink, HashShape, Unmapped}
 use Rattle.elf_model.specs.declared.causes.Refusal.{Refusal}
 use Rattle.elf_model.specs.declared.versions.VersionKind.{VersionKind}
-use Rattle.elf_model.specs.declared.versions.VersionKind.TheVariants.{Definition, File, Need}
+use Rattle.elf_model.specs.declared.versions.VersionKind.TheVariants.{Definition, File}
 use Rattle.elf_model.proofs.CheckSteps.{first_refusal-back, passes_front}
 
 -- how many records some tables have at most

@@ -1,7 +1,7 @@
 -- Laws of a loader's lookup.
 use Rattle.std.specs.Prelude.{ℕ, ◌≡◌, ◌≤◌, true, List, length, Ok}
 use Rattle.elf_model.specs.Hash.{Found}
-use Rattle.elf_model.specs.Loader.{Wanted, Symbols, symbol_place, is_offered, version_fits, is_among}
+use Rattle.elf_model.specs.Loader.{Wanted, symbol_place, is_offered, version_fits, is_among}
 use Rattle.elf_model.specs.LoaderFind.{wanted_numbers, loader_looked, loader_cost, loader_ceiling}
 use Rattle.elf_model.specs.LoaderScope.{Scope, scope_of}
 use Rattle.elf_model.specs.Names.{same}
