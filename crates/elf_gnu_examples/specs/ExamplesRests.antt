@@ -61,3 +61,12 @@ abbrev pub EntriesEnd : Type 0
 EntriesEnd =
     Fails (with_bytes 0x240 (little 8 0) versioned_without_sections) (codes "f") (codes "! 0000000000000020 no-hash\n")
     × Asks (with_bytes 0x240 (little 8 0) versioned_without_sections) (codes "f") 396
+
+-- symbols that are the rest of the segment, of 24 bytes each: three of them, and four, of which the last is not the wanted
+-- one
+abbrev pub SymbolsEndWithTheSegment : Type 0
+SymbolsEndWithTheSegment =
+    Fails (with_bytes 0x278 (little 8 0x2a8) versioned_without_sections) (codes "f") (codes "! 00000000000000cc hash-index\n")
+    × Asks (with_bytes 0x278 (little 8 0x2a8) versioned_without_sections) (codes "f") 396
+    × Fails (with_bytes 0x278 (little 8 0x290) versioned_without_sections) (codes "f") (codes "! 00000000000000d4 hash-index\n")
+    × Asks (with_bytes 0x278 (little 8 0x290) versioned_without_sections) (codes "f") 490
