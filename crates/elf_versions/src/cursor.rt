@@ -1,0 +1,231 @@
+//! A cursor over the records of symbol versions.
+ghost use Rattle.std.specs.Prelude.{◌≡◌, ℕ, ◌+◌, ◌-◌, ◌^◌, ◌<◌, ◌≤◌, List, Some, None, Err, IfOk, IfErr, OnOk};
+ghost use Rattle.elf_headers.specs.Faults.{IsOfRead};
+ghost use Rattle.elf_headers.specs.Ledger.{Did, why_stopped};
+ghost use Rattle.elf_headers.specs.declared.fault.Fault.{Fault};
+ghost use Rattle.elf_table.specs.Tables.{RowsWithin};
+ghost use Rattle.elf_model.specs.declared.versions.VersionKind.TheVariants.{Need};
+ghost use Rattle.elf_model.specs.Versions.{Met, name_index, record_size};
+ghost use Rattle.elf_headers.specs.Ledger.{IsRead};
+ghost use Rattle.elf_versions.specs.Reading.{Agrees, IsHeld, IsVersion, KeepsWalk, LeavesMet, LeavesWalk, MeetsIn, StartsVersions, StepsIn, WordsRead, name_bytes_of, unheld, unread, why_stopped_now};
+ghost use Rattle.elf_versions.specs.Words.{HoldsWords, end_of_name};
+
+use crate::record::VersionRecord;
+use crate::stepping::{Standing, bytes_each, first, record_bytes, refused_words, behind};
+use crate::table_bytes::TableBytes;
+use crate::words::{Words, of_definition, of_file, of_need};
+use elf_headers::refused;
+use elf_record::{Cause, Vernaux, Verdef, Verneed, VersionKind, word};
+use elf_source::{Counted, Source};
+use elf_table::{Fault, Table};
+use std::marker::Model;
+
+/// A cursor over the records of a table of definitions, or of needs (Linux Standard Base Core, Symbol
+/// Versioning). It goes from record to record by the distances that they hold, and reads no count. A
+/// table of at most 4,096 bytes is read at once, where that is no more than its records may ask for:
+/// each 20 bytes and 8 for its name, or 16, for as many as have room in the table one behind the
+/// other. Of any other each record is read alone.
+#[derive(Drop)]
+pub struct VersionCursor {
+    held: TableBytes,
+    standing: Option<Standing>,
+    left: u64,
+    each: u64,
+    failed: Option<Fault>,
+}
+
+impl Model for VersionCursor {
+    ghost use Rattle.std.specs.Prelude.{◌≡◌, ◌+◌, ◌^◌, ◌<◌, ◌≤◌, IfSome};
+    ghost use Rattle.elf_versions.specs.Reading.{Walking};
+
+    ghost Value = { Walking };
+
+    ghost view = { λ c. record {
+      held = c.held;
+      standing = c.standing;
+      left = c.left;
+      each = c.each;
+      failed = c.failed;
+    } };
+
+    ghost invariant = { λ c. (c.held.table.count < 2 ^ 63)
+        × (c.held.table.at + c.held.table.count < 2 ^ 64)
+        × IfSome c.standing (λ s. (s.place < 2 ^ 63 + 2 ^ 32) × (s.owner ≤ c.held.table.count)) };
+}
+
+impl VersionCursor {
+    /// A cursor before the first record of `table`, whose rows are single bytes and which ends within
+    /// the source's length: of definitions, or of needed files with their versions. What tells of the
+    /// table stands at the file offset `head`; refusals point there where no record stands at its
+    /// first byte.
+    ///
+    /// # Errors
+    /// A fault of the read of the whole table, or a refusal for want of budget, at its first byte.
+    pub fn new<S: Source>(
+        src: &mut Counted<S>,
+        kind: VersionKind,
+        head: u64,
+        table: Table,
+    ) -> Result<VersionCursor, Fault>
+        requires bytes { table.entry ≡ 1 }
+        requires kind { kind ≡ Need → ⊥ }
+        requires small { table.count < 2 ^ 63 }
+        requires within { RowsWithin src.old.seen.size table }
+        ensures fault { IfErr result IsOfRead }
+        ensures starts { IfOk result (StartsVersions kind head table) }
+    {
+        let size = table.len();
+        let left = size / record_bytes(kind);
+        let each = bytes_each(kind);
+        let held = TableBytes::load(src, table, left * each)?;
+        Ok(VersionCursor {
+            held,
+            standing: first(kind, head, size),
+            left,
+            each,
+            failed: None,
+        })
+    }
+    /// Goes to the next record, or answers None behind the last. All calls together ask for no more
+    /// than the records may that have room in the table one behind the other.
+    ///
+    /// # Errors
+    /// Refused where no record is met: `VersionCut` at what led there, where it is not in the table or
+    /// where as many records are met as have room, and at the record whose name is not in the table;
+    /// `BadVersion` at one of another layout; `VersionIndex` at one whose number is 1,024 or more.
+    /// Else a fault of a read, or a refusal for want of budget, at the offset that was asked for. From
+    /// then on each call answers the same fault and reads nothing.
+    pub fn advance<S: Source>(
+        &mut self,
+        src: &mut Counted<S>,
+    ) -> Result<Option<VersionRecord>, Fault>
+        requires { RowsWithin src.old.seen.size self.old.held.table }
+        ensures did { Did src.old src.new (why_stopped_now self.old.failed result)
+            (unread self.old - unread self.new)
+            (λ file. Agrees file self.old → StepsIn file self.old self.new result) }
+        ensures keeps { KeepsWalk self.old self.new }
+        ensures leaves { LeavesWalk self.old self.new result }
+    {
+        if let Some(fault) = self.failed {
+            return Err(fault);
+        }
+        let Some(stand) = self.standing else {
+            return Ok(None);
+        };
+        match self.meet(src, &stand) {
+            Ok(record) => Ok(Some(record)),
+            Err(fault) => {
+                self.failed = Some(fault);
+                Err(fault)
+            }
+        }
+    }
+
+    // Meets the record that is to come.
+    fn meet<S: Source>(
+        &mut self,
+        src: &mut Counted<S>,
+        stand: &Standing,
+    ) -> Result<VersionRecord, Fault>
+        requires within { RowsWithin src.old.seen.size self.old.held.table }
+        requires stands { self.old.standing ≡ Some stand.now }
+        requires going { self.old.failed ≡ None }
+        ensures did { Did src.old src.new (why_stopped result) (unread self.old - unread self.new)
+            (λ file. Agrees file self.old → MeetsIn file self.old self.new result) }
+        ensures keeps { KeepsWalk self.old self.new }
+        ensures leaves { LeavesMet self.old self.new result }
+    {
+        let table = self.held.table();
+        let size = table.len();
+        if self.left == 0 || stand.place + record_bytes(stand.kind) > size {
+            return refused(stand.from, Cause::VersionCut);
+        }
+        self.left -= 1;
+        let words = self.words(src, stand)?;
+        let at = table.at() + stand.place;
+        if let Some(refusal) = refused_words(size, stand, at, &words) {
+            return Err(Fault::Refused(refusal));
+        }
+        let name = self.name(src, stand, &words)?;
+        self.standing = behind(table.at(), stand, &words);
+        Ok(given(stand, at, &words, name))
+    }
+
+    // The words of the record that is to come, which is in the table.
+    fn words<S: Source>(&self, src: &mut Counted<S>, stand: &Standing) -> Result<Words, Fault>
+        requires within { RowsWithin src.old.seen.size self.now.held.table }
+        requires inside { stand.now.place + record_size stand.now.kind ≤ self.now.held.table.count }
+        ensures did { Did src.old src.new (why_stopped result)
+            (unheld self.now.held (record_size stand.now.kind))
+            (λ file. IsHeld file self.now.held → WordsRead file (record { kind = stand.now.kind;
+            at = self.now.held.table.at + stand.now.place }) result) }
+    {
+        match stand.kind {
+            VersionKind::Definition => {
+                let mut bytes = [0; 20];
+                self.held.read(src, stand.place, &mut bytes)?;
+                Ok(of_definition(&Verdef::decode(&bytes)))
+            }
+            VersionKind::File => {
+                let mut bytes = [0; 16];
+                self.held.read(src, stand.place, &mut bytes)?;
+                Ok(of_file(&Verneed::decode(&bytes)))
+            }
+            VersionKind::Need => {
+                let mut bytes = [0; 16];
+                self.held.read(src, stand.place, &mut bytes)?;
+                Ok(of_need(&Vernaux::decode(&bytes)))
+            }
+        }
+    }
+
+    // The index of the name of a record whose words are known, and whose name is in the table: a
+    // definition's is read.
+    fn name<S: Source>(
+        &self,
+        src: &mut Counted<S>,
+        stand: &Standing,
+        words: &Words,
+    ) -> Result<u32, Fault>
+        requires within { RowsWithin src.old.seen.size self.now.held.table }
+        requires inside { stand.now.place + end_of_name stand.now.kind words.now.aux
+            ≤ self.now.held.table.count }
+        ensures did { Did src.old src.new (why_stopped result)
+            (unheld self.now.held (name_bytes_of stand.now.kind))
+            (λ file. IsHeld file self.now.held → (met : Met) → met ≡ record { kind = stand.now.kind;
+            at = self.now.held.table.at + stand.now.place } → HoldsWords file met words.now →
+            IsRead result (name_index file met)) }
+    {
+        match stand.kind {
+            VersionKind::Definition => {
+                let mut bytes = [0; 4];
+                let place = stand.place + u64::from(words.aux);
+                self.held.read(src, place, &mut bytes)?;
+                Ok(word(&bytes))
+            }
+            VersionKind::File | VersionKind::Need => Ok(words.name),
+        }
+    }
+}
+
+// A record as it is given, by its words and the index of its name.
+fn given(stand: &Standing, at: u64, words: &Words, name: u32) -> VersionRecord
+    requires { at + words.now.aux < 2 ^ 64 }
+    ensures is { (file : List ℕ) (met : Met) → met ≡ record { kind = stand.now.kind; at = at } →
+        HoldsWords file met words.now → name ≡ name_index file met → IsVersion file met result }
+    ensures number { result.number ≡ words.now.number }
+{
+    let named_at = match stand.kind {
+        VersionKind::Definition => at + u64::from(words.aux),
+        VersionKind::File | VersionKind::Need => at,
+    };
+    VersionRecord {
+        kind: stand.kind,
+        at,
+        number: words.number,
+        flags: words.flags,
+        hash: words.hash,
+        named_at,
+        name,
+    }
+}

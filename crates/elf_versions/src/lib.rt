@@ -1,0 +1,13 @@
+//! Symbol versions (Linux Standard Base Core, Symbol Versioning): a cursor over the records of
+//! definitions and of needs, and the names of their numbers. No call takes memory.
+#![tactic(auto)]
+
+mod cursor;
+mod record;
+mod stepping;
+mod table_bytes;
+mod words;
+
+pub use cursor::VersionCursor;
+pub use record::VersionRecord;
+pub use table_bytes::BUFFER_BYTES;
