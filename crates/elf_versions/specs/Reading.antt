@@ -1,9 +1,9 @@
 -- What a cursor over symbol versions gives, record by record.
-use Rattle.std.specs.Prelude.{ℕ, ◌≡◌, ◌+◌, ◌*◌, ◌<◌, ◌≤◌, if◌then◌else◌, Bool, true, false, List, [], length, Option, None, Some, Result, Ok, Err, option_map}
+use Rattle.std.specs.Prelude.{ℕ, ◌≡◌, ◌+◌, ◌*◌, ◌^◌, IfSome, ◌<◌, ◌≤◌, if◌then◌else◌, Bool, true, false, List, [], length, Option, None, Some, Result, Ok, Err, option_map}
 use Rattle.elf_model.specs.Budget.{IsBudget}
 use Rattle.elf_model.specs.Bytes.{slice}
 use Rattle.elf_model.specs.Records.{vn_next}
-use Rattle.elf_model.specs.Versions.{DEFINITION_SIZE, DEFINED_NAME_SIZE, NEED_SIZE, VERSION_NUMBERS, Met, Stand, Versions, number_in, number_word, flags_word, hash_word, named_at, name_index, no_versions, with_met, met_from, first_stand, most_records}
+use Rattle.elf_model.specs.Versions.{DEFINITION_SIZE, DEFINED_NAME_SIZE, NEED_SIZE, VERSION_NUMBERS, Met, Stand, Versions, number_in, number_word, flags_word, hash_word, named_at, name_index, no_versions, with_met, met_from, met_at, record_checks, behind, first_stand, most_records}
 use Rattle.elf_model.specs.declared.versions.VersionKind.{VersionKind}
 use Rattle.elf_model.specs.declared.versions.VersionKind.TheVariants.{Definition, File, Need}
 use Rattle.elf_headers.specs.Faults.{IsOfRead}
@@ -15,6 +15,8 @@ use Rattle.elf_versions.specs.Words.{HoldsWords}
 use Rattle.elf_versions.specs.declared.words.Words.{Words}
 use Rattle.elf_versions.specs.declared.record.VersionRecord.{VersionRecord}
 use Rattle.elf_versions.specs.declared.stepping.Standing.{Standing}
+use Rattle.elf_versions.specs.declared.reading.Step.{Step}
+use Rattle.elf_model.specs.Checks.{first_refusal}
 
 -- a table whose bytes are held, all of them, or are read piece by piece
 pub record Held : Type 0 where
@@ -122,14 +124,36 @@ abbrev pub why_stopped_now : {X : Type 0} → Option Fault → Result X Fault �
 why_stopped_now None result = why_stopped result
 why_stopped_now (Some fault) result = None
 
--- how many bytes of a name are read beside a record
-abbrev pub name_bytes_of : VersionKind → ℕ
-name_bytes_of kind = elim kind [ Definition ↦ 4 | File ↦ 0 | Need ↦ 0 ]
+-- how many bytes are read of what holds the index of a name, beside a record
+abbrev pub index_bytes : VersionKind → ℕ
+index_bytes kind = elim kind [ Definition ↦ 4 | File ↦ 0 | Need ↦ 0 ]
 
 -- a read gives the words of a record, or its fault
 abbrev pub WordsRead : List ℕ → Met → Result Words Fault → Type 0
 WordsRead file met (Ok words) = HoldsWords file met words
 WordsRead file met (Err fault) = IsOfRead fault
+
+-- a record of a table that is read, and where it leads: its checks pass, and it is the file's; or the first check that fails
+pub record IsStep (file : List ℕ) (table size : ℕ) (stand : Stand) (step : Step) : Type 0 where
+  pub passes : first_refusal (record_checks file table size stand) ≡ None
+  pub is : IsVersion file (met_at table stand) step.record
+  pub leads : option_map stand_of step.next ≡ behind file table stand
+  pub knows : KnowsAhead file table step.next
+
+abbrev pub ReadsRecord : List ℕ → ℕ → ℕ → Stand → Result Step Fault → Type 0
+ReadsRecord file table size stand (Ok step) = IsStep file table size stand step
+ReadsRecord file table size stand (Err (Refused refusal)) = (IsBudget refusal → ⊥) → first_refusal (record_checks file table size stand) ≡ Some refusal
+ReadsRecord file table size stand (Err (Source fault at)) = Unit {0}
+
+-- where a walk stands is not far behind a table of some bytes, and a needed version's file is in it
+pub record Fits (size : ℕ) (s : Standing) : Type 0 where
+  pub near : s.place < 2 ^ 63 + 2 ^ 32
+  pub owner : s.owner ≤ size
+
+-- of any table a record's number is small, and where it leads fits
+pub record StepFits (size : ℕ) (step : Step) : Type 0 where
+  pub number : number_in step.record.number < VERSION_NUMBERS
+  pub next : IfSome step.next (Fits size)
 
 -- what meeting the record that is to come says of the records that were left and are left
 abbrev pub TellsMet : List ℕ → Versions → Versions → Result VersionRecord Fault → Type 0

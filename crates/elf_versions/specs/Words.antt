@@ -26,7 +26,10 @@ pub record HoldsWords (file : List ℕ) (met : Met) (words : Words) : Type 0 whe
   pub name : HoldsName file met words.name
   pub next : words.next ≡ next_word file met
 
--- the distance from a record to the end of what holds its name
+-- the distance from a record to what holds the index of its name, and to the end of that
+unfoldable pub distance_of_name : VersionKind → ℕ → ℕ
+distance_of_name kind aux = elim kind [ Definition ↦ aux | File ↦ 0 | Need ↦ 0 ]
+
 unfoldable pub end_of_name : VersionKind → ℕ → ℕ
 end_of_name kind aux = elim kind [ Definition ↦ aux + DEFINED_NAME_SIZE | File ↦ NEED_SIZE | Need ↦ NEED_SIZE ]
 

@@ -1,21 +1,19 @@
 //! A cursor over the records of symbol versions.
-ghost use Rattle.std.specs.Prelude.{◌≡◌, ℕ, ◌+◌, ◌-◌, ◌^◌, ◌<◌, ◌≤◌, List, Some, None, Err, IfOk, IfErr, OnOk};
+ghost use Rattle.std.specs.Prelude.{◌≡◌, ℕ, ◌+◌, ◌-◌, ◌^◌, ◌<◌, ◌≤◌, List, Some, None, Err, IfOk, IfErr};
 ghost use Rattle.elf_headers.specs.Faults.{IsOfRead};
 ghost use Rattle.elf_headers.specs.Ledger.{Did, why_stopped};
 ghost use Rattle.elf_headers.specs.declared.fault.Fault.{Fault};
 ghost use Rattle.elf_table.specs.Tables.{RowsWithin};
 ghost use Rattle.elf_model.specs.declared.versions.VersionKind.TheVariants.{Need};
-ghost use Rattle.elf_model.specs.Versions.{Met, name_index, record_size};
-ghost use Rattle.elf_headers.specs.Ledger.{IsRead};
-ghost use Rattle.elf_versions.specs.Reading.{Agrees, IsHeld, IsVersion, KeepsWalk, LeavesMet, LeavesWalk, MeetsIn, StartsVersions, StepsIn, WordsRead, name_bytes_of, unheld, unread, why_stopped_now};
-ghost use Rattle.elf_versions.specs.Words.{HoldsWords, end_of_name};
+ghost use Rattle.elf_versions.specs.Reading.{Agrees, KeepsWalk, LeavesMet, LeavesWalk, MeetsIn};
+ghost use Rattle.elf_versions.specs.Reading.{StartsVersions, StepsIn, unread, why_stopped_now};
 
 use crate::record::VersionRecord;
-use crate::stepping::{Standing, bytes_each, first, record_bytes, refused_words, behind};
+use crate::reading::read_record;
+use crate::stepping::{Standing, bytes_each, first, record_bytes};
 use crate::table_bytes::TableBytes;
-use crate::words::{Words, of_definition, of_file, of_need};
 use elf_headers::refused;
-use elf_record::{Cause, Vernaux, Verdef, Verneed, VersionKind, word};
+use elf_record::{Cause, VersionKind};
 use elf_source::{Counted, Source};
 use elf_table::{Fault, Table};
 use std::marker::Model;
@@ -135,97 +133,13 @@ impl VersionCursor {
         ensures keeps { KeepsWalk self.old self.new }
         ensures leaves { LeavesMet self.old self.new result }
     {
-        let table = self.held.table();
-        let size = table.len();
+        let size = self.held.table().len();
         if self.left == 0 || stand.place + record_bytes(stand.kind) > size {
             return refused(stand.from, Cause::VersionCut);
         }
         self.left -= 1;
-        let words = self.words(src, stand)?;
-        let at = table.at() + stand.place;
-        if let Some(refusal) = refused_words(size, stand, at, &words) {
-            return Err(Fault::Refused(refusal));
-        }
-        let name = self.name(src, stand, &words)?;
-        self.standing = behind(table.at(), stand, &words);
-        Ok(given(stand, at, &words, name))
-    }
-
-    // The words of the record that is to come, which is in the table.
-    fn words<S: Source>(&self, src: &mut Counted<S>, stand: &Standing) -> Result<Words, Fault>
-        requires within { RowsWithin src.old.seen.size self.now.held.table }
-        requires inside { stand.now.place + record_size stand.now.kind ≤ self.now.held.table.count }
-        ensures did { Did src.old src.new (why_stopped result)
-            (unheld self.now.held (record_size stand.now.kind))
-            (λ file. IsHeld file self.now.held → WordsRead file (record { kind = stand.now.kind;
-            at = self.now.held.table.at + stand.now.place }) result) }
-    {
-        match stand.kind {
-            VersionKind::Definition => {
-                let mut bytes = [0; 20];
-                self.held.read(src, stand.place, &mut bytes)?;
-                Ok(of_definition(&Verdef::decode(&bytes)))
-            }
-            VersionKind::File => {
-                let mut bytes = [0; 16];
-                self.held.read(src, stand.place, &mut bytes)?;
-                Ok(of_file(&Verneed::decode(&bytes)))
-            }
-            VersionKind::Need => {
-                let mut bytes = [0; 16];
-                self.held.read(src, stand.place, &mut bytes)?;
-                Ok(of_need(&Vernaux::decode(&bytes)))
-            }
-        }
-    }
-
-    // The index of the name of a record whose words are known, and whose name is in the table: a
-    // definition's is read.
-    fn name<S: Source>(
-        &self,
-        src: &mut Counted<S>,
-        stand: &Standing,
-        words: &Words,
-    ) -> Result<u32, Fault>
-        requires within { RowsWithin src.old.seen.size self.now.held.table }
-        requires inside { stand.now.place + end_of_name stand.now.kind words.now.aux
-            ≤ self.now.held.table.count }
-        ensures did { Did src.old src.new (why_stopped result)
-            (unheld self.now.held (name_bytes_of stand.now.kind))
-            (λ file. IsHeld file self.now.held → (met : Met) → met ≡ record { kind = stand.now.kind;
-            at = self.now.held.table.at + stand.now.place } → HoldsWords file met words.now →
-            IsRead result (name_index file met)) }
-    {
-        match stand.kind {
-            VersionKind::Definition => {
-                let mut bytes = [0; 4];
-                let place = stand.place + u64::from(words.aux);
-                self.held.read(src, place, &mut bytes)?;
-                Ok(word(&bytes))
-            }
-            VersionKind::File | VersionKind::Need => Ok(words.name),
-        }
-    }
-}
-
-// A record as it is given, by its words and the index of its name.
-fn given(stand: &Standing, at: u64, words: &Words, name: u32) -> VersionRecord
-    requires { at + words.now.aux < 2 ^ 64 }
-    ensures is { (file : List ℕ) (met : Met) → met ≡ record { kind = stand.now.kind; at = at } →
-        HoldsWords file met words.now → name ≡ name_index file met → IsVersion file met result }
-    ensures number { result.number ≡ words.now.number }
-{
-    let named_at = match stand.kind {
-        VersionKind::Definition => at + u64::from(words.aux),
-        VersionKind::File | VersionKind::Need => at,
-    };
-    VersionRecord {
-        kind: stand.kind,
-        at,
-        number: words.number,
-        flags: words.flags,
-        hash: words.hash,
-        named_at,
-        name,
+        let step = read_record(&self.held, src, stand)?;
+        self.standing = step.next;
+        Ok(step.record)
     }
 }

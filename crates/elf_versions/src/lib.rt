@@ -3,6 +3,7 @@
 #![tactic(auto)]
 
 mod cursor;
+mod reading;
 mod record;
 mod stepping;
 mod table_bytes;

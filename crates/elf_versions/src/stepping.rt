@@ -1,10 +1,11 @@
 //! Where a walk over symbol versions stands, and where a record leads it.
-ghost use Rattle.std.specs.Prelude.{◌≡◌, ℕ, ◌+◌, ◌^◌, ◌<◌, ◌≤◌, List, Some, IfSome, option_map};
+ghost use Rattle.std.specs.Prelude.{◌≡◌, ℕ, ◌+◌, ◌^◌, ◌<◌, ◌≤◌, List, Some, IfSome, MatchOption, option_map};
+ghost use Rattle.elf_model.specs.Budget.{IsBudget};
 ghost use Rattle.elf_model.specs.Checks.{first_refusal};
-ghost use Rattle.elf_model.specs.Versions.{record_size, along, behind, first_stand};
+ghost use Rattle.elf_model.specs.Versions.{record_size, along, behind, first_stand, number_in};
 ghost use Rattle.elf_model.specs.declared.versions.VersionKind.TheVariants.{Need};
 ghost use Rattle.elf_versions.specs.Reading.{KnowsAhead, KnowsFiles, bytes_each, stand_of};
-ghost use Rattle.elf_versions.specs.Words.{HoldsWords, checks_of, end_of_name};
+ghost use Rattle.elf_versions.specs.Words.{HoldsWords, checks_of, distance_of_name, end_of_name};
 
 use crate::words::Words;
 use elf_record::sizes::{VERSION_DEFINITION_BYTES, VERSION_NAME_BYTES, VERSION_NEED_BYTES};
@@ -72,11 +73,26 @@ pub(crate) fn first(kind: VersionKind, head: u64, size: u64) -> Option<Standing>
     })
 }
 
+/// The distance from a record to what holds the index of its name.
+#[tactic(auto, unfolding(crate::specs::Words::distance_of_name))]
+pub(crate) fn name_distance(kind: VersionKind, aux: u32) -> u64
+    ensures value { result ≡ distance_of_name kind aux }
+    ensures small { result ≤ aux }
+{
+    match kind {
+        VersionKind::Definition => u64::from(aux),
+        VersionKind::File | VersionKind::Need => 0,
+    }
+}
+
 /// The first check of a record's words that fails: the version of its layout, its number, and its
 /// name, which is in the table.
 pub(crate) fn refused_words(size: u64, stand: &Standing, at: u64, words: &Words) -> Option<Refusal>
-    requires { stand.now.place + 20 < 2 ^ 63 }
-    ensures { result ≡ first_refusal (checks_of stand.now.kind size stand.now.place at words.now) }
+    requires { stand.now.place < 2 ^ 63 }
+    ensures is { result ≡ first_refusal (checks_of stand.now.kind size stand.now.place at words.now) }
+    ensures passes { MatchOption result
+        ((stand.now.place + end_of_name stand.now.kind words.now.aux ≤ size)
+        × (number_in words.now.number < 1024)) (λ refusal. IsBudget refusal → ⊥) }
 {
     if words.version != 1 {
         return refused(at, Cause::BadVersion);
