@@ -1,2 +1,3 @@
 pub mod HeldBytes
+pub mod LeftLaws
 pub mod WordLaws

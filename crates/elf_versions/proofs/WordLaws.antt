@@ -79,10 +79,11 @@ pub none-of : {X : Type 0} (o : Option X) → ((x : X) → o ≡ Some x → ⊥)
 none-of None h = refl
 none-of (Some x) h = absurd (h x refl)
 
-pub fits-both :
-    (size : ℕ) (o : Option Standing) → IfSome o (λ s. s.place < 2 ^ 63 + 2 ^ 32) → IfSome o (λ s. s.owner ≤ size) → IfSome o (Fits size)
-fits-both size None near owner = tt
-fits-both size (Some s) near owner = record { near = near; owner = owner }
+pub fits-all :
+    (size each : ℕ) (o : Option Standing) → IfSome o (λ s. s.place < 2 ^ 63 + 2 ^ 32) → IfSome o (λ s. s.owner ≤ size)
+    → IfSome o (λ s. bytes_each s.kind ≡ each) → IfSome o (Fits size each)
+fits-all size each None near owner pays = tt
+fits-all size each (Some s) near owner pays = record { near = near; owner = owner; pays = omega (arith, pays) }
 
 -- the index of a name: behind a definition, and in any other record
 pub definition-index :

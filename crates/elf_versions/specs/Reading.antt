@@ -145,15 +145,17 @@ ReadsRecord file table size stand (Ok step) = IsStep file table size stand step
 ReadsRecord file table size stand (Err (Refused refusal)) = (IsBudget refusal → ⊥) → first_refusal (record_checks file table size stand) ≡ Some refusal
 ReadsRecord file table size stand (Err (Source fault at)) = Unit {0}
 
--- where a walk stands is not far behind a table of some bytes, and a needed version's file is in it
-pub record Fits (size : ℕ) (s : Standing) : Type 0 where
+-- where a walk stands is not far behind a table of some bytes, a needed version's file is in it, and the record that is to come
+-- asks for no more than so many bytes
+pub record Fits (size each : ℕ) (s : Standing) : Type 0 where
   pub near : s.place < 2 ^ 63 + 2 ^ 32
   pub owner : s.owner ≤ size
+  pub pays : bytes_each s.kind ≤ each
 
 -- of any table a record's number is small, and where it leads fits
-pub record StepFits (size : ℕ) (step : Step) : Type 0 where
+pub record StepFits (size each : ℕ) (step : Step) : Type 0 where
   pub number : number_in step.record.number < VERSION_NUMBERS
-  pub next : IfSome step.next (Fits size)
+  pub next : IfSome step.next (Fits size each)
 
 -- what meeting the record that is to come says of the records that were left and are left
 abbrev pub TellsMet : List ℕ → Versions → Versions → Result VersionRecord Fault → Type 0

@@ -1,15 +1,16 @@
 //! A cursor over the records of symbol versions.
-ghost use Rattle.std.specs.Prelude.{◌≡◌, ℕ, ◌+◌, ◌-◌, ◌^◌, ◌<◌, ◌≤◌, List, Some, None, Err, IfOk, IfErr};
+ghost use Rattle.std.specs.Prelude.{◌≡◌, ℕ, ◌+◌, ◌-◌, ◌*◌, ◌^◌, ◌<◌, ◌≤◌, List, Some, None, Err, IfOk, IfErr};
 ghost use Rattle.elf_headers.specs.Faults.{IsOfRead};
 ghost use Rattle.elf_headers.specs.Ledger.{Did, why_stopped};
 ghost use Rattle.elf_headers.specs.declared.fault.Fault.{Fault};
 ghost use Rattle.elf_table.specs.Tables.{RowsWithin};
+ghost use Rattle.elf_model.specs.Versions.{most_records};
 ghost use Rattle.elf_model.specs.declared.versions.VersionKind.TheVariants.{Need};
 ghost use Rattle.elf_versions.specs.Reading.{Agrees, KeepsWalk, LeavesMet, LeavesWalk, MeetsIn};
-ghost use Rattle.elf_versions.specs.Reading.{StartsVersions, StepsIn, unread, why_stopped_now};
+ghost use Rattle.elf_versions.specs.Reading.{StartsVersions, StepsIn, bytes_each, unread, why_stopped_now};
 
-use crate::record::VersionRecord;
 use crate::reading::read_record;
+use crate::record::VersionRecord;
 use crate::stepping::{Standing, bytes_each, first, record_bytes};
 use crate::table_bytes::TableBytes;
 use elf_headers::refused;
@@ -34,7 +35,7 @@ pub struct VersionCursor {
 
 impl Model for VersionCursor {
     ghost use Rattle.std.specs.Prelude.{◌≡◌, ◌+◌, ◌^◌, ◌<◌, ◌≤◌, IfSome};
-    ghost use Rattle.elf_versions.specs.Reading.{Walking};
+    ghost use Rattle.elf_versions.specs.Reading.{Fits, Walking};
 
     ghost Value = { Walking };
 
@@ -48,14 +49,14 @@ impl Model for VersionCursor {
 
     ghost invariant = { λ c. (c.held.table.count < 2 ^ 63)
         × (c.held.table.at + c.held.table.count < 2 ^ 64)
-        × IfSome c.standing (λ s. (s.place < 2 ^ 63 + 2 ^ 32) × (s.owner ≤ c.held.table.count)) };
+        × IfSome c.standing (Fits c.held.table.count c.each) };
 }
 
 impl VersionCursor {
     /// A cursor before the first record of `table`, whose rows are single bytes and which ends within
     /// the source's length: of definitions, or of needed files with their versions. What tells of the
     /// table stands at the file offset `head`; refusals point there where no record stands at its
-    /// first byte.
+    /// first byte. What it asks for the cursor may no longer ask for.
     ///
     /// # Errors
     /// A fault of the read of the whole table, or a refusal for want of budget, at its first byte.
@@ -69,7 +70,11 @@ impl VersionCursor {
         requires kind { kind ≡ Need → ⊥ }
         requires small { table.count < 2 ^ 63 }
         requires within { RowsWithin src.old.seen.size table }
+        ensures did { Did src.old src.new (why_stopped result)
+            (most_records kind table.count * bytes_each kind) (λ file. IfOk result (Agrees file)) }
         ensures fault { IfErr result IsOfRead }
+        ensures account { IfOk result (λ c. src.new.asked + unread c
+            ≤ src.old.asked + most_records kind table.count * bytes_each kind) }
         ensures starts { IfOk result (StartsVersions kind head table) }
     {
         let size = table.len();

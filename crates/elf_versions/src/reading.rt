@@ -10,7 +10,7 @@ use crate::record::VersionRecord;
 use crate::stepping::{Standing, behind, name_distance, refused_words};
 use crate::table_bytes::TableBytes;
 use crate::words::{Words, of_definition, of_file, of_need};
-use elf_record::{Vernaux, Verdef, Verneed, VersionKind, word};
+use elf_record::{Verdef, Vernaux, Verneed, VersionKind, word};
 use elf_source::{Counted, Source};
 use elf_table::Fault;
 
@@ -39,7 +39,7 @@ pub(crate) fn read_record<S: Source>(
     ensures did { Did src.old src.new (why_stopped result) (unheld held.now (bytes_each stand.now.kind))
         (λ file. IsHeld file held.now → KnowsFiles file held.now.table.at stand.now →
         ReadsRecord file held.now.table.at held.now.table.count (stand_of stand.now) result) }
-    ensures fits { IfOk result (StepFits held.now.table.count) }
+    ensures fits { IfOk result (StepFits held.now.table.count (bytes_each stand.now.kind)) }
 {
     let table = held.table();
     let at = table.at() + stand.place;

@@ -59,7 +59,7 @@ pub(crate) fn first(kind: VersionKind, head: u64, size: u64) -> Option<Standing>
     requires { kind ≡ Need → ⊥ }
     ensures stands { option_map stand_of result ≡ first_stand kind head size }
     ensures knows { (file : List ℕ) (table : ℕ) → KnowsAhead file table result }
-    ensures low { IfSome result (λ s. (s.place ≡ 0) × (s.owner ≡ 0)) }
+    ensures low { IfSome result (λ s. (s.place ≡ 0) × (s.owner ≡ 0) × (s.kind ≡ kind)) }
 {
     if size == 0 {
         return None;
@@ -137,6 +137,7 @@ pub(crate) fn behind(table: u64, stand: &Standing, words: &Words) -> Option<Stan
         (option_map stand_of result ≡ behind file table (stand_of stand.now))
         × KnowsAhead file table result }
     ensures near { IfSome result (λ s. s.place < 2 ^ 63 + 2 ^ 32) }
+    ensures pays { IfSome result (λ s. bytes_each s.kind ≡ bytes_each stand.now.kind) }
     ensures owner { (size : ℕ) → stand.now.place ≤ size → stand.now.owner ≤ size →
         IfSome result (λ s. s.owner ≤ size) }
 {
@@ -152,7 +153,12 @@ pub(crate) fn behind(table: u64, stand: &Standing, words: &Words) -> Option<Stan
         }),
         VersionKind::Need => {
             if words.next == 0 {
-                return along(VersionKind::File, stand.owner, table + stand.owner, stand.files);
+                return along(
+                    VersionKind::File,
+                    stand.owner,
+                    table + stand.owner,
+                    stand.files,
+                );
             }
             Some(Standing {
                 place: stand.place + u64::from(words.next),

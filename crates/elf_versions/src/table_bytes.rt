@@ -53,6 +53,8 @@ impl TableBytes {
         ensures did { Did src.old src.new (why_stopped result) most
             (λ file. IfOk result (IsHeld file)) }
         ensures fault { IfErr result IsOfRead }
+        ensures account { IfOk result (λ held.
+            src.new.asked + unheld held most ≤ src.old.asked + most) }
         ensures its_table { IfOk result (λ held. held.table ≡ table) }
     {
         let _ = table.entry();

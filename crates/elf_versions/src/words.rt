@@ -6,7 +6,7 @@ ghost use Rattle.elf_record.specs.Verneed.{IsVerneed};
 ghost use Rattle.elf_model.specs.declared.versions.VersionKind.TheVariants.{Definition, File, Need};
 ghost use Rattle.elf_versions.specs.Words.{HoldsWords};
 
-use elf_record::{Vernaux, Verdef, Verneed};
+use elf_record::{Verdef, Vernaux, Verneed};
 
 /// The words of a record. Those that its kind has not are 0, and the version of its layout is 1.
 #[derive(Clone, Copy)]

@@ -2,7 +2,8 @@
 use Rattle.std.proofs.Common.{◌≡◌, ℕ, ◌+◌, ◌≤◌, None, Some, refl, sym, ap, ◌∙◌, arith, rules}
 use Rattle.elf_headers.specs.declared.fault.Fault.TheVariants.{Refused}
 use Rattle.elf_headers.proofs.LedgerLaws.{Did-as, Did-stop, Did-then}
-use Rattle.elf_versions.proofs.WordLaws.{asks-words, asks-name, distance-inside, fits-both, none-of, record-checked}
+use Rattle.elf_versions.specs.Reading.{bytes_each}
+use Rattle.elf_versions.proofs.WordLaws.{asks-words, asks-name, distance-inside, fits-all, none-of, record-checked}
 use Rattle.elf_versions.proofs.reading.read_record.Goals as goal
 
 pub returns-in-Some-clause-did : goal.returns-in-Some-clause-did
@@ -56,5 +57,7 @@ returns-clause-fits g c =
     let passes = rw (none-of c.refused_words.result c.in_default.not-Some) at c.refused_words.ensures.passes in
     record {
       number = rw c.given.ensures.number passes.1;
-      next = fits-both h.table.count c.behind.result c.behind.ensures.near (c.behind.ensures.owner h.table.count (omega (arith, c.requires.inside)) c.requires.owner);
+      next =
+          fits-all h.table.count (bytes_each s.kind) c.behind.result c.behind.ensures.near (c.behind.ensures.owner h.table.count (omega (arith, c.requires.inside)) c.requires.owner)
+          c.behind.ensures.pays;
     }
