@@ -1,5 +1,5 @@
 -- Bytes of a table that are held, and bytes that are read.
-use Rattle.std.proofs.Common.{◌≡◌, ℕ, ◌+◌, ◌≤◌, List, take, drop, Option, None, Some, IfSome, IfErr, OnOk, Result, Ok, Err, refl, sym, ap, ◌∙◌, arith}
+use Rattle.std.proofs.Common.{◌≡◌, ℕ, ◌+◌, ◌≤◌, List, take, IfSome, IfErr, OnOk, Result, Ok, Err, sym, ap, ◌∙◌, arith}
 use Rattle.elf_model.specs.Bytes.{slice}
 use Rattle.elf_model.proofs.Slices.{slice-slice}
 use Rattle.elf_headers.specs.Faults.{IsAt}

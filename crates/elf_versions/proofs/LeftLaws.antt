@@ -1,5 +1,5 @@
 -- What is left of a walk after a step.
-use Rattle.std.proofs.Common.{◌≡◌, ℕ, zero, suc, ◌+◌, ◌-◌, ◌*◌, ◌<◌, ◌≤◌, nat_lt, Bool, true, false, if◌then◌else◌, List, ◌⊎◌, inl, inr, Option, None, Some, Ok, Err, option_map, refl, sym, ap, ◌∙◌, arith}
+use Rattle.std.proofs.Common.{◌≡◌, ℕ, zero, suc, ◌+◌, ◌-◌, ◌*◌, ◌<◌, ◌≤◌, nat_lt, Bool, true, false, if◌then◌else◌, List, ◌⊎◌, inl, inr, Option, Some, Err, option_map, refl, arith}
 use Rattle.std.proofs.lemmas.Bool.Decides.{nat_tests}
 use Rattle.elf_model.specs.Checks.{first_refusal}
 use Rattle.elf_model.specs.Versions.{Stand, Versions, met_at, met_from, no_versions, record_checks, record_size, with_met}
@@ -8,7 +8,7 @@ use Rattle.elf_model.specs.declared.causes.Refusal.{Refusal}
 use Rattle.elf_model.proofs.VersionSteps.{met-most, met-record, met-refused}
 use Rattle.elf_headers.specs.declared.fault.Fault.{Fault}
 use Rattle.elf_headers.specs.declared.fault.Fault.TheVariants.{Refused, Source}
-use Rattle.elf_versions.specs.Reading.{Held, IsStep, ReadsRecord, TellsMet, bytes_each, stand_of, unheld}
+use Rattle.elf_versions.specs.Reading.{Held, IsStep, ReadsRecord, TellsMet, stand_of, unheld}
 use Rattle.elf_versions.specs.declared.reading.Step.{Step}
 use Rattle.elf_versions.specs.declared.stepping.Standing.{Standing}
 

@@ -3,6 +3,7 @@
 #![tactic(auto)]
 
 mod cursor;
+mod number_names;
 mod reading;
 mod record;
 mod stepping;
@@ -10,5 +11,6 @@ mod table_bytes;
 mod words;
 
 pub use cursor::VersionCursor;
+pub use number_names::{NUMBER_NAMES_BYTES, NameAt, NumberNames};
 pub use record::VersionRecord;
 pub use table_bytes::BUFFER_BYTES;

@@ -1,5 +1,5 @@
 -- A definition's name stands behind it; any other record holds the index itself.
-use Rattle.std.proofs.Common.{◌≡◌, ℕ, ◌+◌, refl, sym, ap, ◌∙◌, arith}
+use Rattle.std.proofs.Common.{◌≡◌, ℕ, ◌+◌, ap, ◌∙◌, arith}
 use Rattle.elf_model.specs.Bytes.{field}
 use Rattle.elf_headers.proofs.LedgerLaws.{Did-as, Did-none}
 use Rattle.elf_versions.specs.Words.{end_of_name}

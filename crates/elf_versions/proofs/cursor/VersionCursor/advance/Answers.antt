@@ -1,5 +1,5 @@
 -- Behind the last record none is left.
-use Rattle.std.proofs.Common.{rules, refl, arith}
+use Rattle.std.proofs.Common.{arith}
 use Rattle.elf_model.proofs.VersionSteps.{met-ended}
 use Rattle.elf_headers.proofs.LedgerLaws.{Did-as, Did-none}
 use Rattle.elf_versions.proofs.WordLaws.{none-of}

@@ -1,5 +1,5 @@
 -- The record is met, or what is left is cut.
-use Rattle.std.proofs.Common.{◌≡◌, ◌⊎◌, ◌+◌, ◌<◌, None, inl, inr, option_map, refl, sym, ap, ◌∙◌, arith, rules}
+use Rattle.std.proofs.Common.{◌≡◌, ◌⊎◌, ◌+◌, ◌<◌, None, inl, inr, arith, rules}
 use Rattle.std.proofs.lemmas.Result.{err_from_is_err_and}
 use Rattle.elf_model.specs.Versions.{met_at, no_versions, record_size}
 use Rattle.elf_model.specs.declared.causes.Cause.TheVariants.{VersionCut}

@@ -1,5 +1,5 @@
 -- What is held is the file's, and what is not held is read.
-use Rattle.std.proofs.Common.{◌≡◌, ℕ, ◌+◌, List, length, rules, refl, sym, ◌∙◌, arith}
+use Rattle.std.proofs.Common.{◌≡◌, ◌+◌, length, rules, refl, ◌∙◌, arith}
 use Rattle.elf_model.specs.Bytes.{slice}
 use Rattle.elf_headers.proofs.LedgerLaws.{Did-as, Did-none, Did-of}
 use Rattle.elf_versions.proofs.HeldBytes.{part-held, read-gives, stop-says}
