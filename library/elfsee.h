@@ -108,7 +108,7 @@ uint64_t elfsee_cost(uint64_t file_len, const struct elfsee_limits *limits);
  *  BAD_CALL: exactly for limits outside their ranges, or room of less than 64 bytes.
  * Always: written <= out_len; `asked` is at most the listing's cost, and the budget. */
 uint32_t elfsee_show(const uint8_t *file, size_t file_len, const struct elfsee_limits *limits,
-                     uint8_t parts, uint8_t *room, size_t room_len, uint8_t *out, size_t out_len,
+                     uint16_t parts, uint8_t *room, size_t room_len, uint8_t *out, size_t out_len,
                      struct elfsee_end *end);
 
 /* A symbol, field by field (gABI, Symbol Table). */

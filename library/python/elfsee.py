@@ -515,7 +515,7 @@ class File:
         and the listing begins anew."""
         data, end = self.data, _End()
         limits = _limits_of(self._headers, name_cap, self._budget)
-        _within("parts", parts, 0, 255)
+        _within("parts", parts, 0, 65535)
         length = min(_within("most", most, 0, 1 << 62), (1 << 16) + len(data) // 4)
         while True:
             out = ctypes.create_string_buffer(max(length, 1))
