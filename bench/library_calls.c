@@ -26,7 +26,7 @@ struct done {
 
 static uint8_t *file, *room, *out;
 static size_t file_len, room_len, out_len;
-static uint8_t parts; /* of a listing */
+static uint16_t parts; /* of a listing */
 static const struct elfsee_limits LIMITS = {65279, 256, 0, 0};
 
 /* Goes over the rows of one table. */
@@ -129,7 +129,7 @@ static void read_file(const char *path) {
 int main(int argc, char **argv) {
     if (argc < 4) return 2;
     read_file(argv[1]);
-    parts = (uint8_t)atoi(argv[3]);
+    parts = (uint16_t)atoi(argv[3]);
     room_len = (size_t)elfsee_room(file, file_len, LIMITS.headers);
     room = malloc(room_len);
     out_len = 32 * file_len + (1 << 20);

@@ -60,7 +60,8 @@ enum {
     ELFSEE_NAME_UNENDED, ELFSEE_NOTE_CUT, ELFSEE_NO_HASH, ELFSEE_HASH_SHAPE, ELFSEE_HASH_INDEX,
     ELFSEE_HASH_CYCLE, ELFSEE_UNSUPPORTED, ELFSEE_OVERFLOW, ELFSEE_NOT_REL, ELFSEE_UNPLACED,
     ELFSEE_UNDEFINED, ELFSEE_PLACE_OUTSIDE, ELFSEE_SYMBOL_INDEX, ELFSEE_TOO_LONG, ELFSEE_BUDGET,
-    ELFSEE_UNMAPPED, ELFSEE_THIN = 34, ELFSEE_NOT_ARCHIVE, ELFSEE_MEMBER_CUT
+    ELFSEE_UNMAPPED, ELFSEE_VERSION_CUT = 32, ELFSEE_VERSION_INDEX, ELFSEE_THIN, ELFSEE_NOT_ARCHIVE,
+    ELFSEE_MEMBER_CUT
 };
 
 /* How much may be read and shown. */
@@ -107,7 +108,7 @@ uint64_t elfsee_cost(uint64_t file_len, const struct elfsee_limits *limits);
  *  BAD_CALL: exactly for limits outside their ranges, or room of less than 64 bytes.
  * Always: written <= out_len; `asked` is at most the listing's cost, and the budget. */
 uint32_t elfsee_show(const uint8_t *file, size_t file_len, const struct elfsee_limits *limits,
-                     uint8_t parts, uint8_t *room, size_t room_len, uint8_t *out, size_t out_len,
+                     uint16_t parts, uint8_t *room, size_t room_len, uint8_t *out, size_t out_len,
                      struct elfsee_end *end);
 
 /* A symbol, field by field (gABI, Symbol Table). */

@@ -247,10 +247,10 @@ static void small_out(void) {
           "no room for a symbol");
 }
 
-/* 30 to 33 are no causes. */
+/* 30 and 31 are no causes. */
 static int is_cause(uint32_t cause) {
     return (cause >= ELFSEE_SHORT && cause <= ELFSEE_UNMAPPED) ||
-           (cause >= ELFSEE_THIN && cause <= ELFSEE_MEMBER_CUT);
+           (cause >= ELFSEE_VERSION_CUT && cause <= ELFSEE_MEMBER_CUT);
 }
 
 static void cause_words(void) {
@@ -285,9 +285,9 @@ static void parts(void) {
     unsigned part;
     int all = 1;
     for (part = 0; part < 128; part += 1) {
-        uint32_t status = elfsee_show(object.bytes, object.len, &limits, (uint8_t)part, room.bytes, ROOM,
+        uint32_t status = elfsee_show(object.bytes, object.len, &limits, (uint16_t)part, room.bytes, ROOM,
                                       out.bytes, OUT, &end);
-        all &= status == elfsee_show(object.bytes, object.len, &limits, (uint8_t)(part | 128), room.bytes,
+        all &= status == elfsee_show(object.bytes, object.len, &limits, (uint16_t)(part | 0xff80), room.bytes,
                                      ROOM, out.bytes, OUT, &other);
         all &= status == ELFSEE_OK && end.written == other.written &&
                (end.written == 0) == (part == 0 || part == 4 || part == 32 || part == 64 || part == 36 ||
@@ -593,7 +593,7 @@ static int any_show(void) {
     struct lent some_room = lend(next() % (64 * 50), next() & 1), some_out = lend(next() % 20000, next() & 1);
     struct elfsee_limits limits = any_limits();
     struct elfsee_end end = ODD;
-    uint32_t status = elfsee_show(file.bytes, file.len, &limits, (uint8_t)next(), some_room.bytes,
+    uint32_t status = elfsee_show(file.bytes, file.len, &limits, (uint16_t)next(), some_room.bytes,
                                   some_room.len, some_out.bytes, some_out.len, &end);
     int all = is_end(&end, status, &limits, some_out.len) && end.asked <= elfsee_cost(file.len, &limits);
     int bad = limits.headers < 1 || limits.headers > 65279 || limits.name < 1 || limits.name > 4096 ||

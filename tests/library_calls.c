@@ -87,7 +87,7 @@ struct shown {
     uint32_t status;
 };
 
-static struct shown show_into(const struct lent *file, const struct elfsee_limits *limits, uint8_t parts,
+static struct shown show_into(const struct lent *file, const struct elfsee_limits *limits, uint16_t parts,
                               size_t room_len, size_t out_len) {
     struct shown shown = {lend(out_len, turn & 1), {7, 7, 7, 7, 7}, 0};
     struct lent room = lend(room_len, turn++ & 2);
@@ -101,7 +101,7 @@ static struct shown show_into(const struct lent *file, const struct elfsee_limit
 }
 
 /* The same call once more, with other room or less out, and what has to come. */
-static void show_again(const struct lent *file, const struct elfsee_limits *limits, uint8_t parts,
+static void show_again(const struct lent *file, const struct elfsee_limits *limits, uint16_t parts,
                        size_t room_len, size_t out_len, const struct shown *whole) {
     struct shown again = show_into(file, limits, parts, room_len, out_len);
     if (out_len < whole->end.written) {
@@ -117,7 +117,7 @@ static void show_again(const struct lent *file, const struct elfsee_limits *limi
 
 static void show(const struct lent *file, char **words) {
     struct elfsee_limits limits = limits_of(words[0], words[1], words[2]);
-    uint8_t parts = (uint8_t)atoi(words[3]);
+    uint16_t parts = (uint16_t)atoi(words[3]);
     size_t room_len = HEADER_BYTES * (size_t)limits.headers, out_len = 1 << 16;
     struct shown shown = show_into(file, &limits, parts, room_len, out_len);
     while (shown.status == ELFSEE_FULL) {

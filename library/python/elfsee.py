@@ -90,6 +90,8 @@ class Cause(enum.IntEnum):
     TOO_LONG = 27
     BUDGET = 28
     UNMAPPED = 29
+    VERSION_CUT = 32
+    VERSION_INDEX = 33
     THIN = 34
     NOT_ARCHIVE = 35
     MEMBER_CUT = 36
@@ -513,7 +515,7 @@ class File:
         and the listing begins anew."""
         data, end = self.data, _End()
         limits = _limits_of(self._headers, name_cap, self._budget)
-        _within("parts", parts, 0, 255)
+        _within("parts", parts, 0, 65535)
         length = min(_within("most", most, 0, 1 << 62), (1 << 16) + len(data) // 4)
         while True:
             out = ctypes.create_string_buffer(max(length, 1))

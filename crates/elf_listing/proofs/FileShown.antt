@@ -18,7 +18,7 @@ use Rattle.elf_headers.specs.Faults.{HeaderRead}
 use Rattle.elf_headers.specs.Store.{Stored}
 use Rattle.elf_headers.specs.declared.fault.Fault.{Fault as TableFault}
 use Rattle.elf_headers.specs.declared.fault.Fault.TheVariants.{Refused}
-use Rattle.elf_listing.specs.Parts.{bit_of, part_items}
+use Rattle.elf_listing.specs.Parts.{listed_by, part_items}
 use Rattle.elf_listing.specs.Viewed.{viewed}
 use Rattle.elf_listing.specs.declared.parts.Part.{Part}
 use Rattle.elf_listing.specs.declared.parts.Part.TheVariants.{Headers, Symbols, Relocations, SectionNotes, SegmentNotes, SectionDynamic, SegmentDynamic}
@@ -56,7 +56,7 @@ load_passed file headers slots style parts passed same tables =
 
 -- a part of so many headers
 abbrev pub of_headers : List ℕ → Style → ℕ → Part → ℕ → List Item
-of_headers file style parts part count = where_asked parts (bit_of part) (part_items part style count file)
+of_headers file style parts part count = where_asked parts (listed_by part).bit (part_items part style count file)
 
 abbrev pub segment_part : List ℕ → Style → ℕ → List Item
 segment_part file style parts = where_asked parts SEGMENTS (each (segment_row file style) 0 (e_phnum file))
@@ -67,7 +67,7 @@ nothing_asked parts part = elim (cases_Bool (has parts part)) [ inl asked ↦ rw
 -- a part of no header
 none_of : (file : List ℕ) (style : Style) (parts : ℕ) (part : Part) (count : ℕ) → count ≡ 0 → of_headers file style parts part count ≡ []
 unfolding each
-none_of file style parts part count none = rw none (nothing_asked parts (bit_of part))
+none_of file style parts part count none = rw none (nothing_asked parts (listed_by part).bit)
 
 -- a part whose number of headers matters only where it is asked for
 asked_same : (parts part : ℕ) (items : ℕ → List Item) (n m : ℕ) → (has parts part ≡ true → n ≡ m) → where_asked parts part (items n) ≡ where_asked parts part (items m)
@@ -107,6 +107,7 @@ kinds_are : (file : List ℕ) (style : Style) (parts : ℕ) (loaded : Opened) (s
     ≡ ((of_headers file style parts Symbols store.loaded ++ of_headers file style parts Relocations store.loaded)
     ++ (of_headers file style parts SectionNotes store.loaded ++ of_headers file style parts SegmentNotes store.segments))
     ++ (of_headers file style parts SectionDynamic store.loaded ++ of_headers file style parts SegmentDynamic store.segments)
+unfolding segment_notes segment_dynamic
 kinds_are file style parts loaded store belongs view =
     let count : store.loaded ≡ e_shnum file = belongs.count ∙ belongs.header.e_shnum in
     elim (cases_Bool (e_shnum file == 0)) [

@@ -9,7 +9,7 @@ use Rattle.elf_headers.specs.Permitted.{style_of}
 use Rattle.elf_headers.specs.Store.{Stored}
 use Rattle.elf_source.specs.declared.source.Source.{Ghosts as Sources}
 use Rattle.elf_source.specs.declared.sink.Sink.{Ghosts as Sinks}
-use Rattle.elf_listing.specs.Parts.{asked_cost, bit_of, header_cost, header_count, header_items, part_cost, part_items, segments_listed, tables_listed}
+use Rattle.elf_listing.specs.Parts.{asked_cost, listed_by, part_cost, part_items, segments_listed, tables_listed}
 use Rattle.elf_listing.specs.Shows.{Lists, Shows}
 use Rattle.elf_listing.specs.declared.listing.Listing.{Listing}
 use Rattle.elf_listing.specs.declared.parts.Part.{Part}
@@ -18,17 +18,18 @@ use Rattle.elf_headers.specs.declared.stop.Stop.{Stop}
 -- a part of the header of an index
 abbrev pub ListsHeader : {S W X : Type 0} {s : Sources S} {w : Sinks W} → Part → Listing S W s w → Listing S W s w → Result X Stop → ℕ → Type 0
 ListsHeader part old new result i =
-    Lists old new result (header_cost part old.file.loaded old.file.store.now old.style.cap.bytes i) (Shows old new result (header_items part (style_of old.style) i))
+    let listed = listed_by part in
+    Lists old new result (listed.cost old.file.loaded old.file.store.now old.style.cap.bytes i) (Shows old new result (λ file. listed.items file (style_of old.style) i))
 
 -- a part of each header
 abbrev pub ListsPart : {S W X : Type 0} {s : Sources S} {w : Sinks W} → Part → Listing S W s w → Listing S W s w → Result X Stop → Type 0
 ListsPart part old new result =
     Lists old new result (part_cost part old.file.loaded old.file.store.now old.style.cap.bytes)
-    (Shows old new result (part_items part (style_of old.style) (header_count part old.file.store.now)))
+    (Shows old new result (part_items part (style_of old.style) ((listed_by part).count old.file.store.now)))
 
 -- the items of a part, where the parts have it
 abbrev pub asked_items : ℕ → Part → Stored → Style → List ℕ → List Item
-asked_items parts part store style file = where_asked parts (bit_of part) (part_items part style (header_count part store) file)
+asked_items parts part store style file = where_asked parts (listed_by part).bit (part_items part style ((listed_by part).count store) file)
 
 -- a part, where the parts have it
 abbrev pub ListsAsked : {S W X : Type 0} {s : Sources S} {w : Sinks W} → ℕ → Part → Listing S W s w → Listing S W s w → Result X Stop → Type 0

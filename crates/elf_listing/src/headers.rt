@@ -1,7 +1,7 @@
 //! What is listed of each header, one header after another.
 ghost use Rattle.std.specs.Prelude.{◌≡◌, ◌<◌};
 ghost use Rattle.elf_listing.specs.HeadersListed.{ListsHeader, ListsPart};
-ghost use Rattle.elf_listing.specs.Parts.{header_count};
+ghost use Rattle.elf_listing.specs.Parts.{listed_by};
 
 use crate::listing::Listing;
 use crate::parts::Part;
@@ -24,7 +24,7 @@ impl<S: Source, W: Sink> Listing<'_, '_, '_, S, W> {
 
     /// How many headers a part goes over.
     fn header_count(&self, part: Part) -> u16
-        ensures { result ≡ header_count part self.now.file.store.now }
+        ensures { result ≡ (listed_by part).count self.now.file.store.now }
     {
         match part {
             Part::Segments | Part::SegmentNotes | Part::SegmentDynamic => {
@@ -36,7 +36,7 @@ impl<S: Source, W: Sink> Listing<'_, '_, '_, S, W> {
 
     /// Shows a part of one header.
     fn header(&mut self, part: Part, index: u16) -> Result<(), Stop>
-        requires { index < header_count part self.old.file.store.now }
+        requires { index < (listed_by part).count self.old.file.store.now }
         ensures { ListsHeader part self.old self.new result index }
     {
         match part {

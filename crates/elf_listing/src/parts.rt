@@ -2,7 +2,7 @@
 ghost use Rattle.std.specs.Prelude.{◌≡◌};
 ghost use Rattle.elf_listing.specs.HeadersListed.{ListsAsked, ListsPair};
 ghost use Rattle.elf_listing.specs.HeadersListed.{ListsSegments, ListsTables};
-ghost use Rattle.elf_listing.specs.Parts.{bit_of};
+ghost use Rattle.elf_listing.specs.Parts.{listed_by};
 ghost use Rattle.elf_listing.specs.Viewed.{viewed};
 
 use crate::listing::Listing;
@@ -84,8 +84,9 @@ impl<S: Source, W: Sink> Listing<'_, '_, '_, S, W> {
 }
 
 /// The bit of a part.
+#[tactic(auto, unfolding(elf_model::proofs::OnLiterals::on_literals))]
 fn bit(part: Part) -> Parts
-    ensures { result.0 ≡ bit_of part }
+    ensures { result.0 ≡ (listed_by part).bit }
 {
     match part {
         Part::Headers => Parts::SECTIONS,

@@ -6,10 +6,10 @@ use bitflags::{Flag, Flags, bitflag_items};
 /// A set of parts of a listing, as the number of its bits: HEADER 1, SECTIONS 2, SEGMENTS 4,
 /// SYMBOLS 8, RELOCS 16, NOTES 32, DYNAMIC 64. Other bits have no meaning and are ignored.
 #[derive(Clone, Copy, Debug, PartialEq, Eq)]
-pub struct Parts(pub u8);
+pub struct Parts(pub u16);
 
 bitflag_items! {
-    impl Parts: u8 {
+    impl Parts: u16 {
         /// The file header.
         const HEADER = 1;
         /// The section headers.
@@ -28,7 +28,7 @@ bitflag_items! {
 }
 
 impl Flags for Parts {
-    type Bits = u8;
+    type Bits = u16;
 
     ghost exact = { ⊤ };
 
@@ -41,11 +41,11 @@ impl Flags for Parts {
         Parts::FLAGS
     }
 
-    fn bits(&self) -> u8 {
+    fn bits(&self) -> u16 {
         self.0
     }
 
-    fn from_bits_retain(bits: u8) -> Parts {
+    fn from_bits_retain(bits: u16) -> Parts {
         Parts(bits)
     }
 }

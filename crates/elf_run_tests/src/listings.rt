@@ -36,7 +36,7 @@ const CALL: [&str; 7] = [
 
 #[test]
 fn every_set_of_parts_is_listed(rt: HostRuntime) -> Result<(), Fail> {
-    for bits in 0..128u8 {
+    for bits in 0..128u16 {
         let mut text = Vec::new(rt.alloc());
         for part in 0..7 {
             if bits & (1 << part) != 0 {

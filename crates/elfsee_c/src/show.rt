@@ -21,7 +21,7 @@ use elf_table::HeaderStore;
 pub extern "C" fn elfsee_show(
     file: &[u8],
     limits: &Limits,
-    parts: u8,
+    parts: u16,
     room: &mut [u8],
     out: &mut [u8],
     end: &mut End,

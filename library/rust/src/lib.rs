@@ -46,21 +46,21 @@ pub use rows::{DynamicEntries, Relocations, Rows, Symbols};
 use core::marker::PhantomData;
 
 /// The part of a listing that is the file header.
-pub const HEADER: u8 = 1;
+pub const HEADER: u16 = 1;
 /// The section headers.
-pub const SECTIONS: u8 = 2;
+pub const SECTIONS: u16 = 2;
 /// The program headers.
-pub const SEGMENTS: u8 = 4;
+pub const SEGMENTS: u16 = 4;
 /// The symbols.
-pub const SYMBOLS: u8 = 8;
+pub const SYMBOLS: u16 = 8;
 /// The relocation entries.
-pub const RELOCS: u8 = 16;
+pub const RELOCS: u16 = 16;
 /// The notes.
-pub const NOTES: u8 = 32;
+pub const NOTES: u16 = 32;
 /// The dynamic entries.
-pub const DYNAMIC: u8 = 64;
+pub const DYNAMIC: u16 = 64;
 /// All parts of a listing.
-pub const ALL: u8 = 127;
+pub const ALL: u16 = 127;
 
 impl raw::Symbol {
     /// Its type: STT_FUNC and the like (gABI, Symbol Table).
@@ -198,7 +198,7 @@ impl<'a> File<'a> {
     /// Lists the file, as far as `parts` has it ([`ALL`], or a sum of [`HEADER`] and the like). A
     /// refusal is the listing's last line, and no error. [`Error::Full`] where `out` is too short; a
     /// front of the listing stands in it then.
-    pub fn show<'o>(&self, parts: u8, room: &mut [u8], out: &'o mut [u8]) -> Result<Listing<'o>, Error> {
+    pub fn show<'o>(&self, parts: u16, room: &mut [u8], out: &'o mut [u8]) -> Result<Listing<'o>, Error> {
         let mut end = raw::End::default();
         // SAFETY: slices' own pointers and lengths, of which none that is written overlaps another, and
         // structs that are initialised.

@@ -202,7 +202,7 @@ extern "C" {
         file: *const u8,
         file_len: usize,
         limits: *const Limits,
-        parts: u8,
+        parts: u16,
         room: *mut u8,
         room_len: usize,
         out: *mut u8,

@@ -5,7 +5,7 @@ use Rattle.std.proofs.lemmas.Result.{err_from_is_err_and}
 use Rattle.elf_model.specs.Listing.{Item}
 use Rattle.elf_headers.specs.declared.caps.Style.{Style}
 use Rattle.elf_table.specs.declared.file.File.{File}
-use Rattle.elf_listing.specs.Parts.{header_cost, header_count, header_items}
+use Rattle.elf_listing.specs.Parts.{listed_by}
 use Rattle.elf_listing.specs.declared.parts.Part.{Part}
 use Rattle.elf_listing.proofs.ListsLaws.{Lists-nothing}
 use Rattle.elf_listing.proofs.LoopLaws.{rows_none}
@@ -14,10 +14,10 @@ use Rattle.elf_listing.proofs.listing.Listing.headers.Goals as goal
 
 -- what a header asks for, and its items
 abbrev costs : Part → File → Style → ℕ → ℕ
-costs part f style = header_cost part f.loaded f.store.now style.cap.bytes
+costs part f style = (listed_by part).cost f.loaded f.store.now style.cap.bytes
 
 abbrev shown : Part → Style → List ℕ → ℕ → List Item
-shown part style file i = header_items part (style_of style) i file
+shown part style file i = (listed_by part).items file (style_of style) i
 
 pub headers-init : goal.headers-init
 headers-init g c = record {
@@ -46,5 +46,5 @@ headers-preserved g c =
 pub returns : goal.returns
 returns g c =
     let known = c.headers.invariant in
-    let all : c.headers.index ≡ header_count c.args.part c.args.self.now.file.store.now = omega (arith, c.headers-test.false, known.counted, known.below) in
+    let all : c.headers.index ≡ (listed_by c.args.part).count c.args.self.now.file.store.now = omega (arith, c.headers-test.false, known.counted, known.below) in
     rw all at known.so_far

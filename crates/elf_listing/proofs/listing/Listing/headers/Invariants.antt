@@ -3,7 +3,7 @@ use Rattle.elf_headers.specs.Permitted.{style_of}
 use Rattle.std.proofs.Common.{◌≡◌, ℕ, ◌-◌, ◌≤◌, List, Ok}
 use Rattle.elf_model.specs.Cost.{sum_over}
 use Rattle.elf_model.specs.Listing.{each}
-use Rattle.elf_listing.specs.Parts.{header_cost, header_count, header_items}
+use Rattle.elf_listing.specs.Parts.{listed_by}
 use Rattle.elf_listing.specs.Shows.{Lists, Shows}
 use Rattle.elf_listing.proofs.listing.Listing.headers.Given as goal
 
@@ -12,10 +12,10 @@ invariant-headers g l =
     let f = l.fn.self.file in
     let cap = l.fn.self.style.cap.bytes in
     record {
-      counted : l.count ≡ header_count l.part f.store.now;
+      counted : l.count ≡ (listed_by l.part).count f.store.now;
       below : l.index ≤ l.count;
-      so_far : Lists {X = Unit {0}} l.fn.self l.self (Ok tt) (sum_over (header_cost l.part f.loaded f.store.now cap) 0 l.index)
-          (Shows {X = Unit {0}} l.fn.self l.self (Ok tt) (λ file. each (λ i. header_items l.part (style_of l.fn.self.style) i file) 0 l.index));
+      so_far : Lists {X = Unit {0}} l.fn.self l.self (Ok tt) (sum_over ((listed_by l.part).cost f.loaded f.store.now cap) 0 l.index)
+          (Shows {X = Unit {0}} l.fn.self l.self (Ok tt) (λ file. each ((listed_by l.part).items file (style_of l.fn.self.style)) 0 l.index));
     }
 
 abbrev pub decreases-headers : goal.decreases-headers
