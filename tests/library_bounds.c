@@ -247,10 +247,10 @@ static void small_out(void) {
           "no room for a symbol");
 }
 
-/* 30 to 33 are no causes. */
+/* 30 and 31 are no causes. */
 static int is_cause(uint32_t cause) {
     return (cause >= ELFSEE_SHORT && cause <= ELFSEE_UNMAPPED) ||
-           (cause >= ELFSEE_THIN && cause <= ELFSEE_MEMBER_CUT);
+           (cause >= ELFSEE_VERSION_CUT && cause <= ELFSEE_MEMBER_CUT);
 }
 
 static void cause_words(void) {

@@ -90,6 +90,8 @@ class Cause(enum.IntEnum):
     TOO_LONG = 27
     BUDGET = 28
     UNMAPPED = 29
+    VERSION_CUT = 32
+    VERSION_INDEX = 33
     THIN = 34
     NOT_ARCHIVE = 35
     MEMBER_CUT = 36

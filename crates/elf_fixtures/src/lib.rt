@@ -8,6 +8,7 @@ mod lookups;
 mod notes;
 mod relocations;
 mod tables;
+mod versions;
 
 pub use dynamic::{library_without_sections, repeated_tags};
 pub use edits::with_bytes;
@@ -21,3 +22,4 @@ pub use tables::{
     bare_header, named_section, needed_library, note_segment, odd_name, one_load, one_symbol_table,
     special_places, tables_over_headers,
 };
+pub use versions::{hostile_library, versioned_library, versioned_without_sections};

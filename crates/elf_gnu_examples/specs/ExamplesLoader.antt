@@ -1,9 +1,6 @@
 -- Worked examples of lookups as a loader makes them: in a library with two versions of a function, by its sections, by its
 -- segments, and in a hostile one.
-use Rattle.std.specs.Prelude.{◌≡◌, ℕ, List, [], ◌∷◌, ◌++◌, codes}
-use Rattle.elf_model.specs.Bytes.{little}
-use Rattle.elf_model.specs.Fixtures.{with_bytes}
-use Rattle.elf_model.specs.FixturesHash.{words}
+use Rattle.std.specs.Prelude.{◌++◌, codes}
 use Rattle.elf_model.specs.FixturesVersions.{versioned_library, versioned_without_sections, hostile_library}
 use Rattle.elf_gnu_examples.specs.LoaderWords.{Asks, Fails, Finds, absent_0, absent_1, absent_2, first_f, found_1, found_2, of_none, of_v1, of_v2, only_g, second_f}
 

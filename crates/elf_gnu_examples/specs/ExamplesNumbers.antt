@@ -1,9 +1,8 @@
 -- Worked examples of the numbers of versions in a loader's lookup: their words, and the tables of definitions and needs.
-use Rattle.std.specs.Prelude.{◌≡◌, ℕ, List, [], ◌∷◌, ◌++◌, codes}
+use Rattle.std.specs.Prelude.{◌++◌, codes}
 use Rattle.elf_model.specs.Bytes.{little}
 use Rattle.elf_model.specs.Fixtures.{with_bytes}
-use Rattle.elf_model.specs.FixturesHash.{words}
-use Rattle.elf_model.specs.FixturesVersions.{versioned_library, versioned_without_sections, hostile_library}
+use Rattle.elf_model.specs.FixturesVersions.{versioned_library, versioned_without_sections}
 use Rattle.elf_gnu_examples.specs.LoaderWords.{Asks, Fails, Finds, absent_2, first_f, found_1, found_2, of_none, of_v1, of_v2, only_g, second_f}
 
 -- two default versions; the hidden number 1; the number 0; a number that no record names, asked for by its name or not
@@ -95,3 +94,16 @@ NeedsNameToo =
     × Asks (with_bytes 0x1a8 (little 2 4) versioned_library) (codes "f") 1252
     × Fails (with_bytes 0x22c (little 4 0x10) versioned_library) (codes "f@V2") (codes "! 0000000000000220 version-cut\n")
     × Asks (with_bytes 0x22c (little 4 0x10) versioned_library) (codes "f@V2") 1064
+
+-- records that lie over each other: no more are read than have room one behind the other; of a needed file whose versions
+-- are outside the file itself alone
+abbrev pub RecordsLieOver : Type 0
+RecordsLieOver =
+    Fails (with_bytes 0x226 (little 2 0) (with_bytes 0x224 (little 2 8) (with_bytes 0x220 (little 4 0x16) (with_bytes 0x218 (little 4 8) versioned_library)))) (codes "f@V9") (codes "! 0000000000000218 version-cut\n")
+    × Asks (with_bytes 0x226 (little 2 0) (with_bytes 0x224 (little 2 8) (with_bytes 0x220 (little 4 0x16) (with_bytes 0x218 (little 4 8) versioned_library)))) (codes "f@V9") 1064
+    × Fails (with_bytes 0x218 (little 4 0x11) versioned_library) (codes "f@V9") (codes "! 0000000000000210 version-cut\n")
+    × Asks (with_bytes 0x218 (little 4 0x11) versioned_library) (codes "f@V9") 972
+    × Fails (with_bytes 0x1d8 (little 4 0x39) versioned_library) (codes "f@V9") (codes "! 00000000000001cc version-cut\n")
+    × Asks (with_bytes 0x1d8 (little 4 0x39) versioned_library) (codes "f@V9") 788
+    × Fails (with_bytes 0x450 (little 8 0x13) versioned_library) (codes "f@V9") (codes "! 0000000000000430 version-cut\n")
+    × Asks (with_bytes 0x450 (little 8 0x13) versioned_library) (codes "f@V9") 604

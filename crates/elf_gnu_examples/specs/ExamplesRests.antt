@@ -1,9 +1,8 @@
 -- Worked examples of a loader's lookup by the program headers: what is left of a segment at an address.
-use Rattle.std.specs.Prelude.{◌≡◌, ℕ, List, [], ◌∷◌, ◌++◌, codes}
+use Rattle.std.specs.Prelude.{◌++◌, codes}
 use Rattle.elf_model.specs.Bytes.{little}
 use Rattle.elf_model.specs.Fixtures.{with_bytes}
-use Rattle.elf_model.specs.FixturesHash.{words}
-use Rattle.elf_model.specs.FixturesVersions.{versioned_library, versioned_without_sections, hostile_library}
+use Rattle.elf_model.specs.FixturesVersions.{versioned_without_sections}
 use Rattle.elf_gnu_examples.specs.LoaderWords.{Asks, Fails, Finds, absent_0, found_2}
 
 -- no bucket; a bucket past the symbols of the section headers: symbols and chain words go on to the end of the segment
@@ -62,3 +61,12 @@ abbrev pub EntriesEnd : Type 0
 EntriesEnd =
     Fails (with_bytes 0x240 (little 8 0) versioned_without_sections) (codes "f") (codes "! 0000000000000020 no-hash\n")
     × Asks (with_bytes 0x240 (little 8 0) versioned_without_sections) (codes "f") 396
+
+-- symbols that are the rest of the segment, of 24 bytes each: three of them, and four, of which the last is not the wanted
+-- one
+abbrev pub SymbolsEndWithTheSegment : Type 0
+SymbolsEndWithTheSegment =
+    Fails (with_bytes 0x278 (little 8 0x2a8) versioned_without_sections) (codes "f") (codes "! 00000000000000cc hash-index\n")
+    × Asks (with_bytes 0x278 (little 8 0x2a8) versioned_without_sections) (codes "f") 396
+    × Fails (with_bytes 0x278 (little 8 0x290) versioned_without_sections) (codes "f") (codes "! 00000000000000d4 hash-index\n")
+    × Asks (with_bytes 0x278 (little 8 0x290) versioned_without_sections) (codes "f") 490

@@ -4,7 +4,8 @@ use Rattle.elf_model.specs.Bytes.{little}
 use Rattle.elf_model.specs.Fixtures.{zeros, with_bytes}
 use Rattle.elf_model.specs.FixturesHash.{words}
 use Rattle.elf_model.specs.FixturesVersions.{versioned_library}
-use Rattle.elf_model.specs.Loader.{Wanted, NoVersion, Version, DefaultVersion, wanted_of, is_complete}
+use Rattle.elf_model.specs.Loader.{NoVersion, Version, DefaultVersion, wanted_of, is_complete}
+use Rattle.elf_model.specs.LoaderFind.{loader_ceiling}
 use Rattle.elf_gnu_examples.specs.LoaderWords.{Finds, Asks, second_f, found_2}
 
 -- the text of a name alone, of a version behind one sign and behind two, and of versions that hold such signs
@@ -56,3 +57,10 @@ LongNamesAsk =
     × Asks (with_bytes 0x334 (little 4 5) (with_bytes 0xb0 (words (1 ∷ 6 ∷ 1 ∷ 0 ∷ 2 ∷ 3 ∷ 4 ∷ 5 ∷ 0 ∷ [])) versioned_library))
     (replicate 64 97) (604 + 5 * (4 + 26 + 128))
     × Asks (with_bytes 0xc0 (replicate 8 0xff) versioned_library) (replicate 64 97) (604 + 4 * 3)
+
+-- what no lookup asks for more than, by a file's length, the headers that are permitted, the name and the version
+abbrev pub Ceilings : Type 0
+Ceilings =
+    (loader_ceiling 1264 8 (wanted_of (codes "f")) ≡ 92 + 512 + 1264 + 316 * (30 + 64) + 158 * 28 + 320)
+    × (loader_ceiling 1264 8 (wanted_of (codes "f@V1")) ≡ 92 + 512 + 1264 + 316 * (30 + 64) + 158 * (28 + 64) + 320)
+    × (loader_ceiling 7 0 (wanted_of (replicate 64 97)) ≡ 92 + 7 + 158 + 320)

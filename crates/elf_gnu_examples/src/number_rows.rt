@@ -1,5 +1,5 @@
 //! Worked lookups by the numbers of versions, each computed by the prover.
-ghost use Rattle.elf_gnu_examples.specs.ExamplesNumbers.{WordsDecide, WordsEnd, WordsAreChecked, WithoutWords, DefinitionsAreRead, NumbersHaveNoHighestBit, DefinitionsName, EmptyTables, NeedsNameToo};
+ghost use Rattle.elf_gnu_examples.specs.ExamplesNumbers.{WordsDecide, WordsEnd, WordsAreChecked, WithoutWords, DefinitionsAreRead, NumbersHaveNoHighestBit, DefinitionsName, EmptyTables, NeedsNameToo, RecordsLieOver};
 
 /// Two default versions; the hidden number 1; the number 0; a number that no record names,
 /// asked for by its name or not.
@@ -60,4 +60,11 @@ pub fn empty_tables()
 #[tactic(auto, unfolding(elf_model::proofs::OnLiterals::on_literals, elf_model::proofs::OnLoader::on_loader))]
 pub fn needs_name_too()
     ensures { NeedsNameToo }
+{}
+
+/// Records that lie over each other: no more are read than have room one behind the other; of a
+/// needed file whose versions are outside the file itself alone.
+#[tactic(auto, unfolding(elf_model::proofs::OnLiterals::on_literals, elf_model::proofs::OnLoader::on_loader))]
+pub fn records_lie_over()
+    ensures { RecordsLieOver }
 {}

@@ -1,5 +1,5 @@
 //! Worked lookups in a library without section headers, each computed by the prover.
-ghost use Rattle.elf_gnu_examples.specs.ExamplesRests.{TablesBySegments, RestsEnd, RowsAreRead, FirstRowsCount, EntriesAreChecked, EntriesEnd};
+ghost use Rattle.elf_gnu_examples.specs.ExamplesRests.{TablesBySegments, RestsEnd, RowsAreRead, FirstRowsCount, EntriesAreChecked, EntriesEnd, SymbolsEndWithTheSegment};
 
 /// No bucket; a bucket past the symbols of the section headers: symbols and chain words go on
 /// to the end of the segment.
@@ -40,4 +40,11 @@ pub fn entries_are_checked()
 #[tactic(auto, unfolding(elf_model::proofs::OnLiterals::on_literals, elf_model::proofs::OnLoader::on_loader))]
 pub fn entries_end()
     ensures { EntriesEnd }
+{}
+
+/// Symbols that are the rest of the segment, of 24 bytes each: three of them, and four, of
+/// which the last is not the wanted one.
+#[tactic(auto, unfolding(elf_model::proofs::OnLiterals::on_literals, elf_model::proofs::OnLoader::on_loader))]
+pub fn symbols_end_with_the_segment()
+    ensures { SymbolsEndWithTheSegment }
 {}

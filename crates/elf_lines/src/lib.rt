@@ -17,6 +17,7 @@ mod section_rows;
 mod segment_rows;
 mod symbol_rows;
 mod told;
+mod version_rows;
 
 pub use buffers::BUFFER_BYTES;
 pub use check_rows::{show_check, show_unnamed};
@@ -33,3 +34,4 @@ pub use section_rows::section_front;
 pub use segment_rows::segment_row;
 pub use symbol_rows::{show_symbol, symbol_front};
 pub use told::show_told;
+pub use version_rows::{symbol_version_front, version_front};

@@ -78,7 +78,7 @@ range_within size offset table place h = by_cases (is_outside size offset table)
     by_cases true o h = cc
     by_cases false o h = let low = ltb-false size (offset + table) o in omega arith
 
-whole_within : (size offset table place entry_size : ℕ) → pass (whole_checks_of size offset table place entry_size) ≡ true → table ≤ size
+pub whole_within : (size offset table place entry_size : ℕ) → pass (whole_checks_of size offset table place entry_size) ≡ true → table ≤ size
 whole_within size offset table place entry_size h =
     range_within size offset table place
     (pass-second (not (table % entry_size == 0)) (record { at = place; cause = SizeNotWhole }) (range_checks_of size offset table place) h)

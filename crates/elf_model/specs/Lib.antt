@@ -52,6 +52,7 @@ pub mod Loader
 pub mod LoaderScope
 pub mod LoaderFind
 pub mod LoaderAnswer
+pub mod LoaderLaws
 pub mod ApplyLaws
 pub mod ValueLaws
 pub mod Checking

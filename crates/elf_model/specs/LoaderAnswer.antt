@@ -6,7 +6,7 @@ use Rattle.elf_model.specs.Hash.{Outcome, Found, Absent, Refused}
 use Rattle.elf_model.specs.LineFronts.{symbol_front}
 use Rattle.elf_model.specs.Lines.{named_line, steps_line, refusal_line}
 use Rattle.elf_model.specs.Loader.{Wanted, wanted_of}
-use Rattle.elf_model.specs.LoaderFind.{FoundVersion, LoaderLookup, loader_looked}
+use Rattle.elf_model.specs.LoaderFind.{FoundVersion, loader_looked}
 use Rattle.elf_model.specs.Names.Shown.{Whole}
 use Rattle.elf_model.specs.Records.{e_machine}
 use Rattle.elf_model.specs.VersionRows.{symbol_version_front}

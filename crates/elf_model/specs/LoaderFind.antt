@@ -1,6 +1,6 @@
 -- The lookup of a name, with or without a version, as a loader of the GNU system does it in one file: its answer, and how many
 -- bytes it may ask for.
-use Rattle.std.specs.Prelude.{ℕ, ◌+◌, ◌*◌, ◌==◌, ◌||◌, nat_lt, not, count_ones, Bool, true, false, List, [], ◌∷◌, length, Option, None, Some, Ok, Err}
+use Rattle.std.specs.Prelude.{ℕ, ◌+◌, ◌*◌, ◌/◌, ◌==◌, ◌||◌, nat_lt, not, count_ones, Bool, true, false, List, [], ◌∷◌, length, Option, None, Some, Ok, Err}
 use Rattle.elf_model.specs.Chains.{Walked}
 use Rattle.elf_model.specs.Checks.{Check, refuse, first_refusal, before_headers, pass}
 use Rattle.elf_model.specs.Cost.{cost_where}
@@ -201,3 +201,12 @@ loader_cost file headers wanted = elim (first_refusal (before_headers file heade
       FILE_HEADER_SIZE + 16 + 8 + 4 + SECTION_HEADER_SIZE * e_shnum file + segments_asked file
       + lookup_asks wanted (loader_looked file headers wanted)
 ]
+
+-- what no lookup asks for more than, whatever the file's bytes are: by its length, how many headers are permitted and what is
+-- wanted alone
+unfoldable pub loader_ceiling : (size headers : ℕ) → Wanted → ℕ
+loader_ceiling size headers wanted =
+    FILE_HEADER_SIZE + 16 + 8 + 4 + SECTION_HEADER_SIZE * headers + size
+    + size / 4 * (4 + SYMBOL_SIZE + VERSYM_SIZE + pad64 (length wanted.name + 1))
+    + size / 8 * record_cost wanted.asked
+    + pad64 (TOLD_BYTES + 1)

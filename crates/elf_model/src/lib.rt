@@ -11,6 +11,7 @@ mod dynamic;
 mod gnu_hash_laws;
 mod hash_laws;
 mod listing_laws;
+mod loader_laws;
 mod names;
 mod notes;
 mod record_laws;

@@ -68,8 +68,12 @@ pub enum Cause {
     Budget,
     /// No segment that is loaded has the bytes at an address.
     Unmapped,
+    /// A record of symbol versions leads to a place where none is.
+    VersionCut = 32,
+    /// The number of a symbol version is too large, or no record names it.
+    VersionIndex,
     /// The file is a thin archive: its members' bytes are in other files.
-    Thin = 34,
+    Thin,
     /// The file does not begin with an archive's magic string.
     NotArchive,
     /// No member of an archive stands where one should, or it ends past the end of the file.
@@ -112,8 +116,8 @@ const CAUSES: [Cause; 37] = [
     Unmapped,
     Unknown,
     Unknown,
-    Unknown,
-    Unknown,
+    VersionCut,
+    VersionIndex,
     Thin,
     NotArchive,
     MemberCut,

@@ -1,0 +1,169 @@
+-- A loader's lookup: a symbol that is found is one to take.
+use Rattle.std.proofs.Common.{◌≡◌, ℕ, Bool, true, false, nat_lt, List, [], ◌∷◌, Option, None, Some, Result, Ok, Err, inl, inr, refl}
+use Rattle.std.proofs.lemmas.Bool.{cases_Bool}
+use Rattle.elf_model.specs.Chains.{Walked}
+use Rattle.elf_model.specs.Checks.{first_refusal}
+use Rattle.elf_model.specs.GnuHash.{gnu_hash}
+use Rattle.elf_model.specs.Hash.{sysv_hash, Found, Refused}
+use Rattle.elf_model.specs.Loader.{Wanted, Asked, asked_name, VersionWords, version_word_at, Symbols, symbol_place, is_offered, version_fits, answers, Naming, is_among}
+use Rattle.elf_model.specs.LoaderFind.{counts_check, walk_in, told_by, found_in, looked_by, wanted_numbers, loaded_in, loader_looked, TOLD_BYTES}
+use Rattle.elf_model.specs.LoaderLaws.{IsTaken, LoaderFoundIsTaken}
+use Rattle.elf_model.specs.LoaderScope.{HashKind, GnuTable, SysvTable, Scope, scope_of}
+use Rattle.elf_model.specs.Names.{Shown, same, shown}
+use Rattle.elf_model.specs.Records.{st_name, versym}
+use Rattle.elf_model.specs.Versions.{Met, number_in, name_index}
+use Rattle.elf_model.specs.declared.causes.Cause.{Cause}
+use Rattle.elf_model.specs.declared.causes.Refusal.{Refusal}
+use Rattle.elf_model.proofs.GnuHashLaws.{gnu_found_answers}
+use Rattle.elf_model.proofs.SysvWalkLaws.{sysv_found_answers}
+
+-- an answer is that a symbol is found, told in this way
+record IsSymbol (scope : Scope) (y section index symbol : ℕ) : Type 0 where
+  section_is : section ≡ scope.symbols.index
+  index_is : index ≡ y
+  symbol_is : symbol ≡ symbol_place scope.symbols y
+
+is_symbol : (scope : Scope) (y section index symbol : ℕ)
+    → Found scope.symbols.index y (symbol_place scope.symbols y) ≡ Found section index symbol → IsSymbol scope y section index symbol
+is_symbol scope y section index symbol e = record { section_is = cc; index_is = cc; symbol_is = cc }
+
+not_refused : (refusal : Refusal) (section index symbol : ℕ) → Refused refusal ≡ Found section index symbol → ⊥
+not_refused refusal section index symbol e = cc
+
+-- what makes a symbol answer
+module _ (file : List ℕ) (symbols : Symbols) (wanted : Wanted) (is_wanted : ℕ → Bool) (y : ℕ) where
+  record Parts : Type 0 where
+    named : same symbols.strings (st_name file (symbol_place symbols y)) wanted.name ≡ Ok true
+    offered : is_offered file (symbol_place symbols y) ≡ true
+    fitting : version_fits file symbols.words wanted.asked is_wanted y ≡ Ok true
+
+  parts_by :
+      (equal : Result Bool Cause) (offered : Bool) → same symbols.strings (st_name file (symbol_place symbols y)) wanted.name ≡ equal
+      → is_offered file (symbol_place symbols y) ≡ offered → answers file symbols wanted is_wanted y ≡ Ok true → Parts
+  unfolding answers
+  parts_by (Err cause) offered n o e = absurd (let a = rw (n, answers) at e in cc)
+  parts_by (Ok false) offered n o e = absurd (let a = rw (n, answers) at e in cc)
+  parts_by (Ok true) false n o e = absurd (let a = rw (n, o, answers) at e in cc)
+  parts_by (Ok true) true n o e = record { named = n; offered = o; fitting = rw (n, o, answers) at e }
+
+  answer_parts : answers file symbols wanted is_wanted y ≡ Ok true → Parts
+  answer_parts e = parts_by _ _ refl refl e
+
+-- a symbol that a walk of either kind gives answers
+walk_by : (file : List ℕ) (scope : Scope) (wanted : Wanted) (is_wanted : ℕ → Bool) (y : ℕ) (kind : HashKind) → scope.kind ≡ kind
+    → (walk_in file scope wanted is_wanted).answer ≡ Ok (Some y) → answers file scope.symbols wanted is_wanted y ≡ Ok true
+unfolding walk_in
+walk_by file scope wanted is_wanted y GnuTable k e =
+    let found = gnu_found_answers file scope.table (gnu_hash wanted.name) (answers file scope.symbols wanted is_wanted) y (rw (k, walk_in) at e) in
+    found.answers
+walk_by file scope wanted is_wanted y SysvTable k e =
+    sysv_found_answers file scope.table (sysv_hash wanted.name) (answers file scope.symbols wanted is_wanted) y (rw (k, walk_in) at e)
+
+-- the symbol that is told is the one that the walk gives
+module _ (file : List ℕ) (scope : Scope) (words : VersionWords) (y : ℕ) (walked : Walked) where
+  told-shown :
+      (naming : Naming) (found : List ℕ × Met) → naming.found ≡ Some found
+      → (name : Result Shown Cause) → shown found.0 (name_index file found.1) TOLD_BYTES ≡ name
+      → (section index symbol : ℕ) → (told_by file scope words y walked naming).lookup.answer ≡ Found section index symbol
+      → IsSymbol scope y section index symbol
+  unfolding told_by
+  told-shown naming found f (Ok name) n section index symbol e = is_symbol scope y section index symbol (rw (f, n, told_by) at e)
+  told-shown naming found f (Err cause) n section index symbol e = absurd (not_refused _ section index symbol (rw (f, n, told_by) at e))
+
+  told-unnamed :
+      (naming : Naming) (refused : Option Refusal) → naming.found ≡ None → naming.refused ≡ refused
+      → (section index symbol : ℕ) → (told_by file scope words y walked naming).lookup.answer ≡ Found section index symbol → ⊥
+  unfolding told_by
+  told-unnamed naming (Some refusal) f r section index symbol e = not_refused refusal section index symbol (rw (f, r, told_by) at e)
+  told-unnamed naming None f r section index symbol e = not_refused _ section index symbol (rw (f, r, told_by) at e)
+
+  told_is :
+      (naming : Naming) (found : Option (List ℕ × Met)) → naming.found ≡ found
+      → (section index symbol : ℕ) → (told_by file scope words y walked naming).lookup.answer ≡ Found section index symbol
+      → IsSymbol scope y section index symbol
+  told_is naming (Some found) f section index symbol e = told-shown naming found f _ refl section index symbol e
+  told_is naming None f section index symbol e = absurd (told-unnamed naming _ f refl section index symbol e)
+
+module _ (file : List ℕ) (scope : Scope) (asked : Asked) (records y : ℕ) (walked : Walked) where
+  found-with :
+      (words : VersionWords) (name : Option (List ℕ)) → asked_name asked ≡ name
+      → (section index symbol : ℕ) → (found_in file scope asked records y walked (Some words)).lookup.answer ≡ Found section index symbol
+      → IsSymbol scope y section index symbol
+  unfolding found_in
+  found-with words (Some version) n section index symbol e = is_symbol scope y section index symbol (rw (n, found_in) at e)
+  found-with words None n section index symbol e =
+      elim (cases_Bool (nat_lt (number_in (versym file (version_word_at words y))) 2)) [
+        | inl small ↦ is_symbol scope y section index symbol (rw (n, small, found_in) at e)
+        | inr large ↦ told_is file scope words y walked _ _ refl section index symbol (rw (n, large, found_in) at e)
+      ]
+
+  found_is :
+      (words : Option VersionWords) (section index symbol : ℕ)
+      → (found_in file scope asked records y walked words).lookup.answer ≡ Found section index symbol
+      → IsSymbol scope y section index symbol
+  unfolding found_in
+  found_is None section index symbol e = is_symbol scope y section index symbol e
+  found_is (Some words) section index symbol e = found-with words _ refl section index symbol e
+
+-- what a walk gives where a symbol is found
+record FoundBy (scope : Scope) (walked : Walked) (section index symbol : ℕ) : Type 0 where
+  gives : walked.answer ≡ Ok (Some index)
+  section_is : section ≡ scope.symbols.index
+  symbol_is : symbol ≡ symbol_place scope.symbols index
+
+module _ (file : List ℕ) (scope : Scope) (asked : Asked) (records : ℕ) (walked : Walked) where
+  found_by :
+      (answer : Result (Option ℕ) Refusal) → walked.answer ≡ answer
+      → (section index symbol : ℕ) → (looked_by file scope asked records walked).lookup.answer ≡ Found section index symbol
+      → FoundBy scope walked section index symbol
+  unfolding looked_by
+  found_by (Err refusal) a section index symbol e = absurd (not_refused refusal section index symbol (rw (a, looked_by) at e))
+  found_by (Ok None) a section index symbol e = absurd (let b = rw (a, looked_by) at e in cc)
+  found_by (Ok (Some y)) a section index symbol e =
+      let is = found_is file scope asked records y walked scope.symbols.words section index symbol (rw (a, looked_by) at e) in
+      let same_index = is.index_is in
+      record {
+        gives = rw same_index a;
+        section_is = is.section_is;
+        symbol_is = rw same_index (is.symbol_is);
+      }
+
+module _ (file : List ℕ) (scope : Scope) (wanted : Wanted) where
+  is_wanted : ℕ → Bool
+  is_wanted number = is_among number (wanted_numbers file scope wanted.asked).numbers
+
+  loaded_by :
+      (shape refused : Option Refusal) → first_refusal (counts_check file scope ∷ []) ≡ shape
+      → (wanted_numbers file scope wanted.asked).refused ≡ refused
+      → (section index symbol : ℕ) → (loaded_in file scope wanted).lookup.answer ≡ Found section index symbol
+      → FoundBy scope (walk_in file scope wanted is_wanted) section index symbol
+  unfolding loaded_in is_wanted
+  loaded_by (Some refusal) refused s r section index symbol e = absurd (not_refused refusal section index symbol (rw (s, loaded_in) at e))
+  loaded_by None (Some refusal) s r section index symbol e = absurd (not_refused refusal section index symbol (rw (s, r, loaded_in) at e))
+  loaded_by None None s r section index symbol e =
+      found_by file scope wanted.asked _ (walk_in file scope wanted is_wanted) _ refl section index symbol (rw (s, r, loaded_in) at e)
+
+module _ (file : List ℕ) (headers : ℕ) (wanted : Wanted) where
+  taken_by :
+      (scope : Result Scope Refusal) → scope_of file headers ≡ scope
+      → (section index symbol : ℕ) → (loader_looked file headers wanted).lookup.answer ≡ Found section index symbol
+      → IsTaken file headers wanted section index symbol
+  unfolding loader_looked is_wanted
+  taken_by (Err refusal) s section index symbol e = absurd (not_refused refusal section index symbol (rw (s, loader_looked) at e))
+  taken_by (Ok scope) s section index symbol e =
+      let by = loaded_by file scope wanted _ _ refl refl section index symbol (rw (s, loader_looked) at e) in
+      let answer = walk_by file scope wanted (is_wanted file scope wanted) index _ refl by.gives in
+      let parts = answer_parts file scope.symbols wanted (is_wanted file scope wanted) index answer in
+      let place = by.symbol_is in
+      record {
+        scope = scope;
+        is_scope = s;
+        told_by = by.section_is;
+        place = place;
+        named = rw place parts.named;
+        offered = rw place parts.offered;
+        fitting = parts.fitting;
+      }
+
+pub loader_found_is_taken : LoaderFoundIsTaken
+loader_found_is_taken file headers wanted section index symbol e = taken_by file headers wanted _ refl section index symbol e

@@ -1,0 +1,12 @@
+//! Laws of a loader's lookup, each proved of the definitions.
+ghost use Rattle.elf_model.specs.LoaderLaws.{LoaderFoundIsTaken, LoaderCostIsWithinCeiling};
+
+/// A symbol that is found has the wanted name, is offered, and its version fits.
+pub fn loader_found_is_taken()
+    ensures { LoaderFoundIsTaken }
+{}
+
+/// A lookup asks for no more than the ceiling of its file's length, whatever the file's bytes are.
+pub fn loader_cost_is_within_ceiling()
+    ensures { LoaderCostIsWithinCeiling }
+{}

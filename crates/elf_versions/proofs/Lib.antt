@@ -1,0 +1,5 @@
+pub mod HeldBytes
+pub mod LeftLaws
+pub mod NameTables
+pub mod TakenLaws
+pub mod WordLaws

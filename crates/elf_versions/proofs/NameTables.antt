@@ -1,0 +1,134 @@
+-- The names of numbers, with a record more.
+use Rattle.std.proofs.Common.{◌≡◌, ◌≢◌, ℕ, ◌<◌, ◌≤◌, ◌==◌, ◌&&◌, Bool, true, false, List, [], ◌∷◌, ◌++◌, length, replicate, inl, inr, Option, None, Some, refl, sym, subst, ◌∙◌, arith}
+use Rattle.std.proofs.lemmas.Bool.{cases_Bool, cases_eq, cases_lt}
+use Rattle.std.proofs.lemmas.Bool.Decides.{nat_tests}
+use Rattle.std.proofs.lemmas.List.{get_or-replicate, get_or-set_other, get_or-set_same, get_or_past, length-replicate}
+use Rattle.std.proofs.Math.ListN.{set}
+use Rattle.elf_model.specs.Versions.{Met, named_by, names_number, names_version, number_in, number_word}
+use Rattle.elf_model.proofs.VersionLaws.{first_list_names_first, named-here, named-later, named-none}
+use Rattle.elf_versions.specs.NumberNames.{GivesName, NameIs, Names, name_at}
+use Rattle.elf_versions.specs.declared.number_names.NameAt.{NameAt}
+use Rattle.elf_versions.specs.declared.number_names.NameAt.TheVariants.{Nowhere, Defined, Needed}
+
+-- where none of some records names a number, the others behind them do or do not
+behind-none :
+    (file : List ℕ) (number : ℕ) (first second : List Met) → named_by file number first ≡ None
+    → named_by file number (first ++ second) ≡ named_by file number second
+behind-none file number [] second e = refl
+behind-none file number (met ∷ first) second e =
+    elim (cases_Bool (names_number file number met)) [
+      | inl here ↦ let h = named-here file number met first here in absurd (cc)
+      | inr later ↦
+          named-later file number met (first ++ second) later
+          ∙ behind-none file number first second (sym (named-later file number met first later) ∙ e)
+    ]
+
+-- a record behind others that does not name the number changes nothing
+pub not-named :
+    (file : List ℕ) (number : ℕ) (records : List Met) (met : Met) → names_number file number met ≡ false
+    → named_by file number (records ++ met ∷ []) ≡ named_by file number records
+not-named file number records met other = go (named_by file number records) refl
+  where
+    go : (o : Option Met) → named_by file number records ≡ o → named_by file number (records ++ met ∷ []) ≡ named_by file number records
+    go None e = behind-none file number records (met ∷ []) e ∙ named-later file number met [] other ∙ named-none file number ∙ sym e
+    go (Some first) e = first_list_names_first file number records (met ∷ []) first e ∙ sym e
+
+-- nor does one where another has named it
+pub still-named :
+    (file : List ℕ) (number : ℕ) (records : List Met) (met first : Met) → named_by file number records ≡ Some first
+    → named_by file number (records ++ met ∷ []) ≡ named_by file number records
+still-named file number records met first e = first_list_names_first file number records (met ∷ []) first e ∙ sym e
+
+-- one that does, where none has, names it
+pub now-named :
+    (file : List ℕ) (number : ℕ) (records : List Met) (met : Met) → named_by file number records ≡ None
+    → names_number file number met ≡ true → named_by file number (records ++ met ∷ []) ≡ Some met
+now-named file number records met none here =
+    behind-none file number records (met ∷ []) none ∙ named-here file number met [] here
+
+-- a name that is nowhere is that of no record, and any other is one's
+pub nowhere-none : (file : List ℕ) (o : Option Met) (name : NameAt) → NameIs file o name → name ≡ Nowhere → o ≡ None
+nowhere-none file None name is e = refl
+nowhere-none file (Some met) Nowhere is e = absurd is
+nowhere-none file (Some met) (Defined index) is e = cc
+nowhere-none file (Some met) (Needed index) is e = cc
+
+pub somewhere-some : (file : List ℕ) (o : Option Met) (name : NameAt) → NameIs file o name → (name ≡ Nowhere → ⊥) → (met : Met) × (o ≡ Some met)
+somewhere-some file None Nowhere is other = absurd (other refl)
+somewhere-some file None (Defined index) is other = absurd is
+somewhere-some file None (Needed index) is other = absurd is
+somewhere-some file (Some met) name is other = (met, refl)
+
+-- a record names no number but its own
+other-number : (version : Bool) (own number : ℕ) → own ≢ number → (version && (own == number)) ≡ false
+other-number true own number other = grind (arith, nat_tests)
+other-number false own number other = refl
+
+own-number : (version : Bool) (own number : ℕ) → own ≡ number → (version && (own == number)) ≡ version
+own-number true own number same = grind (arith, nat_tests)
+own-number false own number same = refl
+
+-- the name of a number that a record has, where none has named it before
+gives-here :
+    (file : List ℕ) (number : ℕ) (records : List Met) (met : Met) (name : NameAt) (version : Bool) → names_version file met ≡ version
+    → number_in (number_word file met) ≡ number → named_by file number records ≡ None → GivesName file met version name
+    → NameIs file (named_by file number (records ++ met ∷ [])) name
+gives-here file number records met name true is own none gives =
+    let named = now-named file number records met none (own-number (names_version file met) _ number own ∙ is) in
+    rw named gives
+gives-here file number records met name false is own none gives =
+    let unnamed = not-named file number records met (own-number (names_version file met) _ number own ∙ is) ∙ none in
+    rw (unnamed, gives) tt
+
+-- a record that is taken in where its number has no name
+pub take-new :
+    (file : List ℕ) (records : List Met) (met : Met) (names : List NameAt) (own : ℕ) (name : NameAt) → own < length names
+    → number_in (number_word file met) ≡ own → name_at names own ≡ Nowhere → GivesName file met (names_version file met) name
+    → Names file records names → Names file (records ++ met ∷ []) (set names own name)
+take-new file records met names own name inside is nowhere gives before number =
+    elim (cases_eq own number) [
+      | inl same ↦
+          let none : named_by file own records ≡ None = nowhere-none file (named_by file own records) (name_at names own) (before own) nowhere in
+          let here = gives-here file own records met name (names_version file met) refl is none gives in
+          let stands : name_at (set names own name) own ≡ name = get_or-set_same names own name Nowhere inside in
+          rw (← same) (rw stands here)
+      | inr other ↦
+          let kept : name_at (set names own name) number ≡ name_at names number = get_or-set_other names own number name Nowhere (λ e. other (sym e)) in
+          let unnamed = not-named file number records met (other-number (names_version file met) (number_in (number_word file met)) number (λ e. other (sym is ∙ e))) in
+          rw (kept, unnamed) (before number)
+    ]
+
+-- and one where it has
+pub take-old :
+    (file : List ℕ) (records : List Met) (met : Met) (names : List NameAt) (own : ℕ)
+    → number_in (number_word file met) ≡ own → (name_at names own ≡ Nowhere → ⊥)
+    → Names file records names → Names file (records ++ met ∷ []) names
+take-old file records met names own is somewhere before number =
+    elim (cases_eq own number) [
+      | inl same ↦
+          let first = somewhere-some file (named_by file own records) (name_at names own) (before own) somewhere in
+          let still = still-named file own records met first.0 first.1 in
+          rw (← same) (rw still (before own))
+      | inr other ↦
+          let unnamed = not-named file number records met (other-number (names_version file met) (number_in (number_word file met)) number (λ e. other (sym is ∙ e))) in
+          rw unnamed (before number)
+    ]
+
+-- no number has a name where there is no record
+pub none-names : (file : List ℕ) (count number : ℕ) → NameIs file (named_by file number []) (name_at (replicate count Nowhere) number)
+none-names file count number =
+    let none = named-none file number in
+    elim (cases_lt number count) [
+      | inl low ↦ let here : name_at (replicate count Nowhere) number ≡ Nowhere = get_or-replicate count number Nowhere Nowhere low in rw (none, here) tt
+      | inr high ↦
+          let here : name_at (replicate count Nowhere) number ≡ Nowhere = get_or_past (replicate count Nowhere) number Nowhere (omega (arith, length-replicate count Nowhere)) in
+          rw (none, here) tt
+    ]
+
+-- a number behind the last has no name
+pub behind-last :
+    (file : List ℕ) (o : Option Met) (names : List NameAt) (number : ℕ) → length names ≤ number → NameIs file o (name_at names number)
+    → NameIs file o Nowhere
+behind-last file o names number far is =
+    let none : name_at names number ≡ Nowhere = get_or_past names number Nowhere far in
+    subst (NameIs file o) none is

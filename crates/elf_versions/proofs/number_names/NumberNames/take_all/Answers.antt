@@ -1,0 +1,53 @@
+-- Each record that is given is taken in, until none is left.
+use Rattle.std.proofs.Common.{◌∷◌, [], ◌++◌, None, Some, Ok, ◌∙◌, arith}
+use Rattle.elf_headers.proofs.LedgerLaws.{Did-as, Did-then}
+use Rattle.elf_versions.specs.Reading.{versions_left}
+use Rattle.elf_versions.proofs.TakenLaws.{behind-more, end-cut, end-names, going-did, names-more, unread-fewer}
+use Rattle.elf_versions.proofs.WordLaws.{none-of}
+use Rattle.elf_versions.proofs.number_names.NumberNames.take_all.Goals as goal
+
+pub records-preserved : goal.records-preserved
+records-preserved g c =
+    let l = c.records in
+    let i = l.invariant in
+    let a = c.in_ok-given.ensures in
+    let new = c.advance.new.self in
+    let leaves = rw c.in-Some.is at a.leaves in
+    let did = rw c.in-Some.is at a.did in
+    let fewer = unread-fewer l.cursor new a.keeps in
+    record {
+      going = leaves.1;
+      same_held = a.keeps.same_held ∙ i.same_held;
+      fewer = omega (arith, fewer, i.fewer);
+      so_far = Did-as _ (omega (arith, fewer, i.fewer)) (Did-then i.so_far (going-did l.cursor.failed (Ok (Some c.in-Some.given)) i.going did))
+          (λ file told costs agrees.
+          let before = told.0 agrees in
+          let step = told.1 before.0 in
+          let gives = step.tells i.going in (
+            step.agrees,
+            λ records names.
+                let seen = before.1 records names in (
+                  seen.0 ++ gives.met ∷ [],
+                  behind-more seen.0 gives.met (versions_left file c.args.cursor.now) (versions_left file l.cursor) (versions_left file new) seen.1 gives.first,
+                  names-more file records seen.0 gives.met c.take.new.self (c.take.ensures file (records ++ seen.0) gives.met gives.is seen.2),
+                ),
+          ));
+    }
+
+pub returns : goal.returns
+returns g c =
+    let l = c.records in
+    let i = l.invariant in
+    let a = c.in_ok-given.ensures in
+    let new = c.advance.new.self in
+    let none = none-of c.in_ok-given.field-0 c.in_default.not-Some in
+    let did = rw none at a.did in
+    let fewer = unread-fewer l.cursor new a.keeps in
+    Did-as _ (omega (arith, fewer, i.fewer)) (Did-then i.so_far (going-did l.cursor.failed (Ok None) i.going did))
+    (λ file told costs agrees records names.
+    let before = told.0 agrees in
+    let ends = (told.1 before.0).tells i.going in
+    let seen = before.1 records names in (
+      end-cut seen.0 (versions_left file c.args.cursor.now) (versions_left file l.cursor) seen.1 ends,
+      end-names file records seen.0 (versions_left file c.args.cursor.now) (versions_left file l.cursor) l.self seen.1 ends seen.2,
+    ))

@@ -1,0 +1,36 @@
+-- A definition's name stands behind it; any other record holds the index itself.
+use Rattle.std.proofs.Common.{◌≡◌, ℕ, ◌+◌, ap, ◌∙◌, arith}
+use Rattle.elf_model.specs.Bytes.{field}
+use Rattle.elf_headers.proofs.LedgerLaws.{Did-as, Did-none}
+use Rattle.elf_versions.specs.Words.{end_of_name}
+use Rattle.elf_versions.proofs.WordLaws.{definition-index, own-index}
+use Rattle.elf_versions.proofs.reading.read_name.Goals as goal
+
+pub overflow_add-place : goal.overflow_add-place
+unfolding end_of_name
+overflow_add-place g c = let inside = rw c.in-Definition.is at c.requires.inside in omega (arith, c.from.ensures, c.requires.small)
+
+pub read-requires-clause-inside : goal.read-requires-clause-inside
+unfolding end_of_name
+read-requires-clause-inside g c = let inside = rw c.in-Definition.is at c.requires.inside in omega (arith, c.from.ensures)
+
+pub returns-in_ok-read-in-Definition : goal.returns-in_ok-read-in-Definition
+returns-in_ok-read-in-Definition g c =
+    let table = c.args.held.now.table.at in
+    let place = c.args.stand.now.place in
+    rw c.in-Definition.is
+    (record {
+      did = Did-as _ (omega arith) c.in_ok-read-in-Definition.ensures.did
+          (λ file told costs held words.
+          let there : table + (place + c.from.result) ≡ table + place + c.args.words.now.aux = omega (arith, c.from.ensures) in
+          c.word.ensures.stands file (table + (place + c.from.result)) (told held)
+          ∙ ap (λ (x : ℕ). field file x 4) there ∙ definition-index file (table + place) c.args.words.now words);
+    })
+
+pub returns-in-File : goal.returns-in-File
+returns-in-File g c =
+    record {
+      did = Did-as _ (omega arith) (Did-none c.args.src.now)
+          (λ file told costs held words.
+          own-index file c.args.stand.now.kind (c.args.held.now.table.at + c.args.stand.now.place) c.args.words.now c.in-File.is words);
+    }

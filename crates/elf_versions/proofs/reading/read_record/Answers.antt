@@ -1,0 +1,63 @@
+-- The checks are those of the words, and the name is read where they pass.
+use Rattle.std.proofs.Common.{◌≡◌, ◌+◌, sym, ◌∙◌, arith, rules}
+use Rattle.elf_headers.specs.declared.fault.Fault.TheVariants.{Refused}
+use Rattle.elf_headers.proofs.LedgerLaws.{Did-as, Did-stop, Did-then}
+use Rattle.elf_versions.specs.Reading.{bytes_each}
+use Rattle.elf_versions.proofs.WordLaws.{asks-words, asks-name, distance-inside, fits-all, none-of, record-checked}
+use Rattle.elf_versions.proofs.reading.read_record.Goals as goal
+
+pub returns-in-Some-clause-did : goal.returns-in-Some-clause-did
+returns-in-Some-clause-did g c =
+    let h = c.args.held.now in
+    let s = c.args.stand.now in
+    let at : c.at.result + s.place ≡ h.table.at + s.place = search rules in
+    let size : c.len.result ≡ h.table.count = search rules in
+    let passes = rw c.in-Some.is at c.refused_words.ensures.passes in
+    let checked = rw (at, size) at c.refused_words.ensures.is in
+    Did-as _ (asks-words h s.kind) (Did-stop (Refused c.in-Some.refusal) passes c.in_ok-words.ensures.did)
+    (λ file told costs held knows other.
+    record-checked file h.table.at h.table.count s c.in_ok-words.words c.requires.inside (told held) ∙ sym checked ∙ c.in-Some.is)
+
+pub given-requires : goal.given-requires
+given-requires g c =
+    let h = c.args.held.now in
+    let s = c.args.stand.now in
+    let aux = c.in_ok-words.words.aux in
+    let at : c.at.result ≡ h.table.at = search rules in
+    let size : c.len.result ≡ h.table.count = search rules in
+    let passes = rw (none-of c.refused_words.result c.in_default.not-Some) at c.refused_words.ensures.passes in
+    let inside = passes.0 in
+    omega (arith, at, size, inside, distance-inside s.kind aux, c.table-table.ensures.ends)
+
+pub returns-clause-did : goal.returns-clause-did
+returns-clause-did g c =
+    let h = c.args.held.now in
+    let s = c.args.stand.now in
+    let words = c.in_ok-words.words in
+    let at : c.at.result + s.place ≡ h.table.at + s.place = search rules in
+    let size : c.len.result ≡ h.table.count = search rules in
+    let same : c.at-2.result ≡ h.table.at = search rules in
+    let checked = rw (at, size) at c.refused_words.ensures.is in
+    let passes = none-of c.refused_words.result c.in_default.not-Some in
+    let leads = rw same at c.behind.ensures.leads in
+    Did-as _ (asks-name h s.kind) (Did-then c.in_ok-words.ensures.did c.in_ok-name.ensures.did)
+    (λ file told costs held knows.
+    let stands = told.0 held in
+    record {
+      passes = record-checked file h.table.at h.table.count s words c.requires.inside stands ∙ sym checked ∙ passes;
+      is = c.given.ensures.is file h.table.at at stands (told.1 held stands);
+      leads = (leads file knows stands).0;
+      knows = (leads file knows stands).1;
+    })
+
+pub returns-clause-fits : goal.returns-clause-fits
+returns-clause-fits g c =
+    let h = c.args.held.now in
+    let s = c.args.stand.now in
+    let passes = rw (none-of c.refused_words.result c.in_default.not-Some) at c.refused_words.ensures.passes in
+    record {
+      number = rw c.given.ensures.number passes.1;
+      next =
+          fits-all h.table.count (bytes_each s.kind) c.behind.result c.behind.ensures.near (c.behind.ensures.owner h.table.count (omega (arith, c.requires.inside)) c.requires.owner)
+          c.behind.ensures.pays;
+    }

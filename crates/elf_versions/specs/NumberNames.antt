@@ -1,0 +1,42 @@
+-- The names of the numbers of versions, found in one walk.
+use Rattle.std.specs.Prelude.{ℕ, ◌≡◌, Bool, true, false, List, ◌++◌, slice_index_or, Option, None, Some, Result, Ok, Err}
+use Rattle.elf_model.specs.Budget.{IsBudget}
+use Rattle.elf_model.specs.Versions.{Met, Versions, name_index, named_by}
+use Rattle.elf_model.specs.declared.versions.VersionKind.TheVariants.{Definition, Need}
+use Rattle.elf_headers.specs.declared.fault.Fault.{Fault}
+use Rattle.elf_headers.specs.declared.fault.Fault.TheVariants.{Refused, Source}
+use Rattle.elf_versions.specs.declared.number_names.NameAt.{NameAt}
+use Rattle.elf_versions.specs.declared.number_names.NameAt.TheVariants.{Nowhere, Defined, Needed}
+
+-- where the name of a number is; nowhere for a number behind the last
+abbrev pub name_at : List NameAt → ℕ → NameAt
+name_at names number = slice_index_or names number Nowhere
+
+-- the name is that of a record, if one names the number
+abbrev pub NameIs : List ℕ → Option Met → NameAt → Type 0
+NameIs file None Nowhere = Unit {0}
+NameIs file None (Defined index) = ⊥
+NameIs file None (Needed index) = ⊥
+NameIs file (Some met) Nowhere = ⊥
+NameIs file (Some met) (Defined index) = (met.kind ≡ Definition) × (index ≡ name_index file met)
+NameIs file (Some met) (Needed index) = (met.kind ≡ Need) × (index ≡ name_index file met)
+
+-- THE NAMES ARE THOSE OF SOME RECORDS: of each number that of the first record that names it
+abbrev pub Names : List ℕ → List Met → List NameAt → Type 0
+Names file records names = (number : ℕ) → NameIs file (named_by file number records) (name_at names number)
+
+-- some records in front of those that are left
+abbrev pub behind_all : List Met → Versions → Versions
+behind_all records left = record { met = records ++ left.met; cut = left.cut }
+
+-- what a walk to the end says: all records that were left were met, and the names are those of them too; or what was left is
+-- refused behind some of them
+abbrev pub ReadsNames : List ℕ → List Met → Versions → List NameAt → Result (Unit {0}) Fault → Type 0
+ReadsNames file records left names (Ok x) = (left.cut ≡ None) × Names file (records ++ left.met) names
+ReadsNames file records left names (Err (Refused refusal)) = (IsBudget refusal → ⊥) → left.cut ≡ Some refusal
+ReadsNames file records left names (Err (Source fault at)) = Unit {0}
+
+-- the name that a record gives its number: none, unless it names a version
+abbrev pub GivesName : List ℕ → Met → Bool → NameAt → Type 0
+GivesName file met true name = NameIs file (Some met) name
+GivesName file met false name = name ≡ Nowhere

@@ -1,0 +1,16 @@
+//! Symbol versions (Linux Standard Base Core, Symbol Versioning): a cursor over the records of
+//! definitions and of needs, and the names of their numbers. No call takes memory.
+#![tactic(auto)]
+
+mod cursor;
+mod number_names;
+mod reading;
+mod record;
+mod stepping;
+mod table_bytes;
+mod words;
+
+pub use cursor::VersionCursor;
+pub use number_names::{NUMBER_NAMES_BYTES, NameAt, NumberNames};
+pub use record::VersionRecord;
+pub use table_bytes::BUFFER_BYTES;

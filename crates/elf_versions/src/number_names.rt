@@ -1,0 +1,130 @@
+//! The names of the numbers of versions.
+ghost use Rattle.std.specs.Prelude.{◌≡◌, ℕ, ◌<◌, List, [], ◌∷◌, ◌++◌, None};
+ghost use Rattle.elf_headers.specs.Ledger.{Did, why_stopped};
+ghost use Rattle.elf_table.specs.Tables.{RowsWithin};
+ghost use Rattle.elf_model.specs.Versions.{Met, VERSION_NUMBERS, named_by, names_version, number_in};
+ghost use Rattle.elf_versions.specs.NumberNames.{GivesName, NameIs, Names, ReadsNames, name_at};
+ghost use Rattle.elf_versions.specs.Reading.{Agrees, IsVersion, unread, versions_left};
+
+use crate::cursor::VersionCursor;
+use crate::record::VersionRecord;
+use elf_record::VersionKind;
+use elf_source::{Counted, Source};
+use elf_table::Fault;
+use std::marker::Model;
+
+/// How many numbers versions may have, below which they are.
+const NUMBERS: usize = 1024;
+/// The flag of the definition that names the file itself.
+const BASE: u16 = 1;
+
+/// The size in bytes of the fixed storage of [`NumberNames`].
+pub const NUMBER_NAMES_BYTES: usize = 8 * NUMBERS;
+
+/// Where the name of a number is.
+#[derive(Clone, Copy, Debug, PartialEq, Eq)]
+pub enum NameAt {
+    /// No record names the number.
+    Nowhere,
+    /// A definition does: the index in the string table of the definitions.
+    Defined(u32),
+    /// A need does: the index in the string table of the needs.
+    Needed(u32),
+}
+
+/// Where the names of the numbers of versions are, 0 to 1,023: of each number that of the first
+/// record that names its version. So the names of all symbols' versions are found in one walk over
+/// definitions and needs.
+#[derive(Drop)]
+pub struct NumberNames {
+    names: [NameAt; NUMBERS],
+}
+
+impl Model for NumberNames {
+    ghost use Rattle.std.specs.Prelude.{◌≡◌, List, length};
+    ghost use Rattle.elf_versions.specs.declared.number_names.NameAt.{NameAt as IsNameAt};
+
+    ghost Value = { List IsNameAt };
+
+    ghost view = { λ n. n.names };
+
+    ghost invariant = { λ n. length n.names ≡ 1024 };
+}
+
+impl NumberNames {
+    /// No number has a name.
+    pub fn new() -> NumberNames
+        ensures { (file : List ℕ) → Names file [] result }
+    {
+        NumberNames {
+            names: [NameAt::Nowhere; NUMBERS],
+        }
+    }
+
+    /// Where the name of a number is.
+    pub fn name(&self, number: u16) -> NameAt
+        ensures is { result ≡ name_at self.now number }
+        ensures named { (file : List ℕ) (records : List Met) → Names file records self.now →
+            NameIs file (named_by file number records) result }
+    {
+        if usize::from(number) < NUMBERS {
+            self.names[usize::from(number)]
+        } else {
+            NameAt::Nowhere
+        }
+    }
+
+    /// Takes in a record whose number is below 1,024, behind others: it names its number where none
+    /// of them does.
+    pub fn take(&mut self, given: &VersionRecord)
+        requires { number_in given.now.number < VERSION_NUMBERS }
+        ensures { (file : List ℕ) (records : List Met) (met : Met) → IsVersion file met given.now →
+            Names file records self.old → Names file (records ++ met ∷ []) self.new }
+    {
+        let number = usize::from(given.number % (1 << 15));
+        if self.names[number] == NameAt::Nowhere {
+            self.names[number] = names(given);
+        }
+    }
+
+    /// Takes in all records that a cursor still gives, behind others. What it asks for the cursor may
+    /// no longer ask for.
+    ///
+    /// # Errors
+    /// As for [`VersionCursor::advance`]. Then some of the records were taken in.
+    pub fn take_all<S: Source>(
+        &mut self,
+        src: &mut Counted<S>,
+        cursor: &mut VersionCursor,
+    ) -> Result<(), Fault>
+        requires going { cursor.old.failed ≡ None }
+        requires within { RowsWithin src.old.seen.size cursor.old.held.table }
+        ensures { Did src.old src.new (why_stopped result) (unread cursor.old)
+            (λ file. Agrees file cursor.old → (records : List Met) → Names file records self.old →
+            ReadsNames file records (versions_left file cursor.old) self.new result) }
+    {
+        'records: while let Some(given) = cursor.advance(src)? {
+            self.take(&given);
+        }
+        Ok(())
+    }
+}
+
+// The name that a record gives its number, if it names a version.
+#[tactic(auto, unfolding(elf_model::specs::Versions::names_version, elf_model::specs::Versions::flags_word))]
+fn names(given: &VersionRecord) -> NameAt
+    ensures { (file : List ℕ) (met : Met) → IsVersion file met given.now →
+        GivesName file met (names_version file met) result }
+{
+    match given.kind {
+        VersionKind::Definition => {
+            if given.flags & BASE == 0 {
+                NameAt::Defined(given.name)
+            } else {
+                NameAt::Nowhere
+            }
+        }
+        VersionKind::File => NameAt::Nowhere,
+        VersionKind::Need => NameAt::Needed(given.name),
+    }
+}

@@ -1,0 +1,136 @@
+//! A record of symbol versions, read where a walk stands.
+ghost use Rattle.std.specs.Prelude.{◌≡◌, ℕ, ◌+◌, ◌^◌, ◌<◌, ◌≤◌, List, IfOk};
+ghost use Rattle.elf_headers.specs.Ledger.{Did, IsRead, why_stopped};
+ghost use Rattle.elf_table.specs.Tables.{RowsWithin};
+ghost use Rattle.elf_model.specs.Versions.{met_at, name_index, record_size};
+ghost use Rattle.elf_versions.specs.Reading.{IsHeld, IsVersion, KnowsFiles, ReadsRecord, StepFits, WordsRead, bytes_each, index_bytes, stand_of, unheld};
+ghost use Rattle.elf_versions.specs.Words.{HoldsWords, distance_of_name, end_of_name};
+
+use crate::record::VersionRecord;
+use crate::stepping::{Standing, behind, name_distance, refused_words};
+use crate::table_bytes::TableBytes;
+use crate::words::{Words, of_definition, of_file, of_need};
+use elf_record::{Verdef, Vernaux, Verneed, VersionKind, word};
+use elf_source::{Counted, Source};
+use elf_table::Fault;
+
+/// A record, and where it leads a walk.
+#[derive(Clone, Copy)]
+pub(crate) struct Step {
+    /// The record.
+    pub(crate) record: VersionRecord,
+    /// Where it leads.
+    pub(crate) next: Option<Standing>,
+}
+
+/// Reads the record where a walk stands, which is in the table.
+///
+/// # Errors
+/// The first of its checks that fails; else a fault of a read.
+pub(crate) fn read_record<S: Source>(
+    held: &TableBytes,
+    src: &mut Counted<S>,
+    stand: &Standing,
+) -> Result<Step, Fault>
+    requires within { RowsWithin src.old.seen.size held.now.table }
+    requires inside { stand.now.place + record_size stand.now.kind ≤ held.now.table.count }
+    requires owner { stand.now.owner ≤ held.now.table.count }
+    requires small { held.now.table.count < 2 ^ 63 }
+    ensures did { Did src.old src.new (why_stopped result) (unheld held.now (bytes_each stand.now.kind))
+        (λ file. IsHeld file held.now → KnowsFiles file held.now.table.at stand.now →
+        ReadsRecord file held.now.table.at held.now.table.count (stand_of stand.now) result) }
+    ensures fits { IfOk result (StepFits held.now.table.count (bytes_each stand.now.kind)) }
+{
+    let table = held.table();
+    let at = table.at() + stand.place;
+    let words = read_words(held, src, stand)?;
+    if let Some(refusal) = refused_words(table.len(), stand, at, &words) {
+        return Err(Fault::Refused(refusal));
+    }
+    let name = read_name(held, src, stand, &words)?;
+    Ok(Step {
+        record: given(stand, at, &words, name),
+        next: behind(table.at(), stand, &words),
+    })
+}
+
+// The words of a record that is in the table.
+fn read_words<S: Source>(
+    held: &TableBytes,
+    src: &mut Counted<S>,
+    stand: &Standing,
+) -> Result<Words, Fault>
+    requires within { RowsWithin src.old.seen.size held.now.table }
+    requires inside { stand.now.place + record_size stand.now.kind ≤ held.now.table.count }
+    ensures did { Did src.old src.new (why_stopped result)
+        (unheld held.now (record_size stand.now.kind))
+        (λ file. IsHeld file held.now →
+        WordsRead file (met_at held.now.table.at (stand_of stand.now)) result) }
+{
+    match stand.kind {
+        VersionKind::Definition => {
+            let mut bytes = [0; 20];
+            held.read(src, stand.place, &mut bytes)?;
+            Ok(of_definition(&Verdef::decode(&bytes)))
+        }
+        VersionKind::File => {
+            let mut bytes = [0; 16];
+            held.read(src, stand.place, &mut bytes)?;
+            Ok(of_file(&Verneed::decode(&bytes)))
+        }
+        VersionKind::Need => {
+            let mut bytes = [0; 16];
+            held.read(src, stand.place, &mut bytes)?;
+            Ok(of_need(&Vernaux::decode(&bytes)))
+        }
+    }
+}
+
+// The index of the name of a record whose words are known, and whose name is in the table: a
+// definition's is read.
+fn read_name<S: Source>(
+    held: &TableBytes,
+    src: &mut Counted<S>,
+    stand: &Standing,
+    words: &Words,
+) -> Result<u32, Fault>
+    requires within { RowsWithin src.old.seen.size held.now.table }
+    requires inside { stand.now.place + end_of_name stand.now.kind words.now.aux
+        ≤ held.now.table.count }
+    requires small { held.now.table.count < 2 ^ 63 }
+    ensures did { Did src.old src.new (why_stopped result)
+        (unheld held.now (index_bytes stand.now.kind))
+        (λ file. IsHeld file held.now →
+        HoldsWords file (met_at held.now.table.at (stand_of stand.now)) words.now →
+        IsRead result (name_index file (met_at held.now.table.at (stand_of stand.now)))) }
+{
+    match stand.kind {
+        VersionKind::Definition => {
+            let mut bytes = [0; 4];
+            let place = stand.place + u64::from(words.aux);
+            held.read(src, place, &mut bytes)?;
+            Ok(word(&bytes))
+        }
+        VersionKind::File | VersionKind::Need => Ok(words.name),
+    }
+}
+
+// A record at a file offset as it is given, by its words and the index of its name.
+fn given(stand: &Standing, at: u64, words: &Words, name: u32) -> VersionRecord
+    requires { at + distance_of_name stand.now.kind words.now.aux < 2 ^ 64 }
+    ensures is { (file : List ℕ) (table : ℕ) → at ≡ table + stand.now.place →
+        HoldsWords file (met_at table (stand_of stand.now)) words.now →
+        name ≡ name_index file (met_at table (stand_of stand.now)) →
+        IsVersion file (met_at table (stand_of stand.now)) result }
+    ensures number { result.number ≡ words.now.number }
+{
+    VersionRecord {
+        kind: stand.kind,
+        at,
+        number: words.number,
+        flags: words.flags,
+        hash: words.hash,
+        named_at: at + name_distance(stand.kind, words.aux),
+        name,
+    }
+}

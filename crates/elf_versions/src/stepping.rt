@@ -1,0 +1,190 @@
+//! Where a walk over symbol versions stands, and where a record leads it.
+ghost use Rattle.std.specs.Prelude.{◌≡◌, ℕ, ◌+◌, ◌^◌, ◌<◌, ◌≤◌, List, Some, IfSome, MatchOption, option_map};
+ghost use Rattle.elf_model.specs.Budget.{IsBudget};
+ghost use Rattle.elf_model.specs.Checks.{first_refusal};
+ghost use Rattle.elf_model.specs.Versions.{record_size, along, behind, first_stand, number_in};
+ghost use Rattle.elf_model.specs.declared.versions.VersionKind.TheVariants.{Need};
+ghost use Rattle.elf_versions.specs.Reading.{KnowsAhead, KnowsFiles, bytes_each, stand_of};
+ghost use Rattle.elf_versions.specs.Words.{HoldsWords, checks_of, distance_of_name, end_of_name};
+
+use crate::words::Words;
+use elf_record::sizes::{VERSION_DEFINITION_BYTES, VERSION_NAME_BYTES, VERSION_NEED_BYTES};
+use elf_record::{Cause, Refusal, VersionKind};
+
+/// How many numbers versions may have.
+pub(crate) const VERSION_NUMBERS: u16 = 1024;
+
+/// Where a walk stands.
+#[derive(Clone, Copy)]
+pub(crate) struct Standing {
+    /// The kind of the record that is to come.
+    pub(crate) kind: VersionKind,
+    /// Its place in the table.
+    pub(crate) place: u64,
+    /// The file offset of what led there.
+    pub(crate) from: u64,
+    /// Of a needed version, the place of its file.
+    pub(crate) owner: u64,
+    /// Of a needed version, the distance from its file to the next.
+    pub(crate) files: u32,
+}
+
+/// The size of a record of a kind, in bytes.
+pub(crate) fn record_bytes(kind: VersionKind) -> u64
+    ensures value { result ≡ record_size kind }
+    ensures small { result ≤ 20 }
+    ensures some { 16 ≤ result }
+{
+    match kind {
+        VersionKind::Definition => VERSION_DEFINITION_BYTES,
+        VersionKind::File | VersionKind::Need => VERSION_NEED_BYTES,
+    }
+}
+
+/// How many bytes a record may ask for, with its name.
+pub(crate) fn bytes_each(kind: VersionKind) -> u64
+    ensures value { result ≡ bytes_each kind }
+    ensures small { result ≤ 28 }
+    ensures enough { record_size kind ≤ result }
+{
+    match kind {
+        VersionKind::Definition => VERSION_DEFINITION_BYTES + VERSION_NAME_BYTES,
+        VersionKind::File | VersionKind::Need => VERSION_NEED_BYTES,
+    }
+}
+
+/// Where a walk begins over a table of so many bytes, of which something tells at a file offset;
+/// nowhere in one of no bytes.
+pub(crate) fn first(kind: VersionKind, head: u64, size: u64) -> Option<Standing>
+    requires { kind ≡ Need → ⊥ }
+    ensures stands { option_map stand_of result ≡ first_stand kind head size }
+    ensures knows { (file : List ℕ) (table : ℕ) → KnowsAhead file table result }
+    ensures low { IfSome result (λ s. (s.place ≡ 0) × (s.owner ≡ 0) × (s.kind ≡ kind)) }
+{
+    if size == 0 {
+        return None;
+    }
+    Some(Standing {
+        kind,
+        place: 0,
+        from: head,
+        owner: 0,
+        files: 0,
+    })
+}
+
+/// The distance from a record to what holds the index of its name.
+#[tactic(auto, unfolding(crate::specs::Words::distance_of_name))]
+pub(crate) fn name_distance(kind: VersionKind, aux: u32) -> u64
+    ensures value { result ≡ distance_of_name kind aux }
+    ensures small { result ≤ aux }
+{
+    match kind {
+        VersionKind::Definition => u64::from(aux),
+        VersionKind::File | VersionKind::Need => 0,
+    }
+}
+
+/// The first check of a record's words that fails: the version of its layout, its number, and its
+/// name, which is in the table.
+pub(crate) fn refused_words(size: u64, stand: &Standing, at: u64, words: &Words) -> Option<Refusal>
+    requires { stand.now.place < 2 ^ 63 }
+    ensures is { result ≡ first_refusal (checks_of stand.now.kind size stand.now.place at words.now) }
+    ensures passes { MatchOption result
+        ((stand.now.place + end_of_name stand.now.kind words.now.aux ≤ size)
+        × (number_in words.now.number < 1024)) (λ refusal. IsBudget refusal → ⊥) }
+{
+    if words.version != 1 {
+        return refused(at, Cause::BadVersion);
+    }
+    if words.number % (1 << 15) >= VERSION_NUMBERS {
+        return refused(at, Cause::VersionIndex);
+    }
+    if stand.place + name_end(stand.kind, words.aux) > size {
+        return refused(at, Cause::VersionCut);
+    }
+    None
+}
+
+// The distance from a record to the end of what holds its name.
+#[tactic(auto, unfolding(crate::specs::Words::end_of_name))]
+fn name_end(kind: VersionKind, aux: u32) -> u64
+    ensures value { result ≡ end_of_name kind aux }
+    ensures small { result < 2 ^ 33 }
+{
+    match kind {
+        VersionKind::Definition => u64::from(aux) + VERSION_NAME_BYTES,
+        VersionKind::File | VersionKind::Need => VERSION_NEED_BYTES,
+    }
+}
+
+// The refusal for a cause at a file offset.
+fn refused(at: u64, cause: Cause) -> Option<Refusal>
+    ensures { result ≡ Some (record { at = at; cause = cause }) }
+{
+    Some(Refusal { at, cause })
+}
+
+/// Where a record leads a walk.
+#[tactic(auto, unfolding(elf_model::specs::Versions::behind, elf_model::specs::Versions::next_word, crate::specs::Words::aux_word))]
+pub(crate) fn behind(table: u64, stand: &Standing, words: &Words) -> Option<Standing>
+    requires low { stand.now.place < 2 ^ 63 }
+    requires owned_low { stand.now.owner < 2 ^ 63 }
+    requires ends { table + stand.now.place < 2 ^ 64 }
+    requires owned { table + stand.now.owner < 2 ^ 64 }
+    ensures leads { (file : List ℕ) → KnowsFiles file table stand.now →
+        HoldsWords file (record { kind = stand.now.kind; at = table + stand.now.place }) words.now →
+        (option_map stand_of result ≡ behind file table (stand_of stand.now))
+        × KnowsAhead file table result }
+    ensures near { IfSome result (λ s. s.place < 2 ^ 63 + 2 ^ 32) }
+    ensures pays { IfSome result (λ s. bytes_each s.kind ≡ bytes_each stand.now.kind) }
+    ensures owner { (size : ℕ) → stand.now.place ≤ size → stand.now.owner ≤ size →
+        IfSome result (λ s. s.owner ≤ size) }
+{
+    let at = table + stand.place;
+    match stand.kind {
+        VersionKind::Definition => along(VersionKind::Definition, stand.place, at, words.next),
+        VersionKind::File => Some(Standing {
+            kind: VersionKind::Need,
+            place: stand.place + u64::from(words.aux),
+            from: at,
+            owner: stand.place,
+            files: words.next,
+        }),
+        VersionKind::Need => {
+            if words.next == 0 {
+                return along(
+                    VersionKind::File,
+                    stand.owner,
+                    table + stand.owner,
+                    stand.files,
+                );
+            }
+            Some(Standing {
+                place: stand.place + u64::from(words.next),
+                from: at,
+                ..*stand
+            })
+        }
+    }
+}
+
+// Where a record leads by the distance from it to the next of its kind, of which 0 is the end.
+fn along(kind: VersionKind, place: u64, from: u64, distance: u32) -> Option<Standing>
+    requires { place < 2 ^ 63 }
+    ensures leads { (table : ℕ) → from ≡ table + place →
+        option_map stand_of result ≡ along table kind place distance 0 }
+    ensures near { IfSome result (λ s. (s.place < 2 ^ 63 + 2 ^ 32) × (s.owner ≡ 0)) }
+    ensures kind { IfSome result (λ s. s.kind ≡ kind) }
+{
+    if distance == 0 {
+        return None;
+    }
+    Some(Standing {
+        kind,
+        place: place + u64::from(distance),
+        from,
+        owner: 0,
+        files: 0,
+    })
+}

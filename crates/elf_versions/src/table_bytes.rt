@@ -1,0 +1,111 @@
+//! The bytes of a table of symbol versions.
+ghost use Rattle.std.specs.Prelude.{◌≡◌, ℕ, ◌+◌, ◌^◌, ◌≤◌, ◌<◌, List, length, IfOk, IfErr, None};
+ghost use Rattle.elf_model.specs.Bytes.{slice};
+ghost use Rattle.elf_headers.specs.Faults.{IsOfRead};
+ghost use Rattle.elf_headers.specs.Ledger.{Did, why_stopped};
+ghost use Rattle.elf_table.specs.Tables.{RowsWithin};
+ghost use Rattle.elf_versions.specs.Reading.{GivesBytes, IsHeld, unheld};
+
+use elf_source::{Counted, Source};
+use elf_table::{Fault, Table, fill};
+use std::marker::Model;
+
+/// How many bytes of a table are held at most.
+pub const BUFFER_BYTES: usize = 4096;
+
+/// The bytes of a table whose rows are single bytes: all of them are held, or none.
+#[derive(Drop)]
+pub(crate) struct TableBytes {
+    table: Table,
+    whole: bool,
+    bytes: [u8; BUFFER_BYTES],
+}
+
+impl Model for TableBytes {
+    ghost use Rattle.std.specs.Prelude.{◌≡◌, ◌+◌, ◌^◌, ◌<◌, ◌≤◌, true, take};
+    ghost use Rattle.elf_versions.specs.Reading.{Held};
+
+    ghost Value = { Held };
+
+    ghost view = { λ t. record {
+      table = t.table;
+      whole = t.whole;
+      bytes = take t.table.count t.bytes;
+    } };
+
+    ghost invariant = { λ t. (t.table.entry ≡ 1) × (t.table.at + t.table.count < 2 ^ 64)
+        × (t.whole ≡ true → t.table.count ≤ 4096) };
+}
+
+impl TableBytes {
+    /// The bytes of `table`, which ends within the source's length. It reads all at once where they
+    /// are no more than `most` and than 4,096, and else nothing.
+    ///
+    /// # Errors
+    /// A fault of the read, or a refusal for want of budget, at the table's first byte.
+    pub(crate) fn load<S: Source>(
+        src: &mut Counted<S>,
+        table: Table,
+        most: u64,
+    ) -> Result<TableBytes, Fault>
+        requires bytes { table.entry ≡ 1 }
+        requires within { RowsWithin src.old.seen.size table }
+        ensures did { Did src.old src.new (why_stopped result) most
+            (λ file. IfOk result (IsHeld file)) }
+        ensures fault { IfErr result IsOfRead }
+        ensures account { IfOk result (λ held.
+            src.new.asked + unheld held most ≤ src.old.asked + most) }
+        ensures its_table { IfOk result (λ held. held.table ≡ table) }
+    {
+        let _ = table.entry();
+        let size = table.len();
+        let whole = size <= most && size <= BUFFER_BYTES as u64;
+        let mut bytes = [0; BUFFER_BYTES];
+        if whole && size > 0 {
+            fill(src, table.at(), &mut bytes[..size as usize])?;
+        }
+        Ok(TableBytes {
+            table,
+            whole,
+            bytes,
+        })
+    }
+
+    /// The table.
+    pub(crate) fn table(&self) -> Table
+        ensures is { result ≡ self.now.table }
+        ensures bytes { self.now.table.entry ≡ 1 }
+        ensures ends { self.now.table.at + self.now.table.count < 2 ^ 64 }
+    {
+        self.table
+    }
+
+    /// Fills `out`, at most 4,096 bytes, with the table's bytes from a place on: without a read where
+    /// they are held, else by one.
+    ///
+    /// # Errors
+    /// A fault of the read, or a refusal for want of budget, at the first of these bytes. Then `out`
+    /// holds any bytes.
+    pub(crate) fn read<S: Source>(
+        &self,
+        src: &mut Counted<S>,
+        place: u64,
+        out: &mut [u8],
+    ) -> Result<(), Fault>
+        requires inside { place + length out.old ≤ self.now.table.count }
+        requires small { length out.old ≤ 4096 }
+        requires some { 0 < length out.old }
+        requires within { RowsWithin src.old.seen.size self.now.table }
+        ensures did { Did src.old src.new (why_stopped result)
+            (unheld self.now (length out.old))
+            (λ file. IsHeld file self.now →
+            GivesBytes (slice file (self.now.table.at + place) (length out.old)) out.new result) }
+    {
+        if self.whole {
+            let end = place as usize + out.len();
+            out.copy_from_slice(&self.bytes[place as usize..end]);
+            return Ok(());
+        }
+        fill(src, self.table.at() + place, out)
+    }
+}
