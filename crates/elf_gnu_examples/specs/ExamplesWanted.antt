@@ -1,9 +1,10 @@
 -- Worked examples of what is wanted: a name and a version; and of long names of versions.
 use Rattle.std.specs.Prelude.{◌≡◌, ℕ, ◌+◌, ◌*◌, true, false, List, [], ◌∷◌, ◌++◌, codes, replicate}
 use Rattle.elf_model.specs.Bytes.{little}
+use Rattle.elf_model.specs.FindApplyAnswer.{find_answer}
 use Rattle.elf_model.specs.Fixtures.{zeros, with_bytes}
 use Rattle.elf_model.specs.FixturesHash.{words}
-use Rattle.elf_model.specs.FixturesVersions.{versioned_library}
+use Rattle.elf_model.specs.FixturesVersions.{versioned_library, versioned_without_sections}
 use Rattle.elf_model.specs.Loader.{NoVersion, Version, DefaultVersion, wanted_of, is_complete}
 use Rattle.elf_model.specs.LoaderFind.{loader_ceiling}
 use Rattle.elf_gnu_examples.specs.LoaderWords.{Finds, Asks, second_f, found_2}
@@ -64,3 +65,9 @@ Ceilings =
     (loader_ceiling 1264 8 (wanted_of (codes "f")) ≡ 92 + 512 + 1264 + 316 * (30 + 64) + 158 * 28 + 320)
     × (loader_ceiling 1264 8 (wanted_of (codes "f@V1")) ≡ 92 + 512 + 1264 + 316 * (30 + 64) + 158 * (28 + 64) + 320)
     × (loader_ceiling 7 0 (wanted_of (replicate 64 97)) ≡ 92 + 7 + 158 + 320)
+
+-- the lookup of a name alone finds no hash table of the gABI in the library, with section headers or without
+abbrev pub OtherLookupsFindNoTable : Type 0
+OtherLookupsFindNoTable =
+    (find_answer versioned_library 8 (codes "f") ≡ record { text = codes "! 0000000000000028 no-hash\n"; status = 1 })
+    × (find_answer versioned_without_sections 8 (codes "f") ≡ record { text = codes "! 0000000000000028 no-hash\n"; status = 1 })

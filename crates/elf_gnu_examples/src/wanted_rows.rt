@@ -1,5 +1,5 @@
 //! Worked parting of texts, and lookups of long names, each computed by the prover.
-ghost use Rattle.elf_gnu_examples.specs.ExamplesWanted.{TextsAreParted, EmptyNamesAreNone, LongVersionsAreCut, LongNamesAsk, Ceilings};
+ghost use Rattle.elf_gnu_examples.specs.ExamplesWanted.{TextsAreParted, EmptyNamesAreNone, LongVersionsAreCut, LongNamesAsk, Ceilings, OtherLookupsFindNoTable};
 
 /// A name alone, and with a version behind one sign or two.
 #[tactic(auto, unfolding(elf_model::proofs::OnLiterals::on_literals, elf_model::proofs::OnLoader::on_loader, crate::proofs::OnExamples::on_examples))]
@@ -29,4 +29,10 @@ pub fn long_names_ask()
 #[tactic(auto, unfolding(elf_model::proofs::OnLiterals::on_literals, elf_model::proofs::OnLoader::on_loader, crate::proofs::OnExamples::on_examples))]
 pub fn ceilings()
     ensures { Ceilings }
+{}
+
+/// A hash table of the GNU system is none for the lookup of a name alone.
+#[tactic(auto, unfolding(elf_model::proofs::OnLiterals::on_literals, elf_model::proofs::OnLoader::on_loader, crate::proofs::OnExamples::on_examples))]
+pub fn other_lookups_find_no_table()
+    ensures { OtherLookupsFindNoTable }
 {}
