@@ -1,4 +1,4 @@
-//! Tests of what no clause says of loads, tables, names, notes, lookups and applied sections: how often
+//! Tests of what no clause says of loads, tables, names, notes, versions, lookups and applied sections: how often
 //! a source is read and for how much at once, reads and writes that fail in turn, every limit up to a
 //! cost, files that change between reads. They are in a crate of their own, since a crate with tests is
 //! proved twice.
@@ -36,3 +36,5 @@ mod notes;
 mod segments;
 #[cfg(test)]
 mod tables;
+#[cfg(test)]
+mod versions;

@@ -1,5 +1,5 @@
 //! A cursor over the records of symbol versions.
-ghost use Rattle.std.specs.Prelude.{◌≡◌, ℕ, ◌+◌, ◌-◌, ◌*◌, ◌^◌, ◌<◌, ◌≤◌, List, Some, None, Err, IfOk, IfErr};
+ghost use Rattle.std.specs.Prelude.{◌≡◌, ℕ, ◌+◌, ◌-◌, ◌*◌, ◌^◌, ◌<◌, ◌≤◌, List, false, Some, None, Err, IfOk, IfErr};
 ghost use Rattle.elf_headers.specs.Faults.{IsOfRead};
 ghost use Rattle.elf_headers.specs.Ledger.{Did, why_stopped};
 ghost use Rattle.elf_headers.specs.declared.fault.Fault.{Fault};
@@ -89,6 +89,26 @@ impl VersionCursor {
             failed: None,
         })
     }
+    /// A cursor as by [`VersionCursor::new`] that reads each record alone, whatever the table's size:
+    /// for a walk that may end before the table does. A step asks for no more than its record may.
+    pub fn one_by_one(kind: VersionKind, head: u64, table: Table) -> VersionCursor
+        requires bytes { table.entry ≡ 1 }
+        requires kind { kind ≡ Need → ⊥ }
+        requires small { table.count < 2 ^ 63 }
+        ensures starts { StartsVersions kind head table result }
+        ensures alone { result.held.whole ≡ false }
+        ensures agrees { (file : List ℕ) → Agrees file result }
+    {
+        let size = table.len();
+        VersionCursor {
+            held: TableBytes::unread(table),
+            standing: first(kind, head, size),
+            left: size / record_bytes(kind),
+            each: bytes_each(kind),
+            failed: None,
+        }
+    }
+
     /// Goes to the next record, or answers None behind the last. All calls together ask for no more
     /// than the records may that have room in the table one behind the other.
     ///

@@ -1,5 +1,5 @@
 //! The bytes of a table of symbol versions.
-ghost use Rattle.std.specs.Prelude.{◌≡◌, ℕ, ◌+◌, ◌^◌, ◌≤◌, ◌<◌, List, length, IfOk, IfErr, None};
+ghost use Rattle.std.specs.Prelude.{◌≡◌, ℕ, ◌+◌, ◌^◌, ◌≤◌, ◌<◌, List, length, false, IfOk, IfErr, None};
 ghost use Rattle.elf_model.specs.Bytes.{slice};
 ghost use Rattle.elf_headers.specs.Faults.{IsOfRead};
 ghost use Rattle.elf_headers.specs.Ledger.{Did, why_stopped};
@@ -69,6 +69,20 @@ impl TableBytes {
             whole,
             bytes,
         })
+    }
+
+    /// The bytes of `table`, none of which are held.
+    pub(crate) fn unread(table: Table) -> TableBytes
+        requires { table.entry ≡ 1 }
+        ensures its_table { result.table ≡ table }
+        ensures none { result.whole ≡ false }
+    {
+        let _ = table.entry();
+        TableBytes {
+            table,
+            whole: false,
+            bytes: [0; BUFFER_BYTES],
+        }
     }
 
     /// The table.
