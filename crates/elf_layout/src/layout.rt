@@ -177,7 +177,8 @@ impl Layout {
     ///
     /// # Errors
     /// `Repeat` where there is an item of this sort with this index or name; else `Full` where
-    /// there are 64 sections, 32 definitions or 32 entries of this sort. Either leaves the layout as it was.
+    /// there are 64 sections, 32 definitions or 32 entries of this sort. Either leaves the layout as
+    /// it was.
     pub fn push(&mut self, item: Item<'_>) -> Result<(), LayoutFault>
         requires { NamesOf item IsName }
         ensures { Pushes item.entry self.old self.new result }

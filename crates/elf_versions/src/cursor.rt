@@ -89,6 +89,7 @@ impl VersionCursor {
             failed: None,
         })
     }
+
     /// A cursor as by [`VersionCursor::new`] that reads each record alone, whatever the table's size:
     /// for a walk that may end before the table does. A step asks for no more than its record may.
     pub fn one_by_one(kind: VersionKind, head: u64, table: Table) -> VersionCursor
