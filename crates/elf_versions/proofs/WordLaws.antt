@@ -80,7 +80,7 @@ none-of None h = refl
 none-of (Some x) h = absurd (h x refl)
 
 pub fits-all :
-    (size each : ℕ) (o : Option Standing) → IfSome o (λ s. s.place < 2 ^ 63 + 2 ^ 32) → IfSome o (λ s. s.owner ≤ size)
+    (size each : ℕ) (o : Option Standing) → IfSome o (λ s. s.place < 2 ^ 64 + 2 ^ 32) → IfSome o (λ s. s.owner ≤ size)
     → IfSome o (λ s. bytes_each s.kind ≡ each) → IfSome o (Fits size each)
 fits-all size each None near owner pays = tt
 fits-all size each (Some s) near owner pays = record { near = near; owner = owner; pays = omega (arith, pays) }

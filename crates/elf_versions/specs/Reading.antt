@@ -148,7 +148,7 @@ ReadsRecord file table size stand (Err (Source fault at)) = Unit {0}
 -- where a walk stands is not far behind a table of some bytes, a needed version's file is in it, and the record that is to come
 -- asks for no more than so many bytes
 pub record Fits (size each : ℕ) (s : Standing) : Type 0 where
-  pub near : s.place < 2 ^ 63 + 2 ^ 32
+  pub near : s.place < 2 ^ 64 + 2 ^ 32
   pub owner : s.owner ≤ size
   pub pays : bytes_each s.kind ≤ each
 

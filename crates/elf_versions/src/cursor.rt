@@ -47,8 +47,7 @@ impl Model for VersionCursor {
       failed = c.failed;
     } };
 
-    ghost invariant = { λ c. (c.held.table.count < 2 ^ 63)
-        × (c.held.table.at + c.held.table.count < 2 ^ 64)
+    ghost invariant = { λ c. (c.held.table.at + c.held.table.count < 2 ^ 64)
         × IfSome c.standing (Fits c.held.table.count c.each) };
 }
 
@@ -68,7 +67,6 @@ impl VersionCursor {
     ) -> Result<VersionCursor, Fault>
         requires bytes { table.entry ≡ 1 }
         requires kind { kind ≡ Need → ⊥ }
-        requires small { table.count < 2 ^ 63 }
         requires within { RowsWithin src.old.seen.size table }
         ensures did { Did src.old src.new (why_stopped result)
             (most_records kind table.count * bytes_each kind) (λ file. IfOk result (Agrees file)) }
@@ -80,7 +78,7 @@ impl VersionCursor {
         let size = table.len();
         let left = size / record_bytes(kind);
         let each = bytes_each(kind);
-        let held = TableBytes::load(src, table, left * each)?;
+        let held = TableBytes::load(src, table, left.saturating_mul(each))?;
         Ok(VersionCursor {
             held,
             standing: first(kind, head, size),
@@ -95,7 +93,6 @@ impl VersionCursor {
     pub fn one_by_one(kind: VersionKind, head: u64, table: Table) -> VersionCursor
         requires bytes { table.entry ≡ 1 }
         requires kind { kind ≡ Need → ⊥ }
-        requires small { table.count < 2 ^ 63 }
         ensures starts { StartsVersions kind head table result }
         ensures alone { result.held.whole ≡ false }
         ensures agrees { (file : List ℕ) → Agrees file result }
@@ -160,7 +157,8 @@ impl VersionCursor {
         ensures leaves { LeavesMet self.old self.new result }
     {
         let size = self.held.table().len();
-        if self.left == 0 || stand.place + record_bytes(stand.kind) > size {
+        let end = stand.place + u128::from(record_bytes(stand.kind));
+        if self.left == 0 || end > u128::from(size) {
             return refused(stand.from, Cause::VersionCut);
         }
         self.left -= 1;

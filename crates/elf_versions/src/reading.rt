@@ -35,14 +35,13 @@ pub(crate) fn read_record<S: Source>(
     requires within { RowsWithin src.old.seen.size held.now.table }
     requires inside { stand.now.place + record_size stand.now.kind ≤ held.now.table.count }
     requires owner { stand.now.owner ≤ held.now.table.count }
-    requires small { held.now.table.count < 2 ^ 63 }
     ensures did { Did src.old src.new (why_stopped result) (unheld held.now (bytes_each stand.now.kind))
         (λ file. IsHeld file held.now → KnowsFiles file held.now.table.at stand.now →
         ReadsRecord file held.now.table.at held.now.table.count (stand_of stand.now) result) }
     ensures fits { IfOk result (StepFits held.now.table.count (bytes_each stand.now.kind)) }
 {
     let table = held.table();
-    let at = table.at() + stand.place;
+    let at = table.at() + stand.place as u64;
     let words = read_words(held, src, stand)?;
     if let Some(refusal) = refused_words(table.len(), stand, at, &words) {
         return Err(Fault::Refused(refusal));
@@ -62,6 +61,7 @@ fn read_words<S: Source>(
 ) -> Result<Words, Fault>
     requires within { RowsWithin src.old.seen.size held.now.table }
     requires inside { stand.now.place + record_size stand.now.kind ≤ held.now.table.count }
+    requires low { held.now.table.count < 2 ^ 64 }
     ensures did { Did src.old src.new (why_stopped result)
         (unheld held.now (record_size stand.now.kind))
         (λ file. IsHeld file held.now →
@@ -70,17 +70,17 @@ fn read_words<S: Source>(
     match stand.kind {
         VersionKind::Definition => {
             let mut bytes = [0; 20];
-            held.read(src, stand.place, &mut bytes)?;
+            held.read(src, stand.place as u64, &mut bytes)?;
             Ok(of_definition(&Verdef::decode(&bytes)))
         }
         VersionKind::File => {
             let mut bytes = [0; 16];
-            held.read(src, stand.place, &mut bytes)?;
+            held.read(src, stand.place as u64, &mut bytes)?;
             Ok(of_file(&Verneed::decode(&bytes)))
         }
         VersionKind::Need => {
             let mut bytes = [0; 16];
-            held.read(src, stand.place, &mut bytes)?;
+            held.read(src, stand.place as u64, &mut bytes)?;
             Ok(of_need(&Vernaux::decode(&bytes)))
         }
     }
@@ -97,7 +97,7 @@ fn read_name<S: Source>(
     requires within { RowsWithin src.old.seen.size held.now.table }
     requires inside { stand.now.place + end_of_name stand.now.kind words.now.aux
         ≤ held.now.table.count }
-    requires small { held.now.table.count < 2 ^ 63 }
+    requires low { held.now.table.count < 2 ^ 64 }
     ensures did { Did src.old src.new (why_stopped result)
         (unheld held.now (index_bytes stand.now.kind))
         (λ file. IsHeld file held.now →
@@ -107,7 +107,7 @@ fn read_name<S: Source>(
     match stand.kind {
         VersionKind::Definition => {
             let mut bytes = [0; 4];
-            let place = stand.place + u64::from(words.aux);
+            let place = stand.place as u64 + u64::from(words.aux);
             held.read(src, place, &mut bytes)?;
             Ok(word(&bytes))
         }

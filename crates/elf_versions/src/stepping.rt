@@ -19,8 +19,8 @@ pub(crate) const VERSION_NUMBERS: u16 = 1024;
 pub(crate) struct Standing {
     /// The kind of the record that is to come.
     pub(crate) kind: VersionKind,
-    /// Its place in the table.
-    pub(crate) place: u64,
+    /// Its place in the table, or behind it.
+    pub(crate) place: u128,
     /// The file offset of what led there.
     pub(crate) from: u64,
     /// Of a needed version, the place of its file.
@@ -88,7 +88,7 @@ pub(crate) fn name_distance(kind: VersionKind, aux: u32) -> u64
 /// The first check of a record's words that fails: the version of its layout, its number, and its
 /// name, which is in the table.
 pub(crate) fn refused_words(size: u64, stand: &Standing, at: u64, words: &Words) -> Option<Refusal>
-    requires { stand.now.place < 2 ^ 63 }
+    requires { stand.now.place < 2 ^ 64 }
     ensures is { result ≡ first_refusal (checks_of stand.now.kind size stand.now.place at words.now) }
     ensures passes { MatchOption result
         ((stand.now.place + end_of_name stand.now.kind words.now.aux ≤ size)
@@ -100,7 +100,7 @@ pub(crate) fn refused_words(size: u64, stand: &Standing, at: u64, words: &Words)
     if words.number % (1 << 15) >= VERSION_NUMBERS {
         return refused(at, Cause::VersionIndex);
     }
-    if stand.place + name_end(stand.kind, words.aux) > size {
+    if stand.place + u128::from(name_end(stand.kind, words.aux)) > u128::from(size) {
         return refused(at, Cause::VersionCut);
     }
     None
@@ -128,27 +128,27 @@ fn refused(at: u64, cause: Cause) -> Option<Refusal>
 /// Where a record leads a walk.
 #[tactic(auto, unfolding(elf_model::specs::Versions::behind, elf_model::specs::Versions::next_word, crate::specs::Words::aux_word))]
 pub(crate) fn behind(table: u64, stand: &Standing, words: &Words) -> Option<Standing>
-    requires low { stand.now.place < 2 ^ 63 }
-    requires owned_low { stand.now.owner < 2 ^ 63 }
+    requires low { stand.now.place < 2 ^ 64 }
     requires ends { table + stand.now.place < 2 ^ 64 }
     requires owned { table + stand.now.owner < 2 ^ 64 }
     ensures leads { (file : List ℕ) → KnowsFiles file table stand.now →
         HoldsWords file (record { kind = stand.now.kind; at = table + stand.now.place }) words.now →
         (option_map stand_of result ≡ behind file table (stand_of stand.now))
         × KnowsAhead file table result }
-    ensures near { IfSome result (λ s. s.place < 2 ^ 63 + 2 ^ 32) }
+    ensures near { IfSome result (λ s. s.place < 2 ^ 64 + 2 ^ 32) }
     ensures pays { IfSome result (λ s. bytes_each s.kind ≡ bytes_each stand.now.kind) }
     ensures owner { (size : ℕ) → stand.now.place ≤ size → stand.now.owner ≤ size →
         IfSome result (λ s. s.owner ≤ size) }
 {
-    let at = table + stand.place;
+    let place = stand.place as u64;
+    let at = table + place;
     match stand.kind {
-        VersionKind::Definition => along(VersionKind::Definition, stand.place, at, words.next),
+        VersionKind::Definition => along(VersionKind::Definition, place, at, words.next),
         VersionKind::File => Some(Standing {
             kind: VersionKind::Need,
-            place: stand.place + u64::from(words.aux),
+            place: stand.place + u128::from(words.aux),
             from: at,
-            owner: stand.place,
+            owner: place,
             files: words.next,
         }),
         VersionKind::Need => {
@@ -161,7 +161,7 @@ pub(crate) fn behind(table: u64, stand: &Standing, words: &Words) -> Option<Stan
                 );
             }
             Some(Standing {
-                place: stand.place + u64::from(words.next),
+                place: stand.place + u128::from(words.next),
                 from: at,
                 ..*stand
             })
@@ -171,10 +171,9 @@ pub(crate) fn behind(table: u64, stand: &Standing, words: &Words) -> Option<Stan
 
 // Where a record leads by the distance from it to the next of its kind, of which 0 is the end.
 fn along(kind: VersionKind, place: u64, from: u64, distance: u32) -> Option<Standing>
-    requires { place < 2 ^ 63 }
     ensures leads { (table : ℕ) → from ≡ table + place →
         option_map stand_of result ≡ along table kind place distance 0 }
-    ensures near { IfSome result (λ s. (s.place < 2 ^ 63 + 2 ^ 32) × (s.owner ≡ 0)) }
+    ensures near { IfSome result (λ s. (s.place < 2 ^ 64 + 2 ^ 32) × (s.owner ≡ 0)) }
     ensures kind { IfSome result (λ s. s.kind ≡ kind) }
 {
     if distance == 0 {
@@ -182,7 +181,7 @@ fn along(kind: VersionKind, place: u64, from: u64, distance: u32) -> Option<Stan
     }
     Some(Standing {
         kind,
-        place: place + u64::from(distance),
+        place: u128::from(place) + u128::from(distance),
         from,
         owner: 0,
         files: 0,

@@ -8,7 +8,7 @@ use Rattle.elf_versions.proofs.reading.read_name.Goals as goal
 
 pub overflow_add-place : goal.overflow_add-place
 unfolding end_of_name
-overflow_add-place g c = let inside = rw c.in-Definition.is at c.requires.inside in omega (arith, c.from.ensures, c.requires.small)
+overflow_add-place g c = let inside = rw c.in-Definition.is at c.requires.inside in omega (arith, c.from.ensures, c.requires.low)
 
 pub read-requires-clause-inside : goal.read-requires-clause-inside
 unfolding end_of_name

@@ -8,7 +8,7 @@ use Rattle.elf_headers.proofs.LedgerLaws.{Did-as, Did-none, Did-stop}
 use Rattle.elf_versions.specs.Reading.{stand_of}
 use Rattle.elf_versions.proofs.LeftLaws.{cut-here, step-met, step-pays, step-refused}
 use Rattle.elf_versions.proofs.cursor.VersionCursor.meet.Goals as goal
-use Rattle.elf_versions.proofs.cursor.VersionCursor.meet.Goals.{then-self-eq0-via-then-self-eq0, then-self-eq0-via-else-self-eq0+then-stand-record_bytes}
+use Rattle.elf_versions.proofs.cursor.VersionCursor.meet.Goals.{then-self-eq0-via-then-self-eq0, then-self-eq0-via-else-self-eq0+then-end-from}
 
 pub returns-then-self-eq0-clause-did : goal.returns-then-self-eq0-clause-did
 returns-then-self-eq0-clause-did g c =
@@ -19,7 +19,7 @@ returns-then-self-eq0-clause-did g c =
     let why : (i.left ≡ 0) ⊎ (i.held.table.count < s.place + record_size s.kind) =
     elim c.then-self-eq0.branch [
       | then-self-eq0-via-then-self-eq0 w ↦ inl w.if-self-eq0.true
-      | then-self-eq0-via-else-self-eq0+then-stand-record_bytes w ↦ inr (omega (arith, size, w.record_bytes.ensures.value, w.if-stand-record_bytes.true))
+      | then-self-eq0-via-else-self-eq0+then-end-from w ↦ inr (omega (arith, size, c.record_bytes.ensures.value, c.from.ensures, w.from-else-self-eq0.ensures, w.if-end-from.true))
     ] in
     rw (c.refused.ensures, ← c.self.view_is)
     (Did-as _ (omega arith) (Did-stop (Refused (record { at = s.from; cause = VersionCut })) (λ budget. cc) (Did-none c.args.src.now))
@@ -31,7 +31,7 @@ returns-in_err-step-clause-did g c =
     let i = c.self.inside in
     let s = c.args.stand.now in
     let stands = rw (← c.self.view_is) at c.requires.stands in
-    let fits = rw stands at c.self.invariant.2 in
+    let fits = rw stands at c.self.invariant.1 in
     let some : 0 < i.left = omega (arith, c.if-self-eq0.false) in
     let p = err_from_is_err_and c.from_residual.result c.from_residual.ensures.1 in
     rw (p.1, p.2, ← c.self.view_is)
@@ -46,7 +46,7 @@ returns-clause-did g c =
     let i = c.self.inside in
     let s = c.args.stand.now in
     let stands = rw (← c.self.view_is) at c.requires.stands in
-    let fits = rw stands at c.self.invariant.2 in
+    let fits = rw stands at c.self.invariant.1 in
     let some : 0 < i.left = omega (arith, c.if-self-eq0.false) in
     rw (← c.self.view_is)
     (Did-as _ (step-pays i.held i.left i.each _ some fits.pays) c.in_ok-step.ensures.did
