@@ -7,4 +7,5 @@ pub mod Reports
 pub mod RowCursors
 pub mod Shows
 pub mod Strings
+pub mod Versions
 pub mod Viewed

@@ -16,6 +16,7 @@ mod sections;
 mod segments;
 mod showing;
 mod telling;
+mod versions;
 
 pub use buffers::FIXED_BYTES;
 pub use elf_lines::{

@@ -1,0 +1,77 @@
+-- The rows of symbol versions, by what is left of a walk over their records.
+use Rattle.std.proofs.Common.{◌≡◌, ℕ, ◌+◌, ◌*◌, ◌≤◌, List, [], ◌∷◌, ◌++◌, Option, None, Some, Err, refl, sym, ap, ◌∙◌, append_assoc, append-nil, arith}
+use Rattle.elf_model.specs.Listing.{Item, Fault as FaultItem}
+use Rattle.elf_model.specs.Rows.{named_row}
+use Rattle.elf_model.specs.Names.{Shown, shown}
+use Rattle.elf_model.specs.Style.{Style}
+use Rattle.elf_model.specs.VersionRows.{end_rows, met_rows, version_front, version_row}
+use Rattle.elf_model.specs.Versions.{Met, Versions, flags_word, hash_word, name_index, named_at, no_versions, number_word, with_met}
+use Rattle.elf_model.specs.declared.causes.Refusal.{Refusal}
+use Rattle.elf_headers.specs.Stops.{stop_of}
+use Rattle.elf_headers.specs.declared.fault.Fault.{Fault}
+use Rattle.elf_headers.specs.declared.fault.Fault.TheVariants.{Refused, Source as Unread}
+use Rattle.elf_source.specs.Output.{Written}
+use Rattle.elf_versions.specs.Reading.{GivesVersion, IsVersion, TellsVersion}
+use Rattle.elf_versions.specs.declared.record.VersionRecord.{VersionRecord}
+use Rattle.elf_listing.specs.Notes.{WrittenBefore}
+use Rattle.elf_listing.specs.Shows.{Front, Stopped, WroteItems}
+use Rattle.elf_listing.specs.Versions.{versions_items}
+
+-- the row of a record as it is given
+pub record_is : (file : List ℕ) (style : Style) (section : ℕ) (strings : List ℕ) (met : Met) (given : VersionRecord) → IsVersion file met given
+    → version_row file style section strings met
+    ≡ named_row (version_front given.kind section given.number given.flags given.hash) given.named_at (shown strings given.name style.cap)
+unfolding version_row
+record_is file style section strings met given is =
+    let kind = is.kind in
+    let number = is.number in
+    let flags = is.flags in
+    let hash = is.hash in
+    let place = is.named_at in
+    let name = is.name in
+    rw (kind, number, flags, hash, place, name) refl
+
+-- a record, and what is left behind it
+pub record_left : (file : List ℕ) (style : Style) (section : ℕ) (strings : List ℕ) (met : Met) (left : Versions)
+    → versions_items file style section strings (with_met met left)
+    ≡ version_row file style section strings met ++ versions_items file style section strings left
+unfolding met_rows
+record_left file style section strings met left = append_assoc (version_row file style section strings met) (met_rows file style section strings left.met) (end_rows left.cut)
+
+-- what is left where none is
+none_left : (file : List ℕ) (style : Style) (section : ℕ) (strings : List ℕ) (cut : Option Refusal) → versions_items file style section strings (no_versions cut) ≡ end_rows cut
+unfolding met_rows
+none_left file style section strings cut = refl
+
+-- behind the last record
+pub records_end : {a b : Written} (file : List ℕ) (style : Style) (section : ℕ) (strings : List ℕ) (all : List Item) (left : Versions) → left ≡ no_versions None
+    → WrittenBefore a b all (versions_items file style section strings left) → WroteItems a b all
+records_end file style section strings all left none before =
+    rw (before.split
+    ∙ ap (λ (x : List Item). before.done ++ x) (ap (versions_items file style section strings) none ∙ none_left file style section strings None)
+    ∙ append-nil before.done)
+    before.whole
+
+-- a step over the next record failed: at a read, or where there is no record
+pub records_fault : (a b : Written) (fault : Fault) (file : List ℕ) (style : Style) (section : ℕ) (strings : List ℕ) (all : List Item) (left new : Versions)
+    → TellsVersion file left new (Err fault) → WrittenBefore a b all (versions_items file style section strings left) → Stopped a b (stop_of fault) all
+records_fault a b (Refused refusal) file style section strings all left new tells before = record {
+  front = record { front = before.done; rest = versions_items file style section strings left; split = before.split; takes = before.whole.takes; no_fault = before.whole.no_fault };
+  next = λ other. record {
+    behind = [];
+    is_next = ap (versions_items file style section strings) (tells other) ∙ none_left file style section strings (Some refusal);
+  };
+}
+records_fault a b (Unread fault at) file style section strings all left new tells before =
+    record { front = before.done; rest = versions_items file style section strings left; split = before.split; takes = before.whole.takes; no_fault = before.whole.no_fault }
+
+-- the account of a walk: what was asked for, what the cursor may still ask for, and the names of the records that are left
+pub records_account : (u0 u1 l0 l1 own before after later bound : ℕ) → l1 + 1 ≡ l0 → after + u1 ≤ before + u0 → later ≤ after + own
+    → before + (u0 + l0 * own) ≤ bound → later + (u1 + l1 * own) ≤ bound
+records_account u0 u1 l0 l1 own before after later bound less step more within =
+    let product = ap (λ (n : ℕ). n * own) less in omega arith
+
+-- what a record's name may ask for is left in the bound
+pub record_pays : (u0 u1 l0 l1 own before after bound : ℕ) → l1 + 1 ≡ l0 → after + u1 ≤ before + u0 → before + (u0 + l0 * own) ≤ bound → after + own ≤ bound
+record_pays u0 u1 l0 l1 own before after bound less step within =
+    let product = ap (λ (n : ℕ). n * own) less in omega arith

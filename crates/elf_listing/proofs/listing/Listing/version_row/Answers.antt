@@ -1,0 +1,22 @@
+use Rattle.std.proofs.Common.{◌≡◌, [], ◌∙◌, ap, sym, arith}
+use Rattle.std.proofs.lemmas.Result.{err_from_is_err_and}
+use Rattle.elf_headers.specs.Permitted.{style_of}
+use Rattle.elf_listing.proofs.ListsLaws.{Lists-named, Lists-unread}
+use Rattle.elf_listing.proofs.RowLaws.{Stopped-name, Writes-as}
+use Rattle.elf_listing.proofs.VersionsShown.{record_is}
+use Rattle.elf_listing.proofs.listing.Listing.version_row.Goals as goal
+
+pub returns-in_err-end : goal.returns-in_err-end
+returns-in_err-end g c =
+    let p = err_from_is_err_and c.from_residual.result c.from_residual.ensures.1 in
+    rw (p.1, p.2) (Lists-unread _ _ _ _ _ _ (omega arith) c.in_err-end.ensures.fetches (λ file met held is.
+    let off = c.from.ensures in
+    rw (record_is file (style_of c.args.self.now.style) c.args.section _ met c.args.given.now is, ← off, c.in_err-end.ensures.fetches.1)
+    (Stopped-name _ _ _ _ [] _ (c.in_err-end.ensures.read file held))))
+
+pub returns : goal.returns
+returns g c = Lists-named _ _ _ _ _ _ _ _ (omega arith) c.in_ok-end.ensures.fetches c.named_line.ensures (λ file met held is.
+    let off = c.from.ensures in
+    let front = c.version_front.ensures in
+    rw (record_is file (style_of c.args.self.now.style) c.args.section _ met c.args.given.now is, ← off, ← front, ← c.in_ok-end.ensures.fetches.1)
+    (c.named_line.ensures.shows _ _ (c.in_ok-end.ensures.read file held)))
