@@ -6,8 +6,8 @@ use Rattle.elf_model.specs.Checks.{first_refusal}
 use Rattle.elf_model.specs.Records.{sh_size}
 use Rattle.elf_model.specs.Style.{Style}
 use Rattle.elf_model.specs.Tables.{entry_count}
-use Rattle.elf_model.specs.VersionRows.{VERSYM_SIZE, symbol_version_rows, versioned_symbols}
-use Rattle.elf_model.specs.Versions.{Met, Stand, most_records, record_size, record_checks, behind, met_at, met_from, no_versions, with_met, versions_in, names_number, named_by, VERSION_NUMBERS, number_in, number_word}
+use Rattle.elf_model.specs.VersionRows.{symbol_version_rows, versioned_symbols}
+use Rattle.elf_model.specs.Versions.{VERSYM_SIZE, Met, Stand, most_records, record_size, record_checks, behind, met_at, met_from, no_versions, with_met, versions_in, names_number, named_by, VERSION_NUMBERS, number_in, number_word}
 use Rattle.elf_model.specs.declared.causes.Refusal.{Refusal}
 use Rattle.elf_model.specs.declared.versions.VersionKind.{VersionKind}
 
