@@ -28,7 +28,7 @@ walks_cost headers file_size =
 
 -- the section of an index links to a section that is not the first
 abbrev pub links : HeaderTable → (index : ℕ) → Bool
-links headers i = not (header_field headers sh_link i == 0) && nat_lt (header_field headers sh_link i) headers.count
+links headers i = nat_lt (header_field headers sh_link i) headers.count && not (header_field headers sh_link i == 0)
 
 -- it links to a string table that is in the file
 abbrev pub has_strings : HeaderTable → (index file_size : ℕ) → Bool
@@ -49,10 +49,10 @@ abbrev pub versioned_rows : HeaderTable → (index : ℕ) → ℕ
 versioned_rows headers i =
     min (header_field headers sh_size i / VERSYM_SIZE) (header_field headers sh_size (header_field headers sh_link i) / SYMBOL_SIZE)
 
--- what its rows cost: a word and a name each, and what finds the names, where it is not empty and what it links to passes its
--- checks
+-- what its rows cost: a word and a name each, and what finds the names, where what it links to passes its checks and it is not
+-- empty
 unfoldable pub versioned_cost : HeaderTable → (index file_size cap : ℕ) → ℕ
 versioned_cost headers i file_size cap =
-    if not (header_field headers sh_size i == 0) && has_symbol_table headers i file_size
+    if has_symbol_table headers i file_size && not (header_field headers sh_size i == 0)
     then versioned_rows headers i * (VERSYM_SIZE + name_bytes cap) + walks_cost headers file_size
     else 0
