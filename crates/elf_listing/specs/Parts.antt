@@ -7,7 +7,8 @@ use Rattle.elf_model.specs.Records.{section_at, segment_at}
 use Rattle.elf_model.specs.Report.{table_rows}
 use Rattle.elf_model.specs.Rows.{no_name, section_row, segment_row}
 use Rattle.elf_model.specs.Style.{Style}
-use Rattle.elf_model.specs.TableKinds.{TableKind, symbols, relocations, section_notes, segment_notes, section_dynamic, segment_dynamic}
+use Rattle.elf_model.specs.HeaderTables.{HeaderTable, TableKind, held_headers}
+use Rattle.elf_model.specs.TableKinds.{symbols, relocations, section_notes, segment_notes, section_dynamic, segment_dynamic}
 use Rattle.elf_model.specs.declared.causes.Cause.{Cause}
 use Rattle.elf_headers.specs.Load.{Opened}
 use Rattle.elf_headers.specs.Store.{Stored, row, segment_bytes}
@@ -23,13 +24,20 @@ pub record PartListed : Type 0 where
   pub items : List ℕ → Style → ℕ → List Item
   pub cost : Opened → Stored → ℕ → ℕ → ℕ
 
+-- the section headers in the store, and the program headers
+abbrev pub store_sections : Stored → HeaderTable
+store_sections store = held_headers store.loaded (row store)
+
+abbrev pub store_segments : Stored → HeaderTable
+store_segments store = held_headers store.segments (segment_bytes store)
+
 -- the tables of a kind, as section headers describe them, and as program headers do
 abbrev pub of_sections : TableKind → PartListed
 of_sections kind = record {
   bit = kind.part;
   count = λ store. store.loaded;
   items = λ file style i. table_rows kind file style i (section_at file i);
-  cost = λ loaded store cap i. table_cost kind (row store i) 0 loaded.size cap;
+  cost = λ loaded store cap i. table_cost kind (store_sections store) i loaded.size cap;
 }
 
 abbrev pub of_segments : TableKind → PartListed
@@ -37,7 +45,7 @@ of_segments kind = record {
   bit = kind.part;
   count = λ store. store.segments;
   items = λ file style i. table_rows kind file style i (segment_at file i);
-  cost = λ loaded store cap i. table_cost kind (segment_bytes store i) 0 loaded.size cap;
+  cost = λ loaded store cap i. table_cost kind (store_segments store) i loaded.size cap;
 }
 
 -- the section headers, each with its name; and the program headers, which ask for nothing more

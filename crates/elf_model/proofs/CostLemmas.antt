@@ -1,16 +1,21 @@
 -- Costs add up within the ceiling.
-use Rattle.std.proofs.Common.{◌≡◌, ℕ, suc, zero, ◌+◌, ◌-◌, ◌*◌, ◌/◌, ◌%◌, ◌≤◌, ◌==◌, ◌&&◌, ◌||◌, not, Bool, true, false, List, [], ◌∷◌, ◌++◌, length, Some, refl, ap, ◌∙◌, arith, add-zero, zero-add}
+use Rattle.std.proofs.Common.{◌≡◌, ℕ, suc, zero, if◌then◌else◌, Option, None, Some, ◌+◌, ◌-◌, ◌*◌, ◌/◌, ◌%◌, ◌≤◌, ◌==◌, ◌&&◌, ◌||◌, not, Bool, true, false, List, [], ◌∷◌, ◌++◌, length, refl, ap, ◌∙◌, arith, add-zero, zero-add}
 use Rattle.std.proofs.Math.Nat.{mul-le-mul_left, mul-le-mul_right, mul-le-mul, div-mul-le_self, add-mul, mul-add}
 use Rattle.std.proofs.lemmas.Bool.Decides.{nat_tests}
 use Rattle.std.proofs.lemmas.Bool.{ltb-false, eqb-true}
 use Rattle.std.proofs.lemmas.Nat.{le-div}
 use Rattle.std.specs.Prelude.{is_none}
-use Rattle.elf_model.specs.Records.{e_shnum, e_phnum, e_shstrndx, sh_type, sh_offset, sh_size, sh_entsize, p_type, p_offset, p_filesz, section_at, segment_at}
+use Rattle.elf_model.specs.Records.{e_shnum, e_phnum, e_shstrndx, sh_type, sh_offset, sh_size, sh_link, sh_entsize, p_type, p_offset, p_filesz, section_at, segment_at}
 use Rattle.elf_model.specs.Names.{name_bytes}
-use Rattle.elf_model.specs.Checks.{Check, first_refusal, pass, header_checks, early_checks, is_outside, range_checks_of, whole_checks_of, table_checks_of}
+use Rattle.elf_model.specs.Checks.{Check, refuse, first_refusal, pass, header_checks, early_checks, is_outside, is_symbol_table, range_checks_of, whole_checks_of, table_checks_of}
 use Rattle.elf_model.specs.declared.causes.Refusal.{Refusal}
-use Rattle.elf_model.specs.Listing.{has, has_tables}
+use Rattle.elf_model.specs.Listing.{has, has_tables, known_parts}
 use Rattle.elf_model.specs.declared.causes.Cause.TheVariants.{EntrySize, SizeNotWhole, TableOutside}
+use Rattle.elf_model.specs.HeaderTables.{HeaderTable, TableKind, file_sections, file_segments, first_typed, header_field}
+use Rattle.elf_model.specs.VersionCost.{is_inside, links, has_strings, has_symbol_table, versioned_rows, versioned_cost, walk_cost, walks_cost}
+use Rattle.elf_model.specs.Numbers.{SHT_GNU_VERDEF, SHT_GNU_VERNEED}
+use Rattle.elf_model.specs.Versions.{DEFINITION_SIZE, DEFINED_NAME_SIZE, NEED_SIZE}
+use Rattle.elf_model.specs.VersionRows.{version_definitions, version_needs, symbol_versions}
 use Rattle.elf_model.specs.TableKinds.{TableHeaders, symbols, relocations, section_dynamic, section_notes, segment_notes, segment_dynamic, section_kinds, segment_kinds, by_sections, by_segments, table_headers}
 use Rattle.elf_model.specs.Cost.{sum_over, cost_where, table_cost, kinds_cost, is_loadable, needs_segments, sections_cost, segments_cost, tables_cost, behind_header as asked_behind, listing_cost, ceiling}
 use Rattle.elf_model.specs.Style.{viewed}
@@ -95,59 +100,155 @@ cost_where-and false b amount bound h = omega arith
 
 -- a section is of one kind
 one_kind : (type bound : ℕ)
-    → cost_where (type == 2 || type == 11) bound + cost_where (type == 4) bound + cost_where (type == 7) bound + cost_where (type == 6) bound ≤ bound
+    → cost_where (type == 2 || type == 11) bound + cost_where (type == 4) bound + cost_where (type == 7) bound + cost_where (type == 6) bound
+    + (cost_where (type == 0x6ffffffd) bound + cost_where (type == 0x6ffffffe) bound + cost_where (type == 0x6fffffff) bound) ≤ bound
 one_kind type bound = grind (arith, nat_tests)
 
--- each kind of table is within the bound, and costs nothing where the section is of another kind
-symbols-le : (bytes : List ℕ) (at size cap : ℕ)
-    → table_cost symbols bytes at size cap ≤ cost_where (sh_type bytes at == 2 || sh_type bytes at == 11) (table_bound size cap)
-unfolding table_cost symbols
-symbols-le bytes at size cap =
-    cost_where-and (sh_type bytes at == 2 || sh_type bytes at == 11) (pass (table_checks_of bytes at size at 24)) _ (table_bound size cap)
-    (λ h. entries_within 24 (name_bytes cap) (name_bytes cap) size (sh_size bytes at) (omega arith) (omega arith) (table_within bytes at size at 24 h))
+-- a table costs nothing where the header is of another kind
+kind-le : (kind : TableKind) (headers : HeaderTable) (i size cap bound : ℕ)
+    → (pass (kind.checks.own (headers.bytes i) (headers.at i) size) ≡ true → kind.asks headers i size cap ≤ bound)
+    → table_cost kind headers i size cap ≤ cost_where (kind.has_table (headers.bytes i) (headers.at i)) bound
+unfolding table_cost
+kind-le kind headers i size cap bound h =
+    cost_where-and (kind.has_table (headers.bytes i) (headers.at i)) (pass (kind.checks.own (headers.bytes i) (headers.at i) size)) (kind.asks headers i size cap) bound h
 
-relocations-le : (bytes : List ℕ) (at size cap : ℕ)
-    → table_cost relocations bytes at size cap ≤ cost_where (sh_type bytes at == 4) (table_bound size cap)
-unfolding table_cost relocations
-relocations-le bytes at size cap =
-    cost_where-and (sh_type bytes at == 4) (pass (table_checks_of bytes at size at 24)) _ (table_bound size cap)
-    (λ h. entries_within 24 (24 + name_bytes cap) (name_bytes cap) size (sh_size bytes at) (omega arith) (omega arith) (table_within bytes at size at 24 h))
-
-section_dynamic-le : (bytes : List ℕ) (at size cap : ℕ)
-    → table_cost section_dynamic bytes at size cap ≤ cost_where (sh_type bytes at == 6) (table_bound size cap)
-unfolding table_cost section_dynamic
-section_dynamic-le bytes at size cap =
-    cost_where-and (sh_type bytes at == 6) (pass (table_checks_of bytes at size at 16)) _ (table_bound size cap)
-    (λ h. entries_within 16 (name_bytes cap) (name_bytes cap) size (sh_size bytes at) (omega arith) (omega arith) (table_within bytes at size at 16 h))
-
-section_notes-le : (bytes : List ℕ) (at size cap : ℕ)
-    → table_cost section_notes bytes at size cap ≤ cost_where (sh_type bytes at == 7) (table_bound size cap)
-unfolding table_cost section_notes
-section_notes-le bytes at size cap =
-    cost_where-and (sh_type bytes at == 7) (pass (range_checks_of size (sh_offset bytes at) (sh_size bytes at) at)) (sh_size bytes at * 1) (table_bound size cap)
-    (λ h. let within = range_within size (sh_offset bytes at) (sh_size bytes at) at h in omega arith)
-
-segment_notes-le : (bytes : List ℕ) (at size cap : ℕ)
-    → table_cost segment_notes bytes at size cap ≤ cost_where (p_type bytes at == 4) size
-unfolding table_cost segment_notes
-segment_notes-le bytes at size cap =
-    cost_where-and (p_type bytes at == 4) (pass (range_checks_of size (p_offset bytes at) (p_filesz bytes at) at)) (p_filesz bytes at * 1) size
-    (λ h. let within = range_within size (p_offset bytes at) (p_filesz bytes at) at h in omega arith)
-
--- the tables of one section header are within the bound of one, whatever the parts
-pub section_kinds-le : (bytes : List ℕ) (at size cap parts : ℕ) → kinds_cost section_kinds bytes at size cap parts ≤ table_bound size cap
-unfolding kinds_cost
-section_kinds-le bytes at size cap parts =
-    let one = one_kind (sh_type bytes at) (table_bound size cap) in
-    let a = symbols-le bytes at size cap in
-    let b = relocations-le bytes at size cap in
-    let c = section_notes-le bytes at size cap in
-    let d = section_dynamic-le bytes at size cap in
-    let e = cost_where-le (has parts symbols.part) (table_cost symbols bytes at size cap) in
-    let f = cost_where-le (has parts relocations.part) (table_cost relocations bytes at size cap) in
-    let g = cost_where-le (has parts section_notes.part) (table_cost section_notes bytes at size cap) in
-    let h = cost_where-le (has parts section_dynamic.part) (table_cost section_dynamic bytes at size cap) in
+-- records of a table, each at a cost
+records_within : (entry each cap size table : ℕ) → 16 ≤ entry → each ≤ 32 + cap → table ≤ size → table / entry * each ≤ size + size / 16 * (32 + cap)
+records_within entry each cap size table e f t =
+    let d : table / entry * entry ≤ table = div-mul-le_self table entry in
+    let few : table / entry * 16 ≤ size = let m : table / entry * 16 ≤ table / entry * entry = mul-le-mul_left (table / entry) e in omega arith in
+    let n : table / entry ≤ size / 16 = le-div (table / entry) size 16 (omega arith) few in
+    let m : table / entry * each ≤ size / 16 * (32 + cap) = mul-le-mul n f in
     omega arith
+
+-- one walk over records in a file of so many bytes
+walk_within : (headers : HeaderTable) (size type entry bytes : ℕ) → 16 ≤ entry → walk_cost headers size type entry bytes ≤ size / entry * bytes
+unfolding walk_cost
+walk_within headers size type entry bytes e = by_found (first_typed headers type)
+  where
+    inside : (i : ℕ) → is_inside headers i size ≡ true → header_field headers sh_size i / entry * bytes ≤ size / entry * bytes
+    inside i h =
+        let table : ℕ = header_field headers sh_size i in
+        let low : table ≤ size = range_within size (header_field headers sh_offset i) table 0 (within (is_outside size (header_field headers sh_offset i) table) h) in
+        let d : table / entry * entry ≤ table = div-mul-le_self table entry in
+        mul-le-mul_right bytes (le-div (table / entry) size entry (omega arith) (omega arith))
+      where
+        within : (outside : Bool) → not outside ≡ true → pass (refuse outside 0 TableOutside ∷ []) ≡ true
+        within true h = cc
+        within false h = refl
+    by_found : (found : Option ℕ)
+        → (elim found as (λ _. ℕ) [ None ↦ 0 | Some i ↦ if is_inside headers i size then header_field headers sh_size i / entry * bytes else 0 ]) ≤ size / entry * bytes
+    by_found None = omega arith
+    by_found (Some i) = cost_where-within (is_inside headers i size) (header_field headers sh_size i / entry * bytes) (size / entry * bytes) (inside i)
+
+-- a condition of two parts has the second
+and-second : (a b : Bool) → a && b ≡ true → b ≡ true
+and-second true b h = h
+and-second false b h = cc
+
+and-first : (a b : Bool) → a && b ≡ true → a ≡ true
+and-first true b h = refl
+and-first false b h = cc
+
+-- The tables of one section header, each within the bound.
+module _ (headers : HeaderTable) (i size cap : ℕ) where
+  abbrev bound : ℕ
+  bound = table_bound size cap
+
+  table_fits : (at entry : ℕ) → pass (table_checks_of (headers.bytes at) (headers.at at) size (headers.at at) entry) ≡ true → header_field headers sh_size at ≤ size
+  table_fits at entry h = table_within (headers.bytes at) (headers.at at) size (headers.at at) entry h
+
+  symbols_fit : table_cost symbols headers i size cap ≤ cost_where (header_field headers sh_type i == 2 || header_field headers sh_type i == 11) bound
+  unfolding symbols
+  symbols_fit =
+      kind-le symbols headers i size cap bound (λ h.
+      entries_within 24 (name_bytes cap) (name_bytes cap) size (header_field headers sh_size i) (omega arith) (omega arith) (table_fits i 24 h))
+
+  relocations_fit : table_cost relocations headers i size cap ≤ cost_where (header_field headers sh_type i == 4) bound
+  unfolding relocations
+  relocations_fit =
+      kind-le relocations headers i size cap bound (λ h.
+      entries_within 24 (24 + name_bytes cap) (name_bytes cap) size (header_field headers sh_size i) (omega arith) (omega arith) (table_fits i 24 h))
+
+  dynamic_fits : table_cost section_dynamic headers i size cap ≤ cost_where (header_field headers sh_type i == 6) bound
+  unfolding section_dynamic
+  dynamic_fits =
+      kind-le section_dynamic headers i size cap bound (λ h.
+      entries_within 16 (name_bytes cap) (name_bytes cap) size (header_field headers sh_size i) (omega arith) (omega arith) (table_fits i 16 h))
+
+  range_fits : pass (range_checks_of size (header_field headers sh_offset i) (header_field headers sh_size i) (headers.at i)) ≡ true → header_field headers sh_size i ≤ size
+  range_fits h = range_within size (header_field headers sh_offset i) (header_field headers sh_size i) (headers.at i) h
+
+  notes_fit : table_cost section_notes headers i size cap ≤ cost_where (header_field headers sh_type i == 7) bound
+  unfolding section_notes
+  notes_fit = kind-le section_notes headers i size cap bound (λ h. let within = range_fits h in omega arith)
+
+  definitions_fit : table_cost version_definitions headers i size cap ≤ cost_where (header_field headers sh_type i == 0x6ffffffd) bound
+  unfolding version_definitions
+  definitions_fit =
+      kind-le version_definitions headers i size cap bound (λ h.
+      records_within 20 (28 + name_bytes cap) (name_bytes cap) size (header_field headers sh_size i) (omega arith) (omega arith) (range_fits h))
+
+  needs_fit : table_cost version_needs headers i size cap ≤ cost_where (header_field headers sh_type i == 0x6ffffffe) bound
+  unfolding version_needs
+  needs_fit =
+      kind-le version_needs headers i size cap bound (λ h.
+      records_within 16 (16 + name_bytes cap) (name_bytes cap) size (header_field headers sh_size i) (omega arith) (omega arith) (range_fits h))
+
+  -- the symbols that a section of version numbers links to
+  linked_fits : has_symbol_table headers i size ≡ true → header_field headers sh_size (header_field headers sh_link i) ≤ size
+  linked_fits h =
+      let link : ℕ = header_field headers sh_link i in
+      by_empty (header_field headers sh_size link == 0) refl
+      (and-second (links headers i && is_symbol_table (headers.bytes link) (headers.at link)) _ h)
+    where
+      by_empty : (empty : Bool) → (header_field headers sh_size (header_field headers sh_link i) == 0) ≡ empty
+          → (empty || (pass (table_checks_of (headers.bytes (header_field headers sh_link i)) (headers.at (header_field headers sh_link i)) size (headers.at (header_field headers sh_link i)) 24) && has_strings headers (header_field headers sh_link i) size)) ≡ true
+          → header_field headers sh_size (header_field headers sh_link i) ≤ size
+      by_empty true e h = let zero = eqb-true (header_field headers sh_size (header_field headers sh_link i)) 0 e in omega arith
+      by_empty false e h = table_fits (header_field headers sh_link i) 24 (and-first _ (has_strings headers (header_field headers sh_link i) size) h)
+
+  rows_fit : has_symbol_table headers i size ≡ true → versioned_rows headers i * (2 + name_bytes cap) + walks_cost headers size ≤ bound
+  unfolding walks_cost
+  rows_fit h =
+      let n : ℕ = name_bytes cap in
+      let linked : ℕ = header_field headers sh_size (header_field headers sh_link i) in
+      let fits : linked ≤ size = linked_fits h in
+      let d : linked / 24 * 24 ≤ linked = div-mul-le_self linked 24 in
+      let few : linked / 24 ≤ size / 16 = le-div (linked / 24) size 16 (omega arith) (omega arith) in
+      let least : versioned_rows headers i ≤ linked / 24 = omega arith in
+      let rows : versioned_rows headers i * (2 + n) ≤ size / 16 * (2 + n) = mul-le-mul_right (2 + n) (omega arith) in
+      let first = walk_within headers size SHT_GNU_VERDEF DEFINITION_SIZE (DEFINITION_SIZE + DEFINED_NAME_SIZE) (omega arith) in
+      let second = walk_within headers size SHT_GNU_VERNEED NEED_SIZE NEED_SIZE (omega arith) in
+      let e : size / 20 * 20 ≤ size = div-mul-le_self size 20 in
+      let fewer : size / 20 ≤ size / 16 = le-div (size / 20) size 16 (omega arith) (omega arith) in
+      let s : size / 16 * 16 ≤ size = div-mul-le_self size 16 in
+      let sum : size / 16 * (32 + n) ≡ size / 16 * (2 + n) + size / 16 * 30 = ap (λ (k : ℕ). size / 16 * k) (omega arith) ∙ mul-add (size / 16) (2 + n) 30 in
+      omega arith
+
+  versions_fit : table_cost symbol_versions headers i size cap ≤ cost_where (header_field headers sh_type i == 0x6fffffff) bound
+  unfolding symbol_versions versioned_cost
+  versions_fit =
+      kind-le symbol_versions headers i size cap bound (λ h.
+      cost_where-within (has_symbol_table headers i size && not (header_field headers sh_size i == 0)) _ bound (λ some.
+      rows_fit (and-first (has_symbol_table headers i size) (not (header_field headers sh_size i == 0)) some)))
+
+  -- all of them, whatever the parts
+  pub section_kinds-le : (parts : ℕ) → kinds_cost section_kinds headers i size cap parts ≤ bound
+  unfolding kinds_cost
+  section_kinds-le parts =
+      let one = one_kind (header_field headers sh_type i) bound in
+      let a = asked parts symbols in
+      let b = asked parts relocations in
+      let c = asked parts section_notes in
+      let d = asked parts section_dynamic in
+      let e = asked parts version_definitions in
+      let f = asked parts version_needs in
+      let g = asked parts symbol_versions in
+      omega (arith, one, a, b, c, d, e, f, g, symbols_fit, relocations_fit, notes_fit, dynamic_fits, definitions_fit, needs_fit, versions_fit)
+    where
+      asked : (parts : ℕ) (kind : TableKind) → cost_where (has parts kind.part) (table_cost kind headers i size cap) ≤ table_cost kind headers i size cap
+      asked parts kind = cost_where-le (has parts kind.part) (table_cost kind headers i size cap)
 
 -- a segment is of one kind
 one_segment_kind : (type size bound : ℕ) → size ≤ bound → cost_where (type == 4) size + cost_where (type == 2) bound ≤ bound
@@ -155,30 +256,29 @@ one_segment_kind type size bound h = grind (arith, nat_tests)
 
 -- so many entries of 16 bytes, each gone through twice and with a name
 twice_within : (size table name : ℕ) → table ≤ size → table / 16 * (2 * 16 + name) ≤ size + size / 16 * (32 + name)
-twice_within size table name t =
-    let d : table / 16 * 16 ≤ table = div-mul-le_self table 16 in
-    let n : table / 16 ≤ size / 16 = le-div (table / 16) size 16 (omega arith) (omega arith) in
-    let m : table / 16 * (32 + name) ≤ size / 16 * (32 + name) = mul-le-mul_right (32 + name) n in
-    let e : table / 16 * (2 * 16 + name) ≡ table / 16 * (32 + name) = ap (λ (k : ℕ). table / 16 * (k + name)) refl in
-    omega arith
+twice_within size table name t = records_within 16 (2 * 16 + name) name size table (omega arith) (omega arith) t
 
-segment_dynamic-le : (bytes : List ℕ) (at size cap : ℕ)
-    → table_cost segment_dynamic bytes at size cap ≤ cost_where (p_type bytes at == 2) (table_bound size cap)
-unfolding table_cost segment_dynamic
-segment_dynamic-le bytes at size cap =
-    cost_where-and (p_type bytes at == 2) (pass (whole_checks_of size (p_offset bytes at) (p_filesz bytes at) at 16)) _ (table_bound size cap)
-    (λ h. twice_within size (p_filesz bytes at) (name_bytes cap) (whole_within size (p_offset bytes at) (p_filesz bytes at) at 16 h))
+-- The tables of one program header.
+module _ (headers : HeaderTable) (i size cap : ℕ) where
+  segment_notes_fit : table_cost segment_notes headers i size cap ≤ cost_where (header_field headers p_type i == 4) size
+  unfolding segment_notes
+  segment_notes_fit =
+      kind-le segment_notes headers i size cap size (λ h.
+      let within = range_within size (header_field headers p_offset i) (header_field headers p_filesz i) (headers.at i) h in omega arith)
 
--- and those of one program header
-pub segment_kinds-le : (bytes : List ℕ) (at size cap parts : ℕ) → kinds_cost segment_kinds bytes at size cap parts ≤ table_bound size cap
-unfolding kinds_cost
-segment_kinds-le bytes at size cap parts =
-    let one = one_segment_kind (p_type bytes at) size (table_bound size cap) (omega arith) in
-    let a = segment_notes-le bytes at size cap in
-    let b = segment_dynamic-le bytes at size cap in
-    let c = cost_where-le (has parts segment_notes.part) (table_cost segment_notes bytes at size cap) in
-    let d = cost_where-le (has parts segment_dynamic.part) (table_cost segment_dynamic bytes at size cap) in
-    omega arith
+  segment_dynamic_fits : table_cost segment_dynamic headers i size cap ≤ cost_where (header_field headers p_type i == 2) (table_bound size cap)
+  unfolding segment_dynamic
+  segment_dynamic_fits =
+      kind-le segment_dynamic headers i size cap (table_bound size cap) (λ h.
+      twice_within size (header_field headers p_filesz i) (name_bytes cap) (whole_within size (header_field headers p_offset i) (header_field headers p_filesz i) (headers.at i) 16 h))
+
+  pub segment_kinds-le : (parts : ℕ) → kinds_cost segment_kinds headers i size cap parts ≤ table_bound size cap
+  unfolding kinds_cost
+  segment_kinds-le parts =
+      let one = one_segment_kind (header_field headers p_type i) size (table_bound size cap) (omega arith) in
+      let a = cost_where-le (has parts segment_notes.part) (table_cost segment_notes headers i size cap) in
+      let b = cost_where-le (has parts segment_dynamic.part) (table_cost segment_dynamic headers i size cap) in
+      omega (arith, one, a, b, segment_notes_fit, segment_dynamic_fits)
 
 -- a sum of costs within a bound
 pub sum_over-le : (amount : ℕ → ℕ) (bound first count : ℕ) → ((i : ℕ) → amount i ≤ bound) → sum_over amount first count ≤ count * bound
@@ -219,7 +319,7 @@ loadable-within file headers h =
 
 -- what the tables cost that some headers describe
 abbrev pub tables_by : (file : List ℕ) (cap parts : ℕ) → TableHeaders → ℕ
-tables_by file cap parts headers = sum_over (λ i. kinds_cost headers.kinds file (headers.at i) (length file) cap parts) 0 headers.count
+tables_by file cap parts tables = sum_over (λ i. kinds_cost tables.kinds tables.headers i (length file) cap parts) 0 tables.headers.count
 
 pub headers_none : (file : List ℕ) → (e_shnum file == 0) ≡ true → table_headers file ≡ by_segments file
 unfolding table_headers
@@ -245,8 +345,8 @@ unfolding sections_cost segments_cost tables_cost
 without_sections file cap parts headers z p =
     let n : e_shnum file ≡ 0 = eqb-true (e_shnum file) 0 z in
     let bound : ℕ = table_bound (length file) cap in
-    let tables = sum_over-le (λ i. kinds_cost segment_kinds file (segment_at file i) (length file) cap parts) bound 0 (e_phnum file)
-    (λ i. segment_kinds-le file (segment_at file i) (length file) cap parts) in
+    let tables = sum_over-le (λ i. kinds_cost segment_kinds (file_segments file) i (length file) cap parts) bound 0 (e_phnum file)
+    (λ i. segment_kinds-le (file_segments file) i (length file) cap parts) in
     let same = ap (tables_by file cap parts) (headers_none file z) in
     let a = cost_where-le (needs_segments file parts) (56 * e_phnum file) in
     let c = cost_where-le (has parts 2 && not (e_shstrndx file == 0)) (e_shnum file * name_bytes cap) in
@@ -262,8 +362,8 @@ unfolding sections_cost segments_cost tables_cost
 with_sections file cap parts headers z s p =
     let n : ℕ = name_bytes cap in
     let bound : ℕ = table_bound (length file) cap in
-    let tables = sum_over-le (λ i. kinds_cost section_kinds file (section_at file i) (length file) cap parts) bound 0 (e_shnum file)
-    (λ i. section_kinds-le file (section_at file i) (length file) cap parts) in
+    let tables = sum_over-le (λ i. kinds_cost section_kinds (file_sections file) i (length file) cap parts) bound 0 (e_shnum file)
+    (λ i. section_kinds-le (file_sections file) i (length file) cap parts) in
     let same = ap (tables_by file cap parts) (headers_some file z) in
     let a = cost_where-le (needs_segments file parts) (56 * e_phnum file) in
     let c = cost_where-le (has parts 2 && not (e_shstrndx file == 0)) (e_shnum file * n) in
@@ -283,11 +383,6 @@ behind_header file cap parts headers false z h =
     let l = loadable-within file headers h in
     with_sections file cap parts headers z l.0 l.1
 
--- a condition of two parts has the second
-and-second : (a b : Bool) → a && b ≡ true → b ≡ true
-and-second true b h = h
-and-second false b h = cc
-
 -- what a listing asks for is within it
 behind_within : (file : List ℕ) (headers cap parts : ℕ) → 64 + asked_behind file headers cap parts ≤ ceiling (length file) headers cap
 unfolding ceiling
@@ -304,4 +399,4 @@ behind_within file headers cap parts =
 pub cost_within : CostIsWithinCeiling
 unfolding listing_cost
 cost_within file headers style parts =
-    rw (view_length style file) at (behind_within (viewed style file) headers style.cap parts)
+    rw (view_length style file) at (behind_within (viewed style file) headers style.cap (known_parts style parts))

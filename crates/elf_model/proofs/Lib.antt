@@ -35,6 +35,8 @@ pub mod StoreLemmas
 pub mod StyleLemmas
 pub mod ValueLaws
 pub mod VersionLaws
+pub mod VersionNameLaws
+mod VersionCheckLaws
 pub mod VersionRowLaws
 pub mod VersionSteps
 pub mod WalkLaws

@@ -12,8 +12,8 @@ use Rattle.elf_model.specs.Mapped.{mapped_at, mapped_checks}
 use Rattle.elf_model.specs.Numbers.{SHT_GNU_VERSYM, SHT_GNU_VERDEF, SHT_GNU_VERNEED, DT_SYMTAB, DT_STRTAB, DT_STRSZ, DT_VERSYM, DT_VERDEF, DT_VERNEED}
 use Rattle.elf_model.specs.Records.{e_shnum, sh_offset, sh_size, sh_link, section_at, segment_at, p_offset, p_filesz, d_un}
 use Rattle.elf_model.specs.Tables.{all_checks, strings_of, segment_dynamic_checks}
-use Rattle.elf_model.specs.VersionRows.{VERSYM_SIZE, first_of_type, version_table}
-use Rattle.elf_model.specs.Versions.{record_size, most_records}
+use Rattle.elf_model.specs.VersionRows.{first_of_type, version_table}
+use Rattle.elf_model.specs.Versions.{VERSYM_SIZE, record_size, most_records}
 use Rattle.elf_model.specs.declared.causes.Cause.TheVariants.{BadLink, HashShape, Unmapped}
 use Rattle.elf_model.specs.declared.causes.Refusal.{Refusal}
 use Rattle.elf_model.specs.declared.versions.VersionKind.{VersionKind}

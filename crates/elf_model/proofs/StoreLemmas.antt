@@ -1,15 +1,21 @@
 -- Section headers that are read at their own bytes cost what they cost in the file.
-use Rattle.std.proofs.Common.{◌≡◌, ℕ, suc, zero, ◌+◌, ◌*◌, ◌/◌, ◌%◌, ◌<◌, ◌≤◌, ◌==◌, not, Bool, true, false, List, [], ◌∷◌, length, refl, ap, ◌∙◌, arith, add-zero}
+use Rattle.std.proofs.Common.{◌≡◌, ℕ, suc, zero, ◌+◌, ◌*◌, ◌/◌, ◌%◌, ◌<◌, ◌≤◌, ◌==◌, ◌&&◌, ◌||◌, nat_lt, min, not, if◌then◌else◌, Bool, true, false, List, [], ◌∷◌, length, Option, None, Some, refl, ap, ap₂, ◌∙◌, arith, add-zero}
 use Rattle.std.proofs.Math.Nat.{mul-le-mul_right, mul-add}
-use Rattle.std.proofs.lemmas.Bool.{eqb-true}
-use Rattle.elf_model.specs.Bytes.{slice}
+use Rattle.std.proofs.lemmas.Bool.{eqb-true, ltb-true}
+use Rattle.elf_model.specs.Bytes.{slice, field}
 use Rattle.elf_model.proofs.Slices.{field-slice}
-use Rattle.elf_model.specs.Records.{e_shnum, e_phnum, sh_offset, sh_size, sh_entsize, p_offset, p_filesz, section_at, segment_at}
+use Rattle.elf_model.specs.Records.{SECTION_HEADER_SIZE, PROGRAM_HEADER_SIZE, e_shnum, e_phnum, sh_type, sh_offset, sh_size, sh_link, sh_entsize, p_offset, p_filesz, section_at, segment_at}
 use Rattle.elf_model.specs.Names.{name_bytes}
-use Rattle.elf_model.specs.Checks.{pass, refuse, is_outside, table_checks_of, whole_checks_of, range_checks_of}
+use Rattle.elf_model.specs.Checks.{pass, refuse, is_outside, is_symbol_table, table_checks_of, whole_checks_of, range_checks_of}
 use Rattle.elf_model.specs.declared.causes.Cause.TheVariants.{EntrySize, SizeNotWhole, TableOutside}
 use Rattle.elf_model.specs.Listing.{has}
+use Rattle.elf_model.specs.Find.{first_that}
+use Rattle.elf_model.specs.HeaderTables.{HeaderTable, TableKind, file_sections, file_segments, held_headers, first_typed, header_field}
+use Rattle.elf_model.specs.Numbers.{SHT_GNU_VERDEF, SHT_GNU_VERNEED}
 use Rattle.elf_model.specs.TableKinds.{symbols, relocations, section_dynamic, section_notes, section_kinds, segment_notes, segment_dynamic, segment_kinds}
+use Rattle.elf_model.specs.VersionCost.{is_inside, has_strings, versioned_cost, walk_cost, walks_cost}
+use Rattle.elf_model.specs.VersionRows.{version_definitions, version_needs, symbol_versions}
+use Rattle.elf_model.specs.Versions.{DEFINITION_SIZE, DEFINED_NAME_SIZE, NEED_SIZE}
 use Rattle.elf_model.specs.Cost.{sum_over, cost_where, table_cost, kinds_cost, tables_cost, ceiling}
 use Rattle.elf_model.specs.CostLaws.{PlacesDecideNothing, RowsCostWhatTheFileCosts, SegmentsCostWhatTheFileCosts, kind_by_kind, TablesCostKindByKind, AnyRowsAreWithinCeiling, AnySegmentsAreWithinCeiling}
 use Rattle.elf_model.proofs.CostLemmas.{table_bound, section_kinds-le, segment_kinds-le, headers_within, sum_over-le, tables_by, headers_some}
@@ -41,12 +47,6 @@ same_range bytes at size =
     rw (field-slice bytes at 64 24 8 (omega arith), field-slice bytes at 64 32 8 (omega arith))
     (range-pass (is_outside size (sh_offset bytes at) (sh_size bytes at)) 0 at)
 
-kinds_cost_of_slice : (file : List ℕ) (at size cap parts : ℕ)
-    → kinds_cost section_kinds (slice file at 64) 0 size cap parts ≡ kinds_cost section_kinds file at size cap parts
-unfolding kinds_cost table_cost symbols relocations section_notes section_dynamic
-kinds_cost_of_slice file at size cap parts =
-    rw (same_checks file at size 24, same_checks file at size 16, same_range file at size, field-slice file at 64 4 4 (omega arith), field-slice file at 64 32 8 (omega arith)) refl
-
 -- sums of equal costs
 pub sum_over-equal : (amount other : ℕ → ℕ) (first count : ℕ) → ((i : ℕ) → first ≤ i → i < first + count → amount i ≡ other i)
     → sum_over amount first count ≡ sum_over other first count
@@ -57,12 +57,153 @@ sum_over-equal amount other first (suc count) h =
     let more = sum_over-equal amount other (suc first) count (λ i a b. h i (omega arith) (omega arith)) in
     cc
 
+-- a kind of table costs the same by headers that tell the same
+kind-equal : (kind : TableKind) (some all : HeaderTable) (i size cap : ℕ)
+    → kind.has_table (some.bytes i) (some.at i) ≡ kind.has_table (all.bytes i) (all.at i)
+    → pass (kind.checks.own (some.bytes i) (some.at i) size) ≡ pass (kind.checks.own (all.bytes i) (all.at i) size)
+    → kind.asks some i size cap ≡ kind.asks all i size cap
+    → table_cost kind some i size cap ≡ table_cost kind all i size cap
+unfolding table_cost
+kind-equal kind some all i size cap has own asks = rw (has, own, asks) refl
+
+-- a search among tests that agree
+first_that-equal : (test other : ℕ → Bool) (first count : ℕ) → ((i : ℕ) → first ≤ i → i < first + count → test i ≡ other i)
+    → first_that test first count ≡ first_that other first count
+unfolding first_that
+first_that-equal test other first zero h = refl
+first_that-equal test other first (suc count) h =
+    let here = h first (omega arith) (omega arith) in
+    let more = first_that-equal test other (suc first) count (λ i a b. h i (omega arith) (omega arith)) in
+    ap (λ passes. elim passes as (λ _. Option ℕ) [ true ↦ Some first | false ↦ first_that test (suc first) count ]) here
+    ∙ ap (λ (rest : Option ℕ). elim (other first) as (λ _. Option ℕ) [ true ↦ Some first | false ↦ rest ]) more
+
+first_that-below : (test : ℕ → Bool) (first count i : ℕ) → first_that test first count ≡ Some i → i < first + count
+unfolding first_that
+first_that-below test first zero i h = cc
+first_that-below test first (suc count) i h = by_test (first_that-below test (suc first) count i) (test first) h
+  where
+    by_test : (first_that test (suc first) count ≡ Some i → i < suc first + count) → (passes : Bool)
+        → (elim passes as (λ _. Option ℕ) [ true ↦ Some first | false ↦ first_that test (suc first) count ]) ≡ Some i → i < first + suc count
+    by_test more true h = let same : first ≡ i = cc in omega arith
+    by_test more false h = let below = more h in omega arith
+
+-- The section headers of a file, each held in bytes of its own.
+module _ (file : List ℕ) (row : ℕ → List ℕ) (is : (i : ℕ) → i < e_shnum file → row i ≡ slice file (section_at file i) SECTION_HEADER_SIZE) where
+  abbrev held : HeaderTable
+  held = held_headers (e_shnum file) row
+
+  abbrev all : HeaderTable
+  all = file_sections file
+
+  field_held : (i at width : ℕ) → i < e_shnum file → at + width ≤ 64 → field (row i) at width ≡ field file (section_at file i + at) width
+  field_held i at width below within = ap (λ bytes. field bytes at width) (is i below) ∙ field-slice file (section_at file i) 64 at width within
+
+  type_held : (i : ℕ) → i < e_shnum file → header_field held sh_type i ≡ header_field all sh_type i
+  type_held i below = field_held i 4 4 below (omega arith)
+
+  offset_held : (i : ℕ) → i < e_shnum file → header_field held sh_offset i ≡ header_field all sh_offset i
+  offset_held i below = field_held i 24 8 below (omega arith)
+
+  size_held : (i : ℕ) → i < e_shnum file → header_field held sh_size i ≡ header_field all sh_size i
+  size_held i below = field_held i 32 8 below (omega arith)
+
+  link_held : (i : ℕ) → i < e_shnum file → header_field held sh_link i ≡ header_field all sh_link i
+  link_held i below = field_held i 40 4 below (omega arith)
+
+  table_held : (i size entry : ℕ) → i < e_shnum file
+      → pass (table_checks_of (row i) 0 size 0 entry) ≡ pass (table_checks_of file (section_at file i) size (section_at file i) entry)
+  table_held i size entry below = ap (λ bytes. pass (table_checks_of bytes 0 size 0 entry)) (is i below) ∙ same_checks file (section_at file i) size entry
+
+  range_held : (i size : ℕ) → i < e_shnum file
+      → pass (range_checks_of size (sh_offset (row i) 0) (sh_size (row i) 0) 0)
+      ≡ pass (range_checks_of size (header_field all sh_offset i) (header_field all sh_size i) (section_at file i))
+  range_held i size below = ap (λ bytes. pass (range_checks_of size (sh_offset bytes 0) (sh_size bytes 0) 0)) (is i below) ∙ same_range file (section_at file i) size
+
+  inside_held : (i size : ℕ) → i < e_shnum file → is_inside held i size ≡ is_inside all i size
+  inside_held i size below = rw (offset_held i below, size_held i below) refl
+
+  symbols_held : (i : ℕ) → i < e_shnum file → is_symbol_table (row i) 0 ≡ is_symbol_table file (section_at file i)
+  symbols_held i below = ap (λ n. n == 2 || n == 11) (type_held i below)
+
+  first_held : (type : ℕ) → first_typed held type ≡ first_typed all type
+  first_held type =
+      first_that-equal (λ i. header_field held sh_type i == type) (λ i. header_field all sh_type i == type) 0 (e_shnum file)
+      (λ i _ below. ap (λ n. n == type) (type_held i (omega arith)))
+
+  walk_held : (size type entry bytes : ℕ) → walk_cost held size type entry bytes ≡ walk_cost all size type entry bytes
+  unfolding walk_cost
+  walk_held size type entry bytes =
+      ap (λ found. elim found as (λ _. ℕ) [ None ↦ 0 | Some i ↦ if is_inside held i size then header_field held sh_size i / entry * bytes else 0 ]) (first_held type)
+      ∙ by_found (first_typed all type) refl
+    where
+      by_found : (found : Option ℕ) → first_typed all type ≡ found
+          → (elim found as (λ _. ℕ) [ None ↦ 0 | Some i ↦ if is_inside held i size then header_field held sh_size i / entry * bytes else 0 ])
+          ≡ (elim found as (λ _. ℕ) [ None ↦ 0 | Some i ↦ if is_inside all i size then header_field all sh_size i / entry * bytes else 0 ])
+      by_found None f = refl
+      by_found (Some i) f =
+          let few = first_that-below (λ i. header_field all sh_type i == type) 0 (e_shnum file) i f in
+          let below : i < e_shnum file = omega arith in
+          rw (inside_held i size below, size_held i below) refl
+
+  walks_held : (size : ℕ) → walks_cost held size ≡ walks_cost all size
+  unfolding walks_cost
+  walks_held size =
+      ap₂ ◌+◌ (walk_held size SHT_GNU_VERDEF DEFINITION_SIZE (DEFINITION_SIZE + DEFINED_NAME_SIZE)) (walk_held size SHT_GNU_VERNEED NEED_SIZE NEED_SIZE)
+
+  -- the strings to which a header links
+  strings_held : (i size : ℕ) → i < e_shnum file → has_strings held i size ≡ has_strings all i size
+  strings_held i size below =
+      ap (λ link. (nat_lt link (e_shnum file) && not (link == 0)) && (header_field held sh_type link == 3 && is_inside held link size)) (link_held i below)
+      ∙ by_link (header_field all sh_link i) (nat_lt (header_field all sh_link i) (e_shnum file)) refl
+    where
+      by_link : (link : ℕ) (few : Bool) → nat_lt link (e_shnum file) ≡ few
+          → ((nat_lt link (e_shnum file) && not (link == 0)) && (header_field held sh_type link == 3 && is_inside held link size))
+          ≡ ((nat_lt link (e_shnum file) && not (link == 0)) && (header_field all sh_type link == 3 && is_inside all link size))
+      by_link link false e = rw e refl
+      by_link link true e = let below : link < e_shnum file = ltb-true link (e_shnum file) e in rw (type_held link below, inside_held link size below) refl
+
+  -- the rows of version numbers
+  abbrev versions_by : HeaderTable → (i own link size cap : ℕ) → ℕ
+  versions_by headers i own link size cap =
+      if (((nat_lt link headers.count && not (link == 0)) && is_symbol_table (headers.bytes link) (headers.at link))
+      && (header_field headers sh_size link == 0 || (pass (table_checks_of (headers.bytes link) (headers.at link) size (headers.at link) 24) && has_strings headers link size)))
+      && not (own == 0)
+      then min (own / 2) (header_field headers sh_size link / 24) * (2 + name_bytes cap) + walks_cost headers size
+      else 0
+
+  versions_held : (i size cap : ℕ) → i < e_shnum file → versioned_cost held i size cap ≡ versioned_cost all i size cap
+  unfolding versioned_cost
+  versions_held i size cap below =
+      ap₂ (λ own link. versions_by held i own link size cap) (size_held i below) (link_held i below)
+      ∙ by_link (header_field all sh_size i) (header_field all sh_link i) (nat_lt (header_field all sh_link i) (e_shnum file)) refl
+    where
+      by_link : (own link : ℕ) (few : Bool) → nat_lt link (e_shnum file) ≡ few → versions_by held i own link size cap ≡ versions_by all i own link size cap
+      by_link own link false e = rw e refl
+      by_link own link true e =
+          let below : link < e_shnum file = ltb-true link (e_shnum file) e in
+          rw (table_held link size 24 below, strings_held link size below, symbols_held link below, size_held link below, walks_held size) refl
+
+  kinds_held : (i cap parts : ℕ) → i < e_shnum file
+      → kinds_cost section_kinds held i (length file) cap parts ≡ kinds_cost section_kinds all i (length file) cap parts
+  unfolding kinds_cost symbols relocations section_notes section_dynamic version_definitions version_needs symbol_versions
+  kinds_held i cap parts below =
+      let size : ℕ = length file in
+      let type = type_held i below in
+      let entries : ℕ → ℕ → ℕ = λ entry each. header_field held sh_size i / entry * each in
+      let a = kind-equal symbols held all i size cap (symbols_held i below) (table_held i size 24 below) (ap (λ n. n / 24 * (24 + name_bytes cap)) (size_held i below)) in
+      let b = kind-equal relocations held all i size cap (ap (λ n. n == 4) type) (table_held i size 24 below) (ap (λ n. n / 24 * (24 + (24 + name_bytes cap))) (size_held i below)) in
+      let c = kind-equal section_notes held all i size cap (ap (λ n. n == 7) type) (range_held i size below) (ap (λ n. n * 1) (size_held i below)) in
+      let d = kind-equal section_dynamic held all i size cap (ap (λ n. n == 6) type) (table_held i size 16 below) (ap (λ n. n / 16 * (16 + name_bytes cap)) (size_held i below)) in
+      let e = kind-equal version_definitions held all i size cap (ap (λ n. n == 0x6ffffffd) type) (range_held i size below) (ap (λ n. n / 20 * (28 + name_bytes cap)) (size_held i below)) in
+      let f = kind-equal version_needs held all i size cap (ap (λ n. n == 0x6ffffffe) type) (range_held i size below) (ap (λ n. n / 16 * (16 + name_bytes cap)) (size_held i below)) in
+      let g = kind-equal symbol_versions held all i size cap (ap (λ n. n == 0x6fffffff) type) (table_held i size 2 below) (versions_held i size cap below) in
+      rw (a, b, c, d, e, f, g) refl
+
 pub rows_cost : RowsCostWhatTheFileCosts
-rows_cost file row cap parts h =
-    sum_over-equal (λ i. kinds_cost section_kinds (row i) 0 (length file) cap parts) (λ i. kinds_cost section_kinds file (section_at file i) (length file) cap parts)
-    0 (e_shnum file)
-    (λ i a b. ap (λ bytes. kinds_cost section_kinds bytes 0 (length file) cap parts) (h i (omega arith))
-    ∙ kinds_cost_of_slice file (section_at file i) (length file) cap parts)
+rows_cost file row cap parts is =
+    sum_over-equal (λ i. kinds_cost section_kinds (held_headers (e_shnum file) row) i (length file) cap parts)
+    (λ i. kinds_cost section_kinds (file_sections file) i (length file) cap parts)
+    0 (e_shnum file) (λ i _ below. kinds_held file row is i cap parts (omega arith))
 
 -- a program header's cost at its own bytes
 whole-pass : (b c : Bool) (p q : ℕ) → pass (refuse b p SizeNotWhole ∷ refuse c p TableOutside ∷ []) ≡ pass (refuse b q SizeNotWhole ∷ refuse c q TableOutside ∷ [])
@@ -82,27 +223,27 @@ same_segment_range bytes at size =
     rw (field-slice bytes at 56 8 8 (omega arith), field-slice bytes at 56 32 8 (omega arith))
     (range-pass (is_outside size (p_offset bytes at) (p_filesz bytes at)) 0 at)
 
-segment_cost_of_slice : (file : List ℕ) (at size cap parts : ℕ)
-    → kinds_cost segment_kinds (slice file at 56) 0 size cap parts ≡ kinds_cost segment_kinds file at size cap parts
+segment_held : (file : List ℕ) (row : ℕ → List ℕ) (count i size cap parts : ℕ) → row i ≡ slice file (segment_at file i) PROGRAM_HEADER_SIZE
+    → kinds_cost segment_kinds (held_headers count row) i size cap parts ≡ kinds_cost segment_kinds (file_segments file) i size cap parts
 unfolding kinds_cost table_cost segment_notes segment_dynamic
-segment_cost_of_slice file at size cap parts =
-    rw (same_whole file at size, same_segment_range file at size, field-slice file at 56 0 4 (omega arith), field-slice file at 56 32 8 (omega arith), add-zero at) refl
+segment_held file row count i size cap parts is =
+    let at : ℕ = segment_at file i in
+    rw (is, same_whole file at size, same_segment_range file at size, field-slice file at 56 0 4 (omega arith), field-slice file at 56 32 8 (omega arith), add-zero at) refl
 
 pub segments_cost_rows : SegmentsCostWhatTheFileCosts
-segments_cost_rows file row cap parts h =
-    sum_over-equal (λ i. kinds_cost segment_kinds (row i) 0 (length file) cap parts) (λ i. kinds_cost segment_kinds file (segment_at file i) (length file) cap parts)
-    0 (e_phnum file)
-    (λ i a b. ap (λ bytes. kinds_cost segment_kinds bytes 0 (length file) cap parts) (h i (omega arith))
-    ∙ segment_cost_of_slice file (segment_at file i) (length file) cap parts)
+segments_cost_rows file row cap parts is =
+    sum_over-equal (λ i. kinds_cost segment_kinds (held_headers (e_phnum file) row) i (length file) cap parts)
+    (λ i. kinds_cost segment_kinds (file_segments file) i (length file) cap parts)
+    0 (e_phnum file) (λ i _ below. segment_held file row (e_phnum file) i (length file) cap parts (is i (omega arith)))
 
 -- what the sections' tables cost is among the costs of all
 pub sections_counted : (file : List ℕ) (cap parts : ℕ)
-    → sum_over (λ i. kinds_cost section_kinds file (section_at file i) (length file) cap parts) 0 (e_shnum file) ≤ tables_cost file cap parts
+    → sum_over (λ i. kinds_cost section_kinds (file_sections file) i (length file) cap parts) 0 (e_shnum file) ≤ tables_cost file cap parts
 unfolding tables_cost sum_over
 sections_counted file cap parts = by_cases (e_shnum file == 0) refl
   where
     by_cases : (none : Bool) → (e_shnum file == 0) ≡ none
-        → sum_over (λ i. kinds_cost section_kinds file (section_at file i) (length file) cap parts) 0 (e_shnum file) ≤ tables_cost file cap parts
+        → sum_over (λ i. kinds_cost section_kinds (file_sections file) i (length file) cap parts) 0 (e_shnum file) ≤ tables_cost file cap parts
     by_cases true h = let zero : e_shnum file ≡ 0 = eqb-true (e_shnum file) 0 h in rw zero (omega arith)
     by_cases false h = let same = ap (tables_by file cap parts) (headers_some file h) in omega arith
 
@@ -125,20 +266,20 @@ sum_over-where false amount first count = sum_over-zero first count
 
 pub by_kind : TablesCostKindByKind
 unfolding kinds_cost kind_by_kind
-by_kind [] row at size cap parts count = sum_over-zero 0 count
-by_kind (kind ∷ kinds) row at size cap parts count =
-    let one : ℕ → ℕ = λ i. table_cost kind (row i) (at i) size cap in
-    let split = sum_over-add (λ i. cost_where (has parts kind.part) (one i)) (λ i. kinds_cost kinds (row i) (at i) size cap parts) 0 count in
+by_kind [] headers size cap parts count = sum_over-zero 0 count
+by_kind (kind ∷ kinds) headers size cap parts count =
+    let one : ℕ → ℕ = λ i. table_cost kind headers i size cap in
+    let split = sum_over-add (λ i. cost_where (has parts kind.part) (one i)) (λ i. kinds_cost kinds headers i size cap parts) 0 count in
     let first = sum_over-where (has parts kind.part) one 0 count in
-    let more = by_kind kinds row at size cap parts count in
+    let more = by_kind kinds headers size cap parts count in
     omega arith
 
 pub any_rows : AnyRowsAreWithinCeiling
 unfolding ceiling
-any_rows row size headers cap parts sections segments s p =
+any_rows table size headers cap parts sections segments s p =
     let n : ℕ = name_bytes cap in
     let bound : ℕ = table_bound size cap in
-    let tables = sum_over-le (λ i. kinds_cost section_kinds (row i) 0 size cap parts) bound 0 sections (λ i. section_kinds-le (row i) 0 size cap parts) in
+    let tables = sum_over-le (λ i. kinds_cost section_kinds table i size cap parts) bound 0 sections (λ i. section_kinds-le table i size cap parts) in
     let m : sections * (64 + n + bound) ≤ headers * (64 + n + bound) = mul-le-mul_right (64 + n + bound) s in
     let e : sections * (64 + n + bound) ≡ sections * 64 + sections * n + sections * bound =
     mul-add sections (64 + n) bound ∙ ap (λ k. k + sections * bound) (mul-add sections 64 n) in
@@ -148,9 +289,9 @@ any_rows row size headers cap parts sections segments s p =
 
 pub any_segments : AnySegmentsAreWithinCeiling
 unfolding ceiling
-any_segments row size headers cap parts segments p =
+any_segments table size headers cap parts segments p =
     let bound : ℕ = table_bound size cap in
-    let tables = sum_over-le (λ i. kinds_cost segment_kinds (row i) 0 size cap parts) bound 0 segments (λ i. segment_kinds-le (row i) 0 size cap parts) in
+    let tables = sum_over-le (λ i. kinds_cost segment_kinds table i size cap parts) bound 0 segments (λ i. segment_kinds-le table i size cap parts) in
     let all = headers_within 56 (name_bytes cap) bound segments headers _ p (omega arith) tables in
     let h : headers * (120 + name_bytes cap + size + size / 16 * (32 + name_bytes cap)) ≡ headers * (120 + name_bytes cap + bound) = ap (λ k. headers * k) (omega arith) in
     omega arith

@@ -7,8 +7,8 @@ use Rattle.elf_model.specs.Names.{Shown}
 use Rattle.elf_model.specs.Rows.{named_row, refused_row}
 use Rattle.elf_model.specs.Style.{Style}
 use Rattle.elf_model.specs.Tables.{entry_count}
-use Rattle.elf_model.specs.Versions.{Met}
-use Rattle.elf_model.specs.VersionRows.{VERSYM_SIZE, numbered_row, symbol_version_row, symbol_version_rows, versioned_count, versioned_symbols, version_named}
+use Rattle.elf_model.specs.Versions.{VERSYM_SIZE, Met}
+use Rattle.elf_model.specs.VersionRows.{numbered_row, symbol_version_row, symbol_version_rows, versioned_count, versioned_symbols, version_named}
 use Rattle.elf_model.specs.declared.causes.Cause.{Cause}
 use Rattle.elf_model.specs.declared.causes.Cause.TheVariants.{VersionCut}
 use Rattle.elf_model.specs.VersionLaws.{RowsAreSymbols}

@@ -1,12 +1,11 @@
 -- Archives, as `ar` writes static libraries: the magic string and members one behind the other. A member is a header of 60
 -- bytes of text, its data, and where its size is odd one byte of padding, which may be missing at the file's end.
 use Rattle.std.specs.Prelude.{ℕ, zero, suc, ◌+◌, ◌-◌, ◌*◌, ◌%◌, ◌^◌, ◌==◌, ◌&&◌, min, nat_le, nat_lt, not, Bool, true, false, if◌then◌else◌, List, [], ◌∷◌, ◌++◌, length, take, position, slice_index, is_some, Option, None, Some, Result, Ok, Err, codes}
-use Rattle.std.specs.Int.RustNames.{bit_and}
 use Rattle.std.specs.List.{list_all}
 use Rattle.elf_model.specs.Bytes.{slice, field}
 use Rattle.elf_model.specs.Checks.{Check, refuse}
 use Rattle.elf_model.specs.Lines.{named_line, refusal_line}
-use Rattle.elf_model.specs.Listing.{Item, Line, Fault, fault_of, guarded, report_of, ALL}
+use Rattle.elf_model.specs.Listing.{Item, Line, Fault, fault_of, guarded, report_of, known_parts}
 use Rattle.elf_model.specs.Names.{Shown}
 use Rattle.elf_model.specs.Names.Shown.{Cut}
 use Rattle.elf_model.specs.Notes.{capped}
@@ -232,9 +231,9 @@ member_front index at size =
 abbrev pub member_line : Member → List ℕ
 member_line m = named_line (member_front m.index m.extent.at m.extent.size) m.name
 
--- a set of parts has one of a listing: without one the members' lines stand alone
-abbrev pub lists_members : ℕ → Bool
-lists_members parts = not (bit_and parts ALL == 0)
+-- a set of parts has one that a style knows: without one the members' lines stand alone
+abbrev pub lists_members : Style → ℕ → Bool
+lists_members style parts = not (known_parts style parts == 0)
 
 -- a member's data begin with the magic number of ELF (gABI 4, ELF Identification)
 abbrev pub is_elf : List ℕ → Bool
@@ -244,7 +243,7 @@ is_elf content = nat_le 4 (length content) && field content 0 4 == 0x464c457f
 abbrev pub member_listing : List ℕ → ℕ → Style → ℕ → Member → List Item
 member_listing file headers style parts m =
     let content = bytes_in file m.extent in
-    if lists_members parts && is_elf content then listing content headers style parts else []
+    if lists_members style parts && is_elf content then listing content headers style parts else []
 
 -- items with the line of their first fault in the place of it and of all behind it: the fault of a member's listing ends that
 -- listing alone

@@ -23,7 +23,7 @@ header_cost file cap p =
 unfoldable pub member_cost : List ℕ → ℕ → Style → ℕ → Member → ℕ
 member_cost file headers style parts m =
     let content = bytes_in file m.extent in
-    cost_where (lists_members parts) (4 + cost_where (is_elf content) (listing_cost content headers style parts))
+    cost_where (lists_members style parts) (4 + cost_where (is_elf content) (listing_cost content headers style parts))
 
 -- what the members cost from where a walk has come to, at most so many, and the place where none stands
 unfoldable pub members_cost : ℕ → List ℕ → ℕ → Style → ℕ → Progress → ℕ

@@ -1,12 +1,12 @@
--- How many bytes a listing asks for at most, and what it never passes. A record stands at an offset of some bytes: of
--- the file, or of its own bytes alone, at 0.
+-- How many bytes a listing asks for at most, and what it never passes.
 use Rattle.std.specs.Prelude.{ℕ, suc, zero, ◌+◌, ◌*◌, ◌/◌, ◌==◌, ◌&&◌, ◌||◌, not, if◌then◌else◌, Bool, List, [], ◌∷◌, length}
 use Rattle.elf_model.specs.Records.{FILE_HEADER_SIZE, SECTION_HEADER_SIZE, PROGRAM_HEADER_SIZE, e_shnum, e_phnum, e_shstrndx}
 use Rattle.elf_model.specs.Names.{name_bytes}
 use Rattle.elf_model.specs.Checks.{pass, before_headers}
-use Rattle.elf_model.specs.Listing.{has, has_tables, SECTIONS, SEGMENTS, NOTES, DYNAMIC}
+use Rattle.elf_model.specs.HeaderTables.{HeaderTable, TableKind}
+use Rattle.elf_model.specs.Listing.{has, has_tables, known_parts, SECTIONS, SEGMENTS, NOTES, DYNAMIC}
 use Rattle.elf_model.specs.Style.{Style, standard, viewed}
-use Rattle.elf_model.specs.TableKinds.{TableKind, table_headers}
+use Rattle.elf_model.specs.TableKinds.{table_headers}
 
 -- the costs of so many rows, or tables, from a first one on
 unfoldable pub sum_over : (ℕ → ℕ) → ℕ → ℕ → ℕ
@@ -17,17 +17,17 @@ sum_over cost first (suc count) = cost first + sum_over cost (suc first) count
 abbrev pub cost_where : Bool → ℕ → ℕ
 cost_where condition cost = if condition then cost else 0
 
--- what the table of a kind costs, by its header at an offset of some bytes, in a file of so many bytes: all its entries,
--- where its own checks pass
-unfoldable pub table_cost : TableKind → List ℕ → ℕ → ℕ → ℕ → ℕ
-table_cost kind bytes at file_size cap =
-    cost_where (kind.has_table bytes at && pass (kind.checks.own bytes at file_size)) (kind.entries bytes at * kind.entry_cost cap)
+-- what the table of a kind costs whose header has an index, in a file of so many bytes, where its own checks pass
+unfoldable pub table_cost : TableKind → HeaderTable → (index file_size cap : ℕ) → ℕ
+table_cost kind headers i file_size cap =
+    cost_where (kind.has_table (headers.bytes i) (headers.at i) && pass (kind.checks.own (headers.bytes i) (headers.at i) file_size))
+    (kind.asks headers i file_size cap)
 
 -- what the tables of some kinds cost that a header describes, as far as the parts have them
-unfoldable pub kinds_cost : List TableKind → List ℕ → ℕ → ℕ → ℕ → ℕ → ℕ
-kinds_cost [] bytes at file_size cap parts = 0
-kinds_cost (kind ∷ kinds) bytes at file_size cap parts =
-    cost_where (has parts kind.part) (table_cost kind bytes at file_size cap) + kinds_cost kinds bytes at file_size cap parts
+unfoldable pub kinds_cost : List TableKind → HeaderTable → (index file_size cap parts : ℕ) → ℕ
+kinds_cost [] headers i file_size cap parts = 0
+kinds_cost (kind ∷ kinds) headers i file_size cap parts =
+    cost_where (has parts kind.part) (table_cost kind headers i file_size cap) + kinds_cost kinds headers i file_size cap parts
 
 -- all checks before the section headers and the program headers are read pass
 unfoldable pub is_loadable : List ℕ → ℕ → Bool
@@ -50,8 +50,8 @@ segments_cost file parts = cost_where (needs_segments file parts) (PROGRAM_HEADE
 -- the tables of all headers that describe tables, as far as the parts have them
 unfoldable pub tables_cost : List ℕ → ℕ → ℕ → ℕ
 tables_cost file cap parts =
-    let headers = table_headers file in
-    sum_over (λ i. kinds_cost headers.kinds file (headers.at i) (length file) cap parts) 0 headers.count
+    let tables = table_headers file in
+    sum_over (λ i. kinds_cost tables.kinds tables.headers i (length file) cap parts) 0 tables.headers.count
 
 -- how many bytes are asked for behind the file header at most
 abbrev pub behind_header : List ℕ → ℕ → ℕ → ℕ → ℕ
@@ -59,9 +59,11 @@ behind_header file headers cap parts =
     cost_where (has_tables parts && is_loadable file headers)
     (sections_cost file cap parts + segments_cost file parts + tables_cost file cap parts)
 
--- HOW MANY BYTES THE LISTING OF A FILE ASKS FOR at most: the file header, and what is asked for behind it
+-- HOW MANY BYTES THE LISTING OF A FILE ASKS FOR at most: the file header, and what is asked for behind it for the parts that the
+-- style knows
 unfoldable pub listing_cost : List ℕ → ℕ → Style → ℕ → ℕ
-listing_cost file headers style parts = FILE_HEADER_SIZE + behind_header (viewed style file) headers style.cap parts
+listing_cost file headers style parts =
+    FILE_HEADER_SIZE + behind_header (viewed style file) headers style.cap (known_parts style parts)
 
 -- that of the listing with so many bytes of a name, in the standards' names, by the section headers where there are some
 abbrev pub cost : List ℕ → ℕ → ℕ → ℕ → ℕ

@@ -5,7 +5,8 @@ use Rattle.elf_model.specs.Records.{FILE_HEADER_SIZE, SECTION_HEADER_SIZE, PROGR
 use Rattle.elf_model.specs.Names.{name_bytes}
 use Rattle.elf_model.specs.Checks.{pass, table_checks_of}
 use Rattle.elf_model.specs.Listing.{has}
-use Rattle.elf_model.specs.TableKinds.{TableKind, section_kinds, segment_kinds}
+use Rattle.elf_model.specs.HeaderTables.{HeaderTable, TableKind, file_sections, file_segments, held_headers}
+use Rattle.elf_model.specs.TableKinds.{section_kinds, segment_kinds}
 use Rattle.elf_model.specs.Cost.{sum_over, cost_where, table_cost, kinds_cost, listing_cost, ceiling}
 use Rattle.elf_model.specs.Style.{Style}
 
@@ -38,42 +39,43 @@ abbrev pub RowsCostWhatTheFileCosts : Type 0
 RowsCostWhatTheFileCosts =
     (file : List ℕ) → (row : ℕ → List ℕ) → (cap parts : ℕ)
     → ((i : ℕ) → i < e_shnum file → row i ≡ slice file (section_at file i) SECTION_HEADER_SIZE)
-    → sum_over (λ i. kinds_cost section_kinds (row i) 0 (length file) cap parts) 0 (e_shnum file)
-    ≡ sum_over (λ i. kinds_cost section_kinds file (section_at file i) (length file) cap parts) 0 (e_shnum file)
+    → sum_over (λ i. kinds_cost section_kinds (held_headers (e_shnum file) row) i (length file) cap parts) 0 (e_shnum file)
+    ≡ sum_over (λ i. kinds_cost section_kinds (file_sections file) i (length file) cap parts) 0 (e_shnum file)
 
 -- and where they are its program headers
 abbrev pub SegmentsCostWhatTheFileCosts : Type 0
 SegmentsCostWhatTheFileCosts =
     (file : List ℕ) → (row : ℕ → List ℕ) → (cap parts : ℕ)
     → ((i : ℕ) → i < e_phnum file → row i ≡ slice file (segment_at file i) PROGRAM_HEADER_SIZE)
-    → sum_over (λ i. kinds_cost segment_kinds (row i) 0 (length file) cap parts) 0 (e_phnum file)
-    ≡ sum_over (λ i. kinds_cost segment_kinds file (segment_at file i) (length file) cap parts) 0 (e_phnum file)
+    → sum_over (λ i. kinds_cost segment_kinds (held_headers (e_phnum file) row) i (length file) cap parts) 0 (e_phnum file)
+    ≡ sum_over (λ i. kinds_cost segment_kinds (file_segments file) i (length file) cap parts) 0 (e_phnum file)
 
--- what the tables of some kinds cost that so many rows describe, kind by kind
-unfoldable pub kind_by_kind : List TableKind → (ℕ → List ℕ) → (ℕ → ℕ) → (size cap parts count : ℕ) → ℕ
-kind_by_kind [] row at size cap parts count = 0
-kind_by_kind (kind ∷ kinds) row at size cap parts count =
-    cost_where (has parts kind.part) (sum_over (λ i. table_cost kind (row i) (at i) size cap) 0 count)
-    + kind_by_kind kinds row at size cap parts count
+-- what the tables of some kinds cost that so many headers describe, kind by kind
+unfoldable pub kind_by_kind : List TableKind → HeaderTable → (file_size cap parts count : ℕ) → ℕ
+kind_by_kind [] headers file_size cap parts count = 0
+kind_by_kind (kind ∷ kinds) headers file_size cap parts count =
+    cost_where (has parts kind.part) (sum_over (λ i. table_cost kind headers i file_size cap) 0 count)
+    + kind_by_kind kinds headers file_size cap parts count
 
 -- the sum over all headers is the sum kind by kind
 abbrev pub TablesCostKindByKind : Type 0
 TablesCostKindByKind =
-    (kinds : List TableKind) → (row : ℕ → List ℕ) → (at : ℕ → ℕ) → (size cap parts count : ℕ)
-    → sum_over (λ i. kinds_cost kinds (row i) (at i) size cap parts) 0 count ≡ kind_by_kind kinds row at size cap parts count
+    (kinds : List TableKind) → (headers : HeaderTable) → (file_size cap parts count : ℕ)
+    → sum_over (λ i. kinds_cost kinds headers i file_size cap parts) 0 count
+    ≡ kind_by_kind kinds headers file_size cap parts count
 
--- whatever rows stand in the place of the section headers: what is asked for is within the ceiling
+-- whatever headers stand in the place of the section headers: what is asked for is within the ceiling
 abbrev pub AnyRowsAreWithinCeiling : Type 0
 AnyRowsAreWithinCeiling =
-    (row : ℕ → List ℕ) → (size headers cap parts sections segments : ℕ) → sections ≤ headers → segments ≤ headers
+    (table : HeaderTable) → (size headers cap parts sections segments : ℕ) → sections ≤ headers → segments ≤ headers
     → FILE_HEADER_SIZE + (SECTION_HEADER_SIZE * sections + sections * name_bytes cap + PROGRAM_HEADER_SIZE * segments
-    + sum_over (λ i. kinds_cost section_kinds (row i) 0 size cap parts) 0 sections)
+    + sum_over (λ i. kinds_cost section_kinds table i size cap parts) 0 sections)
     ≤ ceiling size headers cap
 
--- and so it is without sections, whatever rows stand in the place of the program headers
+-- and so it is without sections, whatever headers stand in the place of the program headers
 abbrev pub AnySegmentsAreWithinCeiling : Type 0
 AnySegmentsAreWithinCeiling =
-    (row : ℕ → List ℕ) → (size headers cap parts segments : ℕ) → segments ≤ headers
+    (table : HeaderTable) → (size headers cap parts segments : ℕ) → segments ≤ headers
     → FILE_HEADER_SIZE
-    + (PROGRAM_HEADER_SIZE * segments + sum_over (λ i. kinds_cost segment_kinds (row i) 0 size cap parts) 0 segments)
+    + (PROGRAM_HEADER_SIZE * segments + sum_over (λ i. kinds_cost segment_kinds table i size cap parts) 0 segments)
     ≤ ceiling size headers cap

@@ -16,6 +16,9 @@ pub mod Tables
 pub mod Listing
 pub mod Mapped
 pub mod Rows
+pub mod HeaderTables
+pub mod VersionCost
+pub mod VersionRows
 pub mod TableKinds
 pub mod Report
 pub mod ListingLaws
@@ -58,6 +61,4 @@ pub mod ValueLaws
 pub mod Checking
 pub mod Versions
 pub mod VersionLaws
-pub mod VersionRows
-pub mod VersionCost
 pub mod FixturesVersions

@@ -1,8 +1,9 @@
 -- What a listing is: lines up to the first fault, and the fault's line.
-use Rattle.std.specs.Prelude.{ℕ, suc, zero, ◌==◌, not, Bool, true, false, List, [], ◌∷◌, ◌++◌, Option, None, Some}
+use Rattle.std.specs.Prelude.{ℕ, suc, zero, ◌==◌, not, Bool, true, false, List, [], ◌∷◌, ◌++◌, Option, None, Some, if◌then◌else◌}
 use Rattle.std.specs.Int.RustNames.{bit_and}
 use Rattle.elf_model.specs.Checks.{Check, first_refusal, header_checks}
 use Rattle.elf_model.specs.Lines.{header_line, refusal_line}
+use Rattle.elf_model.specs.Style.{Style}
 use Rattle.elf_model.specs.declared.causes.Refusal.{Refusal}
 
 -- a member of a listing: a line, or a fault
@@ -62,19 +63,34 @@ NOTES = 32
 abbrev pub DYNAMIC : ℕ
 DYNAMIC = 64
 
+-- symbol versions, of listings of the GNU system alone
+abbrev pub VERSIONS : ℕ
+VERSIONS = 128
+
 -- all parts but the file header's
 abbrev pub TABLES : ℕ
-TABLES = 126
+TABLES = 254
 
--- all parts
+-- all parts of the standards' listings, and all of the GNU system's
 abbrev pub ALL : ℕ
 ALL = 127
+
+abbrev pub GNU_ALL : ℕ
+GNU_ALL = 255
+
+-- all parts of listings of the GNU system, or of the standards' alone
+abbrev pub all_parts : Bool → ℕ
+all_parts gnu = if gnu then GNU_ALL else ALL
+
+-- the parts that listings of a style know: other bits mean nothing
+abbrev pub known_parts : Style → ℕ → ℕ
+known_parts style parts = bit_and parts (all_parts style.gnu)
 
 -- a set of parts has one
 abbrev pub has : ℕ → ℕ → Bool
 has parts part = bit_and parts part == part
 
--- a set of parts has more than the file header's; bits outside the seven mean nothing
+-- a set of parts has more than the file header's
 abbrev pub has_tables : ℕ → Bool
 has_tables parts = not (bit_and parts TABLES == 0)
 

@@ -3,9 +3,8 @@ use Rattle.std.specs.Prelude.{◌≡◌, ℕ, ◌+◌, ◌≤◌, true, false, L
 use Rattle.elf_model.specs.Budget.{IsReport, IsBudgeted}
 use Rattle.elf_model.specs.Checks.{first_refusal, header_checks, load_checks}
 use Rattle.elf_model.specs.Lines.{header_line, refusal_line}
-use Rattle.elf_model.specs.Listing.{Item, each, lines_of, fault_of, has, report_of, has_tables, file_header_items, HEADER, ALL}
+use Rattle.elf_model.specs.Listing.{Item, each, lines_of, fault_of, has, report_of, has_tables, file_header_items, known_parts, HEADER}
 use Rattle.elf_model.specs.Cost.{listing_cost}
-use Rattle.std.specs.Int.RustNames.{bit_and}
 use Rattle.elf_model.specs.Report.{listing}
 use Rattle.elf_model.specs.Style.{Style, viewed}
 use Rattle.elf_model.specs.declared.causes.Refusal.{Refusal}
@@ -21,10 +20,11 @@ RowsSplit =
     (row : ℕ → List Item) → (first count more : ℕ)
     → each row first (count + more) ≡ each row first count ++ each row (first + count) more
 
--- with no part but the file header's the listing is the file header's
+-- with no part that the style knows but the file header's the listing is the file header's
 abbrev pub HeaderAloneIsListed : Type 0
 HeaderAloneIsListed =
-    (file : List ℕ) → (headers : ℕ) → (style : Style) → (parts : ℕ) → has_tables parts ≡ false
+    (file : List ℕ) → (headers : ℕ) → (style : Style) → (parts : ℕ)
+    → has_tables (known_parts style parts) ≡ false
     → listing file headers style parts ≡ file_header_items file parts
 
 -- where a check of the file header fails, the listing is that fault's line alone, under any parts
@@ -36,12 +36,12 @@ HeaderFaultIsListedAlone =
     × (fault_of (listing file headers style parts) ≡ Some refusal)
 
 -- where a load check of the file that the style looks at fails, the listing is the file header's line and that fault's line,
--- under any parts with the file header's and another
+-- under any parts with the file header's and another that the style knows
 abbrev pub LoadFaultIsListedSecond : Type 0
 LoadFaultIsListedSecond =
     (file : List ℕ) → (headers : ℕ) → (style : Style) → (parts : ℕ) → (refusal : Refusal)
     → first_refusal (header_checks file) ≡ None → first_refusal (load_checks (viewed style file) headers) ≡ Some refusal
-    → has parts HEADER ≡ true → has_tables parts ≡ true
+    → has parts HEADER ≡ true → has_tables (known_parts style parts) ≡ true
     → report_of (listing file headers style parts) ≡ header_line file ++ refusal_line refusal
 
 -- what stands behind the first fault of a listing is not shown
@@ -56,12 +56,12 @@ ListingsAppend =
     (front back : List Item) → fault_of front ≡ None
     → (lines_of (front ++ back) ≡ lines_of front ++ lines_of back) × (fault_of (front ++ back) ≡ fault_of back)
 
--- bits outside the seven parts mean nothing
+-- bits outside the parts that a style knows mean nothing
 abbrev pub OtherBitsMeanNothing : Type 0
 OtherBitsMeanNothing =
     (file : List ℕ) → (headers : ℕ) → (style : Style) → (parts : ℕ)
-    → (listing file headers style (bit_and parts ALL) ≡ listing file headers style parts)
-    × (listing_cost file headers style (bit_and parts ALL) ≡ listing_cost file headers style parts)
+    → (listing file headers style (known_parts style parts) ≡ listing file headers style parts)
+    × (listing_cost file headers style (known_parts style parts) ≡ listing_cost file headers style parts)
 
 -- within a budget of at least its cost a listing is its report
 abbrev pub AmpleBudgetIsReport : Type 0

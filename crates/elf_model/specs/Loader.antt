@@ -5,8 +5,7 @@ use Rattle.elf_model.specs.Names.{same}
 use Rattle.elf_model.specs.Numbers.{SHN_UNDEF, SHN_ABS, STB_GLOBAL, STB_WEAK, STB_GNU_UNIQUE, STT_NOTYPE, STT_OBJECT, STT_FUNC, STT_COMMON, STT_TLS, STT_GNU_IFUNC, STV_DEFAULT, STV_PROTECTED}
 use Rattle.elf_model.specs.Records.{st_name, st_shndx, st_value, st_type, st_bind, st_visibility, versym}
 use Rattle.elf_model.specs.Tables.{SYMBOL_SIZE}
-use Rattle.elf_model.specs.VersionRows.{VERSYM_SIZE}
-use Rattle.elf_model.specs.Versions.{Met, Stand, number_in, number_word, named_at, name_index, names_version, names_number, record_size, most_records, first_stand, behind, versions_in}
+use Rattle.elf_model.specs.Versions.{VERSYM_SIZE, Met, Stand, number_in, number_word, named_at, name_index, names_version, names_number, record_size, most_records, first_stand, behind, versions_in}
 use Rattle.elf_model.specs.declared.causes.Cause.TheVariants.{VersionCut}
 use Rattle.elf_model.specs.declared.causes.Refusal.{Refusal}
 use Rattle.elf_model.specs.declared.versions.VersionKind.{VersionKind}

@@ -12,8 +12,7 @@ use Rattle.elf_model.specs.Names.Shown.{Whole}
 use Rattle.elf_model.specs.Records.{FILE_HEADER_SIZE, SECTION_HEADER_SIZE, PROGRAM_HEADER_SIZE, e_shnum, e_phnum, p_filesz, segment_at, versym}
 use Rattle.elf_model.specs.SysvWalk.{sysv_walked}
 use Rattle.elf_model.specs.Tables.{SYMBOL_SIZE, segment_dynamic_checks}
-use Rattle.elf_model.specs.VersionRows.{VERSYM_SIZE}
-use Rattle.elf_model.specs.Versions.{DEFINITION_SIZE, DEFINED_NAME_SIZE, number_in, named_at, name_index}
+use Rattle.elf_model.specs.Versions.{VERSYM_SIZE, DEFINITION_SIZE, DEFINED_NAME_SIZE, number_in, named_at, name_index}
 use Rattle.elf_model.specs.declared.causes.Cause.TheVariants.{HashShape, VersionIndex}
 use Rattle.elf_model.specs.declared.causes.Refusal.{Refusal}
 use Rattle.elf_model.specs.LoaderScope.{GnuTable, SysvTable, Scope, scope_of, dynamic_segment_index}

@@ -11,7 +11,8 @@ use Rattle.elf_model.specs.Numbers.{SHT_HASH, SHT_GNU_HASH, SHT_GNU_VERSYM, SHT_
 use Rattle.elf_model.specs.Records.{e_shnum, e_phnum, sh_offset, sh_size, sh_link, section_at, p_type, p_offset, p_vaddr, p_filesz, segment_at, d_tag, d_un}
 use Rattle.elf_model.specs.SysvWalk.{section_table_of}
 use Rattle.elf_model.specs.Tables.{SYMBOL_SIZE, DYNAMIC_SIZE, all_checks, linked_at, strings_of, entry_count, segment_dynamic_checks}
-use Rattle.elf_model.specs.VersionRows.{VERSYM_SIZE, first_of_type, version_table}
+use Rattle.elf_model.specs.VersionRows.{first_of_type, version_table}
+use Rattle.elf_model.specs.Versions.{VERSYM_SIZE}
 use Rattle.elf_model.specs.declared.causes.Cause.TheVariants.{NoHash, HashShape, BadLink, TableOutside, Unmapped}
 use Rattle.elf_model.specs.declared.causes.Refusal.{Refusal}
 use Rattle.elf_model.specs.declared.versions.VersionKind.{VersionKind}

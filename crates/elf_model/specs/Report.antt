@@ -2,12 +2,13 @@
 use Rattle.std.specs.Prelude.{ℕ, true, false, List, [], ◌∷◌, ◌++◌, Option}
 use Rattle.elf_model.specs.Records.{e_shnum, e_phnum}
 use Rattle.elf_model.specs.Checks.{header_checks, load_checks}
+use Rattle.elf_model.specs.HeaderTables.{HeaderTable, TableKind}
 use Rattle.elf_model.specs.Lines.{header_line}
-use Rattle.elf_model.specs.Listing.{Item, Line, guarded, each, where_asked, has_tables, report_of, fault_of, HEADER, SECTIONS, SEGMENTS}
+use Rattle.elf_model.specs.Listing.{Item, Line, guarded, each, where_asked, has_tables, known_parts, report_of, fault_of, HEADER, SECTIONS, SEGMENTS}
 use Rattle.elf_model.specs.Rows.{section_row, segment_row}
 use Rattle.elf_model.specs.Style.{Style, standard, viewed}
 use Rattle.elf_model.specs.Tables.{all_checks}
-use Rattle.elf_model.specs.TableKinds.{TableKind, TableHeaders, table_headers}
+use Rattle.elf_model.specs.TableKinds.{table_headers}
 use Rattle.elf_model.specs.declared.causes.Refusal.{Refusal}
 
 -- the rows of the table of a kind whose header has an index and stands at an offset, behind its checks; none where the
@@ -17,7 +18,7 @@ table_rows kind file style index at =
     elim (kind.has_table file at) [ true ↦ guarded (all_checks kind.checks file at) (kind.rows file style index at) | false ↦ [] ]
 
 -- the rows of all tables of some kinds, kind by kind, as far as the parts have them
-unfoldable pub kinds_rows : List TableKind → TableHeaders → List ℕ → Style → ℕ → List Item
+unfoldable pub kinds_rows : List TableKind → HeaderTable → List ℕ → Style → ℕ → List Item
 kinds_rows [] headers file style parts = []
 kinds_rows (kind ∷ kinds) headers file style parts =
     where_asked parts kind.part (each (λ i. table_rows kind file style i (headers.at i)) 0 headers.count)
@@ -28,7 +29,7 @@ unfoldable pub table_items : List ℕ → Style → ℕ → List Item
 table_items file style parts =
     where_asked parts SECTIONS (each (section_row file style) 0 (e_shnum file))
     ++ where_asked parts SEGMENTS (each (segment_row file style) 0 (e_phnum file))
-    ++ kinds_rows (table_headers file).kinds (table_headers file) file style parts
+    ++ kinds_rows (table_headers file).kinds (table_headers file).headers file style parts
 
 -- the load checks and the tables, where the parts have more than the file header
 unfoldable pub load_items : List ℕ → ℕ → Style → ℕ → List Item
@@ -39,11 +40,12 @@ load_items file headers style parts =
     ]
 
 -- THE LISTING OF A FILE: where a check of the file header fails, nothing else has a meaning, and where a load check fails, no
--- table has. What stands behind the file header is that of the file that the style looks at
+-- table has. What stands behind the file header is that of the file that the style looks at, as far as the parts that the
+-- style knows have it
 unfoldable pub listing : List ℕ → ℕ → Style → ℕ → List Item
 listing file headers style parts =
     guarded (header_checks file)
-    (where_asked parts HEADER (Line (header_line file) ∷ []) ++ load_items (viewed style file) headers style parts)
+    (where_asked parts HEADER (Line (header_line file) ∷ []) ++ load_items (viewed style file) headers style (known_parts style parts))
 
 -- the listing with so many bytes of a name, in the standards' names, by the section headers where there are some
 abbrev pub items : List ℕ → ℕ → ℕ → ℕ → List Item

@@ -4,6 +4,7 @@ use Rattle.std.specs.Prelude.{ℕ, ◌+◌, ◌*◌, ◌/◌, ◌==◌, Bool, tr
 use Rattle.elf_model.specs.Bytes.{slice}
 use Rattle.elf_model.specs.Checks.{range_checks_of, is_symbol_table}
 use Rattle.elf_model.specs.Dynamic.{dynamic_count, dynamic_at}
+use Rattle.elf_model.specs.HeaderTables.{HeaderTable, TableKind, each_entry, file_sections, file_segments}
 use Rattle.elf_model.specs.Listing.{Item, each, SYMBOLS, RELOCS, NOTES, DYNAMIC}
 use Rattle.elf_model.specs.Mapped.{mapped_strings}
 use Rattle.elf_model.specs.Names.{name_bytes}
@@ -13,17 +14,8 @@ use Rattle.elf_model.specs.Numbers.{SHT_RELA, SHT_NOTE, SHT_DYNAMIC, PT_NOTE, PT
 use Rattle.elf_model.specs.Records.{e_shnum, e_phnum, sh_type, sh_offset, sh_size, sh_addralign, p_type, p_offset, p_filesz, p_align, section_at, segment_at}
 use Rattle.elf_model.specs.Rows.{symbol_row, relocation_row, walk_rows, dynamic_row}
 use Rattle.elf_model.specs.Tables.{SYMBOL_SIZE, RELA_SIZE, DYNAMIC_SIZE, TableChecks, nothing_linked, symbol_table, relocation_table, dynamic_table, dynamic_segment, strings_of, entry_count}
+use Rattle.elf_model.specs.VersionRows.{version_kinds}
 use Rattle.elf_model.specs.declared.causes.Refusal.{Refusal}
-
--- A KIND OF TABLE: its part of a listing; which headers describe one; its checks; how many entries the header tells of, and
--- what each asks for; then, in a file, the rows of the table whose header has an index and stands at an offset
-pub record TableKind : Type 0 where
-  pub part : ℕ
-  pub has_table : List ℕ → ℕ → Bool
-  pub checks : TableChecks
-  pub entries : List ℕ → ℕ → ℕ
-  pub entry_cost : ℕ → ℕ
-  pub rows : List ℕ → Style → ℕ → ℕ → List Item
 
 -- symbols (gABI 4, Symbol Table): each with its name
 unfoldable pub symbols : TableKind
@@ -31,8 +23,7 @@ symbols = record {
   part = SYMBOLS;
   has_table = is_symbol_table;
   checks = symbol_table;
-  entries = λ bytes at. entry_count bytes at SYMBOL_SIZE;
-  entry_cost = λ cap. SYMBOL_SIZE + name_bytes cap;
+  asks = each_entry (λ bytes at. entry_count bytes at SYMBOL_SIZE) (λ cap. SYMBOL_SIZE + name_bytes cap);
   rows = λ file style section at. each (symbol_row file style section at) 0 (entry_count file at SYMBOL_SIZE);
 }
 
@@ -42,8 +33,7 @@ relocations = record {
   part = RELOCS;
   has_table = λ bytes at. sh_type bytes at == SHT_RELA;
   checks = relocation_table;
-  entries = λ bytes at. entry_count bytes at RELA_SIZE;
-  entry_cost = λ cap. RELA_SIZE + (SYMBOL_SIZE + name_bytes cap);
+  asks = each_entry (λ bytes at. entry_count bytes at RELA_SIZE) (λ cap. RELA_SIZE + (SYMBOL_SIZE + name_bytes cap));
   rows = λ file style section at. each (relocation_row file style section at) 0 (entry_count file at RELA_SIZE);
 }
 
@@ -60,8 +50,7 @@ section_dynamic = record {
   part = DYNAMIC;
   has_table = λ bytes at. sh_type bytes at == SHT_DYNAMIC;
   checks = dynamic_table;
-  entries = λ bytes at. entry_count bytes at DYNAMIC_SIZE;
-  entry_cost = λ cap. DYNAMIC_SIZE + name_bytes cap;
+  asks = each_entry (λ bytes at. entry_count bytes at DYNAMIC_SIZE) (λ cap. DYNAMIC_SIZE + name_bytes cap);
   rows = λ file style section at.
       dynamic_rows file style (sh_offset file at) (entry_count file at DYNAMIC_SIZE) (λ n dynamic_at. Ok (strings_of file at));
 }
@@ -72,8 +61,7 @@ segment_dynamic = record {
   part = DYNAMIC;
   has_table = λ bytes at. p_type bytes at == PT_DYNAMIC;
   checks = dynamic_segment;
-  entries = λ bytes at. p_filesz bytes at / DYNAMIC_SIZE;
-  entry_cost = λ cap. 2 * DYNAMIC_SIZE + name_bytes cap;
+  asks = each_entry (λ bytes at. p_filesz bytes at / DYNAMIC_SIZE) (λ cap. 2 * DYNAMIC_SIZE + name_bytes cap);
   rows = λ file style segment at.
       dynamic_rows file style (p_offset file at) (p_filesz file at / DYNAMIC_SIZE) (mapped_strings file (p_offset file at));
 }
@@ -89,8 +77,7 @@ notes_of has_table offset size align = record {
     own = λ bytes at file_size. range_checks_of file_size (offset bytes at) (size bytes at) at;
     linked = nothing_linked;
   };
-  entries = size;
-  entry_cost = λ cap. 1;
+  asks = each_entry size (λ cap. 1);
   rows = λ file style index at.
       walk_rows style.cap index (offset file at) (walked (note_align (align file at)) (slice file (offset file at) (size file at)));
 }
@@ -104,22 +91,21 @@ segment_notes = notes_of (λ bytes at. p_type bytes at == PT_NOTE) p_offset p_fi
 
 -- the kinds of tables that section headers describe, and those that program headers do, in their order
 abbrev pub section_kinds : List TableKind
-section_kinds = symbols ∷ relocations ∷ section_notes ∷ section_dynamic ∷ []
+section_kinds = symbols ∷ relocations ∷ section_notes ∷ section_dynamic ∷ version_kinds
 
 abbrev pub segment_kinds : List TableKind
 segment_kinds = segment_notes ∷ segment_dynamic ∷ []
 
--- the headers that describe the tables of a file: how many, where each stands, and the kinds of tables
+-- the headers that describe the tables of a file, and the kinds of tables that they describe
 pub record TableHeaders : Type 0 where
-  pub count : ℕ
-  pub at : ℕ → ℕ
+  pub headers : HeaderTable
   pub kinds : List TableKind
 
 abbrev pub by_sections : List ℕ → TableHeaders
-by_sections file = record { count = e_shnum file; at = section_at file; kinds = section_kinds }
+by_sections file = record { headers = file_sections file; kinds = section_kinds }
 
 abbrev pub by_segments : List ℕ → TableHeaders
-by_segments file = record { count = e_phnum file; at = segment_at file; kinds = segment_kinds }
+by_segments file = record { headers = file_segments file; kinds = segment_kinds }
 
 -- the section headers, or where a file has none the program headers
 unfoldable pub table_headers : List ℕ → TableHeaders

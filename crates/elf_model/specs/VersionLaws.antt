@@ -1,13 +1,19 @@
 -- Laws of symbol versions: how many records are met, where they stand, which of them names a number, and how many rows the
 -- versions of symbols have.
-use Rattle.std.specs.Prelude.{◌<◌, ℕ, suc, ◌≡◌, ◌+◌, ◌==◌, ◌≤◌, nat_lt, true, false, if◌then◌else◌, List, ◌∷◌, ◌++◌, length, None, Some}
+use Rattle.std.specs.Prelude.{◌<◌, ℕ, suc, ◌≡◌, ◌+◌, ◌==◌, ◌&&◌, ◌≤◌, nat_lt, true, false, if◌then◌else◌, List, [], ◌∷◌, ◌++◌, length, None, Some}
 use Rattle.std.specs.List.{All}
-use Rattle.elf_model.specs.Checks.{first_refusal}
-use Rattle.elf_model.specs.Records.{sh_size}
+use Rattle.std.specs.Result.{is_ok}
+use Rattle.elf_model.specs.Checks.{first_refusal, pass}
+use Rattle.elf_model.specs.HeaderTables.{file_sections}
+use Rattle.elf_model.specs.Listing.{Item, VERSIONS, fault_of}
+use Rattle.elf_model.specs.Names.{shown}
+use Rattle.elf_model.specs.Records.{section_at, sh_size}
+use Rattle.elf_model.specs.Report.{kinds_rows}
 use Rattle.elf_model.specs.Style.{Style}
-use Rattle.elf_model.specs.Tables.{entry_count}
-use Rattle.elf_model.specs.VersionRows.{VERSYM_SIZE, symbol_version_rows, versioned_symbols}
-use Rattle.elf_model.specs.Versions.{Met, Stand, most_records, record_size, record_checks, behind, met_at, met_from, no_versions, with_met, versions_in, names_number, named_by, VERSION_NUMBERS, number_in, number_word}
+use Rattle.elf_model.specs.Tables.{all_checks, entry_count}
+use Rattle.elf_model.specs.VersionCost.{has_symbol_table}
+use Rattle.elf_model.specs.VersionRows.{symbol_version_rows, symbol_versions, version_definitions, version_named, version_needs, version_strings, versioned_symbols}
+use Rattle.elf_model.specs.Versions.{VERSYM_SIZE, Met, Stand, most_records, record_size, record_checks, behind, met_at, met_from, name_index, no_versions, with_met, versions_in, names_number, named_by, VERSION_NUMBERS, number_in, number_word}
 use Rattle.elf_model.specs.declared.causes.Refusal.{Refusal}
 use Rattle.elf_model.specs.declared.versions.VersionKind.{VersionKind}
 
@@ -82,3 +88,24 @@ RowsAreSymbols =
     → length (symbol_version_rows file style section at)
     ≡ (if nat_lt (entry_count file at VERSYM_SIZE) (versioned_symbols file at) then entry_count file at VERSYM_SIZE + 1
     else versioned_symbols file at)
+
+-- the rows of all definitions and needs of a file
+abbrev pub records_rows : List ℕ → Style → List Item
+records_rows file style =
+    kinds_rows (version_definitions ∷ version_needs ∷ []) (file_sections file) file style VERSIONS
+
+-- where they have no fault, the name of each number is shown
+abbrev pub NamesOfNumbersAreShown : Type 0
+NamesOfNumbersAreShown =
+    (file : List ℕ) (style : Style) (number : ℕ) (met : Met) → fault_of (records_rows file style) ≡ None
+    → version_named file number ≡ Some met
+    → is_ok (shown (version_strings file met.kind) (name_index file met) style.cap) ≡ true
+
+-- of a section of version numbers that is not empty all checks pass exactly where its own do and a cost counts its rows
+abbrev pub CheckedRowsAreCounted : Type 0
+CheckedRowsAreCounted =
+    (file : List ℕ) (index : ℕ)
+    → let at = section_at file index in
+    (sh_size file at == 0) ≡ false
+    → pass (all_checks symbol_versions.checks file at)
+    ≡ (pass (symbol_versions.checks.own file at (length file)) && has_symbol_table (file_sections file) index (length file))

@@ -1,29 +1,21 @@
 -- The rows of symbol versions: of the records of definitions and needs, and of the numbers that symbols have.
 use Rattle.std.specs.Prelude.{ℕ, ◌+◌, ◌/◌, ◌==◌, ◌||◌, min, nat_lt, not, if◌then◌else◌, List, [], ◌∷◌, ◌++◌, codes, Option, None, Some}
 use Rattle.elf_model.specs.Checks.{Check, refuse, range_checks_of, strings_checks}
-use Rattle.elf_model.specs.Find.{first_that}
-use Rattle.elf_model.specs.Listing.{Item, Fault, each}
+use Rattle.elf_model.specs.HeaderTables.{TableKind, each_entry, file_sections, first_typed}
+use Rattle.elf_model.specs.Listing.{Item, Fault, VERSIONS, each}
 use Rattle.elf_model.specs.Names.{shown, name_bytes}
 use Rattle.elf_model.specs.Numbers.{SHT_GNU_VERDEF, SHT_GNU_VERNEED, SHT_GNU_VERSYM}
 use Rattle.elf_model.specs.Records.{e_shnum, sh_type, sh_offset, sh_size, sh_link, section_at, versym}
 use Rattle.elf_model.specs.Rows.{named_row, no_name, refused_row}
 use Rattle.elf_model.specs.Style.{Style}
-use Rattle.elf_model.specs.TableKinds.{TableKind}
 use Rattle.elf_model.specs.Tables.{SYMBOL_SIZE, TableChecks, section_table, linked_at, strings_of, entry_count, entry_at, has_symbols, symbol_table_checks}
 use Rattle.elf_model.specs.Text.{hex, left_in, right_decimal, space}
-use Rattle.elf_model.specs.Versions.{DEFINITION_SIZE, DEFINED_NAME_SIZE, NEED_SIZE, Met, Versions, number_in, number_word, flags_word, hash_word, named_at, name_index, versions_in, version_of}
+use Rattle.elf_model.specs.VersionCost.{versioned_cost}
+use Rattle.elf_model.specs.Versions.{VERSYM_SIZE, DEFINITION_SIZE, DEFINED_NAME_SIZE, NEED_SIZE, Met, Versions, number_in, number_word, flags_word, hash_word, named_at, name_index, versions_in, version_of}
 use Rattle.elf_model.specs.declared.causes.Cause.TheVariants.{BadLink, VersionCut, VersionIndex}
 use Rattle.elf_model.specs.declared.causes.Refusal.{Refusal}
 use Rattle.elf_model.specs.declared.versions.VersionKind.{VersionKind}
 use Rattle.elf_model.specs.declared.versions.VersionKind.TheVariants.{Definition, File, Need}
-
--- the part of symbol versions
-abbrev pub VERSIONS : ℕ
-VERSIONS = 128
-
--- the size of the word of a symbol's version, in bytes
-abbrev pub VERSYM_SIZE : ℕ
-VERSYM_SIZE = 2
 
 -- the word of a kind of record
 unfoldable pub kind_text : VersionKind → List ℕ
@@ -64,9 +56,9 @@ versions_rows kind file style section at =
     let versions = section_versions kind file at in
     met_rows file style section (strings_of file at) versions.met ++ end_rows versions.cut
 
--- the first section of a type
+-- the first section of a type in a file
 abbrev pub first_of_type : List ℕ → ℕ → Option ℕ
-first_of_type file type = first_that (λ i. sh_type file (section_at file i) == type) 0 (e_shnum file)
+first_of_type file type = first_typed (file_sections file) type
 
 -- the records of the first section of a type, none where there is no such section
 abbrev pub first_versions : VersionKind → ℕ → List ℕ → List Met
@@ -153,8 +145,7 @@ version_records kind type size bytes = record {
   part = VERSIONS;
   has_table = λ bytes at. sh_type bytes at == type;
   checks = version_table;
-  entries = λ bytes at. sh_size bytes at / size;
-  entry_cost = λ cap. bytes + name_bytes cap;
+  asks = each_entry (λ bytes at. sh_size bytes at / size) (λ cap. bytes + name_bytes cap);
   rows = versions_rows kind;
 }
 
@@ -170,8 +161,7 @@ symbol_versions = record {
   part = VERSIONS;
   has_table = λ bytes at. sh_type bytes at == SHT_GNU_VERSYM;
   checks = section_table VERSYM_SIZE symbols_checks;
-  entries = λ bytes at. entry_count bytes at VERSYM_SIZE;
-  entry_cost = λ cap. VERSYM_SIZE + name_bytes cap;
+  asks = versioned_cost;
   rows = symbol_version_rows;
 }
 

@@ -20,6 +20,10 @@ DEFINED_NAME_SIZE = 8
 abbrev pub NEED_SIZE : ℕ
 NEED_SIZE = 16
 
+-- the size of the word that holds the version of a symbol, in bytes
+abbrev pub VERSYM_SIZE : ℕ
+VERSYM_SIZE = 2
+
 -- the size of a record of a kind
 abbrev pub record_size : VersionKind → ℕ
 record_size kind = elim kind [ Definition ↦ DEFINITION_SIZE | File ↦ NEED_SIZE | Need ↦ NEED_SIZE ]

@@ -1,5 +1,5 @@
 //! The laws of symbol versions.
-ghost use Rattle.elf_model.specs.VersionLaws.{RecordsAreBounded, RecordsStand, NumbersAreSmall, RecordIsMet, RecordIsRefused, NamedIsFirst, UnnamedHasNone, FirstListNamesFirst, RowsAreSymbols};
+ghost use Rattle.elf_model.specs.VersionLaws.{RecordsAreBounded, RecordsStand, NumbersAreSmall, RecordIsMet, RecordIsRefused, NamedIsFirst, UnnamedHasNone, FirstListNamesFirst, RowsAreSymbols, NamesOfNumbersAreShown, CheckedRowsAreCounted};
 
 /// No more records are met than could stand in the table one behind the other.
 #[tactic(auto, using(crate::proofs::VersionLaws::records_are_bounded))]
@@ -53,4 +53,18 @@ pub fn first_list_names_first()
 #[tactic(auto, using(crate::proofs::VersionRowLaws::rows_are_symbols))]
 pub fn rows_are_symbols()
     ensures { RowsAreSymbols }
+{}
+
+/// Where the rows of all definitions and needs have no fault, the name of each number is shown: the
+/// rows of the versions of symbols can then be refused for their numbers alone.
+#[tactic(auto, using(crate::proofs::VersionNameLaws::names_are_shown))]
+pub fn names_of_numbers_are_shown()
+    ensures { NamesOfNumbersAreShown }
+{}
+
+/// What a cost counts of the versions of symbols, by whatever headers, are the rows behind the
+/// checks of the file.
+#[tactic(auto, using(crate::proofs::VersionCheckLaws::checked_rows))]
+pub fn checked_rows_are_counted()
+    ensures { CheckedRowsAreCounted }
 {}

@@ -2,26 +2,24 @@
 use Rattle.std.specs.Prelude.{◌≡◌, ℕ, ◌+◌, ◌-◌, ◌==◌, List, [], ◌∷◌, ◌++◌, length, drop, take, replicate, filter, codes, true, false}
 use Rattle.std.specs.List.{concat}
 use Rattle.elf_model.specs.Bytes.{little}
-use Rattle.elf_model.specs.Checks.{header_checks, load_checks}
-use Rattle.elf_model.specs.Cost.{listing_cost}
+use Rattle.elf_model.specs.Cost.{cost, listing_cost}
 use Rattle.elf_model.specs.Fixtures.{with_bytes}
 use Rattle.elf_model.specs.FixturesTables.{one_table}
 use Rattle.elf_model.specs.FixturesVersions.{versioned_library, versioned_without_sections, hostile_library}
-use Rattle.elf_model.specs.Listing.{guarded, report_of, ALL}
-use Rattle.elf_model.specs.Report.{kinds_rows, listing}
-use Rattle.elf_model.specs.Style.{Style}
-use Rattle.elf_model.specs.TableKinds.{by_sections}
-use Rattle.elf_model.specs.VersionCost.{versions_cost}
-use Rattle.elf_model.specs.VersionRows.{VERSIONS, version_kinds}
+use Rattle.elf_model.specs.Listing.{report_of, HEADER, VERSIONS, ALL, GNU_ALL}
+use Rattle.elf_model.specs.Report.{listing}
+use Rattle.elf_model.specs.Style.{Style, standard}
 
 -- how rows are shown here: 63 bytes of a name, and the names of the GNU system's numbers
 abbrev pub shown_as : Style
 shown_as = record { cap = 63; gnu = true; by_segments = false }
 
--- the listing of the symbol versions of a file, with eight headers permitted
+-- the listing of some parts of a file, with eight headers permitted, and of its symbol versions alone
+unfoldable pub parts_listed : ℕ → List ℕ → List ℕ
+parts_listed parts file = report_of (listing file 8 shown_as parts)
+
 unfoldable pub versions_listed : List ℕ → List ℕ
-versions_listed file =
-    report_of (guarded (header_checks file ++ load_checks file 8) (kinds_rows version_kinds (by_sections file) file shown_as VERSIONS))
+versions_listed file = parts_listed VERSIONS file
 
 -- it has so many lines, and ends in one
 abbrev pub EndsIn : List ℕ → ℕ → List ℕ → Type 0
@@ -97,10 +95,9 @@ DefinitionsComeFirst =
     EndsIn (with_bytes 0x226 (little 2 3) (with_bytes 0x1a2 (little 2 3) versioned_library)) 11 (codes "X     4          5     3 - V2\n")
 
 -- a library that defines two versions of a symbol and needs one
-abbrev pub LibraryLists : Type 0
-LibraryLists =
-    versions_listed versioned_library
-    ≡ codes "V     5 DEF      1 0001 02f895ef libf.so\n"
+abbrev pub version_lines : List ℕ
+version_lines =
+    codes "V     5 DEF      1 0001 02f895ef libf.so\n"
     ++ codes "V     5 DEF      2 0000 00000591 V1\n"
     ++ codes "V     5 DEF      3 0000 00000592 V2\n"
     ++ codes "V     6 FILE     0 0000 00000000 libc.so.6\n"
@@ -112,10 +109,13 @@ LibraryLists =
     ++ codes "X     4          4     3 - V2\n"
     ++ codes "X     4          5     3 - V2\n"
 
--- the rest of its listing, in the names of the GNU system: headers, symbols, dynamic entries
-abbrev pub LibraryListsBefore : Type 0
-LibraryListsBefore =
-    report_of (listing versioned_library 8 shown_as ALL)
+abbrev pub LibraryLists : Type 0
+LibraryLists = versions_listed versioned_library ≡ version_lines
+
+-- its whole listing, in the names of the GNU system: headers, symbols, dynamic entries, and behind them the versions
+abbrev pub LibraryListsWhole : Type 0
+LibraryListsWhole =
+    parts_listed GNU_ALL versioned_library
     ≡ codes "H DYN     62 0000000000000000 0000000000000040 00000000000002f0 00000000     2     8     0\n"
     ++ codes "S     0 NULL                       0000000000000000 0000000000000000 0000000000000000 00000000 00000000 \n"
     ++ codes "S     1 GNU_HASH      A            00000000000000b0 00000000000000b0 0000000000000030 00000002 00000000 \n"
@@ -145,6 +145,16 @@ LibraryListsBefore =
     ++ codes "D     9 VERNEED          0000000000000210 \n"
     ++ codes "D    10 VERNEEDNUM       0000000000000001 \n"
     ++ codes "D    11 NULL             0000000000000000 \n"
+    ++ version_lines
+
+-- without the names of the GNU system it has no symbol versions
+abbrev pub StandardHasNone : Type 0
+StandardHasNone =
+    (report_of (listing versioned_library 8 (standard 63) VERSIONS) ≡ [])
+    × (report_of (listing versioned_library 8 (standard 63) (HEADER + VERSIONS))
+    ≡ report_of (listing versioned_library 8 (standard 63) HEADER))
+    × (cost versioned_library 8 63 VERSIONS ≡ 64)
+    × (cost versioned_library 8 63 GNU_ALL ≡ cost versioned_library 8 63 ALL)
 
 -- what leads past the end of a chain
 abbrev pub HostileLists : Type 0
@@ -169,14 +179,16 @@ OverlappingAreCut =
     EndsIn (one_table 0x6ffffffd 8 0 overlapping (0 ∷ [])) 51
     (codes "V     1 DEF      0 0d00 00000000 \n" ++ codes "! 00000000000002bd version-cut\n")
 
--- how many bytes the rows ask for at most: of the library, of which the whole listing asks for 3,244 bytes, with and without
--- sections, and where checks fail
+-- how many bytes are asked for at most: of the library, with and without sections, and where checks fail
+abbrev pub parts_cost : ℕ → List ℕ → ℕ
+parts_cost parts file = listing_cost file 8 shown_as parts
+
 abbrev pub VersionsCost : Type 0
 VersionsCost =
-    (versions_cost versioned_library 63 ≡ 1068)
-    × (listing_cost versioned_library 8 shown_as ALL + versions_cost versioned_library 63 ≡ 3244)
-    × (versions_cost versioned_without_sections 63 ≡ 0)
-    × (listing_cost versioned_without_sections 8 shown_as ALL ≡ 1328)
-    × (versions_cost (with_bytes 0x410 (little 8 8) versioned_library) 63 ≡ 936)
-    × (versions_cost (with_bytes 0x418 (little 4 3) versioned_library) 63 ≡ 528)
-    × (versions_cost (with_bytes 0x450 (little 8 0x1000) versioned_library) 63 ≡ 588)
+    (parts_cost GNU_ALL versioned_library ≡ 3244)
+    × (parts_cost VERSIONS versioned_library ≡ 1644)
+    × (parts_cost GNU_ALL versioned_without_sections ≡ 1328)
+    × (parts_cost VERSIONS versioned_without_sections ≡ 64)
+    × (parts_cost VERSIONS (with_bytes 0x410 (little 8 8) versioned_library) ≡ 576 + 936)
+    × (parts_cost VERSIONS (with_bytes 0x418 (little 4 3) versioned_library) ≡ 576 + 528)
+    × (parts_cost VERSIONS (with_bytes 0x450 (little 8 0x1000) versioned_library) ≡ 576 + 588)

@@ -1,5 +1,5 @@
 //! Worked rows of symbol versions, each computed by the prover.
-ghost use Rattle.elf_version_examples.specs.ListedVersions.{NumbersAreRefused, NumberTablesAreRefused, NumberTablesEnd, DefinitionsAreRefused, DefinitionsLeadOn, DefinitionsAreNamed, NeedsAreRefused, NeedsLeadOn, DefinitionsComeFirst, LibraryLists, LibraryListsBefore, HostileLists, NoneWithoutSections, OverlappingAreCut, VersionsCost};
+ghost use Rattle.elf_version_examples.specs.ListedVersions.{NumbersAreRefused, NumberTablesAreRefused, NumberTablesEnd, DefinitionsAreRefused, DefinitionsLeadOn, DefinitionsAreNamed, NeedsAreRefused, NeedsLeadOn, DefinitionsComeFirst, LibraryLists, LibraryListsWhole, StandardHasNone, HostileLists, NoneWithoutSections, OverlappingAreCut, VersionsCost};
 
 /// A number that no record names: of a symbol, of definitions that are none, and of one that names
 /// the file itself.
@@ -68,10 +68,16 @@ pub fn library_lists()
     ensures { LibraryLists }
 {}
 
-/// The rest of its listing, in the names of the GNU system.
+/// Its whole listing, in the names of the GNU system.
 #[tactic(auto, unfolding(elf_model::proofs::OnLiterals::on_literals, crate::proofs::OnVersionExamples::on_version_examples))]
-pub fn library_lists_before()
-    ensures { LibraryListsBefore }
+pub fn library_lists_whole()
+    ensures { LibraryListsWhole }
+{}
+
+/// Without the names of the GNU system it has no symbol versions.
+#[tactic(auto, unfolding(elf_model::proofs::OnLiterals::on_literals, crate::proofs::OnVersionExamples::on_version_examples))]
+pub fn standard_has_none()
+    ensures { StandardHasNone }
 {}
 
 /// What leads past the end of a chain.
@@ -92,7 +98,7 @@ pub fn overlapping_are_cut()
     ensures { OverlappingAreCut }
 {}
 
-/// How many bytes the rows ask for at most.
+/// How many bytes are asked for at most.
 #[tactic(auto, unfolding(elf_model::proofs::OnLiterals::on_literals, crate::proofs::OnVersionExamples::on_version_examples))]
 pub fn versions_cost()
     ensures { VersionsCost }
