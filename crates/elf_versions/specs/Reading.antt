@@ -3,7 +3,7 @@ use Rattle.std.specs.Prelude.{ℕ, ◌≡◌, ◌+◌, ◌*◌, ◌^◌, IfSome,
 use Rattle.elf_model.specs.Budget.{IsBudget}
 use Rattle.elf_model.specs.Bytes.{slice}
 use Rattle.elf_model.specs.Records.{vn_next}
-use Rattle.elf_model.specs.Versions.{DEFINITION_SIZE, DEFINED_NAME_SIZE, NEED_SIZE, VERSION_NUMBERS, Met, Stand, Versions, number_in, number_word, flags_word, hash_word, named_at, name_index, no_versions, with_met, met_from, met_at, record_checks, behind, first_stand, most_records}
+use Rattle.elf_model.specs.Versions.{DEFINITION_SIZE, DEFINED_NAME_SIZE, NEED_SIZE, VERSION_NUMBERS, Met, Stand, Versions, number_in, number_word, flags_word, hash_word, named_at, name_index, no_versions, with_met, met_from, met_at, record_checks, behind, first_stand, most_records, record_size}
 use Rattle.elf_model.specs.declared.versions.VersionKind.{VersionKind}
 use Rattle.elf_model.specs.declared.versions.VersionKind.TheVariants.{Definition, File, Need}
 use Rattle.elf_headers.specs.Faults.{IsOfRead}
@@ -112,12 +112,17 @@ pub record StepsIn (file : List ℕ) (old new : Walking) (result : Result (Optio
   pub agrees : Agrees file new
   pub tells : old.failed ≡ None → TellsVersion file (versions_left file old) (versions_left file new) result
 
+-- a step that gives no record may have read one, which is in the table; from then on one fewer is left
+pub record Spends (old new : Walking) : Type 0 where
+  pub one : old.left ≤ new.left + 1
+  pub there : new.left < old.left → IfSome old.standing (λ s. s.place + record_size s.kind ≤ old.held.table.count)
+
 -- where a step leaves a cursor
 abbrev pub LeavesWalk : Walking → Walking → Result (Option VersionRecord) Fault → Type 0
 LeavesWalk old new (Ok (Some given)) =
     (old.failed ≡ None) × (new.failed ≡ None) × (new.left + 1 ≡ old.left) × (number_in given.number < VERSION_NUMBERS)
 LeavesWalk old new (Ok None) = (old.failed ≡ None) × (new ≡ old)
-LeavesWalk old new (Err fault) = new.failed ≡ Some fault
+LeavesWalk old new (Err fault) = (new.failed ≡ Some fault) × Spends old new
 
 -- why a step stopped, if it did: a cursor that had failed reads nothing, and its fault says nothing of the source
 abbrev pub why_stopped_now : {X : Type 0} → Option Fault → Result X Fault → Option Fault
@@ -169,7 +174,7 @@ pub record MeetsIn (file : List ℕ) (old new : Walking) (result : Result Versio
 
 abbrev pub LeavesMet : Walking → Walking → Result VersionRecord Fault → Type 0
 LeavesMet old new (Ok given) = (new.failed ≡ None) × (new.left + 1 ≡ old.left) × (number_in given.number < VERSION_NUMBERS)
-LeavesMet old new (Err fault) = new.failed ≡ None
+LeavesMet old new (Err fault) = (new.failed ≡ None) × Spends old new
 
 -- what every step keeps, fault or not: the table and what is held of it; a cursor that had failed is as it was
 pub record KeepsWalk (old new : Walking) : Type 0 where
