@@ -8,3 +8,7 @@ use Rattle.elf_scope.specs.declared.kind.HashKind.TheVariants.{Gnu, Sysv}
 abbrev pub kind_of : HashKind → IsHashKind
 kind_of Gnu = GnuTable
 kind_of Sysv = SysvTable
+
+-- how many bytes a hash table of a kind has at least
+abbrev pub least_bytes : HashKind → ℕ
+least_bytes kind = least_size (kind_of kind)

@@ -1,14 +1,9 @@
 -- What a lookup is made in, of a file, and where it lies.
 use Rattle.std.specs.Prelude.{ℕ, ◌≡◌, ◌+◌, ◌≤◌, List}
-use Rattle.elf_model.specs.LoaderScope.{Scope as IsScopeOf, least_size}
+use Rattle.elf_model.specs.LoaderScope.{Scope as IsScopeOf}
 use Rattle.elf_scope.specs.Kinds.{kind_of}
 use Rattle.elf_scope.specs.Symbols.{IsSymbols, SymbolsLie}
-use Rattle.elf_scope.specs.declared.kind.HashKind.{HashKind}
 use Rattle.elf_scope.specs.declared.scope.Scope.{Scope}
-
--- how many bytes a hash table of a kind has at least
-abbrev pub least_bytes : HashKind → ℕ
-least_bytes kind = least_size (kind_of kind)
 
 -- WHAT A LOOKUP IS MADE IN is what the definitions tell
 pub record IsScope (file : List ℕ) (told : IsScopeOf) (scope : Scope) : Type 0 where

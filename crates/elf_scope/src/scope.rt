@@ -1,6 +1,6 @@
 //! What a lookup is made in.
 ghost use Rattle.std.specs.Prelude.{◌≤◌};
-ghost use Rattle.elf_scope.specs.Scopes.{least_bytes};
+ghost use Rattle.elf_scope.specs.Kinds.{least_bytes};
 
 use crate::kind::HashKind;
 use crate::symbols::Symbols;
