@@ -1,1 +1,3 @@
 pub mod SetLaws
+pub mod LeftReadings
+pub mod CompareLaws

@@ -1,2 +1,3 @@
 pub mod Wants
 pub mod NumberSets
+pub mod Comparing

@@ -1,5 +1,5 @@
 -- What a cursor over symbol versions gives, record by record.
-use Rattle.std.specs.Prelude.{ℕ, ◌≡◌, ◌+◌, ◌*◌, ◌^◌, IfSome, ◌<◌, ◌≤◌, if◌then◌else◌, Bool, true, List, Option, None, Some, Result, Ok, Err, option_map}
+use Rattle.std.specs.Prelude.{ℕ, ◌≡◌, ◌+◌, ◌*◌, ◌^◌, IfOk, IfSome, ◌<◌, ◌≤◌, if◌then◌else◌, Bool, true, List, Option, None, Some, Result, Ok, Err, option_map}
 use Rattle.elf_model.specs.Budget.{IsBudget}
 use Rattle.elf_model.specs.Bytes.{slice}
 use Rattle.elf_model.specs.Records.{vn_next}
@@ -107,10 +107,15 @@ TellsVersion file old new (Ok None) = old ≡ no_versions None
 TellsVersion file old new (Err (Refused refusal)) = (IsBudget refusal → ⊥) → old ≡ no_versions (Some refusal)
 TellsVersion file old new (Err (Source fault at)) = Unit {0}
 
+-- where a record that is met leads is where the walk stands from then on
+abbrev pub LeadsOn : List ℕ → Walking → Walking → Type 0
+LeadsOn file old new = IfSome old.standing (λ s. option_map stand_of new.standing ≡ behind file old.held.table.at (stand_of s))
+
 -- a step of a cursor in a file: what it has stays the file's, and what it tells is so
 pub record StepsIn (file : List ℕ) (old new : Walking) (result : Result (Option VersionRecord) Fault) : Type 0 where
   pub agrees : Agrees file new
   pub tells : old.failed ≡ None → TellsVersion file (versions_left file old) (versions_left file new) result
+  pub leads : IfOk result (λ step. IfSome step (λ given. LeadsOn file old new))
 
 -- a step that gives no record may have read one, which is in the table; from then on one fewer is left
 pub record Spends (old new : Walking) : Type 0 where
@@ -171,6 +176,7 @@ TellsMet file old new (Err (Source fault at)) = Unit {0}
 pub record MeetsIn (file : List ℕ) (old new : Walking) (result : Result VersionRecord Fault) : Type 0 where
   pub agrees : Agrees file new
   pub tells : TellsMet file (versions_left file old) (versions_left file new) result
+  pub leads : IfOk result (λ given. LeadsOn file old new)
 
 abbrev pub LeavesMet : Walking → Walking → Result VersionRecord Fault → Type 0
 LeavesMet old new (Ok given) = (new.failed ≡ None) × (new.left + 1 ≡ old.left) × (number_in given.number < VERSION_NUMBERS)
