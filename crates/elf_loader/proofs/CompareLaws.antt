@@ -1,17 +1,31 @@
 -- Comparing the records of versions with a wanted one, record by record.
-use Rattle.std.proofs.Common.{◌≡◌, ℕ, suc, ◌+◌, ◌≤◌, ◌==◌, ◌||◌, Bool, true, false, List, [], ◌∷◌, Result, Ok, Err, None, Some, refl, sym, ap, ◌∙◌, arith}
-use Rattle.std.proofs.lemmas.Bool.{cases_Bool}
+use Rattle.std.proofs.Common.{◌≡◌, ℕ, suc, ◌+◌, ◌%◌, ◌^◌, ◌≤◌, ◌==◌, ◌||◌, nat_lt, length, Bool, true, false, List, [], ◌∷◌, Result, Ok, Err, None, Some, refl, sym, ap, ◌∙◌, arith}
+use Rattle.std.proofs.lemmas.Bool.Decides.{nat_tests}
+use Rattle.std.specs.List.{position_or_len}
 use Rattle.elf_model.specs.Loader.{Compared, Reading, Meets, Refuses, Misses, compared_until, compared_with, is_among, one_more, with_number}
 use Rattle.elf_model.specs.Names.{same}
 use Rattle.elf_model.specs.Versions.{Met, name_index, named_at, names_version, number_in, number_word}
 use Rattle.elf_model.specs.declared.causes.Cause.{Cause}
 use Rattle.elf_model.specs.declared.causes.Refusal.{Refusal}
-use Rattle.elf_loader.specs.Comparing.{ComparedAs}
+use Rattle.elf_headers.specs.declared.fault.Fault.{Fault}
+use Rattle.elf_headers.specs.declared.fault.Fault.TheVariants.{Refused, Source}
+use Rattle.elf_table.specs.NamesRead.{Refuses as RefusesName}
+use Rattle.elf_versions.specs.Reading.{IsVersion}
+use Rattle.elf_versions.specs.declared.record.VersionRecord.{VersionRecord}
+use Rattle.elf_loader.specs.Comparing.{ComparedAs, ComparesOne}
 use Rattle.elf_loader.specs.NumberSets.{has}
 
 -- a number is one of some with another in front
 pub among-more : (n number : ℕ) (numbers : List ℕ) → is_among n (number ∷ numbers) ≡ (number == n || is_among n numbers)
-among-more n number numbers = ?
+among-more n number numbers = go (number == n) refl (nat_lt (position_or_len (λ other. other == n) numbers) (length numbers)) refl
+  where
+    go : (here : Bool) → (number == n) ≡ here → (later : Bool) → nat_lt (position_or_len (λ other. other == n) numbers) (length numbers) ≡ later
+        → is_among n (number ∷ numbers) ≡ (number == n || is_among n numbers)
+    go true e later is = let some : nat_lt 0 (suc (length numbers)) ≡ true = grind (arith, nat_tests) in rw (e, some) refl
+    go false e true is =
+        let more : nat_lt (1 + position_or_len (λ other. other == n) numbers) (suc (length numbers)) ≡ true = grind (arith, nat_tests) in rw (e, is, more) refl
+    go false e false is =
+        let more : nat_lt (1 + position_or_len (λ other. other == n) numbers) (suc (length numbers)) ≡ false = grind (arith, nat_tests) in rw (e, is, more) refl
 
 -- a record that names no version, one that names the wanted one or another, and one whose name has a fault
 pub compared-none :
@@ -89,3 +103,39 @@ as-wanted old new number all left is more =
     swap true false c = refl
     swap false true c = refl
     swap false false c = refl
+
+-- a record as it is given: it names no version, another or the wanted one, or its name has a fault
+pub one-none :
+    (file wanted strings : List ℕ) (met : Met) (others : List Reading) (set : List ℕ) → names_version file met ≡ false
+    → ComparedAs set set 1 (compared_with file wanted (Meets strings met ∷ others)) (compared_with file wanted others)
+one-none file wanted strings met others set n = as-other set 0 _ _ (compared-none file wanted strings met others n)
+
+pub one-other :
+    (file wanted strings : List ℕ) (met : Met) (others : List Reading) (set : List ℕ) (given : VersionRecord) → IsVersion file met given
+    → names_version file met ≡ true → same strings given.name wanted ≡ Ok false
+    → ComparedAs set set 1 (compared_with file wanted (Meets strings met ∷ others)) (compared_with file wanted others)
+one-other file wanted strings met others set given is n e =
+    as-other set (number_in (number_word file met)) _ _ (compared-is file wanted strings met others false n (ap (λ (off : ℕ). same strings off wanted) (sym is.name) ∙ e))
+
+pub one-wanted :
+    (file wanted strings : List ℕ) (met : Met) (others : List Reading) (old new : List ℕ) (given : VersionRecord) → IsVersion file met given
+    → names_version file met ≡ true → same strings given.name wanted ≡ Ok true
+    → ((n : ℕ) → has new n ≡ (given.number % 2 ^ 15 == n || has old n))
+    → ComparedAs old new 1 (compared_with file wanted (Meets strings met ∷ others)) (compared_with file wanted others)
+one-wanted file wanted strings met others old new given is n e more =
+    as-wanted old new (number_in (number_word file met)) _ _ (compared-is file wanted strings met others true n (ap (λ (off : ℕ). same strings off wanted) (sym is.name) ∙ e))
+    (rw is.number at more)
+
+pub one-fault :
+    (file wanted strings : List ℕ) (met : Met) (others : List Reading) (old new : List ℕ) (given : VersionRecord) (fault : Fault) → IsVersion file met given
+    → names_version file met ≡ true → RefusesName given.named_at fault (same strings given.name wanted)
+    → ComparesOne old new (compared_with file wanted (Meets strings met ∷ others)) (compared_with file wanted others) (Err fault)
+one-fault file wanted strings met others old new given (Refused refusal) is n e = (
+  compared-reads file wanted strings met others,
+  λ other.
+      let told = e other in
+      let at : named_at file met ≡ refusal.at = sym is.named_at ∙ sym told.0 in
+      let c = compared-fault file wanted strings met others refusal.cause n (ap (λ (off : ℕ). same strings off wanted) (sym is.name) ∙ told.1) in
+      rw (c, at) refl,
+)
+one-fault file wanted strings met others old new given (Source fault at) is n e = compared-reads file wanted strings met others

@@ -1,5 +1,5 @@
 -- What comparing the records of versions with a wanted one gives.
-use Rattle.std.specs.Prelude.{ℕ, ◌≡◌, ◌+◌, ◌*◌, ◌||◌, Bool, List, Option, None, Some, Result, Ok, Err, IfSome}
+use Rattle.std.specs.Prelude.{ℕ, ◌≡◌, ◌+◌, ◌*◌, ◌≤◌, ◌||◌, Bool, List, Option, None, Some, Result, Ok, Err, IfSome}
 use Rattle.elf_model.specs.Budget.{IsBudget}
 use Rattle.elf_model.specs.Loader.{Asked as IsAsked, asked_name, Compared, Reading, is_among}
 use Rattle.elf_source.specs.Source.{Counting}

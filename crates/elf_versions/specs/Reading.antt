@@ -1,5 +1,5 @@
 -- What a cursor over symbol versions gives, record by record.
-use Rattle.std.specs.Prelude.{ℕ, ◌≡◌, ◌+◌, ◌*◌, ◌^◌, IfOk, IfSome, ◌<◌, ◌≤◌, if◌then◌else◌, Bool, true, List, Option, None, Some, Result, Ok, Err, option_map}
+use Rattle.std.specs.Prelude.{ℕ, ◌≡◌, ◌+◌, ◌*◌, ◌^◌, IfOk, IfSome, MatchOption, ◌<◌, ◌≤◌, if◌then◌else◌, Bool, true, List, Option, None, Some, Result, Ok, Err, option_map}
 use Rattle.elf_model.specs.Budget.{IsBudget}
 use Rattle.elf_model.specs.Bytes.{slice}
 use Rattle.elf_model.specs.Records.{vn_next}
@@ -120,7 +120,7 @@ pub record StepsIn (file : List ℕ) (old new : Walking) (result : Result (Optio
 -- a step that gives no record may have read one, which is in the table; from then on one fewer is left
 pub record Spends (old new : Walking) : Type 0 where
   pub one : old.left ≤ new.left + 1
-  pub there : new.left < old.left → IfSome old.standing (λ s. s.place + record_size s.kind ≤ old.held.table.count)
+  pub there : new.left < old.left → MatchOption old.standing ⊥ (λ s. s.place + record_size s.kind ≤ old.held.table.count)
 
 -- where a step leaves a cursor
 abbrev pub LeavesWalk : Walking → Walking → Result (Option VersionRecord) Fault → Type 0
