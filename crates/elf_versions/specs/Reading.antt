@@ -1,9 +1,9 @@
 -- What a cursor over symbol versions gives, record by record.
-use Rattle.std.specs.Prelude.{ℕ, ◌≡◌, ◌+◌, ◌*◌, ◌^◌, IfSome, ◌<◌, ◌≤◌, if◌then◌else◌, Bool, true, List, Option, None, Some, Result, Ok, Err, option_map}
+use Rattle.std.specs.Prelude.{ℕ, ◌≡◌, ◌+◌, ◌*◌, ◌^◌, IfOk, IfSome, MatchOption, ◌<◌, ◌≤◌, if◌then◌else◌, Bool, true, List, Option, None, Some, Result, Ok, Err, option_map}
 use Rattle.elf_model.specs.Budget.{IsBudget}
 use Rattle.elf_model.specs.Bytes.{slice}
 use Rattle.elf_model.specs.Records.{vn_next}
-use Rattle.elf_model.specs.Versions.{DEFINITION_SIZE, DEFINED_NAME_SIZE, NEED_SIZE, VERSION_NUMBERS, Met, Stand, Versions, number_in, number_word, flags_word, hash_word, named_at, name_index, no_versions, with_met, met_from, met_at, record_checks, behind, first_stand, most_records}
+use Rattle.elf_model.specs.Versions.{DEFINITION_SIZE, DEFINED_NAME_SIZE, NEED_SIZE, VERSION_NUMBERS, Met, Stand, Versions, number_in, number_word, flags_word, hash_word, named_at, name_index, no_versions, with_met, met_from, met_at, record_checks, behind, first_stand, most_records, record_size}
 use Rattle.elf_model.specs.declared.versions.VersionKind.{VersionKind}
 use Rattle.elf_model.specs.declared.versions.VersionKind.TheVariants.{Definition, File, Need}
 use Rattle.elf_headers.specs.Faults.{IsOfRead}
@@ -107,17 +107,27 @@ TellsVersion file old new (Ok None) = old ≡ no_versions None
 TellsVersion file old new (Err (Refused refusal)) = (IsBudget refusal → ⊥) → old ≡ no_versions (Some refusal)
 TellsVersion file old new (Err (Source fault at)) = Unit {0}
 
+-- where a record that is met leads is where the walk stands from then on
+abbrev pub LeadsOn : List ℕ → Walking → Walking → Type 0
+LeadsOn file old new = IfSome old.standing (λ s. option_map stand_of new.standing ≡ behind file old.held.table.at (stand_of s))
+
 -- a step of a cursor in a file: what it has stays the file's, and what it tells is so
 pub record StepsIn (file : List ℕ) (old new : Walking) (result : Result (Option VersionRecord) Fault) : Type 0 where
   pub agrees : Agrees file new
   pub tells : old.failed ≡ None → TellsVersion file (versions_left file old) (versions_left file new) result
+  pub leads : IfOk result (λ step. IfSome step (λ given. LeadsOn file old new))
+
+-- a step that gives no record may have read one, which is in the table; from then on one fewer is left
+pub record Spends (old new : Walking) : Type 0 where
+  pub one : old.left ≤ new.left + 1
+  pub there : new.left < old.left → MatchOption old.standing ⊥ (λ s. s.place + record_size s.kind ≤ old.held.table.count)
 
 -- where a step leaves a cursor
 abbrev pub LeavesWalk : Walking → Walking → Result (Option VersionRecord) Fault → Type 0
 LeavesWalk old new (Ok (Some given)) =
     (old.failed ≡ None) × (new.failed ≡ None) × (new.left + 1 ≡ old.left) × (number_in given.number < VERSION_NUMBERS)
 LeavesWalk old new (Ok None) = (old.failed ≡ None) × (new ≡ old)
-LeavesWalk old new (Err fault) = new.failed ≡ Some fault
+LeavesWalk old new (Err fault) = (new.failed ≡ Some fault) × Spends old new
 
 -- why a step stopped, if it did: a cursor that had failed reads nothing, and its fault says nothing of the source
 abbrev pub why_stopped_now : {X : Type 0} → Option Fault → Result X Fault → Option Fault
@@ -166,10 +176,11 @@ TellsMet file old new (Err (Source fault at)) = Unit {0}
 pub record MeetsIn (file : List ℕ) (old new : Walking) (result : Result VersionRecord Fault) : Type 0 where
   pub agrees : Agrees file new
   pub tells : TellsMet file (versions_left file old) (versions_left file new) result
+  pub leads : IfOk result (λ given. LeadsOn file old new)
 
 abbrev pub LeavesMet : Walking → Walking → Result VersionRecord Fault → Type 0
 LeavesMet old new (Ok given) = (new.failed ≡ None) × (new.left + 1 ≡ old.left) × (number_in given.number < VERSION_NUMBERS)
-LeavesMet old new (Err fault) = new.failed ≡ None
+LeavesMet old new (Err fault) = (new.failed ≡ None) × Spends old new
 
 -- what every step keeps, fault or not: the table and what is held of it; a cursor that had failed is as it was
 pub record KeepsWalk (old new : Walking) : Type 0 where

@@ -15,8 +15,6 @@ use std::marker::Model;
 
 /// How many numbers versions may have, below which they are.
 const NUMBERS: usize = 1024;
-/// The flag of the definition that names the file itself.
-const BASE: u16 = 1;
 
 /// The size in bytes of the fixed storage of [`NumberNames`].
 pub const NUMBER_NAMES_BYTES: usize = 8 * NUMBERS;
@@ -118,7 +116,7 @@ fn names(given: &VersionRecord) -> NameAt
 {
     match given.kind {
         VersionKind::Definition => {
-            if given.flags & BASE == 0 {
+            if given.names_version() {
                 NameAt::Defined(given.name)
             } else {
                 NameAt::Nowhere

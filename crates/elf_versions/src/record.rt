@@ -1,5 +1,12 @@
 //! A record of symbol versions that a cursor gives.
+ghost use Rattle.std.specs.Prelude.{◌≡◌, ℕ, List};
+ghost use Rattle.elf_model.specs.Versions.{Met, names_version};
+ghost use Rattle.elf_versions.specs.Reading.{IsVersion};
+
 use elf_record::VersionKind;
+
+/// The flag of the definition that names the file itself.
+const BASE: u16 = 1;
 
 /// A record of definitions or needs (Linux Standard Base Core, Symbol Versioning). A needed file has
 /// no number, no flags and no hash: these are 0.
@@ -20,4 +27,20 @@ pub struct VersionRecord {
     pub named_at: u64,
     /// The index of its name in the string table.
     pub name: u32,
+}
+
+impl VersionRecord {
+    /// Whether it names a version: a needed version does, and a definition that does not name the
+    /// file itself (Linux Standard Base Core, Symbol Versioning).
+    #[tactic(auto, unfolding(elf_model::specs::Versions::names_version, elf_model::specs::Versions::flags_word))]
+    pub fn names_version(&self) -> bool
+        ensures { (file : List ℕ) (met : Met) → IsVersion file met self.now →
+            result ≡ names_version file met }
+    {
+        match self.kind {
+            VersionKind::Definition => self.flags & BASE == 0,
+            VersionKind::File => false,
+            VersionKind::Need => true,
+        }
+    }
 }

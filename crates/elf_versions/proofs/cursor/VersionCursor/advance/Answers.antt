@@ -14,4 +14,4 @@ returns-in_default-standing-clause-did g c =
     (rw going
     (Did-as _ (omega arith) (Did-none c.args.src.now)
     (λ file told costs agrees.
-    record { agrees = agrees; tells = λ well. rw ended (met-ended file i.held.table.at i.held.table.count i.left) })))
+    record { agrees = agrees; tells = λ well. rw ended (met-ended file i.held.table.at i.held.table.count i.left); leads = tt })))

@@ -24,7 +24,7 @@ returns-then-self-eq0-clause-did g c =
     rw (c.refused.ensures, ← c.self.view_is)
     (Did-as _ (omega arith) (Did-stop (Refused (record { at = s.from; cause = VersionCut })) (λ budget. cc) (Did-none c.args.src.now))
     (λ file told costs agrees.
-    record { agrees = agrees; tells = λ other. rw stands (cut-here file i.held.table.at i.held.table.count (stand_of s) i.left why) }))
+    record { agrees = agrees; tells = λ other. rw stands (cut-here file i.held.table.at i.held.table.count (stand_of s) i.left why); leads = tt }))
 
 pub returns-in_err-step-clause-did : goal.returns-in_err-step-clause-did
 returns-in_err-step-clause-did g c =
@@ -39,6 +39,7 @@ returns-in_err-step-clause-did g c =
     (λ file told costs agrees. record {
       agrees = record { held = agrees.held; ahead = agrees.ahead };
       tells = step-refused file i.held.table.at i.held.table.count i.standing s i.left (no_versions None) _ stands some (told agrees.held (rw stands at agrees.ahead));
+      leads = tt;
     }))
 
 pub returns-clause-did : goal.returns-clause-did
@@ -59,4 +60,5 @@ returns-clause-did g c =
         first = rw stands (step-met file i.held.table.at i.held.table.count (stand_of s) i.left c.in_ok-step.step some step);
         is = step.is;
       };
+      leads = rw stands step.leads;
     }))

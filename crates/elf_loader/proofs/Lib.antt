@@ -1,0 +1,4 @@
+pub mod SetLaws
+pub mod LeftReadings
+pub mod CompareLaws
+pub mod TableLaws

@@ -1,0 +1,55 @@
+-- A number is put into a set of bits.
+use Rattle.std.proofs.Common.{◌≡◌, ◌≢◌, ℕ, ◌+◌, ◌*◌, ◌/◌, ◌%◌, ◌^◌, ◌<◌, ◌==◌, ◌||◌, Bool, true, false, List, length, get_or, max, inl, inr, refl, ap, sym, ◌∙◌, arith}
+use Rattle.std.proofs.lemmas.Bool.{cases_eq}
+use Rattle.std.proofs.lemmas.Bool.Decides.{nat_tests}
+use Rattle.std.proofs.lemmas.List.{get_or-set_same, get_or-set_other}
+use Rattle.std.proofs.lemmas.Nat.Bits.{bit_at-lt, bit_at-pow_other, bit_at-pow_same, bit_at_or}
+use Rattle.std.proofs.Math.ListN.{set}
+use Rattle.std.proofs.Math.Pow.{pow-lt}
+use Rattle.std.specs.Int.{bit_at}
+use Rattle.std.specs.Int.RustNames.{bit_or}
+use Rattle.elf_loader.specs.NumberSets.{has}
+
+-- a word with a bit more
+bit-more : (word j k : ℕ) → (bit_at (bit_or word (2 ^ j)) k == 1) ≡ (j == k || bit_at word k == 1)
+bit-more word j k =
+    let joined = bit_at_or word (2 ^ j) k in
+    let small = bit_at-lt word k in
+    elim (cases_eq j k) [
+      | inl same ↦ let one = bit_at-pow_same k in rw (joined, same, one) (grind (arith, nat_tests))
+      | inr other ↦ let none = bit_at-pow_other j k (λ e. other (sym e)) in rw (joined, none) (grind (arith, nat_tests))
+    ]
+
+-- numbers of one word are the same where their bits are
+alike-places : (number other : ℕ) → number / 64 ≡ other / 64 → (number % 64 == other % 64) ≡ (number == other)
+alike-places number other same =
+    elim (cases_eq (number % 64) (other % 64)) [
+      | inl bit ↦ let e : number ≡ other = omega (arith, same, bit) in grind (arith, nat_tests)
+      | inr bit ↦ let e : number ≢ other = λ e. bit (ap (λ (n : ℕ). n % 64) e) in grind (arith, nat_tests)
+    ]
+
+-- numbers of two words are two
+differ-words : (number other : ℕ) → other / 64 ≢ number / 64 → (number == other) ≡ false
+differ-words number other apart = let e : number ≢ other = λ e. apart (ap (λ (n : ℕ). n / 64) (sym e)) in grind (arith, nat_tests)
+
+-- its word has one bit more, and the others are as they were
+pub has-more :
+    (words : List ℕ) (number other : ℕ) → number / 64 < length words
+    → has (set words (number / 64) (bit_or (get_or words (number / 64) 0) (2 ^ (number % 64)))) other
+    ≡ (number == other || has words other)
+has-more words number other inside =
+    elim (cases_eq (other / 64) (number / 64)) [
+      | inl same ↦
+          let here = get_or-set_same words (number / 64) (bit_or (get_or words (number / 64) 0) (2 ^ (number % 64))) 0 inside in
+          let more = bit-more (get_or words (number / 64) 0) (number % 64) (other % 64) in
+          let alike : (number % 64 == other % 64) ≡ (number == other) = alike-places number other (sym same) in
+          rw (same, here, more, alike) refl
+      | inr apart ↦
+          let kept = get_or-set_other words (number / 64) (other / 64) (bit_or (get_or words (number / 64) 0) (2 ^ (number % 64))) 0 apart in
+          let differ : (number == other) ≡ false = differ-words number other apart in
+          rw (kept, differ) refl
+    ]
+
+-- the bit is in a word
+pub bit-fits : (number : ℕ) → 1 * 2 ^ (number % 64) % 2 ^ 64 ≡ 2 ^ (number % 64)
+bit-fits number = let small = pow-lt {i = number % 64} {j = 64} (omega arith) in omega (arith, small)

@@ -1,0 +1,30 @@
+-- What comparing the records of versions with a wanted one gives.
+use Rattle.std.specs.Prelude.{ℕ, ◌≡◌, ◌+◌, ◌*◌, ◌≤◌, ◌||◌, Bool, List, Option, None, Some, Result, Ok, Err, IfSome}
+use Rattle.elf_model.specs.Budget.{IsBudget}
+use Rattle.elf_model.specs.Loader.{Asked as IsAsked, asked_name, Compared, Reading, is_among}
+use Rattle.elf_source.specs.Source.{Counting}
+use Rattle.elf_headers.specs.Ledger.{Charges}
+use Rattle.elf_headers.specs.declared.fault.Fault.{Fault}
+use Rattle.elf_headers.specs.declared.fault.Fault.TheVariants.{Refused, Source}
+use Rattle.elf_loader.specs.NumberSets.{has}
+
+-- SO MUCH OF COMPARING IS DONE: some records are read, and what they give is in the set; the others are left
+pub record ComparedAs (old new : List ℕ) (records : ℕ) (all left : Compared) : Type 0 where
+  pub numbers : (number : ℕ) → (has old number || is_among number all.numbers) ≡ (has new number || is_among number left.numbers)
+  pub refused : all.refused ≡ left.refused
+  pub read : all.read ≡ records + left.read
+
+-- comparing some records, each of which asks for at most so many bytes: they are compared, and the others are left; or
+-- comparing is refused, unless a read failed
+abbrev pub Compares : Counting → Counting → ℕ → List ℕ → List ℕ → Compared → Compared → Result (Unit {0}) Fault → Type 0
+Compares before after each old new all left (Ok x) =
+    (records : ℕ) × Charges before after None (records * each) × ComparedAs old new records all left
+Compares before after each old new all left (Err (Refused refusal)) =
+    Charges before after (Some (Refused refusal)) (all.read * each) × ((IsBudget refusal → ⊥) → all.refused ≡ Some refusal)
+Compares before after each old new all left (Err (Source fault at)) = Charges before after (Some (Source fault at)) (all.read * each)
+
+-- comparing one record, whose refusal is at that
+abbrev pub ComparesOne : List ℕ → List ℕ → Compared → Compared → Result (Unit {0}) Fault → Type 0
+ComparesOne old new all left (Ok x) = ComparedAs old new 1 all left
+ComparesOne old new all left (Err (Refused refusal)) = (1 ≤ all.read) × ((IsBudget refusal → ⊥) → all.refused ≡ Some refusal)
+ComparesOne old new all left (Err (Source fault at)) = 1 ≤ all.read

@@ -1,0 +1,71 @@
+//! The numbers of the version that is asked for by its name.
+ghost use Rattle.std.specs.Prelude.{◌≡◌, ℕ, ◌+◌, ◌*◌, ◌<◌, ◌≤◌, ◌∷◌, List, length};
+ghost use Rattle.elf_headers.specs.Ledger.{Did, why_stopped};
+ghost use Rattle.elf_loader.specs.Comparing.{Compares, ComparesOne};
+ghost use Rattle.elf_model.specs.Loader.{Reading, Meets, RecordTable as IsTableOf, compared_with, readings_of};
+ghost use Rattle.elf_model.specs.Names.{pad64};
+ghost use Rattle.elf_model.specs.Versions.{Met, VERSION_NUMBERS, most_records, number_in};
+ghost use Rattle.elf_scope.specs.Symbols.{IsRecordTable, RecordsWithin};
+ghost use Rattle.elf_table.specs.Tables.{StringsWithin, strings_in};
+ghost use Rattle.elf_versions.specs.Reading.{IsVersion};
+
+use crate::number_set::NumberSet;
+use elf_headers::Fault;
+use elf_scope::RecordTable;
+use elf_source::{Counted, Source};
+use elf_table::Names;
+use elf_versions::{VersionCursor, VersionRecord};
+
+/// Compares the records of a table that name a version with the wanted one, and puts the numbers of
+/// those that are it into a set.
+///
+/// # Errors
+/// As for [`VersionCursor::advance`], and a fault of a name at the record that holds it.
+pub(crate) fn compare_table<S: Source>(
+    src: &mut Counted<S>,
+    records: &RecordTable,
+    version: &[u8],
+    numbers: &mut NumberSet,
+) -> Result<(), Fault>
+    requires most { length version.now ≤ 4096 }
+    requires within { RecordsWithin src.old.seen.size records.now }
+    ensures { Did src.old src.new (why_stopped result)
+        (most_records records.now.kind records.now.table.count * (28 + pad64 (length version.now + 1)))
+        (λ file. (told : IsTableOf) (others : List Reading) → IsRecordTable file told records.now →
+        Compares src.old src.new (28 + pad64 (length version.now + 1)) numbers.old numbers.new
+        (compared_with file version.now (readings_of file told others))
+        (compared_with file version.now others) result) }
+{
+    let mut cursor = VersionCursor::one_by_one(records.kind, records.head, records.table);
+    'records: while let Some(given) = cursor.advance(src)? {
+        compare_record(src, &records.names, &given, version, numbers)?;
+    }
+    Ok(())
+}
+
+// Compares a record with the wanted version, if it names one.
+fn compare_record<S: Source>(
+    src: &mut Counted<S>,
+    names: &Names,
+    given: &VersionRecord,
+    version: &[u8],
+    numbers: &mut NumberSet,
+) -> Result<(), Fault>
+    requires most { length version.now ≤ 4096 }
+    requires within { StringsWithin src.old.seen.size names.now }
+    requires small { number_in given.now.number < VERSION_NUMBERS }
+    ensures { Did src.old src.new (why_stopped result) (pad64 (length version.now + 1))
+        (λ file. (met : Met) (others : List Reading) → IsVersion file met given.now →
+        ComparesOne numbers.old numbers.new
+        (compared_with file version.now (Meets (strings_in file names.now) met ∷ others))
+        (compared_with file version.now others) result) }
+{
+    if !given.names_version() {
+        return Ok(());
+    }
+    let off = u64::from(given.name);
+    if names.equals(src, off, given.named_at, version)? {
+        numbers.insert(given.number % (1 << 15));
+    }
+    Ok(())
+}

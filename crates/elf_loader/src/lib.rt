@@ -1,0 +1,12 @@
+//! The lookup of a name in a file as a loader of the GNU system does it: by the symbol's record, its
+//! name and its version. No call takes memory.
+#![tactic(auto)]
+
+mod comparing;
+mod fitting;
+mod number_set;
+mod offered;
+mod wanted;
+
+pub use offered::is_offered;
+pub use wanted::{Asked, Wanted, wanted_of};

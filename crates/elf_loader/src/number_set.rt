@@ -1,0 +1,50 @@
+//! A set of numbers of versions.
+ghost use Rattle.std.specs.Prelude.{◌≡◌, ℕ, ◌<◌, ◌==◌, ◌||◌, false};
+ghost use Rattle.elf_loader.specs.NumberSets.{has};
+
+use std::marker::Model;
+
+/// How many numbers versions may have, below which they are.
+const NUMBERS: u16 = 1024;
+/// How many words of 64 bits hold a bit for each.
+const WORDS: usize = 16;
+
+/// A set of numbers of versions, of which each is below 1,024: a bit for each.
+#[derive(Drop)]
+pub(crate) struct NumberSet {
+    words: [u64; WORDS],
+}
+
+impl Model for NumberSet {
+    ghost use Rattle.std.specs.Prelude.{◌≡◌, ℕ, List, length};
+
+    ghost Value = { List ℕ };
+
+    ghost view = { λ s. s.words };
+
+    ghost invariant = { λ s. length s.words ≡ 16 };
+}
+
+impl NumberSet {
+    /// No number.
+    pub(crate) fn new() -> NumberSet
+        ensures { (number : ℕ) → has result number ≡ false }
+    {
+        NumberSet { words: [0; WORDS] }
+    }
+
+    /// Whether a number is in the set.
+    pub(crate) fn contains(&self, number: u16) -> bool
+        ensures { result ≡ has self.now number }
+    {
+        number < NUMBERS && self.words[usize::from(number / 64)] >> (number % 64) & 1 == 1
+    }
+
+    /// Puts a number below 1,024 into the set.
+    pub(crate) fn insert(&mut self, number: u16)
+        requires { number < 1024 }
+        ensures { (other : ℕ) → has self.new other ≡ (number == other || has self.old other) }
+    {
+        self.words[usize::from(number / 64)] |= 1 << (number % 64);
+    }
+}

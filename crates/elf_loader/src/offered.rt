@@ -1,0 +1,57 @@
+//! Which symbols are offered to others.
+ghost use Rattle.std.specs.Prelude.{◌≡◌, ℕ, ◌∷◌, [], List};
+ghost use Rattle.elf_model.specs.Loader.{is_among, is_offered};
+ghost use Rattle.elf_model.specs.Numbers.{STB_GLOBAL, STB_WEAK, STB_GNU_UNIQUE, STT_NOTYPE, STT_OBJECT, STT_FUNC, STT_COMMON, STT_TLS, STT_GNU_IFUNC, STV_DEFAULT, STV_PROTECTED};
+ghost use Rattle.elf_record.specs.Sym.{IsSym};
+
+use elf_record::Sym;
+use elf_record::gnu_numbers::{STB_GNU_UNIQUE, STT_GNU_IFUNC};
+use elf_record::numbers::{
+    SHN_ABS, SHN_UNDEF, STB_GLOBAL, STB_WEAK, STT_COMMON, STT_FUNC, STT_NOTYPE, STT_OBJECT,
+    STT_TLS, STV_DEFAULT, STV_PROTECTED,
+};
+
+/// Whether a symbol is offered to other files, as a loader of the GNU system takes it. It is not
+/// undefined and of thread-local storage; it has a value, or it is absolute or of thread-local
+/// storage, where 0 is a value; its type is none, that of an object, of a function, of a common
+/// block, of thread-local storage or of an indirect function; it is global, weak or unique; and its
+/// visibility is the default one or protected (gABI 4, Symbol Table). An undefined symbol with a
+/// value is offered: it is a function whose address the program gives out.
+#[tactic(auto, unfolding(elf_model::specs::Loader::is_offered))]
+pub fn is_offered(symbol: &Sym) -> bool
+    ensures { (file : List ℕ) (at : ℕ) → IsSym file at symbol.now → result ≡ is_offered file at }
+{
+    let is_tls = symbol.kind() == STT_TLS;
+    !(is_tls && symbol.st_shndx == SHN_UNDEF)
+        && (symbol.st_value != 0 || symbol.st_shndx == SHN_ABS || is_tls)
+        && has_offered_type(symbol.kind())
+        && has_offered_binding(symbol.binding())
+        && has_offered_visibility(symbol.visibility())
+}
+
+// Whether a type is one of symbols for others.
+fn has_offered_type(kind: u8) -> bool
+    ensures { result ≡ is_among kind
+        (STT_NOTYPE ∷ STT_OBJECT ∷ STT_FUNC ∷ STT_COMMON ∷ STT_TLS ∷ STT_GNU_IFUNC ∷ []) }
+{
+    kind == STT_NOTYPE
+        || kind == STT_OBJECT
+        || kind == STT_FUNC
+        || kind == STT_COMMON
+        || kind == STT_TLS
+        || kind == STT_GNU_IFUNC
+}
+
+// Whether a binding is one of symbols for others.
+fn has_offered_binding(binding: u8) -> bool
+    ensures { result ≡ is_among binding (STB_GLOBAL ∷ STB_WEAK ∷ STB_GNU_UNIQUE ∷ []) }
+{
+    binding == STB_GLOBAL || binding == STB_WEAK || binding == STB_GNU_UNIQUE
+}
+
+// Whether a visibility is one of symbols for others.
+fn has_offered_visibility(visibility: u8) -> bool
+    ensures { result ≡ is_among visibility (STV_DEFAULT ∷ STV_PROTECTED ∷ []) }
+{
+    visibility == STV_DEFAULT || visibility == STV_PROTECTED
+}

@@ -1,0 +1,12 @@
+//! What a loader of the GNU system looks a name up in, in one file: the hash table, the symbols with
+//! their names, and the tables of their versions, by the section headers or where a file has none by
+//! the program headers. No call takes memory.
+#![tactic(auto)]
+
+mod kind;
+mod scope;
+mod symbols;
+
+pub use kind::HashKind;
+pub use scope::Scope;
+pub use symbols::{RecordTable, Symbols, VersionWords};
