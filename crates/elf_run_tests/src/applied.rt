@@ -51,40 +51,6 @@ fn a_section_is_applied_or_refused(rt: HostRuntime) -> Result<(), Fail> {
     check_answer(&rt, &asked, &file, outside, 1, 613)
 }
 
-/// A layout with an address of section 1 and of the two entries of `f` in the global offset table.
-fn tabled(rt: &impl Abort) -> Layout {
-    let mut layout = Layout::new();
-    for item in [
-        Item::Section {
-            index: 1,
-            address: 0x1000,
-        },
-        Item::Table {
-            name: b"f",
-            address: 0x4000,
-        },
-        Item::Thread {
-            name: b"f",
-            address: 0x5000,
-        },
-    ] {
-        layout.push(item).expect(rt, "an item");
-    }
-    layout
-}
-
-#[test]
-fn entries_of_the_global_offset_table_are_taken(rt: HostRuntime) -> Result<(), Fail> {
-    let layout = tabled(&rt);
-    let asked = call_applied(1, &layout)?;
-    for kind in [9, 41, 42] {
-        let file = with_bytes(one_call(), 0x50, &[kind]);
-        check_answer(&rt, &asked, &file, &[0xe8, 0xfb, 0x2f, 0, 0], 0, 741)?;
-    }
-    let file = with_bytes(one_call(), 0x50, &[22]);
-    check_answer(&rt, &asked, &file, &[0xe8, 0xfb, 0x3f, 0, 0], 0, 741)
-}
-
 #[test]
 fn each_read_and_write_of_an_applied_section_fails_in_turn(rt: HostRuntime) -> Result<(), Fail> {
     // The file header, the section headers, and the entries, which are checked; then they are read

@@ -1,13 +1,11 @@
 //! Tests of requests carried out: whole answers, every budget up to a cost, each read and each write
-//! failing in turn, files that change between reads, and how a run ends.
+//! failing in turn, and files that change between reads.
 #![tactic(auto)]
 
 #[cfg(test)]
 mod applied;
 #[cfg(test)]
 mod budgets;
-#[cfg(test)]
-mod endings;
 #[cfg(test)]
 mod listings;
 #[cfg(test)]

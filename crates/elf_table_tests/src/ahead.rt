@@ -1,8 +1,7 @@
-//! How often a source is read for names and symbols, in order, with gaps, again and scattered, and
-//! what a fault in bytes that were read ahead leaves.
+//! How often a source is read for names and symbols, in order, with gaps, again and scattered.
 use elf_fakes::Planned;
 use elf_names::{NameIndex, ReadAhead};
-use elf_source::{Counted, SourceFault};
+use elf_source::Counted;
 use elf_table::{Cap, Fault, NameBuf, NameEnd, Names, Table};
 use std::process::Abort;
 
@@ -75,27 +74,6 @@ fn scattered_names_behind_a_run_take_one_small_read_each(rt: HostRuntime) {
     // 64 and 128 bytes for the run, 256 behind it, and then 64 each.
     assert!(rt; src.asked() == 64 + 128 + 256 + 149 * 64);
     assert!(rt; src.into_inner().reads == 152);
-}
-
-#[test]
-fn a_fault_in_bytes_read_ahead_leaves_nothing_held(rt: HostRuntime) {
-    let bytes = strings();
-    let device = SourceFault::Device;
-    for (failing, at) in [(1, 0), (2, 64), (3, 192), (8, 8128)] {
-        let mut src = Counted::new(Planned::new(&bytes, failing));
-        let mut ahead = ReadAhead::new();
-        for i in 0..2000 {
-            let off = 8 * i;
-            let end = read_name(&mut ahead, &mut src, off, &rt);
-            let fault = Fault::Source { fault: device, at };
-            let wanted = if off == at {
-                Err(fault)
-            } else {
-                Ok(NameEnd::Whole)
-            };
-            assert!(rt; end == wanted, "{failing} {i}");
-        }
-    }
 }
 
 /// How many symbols the tables here have.

@@ -1,13 +1,8 @@
-//! A limit on what may be asked for: the section whole, or a refusal and nothing written.
-ghost use Rattle.std.specs.Prelude.{◌≤◌};
-
-use crate::applying::{applied, placed, refused};
+//! Where a limit on what may be asked for refuses a section, and how much was asked for by then.
 use elf_apply::{Applied, apply};
-use elf_fixtures::{
-    falling_relocations, one_call, overlapping_relocations, rising_relocations, with_bytes,
-};
+use elf_fixtures::{one_call, rising_relocations};
 use elf_layout::{Item, Layout};
-use elf_record::Cause;
+use elf_record::{Cause, Refusal};
 use elf_source::{Counted, MemorySource, Out, SliceSink};
 use elf_table::{HeaderRoom, HeaderStore, Stop};
 use std::process::Abort;
@@ -35,52 +30,22 @@ fn limited(
     (answer, asked, bytes)
 }
 
-/// Goes through the budgets up to a cost.
-fn check_budgets(rt: &impl Abort, file: &[u8], layout: &Layout, store: &mut HeaderStore, cost: u64)
-    requires { cost ≤ 10000 }
-{
-    let mut whole = [9; 128];
-    let (done, _, _) = applied(file, layout, store, &mut whole);
-    assert!(rt; done.is_ok());
-    for budget in 0..=cost {
-        let (answer, asked, bytes) = limited(rt, file, layout, store, budget);
-        assert!(rt; asked <= u128::from(budget), "{budget} bytes");
-        if let Err(Stop::Refused(refusal)) = answer {
-            assert!(rt; refusal.cause == Cause::Budget);
-            assert!(rt; refusal.at < file.len() as u64);
-            assert!(rt; bytes == [9; 128], "{budget} bytes");
-            assert!(rt; budget < cost);
-        } else {
-            assert!(rt; answer == done);
-            assert!(rt; bytes == whole, "{budget} bytes");
-        }
-    }
-}
-
 /// The layout in which the call goes to its linkage entry.
 fn linked(rt: &impl Abort) -> Layout {
-    let mut layout = placed(0x1000, rt);
-    let address = 0x2000;
-    layout
-        .push(Item::Entry {
+    let mut layout = Layout::new();
+    for item in [
+        Item::Section {
+            index: 1,
+            address: 0x1000,
+        },
+        Item::Entry {
             name: b"f",
-            address,
-        })
-        .expect(rt, "an entry");
+            address: 0x2000,
+        },
+    ] {
+        layout.push(item).expect(rt, "an item");
+    }
     layout
-}
-
-#[test]
-fn budgets_up_to_the_cost(rt: HostRuntime) -> Result<(), Fail> {
-    let mut room = HeaderRoom::new(rt.alloc(), 5)?;
-    let mut store = room.store();
-    let layout = Layout::new();
-    let overlapping = overlapping_relocations();
-    check_budgets(&rt, overlapping, &layout, &mut store, 456);
-    check_budgets(&rt, rising_relocations(), &layout, &mut store, 768);
-    check_budgets(&rt, &falling_relocations(), &layout, &mut store, 960);
-    check_budgets(&rt, one_call(), &linked(&rt), &mut store, 613);
-    Ok(())
 }
 
 /// Checks the refusal within a budget, and how many bytes were asked for before.
@@ -93,7 +58,11 @@ fn check_refused(
 ) {
     let (budget, at, wanted) = row;
     let (answer, asked, bytes) = limited(rt, file, layout, store, budget);
-    assert!(rt; answer == refused(at, Cause::Budget), "{budget} bytes");
+    let cause = Cause::Budget;
+    assert!(rt;
+        answer == Err(Stop::Refused(Refusal { at, cause })),
+        "{budget} bytes"
+    );
     assert!(rt; asked == wanted, "{budget} bytes");
     assert!(rt; bytes == [9; 128], "{budget} bytes");
 }
@@ -122,18 +91,6 @@ fn a_refusal_names_the_read_or_the_section(rt: HostRuntime) -> Result<(), Fail> 
 }
 
 #[test]
-fn windows_take_a_pass_each(rt: HostRuntime) -> Result<(), Fail> {
-    let mut room = HeaderRoom::new(rt.alloc(), 3)?;
-    let mut store = room.store();
-    let layout = Layout::new();
-    let file = falling_relocations();
-    check_refused(&rt, &file, &layout, &mut store, (863, 0x40, 352));
-    let (answer, asked, _) = limited(&rt, &file, &layout, &mut store, 864);
-    assert!(rt; (answer.is_ok(), asked) == (true, 672));
-    Ok(())
-}
-
-#[test]
 fn each_entry_may_take_its_symbol_and_all_names(rt: HostRuntime) -> Result<(), Fail> {
     let mut room = HeaderRoom::new(rt.alloc(), 5)?;
     let mut store = room.store();
@@ -145,21 +102,5 @@ fn each_entry_may_take_its_symbol_and_all_names(rt: HostRuntime) -> Result<(), F
     check_refused(&rt, one_call(), &layout, &mut store, (550, 0x40, 434));
     let (answer, asked, _) = limited(&rt, one_call(), &layout, &mut store, 551);
     assert!(rt; (answer.is_ok(), asked) == (true, 489));
-    Ok(())
-}
-
-#[test]
-fn a_section_without_bytes_takes_no_pass_that_writes(rt: HostRuntime) -> Result<(), Fail> {
-    let mut room = HeaderRoom::new(rt.alloc(), 5)?;
-    let mut store = room.store();
-    let layout = Layout::new();
-    let none = with_bytes(&with_bytes(one_call(), 0x50, &[0]), 0xdc, &[8]);
-    check_refused(&rt, &none, &layout, &mut store, (407, 0x48, 384));
-    let (answer, asked, _) = limited(&rt, &none, &layout, &mut store, 408);
-    let nothing = Applied {
-        size: 0,
-        entries: 1,
-    };
-    assert!(rt; (answer, asked) == (Ok(nothing), 408));
     Ok(())
 }

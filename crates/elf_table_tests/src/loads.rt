@@ -6,10 +6,7 @@ use elf_table::{Fault, HeaderRoom, HeaderStore, Loaded, header, load};
 use std::test::Fail;
 
 /// Reads the header and loads the section headers.
-pub(crate) fn open<S: Source>(
-    src: &mut Counted<S>,
-    store: &mut HeaderStore,
-) -> Result<Loaded, Fault> {
+fn open<S: Source>(src: &mut Counted<S>, store: &mut HeaderStore) -> Result<Loaded, Fault> {
     let header = header(src)?;
     load(src, store, &header)
 }
@@ -52,14 +49,4 @@ fn a_store_of_any_size_can_be_made(rt: HostRuntime) -> Result<(), Fail> {
         assert!(rt; store.slots() == headers);
     }
     Ok(())
-}
-
-/// A file of 65 section headers, one more than a page has.
-pub(crate) fn two_pages() -> [u8; 64 + 64 * 65] {
-    let mut file = [0; 64 + 64 * 65];
-    file[..64].copy_from_slice(&tables_over_headers()[..64]);
-    file[0x3c] = 65;
-    file[64 + 64 * 63] = 5;
-    file[64 + 64 * 64] = 6;
-    file
 }

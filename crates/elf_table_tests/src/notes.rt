@@ -4,7 +4,7 @@ ghost use Rattle.elf_table.specs.Tables.{RowsWithin};
 
 use elf_fakes::Planned;
 use elf_note::NoteCursor;
-use elf_source::{Counted, MemorySource, Source, SourceFault};
+use elf_source::{Counted, Source};
 use elf_table::{Cap, Fault, NameBuf, Table};
 use std::process::Abort;
 
@@ -26,23 +26,25 @@ fn notes_given<S: Source>(
     Ok(count)
 }
 
-// How many notes a table that is all of a file has, and how many bytes were asked for.
-fn walk(bytes: &[u8], cap: u16, rt: &impl Abort) -> (Result<u64, Fault>, u128) {
+// How many notes a table that is all of a file has, how often the source was read, and how many bytes
+// were asked for.
+fn walk(bytes: &[u8], cap: u16, rt: &impl Abort) -> (Result<u64, Fault>, u32, u128) {
     assert!(rt; cap >= 1 && cap <= 4096);
     let mut name = NameBuf::new();
-    let mut src = Counted::new(MemorySource::new(bytes));
+    let mut src = Counted::new(Planned::new(bytes, 0));
     let mut cursor = NoteCursor::new(Table::new(0, bytes.len() as u64, 1), 4);
     assert!(rt; src.length() == bytes.len() as u64);
     let given = notes_given(&mut cursor, &mut src, Cap { bytes: cap }, &mut name);
-    (given, src.asked())
+    let asked = src.asked();
+    (given, src.into_inner().reads, asked)
 }
 
 #[test]
 fn what_is_not_shown_of_a_long_name_is_not_read(rt: HostRuntime) {
     let mut bytes = [b'a'; 4109];
     bytes[..12].copy_from_slice(&[1, 16, 0, 0, 0, 0, 0, 0, 1, 0, 0, 0]);
-    assert!(rt; walk(&bytes, 4096, &rt) == (Ok(1), 4109));
-    assert!(rt; walk(&bytes, 1, &rt) == (Ok(1), 4096));
+    assert!(rt; walk(&bytes, 4096, &rt) == (Ok(1), 2, 4109));
+    assert!(rt; walk(&bytes, 1, &rt) == (Ok(1), 1, 4096));
 }
 
 #[test]
@@ -50,46 +52,15 @@ fn a_long_descriptor_is_passed_over(rt: HostRuntime) {
     // A descriptor of 12,000 bytes, and behind it a note of nothing but its head.
     let mut bytes = [0; 12_024];
     bytes[4..6].copy_from_slice(&[0xe0, 0x2e]);
-    assert!(rt; walk(&bytes, 256, &rt) == (Ok(2), 4096 + 12));
-}
-
-// Goes over a table with one note, whose name has no NUL and is all that follows the head: the same
-// twice, where the read with the number `failing` fails, with how often the source was read.
-fn long_name_twice(
-    size: usize,
-    failing: u32,
-    rt: &impl Abort,
-) -> (Result<u64, Fault>, Result<u64, Fault>, u32) {
-    let mut bytes = [b'a'; 4097];
-    assert!(rt; size >= 12 && size <= 4097);
-    let namesz = ((size - 12) as u32).to_le_bytes();
-    bytes[..4].copy_from_slice(&namesz);
-    bytes[4..12].copy_from_slice(&[0, 0, 0, 0, 1, 0, 0, 0]);
-    let cap = Cap { bytes: 4096 };
-    let mut name = NameBuf::new();
-    let mut src = Counted::new(Planned::new(&bytes[..size], failing));
-    let mut cursor = NoteCursor::new(Table::new(0, size as u64, 1), 4);
-    assert!(rt; src.length() == size as u64);
-    let first = notes_given(&mut cursor, &mut src, cap, &mut name);
-    assert!(rt; src.length() == size as u64);
-    let second = notes_given(&mut cursor, &mut src, cap, &mut name);
-    (first, second, src.into_inner().reads)
+    assert!(rt; walk(&bytes, 256, &rt) == (Ok(2), 2, 4096 + 12));
 }
 
 #[test]
 fn notes_are_read_by_pages(rt: HostRuntime) {
-    assert!(rt; long_name_twice(4096, 0, &rt) == (Ok(1), Ok(0), 1));
-    assert!(rt; long_name_twice(4097, 0, &rt) == (Ok(1), Ok(0), 2));
-}
-
-#[test]
-fn a_failed_note_cursor_fails_the_same_for_good(rt: HostRuntime) {
-    for (failing, at) in [(1, 0), (2, 4096)] {
-        let fault = Fault::Source {
-            fault: SourceFault::Device,
-            at,
-        };
-        let answer = long_name_twice(4097, failing, &rt);
-        assert!(rt; answer == (Err(fault), Err(fault), failing), "{failing}");
-    }
+    // A note whose name is all that follows the head, of one page and of a byte more.
+    let mut bytes = [b'a'; 4097];
+    bytes[..12].copy_from_slice(&[0xf4, 15, 0, 0, 0, 0, 0, 0, 1, 0, 0, 0]);
+    assert!(rt; walk(&bytes[..4096], 4096, &rt) == (Ok(1), 1, 4096));
+    bytes[0] = 0xf5;
+    assert!(rt; walk(&bytes, 4096, &rt) == (Ok(1), 2, 4097));
 }

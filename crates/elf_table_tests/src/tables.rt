@@ -3,7 +3,7 @@ ghost use Rattle.std.specs.Prelude.{◌≡◌};
 ghost use Rattle.elf_table.specs.Tables.{RowsWithin};
 
 use elf_fakes::Planned;
-use elf_source::{Counted, Source, SourceFault};
+use elf_source::{Counted, Source};
 use elf_table::{Cursor, Fault, Table};
 use std::process::Abort;
 
@@ -27,54 +27,23 @@ fn rows_given<S: Source>(
     Ok(count)
 }
 
-// Goes over a table of so many rows twice, where the read with the number `failing` fails: both
-// answers, how often the source was read, and how many bytes were asked for.
-fn walk_twice(
-    count: u64,
-    failing: u32,
-    rt: &impl Abort,
-) -> (Result<u64, Fault>, Result<u64, Fault>, u32, u128) {
+// Goes over a table of so many rows: the answer, how often the source was read, and how many bytes
+// were asked for.
+fn walk(count: u64, rt: &impl Abort) -> (Result<u64, Fault>, u32, u128) {
     let bytes = [7; 4104];
     assert!(rt; count <= 171);
-    let mut src = Counted::new(Planned::new(&bytes, failing));
+    let mut src = Counted::new(Planned::new(&bytes, 0));
     let mut cursor = Cursor::new(Table::new(0, count, 24));
     assert!(rt; src.length() == 4104);
-    let first = rows_given(&mut cursor, &mut src, rt);
-    assert!(rt; src.length() == 4104);
-    let second = rows_given(&mut cursor, &mut src, rt);
+    let answer = rows_given(&mut cursor, &mut src, rt);
     let asked = src.asked();
-    (first, second, src.into_inner().reads, asked)
+    (answer, src.into_inner().reads, asked)
 }
 
 #[test]
 fn rows_are_read_by_pages(rt: HostRuntime) {
     for (count, reads, asked) in [(0, 0, 0), (1, 1, 24), (170, 1, 4080), (171, 2, 4104)] {
-        assert!(rt;
-            walk_twice(count, 0, &rt) == (Ok(count), Ok(0), reads, asked),
-            "{count} rows"
-        );
+        let walked = walk(count, &rt);
+        assert!(rt; walked == (Ok(count), reads, asked), "{count} rows");
     }
-}
-
-#[test]
-fn a_failed_cursor_fails_the_same_for_good(rt: HostRuntime) {
-    let fault = Fault::Source {
-        fault: SourceFault::Device,
-        at: 4080,
-    };
-    assert!(rt; walk_twice(171, 2, &rt) == (Err(fault), Err(fault), 2, 4104));
-}
-
-#[test]
-fn a_symbol_that_failed_is_read_again(rt: HostRuntime) {
-    let bytes = [0; 72];
-    let table = Table::new(0, 3, 24);
-    let mut src = Counted::new(Planned::new(&bytes, 1));
-    let fault = SourceFault::Device;
-    assert!(rt; src.length() == 72);
-    let answer = table.symbol(&mut src, 2);
-    assert!(rt; answer == Err(Fault::Source { fault, at: 48 }));
-    assert!(rt; src.length() == 72);
-    assert!(rt; table.symbol(&mut src, 2).is_ok());
-    assert!(rt; src.asked() == 48);
 }

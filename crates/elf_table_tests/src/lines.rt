@@ -1,4 +1,4 @@
-//! How a long name is written, and how large the fixed buffers are.
+//! How a long name is written.
 use crate::sources::printer_sink;
 use elf_fakes::Script;
 use elf_lines::show_symbol;
@@ -29,12 +29,4 @@ fn a_long_name_is_written_in_pieces(rt: HostRuntime) {
         assert!(rt; &text[84 + 4 * k..88 + 4 * k] == b"\\x7f".as_slice());
     }
     assert!(rt; text[1284] == b'\n');
-}
-
-#[test]
-fn the_fixed_buffers_are_small(rt: HostRuntime) {
-    assert!(rt; elf_table::BUFFER_BYTES == 64 + 4096 + 4096);
-    assert!(rt; elf_names::BUFFER_BYTES == 4096 + 3264);
-    assert!(rt; elf_lines::BUFFER_BYTES == 2 * 256 + 40);
-    assert!(rt; elf_table::BUFFER_BYTES + elf_lines::BUFFER_BYTES <= 16_384);
 }

@@ -1,9 +1,9 @@
-//! What no clause says of a stream: that each byte is the reader's own at its offset, however far
-//! it lies and however much is asked for; that a fault of the reader is told, and leaves no place
-//! behind from which the next read would go on; and how often the reader is asked.
+//! What no clause says of a stream: that a read is filled, however far it lies and however much is
+//! asked for; that a fault of the reader is told, and leaves no place behind from which the next read
+//! would go on; and how often the reader is asked.
 use crate::sources::{FAILS, file_stream, fill_at, stream};
 use elf_fakes::{Script, Trouble, stands_at};
-use elf_source::{Counted, Source, SourceFault};
+use elf_source::{Source, SourceFault};
 use std::alloc::Global;
 use std::io::ErrorKind;
 use std::process::Abort;
@@ -21,23 +21,6 @@ fn gives<S: Source>(source: &mut S, at: u64, count: usize, alloc: Global, rt: &i
 fn gives_two<S: Source>(source: &mut S, at: u64, rt: &impl Abort) -> bool {
     let mut bytes = [255; 2];
     fill_at(source, at, &mut bytes, rt) == Ok(()) && stands_at(&bytes, at)
-}
-
-#[test]
-fn a_length_beyond_32_bits_is_told(rt: HostRuntime) {
-    let script = Script::new();
-    for length in [FAR, 1 << 32, (1 << 33) + 5] {
-        assert!(rt; stream(length, 9, &script, &rt).length() == length);
-    }
-}
-
-#[test]
-fn bytes_at_far_offsets_are_their_own(rt: HostRuntime) {
-    let script = Script::new();
-    let mut source = stream(FAR, 9, &script, &rt);
-    for at in [0, 1 << 31, (1 << 32) - 1, (1 << 33) + 5, FAR - 2] {
-        assert!(rt; gives_two(&mut source, at, &rt), "at {at}");
-    }
 }
 
 #[test]
@@ -187,16 +170,6 @@ fn interruptions_of_one_call_are_counted_together(rt: HostRuntime) {
         let answer = read_interrupted((seeks, reads, then), count, rt.alloc(), &rt);
         assert!(rt; answer == want, "{seeks}, {reads}, {then}");
     }
-}
-
-#[test]
-fn a_counted_read_asks_the_reader_once(rt: HostRuntime) {
-    let script = Script::new();
-    let mut source = Counted::new(stream(FAR, 9, &script, &rt));
-    assert!(rt; source.length() == FAR);
-    assert!(rt; source.fill(10, &mut [255; 2]) == Ok(()));
-    assert!(rt; source.fill(12, &mut [255; 2]) == Ok(()));
-    assert!(rt; script.calls() == 4 && source.asked() == 4);
 }
 
 #[test]

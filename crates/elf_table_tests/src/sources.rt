@@ -1,8 +1,8 @@
 //! What no clause says: that sources and sinks over a device fail only where it does, and then how.
 use elf_fakes::{Printer, Script, Tape, Trouble};
 use elf_source::{
-    Counted, MemorySource, OffsetReader, Out, OutFault, SeekReader, Sink, SinkFault, SliceSink,
-    Source, SourceFault, StreamSource, WriteSink,
+    OffsetReader, Out, OutFault, SeekReader, Sink, SinkFault, Source, SourceFault, StreamSource,
+    WriteSink,
 };
 use std::alloc::Global;
 use std::io::ErrorKind;
@@ -74,18 +74,6 @@ fn put_texts<W: Sink>(out: &mut Out<W>) -> Result<(), OutFault> {
     out.put(b"two")
 }
 
-// Whether a text is not put, after ten bytes that were written.
-fn is_full<W: Sink>(out: &mut Out<W>, text: &[u8]) -> bool {
-    out.put(text) == Err(OutFault { written: 10 }) && out.failed()
-}
-
-#[test]
-fn memory_gives_the_slice(rt: HostRuntime) {
-    let mut source = MemorySource::new(b"abcdef");
-    assert!(rt; source.length() == 6);
-    assert!(rt; gives(&mut source, 2, b"cde", &rt));
-}
-
 #[test]
 fn one_byte_at_each_read_gives_the_slice(rt: HostRuntime) {
     let script = Script::new();
@@ -136,18 +124,6 @@ fn a_reader_that_ends_early_is_not_honest(rt: HostRuntime) {
 }
 
 #[test]
-fn a_failed_read_is_asked_again(rt: HostRuntime) {
-    let script = Script::new();
-    let mut source = stream(6, 1, &script, &rt);
-    for (at, want) in [(0, b"ab"), (2, b"cd"), (4, b"ef")] {
-        script.go_wrong(0, FAILS);
-        let failed = fill_at(&mut source, at, &mut [0; 2], &rt);
-        assert!(rt; failed == Err(SourceFault::Device));
-        assert!(rt; gives(&mut source, at, want, &rt));
-    }
-}
-
-#[test]
 fn a_length_that_is_not_found_is_a_failure(rt: HostRuntime) {
     let script = Script::new();
     script.go_wrong(0, FAILS);
@@ -168,29 +144,6 @@ fn a_length_that_is_not_found_is_a_failure(rt: HostRuntime) {
     assert!(rt; matches!(&StreamSource::new(Tape::new(3, 1, &script)), Ok(_)));
 }
 
-// Fills two bytes from 1 on: the answer, the bytes, and how many were asked for until then.
-fn fill_two<S: Source>(
-    source: &mut Counted<S>,
-    rt: &impl Abort,
-) -> (Result<(), SourceFault>, [u8; 2], u128) {
-    assert!(rt; source.length() == 6);
-    let mut two = [0; 2];
-    let answer = source.fill(1, &mut two);
-    (answer, two, source.asked())
-}
-
-#[test]
-fn failed_reads_are_counted(rt: HostRuntime) {
-    let script = Script::new();
-    let mut source = Counted::new(stream(6, 1, &script, &rt));
-    script.go_wrong(0, FAILS);
-    let (answer, _two, asked) = fill_two(&mut source, &rt);
-    assert!(rt; answer == Err(SourceFault::Device));
-    assert!(rt; asked == 2);
-    assert!(rt; fill_two(&mut source, &rt) == (Ok(()), *b"bc", 4));
-    assert!(rt; gives(&mut source.into_inner(), 5, b"f", &rt));
-}
-
 #[test]
 fn one_byte_at_each_write_writes_the_texts(rt: HostRuntime) {
     let script = Script::new();
@@ -200,17 +153,6 @@ fn one_byte_at_each_write_writes_the_texts(rt: HostRuntime) {
     let printer = out.into_inner().into_inner();
     assert!(rt; printer.written.as_slice() == b"one, two".as_slice());
     assert!(rt; script.calls() == 8);
-}
-
-#[test]
-fn a_slice_has_the_texts(rt: HostRuntime) {
-    let mut buffer = [0; 20];
-    let mut out = Out::new(SliceSink::new(&mut buffer));
-    assert!(rt; put_texts(&mut out) == Ok(()));
-    assert!(rt; out.written() == 8);
-    let sink = out.into_inner();
-    assert!(rt; sink.written() == b"one, two".as_slice());
-    assert!(rt; sink.free() == 12);
 }
 
 #[test]
@@ -245,28 +187,4 @@ fn a_long_text_is_written_whole(rt: HostRuntime) {
     let mut out = Out::new(printer_sink(999, &script, rt.alloc()));
     assert!(rt; out.put(&text) == Ok(()));
     assert!(rt; out.written() == 70_000 && script.calls() == 71);
-}
-
-#[test]
-fn a_slice_takes_what_it_has_room_for(rt: HostRuntime) {
-    let mut buffer = [0; 4];
-    let mut sink = SliceSink::new(&mut buffer);
-    assert!(rt; sink.take(b"abc") == Ok(3));
-    assert!(rt; sink.take(b"def") == Ok(1));
-    assert!(rt; !sink.failed());
-    assert!(rt; refuses(&mut sink, b"ef", &rt));
-    assert!(rt; sink.written() == b"abcd".as_slice());
-    assert!(rt; sink.free() == 0);
-}
-
-#[test]
-fn a_fault_tells_what_was_written(rt: HostRuntime) {
-    let mut buffer = [0; 10];
-    let mut out = Out::new(SliceSink::new(&mut buffer));
-    assert!(rt; out.put(b"H REL ") == Ok(()));
-    assert!(rt; is_full(&mut out, b"    62 0000"));
-    assert!(rt; is_full(&mut out, b"0000"));
-    assert!(rt; is_full(&mut out, b""));
-    assert!(rt; out.written() == 10);
-    assert!(rt; out.into_inner().written() == b"H REL     ".as_slice());
 }
