@@ -1,0 +1,1 @@
+use Rattle.elf_table.proofs.file.File.links_to_symbols.Goals as goal

@@ -1,0 +1,1 @@
+use Rattle.elf_table.proofs.file.File.strings.Goals as goal
