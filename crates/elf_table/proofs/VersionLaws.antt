@@ -1,16 +1,18 @@
 -- What the checks of versions of symbols leave.
-use Rattle.std.proofs.Common.{◌≡◌, ℕ, ◌/◌, ◌==◌, ◌&&◌, ◌||◌, not, Bool, true, false, inl, inr, List, [], ◌∷◌, ◌++◌, length, Option, None, Some, Result, Ok, Err, refl, sym, ap, ◌∙◌, subst, arith}
-use Rattle.std.proofs.lemmas.Bool.{cases_Bool, eqb-true}
-use Rattle.elf_model.specs.Checks.{Check, first_refusal, is_outside, refuse, strings_checks, table_checks, unless_empty}
+use Rattle.std.proofs.Common.{◌≡◌, ℕ, ◌/◌, ◌==◌, ◌&&◌, ◌||◌, not, Bool, true, false, inl, inr, List, [], ◌∷◌, ◌++◌, None, Some, Ok, Err, refl, sym, ap, ◌∙◌}
+use Rattle.std.proofs.lemmas.Bool.{cases_Bool}
+use Rattle.elf_model.specs.Checks.{Check, first_refusal, is_outside, pass, refuse, table_checks, table_checks_of}
 use Rattle.elf_model.specs.Numbers.{SHT_STRTAB}
-use Rattle.elf_model.specs.Records.{sh_link, sh_offset, sh_size, sh_type, section_at}
-use Rattle.elf_model.specs.Tables.{all_checks, has_symbols, linked_at, symbol_table_checks}
+use Rattle.elf_model.specs.Records.{sh_link, sh_offset, sh_size, sh_type}
+use Rattle.elf_model.specs.Tables.{all_checks, has_symbols, linked_at}
 use Rattle.elf_model.specs.VersionRows.{symbol_versions, symbols_checks}
 use Rattle.elf_model.specs.declared.causes.Cause.TheVariants.{BadLink, NotStrings, TableOutside}
 use Rattle.elf_model.proofs.CheckSteps.{first_refusal-none, first_refusal-some}
+use Rattle.elf_model.proofs.StoreLemmas.{places_decide_nothing}
+use Rattle.std.specs.Prelude.{is_none}
 use Rattle.elf_headers.specs.declared.fault.Fault.{Fault}
 use Rattle.elf_headers.specs.declared.fault.Fault.TheVariants.{Refused, Source}
-use Rattle.elf_table.specs.Relocations.{AreSymbols, RefusedBy}
+use Rattle.elf_table.specs.Relocations.{RefusedBy}
 use Rattle.elf_table.specs.Sections.{checked, rows, string_table_of, strings, symbols_at, table_at, table_of}
 use Rattle.elf_table.specs.Tables.{Rows, Strings}
 use Rattle.elf_table.specs.Versions.{AreVersioned}
@@ -79,3 +81,25 @@ table-refused file at fault h = let p = table-fails (sh_size file at == 0) _ _ (
     front : (fault : Fault) → RefusedBy (table_checks file at 2) fault → RefusedBy (table_checks file at 2 ++ symbols_checks file at) fault
     front (Refused refusal) k = first_refusal-some (table_checks file at 2) (symbols_checks file at) refusal k
     front (Source fault offset) k = k
+
+-- the headers in the store tell of checks that pass
+pub symbols-stored : (bytes : List ℕ) (size place : ℕ) (table : Rows) (named : Bool) → table_of bytes 0 size place 24 ≡ Ok table → (sh_size bytes 0 == 0 || named) ≡ true
+    → (sh_size bytes 0 == 0 || (pass (table_checks_of bytes 0 size 0 24) && named)) ≡ true
+symbols-stored bytes size place table named held names = elim (cases_Bool (sh_size bytes 0 == 0)) [
+  | inl empty ↦ rw empty refl
+  | inr some ↦
+      let passes = (passed_first _ _ _ (rw (some, table_of) at held)).0 in
+      let own : pass (table_checks_of bytes 0 size 0 24) ≡ true = places_decide_nothing bytes 0 size 0 place 24 ∙ ap is_none passes in
+      rw (some, own) (rw some at names)
+]
+
+pub both-true : (a b : Bool) → a ≡ true → b ≡ true → (a && b) ≡ true
+both-true a b p q = rw (p, q) refl
+
+pub not_false : (a : Bool) → not a ≡ false → a ≡ true
+not_false true h = refl
+not_false false h = cc
+
+pub not_true : (a : Bool) → not a ≡ true → a ≡ false
+not_true true h = cc
+not_true false h = refl

@@ -1,1 +1,0 @@
-use Rattle.elf_table.proofs.file.File.links_to_symbols.Goals as goal

@@ -1,1 +1,0 @@
-use Rattle.elf_table.proofs.file.File.strings.Goals as goal
