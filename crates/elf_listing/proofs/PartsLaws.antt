@@ -3,6 +3,7 @@ use Rattle.elf_headers.specs.Permitted.{style_of}
 use Rattle.std.proofs.Common.{◌≡◌, ℕ, ◌+◌, ◌-◌, ◌<◌, List, ◌++◌, Some, Result, Ok, Err, sym, ap, ◌∙◌, arith, zero-add}
 use Rattle.elf_model.specs.Cost.{sum_over}
 use Rattle.elf_model.specs.Listing.{Item, each}
+use Rattle.elf_model.specs.VersionRows.{symbol_versions}
 use Rattle.elf_model.proofs.CostLemmas.{last_cost, sums_split}
 use Rattle.elf_model.proofs.ListingLemmas.{rows_split}
 use Rattle.elf_source.specs.declared.source.Source.{Ghosts as Sources}
@@ -76,6 +77,7 @@ module _ {S W X : Type 0} {s : Sources S} {w : Sinks W} where
   pub versions_await : {a b : Listing S W s w} {x : X} {n : ℕ} (parts : ℕ)
       → Lists a b (Ok x) n (Shows a b (Ok x) (λ file. items_asked parts Definitions a.file a.style file ++ items_asked parts Needs a.file a.style file))
       → AwaitsAsked parts SymbolVersions b.src.now.seen.file (style_of b.style)
+  unfolding symbol_versions
   versions_await {a = a} parts p = λ asked file held.
       let before = sym p.spent.0.reads.keeps.same_file ∙ held in
       rw (p.keeps.same_style)
