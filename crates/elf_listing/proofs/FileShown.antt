@@ -175,5 +175,7 @@ pub versions_none : (file : List ℕ) (style : Style) (parts : ℕ) (loaded : Op
 unfolding version_definitions version_needs
 versions_none file style parts loaded store belongs asked none =
     let count : store.loaded ≡ e_shnum file = belongs.count ∙ belongs.header.e_shnum in
-    let both = rw (asked, count) at none in
-    records-none file style (front-none _ _ both) (back-none _ _ both)
+    let both = rw (asked, count, where_asked) at none in
+    let first : List Item = each ((listed_by Definitions).items file style) 0 (e_shnum file) in
+    let second : List Item = each ((listed_by Needs).items file style) 0 (e_shnum file) in
+    records-none file style (front-none first second both) (back-none first second both)

@@ -100,7 +100,7 @@ segment_within store i size place cap table kind h =
     let all = rows (p_offset bytes 0) (n / 16) 16 in
     within_kind segment_dynamic (store_segments store) i size cap n (λ k. k * (32 + name_bytes cap)) (whole_checks_of size (p_offset bytes 0) n place 16) all all table kind
     (whole_by_cases (not (n % 16 == 0)) (is_outside size (p_offset bytes 0) n) place 0)
-    (λ empty. ap (λ k. k / 16 * (32 + name_bytes cap)) (eqb-true n 0 empty)) (omega arith)
+    (λ empty. ap (λ k. k / 16 * (32 + name_bytes cap)) (eqb-true n 0 empty) ∙ omega arith) (omega arith)
     (unless_by_cases (n == 0) (whole_checks_of size (p_offset bytes 0) n place 16) all ∙ sym h)
   where
     unless_by_cases : (empty : Bool) (checks : List Check) (all : Rows)

@@ -9,7 +9,7 @@ use Rattle.elf_listing.specs.Parts.{segments_listed}
 use Rattle.elf_listing.specs.declared.parts.Part.{Part}
 use Rattle.elf_listing.specs.declared.parts.Part.TheVariants.{Symbols, Relocations, SectionNotes, SegmentNotes, SectionDynamic, SegmentDynamic, Definitions, Needs, SymbolVersions}
 use Rattle.elf_listing.proofs.FileShown.{segment_part, tables_are}
-use Rattle.elf_listing.proofs.PartsLaws.{Parts-as, Parts-more, Parts-then, cost_asked, items_asked}
+use Rattle.elf_listing.proofs.PartsLaws.{Parts-as, Parts-more, Parts-then, cost_asked, items_asked, versions_await}
 use Rattle.elf_listing.proofs.listing.Listing.tables.Goals as goal
 
 -- what the program headers ask for, and their items; and those of two parts
@@ -76,6 +76,9 @@ returns-in_err-pair-4 g c =
     rw (p.1, p.2)
     (Parts-as (λ file held. tables_are file _ _ _ _ (c.args.self.now.loaded.belongs file held) c.requires)
     (Parts-more _ _ _ (Parts-then _ (pair_cost c.args.parts.0 Definitions Needs) (pair_items c.args.parts.0 Definitions Needs) fifth c.in_err-pair-4.ensures)))
+
+pub part-requires-2 : goal.part-requires-2
+part-requires-2 g c = versions_await c.args.parts.0 c.in_ok-pair-4.ensures
 
 pub returns : goal.returns
 returns g c =
