@@ -16,12 +16,12 @@ use Rattle.elf_archive.proofs.AllowanceLaws.{allowed, header_allowed}
 use Rattle.elf_archive.proofs.AskLaws.{where_room}
 
 -- what a member costs where listings are asked for
-pub member_listed : (file : List ℕ) (headers : ℕ) (style : Style) (parts : ℕ) (m : Member) → lists_members parts ≡ true
+pub member_listed : (file : List ℕ) (headers : ℕ) (style : Style) (parts : ℕ) (m : Member) → lists_members style parts ≡ true
     → member_cost file headers style parts m ≡ 4 + cost_where (is_elf (bytes_in file m.extent)) (listing_cost (bytes_in file m.extent) headers style parts)
 unfolding member_cost
 member_listed file headers style parts m asked = rw asked refl
 
-pub member_elf : (file : List ℕ) (headers : ℕ) (style : Style) (parts : ℕ) (m : Member) (extent : Extent) → lists_members parts ≡ true → m.extent ≡ extent → is_elf (bytes_in file extent) ≡ true
+pub member_elf : (file : List ℕ) (headers : ℕ) (style : Style) (parts : ℕ) (m : Member) (extent : Extent) → lists_members style parts ≡ true → m.extent ≡ extent → is_elf (bytes_in file extent) ≡ true
     → member_cost file headers style parts m ≡ 4 + listing_cost (bytes_in file extent) headers style parts
 member_elf file headers style parts m extent asked is elf =
     member_listed file headers style parts m asked

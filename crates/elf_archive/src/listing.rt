@@ -20,16 +20,12 @@ ghost use Rattle.elf_archive.specs.Members.{LiesIn, StandsIn, extent_of, member_
 use crate::cursor::MemberCursor;
 use crate::magic_strings::{begins_elf, magic};
 use crate::member::{Extent, Member};
-use bitflags::Flags;
 use elf_headers::{Caps, HeaderStore, Stop, Style};
 use elf_lines::{member_front, show_named, show_refusal};
 use elf_listing::{list, show_stop};
 use elf_record::{Cause, Parts, Refusal};
 use elf_source::{Counted, Out, OutFault, RangeSource, Sink, Source};
 use elf_table::NameBuf;
-
-/// All parts of a listing.
-const ALL: Parts = Parts(127);
 
 /// What is listed of members: how rows are shown, and which parts of a listing.
 #[derive(Clone, Copy)]
@@ -225,7 +221,7 @@ fn list_member<S: Source, W: Sink>(
         member.extent ≡ extent_of extent → ListsTold out.old out.new result
         (member_listing file store.old.slots (style_of choice.style) choice.parts.0 member) }
 {
-    if !choice.parts.intersects(ALL) {
+    if choice.parts.known(choice.style.gnu).0 == 0 {
         return Ok(false);
     }
     if !begins_elf(src, extent)? {

@@ -4,11 +4,15 @@ use Rattle.std.proofs.Common.{◌≡◌, ℕ, ◌==◌, ◌||◌, inl, inr, true
 use Rattle.elf_model.specs.Budget.{IsBudget}
 use Rattle.elf_model.specs.Checks.{first_refusal, header_checks, load_checks}
 use Rattle.elf_model.specs.Lines.{header_line}
-use Rattle.elf_model.specs.Listing.{Item, Line, Fault, has, has_tables, where_asked, each, HEADER, SEGMENTS, NOTES, DYNAMIC}
+use Rattle.elf_model.specs.Listing.{Item, Line, Fault, fault_of, has, has_tables, known_parts, where_asked, each, HEADER, SEGMENTS, NOTES, DYNAMIC, VERSIONS}
 use Rattle.elf_model.specs.Records.{e_shnum, e_phnum}
 use Rattle.elf_model.specs.Style.{Style, viewed as view_of}
 use Rattle.elf_model.specs.Report.{listing, load_items, table_items, kinds_rows}
-use Rattle.elf_model.specs.TableKinds.{TableHeaders, symbols, relocations, section_notes, section_dynamic, segment_notes, segment_dynamic, section_kinds, segment_kinds, by_sections, by_segments, table_headers}
+use Rattle.elf_model.specs.HeaderTables.{file_sections, file_segments}
+use Rattle.elf_model.specs.TableKinds.{TableHeaders, symbols, relocations, section_notes, section_dynamic, segment_notes, segment_dynamic, section_kinds, segment_kinds, table_headers}
+use Rattle.elf_model.specs.VersionLaws.{records_rows}
+use Rattle.elf_model.specs.VersionRows.{version_definitions, version_needs, symbol_versions}
+use Rattle.elf_model.proofs.VersionNameLaws.{back-none, front-none, records-none}
 use Rattle.elf_model.proofs.CostLemmas.{headers_none, headers_some}
 use Rattle.elf_model.specs.Rows.{segment_row}
 use Rattle.elf_model.specs.declared.causes.Refusal.{Refusal}
@@ -21,15 +25,15 @@ use Rattle.elf_headers.specs.declared.fault.Fault.TheVariants.{Refused}
 use Rattle.elf_listing.specs.Parts.{listed_by, part_items}
 use Rattle.elf_listing.specs.Viewed.{viewed}
 use Rattle.elf_listing.specs.declared.parts.Part.{Part}
-use Rattle.elf_listing.specs.declared.parts.Part.TheVariants.{Headers, Symbols, Relocations, SectionNotes, SegmentNotes, SectionDynamic, SegmentDynamic}
+use Rattle.elf_listing.specs.declared.parts.Part.TheVariants.{Headers, Symbols, Relocations, SectionNotes, SegmentNotes, SectionDynamic, SegmentDynamic, Definitions, Needs, SymbolVersions}
 
 -- the file header's part
 abbrev pub header_part : List ℕ → ℕ → List Item
 header_part file parts = where_asked parts HEADER (Line (header_line file) ∷ [])
 
-pub items_are : (file : List ℕ) (headers : ℕ) (style : Style) (parts : ℕ) → first_refusal (header_checks file) ≡ None → listing file headers style parts ≡ header_part file parts ++ load_items (view_of style file) headers style parts
+pub items_are : (file : List ℕ) (headers : ℕ) (style : Style) (parts : ℕ) → first_refusal (header_checks file) ≡ None → listing file headers style parts ≡ header_part file parts ++ load_items (view_of style file) headers style (known_parts style parts)
 unfolding listing
-items_are file headers style parts passed = guarded-passes (header_checks file) (header_part file parts ++ load_items (view_of style file) headers style parts) passed
+items_are file headers style parts passed = guarded-passes (header_checks file) (header_part file parts ++ load_items (view_of style file) headers style (known_parts style parts)) passed
 
 -- a refusal of the file header is all that is listed
 pub header_alone : (file : List ℕ) (headers : ℕ) (style : Style) (parts : ℕ) (fault : TableFault) → HeaderRead file (Err fault) → (refusal : Refusal) → fault ≡ Refused refusal
@@ -37,7 +41,7 @@ pub header_alone : (file : List ℕ) (headers : ℕ) (style : Style) (parts : �
 unfolding listing
 header_alone file headers style parts fault read refusal is other =
     let first = rw is at read in
-    guarded-fault (header_checks file) (header_part file parts ++ load_items (view_of style file) headers style parts) refusal (first other)
+    guarded-fault (header_checks file) (header_part file parts ++ load_items (view_of style file) headers style (known_parts style parts)) refusal (first other)
 
 -- a refusal of the load is all that is listed behind the file header
 pub load_alone : (file : List ℕ) (headers : ℕ) (style : Style) (parts : ℕ) (fault : TableFault) (store : Stored) → LoadedAs file (Err fault) store → store.slots ≡ headers → has_tables parts ≡ true
@@ -76,19 +80,25 @@ asked_same parts part items n m same = elim (cases_Bool (has parts part)) [
   | inr other ↦ rw (other, where_asked) refl
 ]
 
-kinds_of_sections : (file : List ℕ) (style : Style) (parts : ℕ) → kinds_rows section_kinds (by_sections file) file style parts
+kinds_of_sections : (file : List ℕ) (style : Style) (parts : ℕ) → kinds_rows section_kinds (file_sections file) file style parts
     ≡ of_headers file style parts Symbols (e_shnum file) ++ (of_headers file style parts Relocations (e_shnum file)
-    ++ (of_headers file style parts SectionNotes (e_shnum file) ++ (of_headers file style parts SectionDynamic (e_shnum file) ++ [])))
-unfolding kinds_rows symbols relocations section_notes section_dynamic
+    ++ (of_headers file style parts SectionNotes (e_shnum file) ++ (of_headers file style parts SectionDynamic (e_shnum file)
+    ++ (of_headers file style parts Definitions (e_shnum file) ++ (of_headers file style parts Needs (e_shnum file)
+    ++ (of_headers file style parts SymbolVersions (e_shnum file) ++ []))))))
+unfolding kinds_rows symbols relocations section_notes section_dynamic version_definitions version_needs symbol_versions
 kinds_of_sections file style parts = refl
 
-kinds_of_segments : (file : List ℕ) (style : Style) (parts : ℕ) → kinds_rows segment_kinds (by_segments file) file style parts
+kinds_of_segments : (file : List ℕ) (style : Style) (parts : ℕ) → kinds_rows segment_kinds (file_segments file) file style parts
     ≡ of_headers file style parts SegmentNotes (e_phnum file) ++ (of_headers file style parts SegmentDynamic (e_phnum file) ++ [])
 unfolding kinds_rows segment_notes segment_dynamic
 kinds_of_segments file style parts = refl
 
-sections_alone : (y r n d : List Item) → y ++ (r ++ (n ++ (d ++ []))) ≡ ((y ++ r) ++ (n ++ [])) ++ (d ++ [])
-sections_alone y r n d = simp (append_assoc, append-nil)
+sections_alone : (y r n d v w x : List Item)
+    → y ++ (r ++ (n ++ (d ++ (v ++ (w ++ (x ++ [])))))) ≡ ((((y ++ r) ++ (n ++ [])) ++ (d ++ [])) ++ (v ++ w)) ++ x
+sections_alone y r n d v w x = simp (append_assoc, append-nil)
+
+segments_alone : (n d : List Item) → n ++ (d ++ []) ≡ (((([] ++ []) ++ ([] ++ n)) ++ ([] ++ d)) ++ ([] ++ [])) ++ []
+segments_alone n d = simp (append_assoc, append-nil)
 
 -- where a part wants the program headers of a file without sections, they are loaded
 viewed_where : (parts : ℕ) (loaded : Opened) → (loaded.header.e_shnum == 0) ≡ true → (has parts SEGMENTS || (has parts NOTES || has parts DYNAMIC)) ≡ true
@@ -101,12 +111,18 @@ viewed_none parts loaded some = rw some refl
 pub viewed_segments : (parts : ℕ) (loaded : Opened) → (loaded.header.e_shnum == 0) ≡ true → has parts SEGMENTS ≡ true → viewed parts loaded ≡ loaded.header.e_phnum
 viewed_segments parts loaded none asked = rw (none, asked) refl
 
+-- the parts of all kinds of tables, by so many section headers and program headers
+abbrev of_kinds : List ℕ → Style → ℕ → (sections segments : ℕ) → List Item
+of_kinds file style parts sections segments =
+    ((((of_headers file style parts Symbols sections ++ of_headers file style parts Relocations sections)
+    ++ (of_headers file style parts SectionNotes sections ++ of_headers file style parts SegmentNotes segments))
+    ++ (of_headers file style parts SectionDynamic sections ++ of_headers file style parts SegmentDynamic segments))
+    ++ (of_headers file style parts Definitions sections ++ of_headers file style parts Needs sections))
+    ++ of_headers file style parts SymbolVersions sections
+
 -- the tables of all kinds are those of the headers in the store
 kinds_are : (file : List ℕ) (style : Style) (parts : ℕ) (loaded : Opened) (store : Stored) → Belongs file loaded store → store.segments ≡ viewed parts loaded
-    → kinds_rows (table_headers file).kinds (table_headers file) file style parts
-    ≡ ((of_headers file style parts Symbols store.loaded ++ of_headers file style parts Relocations store.loaded)
-    ++ (of_headers file style parts SectionNotes store.loaded ++ of_headers file style parts SegmentNotes store.segments))
-    ++ (of_headers file style parts SectionDynamic store.loaded ++ of_headers file style parts SegmentDynamic store.segments)
+    → kinds_rows (table_headers file).kinds (table_headers file).headers file style parts ≡ of_kinds file style parts store.loaded store.segments
 unfolding segment_notes segment_dynamic
 kinds_are file style parts loaded store belongs view =
     let count : store.loaded ≡ e_shnum file = belongs.count ∙ belongs.header.e_shnum in
@@ -118,32 +134,48 @@ kinds_are file style parts loaded store belongs view =
           (λ asked. sym (view ∙ (all (or_right _ _ (or_left _ _ asked)) ∙ belongs.header.e_phnum))) in
           let dynamic = asked_same parts DYNAMIC (λ n. part_items SegmentDynamic style n file) (e_phnum file) store.segments
           (λ asked. sym (view ∙ (all (or_right _ _ (or_right _ _ asked)) ∙ belongs.header.e_phnum))) in
-          ap (λ (headers : TableHeaders). kinds_rows headers.kinds headers file style parts) (headers_none file none)
+          let none_by = λ (part : Part). none_of file style parts part store.loaded zero in
+          ap (λ (tables : TableHeaders). kinds_rows tables.kinds tables.headers file style parts) (headers_none file none)
           ∙ (kinds_of_segments file style parts
-          ∙ rw (notes, dynamic, none_of file style parts Symbols store.loaded zero, none_of file style parts Relocations store.loaded zero, none_of file style parts SectionNotes store.loaded zero, none_of file style parts SectionDynamic store.loaded zero)
-          (ap (λ x. of_headers file style parts SegmentNotes store.segments ++ x) (append-nil (of_headers file style parts SegmentDynamic store.segments))))
+          ∙ rw (notes, dynamic, none_by Symbols, none_by Relocations, none_by SectionNotes, none_by SectionDynamic, none_by Definitions, none_by Needs, none_by SymbolVersions)
+          (segments_alone (of_headers file style parts SegmentNotes store.segments) (of_headers file style parts SegmentDynamic store.segments)))
       | inr some ↦
           let zero : store.segments ≡ 0 = view ∙ viewed_none parts loaded (ap (λ n. n == 0) belongs.header.e_shnum ∙ some) in
           let rows = λ (part : Part). of_headers file style parts part (e_shnum file) in
-          ap (λ (headers : TableHeaders). kinds_rows headers.kinds headers file style parts) (headers_some file some)
+          ap (λ (tables : TableHeaders). kinds_rows tables.kinds tables.headers file style parts) (headers_some file some)
           ∙ (kinds_of_sections file style parts
           ∙ rw (count, none_of file style parts SegmentNotes store.segments zero, none_of file style parts SegmentDynamic store.segments zero)
-          (sections_alone (rows Symbols) (rows Relocations) (rows SectionNotes) (rows SectionDynamic)))
+          (sections_alone (rows Symbols) (rows Relocations) (rows SectionNotes) (rows SectionDynamic) (rows Definitions) (rows Needs) (rows SymbolVersions)))
     ]
 
-behind : (a b c d : List Item) → a ++ ((b ++ c) ++ d) ≡ ((a ++ b) ++ c) ++ d
-behind a b c d = sym (append_assoc a (b ++ c) d) ∙ ap (λ x. x ++ d) (sym (append_assoc a b c))
+behind : (a b c d e f : List Item) → a ++ ((((b ++ c) ++ d) ++ e) ++ f) ≡ ((((a ++ b) ++ c) ++ d) ++ e) ++ f
+behind a b c d e f = simp append_assoc
 
 -- the tables of a loaded file, by the headers in the store
 pub tables_are : (file : List ℕ) (style : Style) (parts : ℕ) (loaded : Opened) (store : Stored) → Belongs file loaded store → store.segments ≡ viewed parts loaded
     → table_items file style parts
-    ≡ (((of_headers file style parts Headers store.loaded ++ segment_part file style parts)
+    ≡ (((((of_headers file style parts Headers store.loaded ++ segment_part file style parts)
     ++ (of_headers file style parts Symbols store.loaded ++ of_headers file style parts Relocations store.loaded))
     ++ (of_headers file style parts SectionNotes store.loaded ++ of_headers file style parts SegmentNotes store.segments))
-    ++ (of_headers file style parts SectionDynamic store.loaded ++ of_headers file style parts SegmentDynamic store.segments)
+    ++ (of_headers file style parts SectionDynamic store.loaded ++ of_headers file style parts SegmentDynamic store.segments))
+    ++ (of_headers file style parts Definitions store.loaded ++ of_headers file style parts Needs store.loaded))
+    ++ of_headers file style parts SymbolVersions store.loaded
 unfolding table_items
 tables_are file style parts loaded store belongs view =
     let count : e_shnum file ≡ store.loaded = sym (belongs.count ∙ belongs.header.e_shnum) in
-    ap (λ n. (of_headers file style parts Headers n ++ segment_part file style parts) ++ kinds_rows (table_headers file).kinds (table_headers file) file style parts) count
-    ∙ (ap (λ rest. (of_headers file style parts Headers store.loaded ++ segment_part file style parts) ++ rest) (kinds_are file style parts loaded store belongs view)
-    ∙ behind (of_headers file style parts Headers store.loaded ++ segment_part file style parts) _ _ _)
+    let first : List Item = of_headers file style parts Headers store.loaded ++ segment_part file style parts in
+    ap (λ n. (of_headers file style parts Headers n ++ segment_part file style parts) ++ kinds_rows (table_headers file).kinds (table_headers file).headers file style parts) count
+    ∙ (ap (λ rest. first ++ rest) (kinds_are file style parts loaded store belongs view) ∙ behind first _ _ _ _ _)
+
+-- where the rows of definitions and needs are asked for and have no fault, they have none at all
+pub versions_none : (file : List ℕ) (style : Style) (parts : ℕ) (loaded : Opened) (store : Stored) → Belongs file loaded store
+    → has parts VERSIONS ≡ true
+    → fault_of (of_headers file style parts Definitions store.loaded ++ of_headers file style parts Needs store.loaded) ≡ None
+    → fault_of (records_rows file style) ≡ None
+unfolding version_definitions version_needs
+versions_none file style parts loaded store belongs asked none =
+    let count : store.loaded ≡ e_shnum file = belongs.count ∙ belongs.header.e_shnum in
+    let both = rw (asked, count, where_asked) at none in
+    let first : List Item = each ((listed_by Definitions).items file style) 0 (e_shnum file) in
+    let second : List Item = each ((listed_by Needs).items file style) 0 (e_shnum file) in
+    records-none file style (front-none first second both) (back-none first second both)

@@ -1,8 +1,9 @@
 -- What calls of a listing did one behind another.
 use Rattle.elf_headers.specs.Permitted.{style_of}
-use Rattle.std.proofs.Common.{◌≡◌, ℕ, ◌+◌, ◌-◌, ◌<◌, List, ◌++◌, Some, Result, Ok, Err, ap, ◌∙◌, arith, zero-add}
+use Rattle.std.proofs.Common.{◌≡◌, ℕ, ◌+◌, ◌-◌, ◌<◌, List, ◌++◌, Some, Result, Ok, Err, sym, ap, ◌∙◌, arith, zero-add}
 use Rattle.elf_model.specs.Cost.{sum_over}
 use Rattle.elf_model.specs.Listing.{Item, each}
+use Rattle.elf_model.specs.VersionRows.{symbol_versions}
 use Rattle.elf_model.proofs.CostLemmas.{last_cost, sums_split}
 use Rattle.elf_model.proofs.ListingLemmas.{rows_split}
 use Rattle.elf_source.specs.declared.source.Source.{Ghosts as Sources}
@@ -11,11 +12,13 @@ use Rattle.elf_source.proofs.GrowthLaws.{grows_then}
 use Rattle.elf_headers.specs.declared.caps.Style.{Style}
 use Rattle.elf_table.specs.declared.file.File.{File}
 use Rattle.elf_listing.specs.HeadersListed.{asked_items}
-use Rattle.elf_listing.specs.Parts.{asked_cost}
+use Rattle.elf_listing.specs.Parts.{AwaitsAsked, asked_cost}
 use Rattle.elf_listing.specs.Shows.{Lists, Shows}
 use Rattle.elf_listing.specs.declared.listing.Listing.{Listing}
 use Rattle.elf_listing.specs.declared.parts.Part.{Part}
+use Rattle.elf_listing.specs.declared.parts.Part.TheVariants.{Definitions, Needs, SymbolVersions}
 use Rattle.elf_headers.specs.declared.stop.Stop.{Stop}
+use Rattle.elf_listing.proofs.FileShown.{versions_none}
 use Rattle.elf_listing.proofs.EachLaws.{each-more}
 use Rattle.elf_listing.proofs.ListsLaws.{Lists-within, SameFile-then}
 use Rattle.elf_listing.proofs.RowLaws.{Writes-as}
@@ -69,3 +72,13 @@ module _ {S W X : Type 0} {s : Sources S} {w : Sinks W} where
   headers_stopped amount row i count below p =
       let all : count ≡ i + 1 + (count - (i + 1)) = omega arith in
       rw (all, sums_split amount 0 (i + 1) (count - (i + 1))) (Parts-as (λ file held. rows_split (row file) 0 (i + 1) (count - (i + 1))) (Parts-more _ _ _ p))
+
+  -- the rows of definitions and needs were shown, and then the versions of symbols may be
+  pub versions_await : {a b : Listing S W s w} {x : X} {n : ℕ} (parts : ℕ)
+      → Lists a b (Ok x) n (Shows a b (Ok x) (λ file. items_asked parts Definitions a.file a.style file ++ items_asked parts Needs a.file a.style file))
+      → AwaitsAsked parts SymbolVersions b.src.now.seen.file (style_of b.style)
+  unfolding symbol_versions
+  versions_await {a = a} parts p = λ asked file held.
+      let before = sym p.spent.0.reads.keeps.same_file ∙ held in
+      rw (p.keeps.same_style)
+      (versions_none file (style_of a.style) parts a.file.loaded a.file.store.now (a.loaded.belongs file before) asked (p.shows file before).no_fault)

@@ -5,10 +5,12 @@ use Rattle.std.proofs.lemmas.Bool.{cases_Bool, eqb-true}
 use Rattle.std.specs.Prelude.{is_none}
 use Rattle.elf_model.specs.Checks.{Check, first_refusal, pass, refuse, is_outside, header_checks, early_checks, section_name_checks, range_checks_of, table_checks_of, whole_checks_of}
 use Rattle.elf_model.specs.Cost.{sum_over, cost_where, table_cost, kinds_cost, is_loadable, sections_cost, segments_cost, tables_cost, behind_header, listing_cost, ceiling}
-use Rattle.elf_model.specs.Listing.{has, has_tables, SECTIONS, SEGMENTS, NOTES, DYNAMIC}
+use Rattle.elf_model.specs.Listing.{has, has_tables, known_parts, SECTIONS, SEGMENTS, NOTES, DYNAMIC}
 use Rattle.elf_model.specs.CostLaws.{kind_by_kind}
 use Rattle.elf_model.specs.Names.{name_bytes}
-use Rattle.elf_model.specs.TableKinds.{TableKind, symbols, relocations, section_notes, section_dynamic, segment_notes, segment_dynamic, section_kinds, segment_kinds}
+use Rattle.elf_model.specs.HeaderTables.{HeaderTable, TableKind, file_segments, held_headers}
+use Rattle.elf_model.specs.VersionRows.{version_definitions, version_needs, symbol_versions}
+use Rattle.elf_model.specs.TableKinds.{symbols, relocations, section_notes, section_dynamic, segment_notes, segment_dynamic, section_kinds, segment_kinds}
 use Rattle.elf_model.specs.Numbers.{PT_DYNAMIC}
 use Rattle.elf_model.specs.Records.{e_shnum, e_phnum, sh_offset, sh_size, p_type, p_offset, p_filesz, section_at, segment_at}
 use Rattle.elf_model.specs.declared.causes.Cause.TheVariants.{SizeNotWhole, TableOutside}
@@ -24,7 +26,7 @@ use Rattle.elf_headers.specs.Store.{Stored, HoldsSegments, row, segment_bytes}
 use Rattle.elf_table.specs.Tables.{Rows, Strings}
 use Rattle.elf_table.specs.Views.{dynamic_of}
 use Rattle.elf_headers.specs.declared.fault.Fault.{Fault}
-use Rattle.elf_listing.specs.Parts.{asked_cost, name_cost, segments_listed, tables_listed}
+use Rattle.elf_listing.specs.Parts.{asked_cost, name_cost, segments_listed, store_sections, store_segments, tables_listed}
 use Rattle.elf_listing.specs.Viewed.{needs_view, viewed, view_cost}
 use Rattle.elf_listing.specs.declared.parts.Part.TheVariants.{Headers, Symbols, Relocations, SectionNotes, SegmentNotes, SectionDynamic, SegmentDynamic}
 use Rattle.elf_listing.proofs.FileShown.{viewed_none}
@@ -43,53 +45,62 @@ name_where (Some strings) false cap is = omega arith
 pub name_within : (names : Option Strings) (index cap : ℕ) → (index ≡ 0 → names ≡ None) → name_cost names cap ≤ cost_where (not (index == 0)) (name_bytes cap)
 name_within names index cap is = name_where names (index == 0) cap (λ e. is (eqb-true index 0 e))
 
--- what the entries of a table ask for that was answered, behind checks or empty, is within what its header counts for
-within_kind : (kind : TableKind) (bytes : List ℕ) (size cap n : ℕ) (checks : List Check) (none some table : Rows) → kind.has_table bytes 0 ≡ true
-    → (first_refusal checks ≡ None → pass (kind.checks.own bytes 0 size) ≡ true) → ((n == 0) ≡ true → none.count ≡ 0) → some.count ≡ kind.entries bytes 0
+-- what a table asks for that was answered, behind checks or empty, is within what is counted by its header
+within_kind : (kind : TableKind) (headers : HeaderTable) (i size cap n : ℕ) (amount : ℕ → ℕ) (checks : List Check) (none some table : Rows)
+    → kind.has_table (headers.bytes i) (headers.at i) ≡ true
+    → (first_refusal checks ≡ None → pass (kind.checks.own (headers.bytes i) (headers.at i) size) ≡ true)
+    → ((n == 0) ≡ true → amount none.count ≡ 0) → amount some.count ≤ kind.asks headers i size cap
     → (elim (n == 0) as (λ _. Result Rows Fault) [ true ↦ Ok none | false ↦ checked checks some ]) ≡ Ok table
-    → table.count * kind.entry_cost cap ≤ table_cost kind bytes 0 size cap
+    → amount table.count ≤ table_cost kind headers i size cap
 unfolding table_cost
-within_kind kind bytes size cap n checks none some table has same zero count h = rw has (by_cases (n == 0) zero h)
+within_kind kind headers i size cap n amount checks none some table has same zero most h = rw has (by_cases (n == 0) zero h)
   where
-    by_cases : (empty : Bool) → (empty ≡ true → none.count ≡ 0) → (elim empty as (λ _. Result Rows Fault) [ true ↦ Ok none | false ↦ checked checks some ]) ≡ Ok table
-        → table.count * kind.entry_cost cap ≤ cost_where (pass (kind.checks.own bytes 0 size)) (kind.entries bytes 0 * kind.entry_cost cap)
-    by_cases true zero h = let is : none ≡ table = cc in rw (ap (λ (r : Rows). r.count) (sym is) ∙ zero refl) (omega arith)
-    by_cases false zero h = let p = passed_first (first_refusal checks) some table h in rw (same p.0, ap (λ (r : Rows). r.count) (sym p.1) ∙ count) (omega arith)
+    by_cases : (empty : Bool) → (empty ≡ true → amount none.count ≡ 0)
+        → (elim empty as (λ _. Result Rows Fault) [ true ↦ Ok none | false ↦ checked checks some ]) ≡ Ok table
+        → amount table.count ≤ cost_where (pass (kind.checks.own (headers.bytes i) (headers.at i) size)) (kind.asks headers i size cap)
+    by_cases true zero h = let is : none ≡ table = cc in rw (ap (λ (r : Rows). amount r.count) (sym is) ∙ zero refl) (omega arith)
+    by_cases false zero h = let p = passed_first (first_refusal checks) some table h in rw (same p.0, ap (λ (r : Rows). amount r.count) (sym p.1)) (omega arith)
 
--- the entries of a section
-pub section_within : (kind : TableKind) (bytes : List ℕ) (size place cap entry : ℕ) (table : Rows) → kind.has_table bytes 0 ≡ true
-    → kind.checks.own bytes 0 size ≡ table_checks_of bytes 0 size 0 entry → kind.entries bytes 0 ≡ sh_size bytes 0 / entry
-    → Ok table ≡ table_of bytes 0 size place entry → table.count * kind.entry_cost cap ≤ table_cost kind bytes 0 size cap
-section_within kind bytes size place cap entry table has own entries h =
-    within_kind kind bytes size cap (sh_size bytes 0) (table_checks_of bytes 0 size place entry) (rows (sh_offset bytes 0) 0 entry) (rows (sh_offset bytes 0) (sh_size bytes 0 / entry) entry) table has
-    (λ none. ap pass own ∙ (places_decide_nothing bytes 0 size 0 place entry ∙ ap is_none none)) (λ _. refl) (sym entries) (sym h)
+-- the entries of a section, each of which asks for so many bytes
+pub section_within : (kind : TableKind) (store : Stored) (i size place cap entry each : ℕ) (table : Rows) → kind.has_table (row store i) 0 ≡ true
+    → kind.checks.own (row store i) 0 size ≡ table_checks_of (row store i) 0 size 0 entry
+    → sh_size (row store i) 0 / entry * each ≡ kind.asks (store_sections store) i size cap
+    → Ok table ≡ table_of (row store i) 0 size place entry → table.count * each ≤ table_cost kind (store_sections store) i size cap
+section_within kind store i size place cap entry each table has own asks h =
+    let bytes = row store i in
+    within_kind kind (store_sections store) i size cap (sh_size bytes 0) (λ n. n * each) (table_checks_of bytes 0 size place entry)
+    (rows (sh_offset bytes 0) 0 entry) (rows (sh_offset bytes 0) (sh_size bytes 0 / entry) entry) table has
+    (λ none. ap pass own ∙ (places_decide_nothing bytes 0 size 0 place entry ∙ ap is_none none)) (λ _. omega arith) (omega (arith, asks)) (sym h)
 
 -- where checks pass that name one place, they pass that name another
-whole_by_cases : (broken outside : Bool) (place : ℕ) → first_refusal (refuse broken place SizeNotWhole ∷ refuse outside place TableOutside ∷ []) ≡ None
-    → pass (refuse broken 0 SizeNotWhole ∷ refuse outside 0 TableOutside ∷ []) ≡ true
-whole_by_cases true outside place h = cc
-whole_by_cases false true place h = cc
-whole_by_cases false false place h = refl
+whole_by_cases : (broken outside : Bool) (place other : ℕ) → first_refusal (refuse broken place SizeNotWhole ∷ refuse outside place TableOutside ∷ []) ≡ None
+    → pass (refuse broken other SizeNotWhole ∷ refuse outside other TableOutside ∷ []) ≡ true
+whole_by_cases true outside place other h = cc
+whole_by_cases false true place other h = cc
+whole_by_cases false false place other h = refl
 
--- the bytes of a range
-pub range_within : (kind : TableKind) (bytes : List ℕ) (size offset n place cap : ℕ) (table : Rows) → kind.has_table bytes 0 ≡ true
-    → kind.checks.own bytes 0 size ≡ range_checks_of size offset n 0 → kind.entries bytes 0 ≡ n → kind.entry_cost cap ≡ 1
-    → Ok table ≡ bytes_of size offset n place → table.count ≤ table_cost kind bytes 0 size cap
-range_within kind bytes size offset n place cap table has own entries one h =
-    let within = within_kind kind bytes size cap n (range_checks_of size offset n place) (rows offset 0 1) (rows offset n 1) table has
-    (λ none. ap pass own ∙ whole_by_cases false (is_outside size offset n) place none) (λ _. refl) (sym entries) (sym h) in
-    let each : table.count * kind.entry_cost cap ≡ table.count * 1 = ap (λ k. table.count * k) one in
-    omega (arith, within, each)
+-- the bytes of a range, of which so many ask for an amount, and none for nothing
+pub range_within : (kind : TableKind) (headers : HeaderTable) (i size offset n place cap : ℕ) (amount : ℕ → ℕ) (table : Rows)
+    → kind.has_table (headers.bytes i) (headers.at i) ≡ true
+    → kind.checks.own (headers.bytes i) (headers.at i) size ≡ range_checks_of size offset n (headers.at i)
+    → amount 0 ≡ 0 → amount n ≤ kind.asks headers i size cap
+    → Ok table ≡ bytes_of size offset n place → amount table.count ≤ table_cost kind headers i size cap
+range_within kind headers i size offset n place cap amount table has own zero most h =
+    within_kind kind headers i size cap n amount (range_checks_of size offset n place) (rows offset 0 1) (rows offset n 1) table has
+    (λ none. ap pass own ∙ whole_by_cases false (is_outside size offset n) place (headers.at i) none) (λ _. zero) most (sym h)
 
 -- the dynamic entries of a segment
-pub segment_within : (bytes : List ℕ) (size place cap : ℕ) (table : Rows) → (p_type bytes 0 == PT_DYNAMIC) ≡ true → Ok table ≡ dynamic_of bytes 0 size place
-    → table.count * (32 + name_bytes cap) ≤ table_cost segment_dynamic bytes 0 size cap
+pub segment_within : (store : Stored) (i size place cap : ℕ) (table : Rows) → (p_type (segment_bytes store i) 0 == PT_DYNAMIC) ≡ true
+    → Ok table ≡ dynamic_of (segment_bytes store i) 0 size place
+    → table.count * (32 + name_bytes cap) ≤ table_cost segment_dynamic (store_segments store) i size cap
 unfolding segment_dynamic
-segment_within bytes size place cap table kind h =
+segment_within store i size place cap table kind h =
+    let bytes = segment_bytes store i in
     let n = p_filesz bytes 0 in
     let all = rows (p_offset bytes 0) (n / 16) 16 in
-    within_kind segment_dynamic bytes size cap n (whole_checks_of size (p_offset bytes 0) n place 16) all all table kind
-    (whole_by_cases (not (n % 16 == 0)) (is_outside size (p_offset bytes 0) n) place) (λ empty. ap (λ k. k / 16) (eqb-true n 0 empty)) refl
+    within_kind segment_dynamic (store_segments store) i size cap n (λ k. k * (32 + name_bytes cap)) (whole_checks_of size (p_offset bytes 0) n place 16) all all table kind
+    (whole_by_cases (not (n % 16 == 0)) (is_outside size (p_offset bytes 0) n) place 0)
+    (λ empty. ap (λ k. k / 16 * (32 + name_bytes cap)) (eqb-true n 0 empty) ∙ omega arith) (omega arith)
     (unless_by_cases (n == 0) (whole_checks_of size (p_offset bytes 0) n place 16) all ∙ sym h)
   where
     unless_by_cases : (empty : Bool) (checks : List Check) (all : Rows)
@@ -99,10 +110,10 @@ segment_within bytes size place cap table kind h =
 
 -- what the tables ask for that the headers in the store describe
 abbrev pub sections_sum : Opened → Stored → ℕ → ℕ → ℕ
-sections_sum loaded store most parts = sum_over (λ i. kinds_cost section_kinds (row store i) 0 loaded.size most parts) 0 store.loaded
+sections_sum loaded store most parts = sum_over (λ i. kinds_cost section_kinds (store_sections store) i loaded.size most parts) 0 store.loaded
 
 abbrev pub segments_sum : Opened → Stored → ℕ → ℕ → ℕ
-segments_sum loaded store most parts = sum_over (λ i. kinds_cost segment_kinds (segment_bytes store i) 0 loaded.size most parts) 0 store.segments
+segments_sum loaded store most parts = sum_over (λ i. kinds_cost segment_kinds (store_segments store) i loaded.size most parts) 0 store.segments
 
 -- the names of so many sections, where the parts have them, and the program headers, once, where any part wants them
 abbrev pub names_asked : Opened → ℕ → ℕ → ℕ → ℕ
@@ -136,12 +147,12 @@ sum_of_none amount count none = rw none refl
 listed_parts : (loaded : Opened) (store : Stored) (most parts : ℕ)
     → view_cost parts loaded + tables_listed parts loaded store most
     ≤ names_asked loaded store.loaded most parts + segments_asked loaded parts + sections_sum loaded store most parts + segments_sum loaded store most parts
-unfolding kind_by_kind symbols relocations section_notes section_dynamic segment_notes segment_dynamic
+unfolding kind_by_kind symbols relocations section_notes section_dynamic version_definitions version_needs symbol_versions segment_notes segment_dynamic
 listed_parts loaded store most parts =
     let names = names_listed (has parts SECTIONS) (not (loaded.header.e_shstrndx == 0)) (name_bytes most) store.loaded in
     let once = segments_once (loaded.header.e_shnum == 0) (has parts SEGMENTS) (has parts NOTES) (has parts DYNAMIC) (56 * loaded.header.e_phnum) in
-    let sections = by_kind section_kinds (row store) (λ i. 0) loaded.size most parts store.loaded in
-    let segments = by_kind segment_kinds (segment_bytes store) (λ i. 0) loaded.size most parts store.segments in
+    let sections = by_kind section_kinds (store_sections store) loaded.size most parts store.loaded in
+    let segments = by_kind segment_kinds (store_segments store) loaded.size most parts store.segments in
     omega (arith, names, once, sections, segments)
 
 -- all program headers are in the store, or none
@@ -158,15 +169,15 @@ viewed_all parts loaded store view some = elim (viewed_is parts loaded) [ inl no
 -- the tables of the headers in the store are those of the file
 module _ (file : List ℕ) (loaded : Opened) (store : Stored) (most parts : ℕ) (belongs : Belongs file loaded store) (held : HoldsSegments file store)
     (view : store.segments ≡ viewed parts loaded) where
-  few_segments : segments_sum loaded store most parts ≤ sum_over (λ i. kinds_cost segment_kinds file (segment_at file i) (length file) most parts) 0 (e_phnum file)
+  few_segments : segments_sum loaded store most parts ≤ sum_over (λ i. kinds_cost segment_kinds (file_segments file) i (length file) most parts) 0 (e_phnum file)
   few_segments = elim (viewed_is parts loaded) [
     | inl none ↦
-        let zero = sum_of_none (λ i. kinds_cost segment_kinds (segment_bytes store i) 0 loaded.size most parts) store.segments (view ∙ none) in
+        let zero = sum_of_none (λ i. kinds_cost segment_kinds (store_segments store) i loaded.size most parts) store.segments (view ∙ none) in
         omega (arith, zero)
     | inr all ↦
         let count : store.segments ≡ e_phnum file = view ∙ (all ∙ belongs.header.e_phnum) in
         let tables = segments_cost_rows file (segment_bytes store) most parts (λ i below. held i (omega (arith, count))) in
-        let same : segments_sum loaded store most parts ≡ sum_over (λ i. kinds_cost segment_kinds file (segment_at file i) (length file) most parts) 0 (e_phnum file) = rw (count, belongs.size) tables in
+        let same : segments_sum loaded store most parts ≡ sum_over (λ i. kinds_cost segment_kinds (file_segments file) i (length file) most parts) 0 (e_phnum file) = rw (count, belongs.size) tables in
         omega (arith, same)
   ]
 
@@ -176,20 +187,20 @@ module _ (file : List ℕ) (loaded : Opened) (store : Stored) (most parts : ℕ)
       let count : store.loaded ≡ e_shnum file = belongs.count ∙ belongs.header.e_shnum in
       elim (cases_Bool (e_shnum file == 0)) [
         | inl none ↦
-            let zero = sum_of_none (λ i. kinds_cost section_kinds (row store i) 0 loaded.size most parts) store.loaded (count ∙ eqb-true (e_shnum file) 0 none) in
+            let zero = sum_of_none (λ i. kinds_cost section_kinds (store_sections store) i loaded.size most parts) store.loaded (count ∙ eqb-true (e_shnum file) 0 none) in
             let same = ap (tables_by file most parts) (headers_none file none) in
             omega (arith, zero, same, few_segments)
         | inr some ↦
             let unviewed = view ∙ viewed_none parts loaded (ap (λ n. n == 0) belongs.header.e_shnum ∙ some) in
-            let zero = sum_of_none (λ i. kinds_cost segment_kinds (segment_bytes store i) 0 loaded.size most parts) store.segments unviewed in
+            let zero = sum_of_none (λ i. kinds_cost segment_kinds (store_segments store) i loaded.size most parts) store.segments unviewed in
             let tables = rows_cost file (row store) most parts (λ i below. belongs.rows i (omega (arith, count))) in
-            let same : sections_sum loaded store most parts ≡ sum_over (λ i. kinds_cost section_kinds (row store i) 0 (length file) most parts) 0 (e_shnum file) = rw (count, belongs.size) refl in
+            let same : sections_sum loaded store most parts ≡ sum_over (λ i. kinds_cost section_kinds (held_headers (e_shnum file) (row store)) i (length file) most parts) 0 (e_shnum file) = rw (count, belongs.size) refl in
             omega (arith, zero, same, tables, sections_counted file most parts)
       ]
 
 pub slots_below : (size headers cap : ℕ) → 64 + 64 * headers ≤ ceiling size headers cap
 slots_below size headers cap =
-    let all = any_rows (λ i. []) size headers cap 0 headers 0 (omega arith) (omega arith) in omega arith
+    let all = any_rows (held_headers 0 (λ i. [])) size headers cap 0 headers 0 (omega arith) (omega arith) in omega arith
 
 -- the section headers with their names, and the program headers
 headers_within : (file : List ℕ) (loaded : Opened) (most parts : ℕ) → IsEhdr file 0 loaded.header
@@ -245,15 +256,15 @@ loaded_below loaded store size slots cap parts same slotted count few some view 
     rw (← same) (elim (cases_Bool (loaded.header.e_shnum == 0)) [
       | inl none ↦
           let zero : store.loaded ≡ 0 = count ∙ eqb-true loaded.header.e_shnum 0 none in
-          let tables = sum_of_none (λ i. kinds_cost section_kinds (row store i) 0 loaded.size cap parts) store.loaded zero in
+          let tables = sum_of_none (λ i. kinds_cost section_kinds (store_sections store) i loaded.size cap parts) store.loaded zero in
           let unnamed : store.loaded * name_bytes cap ≡ 0 = rw zero (omega arith) in
           let within = cost_where-le (needs_view parts loaded) loaded.header.e_phnum in
-          let more = sums_grow (λ i. kinds_cost segment_kinds (segment_bytes store i) 0 loaded.size cap parts) 0 store.segments loaded.header.e_phnum (omega (arith, within, view)) in
-          let all = any_segments (segment_bytes store) loaded.size slots cap parts loaded.header.e_phnum some in
+          let more = sums_grow (λ i. kinds_cost segment_kinds (store_segments store) i loaded.size cap parts) 0 store.segments loaded.header.e_phnum (omega (arith, within, view)) in
+          let all = any_segments (store_segments store) loaded.size slots cap parts loaded.header.e_phnum some in
           omega (arith, zero, count, tables, names, unnamed, listed, asked, more, all)
       | inr sectioned ↦
-          let zero = sum_of_none (λ i. kinds_cost segment_kinds (segment_bytes store i) 0 loaded.size cap parts) store.segments (view ∙ viewed_none parts loaded sectioned) in
-          let all = any_rows (row store) loaded.size slots cap parts store.loaded loaded.header.e_phnum (omega (arith, count)) some in
+          let zero = sum_of_none (λ i. kinds_cost segment_kinds (store_segments store) i loaded.size cap parts) store.segments (view ∙ viewed_none parts loaded sectioned) in
+          let all = any_rows (store_sections store) loaded.size slots cap parts store.loaded loaded.header.e_phnum (omega (arith, count)) some in
           omega (arith, zero, count, names, listed, asked, all)
     ])
 
@@ -269,6 +280,7 @@ pub few_headers : (loaded : Opened) (header : Ehdr) (size : ℕ) (store : Stored
     → (loaded.header.e_shnum ≤ slots) × (loaded.header.e_phnum ≤ slots)
 few_headers loaded header size store opened same = rw (opened.same_header, ← same) (opened.passes.few, opened.passes.few_segments)
 
-pub cost_is : (file : List ℕ) (headers : ℕ) (style : Style) (parts : ℕ) → listing_cost file headers style parts ≡ 64 + behind_header (view_of style file) headers style.cap parts
+pub cost_is : (file : List ℕ) (headers : ℕ) (style : Style) (parts : ℕ)
+    → listing_cost file headers style parts ≡ 64 + behind_header (view_of style file) headers style.cap (known_parts style parts)
 unfolding listing_cost
 cost_is file headers style parts = refl

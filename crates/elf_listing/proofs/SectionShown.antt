@@ -10,7 +10,8 @@ use Rattle.elf_model.specs.Names.{shown}
 use Rattle.elf_model.specs.Numbers.{DT_STRSZ}
 use Rattle.elf_model.specs.Records.{e_machine, e_shnum, e_shstrndx, sh_name, sh_offset, sh_size, sh_link, p_offset, p_filesz, section_at}
 use Rattle.elf_model.specs.Report.{table_rows}
-use Rattle.elf_model.specs.TableKinds.{TableKind, section_dynamic}
+use Rattle.elf_model.specs.HeaderTables.{TableKind}
+use Rattle.elf_model.specs.TableKinds.{section_dynamic}
 use Rattle.elf_model.specs.Rows.{section_row, section_name, dynamic_row, named_row, no_name}
 use Rattle.elf_model.specs.Dynamic.{dynamic_at, dynamic_count, listed_value}
 use Rattle.elf_model.proofs.CheckSteps.{first_refusal-none, first_refusal-some}

@@ -9,17 +9,19 @@ use Rattle.elf_headers.specs.Permitted.{style_of}
 use Rattle.elf_model.specs.Tables.{SYMBOL_SIZE, RELA_SIZE, DYNAMIC_SIZE, strings_of}
 use Rattle.elf_model.specs.Listing.{Item, each}
 use Rattle.elf_model.specs.Rows.{segment_row, symbol_row, relocation_row, dynamic_row}
+use Rattle.elf_model.specs.Versions.{VERSYM_SIZE}
 use Rattle.elf_source.specs.declared.source.Source.{Ghosts as Sources}
 use Rattle.elf_source.specs.declared.sink.Sink.{Ghosts as Sinks}
 use Rattle.elf_table.specs.Relocations.{RefersTo}
 use Rattle.elf_table.specs.Tables.{Rows, RowsWithin, StringsWithin, SymbolsWithin, strings_in}
 use Rattle.elf_table.specs.declared.row.Row.{Row}
+use Rattle.elf_listing.specs.Numbered.{NumberedWithin, told_row}
 use Rattle.elf_listing.specs.RowCursors.{rows_listed}
 use Rattle.elf_listing.specs.Shows.{Lists, Writes}
 use Rattle.elf_listing.specs.Strings.{strings_told, AreWithin, AreOf}
 use Rattle.elf_listing.specs.declared.listing.Listing.{Listing}
 use Rattle.elf_listing.specs.declared.rows.Kind.{Kind}
-use Rattle.elf_listing.specs.declared.rows.Kind.TheVariants.{Segments, Symbols, Relocations, Dynamic}
+use Rattle.elf_listing.specs.declared.rows.Kind.TheVariants.{Segments, Symbols, Relocations, Dynamic, Versions}
 use Rattle.elf_headers.specs.declared.stop.Stop.{Stop}
 
 -- the size of a row in bytes
@@ -28,6 +30,7 @@ row_size Segments = 56
 row_size (Symbols section names) = SYMBOL_SIZE
 row_size (Relocations section linked) = RELA_SIZE
 row_size (Dynamic strings) = DYNAMIC_SIZE
+row_size (Versions section numbered) = VERSYM_SIZE
 
 -- how many bytes a row asks for at most beside its own
 abbrev pub own_cost : Kind → ℕ → ℕ
@@ -35,6 +38,7 @@ own_cost Segments cap = 0
 own_cost (Symbols section names) cap = name_bytes cap
 own_cost (Relocations section linked) cap = SYMBOL_SIZE + name_bytes cap
 own_cost (Dynamic strings) cap = name_bytes cap
+own_cost (Versions section numbered) cap = name_bytes cap
 
 -- how many bytes the rows of a table ask for at most
 abbrev pub rows_cost : Kind → Rows → ℕ → ℕ
@@ -46,6 +50,7 @@ row_items Segments file style table_at index = segment_row file style index
 row_items (Symbols section names) file style table_at index = symbol_row file style section (section_at file section) index
 row_items (Relocations section linked) file style table_at index = relocation_row file style section (section_at file section) index
 row_items (Dynamic strings) file style table_at index = dynamic_row file style (strings_told strings file) (dynamic_at table_at index) index
+row_items (Versions section numbered) file style table_at index = told_row file style numbered.now section (table_at + index * VERSYM_SIZE) index
 
 -- the tables that a kind's names are read from lie within a source of this size
 abbrev pub KindWithin : ℕ → Kind → Type 0
@@ -53,6 +58,7 @@ KindWithin size Segments = Unit {0}
 KindWithin size (Symbols section names) = StringsWithin size names
 KindWithin size (Relocations section linked) = IfSome linked (SymbolsWithin size)
 KindWithin size (Dynamic strings) = AreWithin size strings
+KindWithin size (Versions section numbered) = NumberedWithin size numbered.now
 
 -- a table at an offset is one of the file: it stands where the file's header or section tells, the tables that its names
 -- are read from are those that the section refers to
@@ -63,6 +69,7 @@ KindOf file table_at (Symbols section names) =
 KindOf file table_at (Relocations section linked) =
     RefersTo file (section_at file section) linked × (table_at ≡ sh_offset file (section_at file section))
 KindOf file table_at (Dynamic strings) = AreOf file strings
+KindOf file table_at (Versions section numbered) = Unit {0}
 
 -- an index of a kind's rows fits the column's type
 abbrev pub IndexFits : Kind → ℕ → Type 0
@@ -70,6 +77,7 @@ IndexFits Segments index = index < 2 ^ 16
 IndexFits (Symbols section names) index = Unit {0}
 IndexFits (Relocations section linked) index = Unit {0}
 IndexFits (Dynamic strings) index = Unit {0}
+IndexFits (Versions section numbered) index = Unit {0}
 
 -- a table of the rows of a kind, which lies within a source of this size with what it refers to
 pub record IsTableOf (size : ℕ) (kind : Kind) (table : Rows) : Type 0 where

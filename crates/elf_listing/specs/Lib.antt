@@ -2,6 +2,7 @@ pub mod Fetched
 pub mod HeadersListed
 pub mod Kinds
 pub mod Notes
+pub mod Numbered
 pub mod Parts
 pub mod Reports
 pub mod RowCursors

@@ -1,7 +1,7 @@
 -- The parts of a listing behind the file header: what is listed of each section, and what it asks for.
-use Rattle.std.specs.Prelude.{ℕ, ◌+◌, ◌*◌, ◌==◌, ◌&&◌, not, List, Option, None, Some, Result}
+use Rattle.std.specs.Prelude.{ℕ, ◌+◌, ◌*◌, ◌==◌, ◌&&◌, ◌≡◌, not, true, List, Option, None, Some, Result}
 use Rattle.elf_model.specs.Cost.{sum_over, cost_where, table_cost}
-use Rattle.elf_model.specs.Listing.{Item, each, has, SECTIONS, SEGMENTS, SYMBOLS, RELOCS, NOTES, DYNAMIC}
+use Rattle.elf_model.specs.Listing.{Item, each, fault_of, has, SECTIONS, SEGMENTS, SYMBOLS, RELOCS, NOTES, DYNAMIC}
 use Rattle.elf_model.specs.Names.{Shown, shown, name_bytes}
 use Rattle.elf_model.specs.Records.{section_at, segment_at}
 use Rattle.elf_model.specs.Report.{table_rows}
@@ -9,12 +9,14 @@ use Rattle.elf_model.specs.Rows.{no_name, section_row, segment_row}
 use Rattle.elf_model.specs.Style.{Style}
 use Rattle.elf_model.specs.HeaderTables.{HeaderTable, TableKind, held_headers}
 use Rattle.elf_model.specs.TableKinds.{symbols, relocations, section_notes, segment_notes, section_dynamic, segment_dynamic}
+use Rattle.elf_model.specs.VersionLaws.{records_rows}
+use Rattle.elf_model.specs.VersionRows.{symbol_versions, version_definitions, version_needs}
 use Rattle.elf_model.specs.declared.causes.Cause.{Cause}
 use Rattle.elf_headers.specs.Load.{Opened}
 use Rattle.elf_headers.specs.Store.{Stored, row, segment_bytes}
 use Rattle.elf_table.specs.Tables.{Strings, strings_in}
 use Rattle.elf_listing.specs.declared.parts.Part.{Part}
-use Rattle.elf_listing.specs.declared.parts.Part.TheVariants.{Headers, Segments, Symbols, Relocations, SectionNotes, SegmentNotes, SectionDynamic, SegmentDynamic}
+use Rattle.elf_listing.specs.declared.parts.Part.TheVariants.{Headers, Segments, Symbols, Relocations, SectionNotes, SegmentNotes, SectionDynamic, SegmentDynamic, Definitions, Needs, SymbolVersions}
 
 -- WHAT A PART LISTS: its bit among the parts of a listing; how many headers it goes over, those in the store; the items of the
 -- header of an index, in a file; and how many bytes it asks for at most with its table, by the store
@@ -75,6 +77,19 @@ listed_by SectionNotes = of_sections section_notes
 listed_by SegmentNotes = of_segments segment_notes
 listed_by SectionDynamic = of_sections section_dynamic
 listed_by SegmentDynamic = of_segments segment_dynamic
+listed_by Definitions = of_sections version_definitions
+listed_by Needs = of_sections version_needs
+listed_by SymbolVersions = of_sections symbol_versions
+
+-- what is so before a part is listed of a file that is known, in a style: the versions of symbols are named by definitions and
+-- needs whose own rows had no fault
+abbrev pub Awaits : Part → Option (List ℕ) → Style → Type 0
+Awaits SymbolVersions seen style = (file : List ℕ) → seen ≡ Some file → fault_of (records_rows file style) ≡ None
+Awaits part seen style = Unit {0}
+
+-- and before it is listed where some parts have it
+abbrev pub AwaitsAsked : ℕ → Part → Option (List ℕ) → Style → Type 0
+AwaitsAsked parts part seen style = has parts (listed_by part).bit ≡ true → Awaits part seen style
 
 -- the items of so many headers
 abbrev pub part_items : Part → Style → ℕ → List ℕ → List Item
@@ -110,3 +125,5 @@ tables_listed parts loaded store cap =
     + (asked_cost parts Symbols loaded store cap + asked_cost parts Relocations loaded store cap)
     + (asked_cost parts SectionNotes loaded store cap + asked_cost parts SegmentNotes loaded store cap)
     + (asked_cost parts SectionDynamic loaded store cap + asked_cost parts SegmentDynamic loaded store cap)
+    + (asked_cost parts Definitions loaded store cap + asked_cost parts Needs loaded store cap)
+    + asked_cost parts SymbolVersions loaded store cap

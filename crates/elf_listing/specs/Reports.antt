@@ -4,7 +4,7 @@ use Rattle.elf_model.specs.Budget.{IsBudgeted, IsBudget}
 use Rattle.elf_model.specs.Checks.{first_refusal, length_checks}
 use Rattle.elf_model.specs.Cost.{ceiling}
 use Rattle.elf_model.specs.Lines.{refusal_line}
-use Rattle.elf_model.specs.Listing.{has_tables}
+use Rattle.elf_model.specs.Listing.{has_tables, known_parts}
 use Rattle.elf_model.specs.declared.causes.Refusal.{Refusal}
 use Rattle.elf_source.specs.Source.{Counting, Keeps, Faults}
 use Rattle.elf_source.specs.Output.{Written, Takes, TakesFront, OutFails}
@@ -40,7 +40,7 @@ FaultSays old new out (Out fault) = OutFails out fault
 pub record AsksWithin {X : Type 0} (caps : Caps) (parts : ℕ) (old new : Counting) (result : Result X Stop) : Type 0 where
   pub ceiling : new.asked ≤ old.asked + ceiling old.seen.size caps.limits.headers caps.style.cap.bytes
   pub unread : (refusal : Refusal) → first_refusal (length_checks old.seen.size) ≡ Some refusal → new.seen ≡ old.seen × new.asked ≡ old.asked
-  pub alone : has_tables parts ≡ false → new.asked ≤ old.asked + 64
+  pub alone : has_tables (known_parts (style_of caps.style) parts) ≡ false → new.asked ≤ old.asked + 64
   pub budget : IfSome caps.limits.budget (λ bytes. new.asked ≤ old.asked + bytes)
   pub late : (refusal : Refusal) → result ≡ Err (Refused refusal) → IsBudget refusal
       → (bytes : ℕ) × (caps.limits.budget ≡ Some bytes) × (old.asked + bytes < new.asked + 4096)

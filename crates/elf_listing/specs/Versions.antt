@@ -1,17 +1,23 @@
 -- The records of symbol versions, shown one after another.
-use Rattle.std.specs.Prelude.{ℕ, ◌≡◌, ◌+◌, ◌*◌, List, ◌++◌, Some, Result}
-use Rattle.elf_model.specs.Listing.{Item}
+use Rattle.std.specs.Prelude.{ℕ, ◌≡◌, ◌+◌, ◌*◌, ◌/◌, ◌==◌, List, ◌++◌, Some, Result}
+use Rattle.elf_model.specs.Listing.{Item, VERSIONS}
+use Rattle.elf_model.specs.Records.{sh_size, sh_type}
 use Rattle.elf_model.specs.Names.{name_bytes}
 use Rattle.elf_model.specs.Style.{Style}
-use Rattle.elf_model.specs.VersionRows.{end_rows, met_rows, version_row}
-use Rattle.elf_model.specs.Versions.{Met, Versions}
+use Rattle.elf_model.specs.HeaderTables.{TableKind, each_entry}
+use Rattle.elf_model.specs.Numbers.{SHT_GNU_VERDEF, SHT_GNU_VERNEED}
+use Rattle.elf_model.specs.VersionRows.{end_rows, met_rows, version_row, version_table, versions_rows}
+use Rattle.elf_model.specs.Versions.{Met, Versions, record_size}
+use Rattle.elf_model.specs.declared.versions.VersionKind.{VersionKind}
+use Rattle.elf_model.specs.declared.versions.VersionKind.TheVariants.{Definition, File, Need}
 use Rattle.elf_headers.specs.Permitted.{style_of}
 use Rattle.elf_source.specs.declared.source.Source.{Ghosts as Sources}
 use Rattle.elf_source.specs.declared.sink.Sink.{Ghosts as Sinks}
 use Rattle.elf_table.specs.Tables.{Strings, strings_in}
-use Rattle.elf_versions.specs.Reading.{Agrees, IsVersion, Walking, unread, versions_left}
+use Rattle.elf_versions.specs.Reading.{Agrees, IsVersion, Walking, bytes_each, unread, versions_left}
 use Rattle.elf_versions.specs.declared.record.VersionRecord.{VersionRecord}
-use Rattle.elf_listing.specs.Shows.{Lists, Writes}
+use Rattle.elf_listing.specs.Parts.{of_sections}
+use Rattle.elf_listing.specs.Shows.{Lists, Shows, Writes}
 use Rattle.elf_listing.specs.declared.listing.Listing.{Listing}
 use Rattle.elf_headers.specs.declared.stop.Stop.{Stop}
 
@@ -36,3 +42,23 @@ ListsRecords old new result cursor section names =
     Lists old new result (records_cost cursor old.style.cap.bytes)
     ((file : List ℕ) → old.src.now.seen.file ≡ Some file → Agrees file cursor
     → Writes old.out.now new.out.now result (versions_items file (style_of old.style) section (strings_in file names) (versions_left file cursor)))
+
+-- the sections that hold records of a kind: their type, and their tables
+abbrev pub kind_type : VersionKind → ℕ
+kind_type kind = elim kind [ Definition ↦ SHT_GNU_VERDEF | File ↦ SHT_GNU_VERNEED | Need ↦ SHT_GNU_VERNEED ]
+
+abbrev pub records_kind : VersionKind → TableKind
+records_kind kind = record {
+  part = VERSIONS;
+  has_table = λ bytes at. sh_type bytes at == kind_type kind;
+  checks = version_table;
+  asks = each_entry (λ bytes at. sh_size bytes at / record_size kind) (λ cap. bytes_each kind + name_bytes cap);
+  rows = versions_rows kind;
+}
+
+-- what a call did that shows the records of a section, where it holds records of a kind
+abbrev pub ListsVersions : {S W X : Type 0} {s : Sources S} {w : Sinks W} → Listing S W s w → Listing S W s w → Result X Stop → ℕ → VersionKind → Type 0
+ListsVersions old new result section kind =
+    let listed = of_sections (records_kind kind) in
+    Lists old new result (listed.cost old.file.loaded old.file.store.now old.style.cap.bytes section)
+    (Shows old new result (λ file. listed.items file (style_of old.style) section))

@@ -1,7 +1,8 @@
 //! What is listed of each header, one header after another.
 ghost use Rattle.std.specs.Prelude.{◌≡◌, ◌<◌};
 ghost use Rattle.elf_listing.specs.HeadersListed.{ListsHeader, ListsPart};
-ghost use Rattle.elf_listing.specs.Parts.{listed_by};
+ghost use Rattle.elf_headers.specs.Permitted.{style_of};
+ghost use Rattle.elf_listing.specs.Parts.{Awaits, listed_by};
 
 use crate::listing::Listing;
 use crate::parts::Part;
@@ -11,6 +12,7 @@ use elf_table::Stop;
 impl<S: Source, W: Sink> Listing<'_, '_, '_, S, W> {
     /// Shows a part of each header in the order of the headers, up to the first that is refused.
     pub(crate) fn headers(&mut self, part: Part) -> Result<(), Stop>
+        requires { Awaits part self.old.src.now.seen.file (style_of self.old.style) }
         ensures { ListsPart part self.old self.new result }
     {
         let count = self.header_count(part);
@@ -36,7 +38,8 @@ impl<S: Source, W: Sink> Listing<'_, '_, '_, S, W> {
 
     /// Shows a part of one header.
     fn header(&mut self, part: Part, index: u16) -> Result<(), Stop>
-        requires { index < (listed_by part).count self.old.file.store.now }
+        requires awaits { Awaits part self.old.src.now.seen.file (style_of self.old.style) }
+        requires below { index < (listed_by part).count self.old.file.store.now }
         ensures { ListsHeader part self.old self.new result index }
     {
         match part {
@@ -48,6 +51,7 @@ impl<S: Source, W: Sink> Listing<'_, '_, '_, S, W> {
             Part::SegmentNotes => self.segment_notes(index),
             Part::SectionDynamic => self.section_dynamic(index),
             Part::SegmentDynamic => self.segment_dynamic(index),
+            _ => self.section_row(index),
         }
     }
 }

@@ -7,6 +7,7 @@ mod headers;
 mod listing;
 mod names;
 mod notes;
+mod numbered;
 mod parts;
 mod relocation_row;
 mod row;

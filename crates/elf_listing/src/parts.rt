@@ -2,7 +2,8 @@
 ghost use Rattle.std.specs.Prelude.{◌≡◌};
 ghost use Rattle.elf_listing.specs.HeadersListed.{ListsAsked, ListsPair};
 ghost use Rattle.elf_listing.specs.HeadersListed.{ListsSegments, ListsTables};
-ghost use Rattle.elf_listing.specs.Parts.{listed_by};
+ghost use Rattle.elf_headers.specs.Permitted.{style_of};
+ghost use Rattle.elf_listing.specs.Parts.{AwaitsAsked, listed_by};
 ghost use Rattle.elf_listing.specs.Viewed.{viewed};
 
 use crate::listing::Listing;
@@ -32,6 +33,12 @@ pub enum Part {
     SectionDynamic,
     /// The dynamic entries of segments.
     SegmentDynamic,
+    /// The definitions of versions, of sections.
+    Definitions,
+    /// The needed files and versions, of sections.
+    Needs,
+    /// The versions of symbols, of sections.
+    SymbolVersions,
 }
 
 impl<S: Source, W: Sink> Listing<'_, '_, '_, S, W> {
@@ -45,11 +52,17 @@ impl<S: Source, W: Sink> Listing<'_, '_, '_, S, W> {
         self.segments(parts)?;
         self.pair(parts, Part::Symbols, Part::Relocations)?;
         self.pair(parts, Part::SectionNotes, Part::SegmentNotes)?;
-        self.pair(parts, Part::SectionDynamic, Part::SegmentDynamic)
+        self.pair(parts, Part::SectionDynamic, Part::SegmentDynamic)?;
+        self.pair(parts, Part::Definitions, Part::Needs)?;
+        self.part(parts, Part::SymbolVersions)
     }
 
     /// Shows two parts, one behind the other.
     fn pair(&mut self, parts: Parts, first: Part, second: Part) -> Result<(), Stop>
+        requires first { AwaitsAsked parts.0 first self.old.src.now.seen.file
+            (style_of self.old.style) }
+        requires second { AwaitsAsked parts.0 second self.old.src.now.seen.file
+            (style_of self.old.style) }
         ensures { ListsPair parts.0 first second self.old self.new result }
     {
         self.part(parts, first)?;
@@ -58,6 +71,7 @@ impl<S: Source, W: Sink> Listing<'_, '_, '_, S, W> {
 
     /// Shows a part of each header, where the parts have it.
     fn part(&mut self, parts: Parts, part: Part) -> Result<(), Stop>
+        requires { AwaitsAsked parts.0 part self.old.src.now.seen.file (style_of self.old.style) }
         ensures { ListsAsked parts.0 part self.old self.new result }
     {
         if !parts.contains(bit(part)) {
@@ -95,5 +109,6 @@ fn bit(part: Part) -> Parts
         Part::Relocations => Parts::RELOCS,
         Part::SectionNotes | Part::SegmentNotes => Parts::NOTES,
         Part::SectionDynamic | Part::SegmentDynamic => Parts::DYNAMIC,
+        Part::Definitions | Part::Needs | Part::SymbolVersions => Parts::VERSIONS,
     }
 }

@@ -4,6 +4,7 @@ ghost use Rattle.elf_listing.specs.Kinds.{IsTableOf, ListsRow, ListsRows, RowFit
 use crate::dynamic_row::EntryStrings;
 use crate::listing::Listing;
 use crate::row_cursor::RowCursor;
+use crate::numbered::Numbered;
 use elf_source::{Sink, Source};
 use elf_table::{Names, Row, Stop, Table};
 
@@ -31,6 +32,13 @@ pub enum Kind<'f> {
         /// Where their strings are looked for.
         strings: EntryStrings<'f>,
     },
+    /// The versions of symbols of a section, an `X` line each.
+    Versions {
+        /// The index of the section.
+        section: u16,
+        /// Where the names of their numbers are.
+        numbered: &'f Numbered,
+    },
 }
 
 impl<S: Source, W: Sink> Listing<'_, '_, '_, S, W> {
@@ -57,6 +65,7 @@ impl<S: Source, W: Sink> Listing<'_, '_, '_, S, W> {
             Kind::Symbols { section, names } => self.symbol_row(row, *section, names),
             Kind::Relocations { section, linked } => self.relocation_row(row, *section, *linked),
             Kind::Dynamic { strings } => self.dynamic_row(row, strings),
+            Kind::Versions { section, numbered } => self.version_number(row, *section, numbered),
         }
     }
 }

@@ -6,7 +6,7 @@ ghost use Rattle.elf_model.specs.Checks.{first_refusal, length_checks};
 ghost use Rattle.elf_model.specs.declared.causes.Refusal.{Refusal as Refuses};
 ghost use Rattle.elf_model.specs.Cost.{listing_cost, ceiling, behind_header};
 ghost use Rattle.elf_model.specs.Lines.{header_line};
-ghost use Rattle.elf_model.specs.Listing.{Line as LineItem, has, has_tables, where_asked, HEADER};
+ghost use Rattle.elf_model.specs.Listing.{Line as LineItem, has, has_tables, known_parts, where_asked, HEADER};
 ghost use Rattle.elf_model.specs.Listing.{SEGMENTS, NOTES, DYNAMIC};
 ghost use Rattle.elf_model.specs.Report.{listing as listed_items, load_items, table_items};
 ghost use Rattle.elf_model.specs.Style.{viewed as view_of};
@@ -31,11 +31,12 @@ use elf_source::{Counted, Out, Sink, Source};
 use elf_table::{Caps, Fault, File, HeaderStore, Loaded, NameBuf, Stop, Style, header, load};
 
 /// All parts but the file header's.
-const TABLES: Parts = Parts(126);
+const TABLES: Parts = Parts(254);
 
 /// Writes the listing of a file, as far as `parts` has it: the file header, the section headers,
-/// the program headers, the symbols, the relocation entries, the notes, the dynamic entries; at the
-/// first fault its line ends the listing. Notes and dynamic entries are those of the sections, and
+/// the program headers, the symbols, the relocation entries, the notes, the dynamic entries and, in
+/// a style with the names of the GNU system, the symbol versions; at the first fault its line ends
+/// the listing. Notes and dynamic entries are those of the sections, and
 /// in a file without sections those of the segments; by a style that finds tables by the program
 /// headers all files are listed as if their file header told of no sections. The store has a slot for each header that the
 /// caps permit, and is loaded with the file's section headers, or with the program headers of a
@@ -96,7 +97,8 @@ pub fn list<S: Source, W: Sink>(
         (ceiling src.old.seen.size store.old.slots style.cap.bytes) }
     ensures unread { (refusal : Refuses) →
         first_refusal (length_checks src.old.seen.size) ≡ Some refusal → src.new ≡ src.old }
-    ensures alone { has_tables parts.0 ≡ false → src.new.asked ≤ src.old.asked + 64 }
+    ensures alone { has_tables (known_parts (style_of style) parts.0) ≡ false →
+        src.new.asked ≤ src.old.asked + 64 }
     ensures cost { (file : List ℕ) → src.old.seen.file ≡ Some file →
         Costs src.old src.new out.new result
         (listing_cost file store.old.slots (style_of style) parts.0) }
@@ -106,7 +108,7 @@ pub fn list<S: Source, W: Sink>(
 {
     let header = header(src)?;
     list_header(&header, parts, out)?;
-    list_viewed(src, store, &header, style, parts, out)
+    list_viewed(src, store, &header, style, parts.known(style.gnu), out)
 }
 
 /// Lists the file header, where the parts have it: its `H` line (gABI 4, ELF Header).

@@ -1,16 +1,62 @@
 //! The records of symbol versions, shown one after another.
-ghost use Rattle.std.specs.Prelude.{◌≡◌, None};
+ghost use Rattle.std.specs.Prelude.{◌≡◌, ◌<◌, None};
+ghost use Rattle.elf_model.specs.declared.versions.VersionKind.TheVariants.{Need};
 ghost use Rattle.elf_table.specs.Tables.{RowsWithin, StringsWithin};
-ghost use Rattle.elf_listing.specs.Versions.{ListsRecord, ListsRecords};
+ghost use Rattle.elf_listing.specs.HeadersListed.{ListsHeader};
+ghost use Rattle.elf_listing.specs.Versions.{ListsRecord, ListsRecords, ListsVersions, kind_type};
+ghost use Rattle.elf_listing.specs.declared.parts.Part.TheVariants.{Definitions, Needs};
 
 use crate::listing::Listing;
 use elf_lines::version_front;
 use elf_names::NameIndex;
+use elf_record::VersionKind;
+use elf_record::gnu_numbers::{SHT_GNU_VERDEF, SHT_GNU_VERNEED};
 use elf_source::{Sink, Source};
 use elf_table::{Names, Stop};
 use elf_versions::{VersionCursor, VersionRecord};
 
 impl<S: Source, W: Sink> Listing<'_, '_, '_, S, W> {
+    /// Shows the version definitions of a section, where it holds them: a `V` line each, or the
+    /// first refusal of its table, of its string table or of a name, or of what stands in the place
+    /// of a definition (Linux Standard Base Core, Symbol Versioning).
+    #[tactic(auto, unfolding(elf_model::specs::VersionRows::version_definitions))]
+    pub(crate) fn definitions(&mut self, section: u16) -> Result<(), Stop>
+        requires { section < self.old.file.store.now.loaded }
+        ensures { ListsHeader Definitions self.old self.new result section }
+    {
+        self.versions(section, VersionKind::Definition)
+    }
+
+    /// Shows the needed files of a section and the versions that are needed of each, where it holds
+    /// them, as definitions.
+    #[tactic(auto, unfolding(elf_model::specs::VersionRows::version_needs))]
+    pub(crate) fn needs(&mut self, section: u16) -> Result<(), Stop>
+        requires { section < self.old.file.store.now.loaded }
+        ensures { ListsHeader Needs self.old self.new result section }
+    {
+        self.versions(section, VersionKind::File)
+    }
+
+    /// Shows the records of a section, where it holds records of a kind.
+    fn versions(&mut self, section: u16, kind: VersionKind) -> Result<(), Stop>
+        requires below { section < self.old.file.store.now.loaded }
+        requires kind { kind ≡ Need → ⊥ }
+        ensures { ListsVersions self.old self.new result section kind }
+    {
+        let header = self.file.section(section);
+        if header.sh_type != section_type(kind) {
+            return Ok(());
+        }
+        if header.sh_size == 0 {
+            return Ok(());
+        }
+        let at = self.file.place(section);
+        let table = self.file.bytes(header.sh_offset, header.sh_size, at)?;
+        let names = self.file.strings(section)?;
+        let mut cursor = VersionCursor::new(self.src, kind, at, table)?;
+        self.version_rows(&mut cursor, section, names)
+    }
+
     /// Shows the records that a cursor still gives, a `V` line each with its name, up to the first
     /// name that is refused, or to what is no record.
     fn version_rows(
@@ -45,5 +91,15 @@ impl<S: Source, W: Sink> Listing<'_, '_, '_, S, W> {
             version_front(section, given.kind, given.number, given.flags, given.hash),
             end,
         )
+    }
+}
+
+/// The type of the sections that hold records of a kind.
+pub(crate) fn section_type(kind: VersionKind) -> u32
+    ensures { result ≡ kind_type kind }
+{
+    match kind {
+        VersionKind::Definition => SHT_GNU_VERDEF,
+        VersionKind::File | VersionKind::Need => SHT_GNU_VERNEED,
     }
 }

@@ -26,12 +26,12 @@ use Rattle.elf_model.proofs.VersionLaws.{named-here, named-later, named-none}
 use Rattle.elf_model.proofs.VersionSteps.{met-ended, met-most, met-record, met-refused}
 
 -- items without a fault have none in their parts
-front-none : (front back : List Item) → fault_of (front ++ back) ≡ None → fault_of front ≡ None
+pub front-none : (front back : List Item) → fault_of (front ++ back) ≡ None → fault_of front ≡ None
 front-none [] back h = refl
 front-none (Line text ∷ front) back h = front-none front back h
 front-none (Fault refusal ∷ front) back h = cc
 
-back-none : (front back : List Item) → fault_of (front ++ back) ≡ None → fault_of back ≡ None
+pub back-none : (front back : List Item) → fault_of (front ++ back) ≡ None → fault_of back ≡ None
 back-none front back h = sym (listings_append front back (front-none front back h)).1 ∙ h
 
 each-none : (row : ℕ → List Item) (first count i : ℕ) → fault_of (each row first count) ≡ None → first ≤ i → i < first + count → fault_of (row i) ≡ None

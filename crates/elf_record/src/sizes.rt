@@ -10,6 +10,8 @@ pub const SYMBOL_BYTES: u64 = 24;
 pub const RELOCATION_BYTES: u64 = 24;
 /// The size of a dynamic entry (gABI 5, Dynamic Section).
 pub const DYNAMIC_BYTES: u64 = 16;
+/// The size of the version of a symbol (Linux Standard Base Core, Symbol Versioning).
+pub const SYMBOL_VERSION_BYTES: u64 = 2;
 /// The size of a version definition (Linux Standard Base Core, Symbol Versioning).
 pub const VERSION_DEFINITION_BYTES: u64 = 20;
 /// The size of a name of a version definition (Linux Standard Base Core, Symbol Versioning).

@@ -6,3 +6,4 @@ pub mod Pieces
 pub mod RelocationLaws
 pub mod SameNames
 pub mod Standing
+pub mod VersionLaws

@@ -3,7 +3,7 @@ use Rattle.std.proofs.Common.{◌≡◌, ℕ, ◌/◌, ◌%◌, ◌<◌, ◌==�
 use Rattle.std.proofs.lemmas.Bool.{cases_Bool, eqb-true, lt-ltb}
 use Rattle.elf_model.specs.Checks.{Check, refuse, first_refusal, unless_empty, whole_checks_of, table_checks, strings_checks, is_symbol_table}
 use Rattle.elf_model.specs.Records.{sh_offset, sh_size, sh_link, sh_entsize, section_at, e_shnum}
-use Rattle.elf_model.specs.Tables.{linked_at, has_symbols, symbol_table_checks, linked_table_checks, relocation_table_checks}
+use Rattle.elf_model.specs.Tables.{linked_at, has_symbols, symbol_table_checks, linked_table_checks}
 use Rattle.elf_model.specs.declared.causes.Refusal.{Refusal}
 use Rattle.elf_model.specs.declared.causes.Cause.TheVariants.{EntrySize}
 use Rattle.elf_model.proofs.CheckSteps.{first_refusal-some, first_refusal-none, first_refusal-back}

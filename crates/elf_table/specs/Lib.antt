@@ -5,5 +5,6 @@ pub mod NamesRead
 pub mod Relocations
 pub mod Sections
 pub mod Tables
+pub mod Versions
 pub mod Views
 pub mod Windows

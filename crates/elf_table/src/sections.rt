@@ -1,5 +1,5 @@
 //! The checks of a loaded file's sections.
-ghost use Rattle.std.specs.Prelude.{◌≡◌, ℕ, ◌<◌, ◌≤◌, List, None, Ok, IfOk, IfErr, IfSome};
+ghost use Rattle.std.specs.Prelude.{◌≡◌, ℕ, ◌<◌, ◌≤◌, ◌^◌, ◌==◌, ◌||◌, not, List, true, None, Ok, IfOk, IfErr, IfSome, IsTrue};
 ghost use Rattle.elf_model.specs.Records.{section_at};
 ghost use Rattle.elf_record.specs.Shdr.{IsShdr};
 ghost use Rattle.elf_headers.specs.Load.{Belongs, Passes, section_place};
@@ -8,6 +8,11 @@ ghost use Rattle.elf_table.specs.Files.{Tells, program_headers, table_in, size_i
 ghost use Rattle.elf_table.specs.Sections.{bytes_of, table_at, string_table_at, section_names};
 ghost use Rattle.elf_table.specs.Sections.{symbols_at};
 ghost use Rattle.elf_table.specs.Relocations.{Links, Relocates};
+ghost use Rattle.elf_table.specs.Versions.{Counts, LinksToSymbols, Versioned, has_names, sections_in};
+ghost use Rattle.elf_model.specs.HeaderTables.{file_sections, first_typed};
+ghost use Rattle.elf_model.specs.Records.{sh_link};
+ghost use Rattle.elf_model.specs.Tables.{has_symbols};
+ghost use Rattle.elf_model.specs.VersionCost.{has_strings};
 ghost use Rattle.elf_headers.specs.Store.{row};
 ghost use Rattle.elf_table.specs.Tables.{RowsWithin, StringsWithin, SymbolsWithin, size_of};
 
@@ -18,6 +23,7 @@ use crate::table::Table;
 use elf_headers::{Fault, ends_outside, refused};
 use elf_record::sizes::{
     PROGRAM_HEADER_BYTES, RELOCATION_BYTES, SECTION_HEADER_BYTES, SYMBOL_BYTES,
+    SYMBOL_VERSION_BYTES,
 };
 use elf_record::{Cause, Shdr};
 
@@ -103,6 +109,8 @@ impl File<'_> {
         requires below { section < self.now.store.now.loaded }
         ensures held { Tells self.now section result string_table_at }
         ensures within { IfOk result (StringsWithin self.now.loaded.size) }
+        ensures found { IfOk result (λ names.
+            has_strings (sections_in self.now) section self.now.loaded.size ≡ true) }
         ensures refusal { IfErr result IsOfCheck }
     {
         let link = self.store.section(section).sh_link;
@@ -151,6 +159,8 @@ impl File<'_> {
         ensures table { IfOk result (λ symbols. Ok symbols.0 ≡ table_in self.now section 24) }
         ensures sized { IfOk result (λ symbols. size_of symbols.0 ≡ size_in self.now section) }
         ensures within { IfOk result (SymbolsWithin self.now.loaded.size) }
+        ensures found { IfOk result (λ symbols.
+            has_names (sections_in self.now) section self.now.loaded.size ≡ true) }
         ensures refusal { IfErr result IsOfCheck }
     {
         let table = self.table(section, SYMBOL_BYTES)?;
@@ -211,6 +221,64 @@ impl File<'_> {
         }
         let linked = self.linked(section)?;
         Ok((table, linked))
+    }
+
+    /// The first section of a type, if there is one (gABI 4, Section Header).
+    pub fn first(&self, sh_type: u32) -> Option<u16>
+        ensures below { IfSome result (λ section. section < self.now.store.now.loaded) }
+        ensures value { result ≡ first_typed (sections_in self.now) sh_type }
+        ensures held { (file : List ℕ) → Belongs file self.now.loaded self.now.store.now →
+            result ≡ first_typed (file_sections file) sh_type }
+    {
+        for section in 0..self.sections() {
+            if self.section(section).sh_type == sh_type {
+                return Some(section);
+            }
+        }
+        None
+    }
+
+    /// The versions of symbols of a section, rows of 2 bytes, and how many symbols there are in the
+    /// table that it links to; none of an empty section, with no check. The section's type is not
+    /// looked at. No bytes are read (Linux Standard Base Core, Symbol Versioning).
+    ///
+    /// # Errors
+    /// The first check that fails: those of [`File::table`]; `BadLink` at the section's header where
+    /// its link is 0 or names no section of symbols; then those of [`File::symbols`] at the linked
+    /// section.
+    pub fn symbol_versions(&self, section: u16) -> Result<(Table, u64), Fault>
+        requires below { section < self.now.store.now.loaded }
+        ensures held { (file : List ℕ) → Belongs file self.now.loaded self.now.store.now →
+            Versioned file (section_at file section) result }
+        ensures table { IfOk result (λ found. Ok found.0 ≡ table_in self.now section 2) }
+        ensures within { IfOk result (λ found. RowsWithin self.now.loaded.size found.0) }
+        ensures counts { IfOk result (λ found. Counts self.now section found.0 found.1) }
+        ensures refusal { IfErr result IsOfCheck }
+    {
+        let table = self.table(section, SYMBOL_VERSION_BYTES)?;
+        if self.store.section(section).sh_size == 0 {
+            return Ok((table, 0));
+        }
+        if !self.links_to_symbols(section) {
+            return refused(self.place(section), Cause::BadLink);
+        }
+        let link = self.store.section(section).sh_link as u16;
+        let symbols = self.symbols(link)?;
+        Ok((table, symbols.0.len()))
+    }
+
+    /// Whether a section links to a section of symbols, which is not the first.
+    fn links_to_symbols(&self, section: u16) -> bool
+        requires below { section < self.now.store.now.loaded }
+        ensures linked { IsTrue result → LinksToSymbols self.now section }
+        ensures held { (file : List ℕ) → Belongs file self.now.loaded self.now.store.now →
+            let at = section_at file section in
+            result ≡ not (sh_link file at == 0 || not (has_symbols file at)) }
+    {
+        let link = self.store.section(section).sh_link;
+        link != 0
+            && link < u32::from(self.sections())
+            && holds_symbols(&self.store.section(link as u16))
     }
 
     /// The file offset of the section header of an index below e_shnum, in bytes (gABI 4, Section

@@ -14,7 +14,7 @@ use Rattle.elf_archive.proofs.listing.list_member.Goals as goal
 pub returns-in_err-begins_elf-clause-cost : goal.returns-in_err-begins_elf-clause-cost
 returns-in_err-begins_elf-clause-cost g c = λ file held member is.
     let p = err_from_is_err_and c.from_residual.result c.from_residual.ensures.1 in
-    let asked : lists_members c.args.choice.parts.0 ≡ true = search rules in
+    let asked : lists_members (style_of c.args.choice.style) c.args.choice.parts.0 ≡ true = search rules in
     let cost = member_listed file c.args.store.now.slots (style_of c.args.choice.style) c.args.choice.parts.0 member asked in
     rw (p.1, p.2) (Consumes-fault _ _ c.args.out.now _ 4 _ (omega (arith, cost)) c.in_err-begins_elf.ensures.reads c.in_err-begins_elf.ensures.says)
 
@@ -25,14 +25,14 @@ returns-in_err-begins_elf-clause-text g c = λ file held member is.
 
 pub returns-then-not-branch-clause-cost : goal.returns-then-not-branch-clause-cost
 returns-then-not-branch-clause-cost g c = λ file held member is.
-    let asked : lists_members c.args.choice.parts.0 ≡ true = search rules in
+    let asked : lists_members (style_of c.args.choice.style) c.args.choice.parts.0 ≡ true = search rules in
     let cost = member_listed file c.args.store.now.slots (style_of c.args.choice.style) c.args.choice.parts.0 member asked in
     let reads = c.in_ok-begins_elf.ensures.reads in
     (Reads-to reads (omega (arith, cost, reads.at_most)), tt)
 
 pub returns-clause-cost : goal.returns-clause-cost
 returns-clause-cost g c = λ file held member is.
-    let asked : lists_members c.args.choice.parts.0 ≡ true = search rules in
+    let asked : lists_members (style_of c.args.choice.style) c.args.choice.parts.0 ≡ true = search rules in
     let told = c.in_ok-begins_elf.ensures.read file held in
     let elf : is_elf (bytes_in file (extent_of c.args.extent)) ≡ true = search rules in
     let cost = member_elf file c.args.store.now.slots (style_of c.args.choice.style) c.args.choice.parts.0 member (extent_of c.args.extent) asked is elf in

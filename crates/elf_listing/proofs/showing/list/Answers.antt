@@ -4,6 +4,7 @@ use Rattle.elf_model.specs.Style.{viewed as view_of}
 use Rattle.std.proofs.Common.{◌≡◌, ℕ, Ok, Err, ap, arith, ◌∙◌}
 use Rattle.std.proofs.lemmas.Result.{err_from_is_err_and}
 use Rattle.elf_model.specs.Cost.{ceiling}
+use Rattle.elf_model.specs.Listing.{known_parts}
 use Rattle.elf_model.specs.Report.{load_items}
 use Rattle.elf_listing.proofs.FileShown.{header_part, items_are, header_alone}
 use Rattle.elf_listing.proofs.RowLaws.{Stopped-first, Writes-as}
@@ -70,15 +71,15 @@ returns-clause-cost g c = λ file held.
     let most = header_most c.args.src.now.seen.size in
     let reads = c.header.ensures.reads in
     let cost = cost_is file c.args.store.now.slots (style_of c.args.style) c.args.parts.0 in
-    Costs-then _ _ _ _ _ _ _ _ (omega (arith, most, cost, reads.at_most)) reads (c.list_viewed.ensures.cost file (reads.keeps.same_file ∙ held))
+    Costs-then _ _ _ _ _ _ _ _ (omega (arith, most, cost, reads.at_most)) reads (rw c.known.ensures at (c.list_viewed.ensures.cost file (reads.keeps.same_file ∙ held)))
 
 pub returns-clause-text : goal.returns-clause-text
 returns-clause-text g c = λ file held.
     let read = c.in_ok-header.ensures.read file held in
     let first = c.in_ok-list_header.ensures.text file read.1 in
     Writes-as _ _ _ (items_are file c.args.store.now.slots (style_of c.args.style) c.args.parts.0 read.0)
-    (Writes-then _ _ _ _ (header_part file c.args.parts.0) (load_items (view_of (style_of c.args.style) file) c.args.store.now.slots (style_of c.args.style) c.args.parts.0) first
-    (c.list_viewed.ensures.text file (c.header.ensures.reads.keeps.same_file ∙ held)))
+    (Writes-then _ _ _ _ (header_part file c.args.parts.0) (load_items (view_of (style_of c.args.style) file) c.args.store.now.slots (style_of c.args.style) (known_parts (style_of c.args.style) c.args.parts.0)) first
+    (rw c.known.ensures at (c.list_viewed.ensures.text file (c.header.ensures.reads.keeps.same_file ∙ held))))
 
 pub returns-clause-grows : goal.returns-clause-grows
 returns-clause-grows g c = grows_then c.in_ok-list_header.ensures.grows c.list_viewed.ensures.grows
@@ -104,5 +105,5 @@ returns-clause-unread g c = λ refusal refused.
 pub returns-clause-alone : goal.returns-clause-alone
 returns-clause-alone g c = λ none.
     let most = header_most c.args.src.now.seen.size in
-    let same = c.list_viewed.ensures.alone none in
+    let same = c.list_viewed.ensures.alone (rw c.known.ensures none) in
     omega (arith, most, same, c.header.ensures.reads.at_most)

@@ -37,7 +37,7 @@ returns g c =
     let cap = c.args.self.now.style.cap.bytes in
     let style = style_of c.args.self.now.style in
     let kind = sym c.section.ensures.fields.sh_type ∙ c.if-section-ne-SHT_RELA.false in
-    Lists-within _ _ _ _ _ _ _ (section_within relocations (row f.store.now c.args.section) f.loaded.size _ cap 24 _ (eq-eqb _ _ kind) refl refl c.in_ok-found.ensures.table) c.rows.ensures (λ file held.
+    Lists-within _ _ _ _ _ _ _ (section_within relocations f.store.now c.args.section f.loaded.size _ cap 24 _ _ (eq-eqb _ _ kind) refl refl c.in_ok-found.ensures.table) c.rows.ensures (λ file held.
     let belongs = c.args.self.now.loaded.belongs file held in
     let at = section_at file c.args.section in
     let kind = sym (c.section.ensures.stands file belongs).sh_type ∙ c.if-section-ne-SHT_RELA.false in

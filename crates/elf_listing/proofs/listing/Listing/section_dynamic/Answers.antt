@@ -53,7 +53,7 @@ returns g c =
     let cap = c.args.self.now.style.cap.bytes in
     let style = style_of c.args.self.now.style in
     let kind = sym c.section-header.ensures.fields.sh_type ∙ c.if-header-ne-SHT_DYNAMIC.false in
-    Lists-within _ _ _ _ _ _ _ (section_within section_dynamic (row f.store.now c.args.section) f.loaded.size _ cap 16 _ (eq-eqb _ _ kind) refl refl c.in_ok-table.ensures.value) c.rows.ensures (λ file held.
+    Lists-within _ _ _ _ _ _ _ (section_within section_dynamic f.store.now c.args.section f.loaded.size _ cap 16 _ _ (eq-eqb _ _ kind) refl refl c.in_ok-table.ensures.value) c.rows.ensures (λ file held.
     let belongs = c.args.self.now.loaded.belongs file held in
     let stands = c.section-header.ensures.stands file belongs in
     let at = section_at file c.args.section in

@@ -10,6 +10,7 @@ use Rattle.elf_model.specs.Rows.{walk_rows}
 use Rattle.elf_model.specs.TableKinds.{section_notes}
 use Rattle.elf_headers.specs.Store.{row}
 use Rattle.elf_table.specs.Tables.{Rows}
+use Rattle.elf_listing.specs.Parts.{store_sections}
 use Rattle.elf_listing.proofs.RowLaws.{Writes-as}
 use Rattle.elf_listing.proofs.SectionCosts.{range_within}
 use Rattle.elf_listing.proofs.SectionShown.{empty_fails, no_table, range_passes, table_fails, table_passes}
@@ -44,7 +45,7 @@ returns g c =
     let fields = c.section-header.ensures.fields in
     let kind = sym fields.sh_type ∙ c.if-header-ne-SHT_NOTE.false in
     let value = rw (fields.sh_offset, fields.sh_size) at c.in_ok-table.ensures.value in
-    Lists-within _ _ _ _ _ _ _ (range_within section_notes (row f.store.now c.args.section) f.loaded.size _ _ _ cap _ (eq-eqb _ _ kind) refl refl refl value) c.notes.ensures (λ file held.
+    Lists-within _ _ _ _ _ _ _ (range_within section_notes (store_sections f.store.now) c.args.section f.loaded.size _ _ _ cap (λ n. n) _ (eq-eqb _ _ kind) refl refl (omega arith) value) c.notes.ensures (λ file held.
     let belongs = c.args.self.now.loaded.belongs file held in
     let stands = c.section-header.ensures.stands file belongs in
     let at = section_at file c.args.section in

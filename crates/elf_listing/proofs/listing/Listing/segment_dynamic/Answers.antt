@@ -55,7 +55,7 @@ returns-in_err-told g c = record {
       let fields = rw c.view-view.ensures.store at c.segment.ensures.fields in
       let kind = sym fields.p_type ∙ c.if-segment-ne-PT_DYNAMIC.false in
       let value = rw (c.view-view.ensures.store, c.view-view.ensures.loaded) at c.in_ok-table.ensures.value in
-      let within = segment_within (segment_bytes f.store.now c.args.segment) f.loaded.size _ c.args.self.now.style.cap.bytes _ (eq-eqb _ _ kind) value in
+      let within = segment_within f.store.now c.args.segment f.loaded.size _ c.args.self.now.style.cap.bytes _ (eq-eqb _ _ kind) value in
       let bytes : size_of c.in_ok-table.table ≡ c.in_ok-table.table.count * 16 = ap (λ n. c.in_ok-table.table.count * n) c.in_ok-table.ensures.entry in
       rw (p.1, p.2) (Spent-fault _ _ _ _ _ _ _ (omega (arith, within, bytes)) c.in_err-told.ensures.reads c.in_err-told.ensures.says);
   shows = λ file held.
@@ -78,7 +78,7 @@ returns g c = record {
       let fields = rw c.view-view.ensures.store at c.segment.ensures.fields in
       let kind = sym fields.p_type ∙ c.if-segment-ne-PT_DYNAMIC.false in
       let value = rw (c.view-view.ensures.store, c.view-view.ensures.loaded) at c.in_ok-table.ensures.value in
-      let within = segment_within (segment_bytes f.store.now c.args.segment) f.loaded.size _ c.args.self.now.style.cap.bytes _ (eq-eqb _ _ kind) value in
+      let within = segment_within f.store.now c.args.segment f.loaded.size _ c.args.self.now.style.cap.bytes _ (eq-eqb _ _ kind) value in
       let bytes : size_of c.in_ok-table.table ≡ c.in_ok-table.table.count * 16 = ap (λ n. c.in_ok-table.table.count * n) c.in_ok-table.ensures.entry in
       Spent-behind _ _ _ _ _ _ _ _ _ _ (omega (arith, within, bytes)) c.in_ok-told.ensures.reads c.rows.ensures.spent;
   shows = λ file held.

@@ -10,6 +10,7 @@ use Rattle.elf_model.specs.Rows.{walk_rows}
 use Rattle.elf_model.specs.TableKinds.{segment_notes}
 use Rattle.elf_headers.specs.Store.{segment_bytes}
 use Rattle.elf_table.specs.Tables.{Rows}
+use Rattle.elf_listing.specs.Parts.{store_segments}
 use Rattle.elf_listing.proofs.RowLaws.{Writes-as}
 use Rattle.elf_listing.proofs.SectionCosts.{range_within}
 use Rattle.elf_listing.proofs.SectionShown.{empty_fails, no_table, range_passes, table_fails, table_passes}
@@ -48,7 +49,7 @@ returns g c =
     let fields = rw c.view.ensures.store at c.segment-header.ensures.fields in
     let kind = sym fields.p_type ∙ c.if-header-ne-PT_NOTE.false in
     let value = rw (fields.p_offset, fields.p_filesz) at c.in_ok-table.ensures.value in
-    Lists-within _ _ _ _ _ _ _ (range_within segment_notes (segment_bytes f.store.now c.args.segment) f.loaded.size _ _ _ cap _ (eq-eqb _ _ kind) refl refl refl value) c.notes.ensures (λ file held.
+    Lists-within _ _ _ _ _ _ _ (range_within segment_notes (store_segments f.store.now) c.args.segment f.loaded.size _ _ _ cap (λ n. n) _ (eq-eqb _ _ kind) refl refl (omega arith) value) c.notes.ensures (λ file held.
     let belongs = c.args.self.now.loaded.belongs file held in
     let viewed = views file _ _ _ belongs c.args.self.now.viewed held (omega (arith, c.requires)) in
     let stands = c.segment-header.ensures.stands file (rw (c.view.ensures.loaded, c.view.ensures.store) viewed) in

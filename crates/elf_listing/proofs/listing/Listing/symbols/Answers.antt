@@ -40,7 +40,7 @@ returns g c =
     let f = c.args.self.now.file in
     let bytes = row f.store.now c.args.section in
     let kind : is_symbol_table bytes 0 ≡ true = let is = c.holds_symbols.ensures bytes 0 c.section.ensures.fields in cc in
-    Lists-within _ _ _ _ _ _ _ (section_within symbols bytes f.loaded.size _ c.args.self.now.style.cap.bytes 24 _ kind refl refl c.in_ok-symbols.ensures.table) c.rows.ensures (λ file held.
+    Lists-within _ _ _ _ _ _ _ (section_within symbols f.store.now c.args.section f.loaded.size _ c.args.self.now.style.cap.bytes 24 _ _ kind refl refl c.in_ok-symbols.ensures.table) c.rows.ensures (λ file held.
     let belongs = c.args.self.now.loaded.belongs file held in
     let at = section_at file c.args.section in
     let style = style_of c.args.self.now.style in

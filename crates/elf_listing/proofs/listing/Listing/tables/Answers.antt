@@ -7,9 +7,9 @@ use Rattle.elf_headers.specs.declared.caps.Style.{Style}
 use Rattle.elf_table.specs.declared.file.File.{File}
 use Rattle.elf_listing.specs.Parts.{segments_listed}
 use Rattle.elf_listing.specs.declared.parts.Part.{Part}
-use Rattle.elf_listing.specs.declared.parts.Part.TheVariants.{Symbols, Relocations, SectionNotes, SegmentNotes, SectionDynamic, SegmentDynamic}
+use Rattle.elf_listing.specs.declared.parts.Part.TheVariants.{Symbols, Relocations, SectionNotes, SegmentNotes, SectionDynamic, SegmentDynamic, Definitions, Needs, SymbolVersions}
 use Rattle.elf_listing.proofs.FileShown.{segment_part, tables_are}
-use Rattle.elf_listing.proofs.PartsLaws.{Parts-as, Parts-more, Parts-then, cost_asked, items_asked}
+use Rattle.elf_listing.proofs.PartsLaws.{Parts-as, Parts-more, Parts-then, cost_asked, items_asked, versions_await}
 use Rattle.elf_listing.proofs.listing.Listing.tables.Goals as goal
 
 -- what the program headers ask for, and their items; and those of two parts
@@ -30,14 +30,14 @@ returns-in_err-part g c =
     let p = err_from_is_err_and c.from_residual.result c.from_residual.ensures.1 in
     rw (p.1, p.2)
     (Parts-as (λ file held. tables_are file _ _ _ _ (c.args.self.now.loaded.belongs file held) c.requires)
-    (Parts-more _ _ _ (Parts-more _ _ _ (Parts-more _ _ _ (Parts-more _ _ _ c.in_err-part.ensures)))))
+    (Parts-more _ _ _ (Parts-more _ _ _ (Parts-more _ _ _ (Parts-more _ _ _ (Parts-more _ _ _ (Parts-more _ _ _ c.in_err-part.ensures)))))))
 
 pub returns-in_err-segments : goal.returns-in_err-segments
 returns-in_err-segments g c =
     let p = err_from_is_err_and c.from_residual-in_err-segments.result c.from_residual-in_err-segments.ensures.1 in
     rw (p.1, p.2)
     (Parts-as (λ file held. tables_are file _ _ _ _ (c.args.self.now.loaded.belongs file held) c.requires)
-    (Parts-more _ _ _ (Parts-more _ _ _ (Parts-more _ _ _ (Parts-then _ (segments_cost c.args.parts.0) (segments_shown c.args.parts.0) c.in_ok-part.ensures c.in_err-segments.ensures)))))
+    (Parts-more _ _ _ (Parts-more _ _ _ (Parts-more _ _ _ (Parts-more _ _ _ (Parts-more _ _ _ (Parts-then _ (segments_cost c.args.parts.0) (segments_shown c.args.parts.0) c.in_ok-part.ensures c.in_err-segments.ensures)))))))
 
 pub returns-in_err-pair : goal.returns-in_err-pair
 returns-in_err-pair g c =
@@ -45,7 +45,7 @@ returns-in_err-pair g c =
     let second = Parts-then _ (segments_cost c.args.parts.0) (segments_shown c.args.parts.0) c.in_ok-part.ensures c.in_ok-segments.ensures in
     rw (p.1, p.2)
     (Parts-as (λ file held. tables_are file _ _ _ _ (c.args.self.now.loaded.belongs file held) c.requires)
-    (Parts-more _ _ _ (Parts-more _ _ _ (Parts-then _ (pair_cost c.args.parts.0 Symbols Relocations) (pair_items c.args.parts.0 Symbols Relocations) second c.in_err-pair.ensures))))
+    (Parts-more _ _ _ (Parts-more _ _ _ (Parts-more _ _ _ (Parts-more _ _ _ (Parts-then _ (pair_cost c.args.parts.0 Symbols Relocations) (pair_items c.args.parts.0 Symbols Relocations) second c.in_err-pair.ensures))))))
 
 pub returns-in_err-pair-2 : goal.returns-in_err-pair-2
 returns-in_err-pair-2 g c =
@@ -54,12 +54,38 @@ returns-in_err-pair-2 g c =
     let third = Parts-then _ (pair_cost c.args.parts.0 Symbols Relocations) (pair_items c.args.parts.0 Symbols Relocations) second c.in_ok-pair.ensures in
     rw (p.1, p.2)
     (Parts-as (λ file held. tables_are file _ _ _ _ (c.args.self.now.loaded.belongs file held) c.requires)
-    (Parts-more _ _ _ (Parts-then _ (pair_cost c.args.parts.0 SectionNotes SegmentNotes) (pair_items c.args.parts.0 SectionNotes SegmentNotes) third c.in_err-pair-2.ensures)))
+    (Parts-more _ _ _ (Parts-more _ _ _ (Parts-more _ _ _ (Parts-then _ (pair_cost c.args.parts.0 SectionNotes SegmentNotes) (pair_items c.args.parts.0 SectionNotes SegmentNotes) third c.in_err-pair-2.ensures)))))
+
+pub returns-in_err-pair-3 : goal.returns-in_err-pair-3
+returns-in_err-pair-3 g c =
+    let p = err_from_is_err_and c.from_residual-in_err-pair-3.result c.from_residual-in_err-pair-3.ensures.1 in
+    let second = Parts-then _ (segments_cost c.args.parts.0) (segments_shown c.args.parts.0) c.in_ok-part.ensures c.in_ok-segments.ensures in
+    let third = Parts-then _ (pair_cost c.args.parts.0 Symbols Relocations) (pair_items c.args.parts.0 Symbols Relocations) second c.in_ok-pair.ensures in
+    let fourth = Parts-then _ (pair_cost c.args.parts.0 SectionNotes SegmentNotes) (pair_items c.args.parts.0 SectionNotes SegmentNotes) third c.in_ok-pair-2.ensures in
+    rw (p.1, p.2)
+    (Parts-as (λ file held. tables_are file _ _ _ _ (c.args.self.now.loaded.belongs file held) c.requires)
+    (Parts-more _ _ _ (Parts-more _ _ _ (Parts-then _ (pair_cost c.args.parts.0 SectionDynamic SegmentDynamic) (pair_items c.args.parts.0 SectionDynamic SegmentDynamic) fourth c.in_err-pair-3.ensures))))
+
+pub returns-in_err-pair-4 : goal.returns-in_err-pair-4
+returns-in_err-pair-4 g c =
+    let p = err_from_is_err_and c.from_residual-in_err-pair-4.result c.from_residual-in_err-pair-4.ensures.1 in
+    let second = Parts-then _ (segments_cost c.args.parts.0) (segments_shown c.args.parts.0) c.in_ok-part.ensures c.in_ok-segments.ensures in
+    let third = Parts-then _ (pair_cost c.args.parts.0 Symbols Relocations) (pair_items c.args.parts.0 Symbols Relocations) second c.in_ok-pair.ensures in
+    let fourth = Parts-then _ (pair_cost c.args.parts.0 SectionNotes SegmentNotes) (pair_items c.args.parts.0 SectionNotes SegmentNotes) third c.in_ok-pair-2.ensures in
+    let fifth = Parts-then _ (pair_cost c.args.parts.0 SectionDynamic SegmentDynamic) (pair_items c.args.parts.0 SectionDynamic SegmentDynamic) fourth c.in_ok-pair-3.ensures in
+    rw (p.1, p.2)
+    (Parts-as (λ file held. tables_are file _ _ _ _ (c.args.self.now.loaded.belongs file held) c.requires)
+    (Parts-more _ _ _ (Parts-then _ (pair_cost c.args.parts.0 Definitions Needs) (pair_items c.args.parts.0 Definitions Needs) fifth c.in_err-pair-4.ensures)))
+
+pub part-requires-2 : goal.part-requires-2
+part-requires-2 g c = versions_await c.args.parts.0 c.in_ok-pair-4.ensures
 
 pub returns : goal.returns
 returns g c =
     let second = Parts-then _ (segments_cost c.args.parts.0) (segments_shown c.args.parts.0) c.in_ok-part.ensures c.in_ok-segments.ensures in
     let third = Parts-then _ (pair_cost c.args.parts.0 Symbols Relocations) (pair_items c.args.parts.0 Symbols Relocations) second c.in_ok-pair.ensures in
     let fourth = Parts-then _ (pair_cost c.args.parts.0 SectionNotes SegmentNotes) (pair_items c.args.parts.0 SectionNotes SegmentNotes) third c.in_ok-pair-2.ensures in
+    let fifth = Parts-then _ (pair_cost c.args.parts.0 SectionDynamic SegmentDynamic) (pair_items c.args.parts.0 SectionDynamic SegmentDynamic) fourth c.in_ok-pair-3.ensures in
+    let sixth = Parts-then _ (pair_cost c.args.parts.0 Definitions Needs) (pair_items c.args.parts.0 Definitions Needs) fifth c.in_ok-pair-4.ensures in
     Parts-as (λ file held. tables_are file _ _ _ _ (c.args.self.now.loaded.belongs file held) c.requires)
-    (Parts-then _ (pair_cost c.args.parts.0 SectionDynamic SegmentDynamic) (pair_items c.args.parts.0 SectionDynamic SegmentDynamic) fourth c.pair-3.ensures)
+    (Parts-then _ (cost_asked c.args.parts.0 SymbolVersions) (items_asked c.args.parts.0 SymbolVersions) sixth c.part-2.ensures)

@@ -1,0 +1,72 @@
+//! The name of a symbol's version, by its number.
+ghost use Rattle.elf_listing.specs.Kinds.{ListsRow, RowFits};
+ghost use Rattle.elf_listing.specs.Numbered.{FetchesVersion, NumberedWithin};
+ghost use Rattle.elf_listing.specs.declared.rows.Kind.TheVariants.{Versions};
+
+use crate::listing::Listing;
+use elf_headers::refused;
+use elf_lines::symbol_version_front;
+use elf_names::NameIndex;
+use elf_record::{Cause, u16_at};
+use elf_source::{Sink, Source};
+use elf_table::{Fault, NameEnd, Names, Row, Stop};
+use elf_versions::{NameAt, NumberNames};
+
+/// Where the names of the numbers of versions are.
+#[derive(Drop)]
+pub struct Numbered {
+    /// The index of each number's name in one of the string tables.
+    pub names: NumberNames,
+    /// The string table of the definitions; empty where there are none.
+    pub defined: Names,
+    /// The string table of the needs; empty where there are none.
+    pub needed: Names,
+}
+
+impl<S: Source, W: Sink> Listing<'_, '_, '_, S, W> {
+    /// Shows the row of the version of a symbol: its `X` line with the name of its number, or the
+    /// refusal of a number that has none at the entry (Linux Standard Base Core, Symbol Versioning).
+    pub(crate) fn version_number(
+        &mut self,
+        row: &Row<'_>,
+        section: u16,
+        numbered: &Numbered,
+    ) -> Result<(), Stop>
+        requires { RowFits self.old.src.now.seen.size (Versions section numbered.now) row.now }
+        ensures { ListsRow self.old self.new result (Versions section numbered.now) row.now }
+    {
+        let word = u16_at(row.bytes, 0);
+        let end = self.read_version(numbered, word % (1 << 15), row.at)?;
+        self.named_line(symbol_version_front(section, row.index, word), end)
+    }
+
+    /// Reads the name of a number, which is empty for 0 and 1. A refusal names `at`.
+    #[tactic(auto, unfolding(crate::specs::Numbered::version_told))]
+    fn read_version(
+        &mut self,
+        numbered: &Numbered,
+        number: u16,
+        at: u64,
+    ) -> Result<NameEnd, Fault>
+        requires { NumberedWithin self.old.src.now.seen.size numbered.now }
+        ensures { FetchesVersion self.old self.new result numbered.now number at }
+    {
+        if number < 2 {
+            self.name.clear();
+            return Ok(NameEnd::Whole);
+        }
+        match numbered.names.name(number) {
+            NameAt::Nowhere => refused(at, Cause::VersionIndex),
+            NameAt::Defined(index) => {
+                let off = u64::from(index);
+                let names = numbered.defined;
+                self.read_name(NameIndex { names, off, at })
+            }
+            NameAt::Needed(index) => {
+                let off = u64::from(index);
+                let names = numbered.needed;
+                self.read_name(NameIndex { names, off, at })
+            }
+        }
+    }
+}
