@@ -1,0 +1,5 @@
+pub mod EntryLaws
+pub mod SectionLaws
+pub mod SegmentLaws
+pub mod SettleLaws
+pub mod VersionLaws
