@@ -17,10 +17,10 @@ use Rattle.elf_scope.specs.declared.entry.Entry.{Entry}
 
 module _ (file : List ℕ) (tag : ℕ) where
   here_some : (at : ℕ) → (d_tag file at == tag) ≡ true → entry_here file at tag ≡ Some (entry_at file at)
-  here_some at t = rw t refl
+  here_some at t = rw (t, entry_here) refl
 
   here_none : (at : ℕ) → (d_tag file at == tag) ≡ false → entry_here file at tag ≡ None
-  here_none at t = rw t refl
+  here_none at t = rw (t, entry_here) refl
 
   tagged_here : (at n : ℕ) → (d_tag file at == tag) ≡ true → tagged_entry file at (suc n) tag ≡ Some (entry_at file at)
   unfolding tagged_entry

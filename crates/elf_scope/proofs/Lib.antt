@@ -1,4 +1,5 @@
 pub mod EntryLaws
+pub mod ScopeLaws
 pub mod SectionLaws
 pub mod SegmentLaws
 pub mod SettleLaws

@@ -1,5 +1,6 @@
 -- What the dynamic entries of a segment tell of, one by one.
-use Rattle.std.proofs.Common.{◌≡◌, ℕ, ◌+◌, ◌-◌, ◌*◌, ◌/◌, ◌<◌, ◌≤◌, ◌==◌, ◌||◌, nat_lt, Bool, true, false, List, [], ◌∷◌, ◌++◌, length, Option, None, Some, Result, Ok, Err, refl, sym, ap, ◌∙◌}
+use Rattle.std.proofs.Common.{◌≡◌, ℕ, ◌+◌, ◌-◌, ◌*◌, ◌/◌, ◌<◌, ◌≤◌, ◌==◌, ◌||◌, nat_lt, Bool, true, false, List, [], ◌∷◌, ◌++◌, length, Option, None, Some, Result, Ok, Err, refl, sym, ap, subst, ◌∙◌, arith}
+use Rattle.std.proofs.lemmas.Bool.Decides.{nat_tests}
 use Rattle.std.specs.Prelude.{is_none, option_map}
 use Rattle.elf_model.specs.Bytes.{slice}
 use Rattle.elf_model.specs.Checks.{Check, refuse, first_refusal, is_outside}
@@ -55,15 +56,15 @@ module _ (file : List ℕ) where
   rest_passes row table h = go (mapped_at file (d_un file row) 1) refl
     where
       go : (mapped : Option ℕ) → mapped_at file (d_un file row) 1 ≡ mapped → (first_refusal (rest_checks file row) ≡ None) × IsRest file row table
-      go None m = absurd (let a = rw m at h in cc)
+      go None m = absurd (let a = rw (m, rest_mapped) at h in cc)
       go (Some at) m =
-          let a : Ok table ≡ rest_of file at (length file) at (d_un file row) = rw m at h in
+          let a : Ok table ≡ rest_of file at (length file) at (d_un file row) = rw (m, rest_mapped) at h in
           let p = checked_passes (refuse (is_outside (length file) (p_offset file at) (p_filesz file at)) at TableOutside ∷ [])
           (rows (p_offset file at + (d_un file row - p_vaddr file at)) (p_filesz file at - (d_un file row - p_vaddr file at)) 1) table a in
-          let place : rest_place file row ≡ p_offset file at + (d_un file row - p_vaddr file at) = rw m refl in
+          let place : rest_place file row ≡ p_offset file at + (d_un file row - p_vaddr file at) = rw (m, rest_place, mapped_place) refl in
           let size : rest_size file row ≡ p_filesz file at - (d_un file row - p_vaddr file at) = rw (m, rest_size) refl in
-          let passes : first_refusal (rest_checks file row) ≡ None = rw (m, rest_checks) p.0 in
-          (passes, record { place = sym (ap (λ (t : Rows). t.at) p.1) ∙ sym place; size = sym (ap (λ (t : Rows). t.count) p.1) ∙ sym size })
+          let checks : rest_checks file row ≡ refuse (is_outside (length file) (p_offset file at) (p_filesz file at)) at TableOutside ∷ [] = rw (m, rest_checks) refl in
+          (ap first_refusal checks ∙ p.0, record { place = sym (ap (λ (t : Rows). t.at) p.1) ∙ sym place; size = sym (ap (λ (t : Rows). t.count) p.1) ∙ sym size })
 
   pub rest_refused : (row : ℕ) (fault : Fault) → Err fault ≡ rest_mapped file (d_un file row) row → RefusedBy (rest_checks file row) fault
   unfolding rest_checks
@@ -71,13 +72,25 @@ module _ (file : List ℕ) where
     where
       go : (mapped : Option ℕ) → mapped_at file (d_un file row) 1 ≡ mapped → RefusedBy (rest_checks file row) fault
       go None m =
-          let a : Err fault ≡ Err (Refused (record { at = row; cause = Unmapped })) = rw m at h in
+          let a : Err fault ≡ Err (Refused (record { at = row; cause = Unmapped })) = rw (m, rest_mapped) at h in
           let is : fault ≡ Refused (record { at = row; cause = Unmapped }) = cc in
-          rw is (rw (m, rest_checks) refl)
+          let first : first_refusal (rest_checks file row) ≡ Some (record { at = row; cause = Unmapped }) = rw (m, rest_checks) refl in
+          subst (λ (f : Fault). RefusedBy (rest_checks file row) f) (sym is) first
       go (Some at) m =
-          let a : Err fault ≡ rest_of file at (length file) at (d_un file row) = rw m at h in
-          rw (m, rest_checks) (checked_fails (refuse (is_outside (length file) (p_offset file at) (p_filesz file at)) at TableOutside ∷ [])
+          let a : Err fault ≡ rest_of file at (length file) at (d_un file row) = rw (m, rest_mapped) at h in
+          let checks : rest_checks file row ≡ refuse (is_outside (length file) (p_offset file at) (p_filesz file at)) at TableOutside ∷ [] = rw (m, rest_checks) refl in
+          subst (λ (c : List Check). RefusedBy c fault) (sym checks)
+          (checked_fails (refuse (is_outside (length file) (p_offset file at) (p_filesz file at)) at TableOutside ∷ [])
           (rows (p_offset file at + (d_un file row - p_vaddr file at)) (p_filesz file at - (d_un file row - p_vaddr file at)) 1) fault a)
+
+  -- by the entry's own value
+  pub entry_passes : (entry : Entry) (table : Rows) → d_un file entry.at ≡ entry.value → Ok table ≡ rest_mapped file entry.value entry.at
+      → (first_refusal (rest_checks file entry.at) ≡ None) × IsRest file entry.at table
+  entry_passes entry table value h = rest_passes entry.at table (h ∙ ap (λ (v : ℕ). rest_mapped file v entry.at) (sym value))
+
+  pub entry_refused : (entry : Entry) (fault : Fault) → d_un file entry.at ≡ entry.value → Err fault ≡ rest_mapped file entry.value entry.at
+      → RefusedBy (rest_checks file entry.at) fault
+  entry_refused entry fault value h = rest_refused entry.at fault (h ∙ ap (λ (v : ℕ). rest_mapped file v entry.at) (sym value))
 
 -- the entry of the hash table
 module _ (file : List ℕ) (at : ℕ) where
@@ -118,16 +131,13 @@ module _ (file : List ℕ) (at tag : ℕ) (kind : VersionKind) where
 
     pub tag_refused : (fault : Fault) → Err fault ≡ rest_mapped file entry.value entry.at → RefusedBy (checks_of_row (tagged_row file at tag) (rest_checks file)) fault
     tag_refused fault h =
-        let value = sym here.1 in
-        let r = rest_refused file entry.at fault (rw value at h) in
-        rw here.0 r
+        subst (λ (r : Option ℕ). RefusedBy (checks_of_row r (rest_checks file)) fault) (sym here.0) (entry_refused file entry fault here.1 h)
 
     pub tag_are : (records : RecordTable) → Ok records.table ≡ rest_mapped file entry.value entry.at → records.kind ≡ kind → records.head ≡ entry.at
         → strings_in file records.names ≡ segment_strings file at
         → Settles (checks_of_row (tagged_row file at tag) (rest_checks file)) (AreInFront file (records_of_tag file at tag kind)) (Ok (Some records))
     tag_are records h same head names =
-        let value = sym here.1 in
-        let p = rest_passes file entry.at records.table (rw value at h) in
+        let p = entry_passes file entry records.table here.1 h in
         let told : IsTableOf
         = record { kind = kind; head = entry.at; place = rest_place file entry.at; size = rest_size file entry.at; strings = segment_strings file at } in
         let these : (others : List IsTableOf) → records_of_tag file at tag kind others ≡ told ∷ others = λ others. rw (here.0, records_of_tag) refl in
@@ -148,7 +158,7 @@ module _ (file : List ℕ) (index at : ℕ) where
   unfolding segment_words
   rows_none option versions is none w d n =
       let e = row_none file (tagged_row file at DT_VERSYM) (sym none ∙ is) in
-      let checks : version_rows file at ≡ [] = rw e refl in
+      let checks : version_rows file at ≡ [] = ap (λ (r : Option ℕ). checks_of_row r (λ (row : ℕ). rest_checks file row ++ definition_rows ++ need_rows)) e in
       let words : segment_words file index at ≡ None = rw (e, segment_words) refl in
       (ap first_refusal checks, record { words = rw (words, w) tt; records = rw (words, d, n) tt })
 
@@ -157,16 +167,15 @@ module _ (file : List ℕ) (index at : ℕ) where
     words_here = row_some file (tagged_row file at DT_VERSYM) entry (sym some ∙ is)
 
     rows_are : version_rows file at ≡ rest_checks file entry.at ++ definition_rows ++ need_rows
-    rows_are = rw words_here.0 refl
+    rows_are = ap (λ (r : Option ℕ). checks_of_row r (λ (row : ℕ). rest_checks file row ++ definition_rows ++ need_rows)) words_here.0
 
     pub words_rest : (rest : Rows) → Ok rest ≡ rest_mapped file entry.value entry.at → (first_refusal (rest_checks file entry.at) ≡ None) × IsRest file entry.at rest
-    words_rest rest h = let value = sym words_here.1 in rest_passes file entry.at rest (rw value at h)
+    words_rest rest h = entry_passes file entry rest words_here.1 h
 
     pub words_row_refused : (fault : Fault) → Err fault ≡ rest_mapped file entry.value entry.at → RefusedBy (version_rows file at) fault
     words_row_refused fault h =
-        let value = sym words_here.1 in
         rw rows_are (refused_front (rest_checks file entry.at ++ definition_rows) need_rows fault
-        (refused_front (rest_checks file entry.at) definition_rows fault (rest_refused file entry.at fault (rw value at h))))
+        (refused_front (rest_checks file entry.at) definition_rows fault (entry_refused file entry fault words_here.1 h)))
 
     pub definition_row_refused : (rest : Rows) (fault : Fault) → Ok rest ≡ rest_mapped file entry.value entry.at → RefusedBy definition_rows fault
         → RefusedBy (version_rows file at) fault

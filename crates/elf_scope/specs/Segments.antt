@@ -61,9 +61,9 @@ rows_symbols file index at = record {
 }
 
 -- symbols are those at the entries
-pub record AreRowsSymbols (file : List ℕ) (index at : ℕ) (symbols : Symbols) : Type 0 where
-  pub count : symbols.table.count ≡ (segment_symbols file at).1
-  pub symbols : IsSymbols file (rows_symbols file index at) symbols
+pub record AreRowsSymbols (file : List ℕ) (index at : ℕ) (found : Symbols) : Type 0 where
+  pub count : found.table.count ≡ (segment_symbols file at).1
+  pub symbols : IsSymbols file (rows_symbols file index at) found
 
 -- what a lookup is made in by the entries of a segment
 abbrev pub scope_by_entries : List ℕ → (index at : ℕ) → Result IsScopeOf Refusal
