@@ -1,3 +1,6 @@
+pub mod Entries
 pub mod Kinds
 pub mod Scopes
+pub mod Segments
 pub mod Symbols
+pub mod Versions
