@@ -1,3 +1,4 @@
 pub mod Wants
 pub mod NumberSets
+pub mod Answering
 pub mod Comparing

@@ -2,6 +2,7 @@
 //! name and its version. No call takes memory.
 #![tactic(auto)]
 
+mod answering;
 mod comparing;
 mod fitting;
 mod number_set;
