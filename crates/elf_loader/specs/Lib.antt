@@ -2,3 +2,5 @@ pub mod Wants
 pub mod NumberSets
 pub mod Answering
 pub mod Comparing
+pub mod Tables
+pub mod Naming

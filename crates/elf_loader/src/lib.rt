@@ -3,8 +3,10 @@
 #![tactic(auto)]
 
 mod answering;
+mod collecting;
 mod comparing;
 mod fitting;
+mod naming;
 mod number_set;
 mod offered;
 mod wanted;
