@@ -1,5 +1,5 @@
 -- Looking for the record that names the version of a number, record by record.
-use Rattle.std.proofs.Common.{◌≡◌, ℕ, ◌+◌, ◌-◌, ◌*◌, ◌≤◌, Bool, true, false, List, ◌∷◌, inl, inr, None, Some, Ok, Err, option_map, refl, sym, ap, ◌∙◌, arith, mul-le-mul_right}
+use Rattle.std.proofs.Common.{◌≡◌, ℕ, ◌+◌, ◌-◌, ◌*◌, ◌≤◌, Bool, true, false, List, [], ◌∷◌, inl, inr, Option, None, Some, Result, Ok, Err, option_map, refl, sym, ap, ◌∙◌, arith, mul-le-mul_right}
 use Rattle.std.proofs.lemmas.Bool.{cases_lt}
 use Rattle.elf_model.specs.Budget.{IsBudget}
 use Rattle.elf_model.specs.Loader.{Meets, Misses, Naming, Reading, RecordTable, Refuses, naming_of, one_later, readings_of}
@@ -9,12 +9,14 @@ use Rattle.elf_source.specs.Source.{Counting}
 use Rattle.elf_headers.specs.Ledger.{Charges}
 use Rattle.elf_headers.specs.declared.fault.Fault.{Fault}
 use Rattle.elf_headers.specs.declared.fault.Fault.TheVariants.{Refused, Source}
-use Rattle.elf_headers.proofs.LedgerLaws.{Charges-more}
+use Rattle.elf_headers.proofs.LedgerLaws.{Charges-more, Charges-then}
 use Rattle.elf_scope.specs.Symbols.{IsRecordTable}
 use Rattle.elf_scope.specs.declared.symbols.RecordTable.{RecordTable as Given}
 use Rattle.elf_versions.specs.Reading.{GivesVersion, IsVersion, LeadsOn, Spends, StartsVersions, TellsVersion, Walking, versions_left}
 use Rattle.elf_versions.specs.declared.record.VersionRecord.{VersionRecord}
-use Rattle.elf_loader.specs.Naming.{NamedAs, Names}
+use Rattle.elf_loader.specs.Naming.{NamedAs, Names, NamesBefore, NamesOf}
+use Rattle.elf_loader.specs.declared.naming.NamedBy.{NamedBy}
+use Rattle.elf_loader.proofs.TablesLaws.{more-pays}
 use Rattle.elf_loader.proofs.LeftReadings.{ended-left, left_of, read-left, refused-left, start-left, step-left}
 
 -- a record that has the number, and one that has not
@@ -136,3 +138,52 @@ fault-names file strings records m all left others (Refused refusal) named charg
 )
 fault-names file strings records m all left others (Source fault at) named charges few read is =
     Charges-more (all.read * 28) (omega (arith, few, named.read, read)) charges
+
+-- no table
+pub names-none : (file : List ℕ) (c : Counting) (all : Naming) → Charges c c None 0 → NamesBefore file c c all all (Ok None)
+names-none file c all none = (0, Charges-more (0 * 28) (omega arith) none, record { found = refl; refused = refl; read = omega arith })
+
+-- a fault says the same of a table and of all
+pub names-fault :
+    (file strings : List ℕ) (a b : Counting) (all left : Naming) (fault : Fault) → Names file strings a b all left (Err fault)
+    → NamesBefore file a b all left (Err fault)
+names-fault file strings a b all left (Refused refusal) p = p
+names-fault file strings a b all left (Source fault at) p = p
+
+pub fault-of :
+    (file : List ℕ) (a b : Counting) (naming all left : Naming) (fault : Fault) → naming ≡ all → NamesBefore file a b all left (Err fault)
+    → NamesOf file a b naming (Err fault)
+fault-of file a b naming all left (Refused refusal) e p = rw e p
+fault-of file a b naming all left (Source fault at) e p = rw e p
+
+pub some-of :
+    (file : List ℕ) (a b : Counting) (naming all left : Naming) (by : NamedBy) → naming ≡ all → NamesBefore file a b all left (Ok (Some by))
+    → NamesOf file a b naming (Ok (Some by))
+some-of file a b naming all left by e p = rw e p
+
+-- the needs behind the definitions, none of which has the number
+pub names-then :
+    (file : List ℕ) (a b c : Counting) (naming all mid left : Naming) (result : Result (Option NamedBy) Fault) → naming ≡ all
+    → left ≡ record { found = None; refused = None; read = 0 }
+    → NamesBefore file a b all mid (Ok None) → NamesBefore file b c mid left result → NamesOf file a c naming result
+names-then file a b c naming all mid left (Ok (Some by)) e none p q =
+    rw e (q.0, p.2.found ∙ q.1, q.2, Charges-then _ (more-pays p.0 28 all.read mid.read p.2.read) p.1 q.3)
+names-then file a b c naming all mid left (Ok None) e none p q =
+    let n = rw none at q.2 in
+    rw e (
+      Charges-then _ (omega (arith, p.2.read, n.read)) p.1 q.1,
+      p.2.found ∙ n.found,
+      p.2.refused ∙ n.refused,
+    )
+names-then file a b c naming all mid left (Err (Refused refusal)) e none p q =
+    rw e (
+      Charges-then _ (more-pays p.0 28 all.read mid.read p.2.read) p.1 q.0,
+      λ other. let r = q.1 other in (p.2.found ∙ r.0, p.2.refused ∙ r.1),
+    )
+names-then file a b c naming all mid left (Err (Source fault at)) e none p q =
+    rw e (Charges-then _ (more-pays p.0 28 all.read mid.read p.2.read) p.1 q)
+
+-- no record has the number where there is none
+pub naming-nothing : (file : List ℕ) (number : ℕ) → naming_of file number [] ≡ record { found = None; refused = None; read = 0 }
+unfolding naming_of
+naming-nothing file number = refl

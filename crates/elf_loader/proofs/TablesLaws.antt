@@ -69,7 +69,7 @@ compared-one-table a b file wanted old new each (one ∷ two ∷ told) others re
 pub sum-pays : (n m each : ℕ) → n * each + m * each ≤ (n + m) * each
 sum-pays n m each = grind arith
 
-more-pays : (n each m k : ℕ) → m ≡ n + k → n * each + k * each ≤ m * each
+pub more-pays : (n each m k : ℕ) → m ≡ n + k → n * each + k * each ≤ m * each
 more-pays n each m k e = rw e (sum-pays n k each)
 
 -- what compares some records and then others
@@ -88,3 +88,20 @@ pub compares-fault :
     → Compares a b each old mid all between (Err fault) → Compares a b each old new whole left (Err fault)
 compares-fault a b each old mid new whole all between left (Refused refusal) e p = rw e p
 compares-fault a b each old mid new whole all between left (Source fault at) e p = rw e p
+
+-- what is so of each table, and where there is none, is so of one if there is one
+pub none-before :
+    (file : List ℕ) (told : List IsTableOf) (others : List Reading) (P : List Reading → Type 0) → P others → AreRecordTables file told []
+    → P (readings_before file told others)
+unfolding readings_before
+none-before file [] others P p are = p
+none-before file (table ∷ told) others P p are = absurd are
+
+pub one-before :
+    (file : List ℕ) (told : List IsTableOf) (others : List Reading) (records : RecordTable) (P : List Reading → Type 0)
+    → ((one : IsTableOf) → IsRecordTable file one records → P (readings_of file one others)) → AreRecordTables file told (records ∷ [])
+    → P (readings_before file told others)
+unfolding readings_before
+one-before file [] others records P p are = absurd are
+one-before file (one ∷ []) others records P p are = p one are.0
+one-before file (one ∷ two ∷ told) others records P p are = absurd are.1

@@ -32,7 +32,7 @@ Names file strings before after all left (Err (Source fault at)) = Charges befor
 -- the same with the strings of its name as they are held
 abbrev pub NamesBefore : List ℕ → Counting → Counting → Naming → Naming → Result (Option NamedBy) Fault → Type 0
 NamesBefore file before after all left (Ok (Some by)) =
-    (met : Met) × (all.found ≡ Some (strings_in file by.names, met)) × IsVersion file met by.record × Charges before after None (all.read * 28)
+    (met : Met) × (all.found ≡ Some (strings_in file by.names, met)) × IsVersion file met by.«record» × Charges before after None (all.read * 28)
 NamesBefore file before after all left (Ok None) = (records : ℕ) × Charges before after None (records * 28) × NamedAs records all left
 NamesBefore file before after all left (Err (Refused refusal)) =
     Charges before after (Some (Refused refusal)) (all.read * 28)
@@ -42,7 +42,7 @@ NamesBefore file before after all left (Err (Source fault at)) = Charges before 
 -- the first of all that has the number is given; or none of all has it; or what comes before is refused, unless a read failed
 abbrev pub NamesOf : List ℕ → Counting → Counting → Naming → Result (Option NamedBy) Fault → Type 0
 NamesOf file before after naming (Ok (Some by)) =
-    (met : Met) × (naming.found ≡ Some (strings_in file by.names, met)) × IsVersion file met by.record × Charges before after None (naming.read * 28)
+    (met : Met) × (naming.found ≡ Some (strings_in file by.names, met)) × IsVersion file met by.«record» × Charges before after None (naming.read * 28)
 NamesOf file before after naming (Ok None) = Charges before after None (naming.read * 28) × (naming.found ≡ None) × (naming.refused ≡ None)
 NamesOf file before after naming (Err (Refused refusal)) =
     Charges before after (Some (Refused refusal)) (naming.read * 28)

@@ -6,7 +6,7 @@ ghost use Rattle.elf_loader.specs.Tables.{most_of, most_versions, readings_befor
 ghost use Rattle.elf_model.specs.Loader.{Reading, RecordTable as IsTableOf, naming_of, readings, readings_of};
 ghost use Rattle.elf_model.specs.Versions.{Met, most_records, names_number};
 ghost use Rattle.elf_scope.specs.Symbols.{AreRecordTables, IsRecordTable, RecordsWithin, SymbolsLie, one_table};
-ghost use Rattle.elf_table.specs.Tables.{StringsWithin};
+ghost use Rattle.elf_table.specs.Tables.{StringsWithin, strings_in};
 ghost use Rattle.elf_versions.specs.Reading.{IsVersion};
 
 use elf_headers::Fault;
@@ -38,8 +38,8 @@ pub(crate) fn name_in_table<S: Source>(
     ensures { Did src.old src.new (why_stopped result)
         (most_records records.now.kind records.now.table.count * 28)
         (λ file. (told : IsTableOf) (others : List Reading) → IsRecordTable file told records.now →
-        NamesOne file told.strings src.old src.new (naming_of file number (readings_of file told others))
-        (naming_of file number others) result) }
+        NamesOne file (strings_in file records.now.names) src.old src.new
+        (naming_of file number (readings_of file told others)) (naming_of file number others) result) }
 {
     let mut cursor = VersionCursor::one_by_one(records.kind, records.head, records.table);
     'records: while let Some(given) = cursor.advance(src)? {

@@ -1,14 +1,15 @@
 -- Each record that is given is looked at, until one has the number or none is left.
-use Rattle.std.proofs.Common.{◌≡◌, ◌+◌, ◌-◌, ◌*◌, ◌≤◌, None, Some, Ok, Err, sym, ◌∙◌, arith}
+use Rattle.std.proofs.Common.{◌≡◌, ℕ, List, ap, ◌+◌, ◌-◌, ◌*◌, ◌≤◌, None, Some, Ok, Err, sym, ◌∙◌, arith}
 use Rattle.std.proofs.lemmas.Result.{err_from_is_err_and}
 use Rattle.elf_headers.proofs.LedgerLaws.{Did-as, Did-none, Did-then}
 use Rattle.elf_model.specs.Loader.{naming_of}
 use Rattle.elf_model.specs.Versions.{most_records}
+use Rattle.elf_table.specs.Tables.{strings_in}
 use Rattle.elf_versions.specs.Reading.{unread}
 use Rattle.elf_versions.proofs.TakenLaws.{going-did}
 use Rattle.elf_versions.proofs.WordLaws.{none-of}
 use Rattle.elf_loader.proofs.NamingLaws.{ended-as, fault-left, fault-names, here-as, later-as, spent-read, start-as}
-use Rattle.elf_loader.proofs.TableLaws.{each-small, spent-most, spent-pays, step-most, step-pays}
+use Rattle.elf_loader.proofs.TableLaws.{each-small, spent-most, spent-pays, step-most, step-pays, strings-known}
 use Rattle.elf_loader.proofs.naming.name_in_table.Goals as goal
 
 pub records-init : goal.records-init
@@ -46,7 +47,7 @@ returns-in_err-given g c =
     (λ file told costs t others is.
     let before = told.0 in
     let step = told.1 before.0 in
-    fault-names file t.strings (most - l.cursor.left) (l.cursor.left - new.left) _ _ (naming_of file c.args.number others) _ (before.1 t others is)
+    fault-names file (strings_in file c.args.records.now.names) (most - l.cursor.left) (l.cursor.left - new.left) _ _ (naming_of file c.args.number others) _ (before.1 t others is)
     (costs _ (omega arith)) pays (spent-read file t.strings c.args.number others l.cursor new a.leaves.1) (fault-left file t.strings c.args.number others l.cursor new _ (step.tells i.going))))
 
 pub returns-then-names_number : goal.returns-then-names_number
@@ -72,7 +73,8 @@ returns-then-names_number g c =
     let gives = step.tells i.going in
     let here = sym (c.names_number.ensures file gives.met gives.is) ∙ c.if-names_number.true in
     let found = here-as file t.strings c.args.number others l.cursor new c.in-Some.given _ _ same one gives step.leads here (before.1 t others is) in
-    (gives.met, found.0, gives.is, costs _ (omega (arith, pays, found.1, one, i.fewer))))
+    let known = strings-known file t c.args.records.now l.cursor.left is (omega (arith, one)) i.fewer in
+    (gives.met, found.0 ∙ ap (λ (s : List ℕ). Some (s, gives.met)) (sym known), gives.is, costs _ (omega (arith, pays, found.1, one, i.fewer))))
 
 pub records-preserved : goal.records-preserved
 records-preserved g c =
