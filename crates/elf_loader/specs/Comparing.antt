@@ -1,7 +1,7 @@
 -- What comparing the records of versions with a wanted one gives.
-use Rattle.std.specs.Prelude.{ℕ, ◌≡◌, ◌+◌, ◌*◌, ◌≤◌, ◌||◌, Bool, List, Option, None, Some, Result, Ok, Err, IfSome}
+use Rattle.std.specs.Prelude.{ℕ, ◌≡◌, ◌+◌, ◌*◌, ◌≤◌, ◌||◌, Bool, List, None, Some, Result, Ok, Err}
 use Rattle.elf_model.specs.Budget.{IsBudget}
-use Rattle.elf_model.specs.Loader.{Asked as IsAsked, asked_name, Compared, Reading, is_among}
+use Rattle.elf_model.specs.Loader.{Compared, is_among}
 use Rattle.elf_source.specs.Source.{Counting}
 use Rattle.elf_headers.specs.Ledger.{Charges}
 use Rattle.elf_headers.specs.declared.fault.Fault.{Fault}
@@ -28,3 +28,11 @@ abbrev pub ComparesOne : List ℕ → List ℕ → Compared → Compared → Res
 ComparesOne old new all left (Ok x) = ComparedAs old new 1 all left
 ComparesOne old new all left (Err (Refused refusal)) = (1 ≤ all.read) × ((IsBudget refusal → ⊥) → all.refused ≡ Some refusal)
 ComparesOne old new all left (Err (Source fault at)) = 1 ≤ all.read
+
+-- what the whole of it gives: the set of the numbers of the wanted version; or that it is refused, unless a read failed
+abbrev pub Collects : Counting → Counting → ℕ → Compared → Result (List ℕ) Fault → Type 0
+Collects before after each compared (Ok numbers) =
+    Charges before after None (compared.read * each) × (compared.refused ≡ None) × ((number : ℕ) → has numbers number ≡ is_among number compared.numbers)
+Collects before after each compared (Err (Refused refusal)) =
+    Charges before after (Some (Refused refusal)) (compared.read * each) × ((IsBudget refusal → ⊥) → compared.refused ≡ Some refusal)
+Collects before after each compared (Err (Source fault at)) = Charges before after (Some (Source fault at)) (compared.read * each)

@@ -1,3 +1,6 @@
 pub mod Wants
 pub mod NumberSets
+pub mod Answering
 pub mod Comparing
+pub mod Tables
+pub mod Naming

@@ -1,19 +1,56 @@
 //! Which versions fit what is asked for.
-ghost use Rattle.std.specs.Prelude.{◌≡◌, ℕ, ◌==◌, ◌%◌, ◌^◌};
-ghost use Rattle.elf_model.specs.Loader.{fits};
+ghost use Rattle.std.specs.Prelude.{◌≡◌, ℕ, ◌+◌, ◌≤◌, List, IfSome};
+ghost use Rattle.elf_headers.specs.Ledger.{Did, IsRead, why_stopped};
+ghost use Rattle.elf_loader.specs.Answering.{Tells};
 ghost use Rattle.elf_loader.specs.NumberSets.{has};
 ghost use Rattle.elf_loader.specs.Wants.{asked_of};
+ghost use Rattle.elf_model.specs.Bytes.{field, slice};
+ghost use Rattle.elf_model.specs.Loader.{VersionWords as AreWordsOf, fits, version_fits};
+ghost use Rattle.elf_scope.specs.Symbols.{AreWords};
+ghost use Rattle.elf_table.specs.Tables.{RowsWithin};
+ghost use Rattle.std.specs.Prelude.{Option};
 
 use crate::number_set::NumberSet;
 use crate::wanted::Asked;
+use elf_headers::{Fault, fill, refused};
+use elf_record::{Cause, u16_at};
+use elf_scope::VersionWords;
+use elf_source::{Counted, Source};
 
 /// The bit of the word of a symbol's version that hides it; the others are its number.
 const HIDDEN: u16 = 0x8000;
 
-/// Whether a version, by its word, fits what is asked for, where the numbers of the version by its
-/// name are told.
+/// Whether the version of the symbol of an index fits what is asked for, where the numbers of the
+/// version by its name are told: its word is read, where there are words of versions. Without such
+/// each symbol's version fits.
+///
+/// # Errors
+/// `VersionCut` at what tells of the words where the symbol has none. Else a fault of the read.
+pub(crate) fn version_fits<S: Source>(
+    src: &mut Counted<S>,
+    words: &Option<VersionWords>,
+    asked: &Asked<'_>,
+    numbers: &NumberSet,
+    index: u64,
+) -> Result<bool, Fault>
+    requires within { IfSome words.now (λ words. RowsWithin src.old.seen.size words.words) }
+    ensures { Did src.old src.new (why_stopped result) 2 (λ file. (told : Option AreWordsOf) →
+        AreWords told words.now →
+        Tells (version_fits file told (asked_of asked.now) (has numbers.now) index) result) }
+{
+    let Some(words) = words else {
+        return Ok(true);
+    };
+    if index >= words.words.len() {
+        return refused(words.head, Cause::VersionCut);
+    }
+    let word = read_half(src, words.words.place(index))?;
+    Ok(fits(asked, numbers, word))
+}
+
+// Whether a version, by its word, fits what is asked for.
 #[tactic(auto, unfolding(elf_model::specs::Loader::fits))]
-pub(crate) fn fits(asked: &Asked<'_>, numbers: &NumberSet, word: u16) -> bool
+fn fits(asked: &Asked<'_>, numbers: &NumberSet, word: u16) -> bool
     ensures { result ≡ fits (asked_of asked.now) (has numbers.now) word }
 {
     let number = word % HIDDEN;
@@ -23,4 +60,24 @@ pub(crate) fn fits(asked: &Asked<'_>, numbers: &NumberSet, word: u16) -> bool
         Asked::Version(_) => numbers.contains(number),
         Asked::DefaultVersion(_) => numbers.contains(number) && !is_hidden,
     }
+}
+
+/// Reads the word of two bytes at an offset, and only these.
+///
+/// # Errors
+/// A fault of the read, or a refusal for want of budget, at the offset.
+pub(crate) fn read_half<S: Source>(src: &mut Counted<S>, at: u64) -> Result<u16, Fault>
+    requires { at + 2 ≤ src.old.seen.size }
+    ensures { Did src.old src.new (why_stopped result) 2 (λ file. IsRead result (field file at 2)) }
+{
+    let mut bytes = [0; 2];
+    fill(src, at, &mut bytes)?;
+    Ok(half(&bytes))
+}
+
+// The number of a word of two bytes.
+fn half(bytes: &[u8; 2]) -> u16
+    ensures { (file : List ℕ) (at : ℕ) → bytes.now ≡ slice file at 2 → result ≡ field file at 2 }
+{
+    u16_at(bytes, 0)
 }

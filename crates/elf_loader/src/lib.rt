@@ -2,8 +2,11 @@
 //! name and its version. No call takes memory.
 #![tactic(auto)]
 
+mod answering;
+mod collecting;
 mod comparing;
 mod fitting;
+mod naming;
 mod number_set;
 mod offered;
 mod wanted;

@@ -1,5 +1,5 @@
 //! What is looked up.
-ghost use Rattle.std.specs.Prelude.{◌≡◌, ◌==◌, ◌<◌, length, position, None, Some, IfSome, false};
+ghost use Rattle.std.specs.Prelude.{◌≡◌, ◌==◌, ◌<◌, length, position, None, Some, IfSome, false, option_map};
 ghost use Rattle.elf_model.specs.Loader.{AT_SIGN, asked_behind, asked_name, is_complete, wanted_of};
 ghost use Rattle.elf_loader.specs.Wants.{asked_of, the_wanted};
 
@@ -37,6 +37,16 @@ impl<'a> Wanted<'a> {
 }
 
 impl<'a> Asked<'a> {
+    /// The name of the version that is asked for, if one is.
+    pub fn name(&self) -> Option<&'a [u8]>
+        ensures { option_map (λ name. name.now) result ≡ asked_name (asked_of self.now) }
+    {
+        match self {
+            Asked::NoVersion => None,
+            Asked::Version(version) | Asked::DefaultVersion(version) => Some(*version),
+        }
+    }
+
     // Whether a version is asked for whose name is empty.
     fn has_empty_name(&self) -> bool
         ensures { result ≡ elim (asked_name (asked_of self.now)) [

@@ -1,0 +1,103 @@
+-- Whether a symbol answers, by what is read of it.
+use Rattle.std.proofs.Common.{◌≡◌, ℕ, ◌+◌, ◌*◌, ◌<◌, ◌≤◌, nat_lt, Bool, true, false, List, Option, None, Some, Result, Ok, Err, refl, sym, ap, subst, ◌∙◌, arith}
+use Rattle.std.proofs.lemmas.Bool.Decides.{nat_tests}
+use Rattle.elf_model.specs.Bytes.{field}
+use Rattle.elf_model.specs.Loader.{Asked, Symbols as AreSymbolsOf, VersionWords as AreWordsOf, Wanted, answers, fits, is_offered, symbol_place, version_fits, version_word_at}
+use Rattle.elf_model.specs.Names.{same}
+use Rattle.elf_model.specs.Records.{st_name, versym}
+use Rattle.elf_model.specs.declared.causes.Cause.{Cause}
+use Rattle.elf_model.specs.declared.causes.Cause.TheVariants.{VersionCut}
+use Rattle.elf_model.specs.declared.causes.Refusal.{Refusal}
+use Rattle.elf_record.specs.Sym.{IsSym}
+use Rattle.elf_record.specs.declared.sym.Sym.{Sym}
+use Rattle.elf_headers.specs.declared.fault.Fault.{Fault}
+use Rattle.elf_headers.specs.declared.fault.Fault.TheVariants.{Refused, Source}
+use Rattle.elf_table.specs.Cursors.{row_at}
+use Rattle.elf_table.specs.NamesRead.{Refuses as RefusesName}
+use Rattle.elf_table.specs.Tables.{strings_in}
+use Rattle.elf_scope.specs.Symbols.{AreWords, IsSymbols}
+use Rattle.elf_scope.specs.declared.symbols.Symbols.{Symbols}
+use Rattle.elf_scope.specs.declared.symbols.VersionWords.{VersionWords}
+use Rattle.elf_loader.specs.Answering.{Tells, TellsSymbol}
+
+-- without words each version fits
+pub fits-none :
+    (file : List ℕ) (told : Option AreWordsOf) (asked : Asked) (is_wanted : ℕ → Bool) (y : ℕ) → AreWords told None
+    → version_fits file told asked is_wanted y ≡ Ok true
+unfolding version_fits
+fits-none file None asked is_wanted y are = refl
+fits-none file (Some told) asked is_wanted y are = absurd are
+
+-- a symbol without a word
+pub fits-cut :
+    (file : List ℕ) (told : Option AreWordsOf) (words : VersionWords) (asked : Asked) (is_wanted : ℕ → Bool) (y : ℕ) → AreWords told (Some words)
+    → words.words.count ≤ y → version_fits file told asked is_wanted y ≡ Err (record { at = words.head; cause = VersionCut })
+unfolding version_fits
+fits-cut file None words asked is_wanted y are past = absurd are
+fits-cut file (Some told) words asked is_wanted y are past =
+    let head = are.head in
+    let out : nat_lt y told.count ≡ false = let count = are.count in grind (arith, nat_tests) in
+    rw (out, head) refl
+
+-- and one with a word
+pub fits-word :
+    (file : List ℕ) (told : Option AreWordsOf) (words : VersionWords) (asked : Asked) (is_wanted : ℕ → Bool) (y word : ℕ) → AreWords told (Some words)
+    → words.words.entry ≡ 2 → y < words.words.count → word ≡ field file (row_at words.words y) 2
+    → version_fits file told asked is_wanted y ≡ Ok (fits asked is_wanted word)
+unfolding version_fits
+fits-word file None words asked is_wanted y word are entry low is = absurd are
+fits-word file (Some told) words asked is_wanted y word are entry low is =
+    let within : nat_lt y told.count ≡ true = let count = are.count in grind (arith, nat_tests) in
+    let place : row_at words.words y ≡ version_word_at told y = rw (entry, are.place) (omega arith) in
+    rw (within, is, place) refl
+
+-- of a symbol that is read
+module _ (file : List ℕ) (told : AreSymbolsOf) (symbols : Symbols) (wanted : Wanted) (is_wanted : ℕ → Bool) (index : ℕ) (symbol : Sym)
+    (is : IsSymbols file told symbols) (entry : symbols.table.entry ≡ 24) (low : index < symbols.table.count) (stands : IsSym file (row_at symbols.table index) symbol) where
+  pub place-is : row_at symbols.table index ≡ symbol_place told index
+  place-is = rw (entry, is.place) (omega arith)
+
+  pub symbol-is : IsSym file (symbol_place told index) symbol
+  symbol-is = subst (λ (at : ℕ). IsSym file at symbol) place-is stands
+
+  name-is : same told.strings (st_name file (symbol_place told index)) wanted.name ≡ same (strings_in file symbols.names) symbol.st_name wanted.name
+  name-is =
+      let names : strings_in file symbols.names ≡ told.strings = is.names (omega (arith, low)) in
+      let name : symbol.st_name ≡ st_name file (symbol_place told index) = symbol-is.st_name in
+      rw (names, name) refl
+
+  -- its name has a fault
+  pub fault-answers :
+      (place : ℕ) (fault : Fault) → place ≡ row_at symbols.table index → RefusesName place fault (same (strings_in file symbols.names) symbol.st_name wanted.name)
+      → TellsSymbol file (symbol_place told index) (answers file told wanted is_wanted index) (Err fault)
+  unfolding answers
+  fault-answers place (Refused refusal) here tells = λ other.
+      let t = tells other in
+      let e = name-is ∙ t.1 in
+      let at : symbol_place told index ≡ refusal.at = sym place-is ∙ sym here ∙ sym t.0 in
+      rw (e, at, answers) refl
+  fault-answers place (Source fault at) here tells = tt
+
+  -- it has another name
+  pub other-answers : same (strings_in file symbols.names) symbol.st_name wanted.name ≡ Ok false → answers file told wanted is_wanted index ≡ Ok false
+  unfolding answers
+  other-answers tells = let e = name-is ∙ tells in rw (e, answers) refl
+
+  -- it is not offered
+  pub unoffered-answers :
+      same (strings_in file symbols.names) symbol.st_name wanted.name ≡ Ok true → is_offered file (symbol_place told index) ≡ false
+      → answers file told wanted is_wanted index ≡ Ok false
+  unfolding answers
+  unoffered-answers tells none = let e = name-is ∙ tells in rw (e, none, answers) refl
+
+  -- it is, and so its version decides
+  pub offered-answers :
+      same (strings_in file symbols.names) symbol.st_name wanted.name ≡ Ok true → is_offered file (symbol_place told index) ≡ true
+      → answers file told wanted is_wanted index ≡ version_fits file told.words wanted.asked is_wanted index
+  unfolding answers
+  offered-answers tells offered = let e = name-is ∙ tells in rw (e, offered, answers) refl
+
+-- what the version says, the symbol does
+pub fault-tells : (file : List ℕ) (at : ℕ) (says version : Result Bool Refusal) (fault : Fault) → says ≡ version → Tells version (Err fault) → TellsSymbol file at says (Err fault)
+fault-tells file at says version (Refused refusal) e tells = λ other. e ∙ tells other
+fault-tells file at says version (Source fault offset) e tells = tt

@@ -1,0 +1,74 @@
+-- The symbol, its name and the word of its version are read, as far as they decide.
+use Rattle.std.proofs.Common.{true, false, Ok, Err, ap, sym, ◌∙◌, arith}
+use Rattle.std.proofs.lemmas.Result.{err_from_is_err_and}
+use Rattle.elf_headers.proofs.LedgerLaws.{Did-as, Did-of, Did-then}
+use Rattle.elf_model.specs.Loader.{symbol_place}
+use Rattle.elf_loader.specs.NumberSets.{has}
+use Rattle.elf_loader.specs.Wants.{the_wanted}
+use Rattle.elf_loader.proofs.AnswerLaws.{fault-answers, fault-tells, offered-answers, other-answers, symbol-is, unoffered-answers}
+use Rattle.elf_loader.proofs.answering.answering.Goals as goal
+
+pub returns-in_err-equals : goal.returns-in_err-equals
+returns-in_err-equals g c =
+    let p = err_from_is_err_and c.from_residual-in_err-equals.result c.from_residual-in_err-equals.ensures.1 in
+    let off = c.from-off.ensures in
+    let symbol = Did-of c.symbol.ensures.reads tt c.in_ok-symbol.ensures.read in
+    rw (p.1, p.2)
+    (Did-as _ (omega arith) (Did-then symbol (Did-of c.equals.ensures.reads c.in_err-equals.ensures.says c.in_err-equals.ensures.compared))
+    (λ file read costs told is.
+    fault-answers file told c.args.symbols.now (the_wanted c.args.wanted.now) (has c.args.numbers.now) c.args.index _ is c.args.symbols.now.rows c.requires.below read.0
+    _ _ c.place-place.ensures (rw off at read.1)))
+
+pub returns-then-not-branch : goal.returns-then-not-branch
+returns-then-not-branch g c =
+    let off = c.from-off.ensures in
+    let symbol = Did-of c.symbol.ensures.reads tt c.in_ok-symbol.ensures.read in
+    Did-as _ (omega arith) (Did-then symbol (Did-of c.equals.ensures.reads tt c.in_ok-equals.ensures.compared))
+    (λ file read costs told is.
+    other-answers file told c.args.symbols.now (the_wanted c.args.wanted.now) (has c.args.numbers.now) c.args.index c.in_ok-symbol.symbol is c.args.symbols.now.rows c.requires.below read.0
+    (rw off at read.1 ∙ ap Ok c.if-not-branch.true))
+
+pub returns-then-not-is_offered : goal.returns-then-not-is_offered
+returns-then-not-is_offered g c =
+    let off = c.from-off.ensures in
+    let symbol = Did-of c.symbol.ensures.reads tt c.in_ok-symbol.ensures.read in
+    Did-as _ (omega arith) (Did-then symbol (Did-of c.equals.ensures.reads tt c.in_ok-equals.ensures.compared))
+    (λ file read costs told is.
+    let here = symbol-is file told c.args.symbols.now (the_wanted c.args.wanted.now) (has c.args.numbers.now) c.args.index c.in_ok-symbol.symbol is c.args.symbols.now.rows c.requires.below read.0 in
+    unoffered-answers file told c.args.symbols.now (the_wanted c.args.wanted.now) (has c.args.numbers.now) c.args.index c.in_ok-symbol.symbol is c.args.symbols.now.rows c.requires.below read.0
+    (rw off at read.1 ∙ ap Ok c.if-not-branch.false) (sym (c.is_offered.ensures file _ here) ∙ c.if-not-is_offered.true))
+
+pub returns-in_err-fits : goal.returns-in_err-fits
+returns-in_err-fits g c =
+    let p = err_from_is_err_and c.from_residual-in_err-fits.result c.from_residual-in_err-fits.ensures.1 in
+    let off = c.from-off.ensures in
+    let symbol = Did-of c.symbol.ensures.reads tt c.in_ok-symbol.ensures.read in
+    rw (p.1, p.2)
+    (Did-as _ (omega arith) (Did-then (Did-then symbol (Did-of c.equals.ensures.reads tt c.in_ok-equals.ensures.compared)) c.in_err-fits.ensures)
+    (λ file read costs told is.
+    let here = symbol-is file told c.args.symbols.now (the_wanted c.args.wanted.now) (has c.args.numbers.now) c.args.index c.in_ok-symbol.symbol is c.args.symbols.now.rows c.requires.below read.0.0 in
+    let e = offered-answers file told c.args.symbols.now (the_wanted c.args.wanted.now) (has c.args.numbers.now) c.args.index c.in_ok-symbol.symbol is c.args.symbols.now.rows c.requires.below read.0.0
+    (rw off at read.0.1 ∙ ap Ok c.if-not-branch.false) (sym (c.is_offered.ensures file _ here) ∙ c.if-not-is_offered.false) in
+    fault-tells file (symbol_place told c.args.index) _ _ _ e (read.1 told.words is.words)))
+
+pub returns-then-fits : goal.returns-then-fits
+returns-then-fits g c =
+    let off = c.from-off.ensures in
+    let symbol = Did-of c.symbol.ensures.reads tt c.in_ok-symbol.ensures.read in
+    Did-as _ (omega arith) (Did-then (Did-then symbol (Did-of c.equals.ensures.reads tt c.in_ok-equals.ensures.compared)) c.in_ok-fits.ensures)
+    (λ file read costs told is.
+    let here = symbol-is file told c.args.symbols.now (the_wanted c.args.wanted.now) (has c.args.numbers.now) c.args.index c.in_ok-symbol.symbol is c.args.symbols.now.rows c.requires.below read.0.0 in
+    let e = offered-answers file told c.args.symbols.now (the_wanted c.args.wanted.now) (has c.args.numbers.now) c.args.index c.in_ok-symbol.symbol is c.args.symbols.now.rows c.requires.below read.0.0
+    (rw off at read.0.1 ∙ ap Ok c.if-not-branch.false) (sym (c.is_offered.ensures file _ here) ∙ c.if-not-is_offered.false) in
+    (e ∙ read.1 told.words is.words ∙ ap Ok c.if-fits.true, here))
+
+pub returns-else-fits : goal.returns-else-fits
+returns-else-fits g c =
+    let off = c.from-off.ensures in
+    let symbol = Did-of c.symbol.ensures.reads tt c.in_ok-symbol.ensures.read in
+    Did-as _ (omega arith) (Did-then (Did-then symbol (Did-of c.equals.ensures.reads tt c.in_ok-equals.ensures.compared)) c.in_ok-fits.ensures)
+    (λ file read costs told is.
+    let here = symbol-is file told c.args.symbols.now (the_wanted c.args.wanted.now) (has c.args.numbers.now) c.args.index c.in_ok-symbol.symbol is c.args.symbols.now.rows c.requires.below read.0.0 in
+    let e = offered-answers file told c.args.symbols.now (the_wanted c.args.wanted.now) (has c.args.numbers.now) c.args.index c.in_ok-symbol.symbol is c.args.symbols.now.rows c.requires.below read.0.0
+    (rw off at read.0.1 ∙ ap Ok c.if-not-branch.false) (sym (c.is_offered.ensures file _ here) ∙ c.if-not-is_offered.false) in
+    e ∙ read.1 told.words is.words ∙ ap Ok c.if-fits.false)

@@ -1,0 +1,19 @@
+-- Tables of versions, one behind the other.
+use Rattle.std.specs.Prelude.{ℕ, ◌+◌, List, [], ◌∷◌, Option, None, Some}
+use Rattle.elf_model.specs.Loader.{RecordTable as IsTableOf, Reading, readings_of}
+use Rattle.elf_model.specs.Versions.{most_records}
+use Rattle.elf_scope.specs.declared.symbols.RecordTable.{RecordTable}
+use Rattle.elf_scope.specs.declared.symbols.Symbols.{Symbols}
+
+-- the records that a walk over some tables reads, in front of others
+unfoldable pub readings_before : List ℕ → List IsTableOf → List Reading → List Reading
+readings_before file [] others = others
+readings_before file (table ∷ tables) others = readings_of file table (readings_before file tables others)
+
+-- how many records a table has at most, if there is one; and those of symbols
+abbrev pub most_of : Option RecordTable → ℕ
+most_of None = 0
+most_of (Some records) = most_records records.kind records.table.count
+
+abbrev pub most_versions : Symbols → ℕ
+most_versions symbols = most_of symbols.definitions + most_of symbols.needs

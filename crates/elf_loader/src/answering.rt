@@ -1,0 +1,54 @@
+//! Which symbols answer.
+ghost use Rattle.std.specs.Prelude.{◌≡◌, ◌+◌, ◌<◌, ◌≤◌, length};
+ghost use Rattle.elf_headers.specs.Ledger.{Did, why_stopped};
+ghost use Rattle.elf_loader.specs.Answering.{TellsSymbol};
+ghost use Rattle.elf_loader.specs.NumberSets.{has};
+ghost use Rattle.elf_loader.specs.Wants.{the_wanted};
+ghost use Rattle.elf_model.specs.Loader.{Symbols as AreSymbolsOf, answers, symbol_place};
+ghost use Rattle.elf_model.specs.Names.{pad64};
+ghost use Rattle.elf_scope.specs.Symbols.{IsSymbols, SymbolsLie};
+
+use crate::fitting::version_fits;
+use crate::number_set::NumberSet;
+use crate::offered::is_offered;
+use crate::wanted::Wanted;
+use elf_headers::Fault;
+use elf_record::Sym;
+use elf_scope::Symbols;
+use elf_source::{Counted, Source};
+
+/// The symbol of an index, if it answers: it has the wanted name, it is offered, and its version
+/// fits, where the numbers of the version by its name are told. It asks for the symbol, for its name
+/// and for the word of its version.
+///
+/// # Errors
+/// A refusal of the symbol's name, as [`elf_table::Names::equals`] has it, at the symbol;
+/// `VersionCut` at what tells of the words of versions where the symbol has none. Else a fault of a
+/// read.
+pub(crate) fn answering<S: Source>(
+    src: &mut Counted<S>,
+    symbols: &Symbols,
+    wanted: &Wanted<'_>,
+    numbers: &NumberSet,
+    index: u64,
+) -> Result<Option<Sym>, Fault>
+    requires most { length wanted.now.name.now ≤ 4096 }
+    requires below { index < symbols.now.table.count }
+    requires lies { SymbolsLie src.old.seen.size symbols.now }
+    ensures { Did src.old src.new (why_stopped result) (26 + pad64 (length wanted.now.name.now + 1))
+        (λ file. (told : AreSymbolsOf) → IsSymbols file told symbols.now →
+        TellsSymbol file (symbol_place told index)
+        (answers file told (the_wanted wanted.now) (has numbers.now) index) result) }
+{
+    let symbol = symbols.table.symbol(src, index)?;
+    let place = symbols.table.place(index);
+    let off = u64::from(symbol.st_name);
+    if !symbols.names.equals(src, off, place, wanted.name)? {
+        return Ok(None);
+    }
+    if !is_offered(&symbol) {
+        return Ok(None);
+    }
+    let fits = version_fits(src, &symbols.words, &wanted.asked, numbers, index)?;
+    Ok(if fits { Some(symbol) } else { None })
+}

@@ -1,0 +1,92 @@
+//! The numbers of the version that is asked for, of all records of versions.
+ghost use Rattle.std.specs.Prelude.{◌≡◌, ℕ, ◌+◌, ◌*◌, ◌≤◌, [], ◌++◌, List, length, IfSome};
+ghost use Rattle.elf_headers.specs.Ledger.{Did, why_stopped};
+ghost use Rattle.elf_loader.specs.Comparing.{Collects, Compares};
+ghost use Rattle.elf_loader.specs.Tables.{most_of, most_versions, readings_before};
+ghost use Rattle.elf_loader.specs.Wants.{asked_of};
+ghost use Rattle.elf_model.specs.Loader.{Reading, RecordTable as IsTableOf, asked_name, compared_with, readings};
+ghost use Rattle.elf_model.specs.LoaderFind.{record_cost, wanted_numbers};
+ghost use Rattle.elf_model.specs.LoaderScope.{Scope as IsScopeOf};
+ghost use Rattle.elf_model.specs.Names.{pad64};
+ghost use Rattle.elf_scope.specs.Symbols.{AreRecordTables, IsSymbols, RecordsWithin, SymbolsLie, one_table};
+
+use crate::comparing::compare_table;
+use crate::number_set::NumberSet;
+use crate::wanted::Asked;
+use elf_headers::Fault;
+use elf_scope::{RecordTable, Symbols};
+use elf_source::{Counted, Source};
+
+// Compares the records of a table, if there is one.
+fn compare_any<S: Source>(
+    src: &mut Counted<S>,
+    records: &Option<RecordTable>,
+    version: &[u8],
+    numbers: &mut NumberSet,
+) -> Result<(), Fault>
+    requires most { length version.now ≤ 4096 }
+    requires within { IfSome records.now (RecordsWithin src.old.seen.size) }
+    ensures { Did src.old src.new (why_stopped result)
+        (most_of records.now * (28 + pad64 (length version.now + 1)))
+        (λ file. (told : List IsTableOf) (others : List Reading) →
+        AreRecordTables file told (one_table records.now) →
+        Compares src.old src.new (28 + pad64 (length version.now + 1)) numbers.old numbers.new
+        (compared_with file version.now (readings_before file told others))
+        (compared_with file version.now others) result) }
+{
+    match records {
+        None => Ok(()),
+        Some(records) => compare_table(src, records, version, numbers),
+    }
+}
+
+// Compares the records of the definitions and then of the needs.
+fn compare_all<S: Source>(
+    src: &mut Counted<S>,
+    symbols: &Symbols,
+    version: &[u8],
+    numbers: &mut NumberSet,
+) -> Result<(), Fault>
+    requires most { length version.now ≤ 4096 }
+    requires lies { SymbolsLie src.old.seen.size symbols.now }
+    ensures { Did src.old src.new (why_stopped result)
+        (most_versions symbols.now * (28 + pad64 (length version.now + 1)))
+        (λ file. (told : List IsTableOf) →
+        AreRecordTables file told (one_table symbols.now.definitions ++ one_table symbols.now.needs) →
+        Compares src.old src.new (28 + pad64 (length version.now + 1)) numbers.old numbers.new
+        (compared_with file version.now (readings file told))
+        (compared_with file version.now []) result) }
+{
+    compare_any(src, &symbols.definitions, version, numbers)?;
+    compare_any(src, &symbols.needs, version, numbers)
+}
+
+/// The numbers of the version that is asked for by its name, where one is and the symbols have
+/// versions; else none. All records of versions are read then.
+///
+/// # Errors
+/// The first record that is refused, as [`elf_versions::VersionCursor::advance`] has it, or whose
+/// name has a fault, at what holds the name: of the definitions and then of the needs.
+pub(crate) fn wanted_numbers<S: Source>(
+    src: &mut Counted<S>,
+    symbols: &Symbols,
+    asked: &Asked<'_>,
+) -> Result<NumberSet, Fault>
+    requires most { IfSome (asked_name (asked_of asked.now)) (λ version. length version ≤ 4096) }
+    requires lies { SymbolsLie src.old.seen.size symbols.now }
+    ensures { Did src.old src.new (why_stopped result)
+        (most_versions symbols.now * record_cost (asked_of asked.now))
+        (λ file. (scope : IsScopeOf) → IsSymbols file scope.symbols symbols.now →
+        Collects src.old src.new (record_cost (asked_of asked.now))
+        (wanted_numbers file scope (asked_of asked.now)) result) }
+{
+    let mut numbers = NumberSet::new();
+    let Some(_words) = &symbols.words else {
+        return Ok(numbers);
+    };
+    let Some(version) = asked.name() else {
+        return Ok(numbers);
+    };
+    compare_all(src, symbols, version, &mut numbers)?;
+    Ok(numbers)
+}
