@@ -6,3 +6,4 @@ pub mod TablesLaws
 pub mod NamingLaws
 pub mod AnswerLaws
 pub mod CollectLaws
+pub mod TellingLaws

@@ -4,3 +4,4 @@ pub mod Answering
 pub mod Comparing
 pub mod Tables
 pub mod Naming
+pub mod Telling

@@ -9,6 +9,7 @@ mod fitting;
 mod naming;
 mod number_set;
 mod offered;
+mod telling;
 mod wanted;
 
 pub use offered::is_offered;
