@@ -18,7 +18,7 @@ use Rattle.elf_table.specs.Tables.{strings_in}
 use Rattle.elf_scope.specs.Symbols.{AreWords, IsSymbols}
 use Rattle.elf_scope.specs.declared.symbols.Symbols.{Symbols}
 use Rattle.elf_scope.specs.declared.symbols.VersionWords.{VersionWords}
-use Rattle.elf_loader.specs.Answering.{Tells, TellsSymbol}
+use Rattle.elf_loader.specs.Answering.{TellsAnswer, TellsFit}
 
 -- without words each version fits
 pub fits-none :
@@ -69,7 +69,7 @@ module _ (file : List ℕ) (told : AreSymbolsOf) (symbols : Symbols) (wanted : W
   -- its name has a fault
   pub fault-answers :
       (place : ℕ) (fault : Fault) → place ≡ row_at symbols.table index → RefusesName place fault (same (strings_in file symbols.names) symbol.st_name wanted.name)
-      → TellsSymbol file (symbol_place told index) (answers file told wanted is_wanted index) (Err fault)
+      → TellsAnswer file symbols index (answers file told wanted is_wanted index) (Err fault)
   unfolding answers
   fault-answers place (Refused refusal) here tells = λ other.
       let t = tells other in
@@ -98,6 +98,6 @@ module _ (file : List ℕ) (told : AreSymbolsOf) (symbols : Symbols) (wanted : W
   offered-answers tells offered = let e = name-is ∙ tells in rw (e, offered, answers) refl
 
 -- what the version says, the symbol does
-pub fault-tells : (file : List ℕ) (at : ℕ) (says version : Result Bool Refusal) (fault : Fault) → says ≡ version → Tells version (Err fault) → TellsSymbol file at says (Err fault)
-fault-tells file at says version (Refused refusal) e tells = λ other. e ∙ tells other
-fault-tells file at says version (Source fault offset) e tells = tt
+pub fault-tells : (file : List ℕ) (symbols : Symbols) (words : Option VersionWords) (index : ℕ) (says version : Result Bool Refusal) (fault : Fault) → says ≡ version → TellsFit file words index version (Err fault) → TellsAnswer file symbols index says (Err fault)
+fault-tells file symbols words index says version (Refused refusal) e tells = λ other. e ∙ tells other
+fault-tells file symbols words index says version (Source fault at) e tells = tt

@@ -1,10 +1,10 @@
 //! Which symbols answer.
 ghost use Rattle.std.specs.Prelude.{◌≡◌, ◌+◌, ◌<◌, ◌≤◌, length};
 ghost use Rattle.elf_headers.specs.Ledger.{Did, why_stopped};
-ghost use Rattle.elf_loader.specs.Answering.{TellsSymbol};
+ghost use Rattle.elf_loader.specs.Answering.{TellsAnswer};
 ghost use Rattle.elf_loader.specs.NumberSets.{has};
 ghost use Rattle.elf_loader.specs.Wants.{the_wanted};
-ghost use Rattle.elf_model.specs.Loader.{Symbols as AreSymbolsOf, answers, symbol_place};
+ghost use Rattle.elf_model.specs.Loader.{Symbols as AreSymbolsOf, answers};
 ghost use Rattle.elf_model.specs.Names.{pad64};
 ghost use Rattle.elf_scope.specs.Symbols.{IsSymbols, SymbolsLie};
 
@@ -16,6 +16,15 @@ use elf_headers::Fault;
 use elf_record::Sym;
 use elf_scope::Symbols;
 use elf_source::{Counted, Source};
+
+/// A symbol that answers, with the word of its version, where there are words of versions.
+#[derive(Clone, Copy)]
+pub(crate) struct Answer {
+    /// The symbol.
+    pub(crate) symbol: Sym,
+    /// The word.
+    pub(crate) version: Option<u16>,
+}
 
 /// The symbol of an index, if it answers: it has the wanted name, it is offered, and its version
 /// fits, where the numbers of the version by its name are told. It asks for the symbol, for its name
@@ -31,13 +40,13 @@ pub(crate) fn answering<S: Source>(
     wanted: &Wanted<'_>,
     numbers: &NumberSet,
     index: u64,
-) -> Result<Option<Sym>, Fault>
+) -> Result<Option<Answer>, Fault>
     requires most { length wanted.now.name.now ≤ 4096 }
     requires below { index < symbols.now.table.count }
     requires lies { SymbolsLie src.old.seen.size symbols.now }
     ensures { Did src.old src.new (why_stopped result) (26 + pad64 (length wanted.now.name.now + 1))
         (λ file. (told : AreSymbolsOf) → IsSymbols file told symbols.now →
-        TellsSymbol file (symbol_place told index)
+        TellsAnswer file symbols.now index
         (answers file told (the_wanted wanted.now) (has numbers.now) index) result) }
 {
     let symbol = symbols.table.symbol(src, index)?;
@@ -49,6 +58,12 @@ pub(crate) fn answering<S: Source>(
     if !is_offered(&symbol) {
         return Ok(None);
     }
-    let fits = version_fits(src, &symbols.words, &wanted.asked, numbers, index)?;
-    Ok(if fits { Some(symbol) } else { None })
+    let fit = version_fits(src, &symbols.words, &wanted.asked, numbers, index)?;
+    if !fit.fits {
+        return Ok(None);
+    }
+    Ok(Some(Answer {
+        symbol,
+        version: fit.version,
+    }))
 }
