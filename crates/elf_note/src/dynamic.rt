@@ -113,8 +113,8 @@ impl DynCursor {
     }
 }
 
-/// The entry whose bytes a row has, 16 of them.
-pub(crate) fn entry_in(row: &Row<'_>) -> Dyn
+/// The entry whose bytes a row has, 16 of them (gABI 5, Dynamic Section).
+pub fn entry_in(row: &Row<'_>) -> Dyn
     requires { length row.now.bytes.now ≡ 16 }
     ensures { (file : List ℕ) (at : ℕ) → row.now.bytes.now ≡ slice file at 16 →
         IsDyn file at result }

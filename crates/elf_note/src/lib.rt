@@ -14,7 +14,7 @@ mod taking;
 
 pub use buffers::BUFFER_BYTES;
 pub use cursor::NoteCursor;
-pub use dynamic::{DynCursor, dynamic_rows};
+pub use dynamic::{DynCursor, dynamic_rows, entry_in};
 pub use row::NoteRow;
 pub use sizes::{gap_between, padding};
 pub use string_values::{DynStrings, dynamic_strings};

@@ -1,3 +1,7 @@
+pub mod Entries
+pub mod Finding
 pub mod Kinds
 pub mod Scopes
+pub mod Segments
 pub mod Symbols
+pub mod Versions

@@ -1,20 +1,31 @@
 -- What a lookup is made in, of a file, and where it lies.
-use Rattle.std.specs.Prelude.{ℕ, ◌≡◌, ◌+◌, ◌≤◌, List}
-use Rattle.elf_model.specs.LoaderScope.{Scope as IsScopeOf}
+use Rattle.std.specs.Prelude.{ℕ, ◌≡◌, ◌+◌, ◌≤◌, List, Option, Some, None, Result, Ok, Err}
+use Rattle.elf_model.specs.Budget.{IsBudget}
+use Rattle.elf_model.specs.LoaderScope.{HashKind as IsHashKind, Scope as IsScopeOf}
+use Rattle.elf_model.specs.declared.causes.Refusal.{Refusal}
+use Rattle.elf_headers.specs.declared.fault.Fault.{Fault}
+use Rattle.elf_headers.specs.declared.fault.Fault.TheVariants.{Refused, Source}
 use Rattle.elf_scope.specs.Kinds.{kind_of}
 use Rattle.elf_scope.specs.Symbols.{IsSymbols, SymbolsLie}
 use Rattle.elf_scope.specs.declared.scope.Scope.{Scope}
 
 -- WHAT A LOOKUP IS MADE IN is what the definitions tell
 pub record IsScope (file : List ℕ) (told : IsScopeOf) (scope : Scope) : Type 0 where
-  pub kind : kind_of scope.kind ≡ told.kind
-  pub head : scope.head ≡ told.head
-  pub place : scope.place ≡ told.table.place
-  pub size : scope.size ≡ told.table.size
-  pub count : scope.symbols.table.count ≡ told.table.symbols
+  pub kind : kind_of scope.hash.kind ≡ told.kind
+  pub head : scope.hash.head ≡ told.head
+  pub place : scope.hash.at ≡ told.table.place
+  pub size : scope.hash.size ≡ told.table.size
+  pub count : scope.hash.symbols ≡ told.table.symbols
   pub symbols : IsSymbols file told.symbols scope.symbols
 
 -- it lies within a source of this size
 pub record ScopeLies (size : ℕ) (scope : Scope) : Type 0 where
-  pub table : scope.place + scope.size ≤ size
+  pub table : scope.hash.at + scope.hash.size ≤ size
+  pub count : scope.symbols.table.count ≡ scope.hash.symbols
   pub symbols : SymbolsLie size scope.symbols
+
+-- what the definitions find is what the code has, or its refusal, unless that is for want of budget
+abbrev pub Finds : List ℕ → Result IsScopeOf Refusal → Result Scope Fault → Type 0
+Finds file found (Ok scope) = (told : IsScopeOf) × (found ≡ Ok told) × IsScope file told scope
+Finds file found (Err (Refused refusal)) = (IsBudget refusal → ⊥) → found ≡ Err refusal
+Finds file found (Err (Source fault at)) = Unit {0}

@@ -3,10 +3,22 @@
 //! the program headers. No call takes memory.
 #![tactic(auto)]
 
+mod by_sections;
+mod by_segments;
+mod entries;
+mod entry;
 mod kind;
+mod numbers;
+mod place;
 mod scope;
+mod scoping;
+mod section_versions;
+mod segment_symbols;
 mod symbols;
+mod versions;
 
 pub use kind::HashKind;
+pub use place::HashPlace;
 pub use scope::Scope;
+pub use scoping::find_scope;
 pub use symbols::{RecordTable, Symbols, VersionWords};

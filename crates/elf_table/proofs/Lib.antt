@@ -1,3 +1,4 @@
+pub mod HashSectionLaws
 pub mod MappedLaws
 pub mod NameWindows
 pub mod Paging

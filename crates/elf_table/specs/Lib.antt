@@ -1,5 +1,6 @@
 pub mod Cursors
 pub mod Files
+pub mod HashSections
 pub mod NamesRead
 pub mod Relocations
 pub mod Sections

@@ -1,15 +1,17 @@
 -- What a loaded file in the segment view tells of its segments.
-use Rattle.std.specs.Prelude.{ℕ, ◌≡◌, ◌+◌, ◌*◌, List, [], ◌∷◌, length, Result}
+use Rattle.std.specs.Prelude.{ℕ, ◌≡◌, ◌+◌, ◌-◌, ◌*◌, ◌==◌, List, [], ◌∷◌, length, Option, None, Some, Result, Err}
 use Rattle.elf_model.specs.Checks.{refuse, is_outside}
-use Rattle.elf_model.specs.Records.{p_offset, p_filesz, segment_at}
-use Rattle.elf_model.specs.Mapped.{mapped_checks, mapped_place}
-use Rattle.elf_model.specs.declared.causes.Cause.TheVariants.{TableOutside}
+use Rattle.elf_model.specs.Find.{first_that}
+use Rattle.elf_model.specs.Records.{e_phnum, p_type, p_offset, p_vaddr, p_filesz, segment_at}
+use Rattle.elf_model.specs.Mapped.{mapped_at, mapped_checks, mapped_place}
+use Rattle.elf_model.specs.declared.causes.Cause.TheVariants.{TableOutside, Unmapped}
 use Rattle.elf_record.specs.declared.ehdr.Ehdr.{Ehdr}
 use Rattle.elf_headers.specs.Load.{Views}
-use Rattle.elf_table.specs.Sections.{checked, rows_of, strings}
+use Rattle.elf_table.specs.Sections.{checked, rows, rows_of, strings}
 use Rattle.elf_headers.specs.Store.{segment_bytes}
 use Rattle.elf_table.specs.Tables.{Rows, Strings}
 use Rattle.elf_headers.specs.declared.fault.Fault.{Fault}
+use Rattle.elf_headers.specs.declared.fault.Fault.TheVariants.{Refused}
 use Rattle.elf_table.specs.declared.segment_view.SegmentView.{SegmentView}
 
 -- an answer for a segment is what the file that is viewed has at its program header
@@ -48,3 +50,21 @@ strings_placed file_size header place size =
 abbrev pub strings_mapped : List ℕ → ℕ → ℕ → ℕ → Result Strings Fault
 strings_mapped file address size entry =
     checked (mapped_checks file address size entry) (strings (mapped_place file address size) size)
+
+-- the first program header of a kind
+abbrev pub first_of_kind : List ℕ → ℕ → Option ℕ
+first_of_kind file kind = first_that (λ i. p_type file (segment_at file i) == kind) 0 (e_phnum file)
+
+-- the rest of a segment's bytes from an address on, by its program header at an offset of some bytes, in a file of so many
+-- bytes; the refusal names a place
+abbrev pub rest_of : List ℕ → ℕ → ℕ → ℕ → ℕ → Result Rows Fault
+rest_of bytes at file_size place v =
+    checked (refuse (is_outside file_size (p_offset bytes at) (p_filesz bytes at)) place TableOutside ∷ [])
+    (rows (p_offset bytes at + (v - p_vaddr bytes at)) (p_filesz bytes at - (v - p_vaddr bytes at)) 1)
+
+-- the rest of the bytes of the first LOAD segment that has an address, which an entry gives
+abbrev pub rest_mapped : List ℕ → ℕ → ℕ → Result Rows Fault
+rest_mapped file v entry = elim (mapped_at file v 1) [
+  | None ↦ Err (Refused (record { at = entry; cause = Unmapped }))
+  | Some at ↦ rest_of file at (length file) at v
+]

@@ -7,6 +7,7 @@ mod buffers;
 mod checks;
 mod cursor;
 mod file;
+mod hash_sections;
 mod name_buf;
 mod name_search;
 mod names;

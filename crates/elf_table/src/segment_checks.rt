@@ -1,13 +1,14 @@
 //! The checks of one segment by its program header.
-ghost use Rattle.std.specs.Prelude.{◌≡◌, ℕ, ◌≤◌, List, IfOk, IfErr, true};
+ghost use Rattle.std.specs.Prelude.{◌≡◌, ℕ, ◌+◌, ◌≤◌, List, IfOk, IfErr, true};
 ghost use Rattle.elf_model.specs.Mapped.{is_mapped_by, mapped_offset};
 ghost use Rattle.elf_record.specs.Phdr.{IsPhdr};
 ghost use Rattle.elf_headers.specs.Faults.{IsOfCheck};
 ghost use Rattle.elf_table.specs.Tables.{StringsWithin};
-ghost use Rattle.elf_table.specs.Views.{strings_placed};
+ghost use Rattle.elf_table.specs.Views.{rest_of, strings_placed};
 
 use crate::names::Names;
-use elf_headers::{Fault, refused};
+use crate::table::Table;
+use elf_headers::{Fault, ends_outside, refused};
 use elf_record::numbers::PT_LOAD;
 use elf_record::{Cause, Phdr};
 
@@ -17,6 +18,8 @@ pub(crate) fn maps(header: &Phdr, address: u64, size: u64) -> bool
     ensures value { (bytes : List ℕ) (at : ℕ) → IsPhdr bytes at header.now →
         result ≡ is_mapped_by bytes at address size }
     ensures above { result ≡ true → header.now.p_vaddr ≤ address }
+    ensures inside { result ≡ true →
+        address + size ≤ header.now.p_vaddr + header.now.p_filesz }
 {
     let end = u128::from(header.p_vaddr) + u128::from(header.p_filesz);
     header.p_type == PT_LOAD
@@ -45,4 +48,27 @@ pub(crate) fn checked_mapped(
         return refused(place, Cause::TableOutside);
     }
     Ok(Names::new(offset as u64, bytes))
+}
+
+/// The bytes of the segment from one that it holds at an address on, as rows of one byte, in a file
+/// of `size` bytes. A refusal names `place`.
+pub(crate) fn checked_rest(
+    header: &Phdr,
+    size: u64,
+    place: u64,
+    address: u64,
+) -> Result<Table, Fault>
+    requires above { header.now.p_vaddr ≤ address }
+    requires inside { address ≤ header.now.p_vaddr + header.now.p_filesz }
+    ensures value { (file : List ℕ) (at : ℕ) → IsPhdr file at header.now →
+        result ≡ rest_of file at size place address }
+    ensures within { IfOk result (λ table. table.at + table.count ≤ size) }
+    ensures bytes { IfOk result (λ table. table.entry ≡ 1) }
+    ensures refusal { IfErr result IsOfCheck }
+{
+    if ends_outside(size, header.p_offset, header.p_filesz) {
+        return refused(place, Cause::TableOutside);
+    }
+    let skipped = address - header.p_vaddr;
+    Ok(Table::new(header.p_offset + skipped, header.p_filesz - skipped, 1))
 }

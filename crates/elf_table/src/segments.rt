@@ -1,7 +1,7 @@
 //! The checks of the segments of a file in the segment view.
-ghost use Rattle.std.specs.Prelude.{◌≡◌, ◌≤◌, ◌<◌, ℕ, List, IfOk, IfErr, IfSome};
+ghost use Rattle.std.specs.Prelude.{◌≡◌, ◌+◌, ◌≤◌, ◌<◌, ℕ, List, IfOk, IfErr, IfSome};
 ghost use Rattle.std.specs.Option.{option_map};
-ghost use Rattle.elf_model.specs.Records.{p_vaddr, segment_at};
+ghost use Rattle.elf_model.specs.Records.{p_filesz, p_vaddr, segment_at};
 ghost use Rattle.elf_model.specs.Mapped.{mapped_at};
 ghost use Rattle.elf_record.specs.Phdr.{IsPhdr};
 ghost use Rattle.elf_headers.specs.Faults.{IsOfCheck};
@@ -9,11 +9,11 @@ ghost use Rattle.elf_headers.specs.Load.{Views};
 ghost use Rattle.elf_headers.specs.Store.{segment_bytes};
 ghost use Rattle.elf_table.specs.Tables.{RowsWithin, StringsWithin, size_of};
 ghost use Rattle.elf_table.specs.Views.{TellsSegment, dynamic_table_at, dynamic_in, filesz_in};
-ghost use Rattle.elf_table.specs.Views.{segment_place, strings_mapped};
+ghost use Rattle.elf_table.specs.Views.{first_of_kind, rest_mapped, segment_place, strings_mapped};
 
 use crate::checks::checked_rows;
 use crate::names::Names;
-use crate::segment_checks::{checked_mapped, maps};
+use crate::segment_checks::{checked_mapped, checked_rest, maps};
 use crate::segment_view::SegmentView;
 use crate::table::Table;
 use elf_headers::{Fault, refused};
@@ -94,6 +94,43 @@ impl SegmentView<'_> {
         checked_mapped(&header, self.loaded.size(), place, address, size)
     }
 
+    /// The index of the first program header of a type, if there is one (gABI 5, Program Header).
+    pub fn first_segment(&self, kind: u32) -> Option<u16>
+        ensures below { IfSome result (λ segment. segment < self.now.store.now.segments) }
+        ensures first { (file : List ℕ) → Views file self.now.loaded self.now.store.now →
+            result ≡ first_of_kind file kind }
+    {
+        for index in 0..self.segments() {
+            if self.segment(index).p_type == kind {
+                return Some(index);
+            }
+        }
+        None
+    }
+
+    /// The bytes of the first LOAD segment that holds the byte at an address, from that byte on, as
+    /// rows of one byte. The entry at the file offset `at` gives the address. No bytes are read
+    /// (gABI 5, Program Loading).
+    ///
+    /// # Errors
+    /// `Unmapped` at `at` where no LOAD program header holds the byte; `TableOutside` at that program
+    /// header where its bytes end past the end of the file.
+    pub fn rest(&self, address: u64, at: u64) -> Result<Table, Fault>
+        ensures value { (file : List ℕ) → Views file self.now.loaded self.now.store.now →
+            result ≡ rest_mapped file address at }
+        ensures within { IfOk result (λ table.
+            table.at + table.count ≤ self.now.loaded.size) }
+        ensures bytes { IfOk result (λ table. table.entry ≡ 1) }
+        ensures refusal { IfErr result IsOfCheck }
+    {
+        let Some(segment) = self.mapping(address, 1) else {
+            return refused(at, Cause::Unmapped);
+        };
+        let header = self.segment(segment);
+        let place = self.place(segment);
+        checked_rest(&header, self.loaded.size(), place, address)
+    }
+
     /// The index of the first LOAD program header that holds `size` bytes from an address on.
     #[tactic(auto, using(crate::proofs::MappedLaws::mapped_steps))]
     fn mapping(&self, address: u64, size: u64) -> Option<u16>
@@ -102,6 +139,9 @@ impl SegmentView<'_> {
         ensures below { IfSome result (λ segment. segment < self.now.store.now.segments) }
         ensures above { IfSome result (λ segment.
             p_vaddr (segment_bytes self.now.store.now segment) 0 ≤ address) }
+        ensures inside { IfSome result (λ segment.
+            address + size ≤ p_vaddr (segment_bytes self.now.store.now segment) 0
+            + p_filesz (segment_bytes self.now.store.now segment) 0) }
     {
         let count = self.segments();
         let mut segment = 0;

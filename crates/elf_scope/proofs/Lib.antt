@@ -1,0 +1,8 @@
+pub mod EntryLaws
+pub mod FoundLaws
+pub mod LoadedLaws
+pub mod ScopeLaws
+pub mod SectionLaws
+pub mod SegmentLaws
+pub mod SettleLaws
+pub mod VersionLaws

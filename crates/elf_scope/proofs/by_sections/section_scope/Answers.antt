@@ -1,0 +1,36 @@
+-- The checks of the hash table's section, then those of the tables of versions.
+use Rattle.std.proofs.Common.{◌≡◌, refl, sym, ◌∙◌}
+use Rattle.std.proofs.lemmas.Result.{err_from_is_err_and}
+use Rattle.elf_model.specs.Find.{hash_checks_from}
+use Rattle.elf_model.specs.LoaderScope.{version_checks}
+use Rattle.elf_model.specs.Records.{section_at}
+use Rattle.elf_table.proofs.HashSectionLaws.{place_is}
+use Rattle.elf_scope.specs.Kinds.{kind_of, least_bytes}
+use Rattle.elf_scope.proofs.SectionLaws.{section_is}
+use Rattle.elf_scope.proofs.SettleLaws.{refused_back, refused_front}
+use Rattle.elf_scope.proofs.by_sections.section_scope.Goals as goal
+
+pub returns-in_err-index-clause-held : goal.returns-in_err-index-clause-held
+returns-in_err-index-clause-held c = λ bytes belongs.
+    let p = err_from_is_err_and c.from_residual.result c.from_residual.ensures.1 in
+    let at = section_at bytes c.args.section in
+    let told = c.in_err-index.ensures.held bytes belongs in
+    rw (p.1, p.2) (refused_front (hash_checks_from (least_bytes c.args.kind) bytes at) (version_checks bytes at) _ (rw c.least_bytes.ensures at told))
+
+pub returns-in_err-versions-clause-held : goal.returns-in_err-versions-clause-held
+returns-in_err-versions-clause-held c = λ bytes belongs.
+    let p = err_from_is_err_and c.from_residual-in_err-versions.result c.from_residual-in_err-versions.ensures.1 in
+    let at = section_at bytes c.args.section in
+    let told = c.in_ok-index.ensures.held bytes belongs in
+    let hashed = rw c.least_bytes.ensures at told in
+    let link = sym (c.section-header.ensures.stands bytes belongs).sh_link in
+    rw (p.1, p.2) (refused_back (hash_checks_from (least_bytes c.args.kind) bytes at) (version_checks bytes at) _ hashed.0 (c.in_err-versions.ensures.held bytes at belongs link))
+
+pub returns-clause-held : goal.returns-clause-held
+returns-clause-held c = λ bytes belongs.
+    let at = section_at bytes c.args.section in
+    let told = c.in_ok-index.ensures.held bytes belongs in
+    let hashed = rw c.least_bytes.ensures at told in
+    let is = c.section-header.ensures.stands bytes belongs in
+    section_is bytes (kind_of c.args.kind) at _ _ _ hashed (c.in_ok-versions.ensures.held bytes at belongs (sym is.sh_link))
+    refl (c.place.ensures.value ∙ place_is bytes c.args.section _ _ belongs) is.sh_offset is.sh_size c.len.ensures refl refl refl refl refl refl

@@ -1,0 +1,44 @@
+-- The tables of versions by the section headers: their checks, and what they are.
+use Rattle.std.specs.Prelude.{ℕ, ◌≡◌, ◌==◌, not, List, [], ◌∷◌, ◌++◌, Option, None, Some, IfSome}
+use Rattle.elf_model.specs.Checks.{Check, refuse, unless_empty, table_checks}
+use Rattle.elf_model.specs.Loader.{VersionWords as IsWordsOf, RecordTable as IsTableOf}
+use Rattle.elf_model.specs.LoaderScope.{checks_of_type, records_with}
+use Rattle.elf_model.specs.Numbers.{SHT_GNU_VERSYM}
+use Rattle.elf_model.specs.Records.{sh_offset, sh_size, sh_link}
+use Rattle.elf_model.specs.Tables.{strings_of}
+use Rattle.elf_model.specs.VersionRows.{VERSYM_SIZE}
+use Rattle.elf_model.specs.declared.causes.Cause.TheVariants.{BadLink}
+use Rattle.elf_model.specs.declared.versions.VersionKind.{VersionKind}
+use Rattle.elf_table.specs.Tables.{RowsWithin}
+use Rattle.elf_scope.specs.Symbols.{AreWords, AreRecordTables, RecordsWithin, one_table}
+use Rattle.elf_scope.specs.declared.symbols.RecordTable.{RecordTable}
+use Rattle.elf_scope.specs.declared.versions.Versions.{Versions}
+
+-- the checks of the words of symbols' versions, for the symbols of the hash table's section
+abbrev pub words_checks : List ℕ → ℕ → List Check
+words_checks file at =
+    checks_of_type file SHT_GNU_VERSYM (λ words_at.
+    unless_empty (sh_size file words_at) (table_checks file words_at VERSYM_SIZE)
+    ++ (refuse (not (sh_link file words_at == sh_link file at)) words_at BadLink ∷ []))
+
+-- the definitions, or the needs, of a section
+abbrev pub records_at : List ℕ → VersionKind → ℕ → IsTableOf
+records_at file kind at =
+    record { kind = kind; head = at; place = sh_offset file at; size = sh_size file at; strings = strings_of file at }
+
+-- tables in front of others are what is told in front of others
+abbrev pub AreInFront : List ℕ → (List IsTableOf → List IsTableOf) → Option RecordTable → Type 0
+AreInFront file told found =
+    (others : List IsTableOf) (tables : List RecordTable) → AreRecordTables file others tables
+    → AreRecordTables file (told others) (one_table found ++ tables)
+
+-- the tables of versions are those that are told
+pub record AreVersions (file : List ℕ) (told : Option IsWordsOf) (told_records : List IsTableOf) (versions : Versions) : Type 0 where
+  pub words : AreWords told versions.words
+  pub records : AreRecordTables file (records_with told told_records) (one_table versions.definitions ++ one_table versions.needs)
+
+-- they lie within a source of this size
+pub record VersionsLie (size : ℕ) (versions : Versions) : Type 0 where
+  pub words : IfSome versions.words (λ words. RowsWithin size words.words)
+  pub definitions : IfSome versions.definitions (RecordsWithin size)
+  pub needs : IfSome versions.needs (RecordsWithin size)

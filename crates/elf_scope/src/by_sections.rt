@@ -1,0 +1,90 @@
+//! What a lookup is made in, by the section headers.
+ghost use Rattle.std.specs.Prelude.{◌≡◌, ◌<◌, ◌^◌, ℕ, List, IfOk, IfErr, IfSome};
+ghost use Rattle.std.specs.Option.{option_map};
+ghost use Rattle.elf_model.specs.LoaderScope.{hash_section, scope_by_sections, section_checks, section_scope};
+ghost use Rattle.elf_model.specs.Records.{section_at};
+ghost use Rattle.elf_headers.specs.Faults.{IsOfCheck};
+ghost use Rattle.elf_headers.specs.Load.{Belongs};
+ghost use Rattle.elf_table.specs.HashSections.{Settles};
+ghost use Rattle.elf_scope.specs.Kinds.{found_at, kind_of};
+ghost use Rattle.elf_scope.specs.Scopes.{Finds, IsScope, ScopeLies};
+
+use crate::kind::HashKind;
+use crate::numbers::SHT_GNU_HASH;
+use crate::place::HashPlace;
+use crate::scope::Scope;
+use crate::section_versions::section_versions;
+use crate::symbols::Symbols;
+use elf_headers::refused;
+use elf_record::Cause;
+use elf_record::numbers::SHT_HASH;
+use elf_table::{Fault, File};
+
+/// What a lookup is made in by the section headers. No bytes are read.
+///
+/// # Errors
+/// The first that fails: `NoHash` at 0x28 where there is no section with a hash table; the checks of
+/// the hash table's section and of the symbols that it links to, as [`File::hashed`]; those of the
+/// tables of versions.
+pub(crate) fn by_sections(file: &File<'_>) -> Result<Scope, Fault>
+    requires small { file.now.loaded.size < 2 ^ 63 }
+    ensures held { (bytes : List ℕ) → Belongs bytes file.now.loaded file.now.store.now →
+        Finds bytes (scope_by_sections bytes) result }
+    ensures within { IfOk result (ScopeLies file.now.loaded.size) }
+    ensures refusal { IfErr result IsOfCheck }
+{
+    let Some((kind, section)) = hash_section(file) else {
+        return refused(0x28, Cause::NoHash);
+    };
+    section_scope(file, kind, section)
+}
+
+/// The first section with a hash table of the GNU system, else the first with one of the gABI.
+fn hash_section(file: &File<'_>) -> Option<(HashKind, u16)>
+    ensures below { IfSome result (λ found. found.1 < file.now.store.now.loaded) }
+    ensures held { (bytes : List ℕ) → Belongs bytes file.now.loaded file.now.store.now →
+        hash_section bytes ≡ option_map (found_at bytes) result }
+{
+    if let Some(section) = file.first_section(SHT_GNU_HASH) {
+        return Some((HashKind::Gnu, section));
+    }
+    let Some(section) = file.first_section(SHT_HASH) else {
+        return None;
+    };
+    Some((HashKind::Sysv, section))
+}
+
+/// What a lookup is made in by a section with a hash table.
+///
+/// # Errors
+/// The first check that fails: those of [`File::hashed`], then of the tables of versions.
+fn section_scope(file: &File<'_>, kind: HashKind, section: u16) -> Result<Scope, Fault>
+    requires below { section < file.now.store.now.loaded }
+    requires small { file.now.loaded.size < 2 ^ 63 }
+    ensures held { (bytes : List ℕ) → Belongs bytes file.now.loaded file.now.store.now →
+        Settles (section_checks bytes (kind_of kind) (section_at bytes section))
+        (IsScope bytes (section_scope bytes (kind_of kind) (section_at bytes section))) result }
+    ensures within { IfOk result (ScopeLies file.now.loaded.size) }
+    ensures refusal { IfErr result IsOfCheck }
+{
+    let (index, (table, names)) = file.hashed(section, kind.least_bytes())?;
+    let header = file.section(section);
+    let versions = section_versions(file, header.sh_link)?;
+    Ok(Scope {
+        hash: HashPlace {
+            kind,
+            head: file.place(section),
+            at: header.sh_offset,
+            size: header.sh_size,
+            symbols: table.len(),
+        },
+        symbols: Symbols {
+            index,
+            table,
+            names,
+            words: versions.words,
+            definitions: versions.definitions,
+            needs: versions.needs,
+        },
+    })
+}

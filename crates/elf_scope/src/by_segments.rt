@@ -1,0 +1,120 @@
+//! What a lookup is made in, by the program headers.
+ghost use Rattle.std.specs.Prelude.{◌≡◌, ◌<◌, ◌^◌, ℕ, List, IfOk, IfErr};
+ghost use Rattle.elf_model.specs.LoaderScope.{segment_checks, segment_scope};
+ghost use Rattle.elf_model.specs.Records.{d_un, segment_at};
+ghost use Rattle.elf_headers.specs.Faults.{IsOfCheck};
+ghost use Rattle.elf_headers.specs.Ledger.{Did, why_stopped};
+ghost use Rattle.elf_headers.specs.Load.{Views};
+ghost use Rattle.elf_table.specs.HashSections.{Settles};
+ghost use Rattle.elf_scope.specs.Entries.{AreEntries};
+ghost use Rattle.elf_scope.specs.Kinds.{kind_of};
+ghost use Rattle.elf_scope.specs.Scopes.{Finds, IsScope, ScopeLies};
+ghost use Rattle.elf_scope.specs.Segments.{FindsSegments, TellsHash, scope_by_entries};
+
+use crate::entries::first_entries;
+use crate::entry::{Entries, Entry};
+use crate::kind::HashKind;
+use crate::place::HashPlace;
+use crate::scope::Scope;
+use crate::segment_symbols::segment_symbols;
+use elf_headers::refused;
+use elf_record::Cause;
+use elf_record::numbers::PT_DYNAMIC;
+use elf_source::{Counted, Source};
+use elf_table::{Fault, SegmentView};
+
+/// What a lookup is made in by the program headers: by the dynamic entries of the first segment of
+/// such, which are read, each byte at most once.
+///
+/// # Errors
+/// The first that fails: `NoHash` at 0x20 where there is no such segment, and where none of its
+/// entries tells of a hash table; before the latter the checks of [`SegmentView::dynamic`]; then those
+/// of the entries. Else a fault of a read, or a refusal for want of budget, at an entry's offset.
+pub(crate) fn by_segments<S: Source>(
+    src: &mut Counted<S>,
+    view: &SegmentView<'_>,
+) -> Result<Scope, Fault>
+    requires size { view.now.loaded.size ≡ src.old.seen.size }
+    requires small { view.now.loaded.size < 2 ^ 63 }
+    ensures did { Did src.old src.new (why_stopped result) src.old.seen.size
+        (λ bytes. Views bytes view.now.loaded view.now.store.now →
+        FindsSegments bytes src.old src.new result) }
+    ensures within { IfOk result (ScopeLies view.now.loaded.size) }
+{
+    let Some(segment) = view.first_segment(PT_DYNAMIC) else {
+        return refused(0x20, Cause::NoHash);
+    };
+    let table = view.dynamic(segment)?;
+    let found = first_entries(src, table)?;
+    by_entries(view, segment, &found)
+}
+
+/// What a lookup is made in by the entries of a segment.
+fn by_entries(view: &SegmentView<'_>, segment: u16, found: &Entries) -> Result<Scope, Fault>
+    requires below { segment < view.now.store.now.segments }
+    requires small { view.now.loaded.size < 2 ^ 63 }
+    ensures held { (bytes : List ℕ) → Views bytes view.now.loaded view.now.store.now →
+        AreEntries bytes (segment_at bytes segment) found.now →
+        Finds bytes (scope_by_entries bytes segment (segment_at bytes segment)) result }
+    ensures within { IfOk result (ScopeLies view.now.loaded.size) }
+    ensures refusal { IfErr result IsOfCheck }
+{
+    let Some((kind, row)) = hash_entry(found) else {
+        return refused(0x20, Cause::NoHash);
+    };
+    segment_scope(view, segment, found, kind, &row)
+}
+
+/// The entry that tells of a hash table: of the GNU system's, else of the gABI's.
+fn hash_entry(found: &Entries) -> Option<(HashKind, Entry)>
+    ensures { (bytes : List ℕ) (at : ℕ) → AreEntries bytes at found.now →
+        TellsHash bytes at result }
+{
+    if let Some(row) = found.gnu_hash {
+        return Some((HashKind::Gnu, row));
+    }
+    let Some(row) = found.hash else {
+        return None;
+    };
+    Some((HashKind::Sysv, row))
+}
+
+/// What a lookup is made in by the entry that tells of the hash table, and the others.
+///
+/// # Errors
+/// The first that fails: those of [`SegmentView::rest`] for the hash table; `HashShape` at its entry
+/// where it is too small for its counts; those of the symbols.
+fn segment_scope(
+    view: &SegmentView<'_>,
+    segment: u16,
+    found: &Entries,
+    kind: HashKind,
+    row: &Entry,
+) -> Result<Scope, Fault>
+    requires below { segment < view.now.store.now.segments }
+    requires small { view.now.loaded.size < 2 ^ 63 }
+    ensures held { (bytes : List ℕ) → Views bytes view.now.loaded view.now.store.now →
+        AreEntries bytes (segment_at bytes segment) found.now →
+        d_un bytes row.now.at ≡ row.now.value →
+        Settles (segment_checks bytes (kind_of kind) (segment_at bytes segment) row.now.at)
+        (IsScope bytes
+        (segment_scope bytes (kind_of kind) segment (segment_at bytes segment) row.now.at)) result }
+    ensures within { IfOk result (ScopeLies view.now.loaded.size) }
+    ensures refusal { IfErr result IsOfCheck }
+{
+    let hash = view.rest(row.value, row.at)?;
+    if hash.len() < kind.least_bytes() {
+        return refused(row.at, Cause::HashShape);
+    }
+    let symbols = segment_symbols(view, segment, found, row.at)?;
+    Ok(Scope {
+        hash: HashPlace {
+            kind,
+            head: row.at,
+            at: hash.at(),
+            size: hash.len(),
+            symbols: symbols.table.len(),
+        },
+        symbols,
+    })
+}

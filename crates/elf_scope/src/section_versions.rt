@@ -1,0 +1,148 @@
+//! The tables of versions by the section headers.
+ghost use Rattle.std.specs.Prelude.{◌≡◌, ◌<◌, ◌^◌, ℕ, List, [], IfOk, IfErr, IfSome};
+ghost use Rattle.elf_model.specs.LoaderScope.{checks_of_type, records_of_type, section_words, version_checks};
+ghost use Rattle.elf_model.specs.Numbers.{SHT_GNU_VERDEF, SHT_GNU_VERNEED};
+ghost use Rattle.elf_model.specs.Records.{section_at, sh_link};
+ghost use Rattle.elf_model.specs.Tables.{all_checks};
+ghost use Rattle.elf_model.specs.VersionRows.{version_table};
+ghost use Rattle.elf_model.specs.declared.versions.VersionKind.TheVariants.{Definition, File as NeededFile, Need};
+ghost use Rattle.elf_headers.specs.Faults.{IsOfCheck};
+ghost use Rattle.elf_headers.specs.Load.{Belongs};
+ghost use Rattle.elf_table.specs.HashSections.{Settles};
+ghost use Rattle.elf_table.specs.Sections.{string_table_at};
+ghost use Rattle.elf_table.specs.Tables.{RowsWithin, StringsWithin};
+ghost use Rattle.elf_scope.specs.Symbols.{AreWords, IsRecordTable, RecordsWithin};
+ghost use Rattle.elf_scope.specs.Versions.{AreInFront, AreVersions, VersionsLie, records_at, words_checks};
+
+use crate::numbers::{SHT_GNU_VERDEF, SHT_GNU_VERNEED, SHT_GNU_VERSYM, VERSION_WORD_BYTES};
+use crate::symbols::{RecordTable, VersionWords};
+use crate::versions::Versions;
+use elf_headers::refused;
+use elf_record::{Cause, VersionKind};
+use elf_table::{Fault, File, Names, Table};
+
+/// The tables of versions of the symbols that the section of a hash table links to: of the first
+/// sections of their types, the words, and where there are such the definitions and the needs.
+///
+/// # Errors
+/// The first check that fails: those of the words, of the definitions, of the needs.
+pub(crate) fn section_versions(file: &File<'_>, link: u32) -> Result<Versions, Fault>
+    requires small { file.now.loaded.size < 2 ^ 63 }
+    ensures held { (bytes : List ℕ) (at : ℕ) → Belongs bytes file.now.loaded file.now.store.now →
+        sh_link bytes at ≡ link → Settles (version_checks bytes at)
+        (AreVersions bytes (section_words bytes)
+        (records_of_type bytes SHT_GNU_VERDEF Definition (records_of_type bytes SHT_GNU_VERNEED NeededFile [])))
+        result }
+    ensures within { IfOk result (VersionsLie file.now.loaded.size) }
+    ensures refusal { IfErr result IsOfCheck }
+{
+    let Some(words) = section_words(file, link)? else {
+        return Ok(Versions {
+            words: None,
+            definitions: None,
+            needs: None,
+        });
+    };
+    let definitions = first_records(file, SHT_GNU_VERDEF, VersionKind::Definition)?;
+    let needs = first_records(file, SHT_GNU_VERNEED, VersionKind::File)?;
+    Ok(Versions {
+        words: Some(words),
+        definitions,
+        needs,
+    })
+}
+
+/// The words of symbols' versions of the first section of such, if there is one.
+///
+/// # Errors
+/// At its header: those of [`File::table`]; `BadLink` where its link is another than `link`.
+fn section_words(file: &File<'_>, link: u32) -> Result<Option<VersionWords>, Fault>
+    ensures held { (bytes : List ℕ) (at : ℕ) → Belongs bytes file.now.loaded file.now.store.now →
+        sh_link bytes at ≡ link →
+        Settles (words_checks bytes at) (AreWords (section_words bytes)) result }
+    ensures within { IfOk result (λ found.
+        IfSome found (λ words. RowsWithin file.now.loaded.size words.words)) }
+    ensures refusal { IfErr result IsOfCheck }
+{
+    let Some(section) = file.first_section(SHT_GNU_VERSYM) else {
+        return Ok(None);
+    };
+    let words = file.table(section, VERSION_WORD_BYTES)?;
+    let head = file.place(section);
+    if file.section(section).sh_link != link {
+        return refused(head, Cause::BadLink);
+    }
+    Ok(Some(VersionWords {
+        words,
+        head,
+        index: section,
+    }))
+}
+
+/// The definitions, or the needs, of the first section of a type, if there is one.
+///
+/// # Errors
+/// Those of [`section_records`].
+fn first_records(
+    file: &File<'_>,
+    sh_type: u32,
+    kind: VersionKind,
+) -> Result<Option<RecordTable>, Fault>
+    requires kind { kind ≡ Need → ⊥ }
+    requires small { file.now.loaded.size < 2 ^ 63 }
+    ensures held { (bytes : List ℕ) → Belongs bytes file.now.loaded file.now.store.now →
+        Settles (checks_of_type bytes sh_type (all_checks version_table bytes))
+        (AreInFront bytes (records_of_type bytes sh_type kind)) result }
+    ensures within { IfOk result (λ found. IfSome found (RecordsWithin file.now.loaded.size)) }
+    ensures refusal { IfErr result IsOfCheck }
+{
+    let Some(section) = file.first_section(sh_type) else {
+        return Ok(None);
+    };
+    let records = section_records(file, section, kind)?;
+    Ok(Some(records))
+}
+
+/// The definitions, or the needs, of a section. One of size 0 is not checked.
+///
+/// # Errors
+/// `TableOutside` at its header where it ends past the end of the file; those of [`File::strings`].
+fn section_records(file: &File<'_>, section: u16, kind: VersionKind) -> Result<RecordTable, Fault>
+    requires below { section < file.now.store.now.loaded }
+    requires kind { kind ≡ Need → ⊥ }
+    requires small { file.now.loaded.size < 2 ^ 63 }
+    ensures held { (bytes : List ℕ) → Belongs bytes file.now.loaded file.now.store.now →
+        Settles (all_checks version_table bytes (section_at bytes section))
+        (IsRecordTable bytes (records_at bytes kind (section_at bytes section))) result }
+    ensures within { IfOk result (RecordsWithin file.now.loaded.size) }
+    ensures refusal { IfErr result IsOfCheck }
+{
+    let header = file.section(section);
+    let head = file.place(section);
+    let table = file.bytes(header.sh_offset, header.sh_size, head)?;
+    let names = record_names(file, section, table)?;
+    Ok(RecordTable {
+        kind,
+        head,
+        table,
+        names,
+    })
+}
+
+/// The string table of the names of records, where there is a byte of them.
+///
+/// # Errors
+/// Those of [`File::strings`].
+fn record_names(file: &File<'_>, section: u16, table: Table) -> Result<Names, Fault>
+    requires below { section < file.now.store.now.loaded }
+    ensures held { (bytes : List ℕ) → Belongs bytes file.now.loaded file.now.store.now →
+        0 < table.count → result ≡ string_table_at bytes (section_at bytes section) }
+    ensures some { IfErr result (λ fault. 0 < table.count) }
+    ensures within { IfOk result (StringsWithin file.now.loaded.size) }
+    ensures refusal { IfErr result IsOfCheck }
+{
+    if table.is_empty() {
+        return Ok(Names::new(table.at(), 0));
+    }
+    file.strings(section)
+}

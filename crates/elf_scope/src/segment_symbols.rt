@@ -1,0 +1,160 @@
+//! The symbols and the tables of versions by the program headers.
+ghost use Rattle.std.specs.Prelude.{◌≡◌, ◌/◌, ◌<◌, ◌≤◌, ◌^◌, ℕ, List, IfOk, IfErr, IfSome, option_map};
+ghost use Rattle.elf_model.specs.LoaderScope.{checks_of_row, records_of_tag, rest_checks, rows_checks, segment_strings, segment_words, tagged_row};
+ghost use Rattle.elf_model.specs.Records.{segment_at};
+ghost use Rattle.elf_model.specs.declared.versions.VersionKind.TheVariants.{Need};
+ghost use Rattle.elf_headers.specs.Faults.{IsOfCheck};
+ghost use Rattle.elf_headers.specs.Load.{Views};
+ghost use Rattle.elf_table.specs.HashSections.{Settles};
+ghost use Rattle.elf_table.specs.Tables.{StringsWithin, strings_in};
+ghost use Rattle.elf_scope.specs.Entries.{AreEntries, entry_at};
+ghost use Rattle.elf_scope.specs.Segments.{AreRowsSymbols, TellSymbols, rows_records, version_rows};
+ghost use Rattle.elf_scope.specs.Symbols.{RecordsWithin, SymbolsLie};
+ghost use Rattle.elf_scope.specs.Versions.{AreInFront, AreVersions, VersionsLie};
+
+use crate::entry::{Entries, Entry};
+use crate::numbers::VERSION_WORD_BYTES;
+use crate::symbols::{RecordTable, Symbols, VersionWords};
+use crate::versions::Versions;
+use elf_headers::refused;
+use elf_record::sizes::SYMBOL_BYTES;
+use elf_record::{Cause, VersionKind};
+use elf_table::{Fault, Names, SegmentView, Table};
+
+/// The symbols that the entries of a segment tell of, with their names and versions. `row` is the
+/// file offset of the entry of the hash table.
+///
+/// # Errors
+/// The first that fails: `Unmapped` at `row` where no entry tells of the symbols, of their strings or
+/// of the size of these; those of [`SegmentView::rest`] for the symbols and of
+/// [`SegmentView::mapped`]; those of the tables of versions.
+pub(crate) fn segment_symbols(
+    view: &SegmentView<'_>,
+    segment: u16,
+    found: &Entries,
+    row: u64,
+) -> Result<Symbols, Fault>
+    requires small { view.now.loaded.size < 2 ^ 63 }
+    ensures held { (bytes : List ℕ) (at : ℕ) → Views bytes view.now.loaded view.now.store.now →
+        AreEntries bytes at found.now →
+        Settles (rows_checks bytes at row) (AreRowsSymbols bytes segment at) result }
+    ensures within { IfOk result (SymbolsLie view.now.loaded.size) }
+    ensures refusal { IfErr result IsOfCheck }
+{
+    let Some((symtab, strtab, strsz)) = symbol_entries(found) else {
+        return refused(row, Cause::Unmapped);
+    };
+    let rest = view.rest(symtab.value, symtab.at)?;
+    let names = view.mapped(strtab.value, strsz.value, strtab.at)?;
+    let versions = segment_versions(view, segment, found, names)?;
+    Ok(Symbols {
+        index: segment,
+        table: rows_in(rest, SYMBOL_BYTES),
+        names,
+        words: versions.words,
+        definitions: versions.definitions,
+        needs: versions.needs,
+    })
+}
+
+/// The entries that tell of symbols, of their strings and of the size of these.
+fn symbol_entries(found: &Entries) -> Option<(Entry, Entry, Entry)>
+    ensures { TellSymbols found.now result }
+{
+    let Some(symtab) = found.symtab else {
+        return None;
+    };
+    let Some(strtab) = found.strtab else {
+        return None;
+    };
+    let Some(strsz) = found.strsz else {
+        return None;
+    };
+    Some((symtab, strtab, strsz))
+}
+
+/// As many rows of `entry` bytes as single bytes have room for.
+fn rows_in(bytes: Table, entry: u64) -> Table
+    requires bytes { bytes.entry ≡ 1 }
+    requires entry { (0 < entry) × (entry ≤ 4096) }
+    ensures { result ≡ record { at = bytes.at; count = bytes.count / entry; entry = entry } }
+{
+    let _ = bytes.entry();
+    Table::new(bytes.at(), bytes.len() / entry, entry)
+}
+
+/// The tables of versions that the entries of a segment tell of, whose names are the symbols'
+/// strings.
+///
+/// # Errors
+/// Those of [`SegmentView::rest`] for the words, for the definitions and for the needs.
+fn segment_versions(
+    view: &SegmentView<'_>,
+    segment: u16,
+    found: &Entries,
+    names: Names,
+) -> Result<Versions, Fault>
+    requires small { view.now.loaded.size < 2 ^ 63 }
+    requires names { StringsWithin view.now.loaded.size names }
+    ensures held { (bytes : List ℕ) (at : ℕ) → Views bytes view.now.loaded view.now.store.now →
+        AreEntries bytes at found.now → strings_in bytes names ≡ segment_strings bytes at →
+        Settles (version_rows bytes at)
+        (AreVersions bytes (segment_words bytes segment at) (rows_records bytes at)) result }
+    ensures within { IfOk result (VersionsLie view.now.loaded.size) }
+    ensures refusal { IfErr result IsOfCheck }
+{
+    let Some(entry) = found.versym else {
+        return Ok(Versions {
+            words: None,
+            definitions: None,
+            needs: None,
+        });
+    };
+    let rest = view.rest(entry.value, entry.at)?;
+    let definitions = segment_records(view, found.verdef, VersionKind::Definition, names)?;
+    let needs = segment_records(view, found.verneed, VersionKind::File, names)?;
+    let words = VersionWords {
+        words: rows_in(rest, VERSION_WORD_BYTES),
+        head: entry.at,
+        index: segment,
+    };
+    Ok(Versions {
+        words: Some(words),
+        definitions,
+        needs,
+    })
+}
+
+/// The definitions, or the needs, that an entry tells of, if there is one.
+///
+/// # Errors
+/// Those of [`SegmentView::rest`].
+fn segment_records(
+    view: &SegmentView<'_>,
+    entry: Option<Entry>,
+    kind: VersionKind,
+    names: Names,
+) -> Result<Option<RecordTable>, Fault>
+    requires kind { kind ≡ Need → ⊥ }
+    requires small { view.now.loaded.size < 2 ^ 63 }
+    requires names { StringsWithin view.now.loaded.size names }
+    ensures held { (bytes : List ℕ) (at tag : ℕ) →
+        Views bytes view.now.loaded view.now.store.now →
+        entry ≡ option_map (entry_at bytes) (tagged_row bytes at tag) →
+        strings_in bytes names ≡ segment_strings bytes at →
+        Settles (checks_of_row (tagged_row bytes at tag) (rest_checks bytes))
+        (AreInFront bytes (records_of_tag bytes at tag kind)) result }
+    ensures within { IfOk result (λ found. IfSome found (RecordsWithin view.now.loaded.size)) }
+    ensures refusal { IfErr result IsOfCheck }
+{
+    let Some(entry) = entry else {
+        return Ok(None);
+    };
+    let table = view.rest(entry.value, entry.at)?;
+    Ok(Some(RecordTable {
+        kind,
+        head: entry.at,
+        table,
+        names,
+    }))
+}

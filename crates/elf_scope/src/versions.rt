@@ -1,0 +1,15 @@
+//! The tables of versions of symbols.
+ghost use Rattle.std.specs.Prelude.{◌≡◌};
+
+use crate::symbols::{RecordTable, VersionWords};
+
+/// The tables of the versions of symbols.
+#[derive(Clone, Copy)]
+pub(crate) struct Versions {
+    /// The words of the symbols' versions, if there are such.
+    pub words: Option<VersionWords>,
+    /// The definitions, where there are words and definitions.
+    pub definitions: Option<RecordTable>,
+    /// The needs, where there are words and needs.
+    pub needs: Option<RecordTable>,
+}

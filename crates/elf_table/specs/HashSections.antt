@@ -1,0 +1,34 @@
+-- What a section that is a hash table refers to, once its checks pass.
+use Rattle.std.specs.Prelude.{ℕ, ◌≡◌, ◌+◌, ◌≤◌, nat_lt, not, Bool, true, List, [], ◌∷◌, None, Result, Ok, Err}
+use Rattle.elf_model.specs.Checks.{Check, refuse, first_refusal, is_outside}
+use Rattle.elf_model.specs.Records.{sh_link}
+use Rattle.elf_model.specs.Tables.{linked_at}
+use Rattle.elf_model.specs.declared.causes.Cause.TheVariants.{BadLink, HashShape, TableOutside}
+use Rattle.elf_record.specs.declared.shdr.Shdr.{Shdr}
+use Rattle.elf_table.specs.Relocations.{AreSymbols, RefusedBy}
+use Rattle.elf_table.specs.Tables.{Rows, Strings}
+use Rattle.elf_headers.specs.declared.fault.Fault.{Fault}
+
+-- A VALUE BEHIND CHECKS: they pass, and the value is so; or the fault is the first of them that fails
+abbrev pub Settles : {A : Type 0} → List Check → (A → Type 0) → Result A Fault → Type 0
+Settles checks Is (Ok value) = (first_refusal checks ≡ None) × Is value
+Settles checks Is (Err fault) = RefusedBy checks fault
+
+-- the index of a section of symbols, the symbols, and the string table of their names
+pub record AreHashed (file : List ℕ) (at : ℕ) (found : ℕ × (Rows × Strings)) : Type 0 where
+  pub link : found.0 ≡ sh_link file at
+  pub symbols : AreSymbols file (linked_at file at) found.1
+
+-- the checks of a hash table's own header, in a file of so many bytes, where it links to symbols or not
+abbrev pub front_checks : ℕ → ℕ → ℕ → Shdr → Bool → List Check
+front_checks least at size header linked =
+    refuse (is_outside size header.sh_offset header.sh_size) at TableOutside
+    ∷ refuse (nat_lt header.sh_size least) at HashShape
+    ∷ refuse (not linked) at BadLink
+    ∷ []
+
+-- what those checks leave
+pub record PassesFront (least size : ℕ) (header : Shdr) (linked : Bool) : Type 0 where
+  pub inside : header.sh_offset + header.sh_size ≤ size
+  pub room : least ≤ header.sh_size
+  pub links : linked ≡ true

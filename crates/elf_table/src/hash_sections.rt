@@ -1,0 +1,108 @@
+//! The sections of one type, and the checks of one that is a hash table.
+ghost use Rattle.std.specs.Prelude.{◌≡◌, ◌+◌, ◌^◌, ◌<◌, ◌≤◌, ◌==◌, ◌||◌, not, ℕ, List};
+ghost use Rattle.std.specs.Prelude.{IfOk, IfErr, IfSome, IsTrue, MatchOption};
+ghost use Rattle.elf_model.specs.Checks.{first_refusal};
+ghost use Rattle.elf_model.specs.Find.{hash_checks_from};
+ghost use Rattle.elf_model.specs.Records.{section_at, sh_link, sh_offset, sh_size};
+ghost use Rattle.elf_model.specs.Tables.{has_symbols};
+ghost use Rattle.elf_model.specs.VersionRows.{first_of_type};
+ghost use Rattle.elf_record.specs.Shdr.{IsShdr};
+ghost use Rattle.elf_headers.specs.Faults.{IsOfCheck};
+ghost use Rattle.elf_headers.specs.Load.{Belongs};
+ghost use Rattle.elf_headers.specs.Store.{row};
+ghost use Rattle.elf_table.specs.HashSections.{AreHashed, PassesFront, Settles, front_checks};
+ghost use Rattle.elf_table.specs.Tables.{SymbolsWithin};
+
+use crate::checks::holds_symbols;
+use crate::file::File;
+use crate::names::Names;
+use crate::table::Table;
+use elf_headers::{Fault, ends_outside};
+use elf_record::{Cause, Refusal, Shdr};
+
+impl File<'_> {
+    /// The index of the first section of a type, if there is one (gABI 4, Section Header).
+    pub fn first_section(&self, sh_type: u32) -> Option<u16>
+        ensures below { IfSome result (λ section. section < self.now.store.now.loaded) }
+        ensures first { (bytes : List ℕ) → Belongs bytes self.now.loaded self.now.store.now →
+            result ≡ first_of_type bytes sh_type }
+    {
+        for section in 0..self.sections() {
+            if self.section(section).sh_type == sh_type {
+                return Some(section);
+            }
+        }
+        None
+    }
+
+    /// The index of the section of symbols that a section with a hash table refers to, the symbols,
+    /// rows of 24 bytes, and the string table with their names. The hash table's section has `least`
+    /// bytes at least; its type is not looked at. No bytes are read (gABI 5, Hash Table).
+    ///
+    /// # Errors
+    /// The first check that fails, at the section's header: `TableOutside` where it ends past the
+    /// end of the file, at every size; `HashShape` where it has fewer bytes; `BadLink` where its
+    /// link is 0 or names no section of symbols. Then those of [`File::symbols`] at the linked
+    /// section.
+    pub fn hashed(&self, section: u16, least: u64) -> Result<(u16, (Table, Names)), Fault>
+        requires { section < self.now.store.now.loaded }
+        ensures held { (bytes : List ℕ) → Belongs bytes self.now.loaded self.now.store.now →
+            Settles (hash_checks_from least bytes (section_at bytes section))
+            (AreHashed bytes (section_at bytes section)) result }
+        ensures within { IfOk result (λ found. SymbolsWithin self.now.loaded.size found.1) }
+        ensures inside { IfOk result (λ found.
+            sh_offset (row self.now.store.now section) 0
+            + sh_size (row self.now.store.now section) 0 ≤ self.now.loaded.size) }
+        ensures room { IfOk result (λ found. least ≤ sh_size (row self.now.store.now section) 0) }
+        ensures refusal { IfErr result IsOfCheck }
+    {
+        let header = self.section(section);
+        let place = self.place(section);
+        let linked = links_to_symbols(self, &header);
+        if let Some(refusal) = refused_front(&header, place, self.loaded.size(), linked, least) {
+            return Err(Fault::Refused(refusal));
+        }
+        let link = header.sh_link as u16;
+        let symbols = self.symbols(link)?;
+        Ok((link, symbols))
+    }
+}
+
+// The first check of the section's header that fails.
+fn refused_front(header: &Shdr, place: u64, size: u64, linked: bool, least: u64) -> Option<Refusal>
+    ensures refusal { result ≡ first_refusal (front_checks least place size header.now linked) }
+    ensures passes { MatchOption result (PassesFront least size header.now linked)
+        (λ _. Unit {0}) }
+{
+    if ends_outside(size, header.sh_offset, header.sh_size) {
+        return Some(Refusal {
+            at: place,
+            cause: Cause::TableOutside,
+        });
+    }
+    if header.sh_size < least {
+        return Some(Refusal {
+            at: place,
+            cause: Cause::HashShape,
+        });
+    }
+    if !linked {
+        return Some(Refusal {
+            at: place,
+            cause: Cause::BadLink,
+        });
+    }
+    None
+}
+
+// Whether a section links to a section of symbols, which is not the first.
+fn links_to_symbols(file: &File<'_>, header: &Shdr) -> bool
+    ensures below { IsTrue result → header.now.sh_link < file.now.store.now.loaded }
+    ensures small { IsTrue result → header.now.sh_link < 2 ^ 16 }
+    ensures is { (bytes : List ℕ) (at : ℕ) → Belongs bytes file.now.loaded file.now.store.now →
+        IsShdr bytes at header.now →
+        result ≡ not (sh_link bytes at == 0 || not (has_symbols bytes at)) }
+{
+    let link = header.sh_link;
+    link != 0 && link < u32::from(file.sections()) && holds_symbols(&file.section(link as u16))
+}
