@@ -18,7 +18,9 @@ use Rattle.elf_table.specs.Tables.{strings_in}
 use Rattle.elf_scope.specs.Symbols.{AreWords, IsSymbols}
 use Rattle.elf_scope.specs.declared.symbols.Symbols.{Symbols}
 use Rattle.elf_scope.specs.declared.symbols.VersionWords.{VersionWords}
-use Rattle.elf_loader.specs.Answering.{TellsAnswer, TellsFit}
+use Rattle.elf_hash.specs.Trials.{Tries}
+use Rattle.elf_hash.specs.declared.answer.Answer.{Answer}
+use Rattle.elf_loader.specs.Answering.{SaysOf, StandsAs, TellsAnswer, TellsFit}
 
 -- without words each version fits
 pub fits-none :
@@ -101,3 +103,13 @@ module _ (file : List ℕ) (told : AreSymbolsOf) (symbols : Symbols) (wanted : W
 pub fault-tells : (file : List ℕ) (symbols : Symbols) (words : Option VersionWords) (index : ℕ) (says version : Result Bool Refusal) (fault : Fault) → says ≡ version → TellsFit file words index version (Err fault) → TellsAnswer file symbols index says (Err fault)
 fault-tells file symbols words index says version (Refused refusal) e tells = λ other. e ∙ tells other
 fault-tells file symbols words index says version (Source fault at) e tells = tt
+
+-- what is told of a symbol is what the trial tells
+pub tries-as :
+    (file : List ℕ) (symbols : Symbols) (wanted : Wanted) (is_wanted : ℕ → Bool) (says : ℕ → Result Bool Refusal) (index : ℕ) (result : Result (Option Answer) Fault)
+    → (is : SaysOf file symbols wanted is_wanted says) → TellsAnswer file symbols index (answers file is.told wanted is_wanted index) result
+    → Tries (StandsAs file symbols) says index result
+tries-as file symbols wanted is_wanted says index (Ok (Some answer)) is tells = (ap (λ (s : ℕ → Result Bool Refusal). s index) is.says_so ∙ tells.0, tells.1)
+tries-as file symbols wanted is_wanted says index (Ok None) is tells = ap (λ (s : ℕ → Result Bool Refusal). s index) is.says_so ∙ tells
+tries-as file symbols wanted is_wanted says index (Err (Refused refusal)) is tells = λ other. ap (λ (s : ℕ → Result Bool Refusal). s index) is.says_so ∙ tells other
+tries-as file symbols wanted is_wanted says index (Err (Source fault at)) is tells = tt

@@ -4,10 +4,12 @@ use Rattle.elf_model.specs.Budget.{IsBudget}
 use Rattle.elf_model.specs.declared.causes.Refusal.{Refusal}
 use Rattle.elf_record.specs.Sym.{IsSym}
 use Rattle.elf_model.specs.Bytes.{field}
+use Rattle.elf_model.specs.Loader.{Symbols as AreSymbolsOf, Wanted, answers}
+use Rattle.elf_scope.specs.Symbols.{IsSymbols}
 use Rattle.elf_table.specs.Cursors.{row_at}
 use Rattle.elf_scope.specs.declared.symbols.Symbols.{Symbols}
 use Rattle.elf_scope.specs.declared.symbols.VersionWords.{VersionWords}
-use Rattle.elf_loader.specs.declared.answering.Answer.{Answer}
+use Rattle.elf_hash.specs.declared.answer.Answer.{Answer}
 use Rattle.elf_loader.specs.declared.fitting.Fit.{Fit}
 use Rattle.elf_headers.specs.declared.fault.Fault.{Fault}
 use Rattle.elf_headers.specs.declared.fault.Fault.TheVariants.{Refused, Source}
@@ -35,3 +37,9 @@ TellsAnswer file symbols index says (Ok (Some answer)) = (says ≡ Ok true) × S
 TellsAnswer file symbols index says (Ok None) = says ≡ Ok false
 TellsAnswer file symbols index says (Err (Refused refusal)) = (IsBudget refusal → ⊥) → says ≡ Err refusal
 TellsAnswer file symbols index says (Err (Source fault at)) = Unit {0}
+
+-- it is the trial of the symbols of a file: of each it says whether it answers what is wanted
+pub record SaysOf (file : List ℕ) (symbols : Symbols) (wanted : Wanted) (is_wanted : ℕ → Bool) (says : ℕ → Result Bool Refusal) : Type 0 where
+  pub told : AreSymbolsOf
+  pub are : IsSymbols file told symbols
+  pub says_so : says ≡ answers file told wanted is_wanted

@@ -1,7 +1,7 @@
 //! Which symbols answer.
 ghost use Rattle.std.specs.Prelude.{◌≡◌, ◌+◌, ◌<◌, ◌≤◌, length};
 ghost use Rattle.elf_headers.specs.Ledger.{Did, why_stopped};
-ghost use Rattle.elf_loader.specs.Answering.{TellsAnswer};
+ghost use Rattle.elf_loader.specs.Answering.{SaysOf, StandsAs, TellsAnswer};
 ghost use Rattle.elf_loader.specs.NumberSets.{has};
 ghost use Rattle.elf_loader.specs.Wants.{the_wanted};
 ghost use Rattle.elf_model.specs.Loader.{Symbols as AreSymbolsOf, answers};
@@ -12,29 +12,50 @@ use crate::fitting::version_fits;
 use crate::number_set::NumberSet;
 use crate::offered::is_offered;
 use crate::wanted::Wanted;
+use elf_hash::{Answer, Trial};
 use elf_headers::Fault;
-use elf_record::Sym;
 use elf_scope::Symbols;
 use elf_source::{Counted, Source};
 
-/// A symbol that answers, with the word of its version, where there are words of versions.
+/// The trial of symbols by what is wanted of them, where the numbers of the version by its name are
+/// told.
 #[derive(Clone, Copy)]
-pub(crate) struct Answer {
-    /// The symbol.
-    pub(crate) symbol: Sym,
-    /// The word.
-    pub(crate) version: Option<u16>,
+pub(crate) struct WantedTrial<'a> {
+    /// The symbols.
+    pub(crate) symbols: &'a Symbols,
+    /// What is wanted.
+    pub(crate) wanted: &'a Wanted<'a>,
+    /// The numbers of the wanted version.
+    pub(crate) numbers: &'a NumberSet,
 }
 
-/// The symbol of an index, if it answers: it has the wanted name, it is offered, and its version
-/// fits, where the numbers of the version by its name are told. It asks for the symbol, for its name
-/// and for the word of its version.
-///
-/// # Errors
-/// A refusal of the symbol's name, as [`elf_table::Names::equals`] has it, at the symbol;
-/// `VersionCut` at what tells of the words of versions where the symbol has none. Else a fault of a
-/// read.
-pub(crate) fn answering<S: Source>(
+impl<'a> Trial for WantedTrial<'a> {
+    ghost symbols = { λ t. t.symbols.now.table.count };
+
+    ghost cost = { λ t. 26 + pad64 (length t.wanted.now.name.now + 1) };
+
+    ghost stands = { λ t file. StandsAs file t.symbols.now };
+
+    ghost lies = { λ t size.
+        SymbolsLie size t.symbols.now × (length t.wanted.now.name.now ≤ 4096) };
+
+    ghost is_of = { λ t file says.
+        SaysOf file t.symbols.now (the_wanted t.wanted.now) (has t.numbers.now) says };
+
+    fn tried<S: Source>(&self, src: &mut Counted<S>, index: u64) -> Result<Option<Answer>, Fault> {
+        answering(src, self.symbols, self.wanted, self.numbers, index)
+    }
+}
+
+// The symbol of an index, if it answers: it has the wanted name, it is offered, and its version
+// fits, where the numbers of the version by its name are told. It asks for the symbol, for its name
+// and for the word of its version.
+//
+// # Errors
+// A refusal of the symbol's name, as [`elf_table::Names::equals`] has it, at the symbol;
+// `VersionCut` at what tells of the words of versions where the symbol has none. Else a fault of a
+// read.
+fn answering<S: Source>(
     src: &mut Counted<S>,
     symbols: &Symbols,
     wanted: &Wanted<'_>,
