@@ -1,4 +1,8 @@
 pub mod ChecksLaws
-pub mod CostLaws
 pub mod FindLaws
-pub mod StepLaws
+pub mod GnuSteps
+pub mod LookupLaws
+pub mod NamedLaws
+pub mod ScopeLaws
+pub mod SysvSteps
+pub mod WalkLaws

@@ -1,2 +1,7 @@
+pub mod Counts
+pub mod Kinds
 pub mod Lookups
+pub mod Scopes
 pub mod Tables
+pub mod Trials
+pub mod Walks

@@ -1,21 +1,20 @@
 -- What a lookup answers, and what it asks for.
-use Rattle.std.specs.Prelude.{ℕ, ◌≡◌, ◌+◌, ◌*◌, ◌/◌, true, false, List, Option, None, Some, Result, Ok, Err}
+use Rattle.std.specs.Prelude.{ℕ, ◌≡◌, ◌+◌, ◌*◌, ◌/◌, List, None, Some, Result, Ok, Err}
 use Rattle.elf_model.specs.Budget.{IsBudget}
 use Rattle.elf_model.specs.Checks.{first_refusal, header_checks, load_checks}
 use Rattle.elf_model.specs.Find.{find_cost, first_hash, looked, looked_in}
-use Rattle.elf_model.specs.Hash.{Lookup as Looked, Found as IsFound, Absent as IsAbsent, Refused as IsRefused, refused_after, same_symbol, symbol_at}
+use Rattle.elf_model.specs.Hash.{Lookup as Looked, Found as IsFound, Absent as IsAbsent, Refused as IsRefused, refused_after}
 use Rattle.elf_model.specs.Names.{pad64}
 use Rattle.elf_model.specs.Records.{section_at}
-use Rattle.elf_model.specs.Tables.{linked_at}
 use Rattle.elf_model.specs.declared.causes.Cause.TheVariants.{NoHash}
 use Rattle.elf_record.specs.Sym.{IsSym}
-use Rattle.elf_record.specs.declared.sym.Sym.{Sym}
 use Rattle.elf_source.specs.Source.{Counting}
 use Rattle.elf_headers.specs.declared.fault.Fault.{Fault}
 use Rattle.elf_headers.specs.declared.fault.Fault.TheVariants.{Refused, Source}
 use Rattle.elf_headers.specs.Ledger.{Charges, why_stopped}
 use Rattle.elf_hash.specs.declared.lookup.Lookup.{Lookup}
 use Rattle.elf_hash.specs.declared.lookup.Lookup.TheVariants.{Found, Absent}
+use Rattle.elf_hash.specs.declared.walked.Walked.{Walked}
 
 -- how many steps an answer tells of
 abbrev pub steps_of : Lookup → ℕ
@@ -29,10 +28,6 @@ symbol_bytes length = 24 + pad64 (length + 1)
 -- the same with the word behind it in its chain
 abbrev pub step_bytes : ℕ → ℕ
 step_bytes length = 28 + pad64 (length + 1)
-
--- a walk of so many steps: the bucket's word, and the steps
-abbrev pub walk_bytes : ℕ → ℕ → ℕ
-walk_bytes steps length = 4 + steps * step_bytes length
 
 -- what stands behind the section headers: the two counts, and a walk of so many steps
 abbrev pub behind_bytes : ℕ → ℕ → ℕ
@@ -61,16 +56,6 @@ pub record Looks (file : List ℕ) (looked : Looked) (old new : Counting) (resul
   pub costs : Charges old new (why_stopped result) (few + looked.compared * step_bytes length)
   pub finds : Walks file looked result
 
--- a symbol's name is compared: the symbol where it is the wanted one, nothing where it is another, or a refusal at the symbol
-abbrev pub Compares : List ℕ → ℕ → List ℕ → ℕ → Result (Option Sym) Fault → Type 0
-Compares file at wanted index (Ok (Some symbol)) =
-    (same_symbol file (linked_at file at) wanted index ≡ Ok true) × IsSym file (symbol_at file (linked_at file at) index) symbol
-Compares file at wanted index (Ok None) = same_symbol file (linked_at file at) wanted index ≡ Ok false
-Compares file at wanted index (Err (Refused refusal)) =
-    (IsBudget refusal → ⊥)
-    → (refusal.at ≡ symbol_at file (linked_at file at) index) × (same_symbol file (linked_at file at) wanted index ≡ Err refusal.cause)
-Compares file at wanted index (Err (Source fault offset)) = Unit {0}
-
 -- the checks of the file pass
 pub record Passed (file : List ℕ) (headers : ℕ) : Type 0 where
   pub header : first_refusal (header_checks file) ≡ None
@@ -87,3 +72,7 @@ looked_behind file wanted = elim (first_hash file) [
 pub record Finds (file : List ℕ) (headers : ℕ) (wanted : List ℕ) (old new : Counting) (result : Result Lookup Fault) : Type 0 where
   pub costs : Charges old new (why_stopped result) (find_cost file headers wanted)
   pub finds : Walks file (looked file headers wanted) result
+
+-- the answer to a walk's: the symbol that is found, in the section of an index, and how many symbols are tried
+abbrev pub lookup_in : (section : ℕ) → Walked → Lookup
+lookup_in section w = elim w.found [ None ↦ Absent w.tried | Some found ↦ Found section found.index found.answer.symbol w.tried ]

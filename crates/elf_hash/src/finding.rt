@@ -1,12 +1,25 @@
 //! The call that looks a name up.
-ghost use Rattle.std.specs.Prelude.{◌≡◌, ◌/◌, ◌≤◌, length, IfOk};
+ghost use Rattle.std.specs.Prelude.{◌≡◌, ℕ, ◌+◌, ◌*◌, ◌/◌, ◌≤◌, length, IfOk};
 ghost use Rattle.elf_headers.specs.Ledger.{Did, why_stopped};
-ghost use Rattle.elf_hash.specs.Lookups.{Finds, Looks, behind_bytes, find_bytes, looked_behind, steps_of};
+ghost use Rattle.elf_hash.specs.Lookups.{Finds, Looks, behind_bytes, find_bytes, lookup_in, looked_behind, step_bytes, steps_of};
+ghost use Rattle.elf_hash.specs.Counts.{IsSysv};
+ghost use Rattle.elf_hash.specs.Tables.{IsPlaceOf, IsSection, Lies};
+ghost use Rattle.elf_hash.specs.Walks.{IsShort};
+ghost use Rattle.elf_model.specs.Hash.{looked_up};
+ghost use Rattle.elf_model.specs.SysvWalk.{section_table_of};
 ghost use Rattle.elf_headers.specs.Load.{Belongs};
 
 use crate::checks::{checked, first_hash};
+use crate::counting::sysv_counts;
+use crate::hash_section::HashSection;
+use crate::hashing::sysv_hash;
+use crate::kind::HashKind;
 use crate::lookup::Lookup;
-use crate::walk::{counted, walk};
+use crate::named::Named;
+use crate::place::HashPlace;
+use crate::sysv_table::SysvTable;
+use crate::sysv_walk::sysv_walk;
+use crate::walked::Walked;
 use elf_headers::{Fault, HeaderStore, header, load, refused};
 use elf_record::Cause;
 use elf_source::{Counted, Source};
@@ -59,6 +72,65 @@ fn find_in<S: Source>(src: &mut Counted<S>, file: &File<'_>, wanted: &[u8]) -> R
         return refused(0x28, Cause::NoHash);
     };
     let section = checked(file, section)?;
-    let table = counted(src, &section)?;
-    walk(src, &table, wanted)
+    let table = sysv_counts(src, &place_of(&section))?;
+    look_up(src, &section, &table, wanted)
+}
+
+/// The place of the table in a section.
+fn place_of(section: &HashSection) -> HashPlace
+    ensures { IsPlaceOf section.now result }
+{
+    HashPlace {
+        kind: HashKind::Sysv,
+        head: section.place,
+        at: section.at,
+        size: section.size,
+        symbols: section.symbols.len(),
+    }
+}
+
+/// Goes along the chain of the wanted name in a section's table.
+///
+/// # Errors
+/// Those of [`sysv_walk`]; a symbol cannot be tried where its name has a fault.
+fn look_up<S: Source>(
+    src: &mut Counted<S>,
+    section: &HashSection,
+    table: &SysvTable,
+    wanted: &[u8],
+) -> Result<Lookup, Fault>
+    requires most { length wanted.now ≤ 4096 }
+    requires lies { Lies src.old.seen.size section.now }
+    requires place { IsPlaceOf section.now table.now.place }
+    ensures did { Did src.old src.new (why_stopped result)
+        (4 + table.now.nchain * step_bytes (length wanted.now))
+        (λ file. (at : ℕ) → IsSection file at section.now →
+        IsSysv file (section_table_of file at) table.now →
+        Looks file (looked_up file at wanted.now) src.old src.new result 4 (length wanted.now)) }
+    ensures steps { IfOk result (λ lookup. steps_of lookup ≤ table.now.nchain) }
+{
+    let trial = Named {
+        symbols: section.symbols,
+        names: section.names,
+        wanted,
+    };
+    let walked = sysv_walk(src, table, sysv_hash(wanted), &trial)?;
+    Ok(answer_of(section.link, &walked, table.nchain))
+}
+
+/// What is answered by a walk in a table of so many chains.
+fn answer_of(link: u16, walked: &Walked, chains: u32) -> Lookup
+    requires short { IsShort chains walked.now }
+    ensures { result ≡ lookup_in link walked.now }
+{
+    let steps = walked.tried as u32;
+    match walked.found {
+        None => Lookup::Absent { steps },
+        Some(found) => Lookup::Found {
+            section: link,
+            index: found.index as u32,
+            symbol: found.answer.symbol,
+            steps,
+        },
+    }
 }

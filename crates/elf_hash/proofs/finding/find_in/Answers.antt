@@ -1,11 +1,10 @@
 -- What each stage finds and asks for is what the lookup does.
-use Rattle.std.proofs.Common.{◌≡◌, ◌/◌, ◌≤◌, None, length, refl, ap, sym, ◌∙◌, arith}
+use Rattle.std.proofs.Common.{◌≡◌, ◌/◌, ◌≤◌, None, length, refl, ap, sym, ◌∙◌, arith, mul-le-mul_right}
 use Rattle.std.proofs.lemmas.Result.{err_from_is_err_and}
 use Rattle.elf_model.specs.Find.{first_hash}
-use Rattle.elf_hash.specs.Lookups.{looked_behind}
-use Rattle.elf_hash.specs.declared.hash_section.HashSection.{HashSection}
-use Rattle.elf_hash.proofs.CostLaws.{walk_less}
-use Rattle.elf_hash.proofs.FindLaws.{finds_checks, finds_counts, looked_there, not_some}
+use Rattle.elf_hash.specs.Lookups.{looked_behind, step_bytes}
+use Rattle.elf_hash.specs.declared.place.HashPlace.{HashPlace}
+use Rattle.elf_hash.proofs.FindLaws.{finds_checks, finds_counts, looked_there, not_some, place_is_of}
 use Rattle.elf_headers.proofs.LedgerLaws.{Charges-then, Did-as, Did-none, Did-stop, Did-then}
 use Rattle.elf_hash.proofs.finding.find_in.Goals as goal
 
@@ -33,19 +32,21 @@ returns-in_err-table-clause-did g c =
     (Did-as _ (omega arith) c.in_err-table.ensures.did
     (λ file counts costs belongs.
     let checks = c.in_ok-section.ensures.checked file belongs in
+    let place = place_is_of file _ _ _ checks.1 c.place_of.ensures in
     rw (sym (c.first_hash.ensures.first file belongs) ∙ c.in-Some.is, looked_behind)
-    (record { costs = costs _ (omega arith); finds = finds_counts file _ c.args.wanted.now _ checks.0 (counts _ checks.1) })))
+    (record { costs = costs _ (omega arith); finds = finds_counts file _ c.args.wanted.now _ checks.0 (c.place_of.ensures.head ∙ checks.1.place) (counts _ place) })))
 
 pub returns-clause-did : goal.returns-clause-did
 returns-clause-did g c =
-    let section = ap (λ (s : HashSection). s.size) c.in_ok-table.ensures.same in
+    let place = c.in_ok-table.ensures.same in
+    let size = ap (λ (p : HashPlace). p.size) place in
     let few : c.in_ok-table.table.nchain ≤ c.args.src.now.seen.size / 4 =
-    omega (arith, section, c.in_ok-table.table.fits, c.in_ok-section.ensures.lies.words, c.requires.size) in
-    let less = walk_less _ _ (length c.args.wanted.now) few in
-    Did-as _ (omega (arith, less)) (Did-then c.in_ok-table.ensures.did c.walk.ensures.did)
+    omega (arith, size, c.place_of.ensures.size, c.in_ok-table.table.fits, c.in_ok-section.ensures.lies.words, c.requires.size) in
+    let less = mul-le-mul_right (step_bytes (length c.args.wanted.now)) few in
+    Did-as _ (omega (arith, less)) (Did-then c.in_ok-table.ensures.did c.look_up.ensures.did)
     (λ file told costs belongs.
     let checks = c.in_ok-section.ensures.checked file belongs in
-    let counts = told.0 _ checks.1 in
-    let walked = told.1 _ counts.1 in
+    let counts = told.0 _ (place_is_of file _ _ _ checks.1 c.place_of.ensures) in
+    let walked = told.1 _ checks.1 counts.1 in
     rw (sym (c.first_hash.ensures.first file belongs) ∙ c.in-Some.is, looked_behind) (rw (looked_there file _ c.args.wanted.now checks.0 counts.0)
     (record { costs = Charges-then _ (omega arith) c.in_ok-table.ensures.did.costs walked.costs; finds = walked.finds })))

@@ -1,0 +1,45 @@
+-- The trial of a symbol by its name: where the symbol stands, and what its name is compared with.
+use Rattle.std.proofs.Common.{◌≡◌, ℕ, ◌<◌, Bool, true, false, List, Option, None, Some, Result, Ok, Err, refl, ap, ◌∙◌, arith}
+use Rattle.elf_model.specs.Hash.{same_symbol, symbol_at}
+use Rattle.elf_model.specs.Names.{same}
+use Rattle.elf_model.specs.Records.{st_name}
+use Rattle.elf_model.specs.SysvWalk.{fault_at}
+use Rattle.elf_model.specs.declared.causes.Refusal.{Refusal}
+use Rattle.elf_record.specs.Sym.{IsSym}
+use Rattle.elf_record.specs.declared.sym.Sym.{Sym}
+use Rattle.elf_headers.specs.declared.fault.Fault.{Fault}
+use Rattle.elf_headers.specs.declared.fault.Fault.TheVariants.{Refused, Source}
+use Rattle.elf_table.specs.Cursors.{row_at}
+use Rattle.elf_table.specs.NamesRead.{Compared}
+use Rattle.elf_table.specs.Tables.{Rows, Strings, strings_in}
+use Rattle.elf_hash.specs.declared.answer.Answer.{Answer}
+use Rattle.elf_hash.specs.Trials.{IsNamed, Tries}
+
+-- the symbol, where its name is the wanted one
+abbrev pub picked : Sym → Result Bool Fault → Result (Option Answer) Fault
+picked symbol (Ok true) = Ok (Some (record { symbol = symbol; version = None }))
+picked symbol (Ok false) = Ok None
+picked symbol (Err fault) = Err fault
+
+module _ (file : List ℕ) (symbols : Rows) (names : Strings) (wanted : List ℕ) (says : ℕ → Result Bool Refusal) (is : IsNamed file symbols names wanted says) (index : ℕ) where
+  pub row_is : row_at symbols index ≡ symbol_at file is.table index
+  row_is = rw (is.start, is.entry) (omega arith)
+
+  says_is :
+      (symbol : Sym) (off : ℕ) → index < symbols.count → IsSym file (row_at symbols index) symbol → off ≡ symbol.st_name
+      → says index ≡ fault_at (row_at symbols index) (same (strings_in file names) off wanted)
+  unfolding same_symbol
+  says_is symbol off low stands place =
+      let name : off ≡ st_name file (symbol_at file is.table index) = place ∙ (stands.st_name ∙ ap (st_name file) row_is) in
+      rw (is.strings (omega arith), name, row_is) (ap (λ (f : ℕ → Result Bool Refusal). f index) is.says_so)
+
+  -- what is answered of the symbol by the comparison of its name
+  pub tries :
+      (symbol : Sym) (off place : ℕ) (equal : Result Bool Fault) → index < symbols.count
+      → IsSym file (row_at symbols index) symbol → off ≡ symbol.st_name → place ≡ row_at symbols index
+      → Compared place equal (same (strings_in file names) off wanted) → Tries (λ i answer. IsSym file (row_at symbols i) answer.symbol) says index (picked symbol equal)
+  tries symbol off place (Ok true) low stands name here compared = (says_is symbol off low stands name ∙ rw compared refl, stands)
+  tries symbol off place (Ok false) low stands name here compared = says_is symbol off low stands name ∙ rw compared refl
+  tries symbol off place (Err (Refused refusal)) low stands name here refuses = λ other.
+      let r = refuses other in says_is symbol off low stands name ∙ rw (r.1, r.0, here) refl
+  tries symbol off place (Err (Source fault offset)) low stands name here refuses = tt

@@ -1,0 +1,73 @@
+-- How walks end, and what they ask for by the symbols that are tried and the chain words that are read.
+use Rattle.std.proofs.Common.{◌≡◌, ℕ, suc, ◌+◌, ◌≤◌, Bool, List, Option, Result, Ok, Err, IfSome, ap, ◌∙◌, arith, mul-le-mul_right, suc-mul}
+use Rattle.elf_model.specs.Bytes.{field, slice}
+use Rattle.elf_model.specs.Chains.{Walked as Walk, refused_walk}
+use Rattle.elf_model.specs.declared.causes.Refusal.{Refusal}
+use Rattle.elf_model.proofs.Slices.{field-slice}
+use Rattle.elf_source.specs.Source.{Counting}
+use Rattle.elf_headers.specs.Faults.{IsOfRead}
+use Rattle.elf_headers.specs.Ledger.{Charges, why_stopped}
+use Rattle.elf_headers.specs.declared.fault.Fault.{Fault}
+use Rattle.elf_headers.specs.declared.fault.Fault.TheVariants.{Refused, Source}
+use Rattle.elf_hash.specs.Trials.{Tries}
+use Rattle.elf_hash.specs.Walks.{Gives, Walks, index_of, walk_bytes}
+use Rattle.elf_hash.specs.declared.answer.Answer.{Answer}
+use Rattle.elf_hash.specs.declared.walked.Found.{Found}
+use Rattle.elf_hash.specs.declared.walked.Walked.{Walked}
+
+-- eight bytes that are read
+pub filter_read : (file : List ℕ) (at word : ℕ) (bytes : List ℕ) → word ≡ field bytes 0 8 → bytes ≡ slice file at 8 → word ≡ field file at 8
+filter_read file at word bytes value read =
+    value ∙ ap (λ (b : List ℕ). field b 0 8) read ∙ field-slice file at 8 0 8 (omega arith) ∙ ap (λ (p : ℕ). field file p 8) (omega arith)
+
+-- fewer words and symbols
+pub bytes_most : (few read tried most_read most_tried cost : ℕ) → read ≤ most_read → tried ≤ most_tried
+    → walk_bytes few read tried cost ≤ walk_bytes few most_read most_tried cost
+bytes_most few read tried most_read most_tried cost r t = omega (arith, r, mul-le-mul_right cost t)
+
+-- one symbol more
+pub bytes_tried : (few read tried cost : ℕ) → walk_bytes few read tried cost + cost ≡ walk_bytes few read (suc tried) cost
+bytes_tried few read tried cost = omega (arith, suc-mul tried cost)
+
+-- one step more, in which a symbol is tried and a word is read
+pub bytes_step : (few steps most cost : ℕ) → suc steps ≤ most → walk_bytes few steps steps cost + cost + 4 ≤ walk_bytes few most most cost
+bytes_step few steps most cost one =
+    omega (arith, bytes_tried few steps steps cost, bytes_most few (suc steps) (suc steps) most most cost one one)
+
+module _ (stands : ℕ → Answer → Type 0) (few cost : ℕ) (walk : Walk) where
+  -- how a walk ends that has asked for so many bytes: within what it costs, and with what it gives
+  pub record Meets (spent : ℕ) (result : Result Walked Fault) : Type 0 where
+    pub within : spent ≤ walk_bytes few walk.read walk.tried cost
+    pub gives : Gives stands walk result
+
+  -- and so it does what it does
+  pub walks : {old new : Counting} (spent : ℕ) (result : Result Walked Fault)
+      → ((most : ℕ) → spent ≤ most → Charges old new (why_stopped result) most) → Meets spent result
+      → Walks stands few cost walk old new result
+  walks spent result costs meets = record { costs = costs _ meets.within; gives = meets.gives }
+
+  pub meets_answer : (spent tried read : ℕ) (found : Option Found) → walk ≡ record { answer = Ok (index_of found); tried = tried; read = read }
+      → spent ≤ walk_bytes few read tried cost → IfSome found (λ f. stands f.index f.answer)
+      → Meets spent (Ok (record { found = found; tried = tried; read = read }))
+  meets_answer spent tried read found is within symbol = record { within = rw is within; gives = (is, symbol) }
+
+  pub meets_refusal : (spent tried read : ℕ) (refusal : Refusal) → walk ≡ refused_walk tried read refusal
+      → spent ≤ walk_bytes few read tried cost → Meets spent (Err (Refused refusal))
+  meets_refusal spent tried read refusal is within = record { within = rw is within; gives = λ other. ap (λ (w : Walk). w.answer) is }
+
+  pub meets_fault : (spent tried read : ℕ) (fault : Fault) → IsOfRead fault → tried ≤ walk.tried → read ≤ walk.read
+      → spent ≤ walk_bytes few read tried cost → Meets spent (Err fault)
+  meets_fault spent tried read (Source fault at) of_read t r within =
+      record { within = omega (arith, within, bytes_most few read tried walk.read walk.tried cost r t); gives = tt }
+  meets_fault spent tried read (Refused refusal) of_read t r within =
+      record { within = omega (arith, within, bytes_most few read tried walk.read walk.tried cost r t); gives = λ other. absurd (other of_read) }
+
+  pub meets_untried : (spent tried read index : ℕ) (says : ℕ → Result Bool Refusal) (fault : Fault) → Tries stands says index (Err fault)
+      → ((refusal : Refusal) → says index ≡ Err refusal → walk ≡ refused_walk tried read refusal)
+      → tried ≤ walk.tried → read ≤ walk.read → spent ≤ walk_bytes few read tried cost → Meets spent (Err fault)
+  meets_untried spent tried read index says (Source fault at) tries ends t r within =
+      record { within = omega (arith, within, bytes_most few read tried walk.read walk.tried cost r t); gives = tt }
+  meets_untried spent tried read index says (Refused refusal) tries ends t r within = record {
+    within = omega (arith, within, bytes_most few read tried walk.read walk.tried cost r t);
+    gives = λ other. ap (λ (w : Walk). w.answer) (ends refusal (tries other));
+  }

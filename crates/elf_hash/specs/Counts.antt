@@ -1,0 +1,58 @@
+-- A hash table as the code has it, by its counts, and what it is of a file.
+use Rattle.std.specs.Prelude.{ℕ, ◌≡◌, ◌+◌, ◌*◌, ◌==◌, ◌||◌, nat_lt, not, count_ones, Bool, true, false, List, Result, Ok, Err}
+use Rattle.elf_model.specs.Budget.{IsBudget}
+use Rattle.elf_model.specs.Chains.{HashTable as Table}
+use Rattle.elf_model.specs.GnuHash.{gnu_nbucket, gnu_first, gnu_nbloom, gnu_shift, before_chains}
+use Rattle.elf_model.specs.Hash.{sysv_nbucket, sysv_nchain}
+use Rattle.elf_model.specs.declared.causes.Cause.TheVariants.{HashShape}
+use Rattle.elf_headers.specs.declared.fault.Fault.{Fault}
+use Rattle.elf_headers.specs.declared.fault.Fault.TheVariants.{Refused, Source}
+use Rattle.elf_hash.specs.declared.gnu_table.GnuTable.{GnuTable}
+use Rattle.elf_hash.specs.declared.place.HashPlace.{HashPlace}
+use Rattle.elf_hash.specs.declared.sysv_table.SysvTable.{SysvTable}
+
+-- it is the place of a table
+pub record IsPlace (table : Table) (p : HashPlace) : Type 0 where
+  pub start : p.at ≡ table.place
+  pub size : p.size ≡ table.size
+  pub symbols : p.symbols ≡ table.symbols
+
+-- it is a table of the GNU system in a file, with its counts
+pub record IsGnu (file : List ℕ) (table : Table) (t : GnuTable) : Type 0 where
+  pub place : IsPlace table t.place
+  pub buckets : t.nbucket ≡ gnu_nbucket file table.place
+  pub first : t.first ≡ gnu_first file table.place
+  pub filters : t.nbloom ≡ gnu_nbloom file table.place
+  pub shift : t.shift ≡ gnu_shift file table.place
+
+-- it is a table of the gABI in a file, with its counts
+pub record IsSysv (file : List ℕ) (table : Table) (t : SysvTable) : Type 0 where
+  pub place : IsPlace table t.place
+  pub buckets : t.nbucket ≡ sysv_nbucket file table.place
+  pub chains : t.nchain ≡ sysv_nchain file table.place
+
+-- the counts are no table's of its size
+abbrev pub gnu_misshapen : List ℕ → Table → Bool
+gnu_misshapen file table =
+    (gnu_nbucket file table.place == 0)
+    || not (count_ones (gnu_nbloom file table.place) == 1)
+    || not (nat_lt (gnu_shift file table.place) 32)
+    || nat_lt table.size (before_chains file table.place)
+
+abbrev pub sysv_misshapen : List ℕ → Table → Bool
+sysv_misshapen file table =
+    (sysv_nbucket file table.place == 0) || nat_lt table.size (8 + 4 * sysv_nbucket file table.place + 4 * sysv_nchain file table.place)
+
+-- the counts are a table's, and this is the table; or they are none's, which is refused at an offset
+abbrev pub Counts : {X : Type 0} → (misshapen : Bool) (head : ℕ) (is : X → Type 0) → Result X Fault → Type 0
+Counts misshapen head is (Ok table) = (misshapen ≡ false) × is table
+Counts misshapen head is (Err (Refused refusal)) =
+    (IsBudget refusal → ⊥) → (misshapen ≡ true) × (refusal ≡ record { at = head; cause = HashShape })
+Counts misshapen head is (Err (Source fault at)) = Unit {0}
+
+-- the counts of the table at a place
+abbrev pub HasGnuCounts : List ℕ → Table → HashPlace → Result GnuTable Fault → Type 0
+HasGnuCounts file table p result = IsPlace table p → Counts (gnu_misshapen file table) p.head (IsGnu file table) result
+
+abbrev pub HasSysvCounts : List ℕ → Table → HashPlace → Result SysvTable Fault → Type 0
+HasSysvCounts file table p result = IsPlace table p → Counts (sysv_misshapen file table) p.head (IsSysv file table) result

@@ -1,0 +1,84 @@
+//! A hash table of the GNU system.
+ghost use Rattle.std.specs.Prelude.{◌≡◌, ◌+◌, ◌-◌, ◌*◌, ◌/◌, ◌%◌, ◌<◌, ◌≤◌, ◌&&◌, nat_lt, not, IsTrue};
+
+use crate::place::HashPlace;
+
+/// A hash table of the GNU system whose filter and buckets lie within its bytes: four counts of four
+/// bytes each, the filter's words, eight bytes each, then a word for each bucket and a chain word for
+/// each symbol from the first on that it knows, four bytes each. It holds the counts, as they were
+/// read once, and no other word.
+#[derive(Clone, Copy)]
+pub struct GnuTable {
+    pub(crate) place: HashPlace,
+    pub(crate) nbucket: u32,
+    pub(crate) first: u32,
+    pub(crate) nbloom: u32,
+    pub(crate) shift: u32,
+    pub(crate) ghost some: { 0 < nbucket },
+    pub(crate) ghost filters: { 0 < nbloom },
+    pub(crate) ghost small: { shift < 32 },
+    pub(crate) ghost fits: { 16 + 8 * nbloom + 4 * nbucket ≤ place.size },
+}
+
+impl GnuTable {
+    /// The file offset of the filter's word for a hash.
+    pub(crate) fn filter_at(&self, hash: u32) -> u64
+        ensures value { result ≡ self.now.place.at + (16 + 8 * (hash / 64 % self.now.nbloom)) }
+        ensures inside { result + 8 ≤ self.now.place.at + self.now.place.size }
+    {
+        self.place.at + (16 + 8 * u64::from(hash / 64 % self.nbloom))
+    }
+
+    /// The file offset of the word of a hash's bucket, which is the index of the first symbol.
+    pub(crate) fn bucket_at(&self, hash: u32) -> u64
+        ensures value { result ≡
+            self.now.place.at + (16 + 8 * self.now.nbloom + 4 * (hash % self.now.nbucket)) }
+        ensures inside { result + 4 ≤ self.now.place.at + self.now.place.size }
+    {
+        let bucket = hash % self.nbucket;
+        self.place.at + (16 + 8 * u64::from(self.nbloom) + 4 * u64::from(bucket))
+    }
+
+    /// How many bytes stand before the chain words.
+    pub(crate) fn before_chains(&self) -> u64
+        ensures value { result ≡ 16 + 8 * self.now.nbloom + 4 * self.now.nbucket }
+        ensures fits { result ≤ self.now.place.size }
+    {
+        16 + 8 * u64::from(self.nbloom) + 4 * u64::from(self.nbucket)
+    }
+
+    /// Whether a symbol index is one from the first on and below the number of symbols, and its chain
+    /// word lies within the table.
+    pub(crate) fn has(&self, index: u64) -> bool
+        ensures is { result ≡ (not (nat_lt index self.now.first) && nat_lt index self.now.place.symbols
+            && not (nat_lt self.now.place.size (16 + 8 * self.now.nbloom + 4 * self.now.nbucket
+            + 4 * (index - self.now.first) + 4))) }
+        ensures lies { IsTrue result → (self.now.first ≤ index) × (index < self.now.place.symbols)
+            × (16 + 8 * self.now.nbloom + 4 * self.now.nbucket + 4 * (index - self.now.first) + 4
+            ≤ self.now.place.size) }
+    {
+        let first = u64::from(self.first);
+        index >= first && index < self.place.symbols && self.has_words(index - first)
+    }
+
+    /// Whether the chain word of so many behind the first lies within the table.
+    fn has_words(&self, behind: u64) -> bool
+        ensures is { result ≡ not (nat_lt self.now.place.size
+            (16 + 8 * self.now.nbloom + 4 * self.now.nbucket + 4 * behind + 4)) }
+        ensures lies { IsTrue result →
+            16 + 8 * self.now.nbloom + 4 * self.now.nbucket + 4 * behind + 4 ≤ self.now.place.size }
+    {
+        behind < (self.place.size - self.before_chains()) / 4
+    }
+
+    /// The file offset of the chain word of a symbol.
+    pub(crate) fn chain_at(&self, index: u64) -> u64
+        requires first { self.now.first ≤ index }
+        requires inside { 16 + 8 * self.now.nbloom + 4 * self.now.nbucket + 4 * (index - self.now.first) + 4
+            ≤ self.now.place.size }
+        ensures value { result ≡ self.now.place.at
+            + (16 + 8 * self.now.nbloom + 4 * self.now.nbucket + 4 * (index - self.now.first)) }
+    {
+        self.place.at + (self.before_chains() + 4 * (index - u64::from(self.first)))
+    }
+}

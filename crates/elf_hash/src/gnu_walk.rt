@@ -1,0 +1,172 @@
+//! The walk along a chain of a hash table of the GNU system.
+ghost use Rattle.std.specs.Prelude.{◌≡◌, ℕ, ◌+◌, ◌-◌, ◌*◌, ◌/◌, ◌%◌, ◌^◌, ◌<◌, ◌≤◌, ◌&&◌, Bool, List, Result};
+ghost use Rattle.elf_headers.specs.Ledger.{Did, why_stopped};
+ghost use Rattle.elf_hash.specs.Counts.{IsGnu};
+ghost use Rattle.elf_hash.specs.Trials.{TriesWhere};
+ghost use Rattle.elf_hash.specs.Walks.{Holds, Starts, Walks, walk_bytes};
+ghost use Rattle.elf_model.specs.Chains.{HashTable as Place};
+ghost use Rattle.elf_model.specs.Cost.{cost_where};
+ghost use Rattle.elf_model.specs.GnuHash.{ends_chain, gnu_looked_up, is_of_hash, is_set};
+ghost use Rattle.elf_model.specs.declared.causes.Refusal.{Refusal};
+
+use crate::answer::Answer;
+use crate::gnu_table::GnuTable;
+use crate::reading::{read_filter, read_word};
+use crate::trial::Trial;
+use crate::walked::{Found, Walked};
+use elf_headers::{Fault, refused};
+use elf_record::Cause;
+use elf_source::{Counted, Source};
+
+/// Looks for the symbol that answers among those of a hash: not at all where the filter or an empty
+/// bucket tells that there is none, else along their chain.
+///
+/// # Errors
+/// `HashIndex` at the word that leads to a symbol index which is below the first, not below the
+/// number of symbols, or has no chain word in the table. The trial's own where a symbol cannot be
+/// tried. Else a fault of a read.
+pub(crate) fn gnu_walk<S: Source, T: Trial>(
+    src: &mut Counted<S>,
+    table: &GnuTable,
+    hash: u32,
+    trial: &T,
+) -> Result<Walked, Fault>
+    requires within { table.now.place.at + table.now.place.size ≤ src.old.seen.size }
+    requires known { table.now.place.symbols ≤ T.symbols trial.now }
+    requires lies { T.lies trial.now src.old.seen.size }
+    ensures did { Did src.old src.new (why_stopped result)
+        (walk_bytes 12 (table.now.place.size / 4) (table.now.place.size / 4) (T.cost trial.now))
+        (λ file. (at : Place) (says : ℕ → Result Bool Refusal) → IsGnu file at table.now →
+        T.is_of trial.now file says → Walks (T.stands trial.now file) 12 (T.cost trial.now)
+        (gnu_looked_up file at hash says) src.old src.new result) }
+{
+    match start(src, table, hash)? {
+        None => Ok(Walked {
+            found: None,
+            tried: 0,
+            read: 0,
+        }),
+        Some(start) => along_chain(src, table, hash, start, trial),
+    }
+}
+
+/// The index of the first symbol of a hash's chain, unless the filter or an empty bucket tells that
+/// there is none.
+///
+/// # Errors
+/// A fault of a read.
+fn start<S: Source>(src: &mut Counted<S>, table: &GnuTable, hash: u32) -> Result<Option<u32>, Fault>
+    requires within { table.now.place.at + table.now.place.size ≤ src.old.seen.size }
+    ensures did { Did src.old src.new (why_stopped result) 12
+        (λ file. (at : Place) → IsGnu file at table.now → Starts file at.place hash result) }
+{
+    let word = read_filter(src, table.filter_at(hash))?;
+    if !may_hold(table, word, hash) {
+        return Ok(None);
+    }
+    let start = read_word(src, table.bucket_at(hash))?;
+    Ok(if start == 0 { None } else { Some(start) })
+}
+
+/// Whether the filter's word for a hash has both bits of the hash.
+fn may_hold(table: &GnuTable, word: u64, hash: u32) -> bool
+    ensures { result ≡ (is_set word (hash % 64) && is_set word (hash / 2 ^ table.now.shift % 64)) }
+{
+    is_set(word, hash % 64) && is_set(word, (hash >> table.shift) % 64)
+}
+
+/// Whether a bit of a word is set.
+fn is_set(word: u64, bit: u32) -> bool
+    requires { bit < 64 }
+    ensures { result ≡ is_set word bit }
+{
+    (word >> bit) % 2 == 1
+}
+
+/// Goes along the chain of a hash from its first symbol on.
+///
+/// # Errors
+/// Those of [`gnu_walk`].
+fn along_chain<S: Source, T: Trial>(
+    src: &mut Counted<S>,
+    table: &GnuTable,
+    hash: u32,
+    start: u32,
+    trial: &T,
+) -> Result<Walked, Fault>
+    requires within { table.now.place.at + table.now.place.size ≤ src.old.seen.size }
+    requires known { table.now.place.symbols ≤ T.symbols trial.now }
+    requires lies { T.lies trial.now src.old.seen.size }
+    ensures did { Did src.old src.new (why_stopped result)
+        (walk_bytes 0 (table.now.place.size / 4) (table.now.place.size / 4) (T.cost trial.now))
+        (λ file. (at : Place) (says : ℕ → Result Bool Refusal) → IsGnu file at table.now →
+        T.is_of trial.now file says → Holds file at.place hash start →
+        Walks (T.stands trial.now file) 0 (T.cost trial.now)
+        (gnu_looked_up file at hash says) src.old src.new result) }
+{
+    let mut at = table.bucket_at(hash);
+    let mut index = u64::from(start);
+    let mut tried = 0;
+    let mut read = 0;
+    while table.has(index) {
+        at = table.chain_at(index);
+        let word = read_word(src, at)?;
+        let is_wanted = is_of_hash(word, hash);
+        read += 1;
+        tried += one_where(is_wanted);
+        if let Some(answer) = tried_where(src, trial, index, is_wanted)? {
+            let found = Some(Found { index, answer });
+            return Ok(Walked { found, tried, read });
+        }
+        if ends_chain(word) {
+            let found = None;
+            return Ok(Walked { found, tried, read });
+        }
+        index += 1;
+    }
+    refused(at, Cause::HashIndex)
+}
+
+/// Whether a chain word is of a hash: it has the hash's bits but for the lowest.
+fn is_of_hash(word: u32, hash: u32) -> bool
+    ensures { result ≡ is_of_hash word hash }
+{
+    word / 2 == hash / 2
+}
+
+/// Whether a chain word says that its symbol is the last of the chain.
+fn ends_chain(word: u32) -> bool
+    ensures { result ≡ ends_chain word }
+{
+    word % 2 == 1
+}
+
+/// 1 where it is so, else 0.
+fn one_where(is_so: bool) -> u64
+    ensures { result ≡ cost_where is_so 1 }
+{
+    if is_so { 1 } else { 0 }
+}
+
+/// The symbol of an index, where it is to be tried and answers.
+///
+/// # Errors
+/// Those of [`Trial::tried`].
+fn tried_where<S: Source, T: Trial>(
+    src: &mut Counted<S>,
+    trial: &T,
+    index: u64,
+    is_wanted: bool,
+) -> Result<Option<Answer>, Fault>
+    requires below { index < T.symbols trial.now }
+    requires lies { T.lies trial.now src.old.seen.size }
+    ensures { Did src.old src.new (why_stopped result) (cost_where is_wanted (T.cost trial.now))
+        (λ file. (says : ℕ → Result Bool Refusal) → T.is_of trial.now file says →
+        TriesWhere is_wanted (T.stands trial.now file) says index result) }
+{
+    if is_wanted {
+        trial.tried(src, index)
+    } else {
+        Ok(None)
+    }
+}

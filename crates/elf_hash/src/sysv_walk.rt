@@ -1,0 +1,91 @@
+//! The walk along a chain of a hash table of the gABI.
+ghost use Rattle.std.specs.Prelude.{◌≡◌, ℕ, ◌+◌, ◌<◌, ◌≤◌, Bool, List, Result, IfOk, IsTrue};
+ghost use Rattle.elf_headers.specs.Ledger.{Did, why_stopped};
+ghost use Rattle.elf_hash.specs.Counts.{IsSysv};
+ghost use Rattle.elf_hash.specs.Walks.{IsShort, Walks, walk_bytes};
+ghost use Rattle.elf_model.specs.Chains.{HashTable as Place};
+ghost use Rattle.elf_model.specs.SysvWalk.{is_sysv_index, sysv_walked};
+ghost use Rattle.elf_model.specs.declared.causes.Refusal.{Refusal};
+
+use crate::answer::Answer;
+use crate::reading::read_word;
+use crate::sysv_table::SysvTable;
+use crate::trial::Trial;
+use crate::walked::{Found, Walked};
+use elf_headers::{Fault, refused};
+use elf_record::Cause;
+use elf_source::{Counted, Source};
+
+/// Goes along the chain of a hash, up to the symbol that answers or to the chain's end.
+///
+/// # Errors
+/// `HashIndex` at a word that is not below the number of chains and of symbols. `HashCycle` at the
+/// word of the bucket where as many steps as there are chains gave no answer: the chain goes round.
+/// The trial's own where a symbol cannot be tried. Else a fault of a read.
+pub(crate) fn sysv_walk<S: Source, T: Trial>(
+    src: &mut Counted<S>,
+    table: &SysvTable,
+    hash: u32,
+    trial: &T,
+) -> Result<Walked, Fault>
+    requires within { table.now.place.at + table.now.place.size ≤ src.old.seen.size }
+    requires known { table.now.place.symbols ≤ T.symbols trial.now }
+    requires lies { T.lies trial.now src.old.seen.size }
+    ensures did { Did src.old src.new (why_stopped result)
+        (walk_bytes 4 table.now.nchain table.now.nchain (T.cost trial.now))
+        (λ file. (at : Place) (says : ℕ → Result Bool Refusal) → IsSysv file at table.now →
+        T.is_of trial.now file says → Walks (T.stands trial.now file) 4 (T.cost trial.now)
+        (sysv_walked file at hash says) src.old src.new result) }
+    ensures short { IfOk result (IsShort table.now.nchain) }
+{
+    let bucket = table.bucket_at(hash);
+    let mut at = bucket;
+    let mut index = read_word(src, at)?;
+    let mut tried = 0;
+    while index != 0 {
+        if !is_index(table, index) {
+            return refused(at, Cause::HashIndex);
+        }
+        if tried == u64::from(table.nchain) {
+            return refused(bucket, Cause::HashCycle);
+        }
+        tried += 1;
+        if let Some(answer) = trial.tried(src, u64::from(index))? {
+            return Ok(stepped(Some(found_at(index, answer)), tried));
+        }
+        at = table.chain_at(index);
+        index = read_word(src, at)?;
+    }
+    Ok(stepped(None, tried))
+}
+
+/// Whether a word is an index of a chain and of a symbol.
+fn is_index(table: &SysvTable, word: u32) -> bool
+    ensures below { IsTrue result →
+        (word < table.now.nchain) × (word < table.now.place.symbols) }
+    ensures is { (file : List ℕ) (at : Place) → IsSysv file at table.now →
+        result ≡ is_sysv_index file at word }
+{
+    word < table.nchain && u64::from(word) < table.place.symbols
+}
+
+/// A symbol of an index that answers.
+fn found_at(index: u32, answer: Answer) -> Found
+    ensures { result ≡ record { index = index; answer = answer } }
+{
+    Found {
+        index: u64::from(index),
+        answer,
+    }
+}
+
+/// What is answered after so many steps, each of which tries a symbol and counts for a chain word.
+fn stepped(found: Option<Found>, steps: u64) -> Walked
+    ensures { result ≡ record { found = found; tried = steps; read = steps } }
+{
+    Walked {
+        found,
+        tried: steps,
+        read: steps,
+    }
+}

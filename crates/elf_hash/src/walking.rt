@@ -1,0 +1,73 @@
+//! The counts of a hash table of either kind, and the walk in it.
+ghost use Rattle.std.specs.Prelude.{◌≡◌, ℕ, ◌+◌, ◌/◌, ◌≤◌, Bool, List, Result, IfOk};
+ghost use Rattle.elf_headers.specs.Ledger.{Did, why_stopped};
+ghost use Rattle.elf_hash.specs.Scopes.{HasCounts, IsPlaceIn, IsTable, counts_bytes, place_of, walked_in};
+ghost use Rattle.elf_hash.specs.Walks.{Walks, walk_bytes};
+ghost use Rattle.elf_model.specs.LoaderScope.{Scope};
+ghost use Rattle.elf_model.specs.declared.causes.Refusal.{Refusal};
+
+use crate::counting::{gnu_counts, sysv_counts};
+use crate::gnu_walk::gnu_walk;
+use crate::hashing::{gnu_hash, sysv_hash};
+use crate::kind::HashKind;
+use crate::place::HashPlace;
+use crate::sysv_walk::sysv_walk;
+use crate::table::HashTable;
+use crate::trial::Trial;
+use crate::walked::Walked;
+use elf_headers::Fault;
+use elf_source::{Counted, Source};
+
+/// Reads the counts of the hash table at a place: four words of a table of the GNU system, two of one
+/// of the gABI (5, Hash Table). The table ends at or below the source's length.
+///
+/// # Errors
+/// `HashShape` at what tells of the table where there is no bucket, or where the words before the
+/// chains, or in a table of the gABI all words that the counts tell of, do not fit into its size; in
+/// a table of the GNU system also where its filter's words are not as many as a power of two tells,
+/// or where its shift leaves no bits of a hash. Else a fault of a read.
+pub fn counts<S: Source>(src: &mut Counted<S>, place: &HashPlace) -> Result<HashTable, Fault>
+    requires { place.now.at + place.now.size ≤ src.old.seen.size }
+    ensures did { Did src.old src.new (why_stopped result) (counts_bytes place.now.kind)
+        (λ file. (scope : Scope) → IsPlaceIn scope place.now → HasCounts file scope result) }
+    ensures same { IfOk result (λ table. place_of table ≡ place.now) }
+{
+    match place.kind {
+        HashKind::Gnu => Ok(HashTable::Gnu(gnu_counts(src, place)?)),
+        HashKind::Sysv => Ok(HashTable::Sysv(sysv_counts(src, place)?)),
+    }
+}
+
+/// Goes along the chain of a name's hash, up to the first symbol that answers a trial or to the
+/// chain's end: in a table of the gABI (5, Hash Table) from word to word, in one of the GNU system from
+/// symbol to symbol, unless its filter or an empty bucket tells that there is none. The table ends at
+/// or below the source's length, and the trial knows all of its symbols.
+///
+/// Where the source's file is known the answer is the file's own, and so is the refusal. No more is
+/// asked for than a filter's word, a bucket's word, each chain word that is read and what the tries
+/// ask for, also where the source fails.
+///
+/// # Errors
+/// `HashIndex` at the word that leads to an index which no symbol and no chain word has. In a table
+/// of the gABI `HashCycle` at the bucket's word, where as many steps as there are chains gave no
+/// answer. The trial's own where a symbol cannot be tried. Else a fault of a read.
+pub fn walk<S: Source, T: Trial>(
+    src: &mut Counted<S>,
+    table: &HashTable,
+    name: &[u8],
+    trial: &T,
+) -> Result<Walked, Fault>
+    requires within { (place_of table.now).at + (place_of table.now).size ≤ src.old.seen.size }
+    requires known { (place_of table.now).symbols ≤ T.symbols trial.now }
+    requires lies { T.lies trial.now src.old.seen.size }
+    ensures { Did src.old src.new (why_stopped result) (walk_bytes 12
+        ((place_of table.now).size / 4) ((place_of table.now).size / 4) (T.cost trial.now))
+        (λ file. (scope : Scope) (says : ℕ → Result Bool Refusal) → IsTable file scope table.now →
+        T.is_of trial.now file says → Walks (T.stands trial.now file) 12 (T.cost trial.now)
+        (walked_in file scope name.now says) src.old src.new result) }
+{
+    match table {
+        HashTable::Gnu(table) => gnu_walk(src, table, gnu_hash(name), trial),
+        HashTable::Sysv(table) => sysv_walk(src, table, sysv_hash(name), trial),
+    }
+}
