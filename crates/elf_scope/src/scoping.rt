@@ -27,10 +27,7 @@ use elf_table::{File, SegmentView};
 /// where there are words of versions those of the words, of the definitions and of the needs, each
 /// at the section header or the dynamic entry that tells of it. Else a fault of the source, or
 /// `Budget` where a limit has no room for a read, at the offset that was asked for.
-pub fn find_scope<S: Source>(
-    src: &mut Counted<S>,
-    store: &mut HeaderStore,
-) -> Result<Scope, Fault>
+pub fn find_scope<S: Source>(src: &mut Counted<S>, store: &mut HeaderStore) -> Result<Scope, Fault>
     ensures did { Did src.old src.new (why_stopped result)
         (64 + 64 * store.old.slots + src.old.seen.size)
         (λ file. FindsScope file store.old.slots src.old src.new result) }
