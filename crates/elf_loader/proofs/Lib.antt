@@ -7,3 +7,4 @@ pub mod NamingLaws
 pub mod AnswerLaws
 pub mod CollectLaws
 pub mod TellingLaws
+pub mod FoundLaws

@@ -5,3 +5,4 @@ pub mod Comparing
 pub mod Tables
 pub mod Naming
 pub mod Telling
+pub mod Finding

@@ -6,6 +6,7 @@ mod answering;
 mod collecting;
 mod comparing;
 mod fitting;
+mod found;
 mod naming;
 mod number_set;
 mod offered;
