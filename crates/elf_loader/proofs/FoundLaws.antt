@@ -1,11 +1,10 @@
 -- The version of a symbol that is found.
-use Rattle.std.proofs.Common.{◌≡◌, ℕ, ◌+◌, ◌*◌, ◌<◌, ◌≤◌, ◌%◌, ◌^◌, subst, nat_lt, Bool, true, false, is_some, List, [], Option, None, Some, Result, Ok, Err, refl, sym, ap, ◌∙◌, arith}
+use Rattle.std.proofs.Common.{◌≡◌, ℕ, ◌+◌, ◌*◌, ◌<◌, ◌≤◌, subst, nat_lt, true, false, is_some, List, [], Option, None, Some, Result, Ok, Err, refl, sym, ap, ◌∙◌, arith}
 use Rattle.std.proofs.lemmas.Bool.Decides.{nat_tests}
-use Rattle.elf_model.specs.Budget.{IsBudget}
 use Rattle.elf_model.specs.Chains.{Walked}
 use Rattle.elf_model.specs.Cost.{cost_where}
 use Rattle.elf_model.specs.Loader.{Asked, Naming, VersionWords, asked_name, naming_of, readings, version_word_at}
-use Rattle.elf_model.specs.LoaderFind.{FoundVersion as IsVersionOf, LoaderLookup, TOLD_BYTES, found_in, found_lookup, refused_lookup, told_by}
+use Rattle.elf_model.specs.LoaderFind.{LoaderLookup, TOLD_BYTES, found_in, found_lookup, told_by}
 use Rattle.elf_model.specs.LoaderScope.{Scope}
 use Rattle.elf_model.specs.Names.{Shown, shown}
 use Rattle.elf_model.specs.Names.Shown.{Whole}
@@ -24,7 +23,6 @@ use Rattle.elf_table.specs.Cursors.{row_at}
 use Rattle.elf_table.specs.declared.names.NameEnd.{NameEnd}
 use Rattle.elf_loader.specs.Finding.{FindsVersion, FoundAs, Spends}
 use Rattle.elf_loader.specs.Telling.{TellsName, told_bytes}
-use Rattle.elf_loader.specs.declared.found.FoundVersion.{FoundVersion}
 use Rattle.elf_loader.specs.declared.found.VersionName.TheVariants.{Wanted, Unnamed, Told}
 
 -- where a version is wanted, it is told as it is wanted
@@ -61,6 +59,7 @@ told-spends file scope words y walked naming = go naming.found refl naming.refus
     read : (found : List ℕ × Met) → naming.found ≡ Some found → (name : Result Shown Cause) → shown found.0 (name_index file found.1) TOLD_BYTES ≡ name → Spends (told_by file scope words y walked naming) walked naming.read (is_some naming.found)
     read found f (Ok name) n = rw (f, told_by) (rw (n, told_by) (record { tried = refl; chain_words = refl; records = refl; is_named = refl }))
     read found f (Err cause) n = rw (f, told_by) (rw (n, told_by) (record { tried = refl; chain_words = refl; records = refl; is_named = refl }))
+
     go : (found : Option (List ℕ × Met)) → naming.found ≡ found → (refused : Option Refusal) → naming.refused ≡ refused → Spends (told_by file scope words y walked naming) walked naming.read (is_some naming.found)
     go (Some found) f refused r = read found f (shown found.0 (name_index file found.1) TOLD_BYTES) refl
     go None f None r = rw (f, r, told_by) (record { tried = refl; chain_words = refl; records = refl; is_named = refl })
@@ -160,9 +159,11 @@ finds-fault file scope asked words y word told a b fault n here high tells =
   where
     naming : Naming
     naming = naming_of file (number_in word) (readings file scope.symbols.records)
+
     paid : (fault : Fault) → TellsName file scope words y naming a b told (Err fault) → Charges a b (Some fault) (naming.read * 28 + cost_where (is_some naming.found) told_bytes)
     paid (Refused refusal) t = t.0
     paid (Source fault at) t = t
+
     refused : (fault : Fault) → TellsName file scope words y naming a b told (Err fault) → (walked : Walked) (lookup : LoaderLookup) → lookup ≡ told_by file scope words y walked naming
         → FoundAs scope asked y told walked lookup (Err fault)
     refused (Refused refusal) t walked lookup e = λ other. let told_so = e ∙ t.1 other walked in rw told_so refl

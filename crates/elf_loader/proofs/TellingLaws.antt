@@ -1,6 +1,5 @@
 -- The name of a symbol's version is told.
-use Rattle.std.proofs.Common.{◌≡◌, ℕ, ◌+◌, ◌*◌, ◌≤◌, true, false, is_some, List, Option, None, Some, Result, Ok, Err, refl, sym, ap, ◌∙◌, arith}
-use Rattle.elf_model.specs.Budget.{IsBudget}
+use Rattle.std.proofs.Common.{◌≡◌, ℕ, ◌*◌, true, false, is_some, List, None, Some, Result, Ok, Err, refl, sym, ap, ◌∙◌, arith}
 use Rattle.elf_model.specs.Chains.{Walked}
 use Rattle.elf_model.specs.Loader.{Naming, VersionWords, version_word_at}
 use Rattle.elf_model.specs.LoaderFind.{TOLD_BYTES, found_lookup, refused_lookup, told_by}

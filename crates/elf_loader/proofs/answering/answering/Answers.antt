@@ -1,5 +1,5 @@
 -- The symbol, its name and the word of its version are read, as far as they decide.
-use Rattle.std.proofs.Common.{true, false, Ok, Err, ap, sym, ◌∙◌, arith}
+use Rattle.std.proofs.Common.{Ok, ap, sym, ◌∙◌, arith}
 use Rattle.std.proofs.lemmas.Result.{err_from_is_err_and}
 use Rattle.elf_headers.proofs.LedgerLaws.{Did-as, Did-of, Did-then}
 use Rattle.elf_loader.specs.NumberSets.{has}

@@ -1,5 +1,5 @@
 -- The record is found, and its name is read.
-use Rattle.std.proofs.Common.{ℕ, ◌+◌, ◌*◌, ◌≤◌, IfErr, IfSome, Result, None, Some, Ok, Err, arith}
+use Rattle.std.proofs.Common.{ℕ, IfErr, IfSome, Result, Ok, Err, arith}
 use Rattle.std.proofs.lemmas.Result.{err_from_is_err_and}
 use Rattle.elf_source.specs.Source.{Counting}
 use Rattle.elf_headers.specs.Faults.{Says}
