@@ -14,8 +14,8 @@ use Rattle.elf_model.proofs.WalkLaws.{not_both}
 use Rattle.elf_headers.specs.Faults.{IsOfRead}
 use Rattle.elf_headers.specs.declared.fault.Fault.{Fault}
 use Rattle.elf_headers.specs.declared.fault.Fault.TheVariants.{Refused}
-use Rattle.elf_record.specs.declared.sym.Sym.{Sym}
 use Rattle.elf_hash.specs.Counts.{IsGnu}
+use Rattle.elf_hash.specs.declared.answer.Answer.{Answer}
 use Rattle.elf_hash.specs.Trials.{Tries, TriesWhere}
 use Rattle.elf_hash.specs.Walks.{Holds, walk_bytes}
 use Rattle.elf_hash.specs.declared.gnu_table.GnuTable.{GnuTable}
@@ -217,94 +217,94 @@ module _ (file : List ℕ) (table : Table) (hash : ℕ) (says : ℕ → Result B
     end_there = end_by index b t.is (ap (λ (w : ℕ). is_of_hash w hash) (sym t.word_is) ∙ sym t.of_hash)
 
 -- what a walk meets there
-module _ (file : List ℕ) (table : Table) (hash : ℕ) (says : ℕ → Result Bool Refusal) (at : ℕ → ℕ) (cost : ℕ) where
+module _ (file : List ℕ) (table : Table) (hash : ℕ) (says : ℕ → Result Bool Refusal) (stands : ℕ → Answer → Type 0) (cost : ℕ) where
   abbrev looked : Walk
   looked = gnu_looked_up file table hash says
 
   pub meets_not_there : (read tried index place : ℕ) → Along file table hash says read tried index place → is_chained file table index ≡ false
-      → Meets file at 0 cost looked (walk_bytes 0 read tried cost) (Err (Refused (record { at = place; cause = HashIndex })))
+      → Meets stands 0 cost looked (walk_bytes 0 read tried cost) (Err (Refused (record { at = place; cause = HashIndex })))
   unfolding gnu_walked_at
   meets_not_there read tried index place along isnt =
       let gives = ends_here file table hash says read tried index place NotThere along (end_not_there file table hash says index isnt) in
-      rw (along.place_is) (meets_refusal file at 0 cost looked _ tried read _ (rw (along.tried_is) gives) (omega arith))
+      rw (along.place_is) (meets_refusal stands 0 cost looked _ tried read _ (rw (along.tried_is) gives) (omega arith))
 
   pub meets_unread : (read tried index place : ℕ) → Along file table hash says read tried index place → is_chained file table index ≡ true
-      → (fault : Fault) → IsOfRead fault → Meets file at 0 cost looked (walk_bytes 0 read tried cost + 4) (Err fault)
+      → (fault : Fault) → IsOfRead fault → Meets stands 0 cost looked (walk_bytes 0 read tried cost + 4) (Err fault)
   meets_unread read tried index place along is fault of_read =
       let t : There file table hash says read tried index (word_of file table hash says index) (is_of_hash (word_of file table hash says index) hash)
       = record { place = place; along = along; is = is; word_is = refl; of_hash = refl } in
       let least = least_there file table hash says read tried index _ _ t in
-      meets_fault file at 0 cost looked _ tried (suc read) fault of_read (omega (arith, least.0)) least.1 (omega arith)
+      meets_fault stands 0 cost looked _ tried (suc read) fault of_read (omega (arith, least.0)) least.1 (omega arith)
 
   module _ (read tried index word : ℕ) (b : Bool) (t : There file table hash says read tried index word b) where
     gives : (end : WalkEnd) → ends file table hash says index ≡ Some end → looked ≡ gnu_walked_at file table.place hash read end
     gives end here = ends_here file table hash says read tried index t.place end t.along here
 
-    pub meets_untried_here : (fault : Fault) → TriesWhere b file at says index (Err fault)
-        → Meets file at 0 cost looked (walk_bytes 0 read tried cost + 4 + cost_where b cost) (Err fault)
+    pub meets_untried_here : (fault : Fault) → TriesWhere b stands says index (Err fault)
+        → Meets stands 0 cost looked (walk_bytes 0 read tried cost + 4 + cost_where b cost) (Err fault)
     unfolding gnu_walked_at
     meets_untried_here fault tries =
         let least = least_there file table hash says read tried index word b t in
         let w = wanted b tries in
         let end = end_there file table hash says read tried index word b t in
         let now = tried_now file table hash says read tried index word b t in
-        meets_untried file at 0 cost looked _ (tried + one_if b) (suc read) index says fault w.1
+        meets_untried stands 0 cost looked _ (tried + one_if b) (suc read) index says fault w.1
         (λ refusal e. rw (now) (gives (Untried refusal) (end ∙ rw (w.0, e) refl)))
         least.0 least.1 (let bytes = bytes_where 0 read tried cost b in omega (arith, bytes))
       where
-        wanted : (c : Bool) → TriesWhere c file at says index (Err fault) → (c ≡ true) × Tries file at says index (Err fault)
+        wanted : (c : Bool) → TriesWhere c stands says index (Err fault) → (c ≡ true) × Tries stands says index (Err fault)
         wanted true tries = (refl, tries)
         wanted false tries = absurd (cc)
 
-    pub meets_found : (symbol : Sym) (all : ℕ) → TriesWhere b file at says index (Ok (Some symbol)) → all ≡ tried + one_if b
-        → Meets file at 0 cost looked (walk_bytes 0 read tried cost + 4 + cost_where b cost)
-        (Ok (record { found = Some (record { index = index; symbol = symbol }); tried = all; read = read + 1 }))
+    pub meets_found : (answer : Answer) (all : ℕ) → TriesWhere b stands says index (Ok (Some answer)) → all ≡ tried + one_if b
+        → Meets stands 0 cost looked (walk_bytes 0 read tried cost + 4 + cost_where b cost)
+        (Ok (record { found = Some (record { index = index; answer = answer }); tried = all; read = read + 1 }))
     unfolding gnu_walked_at
-    meets_found symbol all tries count =
+    meets_found answer all tries count =
         let w = wanted b tries in
         let end = end_there file table hash says read tried index word b t in
         let now = tried_now file table hash says read tried index word b t in
         let index_is = t.along.index_is in
         rw (count, add-one)
-        (meets_answer file at 0 cost looked _ (tried + one_if b) (suc read) _
+        (meets_answer stands 0 cost looked _ (tried + one_if b) (suc read) _
         (rw (now, index_is) (gives Answers (end ∙ rw (w.0, w.1.0) refl)))
         (let bytes = bytes_where 0 read tried cost b in omega (arith, bytes)) w.1.1)
       where
-        wanted : (c : Bool) → TriesWhere c file at says index (Ok (Some symbol)) → (c ≡ true) × Tries file at says index (Ok (Some symbol))
+        wanted : (c : Bool) → TriesWhere c stands says index (Ok (Some answer)) → (c ≡ true) × Tries stands says index (Ok (Some answer))
         wanted true tries = (refl, tries)
         wanted false tries = absurd (cc)
 
     -- a symbol that does not answer, or is not tried
-    end_passed : TriesWhere b file at says index (Ok None) → ends file table hash says index ≡ end_of_chain (word_of file table hash says index)
+    end_passed : TriesWhere b stands says index (Ok None) → ends file table hash says index ≡ end_of_chain (word_of file table hash says index)
     end_passed tries = by_case b tries (end_there file table hash says read tried index word b t)
       where
-        by_case : (c : Bool) → TriesWhere c file at says index (Ok None)
+        by_case : (c : Bool) → TriesWhere c stands says index (Ok None)
             → ends file table hash says index
             ≡ (elim c [ true ↦ end_of_trial (says index) (end_of_chain (word_of file table hash says index)) | false ↦ end_of_chain (word_of file table hash says index) ])
             → ends file table hash says index ≡ end_of_chain (word_of file table hash says index)
         by_case true tries e = e ∙ rw tries refl
         by_case false tries e = e
 
-    pub meets_last : (found : Option Sym) (all : ℕ) → TriesWhere b file at says index (Ok found) → ((symbol : Sym) → found ≡ Some symbol → ⊥)
+    pub meets_last : (found : Option Answer) (all : ℕ) → TriesWhere b stands says index (Ok found) → ((answer : Answer) → found ≡ Some answer → ⊥)
         → ends_chain word ≡ true → all ≡ tried + one_if b
-        → Meets file at 0 cost looked (walk_bytes 0 read tried cost + 4 + cost_where b cost)
+        → Meets stands 0 cost looked (walk_bytes 0 read tried cost + 4 + cost_where b cost)
         (Ok (record { found = None; tried = all; read = read + 1 }))
     unfolding gnu_walked_at
-    meets_last (Some symbol) all tries other last count = absurd (other symbol refl)
+    meets_last (Some answer) all tries other last count = absurd (other answer refl)
     meets_last None all tries other last count =
         let now = tried_now file table hash says read tried index word b t in
         let odd : ends_chain (word_of file table hash says index) ≡ true = rw (← t.word_is) last in
         rw (count, add-one)
-        (meets_answer file at 0 cost looked _ (tried + one_if b) (suc read) None
+        (meets_answer stands 0 cost looked _ (tried + one_if b) (suc read) None
         (rw (now) (gives Last (end_passed tries ∙ rw odd refl)))
         (let bytes = bytes_where 0 read tried cost b in omega (arith, bytes)) tt)
 
     -- past a symbol that does not answer and is not the last
-    pub along_next : (found : Option Sym) (all place : ℕ) → TriesWhere b file at says index (Ok found) → ((symbol : Sym) → found ≡ Some symbol → ⊥)
+    pub along_next : (found : Option Answer) (all place : ℕ) → TriesWhere b stands says index (Ok found) → ((answer : Answer) → found ≡ Some answer → ⊥)
         → ends_chain word ≡ false → all ≡ tried + one_if b → place ≡ gnu_chain_at file table.place index
         → Along file table hash says (read + 1) all (index + 1) place
     unfolding gnu_word_at
-    along_next (Some symbol) all place tries other last count here = absurd (other symbol refl)
+    along_next (Some answer) all place tries other last count here = absurd (other answer refl)
     along_next None all place tries other last count here =
         let now = tried_now file table hash says read tried index word b t in
         let odd : ends_chain (word_of file table hash says index) ≡ false = rw (← t.word_is) last in

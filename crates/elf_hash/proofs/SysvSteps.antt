@@ -14,8 +14,8 @@ use Rattle.elf_model.proofs.WalkLaws.{not_both}
 use Rattle.elf_headers.specs.Faults.{IsOfRead}
 use Rattle.elf_headers.specs.declared.fault.Fault.{Fault}
 use Rattle.elf_headers.specs.declared.fault.Fault.TheVariants.{Refused}
-use Rattle.elf_record.specs.declared.sym.Sym.{Sym}
 use Rattle.elf_hash.specs.Counts.{IsSysv}
+use Rattle.elf_hash.specs.declared.answer.Answer.{Answer}
 use Rattle.elf_hash.specs.Trials.{Tries}
 use Rattle.elf_hash.specs.Walks.{walk_bytes}
 use Rattle.elf_hash.specs.declared.sysv_table.SysvTable.{SysvTable}
@@ -139,60 +139,60 @@ module _ (file : List ℕ) (table : Table) (hash : ℕ) (says : ℕ → Result B
   more steps word t =
       least_more walk (sysv_walk_answers file table hash says) steps t.along.goes t.few (rw (← t.along.word_is) t.tries)
 
-  module _ (at : ℕ → ℕ) (cost : ℕ) where
+  module _ (stands : ℕ → Answer → Type 0) (cost : ℕ) where
     module _ (steps word place : ℕ) (along : Along steps word place) where
-      pub meets_absent : word ≡ 0 → Meets file at 4 cost walk (walk_bytes 4 steps steps cost) (Ok (record { found = None; tried = steps; read = steps }))
+      pub meets_absent : word ≡ 0 → Meets stands 4 cost walk (walk_bytes 4 steps steps cost) (Ok (record { found = None; tried = steps; read = steps }))
       unfolding sysv_walked_at
       meets_absent none =
-          meets_answer file at 4 cost walk _ steps steps None (ends_here steps word place Last along (rw none end_none)) (omega arith) tt
+          meets_answer stands 4 cost walk _ steps steps None (ends_here steps word place Last along (rw none end_none)) (omega arith) tt
 
       pub meets_no_index : 0 < word → is_sysv_index file table word ≡ false
-          → Meets file at 4 cost walk (walk_bytes 4 steps steps cost) (Err (Refused (record { at = place; cause = HashIndex })))
+          → Meets stands 4 cost walk (walk_bytes 4 steps steps cost) (Err (Refused (record { at = place; cause = HashIndex })))
       unfolding sysv_walked_at
       meets_no_index some isnt =
           rw (along.place_is)
-          (meets_refusal file at 4 cost walk _ steps steps _ (ends_here steps word place NotThere along (end_no_index word some isnt)) (omega arith))
+          (meets_refusal stands 4 cost walk _ steps steps _ (ends_here steps word place NotThere along (end_no_index word some isnt)) (omega arith))
 
       pub meets_cycle : (start : ℕ) → start ≡ sysv_bucket_of file table.place hash → steps ≡ sysv_nchain file table.place → 0 < word
           → is_sysv_index file table word ≡ true
-          → Meets file at 4 cost walk (walk_bytes 4 steps steps cost) (Err (Refused (record { at = start; cause = HashCycle })))
+          → Meets stands 4 cost walk (walk_bytes 4 steps steps cost) (Err (Refused (record { at = start; cause = HashCycle })))
       meets_cycle start here all some is =
           let gives : walk ≡ sysv_cycle file table.place hash
           = goes_round walk (sysv_walk_answers file table hash says) (sysv_walk_is_bounded file table hash says).1 (rw (← all) along.goes)
           (rw (← all, ← along.word_is) (end_tried word some is)) in
-          rw (here, all) (meets_refusal file at 4 cost walk _ _ _ _ gives (omega arith))
+          rw (here, all) (meets_refusal stands 4 cost walk _ _ _ _ gives (omega arith))
 
     module _ (steps word : ℕ) (t : Tried steps word) where
-      pub meets_untried_here : (fault : Fault) (index : ℕ) → index ≡ word → Tries file at says index (Err fault)
-          → Meets file at 4 cost walk (walk_bytes 4 steps steps cost + cost) (Err fault)
+      pub meets_untried_here : (fault : Fault) (index : ℕ) → index ≡ word → Tries stands says index (Err fault)
+          → Meets stands 4 cost walk (walk_bytes 4 steps steps cost + cost) (Err fault)
       unfolding sysv_walked_at
       meets_untried_here fault index same tries =
           let few = more steps word t in
-          meets_untried file at 4 cost walk _ (suc steps) (suc steps) word says fault
-          (subst (λ (i : ℕ). Tries file at says i (Err fault)) same tries)
+          meets_untried stands 4 cost walk _ (suc steps) (suc steps) word says fault
+          (subst (λ (i : ℕ). Tries stands says i (Err fault)) same tries)
           (λ refusal e. ends_here steps word t.place (Untried refusal) t.along (t.tries ∙ rw e refl))
           few.0 few.1 (omega (arith, bytes_tried 4 steps steps cost))
 
-      pub meets_found : (symbol : Sym) (index : ℕ) → index ≡ word → Tries file at says index (Ok (Some symbol))
-          → Meets file at 4 cost walk (walk_bytes 4 steps steps cost + cost)
-          (Ok (record { found = Some (record { index = word; symbol = symbol }); tried = steps + 1; read = steps + 1 }))
+      pub meets_found : (answer : Answer) (index : ℕ) → index ≡ word → Tries stands says index (Ok (Some answer))
+          → Meets stands 4 cost walk (walk_bytes 4 steps steps cost + cost)
+          (Ok (record { found = Some (record { index = word; answer = answer }); tried = steps + 1; read = steps + 1 }))
       unfolding sysv_walked_at
-      meets_found symbol index same tries =
+      meets_found answer index same tries =
           rw (add-one, ← same)
-          (meets_answer file at 4 cost walk _ (suc steps) (suc steps) _
+          (meets_answer stands 4 cost walk _ (suc steps) (suc steps) _
           (rw (same, t.along.word_is) (ends_here steps word t.place Answers t.along (t.tries ∙ rw (sym (ap says same) ∙ tries.0) refl)))
           (omega (arith, bytes_tried 4 steps steps cost)) tries.1)
 
-      pub meets_unread : (fault : Fault) → IsOfRead fault → Meets file at 4 cost walk (walk_bytes 4 steps steps cost + cost + 4) (Err fault)
+      pub meets_unread : (fault : Fault) → IsOfRead fault → Meets stands 4 cost walk (walk_bytes 4 steps steps cost + cost + 4) (Err fault)
       meets_unread fault read =
           let few = more steps word t in
-          meets_fault file at 4 cost walk _ (suc steps) (suc steps) fault read few.0 few.1 (omega (arith, bytes_tried 4 steps steps cost))
+          meets_fault stands 4 cost walk _ (suc steps) (suc steps) fault read few.0 few.1 (omega (arith, bytes_tried 4 steps steps cost))
 
       -- past a symbol that does not answer
-      pub along_next : (found : Option Sym) (next place index : ℕ) → index ≡ word → Tries file at says index (Ok found) → ((symbol : Sym) → found ≡ Some symbol → ⊥)
+      pub along_next : (found : Option Answer) (next place index : ℕ) → index ≡ word → Tries stands says index (Ok found) → ((answer : Answer) → found ≡ Some answer → ⊥)
           → place ≡ sysv_chain_at file table.place word → next ≡ field file place 4 → Along (steps + 1) next place
       unfolding walk_word sysv_word_at
-      along_next (Some symbol) next place index same tries other stands read = absurd (other symbol refl)
+      along_next (Some answer) next place index same tries other stands read = absurd (other answer refl)
       along_next None next place index same tries other stands read =
           rw (add-one)
           (record {

@@ -4,7 +4,6 @@ use Rattle.elf_model.specs.Bytes.{field, slice}
 use Rattle.elf_model.specs.Chains.{Walked as Walk, refused_walk}
 use Rattle.elf_model.specs.declared.causes.Refusal.{Refusal}
 use Rattle.elf_model.proofs.Slices.{field-slice}
-use Rattle.elf_record.specs.Sym.{IsSym}
 use Rattle.elf_source.specs.Source.{Counting}
 use Rattle.elf_headers.specs.Faults.{IsOfRead}
 use Rattle.elf_headers.specs.Ledger.{Charges, why_stopped}
@@ -12,6 +11,7 @@ use Rattle.elf_headers.specs.declared.fault.Fault.{Fault}
 use Rattle.elf_headers.specs.declared.fault.Fault.TheVariants.{Refused, Source}
 use Rattle.elf_hash.specs.Trials.{Tries}
 use Rattle.elf_hash.specs.Walks.{Gives, Walks, index_of, walk_bytes}
+use Rattle.elf_hash.specs.declared.answer.Answer.{Answer}
 use Rattle.elf_hash.specs.declared.walked.Found.{Found}
 use Rattle.elf_hash.specs.declared.walked.Walked.{Walked}
 
@@ -34,20 +34,20 @@ pub bytes_step : (few steps most cost : ℕ) → suc steps ≤ most → walk_byt
 bytes_step few steps most cost one =
     omega (arith, bytes_tried few steps steps cost, bytes_most few (suc steps) (suc steps) most most cost one one)
 
-module _ (file : List ℕ) (place : ℕ → ℕ) (few cost : ℕ) (walk : Walk) where
+module _ (stands : ℕ → Answer → Type 0) (few cost : ℕ) (walk : Walk) where
   -- how a walk ends that has asked for so many bytes: within what it costs, and with what it gives
   pub record Meets (spent : ℕ) (result : Result Walked Fault) : Type 0 where
     pub within : spent ≤ walk_bytes few walk.read walk.tried cost
-    pub gives : Gives file place walk result
+    pub gives : Gives stands walk result
 
   -- and so it does what it does
   pub walks : {old new : Counting} (spent : ℕ) (result : Result Walked Fault)
       → ((most : ℕ) → spent ≤ most → Charges old new (why_stopped result) most) → Meets spent result
-      → Walks file place few cost walk old new result
+      → Walks stands few cost walk old new result
   walks spent result costs meets = record { costs = costs _ meets.within; gives = meets.gives }
 
   pub meets_answer : (spent tried read : ℕ) (found : Option Found) → walk ≡ record { answer = Ok (index_of found); tried = tried; read = read }
-      → spent ≤ walk_bytes few read tried cost → IfSome found (λ f. IsSym file (place f.index) f.symbol)
+      → spent ≤ walk_bytes few read tried cost → IfSome found (λ f. stands f.index f.answer)
       → Meets spent (Ok (record { found = found; tried = tried; read = read }))
   meets_answer spent tried read found is within symbol = record { within = rw is within; gives = (is, symbol) }
 
@@ -62,7 +62,7 @@ module _ (file : List ℕ) (place : ℕ → ℕ) (few cost : ℕ) (walk : Walk) 
   meets_fault spent tried read (Refused refusal) of_read t r within =
       record { within = omega (arith, within, bytes_most few read tried walk.read walk.tried cost r t); gives = λ other. absurd (other of_read) }
 
-  pub meets_untried : (spent tried read index : ℕ) (says : ℕ → Result Bool Refusal) (fault : Fault) → Tries file place says index (Err fault)
+  pub meets_untried : (spent tried read index : ℕ) (says : ℕ → Result Bool Refusal) (fault : Fault) → Tries stands says index (Err fault)
       → ((refusal : Refusal) → says index ≡ Err refusal → walk ≡ refused_walk tried read refusal)
       → tried ≤ walk.tried → read ≤ walk.read → spent ≤ walk_bytes few read tried cost → Meets spent (Err fault)
   meets_untried spent tried read index says (Source fault at) tries ends t r within =

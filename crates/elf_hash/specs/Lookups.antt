@@ -75,4 +75,4 @@ pub record Finds (file : List ℕ) (headers : ℕ) (wanted : List ℕ) (old new 
 
 -- the answer to a walk's: the symbol that is found, in the section of an index, and how many symbols are tried
 abbrev pub lookup_in : (section : ℕ) → Walked → Lookup
-lookup_in section w = elim w.found [ None ↦ Absent w.tried | Some found ↦ Found section found.index found.symbol w.tried ]
+lookup_in section w = elim w.found [ None ↦ Absent w.tried | Some found ↦ Found section found.index found.answer.symbol w.tried ]

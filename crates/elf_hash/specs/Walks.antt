@@ -3,12 +3,12 @@ use Rattle.std.specs.Prelude.{ℕ, ◌≡◌, ◌+◌, ◌*◌, ◌<◌, ◌≤�
 use Rattle.elf_model.specs.Budget.{IsBudget}
 use Rattle.elf_model.specs.Chains.{Walked as Walk}
 use Rattle.elf_model.specs.GnuHash.{gnu_start, holds_none}
-use Rattle.elf_record.specs.Sym.{IsSym}
 use Rattle.elf_source.specs.Source.{Counting}
 use Rattle.elf_headers.specs.Ledger.{Charges, why_stopped}
 use Rattle.elf_headers.specs.Faults.{IsOfRead}
 use Rattle.elf_headers.specs.declared.fault.Fault.{Fault}
 use Rattle.elf_headers.specs.declared.fault.Fault.TheVariants.{Refused, Source}
+use Rattle.elf_hash.specs.declared.answer.Answer.{Answer}
 use Rattle.elf_hash.specs.declared.walked.Found.{Found}
 use Rattle.elf_hash.specs.declared.walked.Walked.{Walked}
 
@@ -21,19 +21,19 @@ abbrev pub index_of : Option Found → Option ℕ
 index_of None = None
 index_of (Some found) = Some found.index
 
--- what a walk gives: its answer, with what it took, and the symbol is the one at its place; or its refusal, unless that is for
+-- what a walk gives: its answer, with what it took, and what stands for the symbol; or its refusal, unless that is for
 -- want of budget
-abbrev pub Gives : List ℕ → (place : ℕ → ℕ) → Walk → Result Walked Fault → Type 0
-Gives file place walk (Ok w) =
+abbrev pub Gives : (stands : ℕ → Answer → Type 0) → Walk → Result Walked Fault → Type 0
+Gives stands walk (Ok w) =
     (walk ≡ record { answer = Ok (index_of w.found); tried = w.tried; read = w.read })
-    × IfSome w.found (λ found. IsSym file (place found.index) found.symbol)
-Gives file place walk (Err (Refused refusal)) = (IsBudget refusal → ⊥) → walk.answer ≡ Err refusal
-Gives file place walk (Err (Source fault at)) = Unit {0}
+    × IfSome w.found (λ found. stands found.index found.answer)
+Gives stands walk (Err (Refused refusal)) = (IsBudget refusal → ⊥) → walk.answer ≡ Err refusal
+Gives stands walk (Err (Source fault at)) = Unit {0}
 
 -- WHAT A WALK DOES in a known file: it costs what the definition's walk does, and gives what that gives
-pub record Walks (file : List ℕ) (place : ℕ → ℕ) (few cost : ℕ) (walk : Walk) (old new : Counting) (result : Result Walked Fault) : Type 0 where
+pub record Walks (stands : ℕ → Answer → Type 0) (few cost : ℕ) (walk : Walk) (old new : Counting) (result : Result Walked Fault) : Type 0 where
   pub costs : Charges old new (why_stopped result) (walk_bytes few walk.read walk.tried cost)
-  pub gives : Gives file place walk result
+  pub gives : Gives stands walk result
 
 -- a walk tries no more symbols than a number, and the one that answers has an index below it
 abbrev pub IsShort : ℕ → Walked → Type 0

@@ -129,7 +129,7 @@ fn answer_of(link: u16, walked: &Walked, chains: u32) -> Lookup
         Some(found) => Lookup::Found {
             section: link,
             index: found.index as u32,
-            symbol: found.symbol,
+            symbol: found.answer.symbol,
             steps,
         },
     }

@@ -9,12 +9,13 @@ ghost use Rattle.elf_model.specs.Cost.{cost_where};
 ghost use Rattle.elf_model.specs.GnuHash.{ends_chain, gnu_looked_up, is_of_hash, is_set};
 ghost use Rattle.elf_model.specs.declared.causes.Refusal.{Refusal};
 
+use crate::answer::Answer;
 use crate::gnu_table::GnuTable;
 use crate::reading::{read_filter, read_word};
 use crate::trial::Trial;
 use crate::walked::{Found, Walked};
 use elf_headers::{Fault, refused};
-use elf_record::{Cause, Sym};
+use elf_record::Cause;
 use elf_source::{Counted, Source};
 
 /// Looks for the symbol that answers among those of a hash: not at all where the filter or an empty
@@ -36,7 +37,7 @@ pub(crate) fn gnu_walk<S: Source, T: Trial>(
     ensures did { Did src.old src.new (why_stopped result)
         (walk_bytes 12 (table.now.place.size / 4) (table.now.place.size / 4) (T.cost trial.now))
         (λ file. (at : Place) (says : ℕ → Result Bool Refusal) → IsGnu file at table.now →
-        T.is_of trial.now file says → Walks file (T.place trial.now) 12 (T.cost trial.now)
+        T.is_of trial.now file says → Walks (T.stands trial.now file) 12 (T.cost trial.now)
         (gnu_looked_up file at hash says) src.old src.new result) }
 {
     match start(src, table, hash)? {
@@ -100,7 +101,7 @@ fn along_chain<S: Source, T: Trial>(
         (walk_bytes 0 (table.now.place.size / 4) (table.now.place.size / 4) (T.cost trial.now))
         (λ file. (at : Place) (says : ℕ → Result Bool Refusal) → IsGnu file at table.now →
         T.is_of trial.now file says → Holds file at.place hash start →
-        Walks file (T.place trial.now) 0 (T.cost trial.now)
+        Walks (T.stands trial.now file) 0 (T.cost trial.now)
         (gnu_looked_up file at hash says) src.old src.new result) }
 {
     let mut at = table.bucket_at(hash);
@@ -113,8 +114,8 @@ fn along_chain<S: Source, T: Trial>(
         let is_wanted = is_of_hash(word, hash);
         read += 1;
         tried += one_where(is_wanted);
-        if let Some(symbol) = tried_where(src, trial, index, is_wanted)? {
-            let found = Some(Found { index, symbol });
+        if let Some(answer) = tried_where(src, trial, index, is_wanted)? {
+            let found = Some(Found { index, answer });
             return Ok(Walked { found, tried, read });
         }
         if ends_chain(word) {
@@ -156,12 +157,12 @@ fn tried_where<S: Source, T: Trial>(
     trial: &T,
     index: u64,
     is_wanted: bool,
-) -> Result<Option<Sym>, Fault>
+) -> Result<Option<Answer>, Fault>
     requires below { index < T.symbols trial.now }
     requires lies { T.lies trial.now src.old.seen.size }
     ensures { Did src.old src.new (why_stopped result) (cost_where is_wanted (T.cost trial.now))
         (λ file. (says : ℕ → Result Bool Refusal) → T.is_of trial.now file says →
-        TriesWhere is_wanted file (T.place trial.now) says index result) }
+        TriesWhere is_wanted (T.stands trial.now file) says index result) }
 {
     if is_wanted {
         trial.tried(src, index)

@@ -2,12 +2,13 @@
 ghost use Rattle.std.specs.Prelude.{◌≤◌, length};
 ghost use Rattle.elf_hash.specs.Lookups.{symbol_bytes};
 ghost use Rattle.elf_hash.specs.Trials.{IsNamed};
+ghost use Rattle.elf_record.specs.Sym.{IsSym};
 ghost use Rattle.elf_table.specs.Cursors.{row_at};
 ghost use Rattle.elf_table.specs.Tables.{SymbolsWithin};
 
+use crate::answer::Answer;
 use crate::trial::Trial;
 use elf_headers::Fault;
-use elf_record::Sym;
 use elf_source::{Counted, Source};
 use elf_table::{Names, Table};
 
@@ -28,18 +29,23 @@ impl<'a> Trial for Named<'a> {
 
     ghost cost = { λ t. symbol_bytes (length t.wanted.now) };
 
-    ghost place = { λ t. row_at t.symbols };
+    ghost stands = { λ t file index answer. IsSym file (row_at t.symbols index) answer.symbol };
 
     ghost lies = { λ t size.
         SymbolsWithin size (t.symbols, t.names) × (length t.wanted.now ≤ 4096) };
 
     ghost is_of = { λ t file says. IsNamed file t.symbols t.names t.wanted.now says };
 
-    fn tried<S: Source>(&self, src: &mut Counted<S>, index: u64) -> Result<Option<Sym>, Fault> {
+    fn tried<S: Source>(&self, src: &mut Counted<S>, index: u64) -> Result<Option<Answer>, Fault> {
         let symbol = self.symbols.symbol(src, index)?;
         let place = self.symbols.place(index);
         let off = u64::from(symbol.st_name);
         let is_wanted = self.names.equals(src, off, place, self.wanted)?;
-        Ok(if is_wanted { Some(symbol) } else { None })
+        let version = None;
+        Ok(if is_wanted {
+            Some(Answer { symbol, version })
+        } else {
+            None
+        })
     }
 }

@@ -7,12 +7,13 @@ ghost use Rattle.elf_model.specs.Chains.{HashTable as Place};
 ghost use Rattle.elf_model.specs.SysvWalk.{is_sysv_index, sysv_walked};
 ghost use Rattle.elf_model.specs.declared.causes.Refusal.{Refusal};
 
+use crate::answer::Answer;
 use crate::reading::read_word;
 use crate::sysv_table::SysvTable;
 use crate::trial::Trial;
 use crate::walked::{Found, Walked};
 use elf_headers::{Fault, refused};
-use elf_record::{Cause, Sym};
+use elf_record::Cause;
 use elf_source::{Counted, Source};
 
 /// Goes along the chain of a hash, up to the symbol that answers or to the chain's end.
@@ -33,7 +34,7 @@ pub(crate) fn sysv_walk<S: Source, T: Trial>(
     ensures did { Did src.old src.new (why_stopped result)
         (walk_bytes 4 table.now.nchain table.now.nchain (T.cost trial.now))
         (λ file. (at : Place) (says : ℕ → Result Bool Refusal) → IsSysv file at table.now →
-        T.is_of trial.now file says → Walks file (T.place trial.now) 4 (T.cost trial.now)
+        T.is_of trial.now file says → Walks (T.stands trial.now file) 4 (T.cost trial.now)
         (sysv_walked file at hash says) src.old src.new result) }
     ensures short { IfOk result (IsShort table.now.nchain) }
 {
@@ -49,8 +50,8 @@ pub(crate) fn sysv_walk<S: Source, T: Trial>(
             return refused(bucket, Cause::HashCycle);
         }
         tried += 1;
-        if let Some(symbol) = trial.tried(src, u64::from(index))? {
-            return Ok(stepped(Some(symbol_at(index, symbol)), tried));
+        if let Some(answer) = trial.tried(src, u64::from(index))? {
+            return Ok(stepped(Some(found_at(index, answer)), tried));
         }
         at = table.chain_at(index);
         index = read_word(src, at)?;
@@ -69,12 +70,12 @@ fn is_index(table: &SysvTable, word: u32) -> bool
 }
 
 /// A symbol of an index that answers.
-fn symbol_at(index: u32, symbol: Sym) -> Found
-    ensures { result ≡ record { index = index; symbol = symbol } }
+fn found_at(index: u32, answer: Answer) -> Found
+    ensures { result ≡ record { index = index; answer = answer } }
 {
     Found {
         index: u64::from(index),
-        symbol,
+        answer,
     }
 }
 

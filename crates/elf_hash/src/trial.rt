@@ -3,9 +3,10 @@ ghost use Rattle.std.specs.Prelude.{ℕ, ◌<◌, Bool, List, Result};
 ghost use Rattle.elf_model.specs.declared.causes.Refusal.{Refusal};
 ghost use Rattle.elf_headers.specs.Ledger.{Did, why_stopped};
 ghost use Rattle.elf_hash.specs.Trials.{Tries};
+ghost use Rattle.elf_hash.specs.declared.answer.Answer.{Answer};
 
+use crate::answer::Answer;
 use elf_headers::Fault;
-use elf_record::Sym;
 use elf_source::{Counted, Source};
 
 /// Tells of symbols whether they answer, as a walk along a chain asks of one after another.
@@ -16,8 +17,8 @@ pub trait Trial {
     /// The most bytes that one try asks for.
     ghost cost: { Self → ℕ };
 
-    /// Where the symbol of an index stands in the file.
-    ghost place: { Self → ℕ → ℕ };
+    /// In a file this is what it answers of the symbol of an index.
+    ghost stands: { Self → List ℕ → ℕ → Answer → Type 0 };
 
     /// All that it reads lies within a source of so many bytes.
     ghost lies: { Self → ℕ → Type 0 };
@@ -30,10 +31,10 @@ pub trait Trial {
     ///
     /// # Errors
     /// Where the symbol cannot be tried, as the trial tells. Else a fault of a read.
-    fn tried<S: Source>(&self, src: &mut Counted<S>, index: u64) -> Result<Option<Sym>, Fault>
+    fn tried<S: Source>(&self, src: &mut Counted<S>, index: u64) -> Result<Option<Answer>, Fault>
         requires below { index < symbols self.now }
         requires lies { lies self.now src.old.seen.size }
         ensures did { Did src.old src.new (why_stopped result) (cost self.now)
             (λ file. (says : ℕ → Result Bool Refusal) → is_of self.now file says →
-            Tries file (place self.now) says index result) };
+            Tries (stands self.now file) says index result) };
 }

@@ -1,13 +1,13 @@
 //! What a walk along a chain answers.
-use elf_record::Sym;
+use crate::answer::Answer;
 
-/// A symbol that answers a trial.
+/// The first symbol of a chain that answers a trial.
 #[derive(Clone, Copy, Debug, PartialEq, Eq)]
 pub struct Found {
     /// The symbol's index in its table.
     pub index: u64,
-    /// The symbol.
-    pub symbol: Sym,
+    /// What the trial answers of it.
+    pub answer: Answer,
 }
 
 /// What a walk along a chain answers, and what it took.

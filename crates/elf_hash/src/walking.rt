@@ -63,7 +63,7 @@ pub fn walk<S: Source, T: Trial>(
     ensures { Did src.old src.new (why_stopped result) (walk_bytes 12
         ((place_of table.now).size / 4) ((place_of table.now).size / 4) (T.cost trial.now))
         (λ file. (scope : Scope) (says : ℕ → Result Bool Refusal) → IsTable file scope table.now →
-        T.is_of trial.now file says → Walks file (T.place trial.now) 12 (T.cost trial.now)
+        T.is_of trial.now file says → Walks (T.stands trial.now file) 12 (T.cost trial.now)
         (walked_in file scope name.now says) src.old src.new result) }
 {
     match table {

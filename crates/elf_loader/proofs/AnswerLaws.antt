@@ -1,11 +1,10 @@
 -- Whether a symbol answers, by what is read of it.
-use Rattle.std.proofs.Common.{◌≡◌, ℕ, ◌+◌, ◌*◌, ◌<◌, ◌≤◌, nat_lt, Bool, true, false, List, Option, None, Some, Result, Ok, Err, refl, sym, ap, subst, ◌∙◌, arith}
+use Rattle.std.proofs.Common.{◌≡◌, ℕ, ◌<◌, ◌≤◌, nat_lt, Bool, true, false, List, Option, None, Some, Result, Ok, Err, refl, sym, ap, subst, ◌∙◌, arith}
 use Rattle.std.proofs.lemmas.Bool.Decides.{nat_tests}
 use Rattle.elf_model.specs.Bytes.{field}
 use Rattle.elf_model.specs.Loader.{Asked, Symbols as AreSymbolsOf, VersionWords as AreWordsOf, Wanted, answers, fits, is_offered, symbol_place, version_fits, version_word_at}
 use Rattle.elf_model.specs.Names.{same}
-use Rattle.elf_model.specs.Records.{st_name, versym}
-use Rattle.elf_model.specs.declared.causes.Cause.{Cause}
+use Rattle.elf_model.specs.Records.{st_name}
 use Rattle.elf_model.specs.declared.causes.Cause.TheVariants.{VersionCut}
 use Rattle.elf_model.specs.declared.causes.Refusal.{Refusal}
 use Rattle.elf_record.specs.Sym.{IsSym}
@@ -18,7 +17,9 @@ use Rattle.elf_table.specs.Tables.{strings_in}
 use Rattle.elf_scope.specs.Symbols.{AreWords, IsSymbols}
 use Rattle.elf_scope.specs.declared.symbols.Symbols.{Symbols}
 use Rattle.elf_scope.specs.declared.symbols.VersionWords.{VersionWords}
-use Rattle.elf_loader.specs.Answering.{Tells, TellsSymbol}
+use Rattle.elf_hash.specs.Trials.{Tries}
+use Rattle.elf_hash.specs.declared.answer.Answer.{Answer}
+use Rattle.elf_loader.specs.Answering.{SaysOf, StandsAs, TellsAnswer, TellsFit}
 
 -- without words each version fits
 pub fits-none :
@@ -69,7 +70,7 @@ module _ (file : List ℕ) (told : AreSymbolsOf) (symbols : Symbols) (wanted : W
   -- its name has a fault
   pub fault-answers :
       (place : ℕ) (fault : Fault) → place ≡ row_at symbols.table index → RefusesName place fault (same (strings_in file symbols.names) symbol.st_name wanted.name)
-      → TellsSymbol file (symbol_place told index) (answers file told wanted is_wanted index) (Err fault)
+      → TellsAnswer file symbols index (answers file told wanted is_wanted index) (Err fault)
   unfolding answers
   fault-answers place (Refused refusal) here tells = λ other.
       let t = tells other in
@@ -98,6 +99,16 @@ module _ (file : List ℕ) (told : AreSymbolsOf) (symbols : Symbols) (wanted : W
   offered-answers tells offered = let e = name-is ∙ tells in rw (e, offered, answers) refl
 
 -- what the version says, the symbol does
-pub fault-tells : (file : List ℕ) (at : ℕ) (says version : Result Bool Refusal) (fault : Fault) → says ≡ version → Tells version (Err fault) → TellsSymbol file at says (Err fault)
-fault-tells file at says version (Refused refusal) e tells = λ other. e ∙ tells other
-fault-tells file at says version (Source fault offset) e tells = tt
+pub fault-tells : (file : List ℕ) (symbols : Symbols) (words : Option VersionWords) (index : ℕ) (says version : Result Bool Refusal) (fault : Fault) → says ≡ version → TellsFit file words index version (Err fault) → TellsAnswer file symbols index says (Err fault)
+fault-tells file symbols words index says version (Refused refusal) e tells = λ other. e ∙ tells other
+fault-tells file symbols words index says version (Source fault at) e tells = tt
+
+-- what is told of a symbol is what the trial tells
+pub tries-as :
+    (file : List ℕ) (symbols : Symbols) (wanted : Wanted) (is_wanted : ℕ → Bool) (says : ℕ → Result Bool Refusal) (index : ℕ) (result : Result (Option Answer) Fault)
+    → (is : SaysOf file symbols wanted is_wanted says) → TellsAnswer file symbols index (answers file is.told wanted is_wanted index) result
+    → Tries (StandsAs file symbols) says index result
+tries-as file symbols wanted is_wanted says index (Ok (Some answer)) is tells = (ap (λ (s : ℕ → Result Bool Refusal). s index) is.says_so ∙ tells.0, tells.1)
+tries-as file symbols wanted is_wanted says index (Ok None) is tells = ap (λ (s : ℕ → Result Bool Refusal). s index) is.says_so ∙ tells
+tries-as file symbols wanted is_wanted says index (Err (Refused refusal)) is tells = λ other. ap (λ (s : ℕ → Result Bool Refusal). s index) is.says_so ∙ tells other
+tries-as file symbols wanted is_wanted says index (Err (Source fault at)) is tells = tt

@@ -1,6 +1,6 @@
 -- The numbers of a wanted version, of all records of versions.
-use Rattle.std.proofs.Common.{◌≡◌, ℕ, ◌+◌, ◌*◌, ◌≤◌, ◌||◌, Bool, true, false, List, [], ◌++◌, Option, None, Some, Ok, Err, refl, sym, ◌∙◌, arith}
-use Rattle.elf_model.specs.Loader.{Asked, Compared, VersionWords as AreWordsOf, asked_name, compared_with, is_among, readings}
+use Rattle.std.proofs.Common.{◌≡◌, ℕ, ◌+◌, ◌*◌, ◌≤◌, ◌||◌, Bool, true, false, List, [], Option, None, Some, Ok, Err, refl, sym, ◌∙◌, arith}
+use Rattle.elf_model.specs.Loader.{Asked, Compared, VersionWords as AreWordsOf, asked_name, compared_with, readings}
 use Rattle.elf_model.specs.LoaderFind.{wanted_numbers}
 use Rattle.elf_model.specs.LoaderScope.{Scope}
 use Rattle.elf_source.specs.Source.{Counting}
@@ -10,7 +10,7 @@ use Rattle.elf_headers.specs.declared.fault.Fault.TheVariants.{Refused, Source}
 use Rattle.elf_headers.proofs.LedgerLaws.{Charges-more}
 use Rattle.elf_scope.specs.Symbols.{AreWords}
 use Rattle.elf_scope.specs.declared.symbols.VersionWords.{VersionWords}
-use Rattle.elf_loader.specs.Comparing.{Collects, ComparedAs, Compares}
+use Rattle.elf_loader.specs.Comparing.{Collects, Compares}
 use Rattle.elf_loader.specs.NumberSets.{has}
 
 -- without words, or without a wanted version, there are none
@@ -61,6 +61,7 @@ collects-all a b each file version old new compared all is empty done =
   where
     rest-pays : (n each : ℕ) → n * each ≤ (n + 0) * each
     rest-pays n each = omega arith
+
     or-none : (b : Bool) → (b || false) ≡ b
     or-none true = refl
     or-none false = refl

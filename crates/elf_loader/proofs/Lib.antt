@@ -6,3 +6,5 @@ pub mod TablesLaws
 pub mod NamingLaws
 pub mod AnswerLaws
 pub mod CollectLaws
+pub mod TellingLaws
+pub mod FoundLaws

@@ -1,5 +1,5 @@
 -- Looking for the record that names the version of a number, record by record.
-use Rattle.std.proofs.Common.{◌≡◌, ℕ, ◌+◌, ◌-◌, ◌*◌, ◌≤◌, Bool, true, false, List, [], ◌∷◌, inl, inr, Option, None, Some, Result, Ok, Err, option_map, refl, sym, ap, ◌∙◌, arith, mul-le-mul_right}
+use Rattle.std.proofs.Common.{◌≡◌, ℕ, ◌+◌, ◌-◌, ◌*◌, ◌≤◌, Bool, true, false, List, [], ◌∷◌, inl, inr, Option, None, Some, Result, Ok, Err, refl, ◌∙◌, arith}
 use Rattle.std.proofs.lemmas.Bool.{cases_lt}
 use Rattle.elf_model.specs.Budget.{IsBudget}
 use Rattle.elf_model.specs.Loader.{Meets, Misses, Naming, Reading, RecordTable, Refuses, naming_of, one_later, readings_of}
@@ -12,7 +12,7 @@ use Rattle.elf_headers.specs.declared.fault.Fault.TheVariants.{Refused, Source}
 use Rattle.elf_headers.proofs.LedgerLaws.{Charges-more, Charges-then}
 use Rattle.elf_scope.specs.Symbols.{IsRecordTable}
 use Rattle.elf_scope.specs.declared.symbols.RecordTable.{RecordTable as Given}
-use Rattle.elf_versions.specs.Reading.{GivesVersion, IsVersion, LeadsOn, Spends, StartsVersions, TellsVersion, Walking, versions_left}
+use Rattle.elf_versions.specs.Reading.{GivesVersion, LeadsOn, Spends, StartsVersions, TellsVersion, Walking, versions_left}
 use Rattle.elf_versions.specs.declared.record.VersionRecord.{VersionRecord}
 use Rattle.elf_loader.specs.Naming.{NamedAs, Names, NamesBefore, NamesOf}
 use Rattle.elf_loader.specs.declared.naming.NamedBy.{NamedBy}

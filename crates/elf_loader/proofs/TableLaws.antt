@@ -1,9 +1,9 @@
 -- A table of versions is compared, step by step of its cursor.
-use Rattle.std.proofs.Common.{◌≡◌, ℕ, zero, suc, ◌+◌, ◌-◌, ◌*◌, ◌<◌, ◌≤◌, Bool, true, false, if◌then◌else◌, List, ◌∷◌, length, inl, inr, Option, None, Some, IfSome, option_map, Result, Ok, Err, refl, sym, ap, subst, ◌∙◌, arith, mul-le-mul_right, suc-mul}
+use Rattle.std.proofs.Common.{◌≡◌, ℕ, zero, suc, ◌+◌, ◌-◌, ◌*◌, ◌<◌, ◌≤◌, false, List, ◌∷◌, inl, inr, None, Some, Ok, Err, ◌∙◌, arith, mul-le-mul_right, suc-mul}
 use Rattle.std.proofs.lemmas.Bool.{cases_lt}
 use Rattle.elf_model.specs.Budget.{IsBudget}
-use Rattle.elf_model.specs.Loader.{Compared, Meets, Reading, Refuses, Misses, RecordTable, compared_with, readings_of}
-use Rattle.elf_model.specs.Versions.{Met, most_records, no_versions, record_size}
+use Rattle.elf_model.specs.Loader.{Compared, Meets, Reading, RecordTable, compared_with, readings_of}
+use Rattle.elf_model.specs.Versions.{Met, most_records}
 use Rattle.elf_model.specs.declared.versions.VersionKind.{VersionKind}
 use Rattle.elf_model.specs.declared.versions.VersionKind.TheVariants.{Definition, File, Need}
 use Rattle.elf_source.specs.Source.{Counting}
@@ -14,11 +14,11 @@ use Rattle.elf_headers.proofs.LedgerLaws.{Charges-more}
 use Rattle.elf_scope.specs.Symbols.{IsRecordTable}
 use Rattle.elf_scope.specs.declared.symbols.RecordTable.{RecordTable as Given}
 use Rattle.elf_table.specs.Tables.{strings_in}
-use Rattle.elf_versions.specs.Reading.{GivesVersion, Held, LeadsOn, Spends, StartsVersions, TellsVersion, Walking, bytes_each, stand_of, unheld, unread, versions_left}
+use Rattle.elf_versions.specs.Reading.{GivesVersion, Held, LeadsOn, Spends, StartsVersions, TellsVersion, Walking, bytes_each, unheld, versions_left}
 use Rattle.elf_versions.specs.declared.record.VersionRecord.{VersionRecord}
 use Rattle.elf_loader.specs.Comparing.{ComparedAs, Compares, ComparesOne}
 use Rattle.elf_loader.proofs.CompareLaws.{as-none, as-then, compared-reads, missed-refuses, refused-reads, refused-refuses}
-use Rattle.elf_loader.proofs.LeftReadings.{ended-left, left_of, left_readings, read-left, refused-left, start-left, step-left}
+use Rattle.elf_loader.proofs.LeftReadings.{ended-left, left_of, read-left, refused-left, start-left, step-left}
 
 -- a table with a record has a byte, so that its strings are known
 pub strings-known :

@@ -1,14 +1,14 @@
 -- Tables of versions, one behind the other.
-use Rattle.std.proofs.Common.{◌≡◌, ℕ, ◌+◌, ◌*◌, ◌≤◌, List, [], ◌∷◌, ◌++◌, Option, None, Some, Result, Ok, Err, refl, sym, ap, ◌∙◌, arith, mul-le-mul_right}
+use Rattle.std.proofs.Common.{◌≡◌, ℕ, ◌+◌, ◌*◌, ◌≤◌, List, [], ◌∷◌, ◌++◌, None, Result, Ok, Err, refl, ap, ◌∙◌, arith}
 use Rattle.elf_model.specs.Loader.{Compared, Reading, RecordTable as IsTableOf, compared_with, readings, readings_of}
 use Rattle.elf_source.specs.Source.{Counting}
 use Rattle.elf_headers.specs.Ledger.{Charges}
 use Rattle.elf_headers.specs.declared.fault.Fault.{Fault}
 use Rattle.elf_headers.specs.declared.fault.Fault.TheVariants.{Refused, Source}
 use Rattle.elf_headers.proofs.LedgerLaws.{Charges-more, Charges-then}
-use Rattle.elf_scope.specs.Symbols.{AreRecordTables, IsRecordTable, one_table}
+use Rattle.elf_scope.specs.Symbols.{AreRecordTables, IsRecordTable}
 use Rattle.elf_scope.specs.declared.symbols.RecordTable.{RecordTable}
-use Rattle.elf_loader.specs.Comparing.{ComparedAs, Compares}
+use Rattle.elf_loader.specs.Comparing.{Compares}
 use Rattle.elf_loader.specs.Tables.{readings_before}
 use Rattle.elf_loader.proofs.CompareLaws.{as-none, as-then}
 

@@ -1,21 +1,45 @@
 -- Whether a symbol answers, as it is read.
-use Rattle.std.specs.Prelude.{ℕ, ◌≡◌, Bool, true, false, List, Option, None, Some, Result, Ok, Err}
+use Rattle.std.specs.Prelude.{ℕ, ◌≡◌, ◌<◌, Bool, true, false, List, Option, None, Some, Result, Ok, Err}
 use Rattle.elf_model.specs.Budget.{IsBudget}
 use Rattle.elf_model.specs.declared.causes.Refusal.{Refusal}
 use Rattle.elf_record.specs.Sym.{IsSym}
-use Rattle.elf_record.specs.declared.sym.Sym.{Sym}
+use Rattle.elf_model.specs.Bytes.{field}
+use Rattle.elf_model.specs.Loader.{Symbols as AreSymbolsOf, Wanted, answers}
+use Rattle.elf_scope.specs.Symbols.{IsSymbols}
+use Rattle.elf_table.specs.Cursors.{row_at}
+use Rattle.elf_scope.specs.declared.symbols.Symbols.{Symbols}
+use Rattle.elf_scope.specs.declared.symbols.VersionWords.{VersionWords}
+use Rattle.elf_hash.specs.declared.answer.Answer.{Answer}
+use Rattle.elf_loader.specs.declared.fitting.Fit.{Fit}
 use Rattle.elf_headers.specs.declared.fault.Fault.{Fault}
 use Rattle.elf_headers.specs.declared.fault.Fault.TheVariants.{Refused, Source}
 
--- what is said is told: it is so or not; or why it cannot be told, unless a read failed
-abbrev pub Tells : Result Bool Refusal → Result Bool Fault → Type 0
-Tells says (Ok so) = says ≡ Ok so
-Tells says (Err (Refused refusal)) = (IsBudget refusal → ⊥) → says ≡ Err refusal
-Tells says (Err (Source fault at)) = Unit {0}
+-- the word of a symbol's version stands in the file, where there are words of versions
+abbrev pub IsWord : List ℕ → Option VersionWords → ℕ → Option ℕ → Type 0
+IsWord file None index None = Unit {0}
+IsWord file (Some words) index (Some word) = (index < words.words.count) × (word ≡ field file (row_at words.words index) 2)
+IsWord file None index (Some word) = ⊥
+IsWord file (Some words) index None = ⊥
 
--- the same of the symbol at an offset, which is given where it is so
-abbrev pub TellsSymbol : List ℕ → ℕ → Result Bool Refusal → Result (Option Sym) Fault → Type 0
-TellsSymbol file at says (Ok (Some symbol)) = (says ≡ Ok true) × IsSym file at symbol
-TellsSymbol file at says (Ok None) = says ≡ Ok false
-TellsSymbol file at says (Err (Refused refusal)) = (IsBudget refusal → ⊥) → says ≡ Err refusal
-TellsSymbol file at says (Err (Source fault offset)) = Unit {0}
+-- it is told whether a version fits, with the word; or why it cannot be, unless a read failed
+abbrev pub TellsFit : List ℕ → Option VersionWords → ℕ → Result Bool Refusal → Result Fit Fault → Type 0
+TellsFit file words index says (Ok fit) = (says ≡ Ok fit.fits) × IsWord file words index fit.version
+TellsFit file words index says (Err (Refused refusal)) = (IsBudget refusal → ⊥) → says ≡ Err refusal
+TellsFit file words index says (Err (Source fault at)) = Unit {0}
+
+-- a symbol and the word of its version stand in the file
+abbrev pub StandsAs : List ℕ → Symbols → ℕ → Answer → Type 0
+StandsAs file symbols index answer = IsSym file (row_at symbols.table index) answer.symbol × IsWord file symbols.words index answer.version
+
+-- it is told whether a symbol answers, which is given then
+abbrev pub TellsAnswer : List ℕ → Symbols → ℕ → Result Bool Refusal → Result (Option Answer) Fault → Type 0
+TellsAnswer file symbols index says (Ok (Some answer)) = (says ≡ Ok true) × StandsAs file symbols index answer
+TellsAnswer file symbols index says (Ok None) = says ≡ Ok false
+TellsAnswer file symbols index says (Err (Refused refusal)) = (IsBudget refusal → ⊥) → says ≡ Err refusal
+TellsAnswer file symbols index says (Err (Source fault at)) = Unit {0}
+
+-- it is the trial of the symbols of a file: of each it says whether it answers what is wanted
+pub record SaysOf (file : List ℕ) (symbols : Symbols) (wanted : Wanted) (is_wanted : ℕ → Bool) (says : ℕ → Result Bool Refusal) : Type 0 where
+  pub told : AreSymbolsOf
+  pub are : IsSymbols file told symbols
+  pub says_so : says ≡ answers file told wanted is_wanted

@@ -1,5 +1,5 @@
 -- What comparing the records of versions with a wanted one gives.
-use Rattle.std.specs.Prelude.{ℕ, ◌≡◌, ◌+◌, ◌*◌, ◌≤◌, ◌||◌, Bool, List, None, Some, Result, Ok, Err}
+use Rattle.std.specs.Prelude.{ℕ, ◌≡◌, ◌+◌, ◌*◌, ◌≤◌, ◌||◌, List, None, Some, Result, Ok, Err}
 use Rattle.elf_model.specs.Budget.{IsBudget}
 use Rattle.elf_model.specs.Loader.{Compared, is_among}
 use Rattle.elf_source.specs.Source.{Counting}

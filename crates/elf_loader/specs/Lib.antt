@@ -4,3 +4,5 @@ pub mod Answering
 pub mod Comparing
 pub mod Tables
 pub mod Naming
+pub mod Telling
+pub mod Finding

@@ -1,5 +1,5 @@
 -- A set of numbers by bits.
-use Rattle.std.specs.Prelude.{ℕ, ◌≡◌, ◌/◌, ◌%◌, ◌==◌, Bool, List, get_or}
+use Rattle.std.specs.Prelude.{ℕ, ◌/◌, ◌%◌, ◌==◌, Bool, List, get_or}
 use Rattle.std.specs.Int.{bit_at}
 
 -- a number is in the set: its bit is 1, of words of 64 bits each

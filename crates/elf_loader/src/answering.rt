@@ -1,10 +1,10 @@
 //! Which symbols answer.
 ghost use Rattle.std.specs.Prelude.{◌≡◌, ◌+◌, ◌<◌, ◌≤◌, length};
 ghost use Rattle.elf_headers.specs.Ledger.{Did, why_stopped};
-ghost use Rattle.elf_loader.specs.Answering.{TellsSymbol};
+ghost use Rattle.elf_loader.specs.Answering.{SaysOf, StandsAs, TellsAnswer};
 ghost use Rattle.elf_loader.specs.NumberSets.{has};
 ghost use Rattle.elf_loader.specs.Wants.{the_wanted};
-ghost use Rattle.elf_model.specs.Loader.{Symbols as AreSymbolsOf, answers, symbol_place};
+ghost use Rattle.elf_model.specs.Loader.{Symbols as AreSymbolsOf, answers};
 ghost use Rattle.elf_model.specs.Names.{pad64};
 ghost use Rattle.elf_scope.specs.Symbols.{IsSymbols, SymbolsLie};
 
@@ -12,32 +12,62 @@ use crate::fitting::version_fits;
 use crate::number_set::NumberSet;
 use crate::offered::is_offered;
 use crate::wanted::Wanted;
+use elf_hash::{Answer, Trial};
 use elf_headers::Fault;
-use elf_record::Sym;
 use elf_scope::Symbols;
 use elf_source::{Counted, Source};
 
-/// The symbol of an index, if it answers: it has the wanted name, it is offered, and its version
-/// fits, where the numbers of the version by its name are told. It asks for the symbol, for its name
-/// and for the word of its version.
-///
-/// # Errors
-/// A refusal of the symbol's name, as [`elf_table::Names::equals`] has it, at the symbol;
-/// `VersionCut` at what tells of the words of versions where the symbol has none. Else a fault of a
-/// read.
-pub(crate) fn answering<S: Source>(
+/// The trial of symbols by what is wanted of them, where the numbers of the version by its name are
+/// told.
+#[derive(Clone, Copy)]
+pub(crate) struct WantedTrial<'a> {
+    /// The symbols.
+    pub(crate) symbols: &'a Symbols,
+    /// What is wanted.
+    pub(crate) wanted: &'a Wanted<'a>,
+    /// The numbers of the wanted version.
+    pub(crate) numbers: &'a NumberSet,
+}
+
+impl<'a> Trial for WantedTrial<'a> {
+    ghost symbols = { λ t. t.symbols.now.table.count };
+
+    ghost cost = { λ t. 26 + pad64 (length t.wanted.now.name.now + 1) };
+
+    ghost stands = { λ t file. StandsAs file t.symbols.now };
+
+    ghost lies = { λ t size.
+        SymbolsLie size t.symbols.now × (length t.wanted.now.name.now ≤ 4096) };
+
+    ghost is_of = { λ t file says.
+        SaysOf file t.symbols.now (the_wanted t.wanted.now) (has t.numbers.now) says };
+
+    fn tried<S: Source>(&self, src: &mut Counted<S>, index: u64) -> Result<Option<Answer>, Fault> {
+        answering(src, self.symbols, self.wanted, self.numbers, index)
+    }
+}
+
+// The symbol of an index, if it answers: it has the wanted name, it is offered, and its version
+// fits, where the numbers of the version by its name are told. It asks for the symbol, for its name
+// and for the word of its version.
+//
+// # Errors
+// A refusal of the symbol's name, as [`elf_table::Names::equals`] has it, at the symbol;
+// `VersionCut` at what tells of the words of versions where the symbol has none. Else a fault of a
+// read.
+fn answering<S: Source>(
     src: &mut Counted<S>,
     symbols: &Symbols,
     wanted: &Wanted<'_>,
     numbers: &NumberSet,
     index: u64,
-) -> Result<Option<Sym>, Fault>
+) -> Result<Option<Answer>, Fault>
     requires most { length wanted.now.name.now ≤ 4096 }
     requires below { index < symbols.now.table.count }
     requires lies { SymbolsLie src.old.seen.size symbols.now }
     ensures { Did src.old src.new (why_stopped result) (26 + pad64 (length wanted.now.name.now + 1))
         (λ file. (told : AreSymbolsOf) → IsSymbols file told symbols.now →
-        TellsSymbol file (symbol_place told index)
+        TellsAnswer file symbols.now index
         (answers file told (the_wanted wanted.now) (has numbers.now) index) result) }
 {
     let symbol = symbols.table.symbol(src, index)?;
@@ -49,6 +79,12 @@ pub(crate) fn answering<S: Source>(
     if !is_offered(&symbol) {
         return Ok(None);
     }
-    let fits = version_fits(src, &symbols.words, &wanted.asked, numbers, index)?;
-    Ok(if fits { Some(symbol) } else { None })
+    let fit = version_fits(src, &symbols.words, &wanted.asked, numbers, index)?;
+    if !fit.fits {
+        return Ok(None);
+    }
+    Ok(Some(Answer {
+        symbol,
+        version: fit.version,
+    }))
 }

@@ -1,7 +1,7 @@
 //! Which versions fit what is asked for.
 ghost use Rattle.std.specs.Prelude.{◌≡◌, ℕ, ◌+◌, ◌≤◌, List, IfSome};
 ghost use Rattle.elf_headers.specs.Ledger.{Did, IsRead, why_stopped};
-ghost use Rattle.elf_loader.specs.Answering.{Tells};
+ghost use Rattle.elf_loader.specs.Answering.{TellsFit};
 ghost use Rattle.elf_loader.specs.NumberSets.{has};
 ghost use Rattle.elf_loader.specs.Wants.{asked_of};
 ghost use Rattle.elf_model.specs.Bytes.{field, slice};
@@ -20,6 +20,15 @@ use elf_source::{Counted, Source};
 /// The bit of the word of a symbol's version that hides it; the others are its number.
 const HIDDEN: u16 = 0x8000;
 
+/// Whether the version of a symbol fits what is asked for, with the version's word.
+#[derive(Clone, Copy)]
+pub(crate) struct Fit {
+    /// Whether it fits.
+    pub(crate) fits: bool,
+    /// The word, where there are words of versions.
+    pub(crate) version: Option<u16>,
+}
+
 /// Whether the version of the symbol of an index fits what is asked for, where the numbers of the
 /// version by its name are told: its word is read, where there are words of versions. Without such
 /// each symbol's version fits.
@@ -32,20 +41,27 @@ pub(crate) fn version_fits<S: Source>(
     asked: &Asked<'_>,
     numbers: &NumberSet,
     index: u64,
-) -> Result<bool, Fault>
+) -> Result<Fit, Fault>
     requires within { IfSome words.now (λ words. RowsWithin src.old.seen.size words.words) }
     ensures { Did src.old src.new (why_stopped result) 2 (λ file. (told : Option AreWordsOf) →
         AreWords told words.now →
-        Tells (version_fits file told (asked_of asked.now) (has numbers.now) index) result) }
+        TellsFit file words.now index
+        (version_fits file told (asked_of asked.now) (has numbers.now) index) result) }
 {
     let Some(words) = words else {
-        return Ok(true);
+        return Ok(Fit {
+            fits: true,
+            version: None,
+        });
     };
     if index >= words.words.len() {
         return refused(words.head, Cause::VersionCut);
     }
     let word = read_half(src, words.words.place(index))?;
-    Ok(fits(asked, numbers, word))
+    Ok(Fit {
+        fits: fits(asked, numbers, word),
+        version: Some(word),
+    })
 }
 
 // Whether a version, by its word, fits what is asked for.

@@ -6,9 +6,11 @@ mod answering;
 mod collecting;
 mod comparing;
 mod fitting;
+mod found;
 mod naming;
 mod number_set;
 mod offered;
+mod telling;
 mod wanted;
 
 pub use offered::is_offered;

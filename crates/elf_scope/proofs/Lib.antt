@@ -1,4 +1,6 @@
 pub mod EntryLaws
+pub mod FoundLaws
+pub mod LoadedLaws
 pub mod ScopeLaws
 pub mod SectionLaws
 pub mod SegmentLaws

@@ -203,7 +203,7 @@ module _ (file : List ℕ) (index at : ℕ) where
         = record { place = place ∙ p.1.place; count = count ∙ ap (λ (z : ℕ). z / 2) p.1.size; head = head; index = to } in
         let all : AreWords (segment_words file index at) (Some words) = rw these are in (
           ap first_refusal rows_are
-          ∙ passed_both (rest_checks file entry.at ++ definition_rows) need_rows (passed_both (rest_checks file entry.at) definition_rows p.0 d.0) n.0,
+              ∙ passed_both (rest_checks file entry.at ++ definition_rows) need_rows (passed_both (rest_checks file entry.at) definition_rows p.0 d.0) n.0,
           record {
             words = rw same all;
             records = rw (records_kept (segment_words file index at) words (rows_records file at) all)

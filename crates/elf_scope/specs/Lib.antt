@@ -1,4 +1,5 @@
 pub mod Entries
+pub mod Finding
 pub mod Kinds
 pub mod Scopes
 pub mod Segments

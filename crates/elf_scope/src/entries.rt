@@ -20,10 +20,7 @@ use elf_table::{Fault, Table};
 ///
 /// # Errors
 /// A fault of a read, or a refusal for want of budget, at an entry's offset.
-pub(crate) fn first_entries<S: Source>(
-    src: &mut Counted<S>,
-    table: Table,
-) -> Result<Entries, Fault>
+pub(crate) fn first_entries<S: Source>(src: &mut Counted<S>, table: Table) -> Result<Entries, Fault>
     requires rows { table.entry ≡ 16 }
     requires within { RowsWithin src.old.seen.size table }
     ensures reads { Reads src.old src.new (size_of table) }

@@ -30,25 +30,25 @@ returns-in_err-word g c =
       did = Did-as _ (omega (arith, most)) (Did-then known.so_far c.in_err-word.ensures)
           (λ file told costs at says is of holds.
           let chained = sym (c.has.ensures.is ∙ chained_is file at _ _ is) ∙ c.loop-at-test.true in
-          walks file _ 0 _ _ _ _ costs (meets_unread file at c.args.hash says _ _ _ _ _ _ (told.0 at says is of holds) chained _ told.1));
+          walks _ 0 _ _ _ _ costs (meets_unread file at c.args.hash says _ _ _ _ _ _ (told.0 at says is of holds) chained _ told.1));
     })
 
-pub returns-in_err-symbol : goal.returns-in_err-symbol
-returns-in_err-symbol g c =
-    let p = err_from_is_err_and c.from_residual-in_err-symbol.result c.from_residual-in_err-symbol.ensures.1 in
+pub returns-in_err-answer : goal.returns-in_err-answer
+returns-in_err-answer g c =
+    let p = err_from_is_err_and c.from_residual-in_err-answer.result c.from_residual-in_err-answer.ensures.1 in
     let known = c.loop-at.invariant in
     let lies = c.has.ensures.lies c.loop-at-test.true in
     let room = room_for _ _ _ _ _ _ known.rises known.begins lies.0 lies.2 in
     let most = spent_most _ _ (g.T.Trial.cost c.args.trial.now) _ c.is_of_hash-is_wanted.result known.few room.1 in
     rw (p.1, p.2)
     (record {
-      did = Did-as _ (omega (arith, most)) (Did-then (Did-then known.so_far c.in_ok-word.ensures) c.in_err-symbol.ensures)
+      did = Did-as _ (omega (arith, most)) (Did-then (Did-then known.so_far c.in_ok-word.ensures) c.in_err-answer.ensures)
           (λ file told costs at says is of holds.
           let chained = sym (c.has.ensures.is ∙ chained_is file at _ _ is) ∙ c.loop-at-test.true in
           let word = told.0.1 ∙ ap (λ (p : ℕ). field file p 4) (c.chain_at-at.ensures.value ∙ chain_is file at _ _ is) in
           let t : There file at c.args.hash says c.loop-at.read c.loop-at.tried c.loop-at.index c.in_ok-word.word c.is_of_hash-is_wanted.result
           = record { place = _; along = told.0.0 at says is of holds; is = chained; word_is = word; of_hash = c.is_of_hash-is_wanted.ensures } in
-          walks file _ 0 _ _ _ _ costs (meets_untried_here file at c.args.hash says _ _ _ _ _ _ _ t _ (told.1 says of)));
+          walks _ 0 _ _ _ _ costs (meets_untried_here file at c.args.hash says _ _ _ _ _ _ _ t _ (told.1 says of)));
     })
 
 pub returns-in-Some : goal.returns-in-Some
@@ -58,13 +58,13 @@ returns-in-Some g c =
     let room = room_for _ _ _ _ _ _ known.rises known.begins lies.0 lies.2 in
     let most = spent_most _ _ (g.T.Trial.cost c.args.trial.now) _ c.is_of_hash-is_wanted.result known.few room.1 in
     record {
-      did = Did-as _ (omega (arith, most)) (Did-then (Did-then known.so_far c.in_ok-word.ensures) (rw c.in-Some.is at c.in_ok-symbol.ensures))
+      did = Did-as _ (omega (arith, most)) (Did-then (Did-then known.so_far c.in_ok-word.ensures) (rw c.in-Some.is at c.in_ok-answer.ensures))
           (λ file told costs at says is of holds.
           let chained = sym (c.has.ensures.is ∙ chained_is file at _ _ is) ∙ c.loop-at-test.true in
           let word = told.0.1 ∙ ap (λ (p : ℕ). field file p 4) (c.chain_at-at.ensures.value ∙ chain_is file at _ _ is) in
           let t : There file at c.args.hash says c.loop-at.read c.loop-at.tried c.loop-at.index c.in_ok-word.word c.is_of_hash-is_wanted.result
           = record { place = _; along = told.0.0 at says is of holds; is = chained; word_is = word; of_hash = c.is_of_hash-is_wanted.ensures } in
-          walks file _ 0 _ _ _ _ costs (meets_found file at c.args.hash says _ _ _ _ _ _ _ t _ _ (told.1 says of) (ap (λ (n : ℕ). c.loop-at.tried + n) c.one_where-tried.ensures)));
+          walks _ 0 _ _ _ _ costs (meets_found file at c.args.hash says _ _ _ _ _ _ _ t _ _ (told.1 says of) (ap (λ (n : ℕ). c.loop-at.tried + n) c.one_where-tried.ensures)));
     }
 
 pub returns-then-ends_chain : goal.returns-then-ends_chain
@@ -74,13 +74,13 @@ returns-then-ends_chain g c =
     let room = room_for _ _ _ _ _ _ known.rises known.begins lies.0 lies.2 in
     let most = spent_most _ _ (g.T.Trial.cost c.args.trial.now) _ c.is_of_hash-is_wanted.result known.few room.1 in
     record {
-      did = Did-as _ (omega (arith, most)) (Did-then (Did-then known.so_far c.in_ok-word.ensures) c.in_ok-symbol.ensures)
+      did = Did-as _ (omega (arith, most)) (Did-then (Did-then known.so_far c.in_ok-word.ensures) c.in_ok-answer.ensures)
           (λ file told costs at says is of holds.
           let chained = sym (c.has.ensures.is ∙ chained_is file at _ _ is) ∙ c.loop-at-test.true in
           let word = told.0.1 ∙ ap (λ (p : ℕ). field file p 4) (c.chain_at-at.ensures.value ∙ chain_is file at _ _ is) in
           let t : There file at c.args.hash says c.loop-at.read c.loop-at.tried c.loop-at.index c.in_ok-word.word c.is_of_hash-is_wanted.result
           = record { place = _; along = told.0.0 at says is of holds; is = chained; word_is = word; of_hash = c.is_of_hash-is_wanted.ensures } in
-          walks file _ 0 _ _ _ _ costs
+          walks _ 0 _ _ _ _ costs
           (meets_last file at c.args.hash says _ _ _ _ _ _ _ t _ _ (told.1 says of) c.in_default.not-Some (sym c.ends_chain.ensures ∙ c.if-ends_chain.true) (ap (λ (n : ℕ). c.loop-at.tried + n) c.one_where-tried.ensures)));
     }
 
@@ -99,13 +99,13 @@ loop-at-preserved g c =
       rises = omega (arith, rises);
       begins = λ some. room.0;
       fits = room.1;
-      so_far = Did-as _ (bytes_next 0 _ _ (g.T.Trial.cost c.args.trial.now) _ c.is_of_hash-is_wanted.result count) (Did-then (Did-then known.so_far c.in_ok-word.ensures) c.in_ok-symbol.ensures)
+      so_far = Did-as _ (bytes_next 0 _ _ (g.T.Trial.cost c.args.trial.now) _ c.is_of_hash-is_wanted.result count) (Did-then (Did-then known.so_far c.in_ok-word.ensures) c.in_ok-answer.ensures)
           (λ file told costs at says is of holds.
           let chained = sym (c.has.ensures.is ∙ chained_is file at _ _ is) ∙ c.loop-at-test.true in
           let word = told.0.1 ∙ ap (λ (p : ℕ). field file p 4) (c.chain_at-at.ensures.value ∙ chain_is file at _ _ is) in
           let t : There file at c.args.hash says c.loop-at.read c.loop-at.tried c.loop-at.index c.in_ok-word.word c.is_of_hash-is_wanted.result
           = record { place = _; along = told.0.0 at says is of holds; is = chained; word_is = word; of_hash = c.is_of_hash-is_wanted.ensures } in
-          along_next file at c.args.hash says (g.T.Trial.place c.args.trial.now) (g.T.Trial.cost c.args.trial.now) _ _ _ _ _ t _ _ _ (told.1 says of) c.in_default.not-Some
+          along_next file at c.args.hash says (g.T.Trial.stands c.args.trial.now file) (g.T.Trial.cost c.args.trial.now) _ _ _ _ _ t _ _ _ (told.1 says of) c.in_default.not-Some
           (sym c.ends_chain.ensures ∙ c.if-ends_chain.false) count (c.chain_at-at.ensures.value ∙ chain_is file at _ _ is));
     }
 
@@ -120,5 +120,5 @@ returns g c =
       did = Did-as _ most (Did-stop _ (λ budget. cc) known.so_far)
           (λ file along costs at says is of holds.
           let chained = sym (c.has.ensures.is ∙ chained_is file at _ _ is) ∙ c.loop-at-test.false in
-          walks file _ 0 _ _ _ _ costs (meets_not_there file at c.args.hash says _ _ _ _ _ _ (along at says is of holds) chained));
+          walks _ 0 _ _ _ _ costs (meets_not_there file at c.args.hash says _ _ _ _ _ _ (along at says is of holds) chained));
     })

@@ -11,6 +11,6 @@ returns-in-None g c =
     record {
       did = Did-as _ (omega (arith, most)) (rw c.in-None.is at c.in_ok-start.ensures.did)
           (λ file told costs at says is of.
-          walks file _ 12 _ _ _ _ costs
-          (meets_answer file _ 12 _ _ _ 0 0 None (passed_over file at c.args.hash says (told at is)) (omega arith) tt));
+          walks _ 12 _ _ _ _ costs
+          (meets_answer _ 12 _ _ _ 0 0 None (passed_over file at c.args.hash says (told at is)) (omega arith) tt));
     }

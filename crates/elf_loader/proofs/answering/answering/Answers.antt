@@ -1,8 +1,7 @@
 -- The symbol, its name and the word of its version are read, as far as they decide.
-use Rattle.std.proofs.Common.{true, false, Ok, Err, ap, sym, ◌∙◌, arith}
+use Rattle.std.proofs.Common.{Ok, ap, sym, ◌∙◌, arith}
 use Rattle.std.proofs.lemmas.Result.{err_from_is_err_and}
 use Rattle.elf_headers.proofs.LedgerLaws.{Did-as, Did-of, Did-then}
-use Rattle.elf_model.specs.Loader.{symbol_place}
 use Rattle.elf_loader.specs.NumberSets.{has}
 use Rattle.elf_loader.specs.Wants.{the_wanted}
 use Rattle.elf_loader.proofs.AnswerLaws.{fault-answers, fault-tells, offered-answers, other-answers, symbol-is, unoffered-answers}
@@ -38,37 +37,38 @@ returns-then-not-is_offered g c =
     unoffered-answers file told c.args.symbols.now (the_wanted c.args.wanted.now) (has c.args.numbers.now) c.args.index c.in_ok-symbol.symbol is c.args.symbols.now.rows c.requires.below read.0
     (rw off at read.1 ∙ ap Ok c.if-not-branch.false) (sym (c.is_offered.ensures file _ here) ∙ c.if-not-is_offered.true))
 
-pub returns-in_err-fits : goal.returns-in_err-fits
-returns-in_err-fits g c =
-    let p = err_from_is_err_and c.from_residual-in_err-fits.result c.from_residual-in_err-fits.ensures.1 in
+pub returns-in_err-fit : goal.returns-in_err-fit
+returns-in_err-fit g c =
+    let p = err_from_is_err_and c.from_residual-in_err-fit.result c.from_residual-in_err-fit.ensures.1 in
     let off = c.from-off.ensures in
     let symbol = Did-of c.symbol.ensures.reads tt c.in_ok-symbol.ensures.read in
     rw (p.1, p.2)
-    (Did-as _ (omega arith) (Did-then (Did-then symbol (Did-of c.equals.ensures.reads tt c.in_ok-equals.ensures.compared)) c.in_err-fits.ensures)
+    (Did-as _ (omega arith) (Did-then (Did-then symbol (Did-of c.equals.ensures.reads tt c.in_ok-equals.ensures.compared)) c.in_err-fit.ensures)
     (λ file read costs told is.
     let here = symbol-is file told c.args.symbols.now (the_wanted c.args.wanted.now) (has c.args.numbers.now) c.args.index c.in_ok-symbol.symbol is c.args.symbols.now.rows c.requires.below read.0.0 in
     let e = offered-answers file told c.args.symbols.now (the_wanted c.args.wanted.now) (has c.args.numbers.now) c.args.index c.in_ok-symbol.symbol is c.args.symbols.now.rows c.requires.below read.0.0
     (rw off at read.0.1 ∙ ap Ok c.if-not-branch.false) (sym (c.is_offered.ensures file _ here) ∙ c.if-not-is_offered.false) in
-    fault-tells file (symbol_place told c.args.index) _ _ _ e (read.1 told.words is.words)))
+    fault-tells file c.args.symbols.now c.args.symbols.now.words c.args.index _ _ _ e (read.1 told.words is.words)))
 
-pub returns-then-fits : goal.returns-then-fits
-returns-then-fits g c =
+pub returns : goal.returns
+returns g c =
     let off = c.from-off.ensures in
     let symbol = Did-of c.symbol.ensures.reads tt c.in_ok-symbol.ensures.read in
-    Did-as _ (omega arith) (Did-then (Did-then symbol (Did-of c.equals.ensures.reads tt c.in_ok-equals.ensures.compared)) c.in_ok-fits.ensures)
+    Did-as _ (omega arith) (Did-then (Did-then symbol (Did-of c.equals.ensures.reads tt c.in_ok-equals.ensures.compared)) c.in_ok-fit.ensures)
     (λ file read costs told is.
     let here = symbol-is file told c.args.symbols.now (the_wanted c.args.wanted.now) (has c.args.numbers.now) c.args.index c.in_ok-symbol.symbol is c.args.symbols.now.rows c.requires.below read.0.0 in
     let e = offered-answers file told c.args.symbols.now (the_wanted c.args.wanted.now) (has c.args.numbers.now) c.args.index c.in_ok-symbol.symbol is c.args.symbols.now.rows c.requires.below read.0.0
     (rw off at read.0.1 ∙ ap Ok c.if-not-branch.false) (sym (c.is_offered.ensures file _ here) ∙ c.if-not-is_offered.false) in
-    (e ∙ read.1 told.words is.words ∙ ap Ok c.if-fits.true, here))
+    let fit = read.1 told.words is.words in
+    (e ∙ fit.0 ∙ ap Ok c.if-not-fit.false, (read.0.0, fit.1)))
 
-pub returns-else-fits : goal.returns-else-fits
-returns-else-fits g c =
+pub returns-then-not-fit : goal.returns-then-not-fit
+returns-then-not-fit g c =
     let off = c.from-off.ensures in
     let symbol = Did-of c.symbol.ensures.reads tt c.in_ok-symbol.ensures.read in
-    Did-as _ (omega arith) (Did-then (Did-then symbol (Did-of c.equals.ensures.reads tt c.in_ok-equals.ensures.compared)) c.in_ok-fits.ensures)
+    Did-as _ (omega arith) (Did-then (Did-then symbol (Did-of c.equals.ensures.reads tt c.in_ok-equals.ensures.compared)) c.in_ok-fit.ensures)
     (λ file read costs told is.
     let here = symbol-is file told c.args.symbols.now (the_wanted c.args.wanted.now) (has c.args.numbers.now) c.args.index c.in_ok-symbol.symbol is c.args.symbols.now.rows c.requires.below read.0.0 in
     let e = offered-answers file told c.args.symbols.now (the_wanted c.args.wanted.now) (has c.args.numbers.now) c.args.index c.in_ok-symbol.symbol is c.args.symbols.now.rows c.requires.below read.0.0
     (rw off at read.0.1 ∙ ap Ok c.if-not-branch.false) (sym (c.is_offered.ensures file _ here) ∙ c.if-not-is_offered.false) in
-    e ∙ read.1 told.words is.words ∙ ap Ok c.if-fits.false)
+    e ∙ (read.1 told.words is.words).0 ∙ ap Ok c.if-not-fit.true)

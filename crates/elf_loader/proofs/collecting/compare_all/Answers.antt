@@ -1,5 +1,5 @@
 -- The definitions, and then the needs.
-use Rattle.std.proofs.Common.{◌+◌, ◌*◌, ◌≤◌, [], length, None, Some, Ok, Err, ap, arith}
+use Rattle.std.proofs.Common.{◌+◌, [], length, ap, arith}
 use Rattle.std.proofs.lemmas.Result.{err_from_is_err_and}
 use Rattle.elf_headers.proofs.LedgerLaws.{Did-as, Did-then}
 use Rattle.elf_model.specs.Loader.{compared_with, readings}

@@ -1,5 +1,5 @@
 -- No table, or one.
-use Rattle.std.proofs.Common.{◌+◌, length, None, Some, Ok, arith}
+use Rattle.std.proofs.Common.{◌+◌, length, arith}
 use Rattle.elf_headers.proofs.LedgerLaws.{Charges-none, Did-as, Did-none}
 use Rattle.elf_model.specs.Names.{pad64}
 use Rattle.elf_loader.proofs.TablesLaws.{compared-no-table, compared-one-table}

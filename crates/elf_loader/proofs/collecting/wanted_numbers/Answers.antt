@@ -1,9 +1,9 @@
 -- None is wanted, or all records are compared.
-use Rattle.std.proofs.Common.{◌≡◌, ◌+◌, List, ℕ, Option, length, None, Some, Ok, Err, [], refl, ap, sym, ◌∙◌, arith, option_map}
+use Rattle.std.proofs.Common.{◌≡◌, ◌+◌, length, None, Some, [], refl, ap, sym, ◌∙◌, arith, option_map}
 use Rattle.std.proofs.lemmas.Result.{err_from_is_err_and}
 use Rattle.elf_headers.proofs.LedgerLaws.{Charges-none, Did-as, Did-none}
 use Rattle.elf_model.specs.Loader.{asked_name, compared_with, readings}
-use Rattle.elf_model.specs.LoaderFind.{record_cost, wanted_numbers}
+use Rattle.elf_model.specs.LoaderFind.{record_cost}
 use Rattle.elf_model.specs.Names.{pad64}
 use Rattle.elf_versions.proofs.WordLaws.{none-of}
 use Rattle.elf_loader.specs.Wants.{asked_of}

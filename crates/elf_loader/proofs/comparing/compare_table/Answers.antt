@@ -1,8 +1,8 @@
 -- Each record that is given is compared, until none is left.
-use Rattle.std.proofs.Common.{◌≡◌, suc, ◌+◌, ◌-◌, ◌*◌, ◌≤◌, length, None, Some, Ok, Err, sym, ◌∙◌, arith}
+use Rattle.std.proofs.Common.{◌≡◌, ◌+◌, ◌-◌, ◌*◌, ◌≤◌, length, ◌∙◌, arith}
 use Rattle.std.proofs.lemmas.Result.{err_from_is_err_and}
 use Rattle.elf_headers.proofs.LedgerLaws.{Did-as, Did-none, Did-then}
-use Rattle.elf_model.specs.Loader.{Meets, compared_with}
+use Rattle.elf_model.specs.Loader.{compared_with}
 use Rattle.elf_model.specs.Names.{pad64}
 use Rattle.elf_model.specs.Versions.{most_records}
 use Rattle.elf_table.specs.Tables.{strings_in}

@@ -1,5 +1,5 @@
 -- Each record that is given is looked at, until one has the number or none is left.
-use Rattle.std.proofs.Common.{◌≡◌, ℕ, List, ap, ◌+◌, ◌-◌, ◌*◌, ◌≤◌, None, Some, Ok, Err, sym, ◌∙◌, arith}
+use Rattle.std.proofs.Common.{◌≡◌, ℕ, List, ap, ◌+◌, ◌-◌, ◌*◌, ◌≤◌, Some, sym, ◌∙◌, arith}
 use Rattle.std.proofs.lemmas.Result.{err_from_is_err_and}
 use Rattle.elf_headers.proofs.LedgerLaws.{Did-as, Did-none, Did-then}
 use Rattle.elf_model.specs.Loader.{naming_of}

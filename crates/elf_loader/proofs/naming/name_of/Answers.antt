@@ -1,8 +1,8 @@
 -- The definitions, and then the needs.
-use Rattle.std.proofs.Common.{◌+◌, ◌*◌, ◌≤◌, [], None, Some, Ok, Err, ap, sym, ◌∙◌, arith}
+use Rattle.std.proofs.Common.{[], ap, arith}
 use Rattle.std.proofs.lemmas.Result.{err_from_is_err_and}
 use Rattle.elf_headers.proofs.LedgerLaws.{Did-as, Did-then}
-use Rattle.elf_model.specs.Loader.{naming_of, readings}
+use Rattle.elf_model.specs.Loader.{naming_of}
 use Rattle.elf_scope.specs.Symbols.{one_table}
 use Rattle.elf_versions.proofs.WordLaws.{none-of}
 use Rattle.elf_loader.specs.Tables.{most_of, readings_before}

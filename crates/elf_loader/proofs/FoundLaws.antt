@@ -1,0 +1,174 @@
+-- The version of a symbol that is found.
+use Rattle.std.proofs.Common.{◌≡◌, ℕ, ◌+◌, ◌*◌, ◌<◌, ◌≤◌, subst, nat_lt, true, false, is_some, List, [], Option, None, Some, Result, Ok, Err, refl, sym, ap, ◌∙◌, arith}
+use Rattle.std.proofs.lemmas.Bool.Decides.{nat_tests}
+use Rattle.elf_model.specs.Chains.{Walked}
+use Rattle.elf_model.specs.Cost.{cost_where}
+use Rattle.elf_model.specs.Loader.{Asked, Naming, VersionWords, asked_name, naming_of, readings, version_word_at}
+use Rattle.elf_model.specs.LoaderFind.{LoaderLookup, TOLD_BYTES, found_in, found_lookup, told_by}
+use Rattle.elf_model.specs.LoaderScope.{Scope}
+use Rattle.elf_model.specs.Names.{Shown, shown}
+use Rattle.elf_model.specs.Names.Shown.{Whole}
+use Rattle.elf_model.specs.Records.{versym}
+use Rattle.elf_model.specs.Versions.{Met, name_index, number_in}
+use Rattle.elf_model.specs.declared.causes.Cause.{Cause}
+use Rattle.elf_model.specs.declared.causes.Refusal.{Refusal}
+use Rattle.elf_source.specs.Source.{Counting}
+use Rattle.elf_headers.specs.Ledger.{Charges}
+use Rattle.elf_headers.specs.declared.fault.Fault.{Fault}
+use Rattle.elf_headers.specs.declared.fault.Fault.TheVariants.{Refused, Source}
+use Rattle.elf_headers.proofs.LedgerLaws.{Charges-more}
+use Rattle.elf_scope.specs.Symbols.{IsWords}
+use Rattle.elf_scope.specs.declared.symbols.VersionWords.{VersionWords as Words}
+use Rattle.elf_table.specs.Cursors.{row_at}
+use Rattle.elf_table.specs.declared.names.NameEnd.{NameEnd}
+use Rattle.elf_loader.specs.Finding.{FindsVersion, FoundAs, Spends}
+use Rattle.elf_loader.specs.Telling.{TellsName, told_bytes}
+use Rattle.elf_loader.specs.declared.found.VersionName.TheVariants.{Wanted, Unnamed, Told}
+
+-- where a version is wanted, it is told as it is wanted
+in-wanted :
+    (file : List ℕ) (scope : Scope) (asked : Asked) (records y : ℕ) (walked : Walked) (words : VersionWords) (version : List ℕ) → asked_name asked ≡ Some version
+    → found_in file scope asked records y walked (Some words)
+    ≡ found_lookup scope y walked records false (Some (record { index = words.index; word = versym file (version_word_at words y); name = Whole version }))
+unfolding found_in
+in-wanted file scope asked records y walked words version n = rw (n, found_in) refl
+
+-- where its number is 0 or 1, it has no name
+in-unnamed :
+    (file : List ℕ) (scope : Scope) (asked : Asked) (records y : ℕ) (walked : Walked) (words : VersionWords) → asked_name asked ≡ None
+    → nat_lt (number_in (versym file (version_word_at words y))) 2 ≡ true
+    → found_in file scope asked records y walked (Some words)
+    ≡ found_lookup scope y walked records false (Some (record { index = words.index; word = versym file (version_word_at words y); name = Whole [] }))
+unfolding found_in
+in-unnamed file scope asked records y walked words n low = rw (n, low, found_in) refl
+
+-- else it is that of its number
+in-told :
+    (file : List ℕ) (scope : Scope) (asked : Asked) (records y : ℕ) (walked : Walked) (words : VersionWords) → asked_name asked ≡ None
+    → nat_lt (number_in (versym file (version_word_at words y))) 2 ≡ false
+    → found_in file scope asked records y walked (Some words)
+    ≡ told_by file scope words y walked (naming_of file (number_in (versym file (version_word_at words y))) (readings file scope.symbols.records))
+unfolding found_in
+in-told file scope asked records y walked words n high = rw (n, high, found_in) refl
+
+-- what telling it reads, whatever it answers
+told-spends : (file : List ℕ) (scope : Scope) (words : VersionWords) (y : ℕ) (walked : Walked) (naming : Naming) → Spends (told_by file scope words y walked naming) walked naming.read (is_some naming.found)
+unfolding told_by
+told-spends file scope words y walked naming = go naming.found refl naming.refused refl
+  where
+    read : (found : List ℕ × Met) → naming.found ≡ Some found → (name : Result Shown Cause) → shown found.0 (name_index file found.1) TOLD_BYTES ≡ name → Spends (told_by file scope words y walked naming) walked naming.read (is_some naming.found)
+    read found f (Ok name) n = rw (f, told_by) (rw (n, told_by) (record { tried = refl; chain_words = refl; records = refl; is_named = refl }))
+    read found f (Err cause) n = rw (f, told_by) (rw (n, told_by) (record { tried = refl; chain_words = refl; records = refl; is_named = refl }))
+
+    go : (found : Option (List ℕ × Met)) → naming.found ≡ found → (refused : Option Refusal) → naming.refused ≡ refused → Spends (told_by file scope words y walked naming) walked naming.read (is_some naming.found)
+    go (Some found) f refused r = read found f (shown found.0 (name_index file found.1) TOLD_BYTES) refl
+    go None f None r = rw (f, r, told_by) (record { tried = refl; chain_words = refl; records = refl; is_named = refl })
+    go None f (Some refusal) r = rw (f, r, told_by) (record { tried = refl; chain_words = refl; records = refl; is_named = refl })
+
+-- the version of a symbol that is found is told, under the wanted name
+pub finds-wanted :
+    (file : List ℕ) (scope : Scope) (asked : Asked) (words : VersionWords) (y word : ℕ) (version told : List ℕ) (c : Counting) (code : Words)
+    → asked_name asked ≡ Some version → IsWords words code → word ≡ versym file (version_word_at words y) → Charges c c None 0
+    → FindsVersion file scope asked words y c c told (Ok (record { index = code.index; word = word; name = Wanted }))
+finds-wanted file scope asked words y word version told c code n is here none = record {
+  records = 0;
+  is_named = false;
+  costs = Charges-more _ (omega arith) none;
+  spends = λ walked before first.
+      let e = in-wanted file scope asked before y walked words version n in
+      rw e (record { tried = refl; chain_words = refl; records = omega arith; is_named = refl });
+  finds = λ walked before first.
+      let e = in-wanted file scope asked before y walked words version n in
+      let index = is.index in
+      rw (e, n, index, here) refl;
+}
+
+-- without a name
+pub finds-unnamed :
+    (file : List ℕ) (scope : Scope) (asked : Asked) (words : VersionWords) (y word : ℕ) (told : List ℕ) (c : Counting) (code : Words)
+    → asked_name asked ≡ None → IsWords words code → word ≡ versym file (version_word_at words y) → number_in word < 2 → Charges c c None 0
+    → FindsVersion file scope asked words y c c told (Ok (record { index = code.index; word = word; name = Unnamed }))
+finds-unnamed file scope asked words y word told c code n is here low none =
+    let small : nat_lt (number_in (versym file (version_word_at words y))) 2 ≡ true = subst (λ (w : ℕ). nat_lt (number_in w) 2 ≡ true) here (below (number_in word) low) in
+    record {
+      records = 0;
+      is_named = false;
+      costs = Charges-more _ (omega arith) none;
+      spends = λ walked before first.
+          let e = in-unnamed file scope asked before y walked words n small in
+          rw e (record { tried = refl; chain_words = refl; records = omega arith; is_named = refl });
+      finds = λ walked before first.
+          let e = in-unnamed file scope asked before y walked words n small in
+          let index = is.index in
+          rw (e, index, here) refl;
+    }
+  where
+    below : (number : ℕ) → number < 2 → nat_lt number 2 ≡ true
+    below number low = grind (arith, nat_tests)
+
+-- by the name of its number
+above : (number : ℕ) → 2 ≤ number → nat_lt number 2 ≡ false
+above number high = grind (arith, nat_tests)
+
+pub finds-told :
+    (file : List ℕ) (scope : Scope) (asked : Asked) (words : VersionWords) (y word : ℕ) (told : List ℕ) (a b : Counting) (code : Words) (end : NameEnd)
+    → asked_name asked ≡ None → IsWords words code → word ≡ versym file (version_word_at words y) → 2 ≤ number_in word
+    → TellsName file scope words y (naming_of file (number_in word) (readings file scope.symbols.records)) a b told (Ok end)
+    → FindsVersion file scope asked words y a b told (Ok (record { index = code.index; word = word; name = Told end }))
+finds-told file scope asked words y word told a b code end n is here high tells =
+    let naming = naming_of file (number_in word) (readings file scope.symbols.records) in
+    let large : nat_lt (number_in (versym file (version_word_at words y))) 2 ≡ false = subst (λ (w : ℕ). nat_lt (number_in w) 2 ≡ false) here (above (number_in word) high) in
+    let in_told : (before : ℕ) (walked : Walked) → found_in file scope asked before y walked (Some words) ≡ told_by file scope words y walked naming =
+    λ before walked. in-told file scope asked before y walked words n large ∙ ap (λ (w : ℕ). told_by file scope words y walked (naming_of file (number_in w) (readings file scope.symbols.records))) (sym here) in
+    record {
+      records = naming.read;
+      is_named = true;
+      costs = tells.0;
+      spends = λ walked before first.
+          let e = in_told before walked ∙ tells.1 walked in
+          let none = first n in
+          rw e (record { tried = refl; chain_words = refl; records = omega (arith, none); is_named = refl });
+      finds = λ walked before first.
+          let e = in_told before walked ∙ tells.1 walked in
+          let index = is.index in
+          rw (e, index, here) refl;
+    }
+
+-- or it is not told
+pub finds-fault :
+    (file : List ℕ) (scope : Scope) (asked : Asked) (words : VersionWords) (y word : ℕ) (told : List ℕ) (a b : Counting) (fault : Fault)
+    → asked_name asked ≡ None → word ≡ versym file (version_word_at words y) → 2 ≤ number_in word
+    → TellsName file scope words y (naming_of file (number_in word) (readings file scope.symbols.records)) a b told (Err fault)
+    → FindsVersion file scope asked words y a b told (Err fault)
+finds-fault file scope asked words y word told a b fault n here high tells =
+    let naming = naming_of file (number_in word) (readings file scope.symbols.records) in
+    let large : nat_lt (number_in (versym file (version_word_at words y))) 2 ≡ false = subst (λ (w : ℕ). nat_lt (number_in w) 2 ≡ false) here (above (number_in word) high) in
+    let in_told : (before : ℕ) (walked : Walked) → found_in file scope asked before y walked (Some words) ≡ told_by file scope words y walked naming =
+    λ before walked. in-told file scope asked before y walked words n large ∙ ap (λ (w : ℕ). told_by file scope words y walked (naming_of file (number_in w) (readings file scope.symbols.records))) (sym here) in
+    record {
+      records = naming.read;
+      is_named = is_some naming.found;
+      costs = paid fault tells;
+      spends = λ walked before first.
+          let e = in_told before walked in
+          let none = first n in
+          let spends = told-spends file scope words y walked naming in
+          rw e (record { tried = spends.tried; chain_words = spends.chain_words; records = omega (arith, none, spends.records); is_named = spends.is_named });
+      finds = λ walked before first. refused fault tells walked (found_in file scope asked before y walked (Some words)) (in_told before walked);
+    }
+  where
+    naming : Naming
+    naming = naming_of file (number_in word) (readings file scope.symbols.records)
+
+    paid : (fault : Fault) → TellsName file scope words y naming a b told (Err fault) → Charges a b (Some fault) (naming.read * 28 + cost_where (is_some naming.found) told_bytes)
+    paid (Refused refusal) t = t.0
+    paid (Source fault at) t = t
+
+    refused : (fault : Fault) → TellsName file scope words y naming a b told (Err fault) → (walked : Walked) (lookup : LoaderLookup) → lookup ≡ told_by file scope words y walked naming
+        → FoundAs scope asked y told walked lookup (Err fault)
+    refused (Refused refusal) t walked lookup e = λ other. let told_so = e ∙ t.1 other walked in rw told_so refl
+    refused (Source fault at) t walked lookup e = tt
+
+-- where a word stands
+pub word-at : (told : VersionWords) (code : Words) (y : ℕ) → IsWords told code → code.words.entry ≡ 2 → row_at code.words y ≡ version_word_at told y
+word-at told code y is entry = rw (entry, is.place) (omega arith)

@@ -1,0 +1,47 @@
+-- The wanted name, no name, or the name of its number.
+use Rattle.std.proofs.Common.{◌≡◌, None, Some, ap, sym, ◌∙◌, arith, option_map}
+use Rattle.std.proofs.lemmas.Result.{err_from_is_err_and}
+use Rattle.elf_headers.proofs.LedgerLaws.{Charges-none, Did-as, Did-none}
+use Rattle.elf_model.specs.Loader.{asked_name}
+use Rattle.elf_versions.proofs.WordLaws.{none-of}
+use Rattle.elf_loader.specs.Wants.{asked_of}
+use Rattle.elf_loader.proofs.FoundLaws.{finds-fault, finds-told, finds-unnamed, finds-wanted, word-at}
+use Rattle.elf_loader.proofs.found.found_version.Goals as goal
+
+pub returns-in-Some : goal.returns-in-Some
+returns-in-Some g c =
+    let asks : asked_name (asked_of c.args.asked.now) ≡ Some c.in-Some._version.now = sym c.name.ensures ∙ ap (option_map (λ name. name.now)) c.in-Some.is in
+    rw c.told_as.ensures
+    (Did-as _ (omega arith) (Did-none c.args.src.now)
+    (λ file read costs scope told is words here.
+    finds-wanted file scope (asked_of c.args.asked.now) told c.args.found.0 c.args.found.1 _ c.args.name.now c.args.src.now c.args.words.now asks words here (Charges-none c.args.src.now)))
+
+pub returns-then-number-lt2 : goal.returns-then-number-lt2
+returns-then-number-lt2 g c =
+    let none : c.name.result ≡ None = none-of c.name.result c.in_default.not-Some in
+    let asks : asked_name (asked_of c.args.asked.now) ≡ None = sym c.name.ensures ∙ ap (option_map (λ name. name.now)) none in
+    rw c.told_as-then-number-lt2.ensures
+    (Did-as _ (omega arith) (Did-none c.args.src.now)
+    (λ file read costs scope told is words here.
+    finds-unnamed file scope (asked_of c.args.asked.now) told c.args.found.0 c.args.found.1 c.args.name.now c.args.src.now c.args.words.now asks words here c.if-number-lt2.true (Charges-none c.args.src.now)))
+
+pub returns-in_err-end : goal.returns-in_err-end
+returns-in_err-end g c =
+    let none : c.name.result ≡ None = none-of c.name.result c.in_default.not-Some in
+    let asks : asked_name (asked_of c.args.asked.now) ≡ None = sym c.name.ensures ∙ ap (option_map (λ name. name.now)) none in
+    let p = err_from_is_err_and c.from_residual.result c.from_residual.ensures.1 in
+    rw (p.1, p.2)
+    (Did-as _ (omega arith) c.in_err-end.ensures
+    (λ file read costs scope told is words here.
+    finds-fault file scope (asked_of c.args.asked.now) told c.args.found.0 c.args.found.1 c.told_name.new.name c.args.src.now c.told_name.new.src _ asks here c.if-number-lt2.false
+    (read scope told c.args.found.0 is (c.place.ensures ∙ word-at told c.args.words.now c.args.found.0 words c.args.words.now.entry))))
+
+pub returns : goal.returns
+returns g c =
+    let none : c.name.result ≡ None = none-of c.name.result c.in_default.not-Some in
+    let asks : asked_name (asked_of c.args.asked.now) ≡ None = sym c.name.ensures ∙ ap (option_map (λ name. name.now)) none in
+    rw c.told_as-2.ensures
+    (Did-as _ (omega arith) c.in_ok-end.ensures
+    (λ file read costs scope told is words here.
+    finds-told file scope (asked_of c.args.asked.now) told c.args.found.0 c.args.found.1 c.told_name.new.name c.args.src.now c.told_name.new.src c.args.words.now c.in_ok-end.end asks words here c.if-number-lt2.false
+    (read scope told c.args.found.0 is (c.place.ensures ∙ word-at told c.args.words.now c.args.found.0 words c.args.words.now.entry))))

@@ -1,0 +1,42 @@
+-- The record is found, and its name is read.
+use Rattle.std.proofs.Common.{ℕ, IfErr, IfSome, Result, Ok, Err, arith}
+use Rattle.std.proofs.lemmas.Result.{err_from_is_err_and}
+use Rattle.elf_source.specs.Source.{Counting}
+use Rattle.elf_headers.specs.Faults.{Says}
+use Rattle.elf_headers.specs.Ledger.{why_stopped}
+use Rattle.elf_headers.specs.declared.fault.Fault.{Fault}
+use Rattle.elf_headers.specs.declared.fault.Fault.TheVariants.{Refused}
+use Rattle.elf_headers.proofs.LedgerLaws.{Did-as, Did-of, Did-stop, Did-then}
+use Rattle.elf_model.specs.Loader.{naming_of, readings}
+use Rattle.elf_model.specs.declared.causes.Cause.TheVariants.{VersionIndex}
+use Rattle.elf_versions.proofs.WordLaws.{none-of}
+use Rattle.elf_loader.proofs.TellingLaws.{fault-tells, name-tells, none-tells}
+use Rattle.elf_loader.proofs.telling.told_name.Goals as goal
+
+says-stopped : {X : Type 0} (a b : Counting) (n : ℕ) (result : Result X Fault) → IfErr result (Says a b n) → IfSome (why_stopped result) (Says a b n)
+says-stopped a b n (Ok x) says = tt
+says-stopped a b n (Err fault) says = says
+
+pub returns-in_err-named : goal.returns-in_err-named
+returns-in_err-named g c =
+    let p = err_from_is_err_and c.from_residual.result c.from_residual.ensures.1 in
+    rw (p.1, p.2)
+    (Did-as _ (omega arith) c.in_err-named.ensures.did
+    (λ file read costs scope words y is here. fault-tells file scope words y _ _ _ c.args.name.now _ (read scope.symbols.records is.records)))
+
+pub returns-in_default : goal.returns-in_default
+returns-in_default g c =
+    let none = none-of c.in_ok-named.field-0 c.in_default.not-Some in
+    rw c.refused.ensures
+    (Did-as _ (omega arith) (Did-stop (Refused (record { at = c.args.at; cause = VersionIndex })) (λ budget. cc) (rw none at c.in_ok-named.ensures.did))
+    (λ file read costs scope words y is here.
+    none-tells file scope words y c.args.at (naming_of file c.args.number (readings file scope.symbols.records)) c.args.src.now c.name_of.new.src c.args.name.now here (read scope.symbols.records is.records)))
+
+pub returns : goal.returns
+returns g c =
+    let off = c.from-off.ensures in
+    let says = says-stopped _ _ _ c.read.result c.read.ensures.says in
+    Did-as _ (omega arith) (Did-then (rw c.in-Some.is at c.in_ok-named.ensures.did) (Did-of c.read.ensures.reads says c.read.ensures.read))
+    (λ file read costs scope words y is here.
+    name-tells file scope words y (naming_of file c.args.number (readings file scope.symbols.records)) c.args.src.now c.name_of.new.src c.read.new.src c.read.new.name c.in-Some.named c.read.result
+    (read.0 scope.symbols.records is.records) (record { reads = c.read.ensures.reads; says = says }) (rw off at read.1))

@@ -1,0 +1,53 @@
+-- What the version of a symbol that is found is, as it is told.
+use Rattle.std.specs.Prelude.{ℕ, ◌≡◌, ◌+◌, ◌*◌, Bool, List, [], Option, None, Some, Result, Ok, Err}
+use Rattle.elf_model.specs.Budget.{IsBudget}
+use Rattle.elf_model.specs.Chains.{Walked}
+use Rattle.elf_model.specs.Cost.{cost_where}
+use Rattle.elf_model.specs.Hash.{Refused as IsRefused}
+use Rattle.elf_model.specs.Loader.{Asked as IsAsked, VersionWords as AreWordsOf, asked_name}
+use Rattle.elf_model.specs.LoaderFind.{FoundVersion as IsVersionOf, LoaderLookup, found_in, found_lookup}
+use Rattle.elf_model.specs.LoaderScope.{Scope}
+use Rattle.elf_model.specs.Names.{Shown}
+use Rattle.elf_model.specs.Names.Shown.{Whole}
+use Rattle.elf_source.specs.Source.{Counting}
+use Rattle.elf_headers.specs.Ledger.{Charges, why_stopped}
+use Rattle.elf_headers.specs.declared.fault.Fault.{Fault}
+use Rattle.elf_headers.specs.declared.fault.Fault.TheVariants.{Refused, Source}
+use Rattle.elf_loader.specs.Telling.{shown_by, told_bytes}
+use Rattle.elf_loader.specs.declared.found.FoundVersion.{FoundVersion}
+use Rattle.elf_loader.specs.declared.found.VersionName.{VersionName}
+use Rattle.elf_loader.specs.declared.found.VersionName.TheVariants.{Wanted, Unnamed, Told}
+
+-- the name of a version as it is shown: the wanted one, whole; none; or what is told of it
+abbrev pub name_shown : Option (List ℕ) → List ℕ → VersionName → Shown
+name_shown None told Wanted = Whole []
+name_shown (Some version) told Wanted = Whole version
+name_shown asked told Unnamed = Whole []
+name_shown asked told (Told end) = shown_by end told
+
+-- the version of a symbol that is found, as the definitions have it
+abbrev pub version_found : IsAsked → List ℕ → FoundVersion → IsVersionOf
+version_found asked told version = record { index = version.index; word = version.word; name = name_shown (asked_name asked) told version.name }
+
+-- what a lookup reads: what its walk does, and so many records, and a name or none
+pub record Spends (lookup : LoaderLookup) (walked : Walked) (read : ℕ) (named : Bool) : Type 0 where
+  pub tried : lookup.lookup.compared ≡ walked.tried
+  pub chain_words : lookup.chain_words ≡ walked.read
+  pub records : lookup.records ≡ read
+  pub is_named : lookup.is_named ≡ named
+
+-- its answer is this version, of the symbol of an index; or the refusal, unless a read failed
+abbrev pub FoundAs : Scope → IsAsked → ℕ → List ℕ → Walked → LoaderLookup → Result FoundVersion Fault → Type 0
+FoundAs scope asked y told walked lookup (Ok version) =
+    lookup ≡ found_lookup scope y walked lookup.records lookup.is_named (Some (version_found asked told version))
+FoundAs scope asked y told walked lookup (Err (Refused refusal)) = (IsBudget refusal → ⊥) → lookup.lookup.answer ≡ IsRefused refusal
+FoundAs scope asked y told walked lookup (Err (Source fault at)) = Unit {0}
+
+-- THE VERSION OF A SYMBOL THAT A WALK FINDS IS TOLD: so many records are read, and a name or none, beside those that were read
+-- before to tell the numbers of a wanted version
+pub record FindsVersion (file : List ℕ) (scope : Scope) (asked : IsAsked) (words : AreWordsOf) (y : ℕ) (old new : Counting) (told : List ℕ) (result : Result FoundVersion Fault) : Type 0 where
+  pub records : ℕ
+  pub is_named : Bool
+  pub costs : Charges old new (why_stopped result) (records * 28 + cost_where is_named told_bytes)
+  pub spends : (walked : Walked) (before : ℕ) → (asked_name asked ≡ None → before ≡ 0) → Spends (found_in file scope asked before y walked (Some words)) walked (before + records) is_named
+  pub finds : (walked : Walked) (before : ℕ) → (asked_name asked ≡ None → before ≡ 0) → FoundAs scope asked y told walked (found_in file scope asked before y walked (Some words)) result

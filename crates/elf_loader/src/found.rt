@@ -1,0 +1,85 @@
+//! The version of a symbol that is found.
+ghost use Rattle.std.specs.Prelude.{◌≡◌, ℕ, ◌+◌, ◌*◌, ◌<◌};
+ghost use Rattle.elf_headers.specs.Ledger.{Did, why_stopped};
+ghost use Rattle.elf_loader.specs.Finding.{FindsVersion};
+ghost use Rattle.elf_loader.specs.Tables.{most_versions};
+ghost use Rattle.elf_loader.specs.Telling.{told_bytes};
+ghost use Rattle.elf_loader.specs.Wants.{asked_of};
+ghost use Rattle.elf_model.specs.Loader.{VersionWords as AreWordsOf, version_word_at};
+ghost use Rattle.elf_model.specs.LoaderScope.{Scope as IsScopeOf};
+ghost use Rattle.elf_model.specs.Records.{versym};
+ghost use Rattle.elf_scope.specs.Symbols.{IsSymbols, IsWords, SymbolsLie};
+
+use crate::telling::told_name;
+use crate::wanted::Asked;
+use elf_headers::Fault;
+use elf_scope::{Symbols, VersionWords};
+use elf_source::{Counted, Source};
+use elf_table::{NameBuf, NameEnd};
+
+/// The name of the version of a symbol that is found.
+#[derive(Clone, Copy, Debug, PartialEq, Eq)]
+pub enum VersionName {
+    /// That of the wanted version, whole.
+    Wanted,
+    /// None: the symbol has no version.
+    Unnamed,
+    /// What a buffer holds: the name, or its first 256 bytes.
+    Told(NameEnd),
+}
+
+/// The version of a symbol that is found (Linux Standard Base Core, Symbol Version Table).
+#[derive(Clone, Copy, Debug, PartialEq, Eq)]
+pub struct FoundVersion {
+    /// The index of the section of the words of versions, or of the program header of the dynamic
+    /// entries.
+    pub index: u16,
+    /// The word: the number, with the bit that hides it.
+    pub word: u16,
+    /// Its name.
+    pub name: VersionName,
+}
+
+/// Tells the version of the symbol of an index, whose word is known: under the wanted name where one
+/// is wanted, without one where its number is 0 or 1, else by the name of its number, into `name`.
+///
+/// # Errors
+/// Those of [`told_name`].
+pub(crate) fn found_version<S: Source>(
+    src: &mut Counted<S>,
+    symbols: &Symbols,
+    words: &VersionWords,
+    asked: &Asked<'_>,
+    found: (u64, u16),
+    name: &mut NameBuf,
+) -> Result<FoundVersion, Fault>
+    requires lies { SymbolsLie src.old.seen.size symbols.now }
+    requires below { found.0 < words.now.words.count }
+    ensures { Did src.old src.new (why_stopped result)
+        (most_versions symbols.now * 28 + told_bytes)
+        (λ file. (scope : IsScopeOf) (told : AreWordsOf) → IsSymbols file scope.symbols symbols.now →
+        IsWords told words.now → found.1 ≡ versym file (version_word_at told found.0) →
+        FindsVersion file scope (asked_of asked.now) told found.0 src.old src.new name.new result) }
+{
+    let (index, word) = found;
+    if let Some(_version) = asked.name() {
+        return Ok(told_as(words, word, VersionName::Wanted));
+    }
+    let number = word % (1 << 15);
+    if number < 2 {
+        return Ok(told_as(words, word, VersionName::Unnamed));
+    }
+    let end = told_name(src, symbols, words.words.place(index), number, name)?;
+    Ok(told_as(words, word, VersionName::Told(end)))
+}
+
+// A version by its word and its name.
+fn told_as(words: &VersionWords, word: u16, name: VersionName) -> FoundVersion
+    ensures { result ≡ record { index = words.now.index; word = word; name = name } }
+{
+    FoundVersion {
+        index: words.index,
+        word,
+        name,
+    }
+}

@@ -1,0 +1,34 @@
+-- The hash table's bytes, then the symbols.
+use Rattle.std.proofs.Common.{◌≡◌, ◌<◌, ◌≤◌, refl, sym, ◌∙◌, arith}
+use Rattle.std.proofs.lemmas.Result.{err_from_is_err_and}
+use Rattle.elf_model.specs.Records.{segment_at}
+use Rattle.elf_scope.specs.Kinds.{kind_of, least_bytes}
+use Rattle.elf_scope.proofs.ScopeLaws.{hash_refuses, rows_refuse, scope_settles, shape_refuses}
+use Rattle.elf_scope.proofs.by_segments.segment_scope.Goals as goal
+
+pub returns-in_err-hash-clause-held : goal.returns-in_err-hash-clause-held
+returns-in_err-hash-clause-held c = λ bytes views are value.
+    let p = err_from_is_err_and c.from_residual.result c.from_residual.ensures.1 in
+    let at = segment_at bytes c.args.segment in
+    rw (p.1, p.2) (hash_refuses bytes (kind_of c.args.kind) c.args.segment at c.args.row.now value _ (c.in_err-hash.ensures.value bytes views))
+
+pub returns-then-len-least_bytes-clause-held : goal.returns-then-len-least_bytes-clause-held
+returns-then-len-least_bytes-clause-held c = λ bytes views are value.
+    let at = segment_at bytes c.args.segment in
+    let small : c.in_ok-hash.hash.count < least_bytes c.args.kind = let a = c.if-len-least_bytes.true in let b = c.len.ensures in let d = c.least_bytes.ensures in omega arith in
+    rw c.refused.ensures (shape_refuses bytes (kind_of c.args.kind) c.args.segment at c.args.row.now value _ (c.in_ok-hash.ensures.value bytes views) small)
+
+pub returns-in_err-symbols-clause-held : goal.returns-in_err-symbols-clause-held
+returns-in_err-symbols-clause-held c = λ bytes views are value.
+    let p = err_from_is_err_and c.from_residual-in_err-symbols.result c.from_residual-in_err-symbols.ensures.1 in
+    let at = segment_at bytes c.args.segment in
+    let room : least_bytes c.args.kind ≤ c.in_ok-hash.hash.count = let a = c.if-len-least_bytes.false in let b = c.len.ensures in let d = c.least_bytes.ensures in omega arith in
+    rw (p.1, p.2)
+    (rows_refuse bytes (kind_of c.args.kind) c.args.segment at c.args.row.now value _ (c.in_ok-hash.ensures.value bytes views) room _ (c.in_err-symbols.ensures.held bytes at views are))
+
+pub returns-clause-held : goal.returns-clause-held
+returns-clause-held c = λ bytes views are value.
+    let at = segment_at bytes c.args.segment in
+    let room : least_bytes c.args.kind ≤ c.in_ok-hash.hash.count = let a = c.if-len-least_bytes.false in let b = c.len.ensures in let d = c.least_bytes.ensures in omega arith in
+    scope_settles bytes (kind_of c.args.kind) c.args.segment at c.args.row.now value _ (c.in_ok-hash.ensures.value bytes views) room _ (c.in_ok-symbols.ensures.held bytes at views are)
+    refl refl c.at.ensures c.len-2.ensures c.len-3.ensures

@@ -1,0 +1,40 @@
+-- What a lookup is made in, in a file, and what asking for it costs.
+use Rattle.std.specs.Prelude.{ℕ, ◌≡◌, ◌+◌, ◌*◌, ◌==◌, true, false, List, Option, None, Some, Result}
+use Rattle.elf_model.specs.Checks.{first_refusal, before_headers}
+use Rattle.elf_model.specs.Cost.{cost_where}
+use Rattle.elf_model.specs.LoaderFind.{segments_asked}
+use Rattle.elf_model.specs.LoaderScope.{Scope as IsScopeOf, scope_by_sections, scope_by_segments, scope_of}
+use Rattle.elf_model.specs.Records.{FILE_HEADER_SIZE, SECTION_HEADER_SIZE, PROGRAM_HEADER_SIZE, e_shnum}
+use Rattle.elf_model.specs.declared.causes.Refusal.{Refusal}
+use Rattle.elf_record.specs.declared.ehdr.Ehdr.{Ehdr}
+use Rattle.elf_source.specs.Source.{Counting}
+use Rattle.elf_headers.specs.Ledger.{Charges, why_stopped}
+use Rattle.elf_headers.specs.declared.fault.Fault.{Fault}
+use Rattle.elf_scope.specs.Scopes.{Finds}
+use Rattle.elf_scope.specs.declared.scope.Scope.{Scope}
+
+-- what a lookup is made in, in a file whose load checks pass
+abbrev pub scope_loaded : List ℕ → Result IsScopeOf Refusal
+scope_loaded file = elim (e_shnum file == 0) [ true ↦ scope_by_segments file | false ↦ scope_by_sections file ]
+
+-- WHAT A LOADED FILE TELLS, where it is known, within what tells of its tables where it has no sections
+pub record FindsLoaded (file : List ℕ) (old new : Counting) (result : Result Scope Fault) : Type 0 where
+  pub costs : Charges old new (why_stopped result) (segments_asked file)
+  pub finds : Finds file (scope_loaded file) result
+
+-- how many bytes it may ask for, with so many headers permitted: the file header, and where the early checks pass the headers
+abbrev pub scope_cost : List ℕ → ℕ → ℕ
+scope_cost file headers = elim (first_refusal (before_headers file headers)) [
+  | Some refusal ↦ FILE_HEADER_SIZE
+  | None ↦ FILE_HEADER_SIZE + SECTION_HEADER_SIZE * e_shnum file + segments_asked file
+]
+
+-- WHAT A FILE TELLS of what a lookup is made in, where it is known
+pub record FindsScope (file : List ℕ) (headers : ℕ) (old new : Counting) (result : Result Scope Fault) : Type 0 where
+  pub costs : Charges old new (why_stopped result) (scope_cost file headers)
+  pub finds : Finds file (scope_of file headers) result
+
+-- how many bytes are asked for behind the section headers in a file of this size: the program headers and the dynamic entries,
+-- where there are no sections
+abbrev pub segments_bytes : Ehdr → ℕ → ℕ
+segments_bytes header size = cost_where (header.e_shnum == 0) (PROGRAM_HEADER_SIZE * header.e_phnum + size)
