@@ -18,13 +18,13 @@ use Rattle.elf_table.specs.Sections.{strings}
 use Rattle.elf_table.specs.Tables.{Rows, Strings, strings_in}
 use Rattle.elf_table.specs.Views.{rest_mapped, strings_mapped}
 use Rattle.elf_scope.specs.Entries.{AreEntries, entry_at}
-use Rattle.elf_scope.specs.Kinds.{kind_of}
+use Rattle.elf_hash.specs.Kinds.{kind_of}
 use Rattle.elf_scope.specs.Scopes.{Finds, IsScope}
 use Rattle.elf_scope.specs.Segments.{AreRowsSymbols, IsRest, TellSymbols, TellsHash, rows_records, scope_by_entries, version_rows}
 use Rattle.elf_scope.specs.Versions.{AreVersions}
 use Rattle.elf_scope.specs.declared.entry.Entries.{Entries}
 use Rattle.elf_scope.specs.declared.entry.Entry.{Entry}
-use Rattle.elf_scope.specs.declared.kind.HashKind.{HashKind}
+use Rattle.elf_hash.specs.declared.kind.HashKind.{HashKind}
 use Rattle.elf_scope.specs.declared.scope.Scope.{Scope}
 use Rattle.elf_scope.specs.declared.symbols.Symbols.{Symbols}
 use Rattle.elf_scope.specs.declared.versions.Versions.{Versions}

@@ -13,7 +13,7 @@ use Rattle.elf_headers.specs.declared.fault.Fault.{Fault}
 use Rattle.elf_headers.specs.declared.fault.Fault.TheVariants.{Refused, Source}
 use Rattle.elf_table.specs.HashSections.{AreHashed, Settles}
 use Rattle.elf_table.specs.Tables.{Rows, Strings, strings_in}
-use Rattle.elf_scope.specs.Kinds.{kind_of}
+use Rattle.elf_hash.specs.Kinds.{kind_of}
 use Rattle.elf_scope.specs.Scopes.{Finds, IsScope}
 use Rattle.elf_scope.specs.Versions.{AreVersions}
 use Rattle.elf_scope.specs.declared.scope.Scope.{Scope}

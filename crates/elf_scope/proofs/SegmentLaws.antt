@@ -21,15 +21,15 @@ use Rattle.elf_table.specs.Sections.{rows, strings}
 use Rattle.elf_table.specs.Tables.{Rows, Strings, strings_in}
 use Rattle.elf_table.specs.Views.{rest_mapped, rest_of, strings_mapped}
 use Rattle.elf_scope.specs.Entries.{AreEntries, entry_at}
-use Rattle.elf_scope.specs.Kinds.{kind_of}
+use Rattle.elf_hash.specs.Kinds.{kind_of}
 use Rattle.elf_scope.specs.Scopes.{Finds, IsScope}
 use Rattle.elf_scope.specs.Segments.{AreRowsSymbols, IsRest, TellsHash, rows_records, rows_symbols, scope_by_entries, version_rows}
 use Rattle.elf_scope.specs.Symbols.{AreRecordTables, AreWords, IsRecordTable, IsWords, one_table}
 use Rattle.elf_scope.specs.Versions.{AreInFront, AreVersions}
 use Rattle.elf_scope.specs.declared.entry.Entries.{Entries}
 use Rattle.elf_scope.specs.declared.entry.Entry.{Entry}
-use Rattle.elf_scope.specs.declared.kind.HashKind.{HashKind}
-use Rattle.elf_scope.specs.declared.kind.HashKind.TheVariants.{Gnu, Sysv}
+use Rattle.elf_hash.specs.declared.kind.HashKind.{HashKind}
+use Rattle.elf_hash.specs.declared.kind.HashKind.TheVariants.{Gnu, Sysv}
 use Rattle.elf_scope.specs.declared.scope.Scope.{Scope}
 use Rattle.elf_scope.specs.declared.symbols.RecordTable.{RecordTable}
 use Rattle.elf_scope.specs.declared.symbols.Symbols.{Symbols}

@@ -5,7 +5,7 @@ use Rattle.elf_model.specs.LoaderScope.{HashKind as IsHashKind, Scope as IsScope
 use Rattle.elf_model.specs.declared.causes.Refusal.{Refusal}
 use Rattle.elf_headers.specs.declared.fault.Fault.{Fault}
 use Rattle.elf_headers.specs.declared.fault.Fault.TheVariants.{Refused, Source}
-use Rattle.elf_scope.specs.Kinds.{kind_of}
+use Rattle.elf_hash.specs.Kinds.{kind_of}
 use Rattle.elf_scope.specs.Symbols.{IsSymbols, SymbolsLie}
 use Rattle.elf_scope.specs.declared.scope.Scope.{Scope}
 

@@ -14,12 +14,12 @@ use Rattle.elf_source.specs.Source.{Counting}
 use Rattle.elf_headers.specs.Ledger.{Charges, why_stopped}
 use Rattle.elf_headers.specs.declared.fault.Fault.{Fault}
 use Rattle.elf_table.specs.Tables.{Rows}
-use Rattle.elf_scope.specs.Kinds.{kind_of}
+use Rattle.elf_hash.specs.Kinds.{kind_of}
 use Rattle.elf_scope.specs.Scopes.{Finds}
 use Rattle.elf_scope.specs.Symbols.{IsSymbols}
 use Rattle.elf_scope.specs.declared.entry.Entries.{Entries}
 use Rattle.elf_scope.specs.declared.entry.Entry.{Entry}
-use Rattle.elf_scope.specs.declared.kind.HashKind.{HashKind}
+use Rattle.elf_hash.specs.declared.kind.HashKind.{HashKind}
 use Rattle.elf_scope.specs.declared.scope.Scope.{Scope}
 use Rattle.elf_scope.specs.declared.symbols.Symbols.{Symbols}
 

@@ -5,7 +5,8 @@ use Rattle.elf_model.specs.Find.{hash_checks_from}
 use Rattle.elf_model.specs.LoaderScope.{version_checks}
 use Rattle.elf_model.specs.Records.{section_at}
 use Rattle.elf_table.proofs.HashSectionLaws.{place_is}
-use Rattle.elf_scope.specs.Kinds.{kind_of, least_bytes}
+use Rattle.elf_hash.specs.Kinds.{kind_of}
+use Rattle.elf_scope.specs.Kinds.{least_bytes}
 use Rattle.elf_scope.proofs.SectionLaws.{section_is}
 use Rattle.elf_scope.proofs.SettleLaws.{refused_back, refused_front}
 use Rattle.elf_scope.proofs.by_sections.section_scope.Goals as goal
