@@ -1,5 +1,5 @@
 -- The checks of the hash table's section, then those of the tables of versions.
-use Rattle.std.proofs.Common.{◌≡◌, refl, sym, ◌∙◌}
+use Rattle.std.proofs.Common.{refl, sym, ◌∙◌}
 use Rattle.std.proofs.lemmas.Result.{err_from_is_err_and}
 use Rattle.elf_model.specs.Find.{hash_checks_from}
 use Rattle.elf_model.specs.LoaderScope.{version_checks}

@@ -1,5 +1,5 @@
 -- The hash table's bytes, then the symbols.
-use Rattle.std.proofs.Common.{◌≡◌, ◌<◌, ◌≤◌, refl, sym, ◌∙◌, arith}
+use Rattle.std.proofs.Common.{◌<◌, ◌≤◌, refl, arith}
 use Rattle.std.proofs.lemmas.Result.{err_from_is_err_and}
 use Rattle.elf_model.specs.Records.{segment_at}
 use Rattle.elf_hash.specs.Kinds.{kind_of}
