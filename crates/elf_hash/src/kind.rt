@@ -1,4 +1,7 @@
 //! The kinds of hash tables.
+ghost use Rattle.std.specs.Prelude.{◌≡◌};
+ghost use Rattle.elf_model.specs.LoaderScope.{least_size};
+ghost use Rattle.elf_hash.specs.Kinds.{kind_of};
 
 /// The kinds of hash tables.
 #[derive(Clone, Copy, Debug, PartialEq, Eq)]
@@ -7,4 +10,16 @@ pub enum HashKind {
     Gnu,
     /// A table of the gABI (5, Hash Table), in a section or at an entry HASH.
     Sysv,
+}
+
+impl HashKind {
+    /// How many bytes a table of the kind has at least: its counts, 16 or 8.
+    pub fn least_bytes(self) -> u64
+        ensures { result ≡ least_size (kind_of self) }
+    {
+        match self {
+            HashKind::Gnu => 16,
+            HashKind::Sysv => 8,
+        }
+    }
 }

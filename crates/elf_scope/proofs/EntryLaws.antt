@@ -1,5 +1,5 @@
 -- The first entries of a table, entry by entry, and where they stand.
-use Rattle.std.proofs.Common.{◌≡◌, ℕ, zero, suc, ◌+◌, ◌*◌, ◌/◌, ◌==◌, Bool, true, false, List, Option, None, Some, refl, sym, ap, subst, ◌∙◌, arith}
+use Rattle.std.proofs.Common.{◌≡◌, ℕ, zero, suc, ◌+◌, ◌/◌, ◌==◌, Bool, true, false, List, Option, None, Some, refl, sym, ap, subst, ◌∙◌, arith}
 use Rattle.std.specs.Prelude.{option_map}
 use Rattle.elf_model.specs.Dynamic.{dynamic_at, dynamic_count}
 use Rattle.elf_model.specs.Find.{first_that}
@@ -8,9 +8,7 @@ use Rattle.elf_model.specs.Records.{d_tag, p_offset, p_filesz}
 use Rattle.elf_model.specs.Tables.{DYNAMIC_SIZE}
 use Rattle.elf_record.specs.Dyn.{IsDyn}
 use Rattle.elf_record.specs.declared.dyn_entry.Dyn.{Dyn}
-use Rattle.elf_table.specs.Cursors.{next_row}
 use Rattle.elf_table.specs.Tables.{Rows}
-use Rattle.elf_note.specs.DynCursors.{Entries as Walking, entries_left}
 use Rattle.elf_scope.specs.Entries.{AreEntries, AreListed, EachTag, TakesEntry, entry_at, entry_here, first_entry, listed_entry, no_entries, tagged_entry}
 use Rattle.elf_scope.specs.declared.entry.Entries.{Entries}
 use Rattle.elf_scope.specs.declared.entry.Entry.{Entry}

@@ -1,9 +1,9 @@
 -- What a file tells of what a lookup is made in, behind its load, and what asking for it costs.
-use Rattle.std.proofs.Common.{◌≡◌, ℕ, ◌+◌, ◌*◌, ◌≤◌, ◌==◌, Bool, true, false, inl, inr, List, ◌++◌, length, Option, None, Some, Result, Ok, Err, refl, sym, ap, subst, ◌∙◌, arith, eq-eqb, ne_eqb}
+use Rattle.std.proofs.Common.{◌≡◌, ℕ, ◌+◌, ◌*◌, ◌≤◌, ◌==◌, true, false, inl, inr, List, ◌++◌, length, Option, None, Some, Result, Err, refl, sym, ap, subst, ◌∙◌, arith, eq-eqb, ne_eqb}
 use Rattle.std.proofs.lemmas.Bool.{cases_Bool, eqb-true}
 use Rattle.std.specs.Prelude.{is_none}
 use Rattle.elf_model.specs.Budget.{IsBudget}
-use Rattle.elf_model.specs.Checks.{first_refusal, before_headers, header_checks, early_checks, section_name_checks, load_checks}
+use Rattle.elf_model.specs.Checks.{first_refusal, before_headers, header_checks, early_checks, load_checks}
 use Rattle.elf_model.specs.Cost.{cost_where}
 use Rattle.elf_model.specs.LoaderFind.{segments_asked}
 use Rattle.elf_model.specs.LoaderScope.{Scope as IsScopeOf, scope_by_sections, scope_by_segments, scope_of}

@@ -1,15 +1,14 @@
 -- What a lookup is made in by the dynamic entries of a segment.
-use Rattle.std.proofs.Common.{◌≡◌, ℕ, ◌+◌, ◌-◌, ◌*◌, ◌/◌, ◌<◌, ◌≤◌, ◌==◌, ◌||◌, nat_lt, Bool, true, false, List, [], ◌∷◌, ◌++◌, length, Option, None, Some, Result, Ok, Err, refl, sym, ap, subst, ◌∙◌, arith}
+use Rattle.std.proofs.Common.{◌≡◌, ℕ, ◌/◌, ◌<◌, ◌≤◌, ◌||◌, nat_lt, Bool, true, false, List, [], ◌∷◌, ◌++◌, Option, None, Some, Result, Ok, Err, refl, sym, ap, subst, ◌∙◌, arith}
 use Rattle.std.proofs.lemmas.Bool.Decides.{nat_tests}
 use Rattle.std.specs.Prelude.{is_none, option_map}
 use Rattle.elf_model.specs.Checks.{Check, refuse, first_refusal}
-use Rattle.elf_model.specs.LoaderScope.{HashKind as IsHashKind, Scope as IsScopeOf, checks_of_row, hash_row, least_size, rest_checks, rest_place, rest_size, rows_checks, segment_checks, segment_scope, segment_strings, segment_symbols, segment_words, tagged_row}
+use Rattle.elf_model.specs.LoaderScope.{HashKind as IsHashKind, checks_of_row, hash_row, least_size, rest_checks, rest_place, rest_size, rows_checks, segment_checks, segment_scope, segment_strings, segment_symbols, segment_words, tagged_row}
 use Rattle.elf_model.specs.Mapped.{mapped_bytes, mapped_checks, mapped_place}
 use Rattle.elf_model.specs.Numbers.{DT_SYMTAB, DT_STRTAB, DT_STRSZ}
 use Rattle.elf_model.specs.Records.{d_un}
 use Rattle.elf_model.specs.Tables.{SYMBOL_SIZE}
 use Rattle.elf_model.specs.declared.causes.Cause.TheVariants.{HashShape, NoHash, Unmapped}
-use Rattle.elf_model.specs.declared.causes.Refusal.{Refusal}
 use Rattle.elf_headers.specs.declared.fault.Fault.{Fault}
 use Rattle.elf_headers.specs.declared.fault.Fault.TheVariants.{Refused, Source}
 use Rattle.elf_table.specs.HashSections.{Settles}
@@ -18,13 +17,12 @@ use Rattle.elf_table.specs.Sections.{strings}
 use Rattle.elf_table.specs.Tables.{Rows, Strings, strings_in}
 use Rattle.elf_table.specs.Views.{rest_mapped, strings_mapped}
 use Rattle.elf_scope.specs.Entries.{AreEntries, entry_at}
-use Rattle.elf_scope.specs.Kinds.{kind_of}
+use Rattle.elf_hash.specs.Kinds.{kind_of}
 use Rattle.elf_scope.specs.Scopes.{Finds, IsScope}
-use Rattle.elf_scope.specs.Segments.{AreRowsSymbols, IsRest, TellSymbols, TellsHash, rows_records, scope_by_entries, version_rows}
+use Rattle.elf_scope.specs.Segments.{AreRowsSymbols, IsRest, TellSymbols, rows_records, scope_by_entries, version_rows}
 use Rattle.elf_scope.specs.Versions.{AreVersions}
 use Rattle.elf_scope.specs.declared.entry.Entries.{Entries}
 use Rattle.elf_scope.specs.declared.entry.Entry.{Entry}
-use Rattle.elf_scope.specs.declared.kind.HashKind.{HashKind}
 use Rattle.elf_scope.specs.declared.scope.Scope.{Scope}
 use Rattle.elf_scope.specs.declared.symbols.Symbols.{Symbols}
 use Rattle.elf_scope.specs.declared.versions.Versions.{Versions}

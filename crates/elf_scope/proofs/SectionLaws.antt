@@ -1,19 +1,17 @@
 -- What a lookup is made in, by the section headers.
-use Rattle.std.proofs.Common.{◌≡◌, ℕ, ◌<◌, List, [], ◌++◌, Option, None, Some, Result, Ok, Err, refl, sym, ap, ◌∙◌}
-use Rattle.elf_model.specs.Checks.{Check, first_refusal}
-use Rattle.elf_model.specs.LoaderScope.{HashKind as IsHashKind, GnuTable, SysvTable, Scope as IsScopeOf, hash_section, scope_by_sections, section_checks, section_scope, version_checks, section_words, records_of_type, least_size}
+use Rattle.std.proofs.Common.{◌≡◌, ℕ, List, [], Option, None, Some, Result, Ok, Err, refl, ap, ◌∙◌}
+use Rattle.elf_model.specs.LoaderScope.{HashKind as IsHashKind, GnuTable, SysvTable, hash_section, scope_by_sections, section_checks, section_scope, version_checks, section_words, records_of_type, least_size}
 use Rattle.elf_model.specs.Find.{hash_checks_from}
 use Rattle.elf_model.specs.Numbers.{SHT_HASH, SHT_GNU_HASH, SHT_GNU_VERDEF, SHT_GNU_VERNEED}
 use Rattle.elf_model.specs.Records.{section_at, sh_offset, sh_size}
 use Rattle.elf_model.specs.VersionRows.{first_of_type}
 use Rattle.elf_model.specs.declared.causes.Cause.TheVariants.{NoHash}
-use Rattle.elf_model.specs.declared.causes.Refusal.{Refusal}
 use Rattle.elf_model.specs.declared.versions.VersionKind.TheVariants.{Definition, File}
 use Rattle.elf_headers.specs.declared.fault.Fault.{Fault}
 use Rattle.elf_headers.specs.declared.fault.Fault.TheVariants.{Refused, Source}
 use Rattle.elf_table.specs.HashSections.{AreHashed, Settles}
 use Rattle.elf_table.specs.Tables.{Rows, Strings, strings_in}
-use Rattle.elf_scope.specs.Kinds.{kind_of}
+use Rattle.elf_hash.specs.Kinds.{kind_of}
 use Rattle.elf_scope.specs.Scopes.{Finds, IsScope}
 use Rattle.elf_scope.specs.Versions.{AreVersions}
 use Rattle.elf_scope.specs.declared.scope.Scope.{Scope}

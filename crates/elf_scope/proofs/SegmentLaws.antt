@@ -1,41 +1,33 @@
 -- What the dynamic entries of a segment tell of, one by one.
-use Rattle.std.proofs.Common.{◌≡◌, ℕ, ◌+◌, ◌-◌, ◌*◌, ◌/◌, ◌<◌, ◌≤◌, ◌==◌, ◌||◌, nat_lt, Bool, true, false, List, [], ◌∷◌, ◌++◌, length, Option, None, Some, Result, Ok, Err, refl, sym, ap, subst, ◌∙◌, arith}
-use Rattle.std.proofs.lemmas.Bool.Decides.{nat_tests}
-use Rattle.std.specs.Prelude.{is_none, option_map}
-use Rattle.elf_model.specs.Bytes.{slice}
+use Rattle.std.proofs.Common.{◌≡◌, ℕ, ◌+◌, ◌-◌, ◌/◌, List, [], ◌∷◌, ◌++◌, length, Option, None, Some, Ok, Err, refl, sym, ap, subst, ◌∙◌}
+use Rattle.std.specs.Prelude.{option_map}
 use Rattle.elf_model.specs.Checks.{Check, refuse, first_refusal, is_outside}
 use Rattle.elf_model.specs.Loader.{RecordTable as IsTableOf, VersionWords as IsWordsOf}
-use Rattle.elf_model.specs.LoaderScope.{HashKind as IsHashKind, GnuTable, SysvTable, checks_of_row, hash_row, least_size, records_of_tag, records_with, rest_checks, rest_place, rest_size, rows_checks, segment_checks, segment_scope, segment_strings, segment_symbols, segment_words, tagged_row}
-use Rattle.elf_model.specs.Mapped.{mapped_at, mapped_bytes, mapped_checks, mapped_place}
-use Rattle.elf_model.specs.Numbers.{DT_HASH, DT_GNU_HASH, DT_SYMTAB, DT_STRTAB, DT_STRSZ, DT_VERSYM, DT_VERDEF, DT_VERNEED}
+use Rattle.elf_model.specs.LoaderScope.{GnuTable, SysvTable, checks_of_row, hash_row, records_of_tag, rest_checks, rest_place, rest_size, segment_strings, segment_words, tagged_row}
+use Rattle.elf_model.specs.Mapped.{mapped_at, mapped_place}
+use Rattle.elf_model.specs.Numbers.{DT_HASH, DT_GNU_HASH, DT_VERSYM, DT_VERDEF, DT_VERNEED}
 use Rattle.elf_model.specs.Records.{d_un, p_filesz, p_offset, p_vaddr}
-use Rattle.elf_model.specs.declared.causes.Cause.TheVariants.{HashShape, NoHash, TableOutside, Unmapped}
-use Rattle.elf_model.specs.declared.causes.Refusal.{Refusal}
+use Rattle.elf_model.specs.declared.causes.Cause.TheVariants.{TableOutside, Unmapped}
 use Rattle.elf_model.specs.declared.versions.VersionKind.{VersionKind}
 use Rattle.elf_model.specs.declared.versions.VersionKind.TheVariants.{Definition, File}
 use Rattle.elf_headers.specs.declared.fault.Fault.{Fault}
-use Rattle.elf_headers.specs.declared.fault.Fault.TheVariants.{Refused, Source}
+use Rattle.elf_headers.specs.declared.fault.Fault.TheVariants.{Refused}
 use Rattle.elf_table.specs.HashSections.{Settles}
 use Rattle.elf_table.specs.Relocations.{RefusedBy}
-use Rattle.elf_table.specs.Sections.{rows, strings}
-use Rattle.elf_table.specs.Tables.{Rows, Strings, strings_in}
-use Rattle.elf_table.specs.Views.{rest_mapped, rest_of, strings_mapped}
+use Rattle.elf_table.specs.Sections.{rows}
+use Rattle.elf_table.specs.Tables.{Rows, strings_in}
+use Rattle.elf_table.specs.Views.{rest_mapped, rest_of}
 use Rattle.elf_scope.specs.Entries.{AreEntries, entry_at}
-use Rattle.elf_scope.specs.Kinds.{kind_of}
-use Rattle.elf_scope.specs.Scopes.{Finds, IsScope}
-use Rattle.elf_scope.specs.Segments.{AreRowsSymbols, IsRest, TellsHash, rows_records, rows_symbols, scope_by_entries, version_rows}
-use Rattle.elf_scope.specs.Symbols.{AreRecordTables, AreWords, IsRecordTable, IsWords, one_table}
+use Rattle.elf_scope.specs.Segments.{IsRest, TellsHash, rows_records, version_rows}
+use Rattle.elf_scope.specs.Symbols.{AreWords, IsRecordTable, IsWords}
 use Rattle.elf_scope.specs.Versions.{AreInFront, AreVersions}
 use Rattle.elf_scope.specs.declared.entry.Entries.{Entries}
 use Rattle.elf_scope.specs.declared.entry.Entry.{Entry}
-use Rattle.elf_scope.specs.declared.kind.HashKind.{HashKind}
-use Rattle.elf_scope.specs.declared.kind.HashKind.TheVariants.{Gnu, Sysv}
-use Rattle.elf_scope.specs.declared.scope.Scope.{Scope}
+use Rattle.elf_hash.specs.declared.kind.HashKind.TheVariants.{Gnu, Sysv}
 use Rattle.elf_scope.specs.declared.symbols.RecordTable.{RecordTable}
-use Rattle.elf_scope.specs.declared.symbols.Symbols.{Symbols}
 use Rattle.elf_scope.specs.declared.symbols.VersionWords.{VersionWords}
 use Rattle.elf_scope.specs.declared.versions.Versions.{Versions}
-use Rattle.elf_scope.proofs.SettleLaws.{checked_fails, checked_passes, none_refused, passed_both, refused_back, refused_front}
+use Rattle.elf_scope.proofs.SettleLaws.{checked_fails, checked_passes, passed_both, refused_back, refused_front}
 use Rattle.elf_scope.proofs.VersionLaws.{both_in_front, records_kept}
 
 -- an entry that is told of, and its row

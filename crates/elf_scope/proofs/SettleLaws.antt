@@ -1,7 +1,6 @@
 -- Checks one list behind the other, and what answers behind them.
-use Rattle.std.proofs.Common.{◌≡◌, ℕ, Bool, true, false, List, [], ◌∷◌, ◌++◌, Option, None, Some, Result, Ok, Err, refl, sym, ◌∙◌}
+use Rattle.std.proofs.Common.{◌≡◌, false, List, [], ◌++◌, None, Ok, Err, sym, ◌∙◌}
 use Rattle.elf_model.specs.Checks.{Check, first_refusal}
-use Rattle.elf_model.specs.declared.causes.Refusal.{Refusal}
 use Rattle.elf_model.proofs.CheckSteps.{first_refusal-none, first_refusal-some}
 use Rattle.elf_headers.specs.declared.fault.Fault.{Fault}
 use Rattle.elf_headers.specs.declared.fault.Fault.TheVariants.{Refused, Source}

@@ -1,12 +1,12 @@
 -- The tables of versions by the section headers.
-use Rattle.std.proofs.Common.{◌≡◌, ℕ, ◌+◌, ◌/◌, ◌<◌, ◌==◌, not, Bool, true, false, inl, inr, List, [], ◌∷◌, ◌++◌, length, Option, None, Some, Result, Ok, Err, refl, sym, ap, ◌∙◌, arith, eq-eqb}
+use Rattle.std.proofs.Common.{◌≡◌, ℕ, ◌/◌, ◌<◌, ◌==◌, not, true, inl, inr, List, [], ◌∷◌, ◌++◌, length, Option, None, Some, Ok, Err, refl, sym, ap, ◌∙◌, arith, eq-eqb}
 use Rattle.std.proofs.lemmas.Bool.{cases_Bool, eqb-true}
 use Rattle.elf_model.specs.Checks.{Check, refuse, first_refusal, unless_empty, range_checks_of, table_checks, strings_checks}
 use Rattle.elf_model.specs.Loader.{VersionWords as IsWordsOf, RecordTable as IsTableOf}
 use Rattle.elf_model.specs.LoaderScope.{checks_of_type, records_of_type, records_with, section_words, version_checks}
 use Rattle.elf_model.specs.Numbers.{SHT_GNU_VERSYM, SHT_GNU_VERDEF, SHT_GNU_VERNEED}
 use Rattle.elf_model.specs.Records.{section_at, sh_offset, sh_size, sh_link}
-use Rattle.elf_model.specs.Tables.{all_checks, linked_at}
+use Rattle.elf_model.specs.Tables.{all_checks}
 use Rattle.elf_model.specs.VersionRows.{VERSYM_SIZE, first_of_type, version_table}
 use Rattle.elf_model.specs.declared.causes.Cause.TheVariants.{BadLink}
 use Rattle.elf_model.specs.declared.versions.VersionKind.{VersionKind}
@@ -14,8 +14,8 @@ use Rattle.elf_model.specs.declared.versions.VersionKind.TheVariants.{Definition
 use Rattle.elf_headers.specs.declared.fault.Fault.{Fault}
 use Rattle.elf_table.specs.HashSections.{Settles}
 use Rattle.elf_table.specs.Relocations.{RefusedBy}
-use Rattle.elf_table.specs.Sections.{bytes_of, names_at, rows, string_table_at, table_at}
-use Rattle.elf_table.specs.Tables.{Rows, Strings, strings_in}
+use Rattle.elf_table.specs.Sections.{bytes_of, rows, string_table_at, table_at}
+use Rattle.elf_table.specs.Tables.{Rows, strings_in}
 use Rattle.elf_table.proofs.RelocationLaws.{table-fails, table-passes}
 use Rattle.elf_scope.specs.Symbols.{AreRecordTables, AreWords, IsRecordTable, IsWords, one_table}
 use Rattle.elf_scope.specs.Versions.{AreInFront, AreVersions, records_at, words_checks}

@@ -1,5 +1,5 @@
 -- The first of dynamic entries with each of the tags that tell of a lookup's tables.
-use Rattle.std.specs.Prelude.{ℕ, zero, suc, ◌≡◌, ◌+◌, ◌/◌, ◌==◌, true, false, List, Option, None, Some, option_map}
+use Rattle.std.specs.Prelude.{ℕ, zero, suc, ◌≡◌, ◌+◌, ◌==◌, true, false, List, Option, None, Some, option_map}
 use Rattle.elf_model.specs.Dynamic.{dynamic_count}
 use Rattle.elf_model.specs.LoaderScope.{tagged_row}
 use Rattle.elf_model.specs.Numbers.{DT_HASH, DT_GNU_HASH, DT_SYMTAB, DT_STRTAB, DT_STRSZ, DT_VERSYM, DT_VERDEF, DT_VERNEED}

@@ -1,5 +1,5 @@
 -- What a lookup is made in, in a file, and what asking for it costs.
-use Rattle.std.specs.Prelude.{ℕ, ◌≡◌, ◌+◌, ◌*◌, ◌==◌, true, false, List, Option, None, Some, Result}
+use Rattle.std.specs.Prelude.{ℕ, ◌+◌, ◌*◌, ◌==◌, true, false, List, None, Some, Result}
 use Rattle.elf_model.specs.Checks.{first_refusal, before_headers}
 use Rattle.elf_model.specs.Cost.{cost_where}
 use Rattle.elf_model.specs.LoaderFind.{segments_asked}

@@ -1,14 +1,9 @@
--- The kinds of hash tables, as the code names them.
+-- The section that holds a hash table.
 use Rattle.std.specs.Prelude.{ℕ, List}
-use Rattle.elf_model.specs.LoaderScope.{HashKind as IsHashKind, GnuTable, SysvTable, least_size}
+use Rattle.elf_model.specs.LoaderScope.{HashKind as IsHashKind, least_size}
 use Rattle.elf_model.specs.Records.{section_at}
-use Rattle.elf_scope.specs.declared.kind.HashKind.{HashKind}
-use Rattle.elf_scope.specs.declared.kind.HashKind.TheVariants.{Gnu, Sysv}
-
--- the kind as the definitions of lookups have it
-abbrev pub kind_of : HashKind → IsHashKind
-kind_of Gnu = GnuTable
-kind_of Sysv = SysvTable
+use Rattle.elf_hash.specs.Kinds.{kind_of}
+use Rattle.elf_hash.specs.declared.kind.HashKind.{HashKind}
 
 -- how many bytes a hash table of a kind has at least
 abbrev pub least_bytes : HashKind → ℕ

@@ -1,11 +1,11 @@
 -- What a lookup is made in, of a file, and where it lies.
-use Rattle.std.specs.Prelude.{ℕ, ◌≡◌, ◌+◌, ◌≤◌, List, Option, Some, None, Result, Ok, Err}
+use Rattle.std.specs.Prelude.{ℕ, ◌≡◌, ◌+◌, ◌≤◌, List, Result, Ok, Err}
 use Rattle.elf_model.specs.Budget.{IsBudget}
-use Rattle.elf_model.specs.LoaderScope.{HashKind as IsHashKind, Scope as IsScopeOf}
+use Rattle.elf_model.specs.LoaderScope.{Scope as IsScopeOf}
 use Rattle.elf_model.specs.declared.causes.Refusal.{Refusal}
 use Rattle.elf_headers.specs.declared.fault.Fault.{Fault}
 use Rattle.elf_headers.specs.declared.fault.Fault.TheVariants.{Refused, Source}
-use Rattle.elf_scope.specs.Kinds.{kind_of}
+use Rattle.elf_hash.specs.Kinds.{kind_of}
 use Rattle.elf_scope.specs.Symbols.{IsSymbols, SymbolsLie}
 use Rattle.elf_scope.specs.declared.scope.Scope.{Scope}
 

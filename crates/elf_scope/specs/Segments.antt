@@ -1,9 +1,9 @@
 -- What a lookup is made in by the dynamic entries of a segment, stage by stage.
-use Rattle.std.specs.Prelude.{ℕ, ◌≡◌, ◌||◌, Bool, true, is_none, List, [], ◌++◌, Option, None, Some, Result, Ok, Err}
+use Rattle.std.specs.Prelude.{ℕ, ◌≡◌, ◌||◌, true, is_none, List, [], ◌++◌, Option, None, Some, Result, Ok, Err}
 use Rattle.elf_model.specs.Checks.{Check, first_refusal, pass}
 use Rattle.elf_model.specs.Cost.{cost_where}
 use Rattle.elf_model.specs.Loader.{RecordTable as IsTableOf, Symbols as AreSymbolsOf}
-use Rattle.elf_model.specs.LoaderScope.{HashKind as IsHashKind, Scope as IsScopeOf, tagged_row, rest_checks, rest_place, rest_size, checks_of_row, hash_row, segment_checks, segment_scope, segment_strings, segment_symbols, segment_words, records_of_tag, records_with, dynamic_segment_index, scope_by_segments}
+use Rattle.elf_model.specs.LoaderScope.{Scope as IsScopeOf, tagged_row, rest_checks, rest_place, rest_size, checks_of_row, hash_row, segment_checks, segment_scope, segment_strings, segment_symbols, segment_words, records_of_tag, records_with, dynamic_segment_index, scope_by_segments}
 use Rattle.elf_model.specs.Numbers.{DT_VERSYM, DT_VERDEF, DT_VERNEED}
 use Rattle.elf_model.specs.Records.{d_un, p_filesz, segment_at}
 use Rattle.elf_model.specs.Tables.{segment_dynamic_checks}
@@ -14,12 +14,12 @@ use Rattle.elf_source.specs.Source.{Counting}
 use Rattle.elf_headers.specs.Ledger.{Charges, why_stopped}
 use Rattle.elf_headers.specs.declared.fault.Fault.{Fault}
 use Rattle.elf_table.specs.Tables.{Rows}
-use Rattle.elf_scope.specs.Kinds.{kind_of}
+use Rattle.elf_hash.specs.Kinds.{kind_of}
 use Rattle.elf_scope.specs.Scopes.{Finds}
 use Rattle.elf_scope.specs.Symbols.{IsSymbols}
 use Rattle.elf_scope.specs.declared.entry.Entries.{Entries}
 use Rattle.elf_scope.specs.declared.entry.Entry.{Entry}
-use Rattle.elf_scope.specs.declared.kind.HashKind.{HashKind}
+use Rattle.elf_hash.specs.declared.kind.HashKind.{HashKind}
 use Rattle.elf_scope.specs.declared.scope.Scope.{Scope}
 use Rattle.elf_scope.specs.declared.symbols.Symbols.{Symbols}
 

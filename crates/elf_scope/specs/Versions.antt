@@ -1,5 +1,5 @@
 -- The tables of versions by the section headers: their checks, and what they are.
-use Rattle.std.specs.Prelude.{ℕ, ◌≡◌, ◌==◌, not, List, [], ◌∷◌, ◌++◌, Option, None, Some, IfSome}
+use Rattle.std.specs.Prelude.{ℕ, ◌==◌, not, List, [], ◌∷◌, ◌++◌, Option, IfSome}
 use Rattle.elf_model.specs.Checks.{Check, refuse, unless_empty, table_checks}
 use Rattle.elf_model.specs.Loader.{VersionWords as IsWordsOf, RecordTable as IsTableOf}
 use Rattle.elf_model.specs.LoaderScope.{checks_of_type, records_with}

@@ -6,15 +6,15 @@ ghost use Rattle.elf_model.specs.Records.{section_at};
 ghost use Rattle.elf_headers.specs.Faults.{IsOfCheck};
 ghost use Rattle.elf_headers.specs.Load.{Belongs};
 ghost use Rattle.elf_table.specs.HashSections.{Settles};
-ghost use Rattle.elf_scope.specs.Kinds.{found_at, kind_of};
+ghost use Rattle.elf_hash.specs.Kinds.{kind_of};
+ghost use Rattle.elf_scope.specs.Kinds.{found_at};
 ghost use Rattle.elf_scope.specs.Scopes.{Finds, IsScope, ScopeLies};
 
-use crate::kind::HashKind;
 use crate::numbers::SHT_GNU_HASH;
-use crate::place::HashPlace;
 use crate::scope::Scope;
 use crate::section_versions::section_versions;
 use crate::symbols::Symbols;
+use elf_hash::{HashKind, HashPlace};
 use elf_headers::refused;
 use elf_record::Cause;
 use elf_record::numbers::SHT_HASH;

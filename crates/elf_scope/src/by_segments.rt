@@ -7,16 +7,15 @@ ghost use Rattle.elf_headers.specs.Ledger.{Did, why_stopped};
 ghost use Rattle.elf_headers.specs.Load.{Views};
 ghost use Rattle.elf_table.specs.HashSections.{Settles};
 ghost use Rattle.elf_scope.specs.Entries.{AreEntries};
-ghost use Rattle.elf_scope.specs.Kinds.{kind_of};
+ghost use Rattle.elf_hash.specs.Kinds.{kind_of};
 ghost use Rattle.elf_scope.specs.Scopes.{Finds, IsScope, ScopeLies};
 ghost use Rattle.elf_scope.specs.Segments.{FindsSegments, TellsHash, scope_by_entries};
 
 use crate::entries::first_entries;
 use crate::entry::{Entries, Entry};
-use crate::kind::HashKind;
-use crate::place::HashPlace;
 use crate::scope::Scope;
 use crate::segment_symbols::segment_symbols;
+use elf_hash::{HashKind, HashPlace};
 use elf_headers::refused;
 use elf_record::Cause;
 use elf_record::numbers::PT_DYNAMIC;

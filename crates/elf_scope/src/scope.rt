@@ -1,6 +1,6 @@
 //! What a lookup is made in.
-use crate::place::HashPlace;
 use crate::symbols::Symbols;
+use elf_hash::HashPlace;
 
 /// What a lookup is made in: a hash table, and the symbols that it is of. It holds no bytes.
 #[derive(Clone, Copy)]

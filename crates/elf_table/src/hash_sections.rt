@@ -53,6 +53,9 @@ impl File<'_> {
         ensures inside { IfOk result (λ found.
             sh_offset (row self.now.store.now section) 0
             + sh_size (row self.now.store.now section) 0 ≤ self.now.loaded.size) }
+        ensures ends { IfOk result (λ found.
+            sh_offset (row self.now.store.now section) 0
+            + sh_size (row self.now.store.now section) 0 < 2 ^ 64) }
         ensures room { IfOk result (λ found. least ≤ sh_size (row self.now.store.now section) 0) }
         ensures refusal { IfErr result IsOfCheck }
     {

@@ -1,5 +1,5 @@
 -- The first section with a hash table decides.
-use Rattle.std.proofs.Common.{◌≡◌, ap, sym, ◌∙◌}
+use Rattle.std.proofs.Common.{ap, ◌∙◌}
 use Rattle.std.specs.Prelude.{option_map}
 use Rattle.elf_scope.specs.Kinds.{found_at}
 use Rattle.elf_scope.proofs.SectionLaws.{not_some, sections_find, sections_none}

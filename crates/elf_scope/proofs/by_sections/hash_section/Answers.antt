@@ -1,7 +1,5 @@
 -- The first section of the GNU system's type, else the first of the gABI's.
-use Rattle.std.proofs.Common.{◌≡◌, None, Option, ℕ, sym, ◌∙◌}
-use Rattle.elf_model.specs.Numbers.{SHT_HASH, SHT_GNU_HASH}
-use Rattle.elf_model.specs.VersionRows.{first_of_type}
+use Rattle.std.proofs.Common.{sym, ◌∙◌}
 use Rattle.elf_scope.proofs.SectionLaws.{gnu_first, none_first, not_some, sysv_first}
 use Rattle.elf_scope.proofs.by_sections.hash_section.Goals as goal
 

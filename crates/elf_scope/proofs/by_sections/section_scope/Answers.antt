@@ -1,11 +1,12 @@
 -- The checks of the hash table's section, then those of the tables of versions.
-use Rattle.std.proofs.Common.{◌≡◌, refl, sym, ◌∙◌}
+use Rattle.std.proofs.Common.{refl, sym, ◌∙◌}
 use Rattle.std.proofs.lemmas.Result.{err_from_is_err_and}
 use Rattle.elf_model.specs.Find.{hash_checks_from}
 use Rattle.elf_model.specs.LoaderScope.{version_checks}
 use Rattle.elf_model.specs.Records.{section_at}
 use Rattle.elf_table.proofs.HashSectionLaws.{place_is}
-use Rattle.elf_scope.specs.Kinds.{kind_of, least_bytes}
+use Rattle.elf_hash.specs.Kinds.{kind_of}
+use Rattle.elf_scope.specs.Kinds.{least_bytes}
 use Rattle.elf_scope.proofs.SectionLaws.{section_is}
 use Rattle.elf_scope.proofs.SettleLaws.{refused_back, refused_front}
 use Rattle.elf_scope.proofs.by_sections.section_scope.Goals as goal

@@ -1,5 +1,5 @@
 -- The entry of the hash table decides.
-use Rattle.elf_scope.specs.Kinds.{kind_of}
+use Rattle.elf_hash.specs.Kinds.{kind_of}
 use Rattle.elf_scope.proofs.ScopeLaws.{entries_find, entries_none}
 use Rattle.elf_scope.proofs.SectionLaws.{not_some}
 use Rattle.elf_model.specs.Records.{segment_at}

@@ -1,7 +1,7 @@
 -- The first segment of dynamic entries, and what these tell.
-use Rattle.std.proofs.Common.{◌≡◌, ℕ, ◌≤◌, ap, sym, ◌∙◌, arith}
+use Rattle.std.proofs.Common.{ap, sym, ◌∙◌, arith}
 use Rattle.std.proofs.lemmas.Result.{err_from_is_err_and}
-use Rattle.elf_table.specs.Tables.{Rows, size_of}
+use Rattle.elf_table.specs.Tables.{Rows}
 use Rattle.elf_headers.proofs.LedgerLaws.{Did-as, Did-none, Did-of, Did-stop}
 use Rattle.elf_scope.proofs.EntryLaws.{entries_are}
 use Rattle.elf_scope.proofs.FoundLaws.{asked_within, did_check, dynamic_is, dynamic_refused, index_is, read_finds, segment_finds, segments_none, size_within}

@@ -1,8 +1,9 @@
 -- The hash table's bytes, then the symbols.
-use Rattle.std.proofs.Common.{◌≡◌, ◌<◌, ◌≤◌, refl, sym, ◌∙◌, arith}
+use Rattle.std.proofs.Common.{◌<◌, ◌≤◌, refl, arith}
 use Rattle.std.proofs.lemmas.Result.{err_from_is_err_and}
 use Rattle.elf_model.specs.Records.{segment_at}
-use Rattle.elf_scope.specs.Kinds.{kind_of, least_bytes}
+use Rattle.elf_hash.specs.Kinds.{kind_of}
+use Rattle.elf_scope.specs.Kinds.{least_bytes}
 use Rattle.elf_scope.proofs.ScopeLaws.{hash_refuses, rows_refuse, scope_settles, shape_refuses}
 use Rattle.elf_scope.proofs.by_segments.segment_scope.Goals as goal
 

@@ -1,5 +1,5 @@
 -- An entry more is taken in, and no other behind the last.
-use Rattle.std.proofs.Common.{◌≡◌, ℕ, ◌+◌, List, Some, ap, sym, ◌∙◌, arith}
+use Rattle.std.proofs.Common.{◌≡◌, ℕ, ◌+◌, List, Some, ap, ◌∙◌, arith}
 use Rattle.elf_model.specs.Bytes.{slice}
 use Rattle.elf_record.specs.Dyn.{IsDyn}
 use Rattle.elf_source.proofs.ReadsLaws.{Reads-then, Reads-to}

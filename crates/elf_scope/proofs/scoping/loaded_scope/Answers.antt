@@ -1,5 +1,5 @@
 -- By the sections, or where there are none by the program headers.
-use Rattle.std.proofs.Common.{◌≡◌, ℕ, ap, sym, ◌∙◌, arith}
+use Rattle.std.proofs.Common.{ap, sym, ◌∙◌, arith}
 use Rattle.std.proofs.lemmas.Result.{err_from_is_err_and}
 use Rattle.elf_record.specs.declared.ehdr.Ehdr.{Ehdr}
 use Rattle.elf_headers.proofs.LedgerLaws.{Charges-then, Did-as, Did-none, Did-of, Did-then}

@@ -1,5 +1,5 @@
 -- The records are those of the first section of the type.
-use Rattle.std.proofs.Common.{◌≡◌, sym, ◌∙◌}
+use Rattle.std.proofs.Common.{sym, ◌∙◌}
 use Rattle.std.proofs.lemmas.Result.{err_from_is_err_and}
 use Rattle.elf_scope.proofs.SectionLaws.{not_some}
 use Rattle.elf_scope.proofs.VersionLaws.{first_are, first_none, first_refused}

@@ -1,5 +1,5 @@
 -- The records are the section's bytes, and their names those that it links to.
-use Rattle.std.proofs.Common.{◌≡◌, Result, refl, sym, ◌∙◌}
+use Rattle.std.proofs.Common.{refl, ◌∙◌}
 use Rattle.std.proofs.lemmas.Result.{err_from_is_err_and}
 use Rattle.elf_model.specs.Records.{section_at}
 use Rattle.elf_table.proofs.HashSectionLaws.{place_is}

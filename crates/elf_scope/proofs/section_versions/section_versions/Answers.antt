@@ -1,5 +1,5 @@
 -- The words, then the definitions, then the needs.
-use Rattle.std.proofs.Common.{◌≡◌, Some, refl}
+use Rattle.std.proofs.Common.{refl}
 use Rattle.std.proofs.lemmas.Result.{err_from_is_err_and}
 use Rattle.elf_scope.proofs.SectionLaws.{not_some}
 use Rattle.elf_scope.proofs.VersionLaws.{definitions_refuse, needs_refuse, no_versions, versions_are, words_refuse}

@@ -1,5 +1,5 @@
 -- The words are those of the first section of such.
-use Rattle.std.proofs.Common.{◌≡◌, sym, refl, ◌∙◌}
+use Rattle.std.proofs.Common.{sym, refl, ◌∙◌}
 use Rattle.std.proofs.lemmas.Result.{err_from_is_err_and}
 use Rattle.elf_table.proofs.HashSectionLaws.{place_is}
 use Rattle.elf_scope.proofs.SectionLaws.{not_some}

@@ -1,8 +1,7 @@
 -- The records are the rest of the entry's address.
-use Rattle.std.proofs.Common.{◌≡◌, refl, sym, ◌∙◌}
+use Rattle.std.proofs.Common.{refl}
 use Rattle.std.proofs.lemmas.Result.{err_from_is_err_and}
-use Rattle.elf_scope.proofs.SectionLaws.{not_some}
-use Rattle.elf_scope.proofs.SegmentLaws.{tag_are, tag_none, tag_refused}
+use Rattle.elf_scope.proofs.SegmentLaws.{tag_are, tag_refused}
 use Rattle.elf_scope.proofs.segment_symbols.segment_records.Goals as goal
 
 pub returns-in_err-table-clause-held : goal.returns-in_err-table-clause-held

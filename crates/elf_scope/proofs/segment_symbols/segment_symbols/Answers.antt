@@ -1,5 +1,5 @@
 -- The entries, the symbols, their strings, then the tables of versions.
-use Rattle.std.proofs.Common.{◌≡◌, ap, refl, sym, ◌∙◌}
+use Rattle.std.proofs.Common.{ap, refl}
 use Rattle.std.proofs.lemmas.Result.{err_from_is_err_and}
 use Rattle.elf_table.specs.Tables.{Rows}
 use Rattle.elf_scope.proofs.ScopeLaws.{names_told, strings_refuse, symbols_missing, symbols_refuse, symbols_settle, versions_refuse}

@@ -1,5 +1,5 @@
 -- The words, then the definitions, then the needs.
-use Rattle.std.proofs.Common.{◌≡◌, ap, refl, sym, ◌∙◌}
+use Rattle.std.proofs.Common.{ap, refl}
 use Rattle.std.proofs.lemmas.Result.{err_from_is_err_and}
 use Rattle.elf_model.specs.Numbers.{DT_VERDEF, DT_VERNEED}
 use Rattle.elf_table.specs.Tables.{Rows}
