@@ -196,31 +196,55 @@ where
         Err(fault) if fault.kind() == ErrorKind::OutOfMemory => return Err(OUT_OF_MEMORY),
         Err(_) => return Err((2, "elfsee: cannot read layout")),
     };
-    let mut items = Items::new(rt.alloc());
-    if items.push_layout(layout).is_err() {
-        return Err(OUT_OF_MEMORY);
-    }
-    match items.push_lines(text.as_str()) {
-        Ok(()) => {}
+    let mut items = match collect(rt.alloc(), layout, text.as_str()) {
+        Ok(items) => items,
         Err(LinesFault::Memory) => return Err(OUT_OF_MEMORY),
         Err(LinesFault::Bad(line)) => return Err(told(rt.alloc(), errors, "bad item", line)),
-    }
+    };
     items.sort();
-    let lent = match lend(&items) {
-        Ok(lent) => lent,
+    match lend(&items) {
+        Ok(lent) => apply_lent(rt, &asked.request, section, &lent),
         Err(repeat) => {
             let line = last_line(text.as_str(), &repeat);
-            return Err(told(rt.alloc(), errors, "layout-repeat", line));
+            Err(told(rt.alloc(), errors, "layout-repeat", line))
         }
-    };
-    let addresses = Addresses::lent(&lent);
+    }
+}
+
+/// The items of a layout, and of the lines of a text.
+fn collect<'a>(
+    alloc: Global,
+    layout: &'a Layout,
+    text: &'a str,
+) -> Result<Items<'a>, LinesFault> {
+    let mut items = Items::new(alloc);
+    if items.push_layout(layout).is_err() {
+        return Err(LinesFault::Memory);
+    }
+    match items.push_lines(text) {
+        Ok(()) => Ok(items),
+        Err(fault) => Err(fault),
+    }
+}
+
+/// Applies a section of the file that is asked for in a layout that is lent.
+fn apply_lent<R: Files + Print + AllocGlobal>(
+    rt: &R,
+    asked: &Request<'_>,
+    section: u16,
+    lent: &LentLayout<'_>,
+) -> Result<Ending, Ending>
+where
+    R::File: FileExt,
+{
+    let addresses = Addresses::lent(lent);
     let task = Task::Place {
         section,
         addresses: &addresses,
     };
     let request = Request {
-        file: asked.request.file,
-        limits: asked.request.limits,
+        file: asked.file,
+        limits: asked.limits,
         task,
     };
     answer_request(rt, &request)
