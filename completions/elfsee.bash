@@ -6,7 +6,8 @@ _elfsee_options() {
     case $1 in
     show | sample | archive) set -- --headers --names --max-read --only --gnu --by-segments ;;
     check) set -- --headers --names --max-read --only --gnu --by-segments --files0-from ;;
-    find | apply) set -- --headers --max-read ;;
+    find) set -- --headers --max-read ;;
+    apply) set -- --headers --max-read --layout ;;
     *) set -- ;;
     esac
     for option in "$@" --help; do
@@ -58,7 +59,7 @@ _elfsee() {
         else
             case $word in
             --) ended=1 before= ;;
-            --headers | --names | --max-read | --only | --files0-from) skip=1 ;;
+            --headers | --names | --max-read | --only | --layout | --files0-from) skip=1 ;;
             -*) ;;
             *) if [[ $command ]]; then files=$((files + 1)); else command=$word; fi ;;
             esac
@@ -72,7 +73,7 @@ _elfsee() {
             return
             ;;
         --headers | --names | --max-read) return ;;
-        --files0-from)
+        --layout | --files0-from)
             _elfsee_files
             return
             ;;

@@ -26,7 +26,7 @@ function __elfsee_plain_words
             set -a plain $word
         else if test "$word" = --
             set ended 1
-        else if contains -- $word --headers --names --max-read --only --files0-from
+        else if contains -- $word --headers --names --max-read --only --layout --files0-from
             set skip 1
         else if not string match -q -- '-*' $word
             set -a plain $word
@@ -78,4 +78,5 @@ complete -c elfsee -n '__fish_seen_subcommand_from archive; and __elfsee_lacks -
 complete -c elfsee -n "$listing; and __elfsee_lacks --gnu" -l gnu -d 'name the numbers of the GNU system too'
 complete -c elfsee -n "$listing; and __elfsee_lacks --by-segments" -l by-segments -d 'find tables by the program headers'
 complete -c elfsee -n '__fish_seen_subcommand_from check; and __elfsee_lacks --files0-from' -l files0-from -r -F -d 'check the paths in a file too, each ended by NUL'
+complete -c elfsee -n '__fish_seen_subcommand_from apply; and __elfsee_lacks --layout' -l layout -r -F -d 'take the items in a file too, one a line'
 complete -c elfsee -s h -l help -d 'tell of the commands and options'

@@ -3,6 +3,7 @@ pub mod BudgetSteps
 pub mod CostSteps
 pub mod EntrySteps
 pub mod InOrderSteps
+pub mod NameSteps
 pub mod Opened
 pub mod PassSteps
 pub mod ReadLaws

@@ -2,7 +2,8 @@
 use Rattle.elf_model.specs.Apply.{apply_checks, held_bytes, entry_changes, change_of, entry_checks, named_value}
 use Rattle.elf_model.specs.Placing.{linkage_value, base_value, place_value}
 use Rattle.elf_model.specs.Values.{patch_of, whole}
-use Rattle.elf_layout.proofs.LayoutSteps.{names_cost}
+use Rattle.elf_model.specs.ApplyCost.{layout_names_cost}
+use Rattle.elf_layout.specs.Layouts.{names_for}
 use Rattle.elf_apply.specs.Entries.{term_of, taken_place}
 use Rattle.elf_apply.specs.Walk.{walk_left, steps_left}
 
@@ -27,11 +28,11 @@ unfolding term_of named_value
 term = tt
 
 unfoldable pub based : Unit {0}
-unfolding base_value
+unfolding base_value layout_names_cost names_for
 based = tt
 
 unfoldable pub linkage : Unit {0}
-unfolding linkage_value
+unfolding linkage_value layout_names_cost names_for
 linkage = tt
 
 -- P
@@ -43,6 +44,3 @@ place = tt
 unfoldable pub walk : Unit {0}
 unfolding walk_left steps_left
 walk = tt
-
--- what the names of a layout cost
-pub ruleset names = (names_cost)

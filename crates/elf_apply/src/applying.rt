@@ -22,7 +22,7 @@ use crate::in_order::write_in_order;
 use crate::passes::{Checked, check};
 use crate::windows::write_windows;
 use elf_headers::{ends_outside, refused};
-use elf_layout::Layout;
+use elf_layout::{Addresses, Layout};
 use elf_record::numbers::{EM_X86_64, ET_REL, SHT_NOBITS, SHT_NULL};
 use elf_record::{Cause, Refusal, Shdr};
 use elf_source::{Counted, Out, Sink, Source};
@@ -182,7 +182,7 @@ fn apply_loaded<S: Source, W: Sink>(
     store: &HeaderStore,
     loaded: Loaded,
     section: u16,
-    layout: &Layout,
+    layout: &Addresses<'_>,
     out: &mut Out<W>,
 ) -> Result<Applied, Stop>
     requires { MayApply src.old loaded store.now }
@@ -246,6 +246,23 @@ pub fn apply<S: Source, W: Sink>(
     ensures grows { Grows out.old out.new }
     ensures wrote { WroteMost out.old out.new result src.old.seen.size }
 {
+    apply_with(src, store, section, &Addresses::fixed(layout), out)
+}
+
+/// The same as [`apply`], with its errors, in addresses that are kept otherwise: those that a caller
+/// lends too. What it may ask for is by how they are kept.
+pub fn apply_with<S: Source, W: Sink>(
+    src: &mut Counted<S>,
+    store: &mut HeaderStore,
+    section: u16,
+    layout: &Addresses<'_>,
+    out: &mut Out<W>,
+) -> Result<Applied, Stop>
+    ensures slots { store.new.slots ≡ store.old.slots }
+    ensures applies { AppliesFile src.old src.new out.old out.new result store.old.slots section
+        layout.now }
+    ensures free { src.new.most ≡ None }
+{
     let result = apply_within(src, store, section, layout, out);
     src.limit(None);
     result
@@ -256,7 +273,7 @@ fn apply_within<S: Source, W: Sink>(
     src: &mut Counted<S>,
     store: &mut HeaderStore,
     section: u16,
-    layout: &Layout,
+    layout: &Addresses<'_>,
     out: &mut Out<W>,
 ) -> Result<Applied, Stop>
     ensures slots { store.new.slots ≡ store.old.slots }

@@ -18,7 +18,7 @@ ghost use Rattle.elf_apply.specs.Entries.{taken_place, term_of, value_or};
 
 use crate::lookup::{Symbol, base_value};
 use elf_headers::refused;
-use elf_layout::Layout;
+use elf_layout::Addresses;
 use elf_record::numbers::R_X86_64_NONE;
 use elf_record::{Cause, Rela};
 use elf_reloc::{Base, Formula, Patch, RelocationType, patch_of, relocation_type, takes_place};
@@ -49,7 +49,7 @@ pub(crate) struct Symbols {
 #[derive(Clone, Copy)]
 pub(crate) struct Target<'a> {
     pub(crate) file: File<'a>,
-    pub(crate) layout: &'a Layout,
+    pub(crate) layout: &'a Addresses<'a>,
     pub(crate) section: u16,
     pub(crate) size: u64,
 }
@@ -101,7 +101,7 @@ pub(crate) fn entry_change<S: Source>(
 
 /// The relocation type of a number, where the layout has addresses that its base may tell.
 #[tactic(auto, unfolding(elf_model::specs::Apply::where_based))]
-fn based_type(layout: &Layout, kind: u32) -> Option<RelocationType>
+fn based_type(layout: &Addresses<'_>, kind: u32) -> Option<RelocationType>
     ensures value { result ≡ where_based layout.now (kind_of kind) }
     ensures width { IfSome result (λ found. IsWidth found.width) }
     ensures sized { IfSome result (λ found. IsSized found.range found.width) }
@@ -216,7 +216,7 @@ fn unnamed_value(base: Base, at: u64) -> Result<u64, Fault>
 }
 
 /// B of the symbol of an index, which the entry at `at` names; of symbol 0 nothing is read.
-#[tactic(auto, using(crate::proofs::Words::names), unfolding(crate::proofs::Words::term))]
+#[tactic(auto, unfolding(crate::proofs::Words::term))]
 fn named_value<S: Source>(
     src: &mut Counted<S>,
     target: &Target<'_>,

@@ -9,4 +9,4 @@ mod passes;
 mod walk;
 mod windows;
 
-pub use applying::{Applied, apply};
+pub use applying::{Applied, apply, apply_with};

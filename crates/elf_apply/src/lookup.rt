@@ -1,7 +1,8 @@
 //! The address of a symbol in a layout.
-ghost use Rattle.std.specs.Prelude.{◌≡◌, ℕ, List, Some, Err, IfErr};
-ghost use Rattle.elf_model.specs.ApplyCost.{layout_names_cost};
-ghost use Rattle.elf_model.specs.Placing.{address_named, base_value, entry_value};
+ghost use Rattle.std.specs.Prelude.{◌≡◌, ◌+◌, ◌-◌, ◌<◌, ◌≤◌, min, ℕ, List, length};
+ghost use Rattle.std.specs.Prelude.{Some, Err, IfErr};
+ghost use Rattle.elf_model.specs.ApplyCost.{layout_names_cost, longest, lookup_cost};
+ghost use Rattle.elf_model.specs.Placing.{Searched, address_named, base_value, entry_value};
 ghost use Rattle.elf_model.specs.Placing.{linkage_value, named_or};
 ghost use Rattle.elf_model.specs.Placing.{placed_at, symbol_value, undefined_value};
 ghost use Rattle.elf_model.specs.Records.{st_name};
@@ -9,16 +10,19 @@ ghost use Rattle.elf_record.specs.Sym.{IsSym};
 ghost use Rattle.elf_source.specs.Source.{Reads};
 ghost use Rattle.elf_headers.specs.Faults.{IsOfCheck, Says};
 ghost use Rattle.elf_table.specs.Tables.{StringsWithin, strings_in};
-ghost use Rattle.elf_layout.specs.Layouts.{items_cost};
+ghost use Rattle.elf_layout.specs.Layouts.{items_cost, names_for};
 ghost use Rattle.elf_apply.specs.Costs.{ValueOrCause, ValueOrRefusal};
 
-use elf_headers::refused;
-use elf_layout::{Layout, Named};
+use elf_headers::{fill, refused};
+use elf_layout::{Addresses, Among, Named, SortedNames};
 use elf_record::numbers::{SHN_UNDEF, STB_WEAK};
 use elf_record::{Cause, Place, Sym};
 use elf_reloc::Base;
 use elf_source::{Counted, Source};
 use elf_table::{Fault, Names};
+
+/// How many bytes of a symbol's name are read at most: the longest name of a layout, and its NUL.
+const NAME_BYTES: usize = 256;
 
 /// A symbol that stands at an offset of the file, with the string table of its name.
 #[derive(Clone, Copy)]
@@ -28,10 +32,10 @@ pub(crate) struct Symbol {
     pub(crate) at: u64,
 }
 
-/// The address of the first item whose name is the symbol's, where there is one. Without items the
-/// name is not looked at; a refusal names the symbol.
+/// The address of the first item whose name is the symbol's, where there is one: each is compared.
+/// Without items the name is not looked at; a refusal names the symbol.
 #[tactic(auto, unfolding(elf_model::specs::Placing::address_named))]
-fn address_named<S: Source>(
+fn compared<S: Source>(
     src: &mut Counted<S>,
     symbol: &Symbol,
     items: &[Named],
@@ -55,6 +59,89 @@ fn address_named<S: Source>(
         i += 1;
     }
     Ok(None)
+}
+
+/// The same among names in rising order: as many bytes of the symbol's name as the longest of them
+/// has are read once, and searched for.
+fn searched<S: Source>(
+    src: &mut Counted<S>,
+    symbol: &Symbol,
+    names: &SortedNames<'_>,
+) -> Result<Option<u64>, Fault>
+    requires within { StringsWithin src.old.seen.size symbol.now.names }
+    ensures reads { Reads src.old src.new (lookup_cost Searched names.now) }
+    ensures says { IfErr result (Says src.old src.new (lookup_cost Searched names.now)) }
+    ensures told { (file : List ℕ) → src.old.seen.file ≡ Some file →
+        ValueOrCause symbol.now.at result (address_named
+        (strings_in file symbol.now.names) symbol.now.fields.st_name names.now) }
+{
+    let off = u64::from(symbol.fields.st_name);
+    let size = symbol.names.size();
+    if names.is_empty() {
+        return Ok(None);
+    }
+    if size == 0 && off == 0 {
+        return Ok(None);
+    }
+    if off >= size {
+        return refused(symbol.at, Cause::NameOutside);
+    }
+    let mut bytes = [0; NAME_BYTES];
+    let count = (size - off).min(names.longest() as u64 + 1) as usize;
+    read_name(src, symbol, &mut bytes[..count], names)
+}
+
+/// The address of the name whose first bytes are read, as many as `front` has.
+fn read_name<S: Source>(
+    src: &mut Counted<S>,
+    symbol: &Symbol,
+    front: &mut [u8],
+    names: &SortedNames<'_>,
+) -> Result<Option<u64>, Fault>
+    requires within { StringsWithin src.old.seen.size symbol.now.names }
+    requires inside { symbol.now.fields.st_name < symbol.now.names.size }
+    requires count { length front.old
+        ≡ min (symbol.now.names.size - symbol.now.fields.st_name) (longest names.now + 1) }
+    requires few { length front.old ≤ 256 }
+    ensures reads { Reads src.old src.new (longest names.now + 1) }
+    ensures says { IfErr result (Says src.old src.new (longest names.now + 1)) }
+    ensures told { (file : List ℕ) → src.old.seen.file ≡ Some file →
+        ValueOrCause symbol.now.at result (address_named
+        (strings_in file symbol.now.names) symbol.now.fields.st_name names.now) }
+{
+    let at = symbol.names.at() + u64::from(symbol.fields.st_name);
+    match fill(src, at, front) {
+        Ok(()) => {}
+        Err(fault) => return Err(fault),
+    }
+    match names.find(front) {
+        Ok(address) => Ok(address),
+        Err(cause) => refused(symbol.at, cause),
+    }
+}
+
+/// The address of the name of a symbol among those that are looked through for a base, where there
+/// is one.
+#[tactic(auto, unfolding(elf_model::specs::ApplyCost::lookup_cost))]
+fn address_named<S: Source>(
+    src: &mut Counted<S>,
+    symbol: &Symbol,
+    layout: &Addresses<'_>,
+    base: Base,
+) -> Result<Option<u64>, Fault>
+    requires within { StringsWithin src.old.seen.size symbol.now.names }
+    ensures reads { Reads src.old src.new
+        (lookup_cost layout.now.lookup (names_for layout.now base)) }
+    ensures says { IfErr result (Says src.old src.new
+        (lookup_cost layout.now.lookup (names_for layout.now base))) }
+    ensures told { (file : List ℕ) → src.old.seen.file ≡ Some file →
+        ValueOrCause symbol.now.at result (address_named
+        (strings_in file symbol.now.names) symbol.now.fields.st_name (names_for layout.now base)) }
+{
+    match layout.names(base) {
+        Among::Compared(items) => compared(src, symbol, items),
+        Among::Searched(names) => searched(src, symbol, names),
+    }
 }
 
 /// An offset from an address modulo 2^64; without an address the entry, which stands at `entry`, is
@@ -84,22 +171,23 @@ fn undefined_value(symbol: &Sym, entry: u64) -> Result<u64, Fault>
 
 /// The value of an undefined or common symbol: its definition in the layout, or the value that it
 /// has without one.
+#[tactic(auto, unfolding(elf_layout::specs::Layouts::names_for))]
 fn defined_value<S: Source>(
     src: &mut Counted<S>,
-    layout: &Layout,
+    layout: &Addresses<'_>,
     symbol: &Symbol,
     entry: u64,
 ) -> Result<u64, Fault>
     requires within { StringsWithin src.old.seen.size symbol.now.names }
-    ensures reads { Reads src.old src.new (items_cost layout.now.definitions) }
-    ensures says { IfErr result (Says src.old src.new (items_cost layout.now.definitions)) }
+    ensures reads { Reads src.old src.new (lookup_cost layout.now.lookup layout.now.definitions) }
+    ensures says { IfErr result (Says src.old src.new (lookup_cost layout.now.lookup layout.now.definitions)) }
     ensures told { (file : List ℕ) → src.old.seen.file ≡ Some file →
         IsSym file symbol.now.at symbol.now.fields → ValueOrRefusal result
         (named_or symbol.now.at (address_named (strings_in file symbol.now.names)
         (st_name file symbol.now.at) layout.now.definitions)
         (undefined_value file entry symbol.now.at)) }
 {
-    match address_named(src, symbol, layout.definitions()) {
+    match address_named(src, symbol, layout, Base::Symbol) {
         Ok(Some(address)) => Ok(address),
         Ok(None) => undefined_value(&symbol.fields, entry),
         Err(fault) => Err(fault),
@@ -111,13 +199,13 @@ fn defined_value<S: Source>(
 #[tactic(auto, unfolding(elf_model::specs::Placing::symbol_value))]
 fn symbol_value<S: Source>(
     src: &mut Counted<S>,
-    layout: &Layout,
+    layout: &Addresses<'_>,
     symbol: &Symbol,
     entry: u64,
 ) -> Result<u64, Fault>
     requires within { StringsWithin src.old.seen.size symbol.now.names }
-    ensures reads { Reads src.old src.new (items_cost layout.now.definitions) }
-    ensures says { IfErr result (Says src.old src.new (items_cost layout.now.definitions)) }
+    ensures reads { Reads src.old src.new (lookup_cost layout.now.lookup layout.now.definitions) }
+    ensures says { IfErr result (Says src.old src.new (lookup_cost layout.now.lookup layout.now.definitions)) }
     ensures told { (file : List ℕ) → src.old.seen.file ≡ Some file →
         IsSym file symbol.now.at symbol.now.fields → ValueOrRefusal result
         (symbol_value file (strings_in file symbol.now.names) layout.now entry symbol.now.at) }
@@ -136,10 +224,10 @@ fn symbol_value<S: Source>(
 }
 
 /// L, the address of a symbol's procedure linkage table entry, where the layout has one; else S.
-#[tactic(auto, using(crate::proofs::Words::names), unfolding(crate::proofs::Words::linkage))]
+#[tactic(auto, unfolding(crate::proofs::Words::linkage))]
 fn linkage_value<S: Source>(
     src: &mut Counted<S>,
-    layout: &Layout,
+    layout: &Addresses<'_>,
     symbol: &Symbol,
     entry: u64,
 ) -> Result<u64, Fault>
@@ -150,30 +238,33 @@ fn linkage_value<S: Source>(
         IsSym file symbol.now.at symbol.now.fields → ValueOrRefusal result
         (linkage_value file (strings_in file symbol.now.names) layout.now entry symbol.now.at) }
 {
-    match address_named(src, symbol, layout.linkage()) {
+    match address_named(src, symbol, layout, Base::Linkage) {
         Ok(Some(address)) => Ok(address),
         Ok(None) => symbol_value(src, layout, symbol, entry),
         Err(fault) => Err(fault),
     }
 }
 
-/// The address of a symbol's entry among some items; without one the entry at `entry` is refused as
-/// one of a type that is not applied.
+/// The address of a symbol's entry among those that are looked through for a base; without one the
+/// relocation entry at `entry` is refused as one of a type that is not applied.
 #[tactic(auto, unfolding(elf_model::specs::Placing::entry_value))]
 fn entry_value<S: Source>(
     src: &mut Counted<S>,
-    items: &[Named],
+    layout: &Addresses<'_>,
     symbol: &Symbol,
     entry: u64,
+    base: Base,
 ) -> Result<u64, Fault>
     requires within { StringsWithin src.old.seen.size symbol.now.names }
-    ensures reads { Reads src.old src.new (items_cost items.now) }
-    ensures says { IfErr result (Says src.old src.new (items_cost items.now)) }
+    ensures reads { Reads src.old src.new
+        (lookup_cost layout.now.lookup (names_for layout.now base)) }
+    ensures says { IfErr result (Says src.old src.new
+        (lookup_cost layout.now.lookup (names_for layout.now base))) }
     ensures told { (file : List ℕ) → src.old.seen.file ≡ Some file →
-        IsSym file symbol.now.at symbol.now.fields → ValueOrRefusal result
-        (entry_value items.now file (strings_in file symbol.now.names) entry symbol.now.at) }
+        IsSym file symbol.now.at symbol.now.fields → ValueOrRefusal result (entry_value
+        (names_for layout.now base) file (strings_in file symbol.now.names) entry symbol.now.at) }
 {
-    match address_named(src, symbol, items) {
+    match address_named(src, symbol, layout, base) {
         Ok(Some(address)) => Ok(address),
         Ok(None) => refused(entry, Cause::Unsupported),
         Err(fault) => Err(fault),
@@ -182,10 +273,10 @@ fn entry_value<S: Source>(
 
 /// B, the address of a symbol that a base tells. Refusals that are none of its name are at the entry
 /// that names it.
-#[tactic(auto, using(crate::proofs::Words::names), unfolding(crate::proofs::Words::based))]
+#[tactic(auto, unfolding(crate::proofs::Words::based))]
 pub(crate) fn base_value<S: Source>(
     src: &mut Counted<S>,
-    layout: &Layout,
+    layout: &Addresses<'_>,
     symbol: &Symbol,
     entry: u64,
     base: Base,
@@ -200,7 +291,7 @@ pub(crate) fn base_value<S: Source>(
     match base {
         Base::Symbol => symbol_value(src, layout, symbol, entry),
         Base::Linkage => linkage_value(src, layout, symbol, entry),
-        Base::Table => entry_value(src, layout.table(), symbol, entry),
-        Base::Thread => entry_value(src, layout.thread(), symbol, entry),
+        Base::Table => entry_value(src, layout, symbol, entry, base),
+        Base::Thread => entry_value(src, layout, symbol, entry, base),
     }
 }

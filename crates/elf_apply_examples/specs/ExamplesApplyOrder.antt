@@ -9,7 +9,7 @@ use Rattle.elf_model.specs.Find.{find_cost}
 use Rattle.elf_model.specs.Fixtures.{zeros, with_bytes, section_header, one_symbol_table}
 use Rattle.elf_model.specs.FixturesHash.{hash_with_cycle}
 use Rattle.elf_model.specs.FixturesApply.{relocation, relocated, overlapping_relocations, one_call, with_symbol, empty_layout, placed_layout, entry_layout, unplaced_layout, full_layout}
-use Rattle.elf_model.specs.Placing.{Layout}
+use Rattle.elf_model.specs.Placing.{Layout, Compared}
 use Rattle.elf_apply_examples.specs.ExamplesApply.{WritesSection, RefusesToApply}
 use Rattle.elf_model.specs.declared.causes.Cause.TheVariants.{Unsupported, Overflow, BadLink, Unplaced, PlaceOutside, SymbolIndex, NameOutside}
 
@@ -43,7 +43,7 @@ TypesTakeTheirTerms =
 
 -- section 1 and a definition of `f`, both at 2^63
 abbrev pub high_layout : Layout
-high_layout = record { sections = (1, 2 ^ 63) ∷ []; definitions = (codes "f", 2 ^ 63) ∷ []; linkage = []; table = []; thread = [] }
+high_layout = record { lookup = Compared; sections = (1, 2 ^ 63) ∷ []; definitions = (codes "f", 2 ^ 63) ∷ []; linkage = []; table = []; thread = [] }
 
 -- an address has 64 bits: as the symbol's section, as its definition, as its own value, and as the place; one that would
 -- be 2^64 or more is taken modulo 2^64, of a symbol and of a place
@@ -52,7 +52,7 @@ AddressesAreWhole =
     WritesSection (eight_relocated 1 6 (little 2 1 ++ little 8 0x10)) high_layout ((0x0c ∷ []) ++ zeros 6 ++ (0x80 ∷ []))
     × WritesSection (eight_relocated 1 6 (little 2 1 ++ little 8 (2 ^ 63 + 0x10))) high_layout ((0x0c ∷ []) ++ zeros 7)
     × WritesSection (relocated (zeros 8) (relocation 4 2 0x5000))
-    (record { sections = (1, 2 ^ 64 - 2) ∷ []; definitions = []; linkage = []; table = []; thread = [] })
+    (record { lookup = Compared; sections = (1, 2 ^ 64 - 2) ∷ []; definitions = []; linkage = []; table = []; thread = [] })
     (zeros 4 ++ (0xfe ∷ 0x4f ∷ 0 ∷ 0 ∷ []))
     × WritesSection (eight_relocated 1 6 (little 2 0)) high_layout ((0xfc ∷ []) ++ replicate 6 0xff ++ (0x7f ∷ []))
     × WritesSection (eight_relocated 1 6 (little 2 0xfff1 ++ little 8 (2 ^ 63))) high_layout ((0xfc ∷ []) ++ replicate 6 0xff ++ (0x7f ∷ []))
@@ -71,6 +71,7 @@ TypesWithoutASymbol =
 unfoldable pub longer_layout : Layout
 longer_layout =
     record {
+      lookup = Compared;
       sections = (1, 0x1000) ∷ (3, 0x3000) ∷ [];
       definitions = (codes "g", 0x9000) ∷ (codes "f", 0x3000) ∷ [];
       linkage = (codes "ff", 0x9000) ∷ [];
@@ -88,6 +89,7 @@ LaterItemsAreFound =
 unfoldable pub long_names : Layout
 long_names =
     record {
+      lookup = Compared;
       sections = [];
       definitions = (replicate 63 97, 0) ∷ (replicate 64 97, 0) ∷ [];
       linkage = (replicate 63 97, 0) ∷ (replicate 64 97, 0) ∷ [];

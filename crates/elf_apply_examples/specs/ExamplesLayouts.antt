@@ -8,7 +8,7 @@ use Rattle.elf_model.specs.Listing.{ALL}
 use Rattle.elf_model.specs.Fixtures.{zeros, with_bytes, section_header, one_symbol_table}
 use Rattle.elf_model.specs.FixturesApply.{relocation, relocated, overlapping_relocations, one_call, two_relocation_sections, with_symbol, with_entries_header, empty_layout, placed_layout, defined_layout, entry_layout}
 use Rattle.elf_model.specs.FixturesTables.{numbers_from}
-use Rattle.elf_model.specs.Placing.{Layout}
+use Rattle.elf_model.specs.Placing.{Layout, Compared}
 use Rattle.elf_model.specs.Values.{value}
 use Rattle.elf_apply_examples.specs.ExamplesApply.{WritesSection, RefusesSection, RefusesToApply}
 use Rattle.elf_model.specs.declared.causes.Cause.TheVariants.{Short, BadClass, TooManyHeaders, TableOutside, BadLink, NotStrings, NameOutside, NameUnended, NotRel, Unsupported, Unplaced, Undefined, PlaceOutside}
@@ -24,7 +24,7 @@ WeakAloneIsZero =
 
 -- section 1, the last index of a section, and the first that is reserved, all at 0x1000
 abbrev pub last_layout : Layout
-last_layout = record { sections = (1, 0x1000) ∷ (0xfeff, 0x1000) ∷ (0xff00, 0x1000) ∷ []; definitions = []; linkage = []; table = []; thread = [] }
+last_layout = record { lookup = Compared; sections = (1, 0x1000) ∷ (0xfeff, 0x1000) ∷ (0xff00, 0x1000) ∷ []; definitions = []; linkage = []; table = []; thread = [] }
 
 abbrev pub ReservedIndicesAreUnplaced : Type 0
 ReservedIndicesAreUnplaced =
@@ -135,7 +135,7 @@ EntriesPastTheLastSection =
 
 -- section 1, a definition of `f` and its procedure linkage table entry at addresses of their own
 abbrev pub layout_of : ℕ → List (List ℕ × ℕ) → List (List ℕ × ℕ) → Layout
-layout_of address definitions linkage = record { sections = (1, address) ∷ []; definitions = definitions; linkage = linkage; table = []; thread = [] }
+layout_of address definitions linkage = record { lookup = Compared; sections = (1, address) ∷ []; definitions = definitions; linkage = linkage; table = []; thread = [] }
 
 -- an address may be 0: a definition's, a linkage table entry's, a section's as the place and as the symbol's
 abbrev pub AddressesMayBeZero : Type 0
@@ -151,10 +151,10 @@ FirstItemStands =
     WritesSection one_call (layout_of 0x1000 ((codes "f", 0x3000) ∷ (codes "f", 0x9000) ∷ []) []) (0xe8 ∷ 0xfb ∷ 0x1f ∷ 0 ∷ 0 ∷ [])
     × WritesSection one_call (layout_of 0x1000 [] ((codes "f", 0x2000) ∷ (codes "f", 0x9000) ∷ [])) (0xe8 ∷ 0xfb ∷ 0x0f ∷ 0 ∷ 0 ∷ [])
     × WritesSection one_call
-    (record { sections = (1, 0x1000) ∷ (1, 0x9000) ∷ []; definitions = []; linkage = (codes "f", 0x2000) ∷ []; table = []; thread = [] })
+    (record { lookup = Compared; sections = (1, 0x1000) ∷ (1, 0x9000) ∷ []; definitions = []; linkage = (codes "f", 0x2000) ∷ []; table = []; thread = [] })
     (0xe8 ∷ 0xfb ∷ 0x0f ∷ 0 ∷ 0 ∷ [])
     × WritesSection one_call
-    (record { sections = (0x101, 0x9000) ∷ (1, 0x1000) ∷ []; definitions = []; linkage = (codes "f", 0x2000) ∷ []; table = []; thread = [] })
+    (record { lookup = Compared; sections = (0x101, 0x9000) ∷ (1, 0x1000) ∷ []; definitions = []; linkage = (codes "f", 0x2000) ∷ []; table = []; thread = [] })
     (0xe8 ∷ 0xfb ∷ 0x0f ∷ 0 ∷ 0 ∷ [])
 
 -- a name that another item's is not equal to may still be one that cannot be compared: here the table ends behind `f`

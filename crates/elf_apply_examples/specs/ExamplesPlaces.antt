@@ -6,14 +6,14 @@ use Rattle.elf_model.specs.Apply.{applied}
 use Rattle.elf_model.specs.ApplyCost.{apply_cost, apply_cost_in_order}
 use Rattle.elf_model.specs.Fixtures.{zeros, with_bytes, symbol}
 use Rattle.elf_model.specs.FixturesApply.{relocation, relocated, overlapping_relocations, one_call, with_entries_header, placed_layout, entry_layout, full_layout}
-use Rattle.elf_model.specs.Placing.{Layout}
+use Rattle.elf_model.specs.Placing.{Layout, Compared}
 use Rattle.elf_apply_examples.specs.ExamplesApply.{WritesSection, RefusesSection, RefusesToApply}
 use Rattle.elf_apply_examples.specs.ExamplesApplyOrder.{eight_relocated}
 use Rattle.elf_model.specs.declared.causes.Cause.TheVariants.{Undefined, Unplaced, PlaceOutside, SymbolIndex, NameOutside}
 
 -- sections 1 and 4 at addresses of their own, and a procedure linkage table entry of `f`
 abbrev pub two_sections : Layout
-two_sections = record { sections = (1, 0x1000) ∷ (4, 0x5000) ∷ []; definitions = []; linkage = (codes "f", 0x2000) ∷ []; table = []; thread = [] }
+two_sections = record { lookup = Compared; sections = (1, 0x1000) ∷ (4, 0x5000) ∷ []; definitions = []; linkage = (codes "f", 0x2000) ∷ []; table = []; thread = [] }
 
 -- the call's entry for section 4, of eight bytes: the place is in that section, and section 1 has no entries
 abbrev pub OtherSectionIsApplied : Type 0

@@ -5,7 +5,7 @@ use Rattle.elf_model.specs.ApplyCost.{apply_cost, layout_names_cost}
 use Rattle.elf_model.specs.Bytes.{little}
 use Rattle.elf_model.specs.Fixtures.{zeros, with_bytes}
 use Rattle.elf_model.specs.FixturesApply.{one_call, with_symbol, with_entries_header, empty_layout, placed_layout, full_layout, table_layout}
-use Rattle.elf_model.specs.Placing.{Layout}
+use Rattle.elf_model.specs.Placing.{Layout, Compared}
 use Rattle.elf_model.specs.Values.{value}
 use Rattle.elf_model.specs.declared.causes.Cause.TheVariants.{Unsupported, Overflow, Unplaced, Undefined, PlaceOutside, SymbolIndex, BadLink, NameOutside}
 use Rattle.elf_apply_examples.specs.ExamplesApply.{WritesSection, RefusesToApply}
@@ -17,7 +17,7 @@ of_type type = with_bytes 0x50 (little 4 type) one_call
 -- section 1 at 0x1000, with such global offset table entries and such of offsets from the thread pointer
 abbrev pub tables : List (List ℕ × ℕ) → List (List ℕ × ℕ) → Layout
 tables table thread =
-    record { sections = (1, 0x1000) ∷ []; definitions = []; linkage = []; table = table; thread = thread }
+    record { lookup = Compared; sections = (1, 0x1000) ∷ []; definitions = []; linkage = []; table = table; thread = thread }
 
 -- R_X86_64_GOTPCREL, GOTPCRELX and REX_GOTPCRELX take the symbol's entry, R_X86_64_GOTTPOFF that of its offset from the
 -- thread pointer; the byte before them stays
@@ -72,12 +72,12 @@ SymbolsWithoutEntries =
 -- the place, the symbol, its name, its entry, the section's address, the value: each entry here fails the next check as well
 abbrev pub EntryChecksInOrder : Type 0
 EntryChecksInOrder =
-    let unplaced : Layout = record { sections = []; definitions = []; linkage = []; table = (codes "f", 2 ^ 63) ∷ []; thread = [] } in
+    let unplaced : Layout = record { lookup = Compared; sections = []; definitions = []; linkage = []; table = (codes "f", 2 ^ 63) ∷ []; thread = [] } in
     RefusesToApply (with_bytes 0x48 (little 8 2 ++ little 4 9 ++ little 4 2) one_call) table_layout 0x48 PlaceOutside
     × RefusesToApply (with_bytes 0x54 (little 4 2) (of_type 9)) table_layout 0x48 SymbolIndex
     × RefusesToApply (with_bytes 0x50 (little 4 22) (with_entries_header 40 (little 4 1))) table_layout 0x48 BadLink
     × RefusesToApply (with_bytes 0x78 (little 4 3) (of_type 9)) table_layout 0x78 NameOutside
-    × RefusesToApply (of_type 9) (record { sections = []; definitions = []; linkage = []; table = (codes "g", 0) ∷ []; thread = [] }) 0x48 Unsupported
+    × RefusesToApply (of_type 9) (record { lookup = Compared; sections = []; definitions = []; linkage = []; table = (codes "g", 0) ∷ []; thread = [] }) 0x48 Unsupported
     × RefusesToApply (of_type 9) unplaced 0x48 Unplaced
     × RefusesToApply (of_type 9) (tables ((codes "f", 2 ^ 63) ∷ []) []) 0x48 Overflow
 

@@ -1,13 +1,12 @@
 -- The items of a layout, one after another.
-use Rattle.std.proofs.Common.{◌≡◌, ℕ, suc, ◌+◌, ◌<◌, ◌≤◌, ◌==◌, ◌≢◌, Bool, MatchBool, is_some, true, false, List, [], ◌∷◌, ◌++◌, length, drop, get_or, None, Some, refl, sym, ap, ◌∙◌, arith, inl, inr, add-one, drop-cons, eq-eqb}
+use Rattle.std.proofs.Common.{◌≡◌, ℕ, suc, ◌+◌, ◌<◌, ◌≤◌, ◌==◌, ◌≢◌, Bool, MatchBool, is_some, true, false, List, [], ◌∷◌, length, drop, get_or, None, Some, refl, sym, ap, ◌∙◌, arith, inl, inr, add-one, drop-cons, eq-eqb}
 use Rattle.std.proofs.lemmas.List.{drop_all}
 use Rattle.std.proofs.lemmas.List.Elements.{All-cons}
-use Rattle.std.proofs.lemmas.List.Sums.{sum_by-cons, sum_by-append}
+use Rattle.std.proofs.lemmas.List.Sums.{sum_by-cons}
 use Rattle.std.proofs.lemmas.Bool.{ne_eqb}
 use Rattle.std.proofs.lemmas.Bool.Decides.{eqb_tells}
-use Rattle.elf_model.specs.ApplyCost.{layout_names_cost}
 use Rattle.elf_model.specs.Names.{pad64}
-use Rattle.elf_model.specs.Placing.{Layout, address_in}
+use Rattle.elf_model.specs.Placing.{address_in}
 use Rattle.elf_layout.specs.Layouts.{HasKey, LacksKey, items_cost}
 
 pub drop-at : {A : Type 0} (items : List A) (i : ℕ) (d item : A) → i < length items → item ≡ get_or items i d → drop i items ≡ item ∷ drop (i + 1) items
@@ -55,14 +54,3 @@ has_address (item ∷ items) section found is =
 pub cost_step : (i : ℕ) (items : List (List ℕ × ℕ)) (item : List ℕ × ℕ) (name : List ℕ) → i < length items → item ≡ get_or items i item → name ≡ item.0
     → items_cost (drop i items) ≡ pad64 (length name + 1) + items_cost (drop (i + 1) items)
 cost_step i items item name below is named = ap items_cost (drop-at items i item item below is) ∙ (sum_by-cons (λ (x : List ℕ × ℕ). pad64 (length x.0 + 1)) item (drop (i + 1) items) ∙ ap (λ n. pad64 (length n + 1) + items_cost (drop (i + 1) items)) (sym named))
-
--- what the names of a layout cost
-pub names_cost :
-    (layout : Layout) → layout_names_cost layout
-    ≡ items_cost layout.definitions + (items_cost layout.linkage + (items_cost layout.table + items_cost layout.thread))
-unfolding layout_names_cost
-names_cost layout =
-    let cost : List ℕ × ℕ → ℕ = λ (x : List ℕ × ℕ). pad64 (length x.0 + 1) in
-    sum_by-append cost layout.definitions (layout.linkage ++ (layout.table ++ layout.thread))
-    ∙ ap (λ n. items_cost layout.definitions + n) (sum_by-append cost layout.linkage (layout.table ++ layout.thread))
-    ∙ ap (λ n. items_cost layout.definitions + (items_cost layout.linkage + n)) (sum_by-append cost layout.table layout.thread)

@@ -1,1 +1,4 @@
 pub mod LayoutSteps
+pub mod LentSteps
+pub mod NameSteps
+pub mod Words

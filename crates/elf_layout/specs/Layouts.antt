@@ -2,6 +2,8 @@
 use Rattle.std.specs.Prelude.{ℕ, ◌≡◌, ◌≢◌, ◌+◌, ◌≤◌, ◌<◌, List, [], ◌∷◌, ◌++◌, length, sum_by, All, Any, Result, Ok, Err}
 use Rattle.elf_model.specs.Names.{pad64}
 use Rattle.elf_model.specs.Placing.{Layout}
+use Rattle.elf_model.specs.declared.relocation_types.Base.{Base}
+use Rattle.elf_model.specs.declared.relocation_types.Base.TheVariants as base
 use Rattle.elf_layout.specs.declared.layout.Item.{Item}
 use Rattle.elf_layout.specs.declared.layout.Item.TheVariants.{Section, Define, Entry, Table, Thread}
 use Rattle.elf_layout.specs.declared.layout.LayoutFault.{LayoutFault}
@@ -33,24 +35,31 @@ Adds most key address old new (Ok x) = (new ≡ old ++ (key, address) ∷ []) ×
 Adds most key address old new (Err Full) = (new ≡ old) × LacksKey old key × (length old ≡ most)
 Adds most key address old new (Err Repeat) = (new ≡ old) × HasKey old key
 
--- an item is put behind those of its sort, and the others stay
+-- an item is put behind those of its sort, and all else stays
 abbrev pub Pushes : {X : Type 0} → Item → Layout → Layout → Result X LayoutFault → Type 0
 Pushes (Section index address) old new result =
     Adds 64 index address old.sections new.sections result
-    × (new.definitions ≡ old.definitions) × (new.linkage ≡ old.linkage) × (new.table ≡ old.table) × (new.thread ≡ old.thread)
+    × (new.definitions ≡ old.definitions) × (new.linkage ≡ old.linkage) × (new.table ≡ old.table) × (new.thread ≡ old.thread) × (new.lookup ≡ old.lookup)
 Pushes (Define name address) old new result =
     Adds 32 name.now address old.definitions new.definitions result
-    × (new.sections ≡ old.sections) × (new.linkage ≡ old.linkage) × (new.table ≡ old.table) × (new.thread ≡ old.thread)
+    × (new.sections ≡ old.sections) × (new.linkage ≡ old.linkage) × (new.table ≡ old.table) × (new.thread ≡ old.thread) × (new.lookup ≡ old.lookup)
 Pushes (Entry name address) old new result =
     Adds 32 name.now address old.linkage new.linkage result
-    × (new.sections ≡ old.sections) × (new.definitions ≡ old.definitions) × (new.table ≡ old.table) × (new.thread ≡ old.thread)
+    × (new.sections ≡ old.sections) × (new.definitions ≡ old.definitions) × (new.table ≡ old.table) × (new.thread ≡ old.thread) × (new.lookup ≡ old.lookup)
 Pushes (Table name address) old new result =
     Adds 32 name.now address old.table new.table result
-    × (new.sections ≡ old.sections) × (new.definitions ≡ old.definitions) × (new.linkage ≡ old.linkage) × (new.thread ≡ old.thread)
+    × (new.sections ≡ old.sections) × (new.definitions ≡ old.definitions) × (new.linkage ≡ old.linkage) × (new.thread ≡ old.thread) × (new.lookup ≡ old.lookup)
 Pushes (Thread name address) old new result =
     Adds 32 name.now address old.thread new.thread result
-    × (new.sections ≡ old.sections) × (new.definitions ≡ old.definitions) × (new.linkage ≡ old.linkage) × (new.table ≡ old.table)
+    × (new.sections ≡ old.sections) × (new.definitions ≡ old.definitions) × (new.linkage ≡ old.linkage) × (new.table ≡ old.table) × (new.lookup ≡ old.lookup)
 
 -- what a comparison with each of some names costs
 abbrev pub items_cost : List (List ℕ × ℕ) → ℕ
 items_cost items = sum_by (λ item. pad64 (length item.0 + 1)) items
+
+-- the names that are looked through for a base
+unfoldable pub names_for : Layout → Base → List (List ℕ × ℕ)
+names_for layout base.Symbol = layout.definitions
+names_for layout base.Linkage = layout.linkage
+names_for layout base.Table = layout.table
+names_for layout base.Thread = layout.thread

@@ -1,8 +1,9 @@
 //! The addresses that are given for sections, names and entries of names.
 ghost use Rattle.std.specs.Prelude.{◌≡◌, ◌≤◌, ◌<◌, ◌^◌, [], length, MatchBool};
 ghost use Rattle.elf_model.specs.ApplyCost.{layout_names_cost};
-ghost use Rattle.elf_model.specs.Placing.{address_in, has_base};
+ghost use Rattle.elf_model.specs.Placing.{Compared, address_in, has_base};
 ghost use Rattle.elf_layout.specs.Layouts.{Adds, IsName, NamesOf, Pushes, HasKey, LacksKey};
+ghost use Rattle.elf_layout.specs.Layouts.{names_for};
 
 use crate::named::{Named, has_name, names_cost};
 use arrayvec::ArrayVec;
@@ -82,11 +83,12 @@ pub struct Layout {
 }
 
 impl Model for Layout {
-    ghost use Rattle.elf_model.specs.Placing.{Layout};
+    ghost use Rattle.elf_model.specs.Placing.{Layout, Compared};
 
     ghost Value = { Layout };
 
     ghost view = { λ l. record {
+      lookup = Compared;
       sections = l.sections.items;
       definitions = l.definitions.items;
       linkage = l.entries.items;
@@ -99,6 +101,7 @@ impl Layout {
     /// A layout without an item.
     pub fn new() -> Layout
         ensures { result ≡ record {
+          lookup = Compared;
           sections = [];
           definitions = [];
           linkage = [];
@@ -120,6 +123,13 @@ impl Layout {
         ensures { result ≡ address_in self.now.sections section }
     {
         address_in(self.sections.as_slice(), section)
+    }
+
+    /// The sections, each by its index with its address, in the order in which they were given.
+    pub fn sections(&self) -> &[(u16, u64)]
+        ensures { result.now ≡ self.now.sections }
+    {
+        self.sections.as_slice()
     }
 
     /// The definitions, in the order in which they were given.
@@ -151,6 +161,20 @@ impl Layout {
         self.thread.as_slice()
     }
 
+    /// The names that are looked through for a base, in the order in which they were given.
+    #[tactic(auto, unfolding(crate::specs::Layouts::names_for))]
+    pub(crate) fn names(&self, base: Base) -> &[Named]
+        ensures names { result.now ≡ names_for self.now base }
+        ensures compared { self.now.lookup ≡ Compared }
+    {
+        match base {
+            Base::Symbol => self.definitions.as_slice(),
+            Base::Linkage => self.entries.as_slice(),
+            Base::Table => self.table.as_slice(),
+            Base::Thread => self.thread.as_slice(),
+        }
+    }
+
     /// Whether a base may tell an address: one of an entry only where there is an item of its sort.
     #[tactic(auto, unfolding(elf_model::specs::Placing::has_base))]
     pub fn has_base(&self, base: Base) -> bool
@@ -165,12 +189,13 @@ impl Layout {
 
     /// How many bytes a comparison with each of the names may ask for: for each as many as it has
     /// with its NUL, in whole pieces of 64.
+    #[tactic(auto, unfolding(crate::proofs::Words::costs))]
     pub fn names_cost(&self) -> u128
         ensures value { result ≡ layout_names_cost self.now }
         ensures few { result < 2 ^ 75 }
     {
-        let names = names_cost(self.definitions()) + names_cost(self.linkage());
-        names + names_cost(self.table()) + names_cost(self.thread())
+        let names = names_cost(self.names(Base::Symbol)) + names_cost(self.names(Base::Linkage));
+        names + names_cost(self.names(Base::Table)) + names_cost(self.names(Base::Thread))
     }
 
     /// Puts an item behind those of its sort. A name is copied; it has 1 to 255 bytes, none a NUL.

@@ -1,10 +1,10 @@
 -- How many bytes may be asked for to apply the relocations of a section.
-use Rattle.std.specs.Prelude.{ℕ, ◌+◌, ◌*◌, ◌/◌, ◌==◌, ◌&&◌, nat_le, Bool, true, false, List, [], ◌∷◌, ◌++◌, length, sum_by, flat_map, None, Some}
+use Rattle.std.specs.Prelude.{ℕ, ◌+◌, ◌*◌, ◌/◌, ◌==◌, ◌&&◌, nat_le, max, Bool, true, false, List, [], ◌∷◌, length, sum_by, flat_map, None, Some}
 use Rattle.elf_model.specs.Apply.{applies_to, before_entries, held_size, relocation_entries, section_headers}
 use Rattle.elf_model.specs.Checks.{first_refusal, before_headers, table_checks}
 use Rattle.elf_model.specs.Names.{pad64}
 use Rattle.elf_model.specs.Numbers.{R_X86_64_NONE}
-use Rattle.elf_model.specs.Placing.{Layout}
+use Rattle.elf_model.specs.Placing.{Layout, Lookup, Compared, Searched}
 use Rattle.elf_model.specs.Records.{FILE_HEADER_SIZE, SECTION_HEADER_SIZE, e_shnum, r_offset, r_type}
 use Rattle.elf_model.specs.Tables.{SYMBOL_SIZE, RELA_SIZE}
 
@@ -42,9 +42,24 @@ never_fall_from low (offset ∷ offsets) = nat_le low offset && never_fall_from 
 unfoldable pub offsets_never_fall : List ℕ → ℕ → Bool
 offsets_never_fall file section = never_fall_from 0 (offsets_at file (entries_for file section))
 
--- what the names of a layout may cost, each once
+-- how many bytes the longest of some names has
+unfoldable pub longest : List (List ℕ × ℕ) → ℕ
+longest [] = 0
+longest (item ∷ items) = max (length item.0) (longest items)
+
+-- what a lookup among some names of a layout may cost: each of them, with its NUL; or the longest, and nothing where there is
+-- none
+unfoldable pub lookup_cost : Lookup → List (List ℕ × ℕ) → ℕ
+lookup_cost Compared items = sum_by (λ item. pad64 (length item.0 + 1)) items
+lookup_cost Searched [] = 0
+lookup_cost Searched (item ∷ items) = pad64 (longest (item ∷ items) + 1)
+
+-- what the names of a layout may cost, each sort of them once
 unfoldable pub layout_names_cost : Layout → ℕ
-layout_names_cost layout = sum_by (λ item. pad64 (length item.0 + 1)) (layout.definitions ++ (layout.linkage ++ (layout.table ++ layout.thread)))
+layout_names_cost layout =
+    lookup_cost layout.lookup layout.definitions
+    + (lookup_cost layout.lookup layout.linkage
+    + (lookup_cost layout.lookup layout.table + lookup_cost layout.lookup layout.thread))
 
 -- what one pass through the entries for a section may cost: for each the entry, a symbol and the layout's names
 abbrev pub pass_cost : List ℕ → ℕ → Layout → ℕ

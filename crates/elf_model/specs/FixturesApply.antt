@@ -2,7 +2,7 @@
 use Rattle.std.specs.Prelude.{ℕ, ◌+◌, ◌-◌, ◌^◌, List, [], ◌∷◌, ◌++◌, length, codes}
 use Rattle.elf_model.specs.Bytes.{little}
 use Rattle.elf_model.specs.Fixtures.{zeros, with_bytes, file_header, section_header, symbol}
-use Rattle.elf_model.specs.Placing.{Layout}
+use Rattle.elf_model.specs.Placing.{Layout, Compared}
 
 -- a relocation entry: offset, info, addend below 2^64
 unfoldable pub relocation : ℕ → ℕ → ℕ → List ℕ
@@ -82,32 +82,33 @@ linked_to_zero = with_bytes 0x98 (section_header 2 0 0x60 0x30 4 1 0 24) (with_e
 
 -- no section, no definition and no procedure linkage table entry has an address
 unfoldable pub empty_layout : Layout
-empty_layout = record { sections = []; definitions = []; linkage = []; table = []; thread = [] }
+empty_layout = record { lookup = Compared; sections = []; definitions = []; linkage = []; table = []; thread = [] }
 
 -- section 1 at 0x1000
 unfoldable pub placed_layout : Layout
-placed_layout = record { sections = (1, 0x1000) ∷ []; definitions = []; linkage = []; table = []; thread = [] }
+placed_layout = record { lookup = Compared; sections = (1, 0x1000) ∷ []; definitions = []; linkage = []; table = []; thread = [] }
 
 -- section 1 at 0x1000, and a definition of `f`
 unfoldable pub defined_layout : Layout
-defined_layout = record { sections = (1, 0x1000) ∷ []; definitions = (codes "f", 0x3000) ∷ []; linkage = []; table = []; thread = [] }
+defined_layout = record { lookup = Compared; sections = (1, 0x1000) ∷ []; definitions = (codes "f", 0x3000) ∷ []; linkage = []; table = []; thread = [] }
 
 -- section 1 at 0x1000, and a procedure linkage table entry of `f`
 unfoldable pub entry_layout : Layout
-entry_layout = record { sections = (1, 0x1000) ∷ []; definitions = []; linkage = (codes "f", 0x2000) ∷ []; table = []; thread = [] }
+entry_layout = record { lookup = Compared; sections = (1, 0x1000) ∷ []; definitions = []; linkage = (codes "f", 0x2000) ∷ []; table = []; thread = [] }
 
 -- a procedure linkage table entry of `f` alone
 unfoldable pub unplaced_layout : Layout
-unplaced_layout = record { sections = []; definitions = []; linkage = (codes "f", 0x2000) ∷ []; table = []; thread = [] }
+unplaced_layout = record { lookup = Compared; sections = []; definitions = []; linkage = (codes "f", 0x2000) ∷ []; table = []; thread = [] }
 
 -- sections 1 and 0xff05 at 0x1000
 unfoldable pub special_layout : Layout
-special_layout = record { sections = (1, 0x1000) ∷ (0xff05, 0x1000) ∷ []; definitions = []; linkage = []; table = []; thread = [] }
+special_layout = record { lookup = Compared; sections = (1, 0x1000) ∷ (0xff05, 0x1000) ∷ []; definitions = []; linkage = []; table = []; thread = [] }
 
 -- a definition and a procedure linkage table entry of `f`
 unfoldable pub full_layout : Layout
 full_layout =
     record {
+      lookup = Compared;
       sections = (1, 0x1000) ∷ [];
       definitions = (codes "f", 0x3000) ∷ [];
       linkage = (codes "f", 0x2000) ∷ [];
@@ -120,6 +121,7 @@ full_layout =
 unfoldable pub table_layout : Layout
 table_layout =
     record {
+      lookup = Compared;
       sections = (1, 0x1000) ∷ [];
       definitions = [];
       linkage = [];

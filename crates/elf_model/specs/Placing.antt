@@ -10,9 +10,16 @@ use Rattle.elf_model.specs.declared.causes.Refusal.{Refusal}
 use Rattle.elf_model.specs.declared.relocation_types.Base.{Base}
 use Rattle.elf_model.specs.declared.relocation_types.Base.TheVariants.{Symbol, Linkage, Table, Thread}
 
+-- how a symbol's name is looked for among names of a layout: each of these is compared with it in the file, or as much of it
+-- is read as the longest of them has, and searched for
+pub data Lookup : Type 0 where
+  Compared : Lookup
+  Searched : Lookup
+
 -- sections by their index; by their name definitions, procedure linkage table entries, global offset table entries, and
 -- those of offsets from the thread pointer; each with its address, in the order in which they were given
 pub record Layout : Type 0 where
+  pub lookup : Lookup
   pub sections : List (ℕ × ℕ)
   pub definitions : List (List ℕ × ℕ)
   pub linkage : List (List ℕ × ℕ)

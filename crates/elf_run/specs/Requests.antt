@@ -17,7 +17,7 @@ use Rattle.elf_hash.specs.Lookups.{find_bytes}
 use Rattle.elf_apply.specs.Applied.{apply_ceiling}
 use Rattle.elf_listing.specs.Reports.{AsksWithin, FaultSays, Leaves}
 use Rattle.elf_words.specs.declared.requests.Task.{Task}
-use Rattle.elf_words.specs.declared.requests.Task.TheVariants.{Show, Find, Apply}
+use Rattle.elf_words.specs.declared.requests.Task.TheVariants.{Show, Find, Apply, Place}
 use Rattle.elf_run.specs.Answers.{Answers, WholeOrUsedUp}
 
 -- no more is asked for than n bytes, and than the budget
@@ -65,3 +65,4 @@ abbrev pub RunsTask : Limits → Task → Counting → Counting → Written → 
 RunsTask limits (Show parts style) old new before after result = RunsShow (record { limits = limits; style = style }) parts.0 old new before after result
 RunsTask limits (Find wanted) old new before after result = RunsFind limits wanted.bytes.now old new before after result
 RunsTask limits (Apply section layout) old new before after result = RunsApply limits section layout.now old new before after result
+RunsTask limits (Place section addresses) old new before after result = RunsApply limits section addresses.now old new before after result

@@ -4,6 +4,7 @@ ghost use Rattle.elf_run.specs.Requests.{RunsShow, RunsTask};
 
 use crate::applying::write_applied;
 use crate::finding::look_up;
+use elf_layout::Addresses;
 use elf_listing::show;
 use elf_record::Parts;
 use elf_source::{Counted, Out, Sink, Source};
@@ -34,7 +35,13 @@ pub fn run<S: Source, W: Sink>(
     match request.task {
         Task::Show { parts, style } => list(src, store, Caps { limits, style }, parts, out),
         Task::Find(wanted) => look_up(src, store, limits, wanted.bytes, out),
-        Task::Apply { section, layout } => write_applied(src, store, limits, section, layout, out),
+        Task::Apply { section, layout } => {
+            let addresses = Addresses::fixed(layout);
+            write_applied(src, store, limits, section, &addresses, out)
+        }
+        Task::Place { section, addresses } => {
+            write_applied(src, store, limits, section, addresses, out)
+        }
     }
 }
 

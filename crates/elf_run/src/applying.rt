@@ -2,8 +2,8 @@
 ghost use Rattle.std.specs.Prelude.{◌≡◌, ◌^◌, ◌≤◌};
 ghost use Rattle.elf_run.specs.Requests.{RunsApply};
 
-use elf_apply::apply;
-use elf_layout::Layout;
+use elf_apply::apply_with;
+use elf_layout::Addresses;
 use elf_listing::show_stop;
 use elf_source::{Counted, Out, Sink, Source};
 use elf_table::{HeaderStore, Limits, Stop};
@@ -19,7 +19,7 @@ pub(crate) fn write_applied<S: Source, W: Sink>(
     store: &mut HeaderStore,
     limits: Limits,
     section: u16,
-    layout: &Layout,
+    layout: &Addresses<'_>,
     out: &mut Out<W>,
 ) -> Result<u8, Stop>
     requires { (store.old.slots ≡ limits.headers) × (src.old.asked ≤ 2 ^ 127) }
@@ -27,7 +27,7 @@ pub(crate) fn write_applied<S: Source, W: Sink>(
     ensures runs { RunsApply limits section layout.now src.old src.new out.old out.new result }
 {
     src.limit(limits.budget);
-    match apply(src, store, section, layout, out) {
+    match apply_with(src, store, section, layout, out) {
         Ok(_) => Ok(0),
         Err(stop) => Err(show_stop(stop, out)),
     }

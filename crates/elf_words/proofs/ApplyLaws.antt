@@ -11,7 +11,7 @@ use Rattle.elf_words.specs.declared.requests.Request.{Request}
 use Rattle.elf_words.specs.declared.requests.RequestFault.{RequestFault}
 use Rattle.elf_words.specs.declared.requests.RequestFault.TheVariants.{Memory, BadName, BadItem, LayoutFull, LayoutRepeat, Words as Told}
 use Rattle.elf_words.specs.declared.requests.Task.{Task}
-use Rattle.elf_words.specs.declared.requests.Task.TheVariants.{Show, Find, Apply}
+use Rattle.elf_words.specs.declared.requests.Task.TheVariants.{Show, Find, Apply, Place}
 use Rattle.elf_words.proofs.LayoutLaws.{never_refused}
 use Rattle.elf_words.proofs.OnceLaws.{laid}
 
@@ -41,6 +41,7 @@ only_applying rows None (Show parts name) (are, parts_are, is) = cc
 only_applying rows (Some path) (Show parts name) (are, parts_are, is) = let e = is.0 in cc
 only_applying rows file (Find wanted) is = let e = is.find in cc
 only_applying rows file (Apply section layout) is = (section, layout.now, is)
+only_applying rows file (Place section addresses) is = absurd is
 
 -- there is no section with the index that is given
 pub no_section : (rows : List Row) (layout : Layout) → Lays no_items (item_words rows) (Ok layout)

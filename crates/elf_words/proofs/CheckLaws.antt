@@ -8,7 +8,7 @@ use Rattle.elf_words.specs.Checks.{Becomes, NothingAsked, NothingChecked}
 use Rattle.elf_words.specs.declared.requests.RequestFault.{RequestFault}
 use Rattle.elf_words.specs.declared.requests.RequestFault.TheVariants.{Memory, BadName, BadItem, LayoutFull, LayoutRepeat, Words as Told}
 use Rattle.elf_words.specs.declared.requests.Task.{Task}
-use Rattle.elf_words.specs.declared.requests.Task.TheVariants.{Show, Find, Apply}
+use Rattle.elf_words.specs.declared.requests.Task.TheVariants.{Show, Find, Apply, Place}
 
 apart : (a b : ℕ) → a ≡ 99 → b ≡ 97 → a ≡ b → ⊥
 apart a b is_c is_a same = absurd (omega arith)
@@ -22,6 +22,7 @@ no_task rows None (Show parts name) (are, parts_are, is) = cc
 no_task rows (Some path) (Show parts name) (are, parts_are, is) = let e = is.0 in cc
 no_task rows file (Find wanted) is = let e = is.find in cc
 no_task rows file (Apply section layout) is = check_is_not_apply is.apply
+no_task rows file (Place section addresses) is = absurd is
 
 no_fault : (rows : List Row) (fault : RequestFault) → HasFault (Some (codes "check", rows)) fault → ⊥
 no_fault rows BadName (is, name) = cc
@@ -37,6 +38,7 @@ no_archive_task rows None (Show parts name) (are, parts_are, is) = cc
 no_archive_task rows (Some path) (Show parts name) (are, parts_are, is) = let e = is.0 in cc
 no_archive_task rows file (Find wanted) is = let e = is.find in cc
 no_archive_task rows file (Apply section layout) is = let e = is.apply in cc
+no_archive_task rows file (Place section addresses) is = absurd is
 
 no_archive_fault : (rows : List Row) (fault : RequestFault) → HasFault (Some (codes "archive", rows)) fault → ⊥
 no_archive_fault rows BadName (is, name) = cc
@@ -71,3 +73,10 @@ fault_becomes matches BadItem has = has
 fault_becomes matches LayoutFull has = has
 fault_becomes matches LayoutRepeat has = has
 fault_becomes matches (Told told) has = has
+
+-- where a section is not applied by `apply`, nothing is asked for
+pub nothing_by_apply : (rows : List Row) → AsksNothing (Some (codes "apply", rows)) → NothingAsked (Some (codes "apply", rows))
+nothing_by_apply rows nothing = nothing_by_other (codes "apply") rows (λ same. check_is_not_apply (sym same)) apply_is_not_archive nothing
+  where
+    apply_is_not_archive : codes "apply" ≢ codes "archive"
+    apply_is_not_archive same = cc

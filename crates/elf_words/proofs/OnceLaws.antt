@@ -67,35 +67,40 @@ lacks_none items key other same lacks (k, x, within, here, has) = lacks k x with
 
 -- an item is put into a layout in one way
 one_push : (x y : Item) (old new other : Layout) → SameItem x y → Pushes {X = Unit {0}} x old new (Ok tt) → Pushes {X = Unit {0}} y old other (Ok tt) → new ≡ other
-one_push (Section i a) (Section j b) old new other same (p, d, e, f, g) (q, h, l, m, r) = λ k. record {
+one_push (Section i a) (Section j b) old new other same (p, d, e, f, g, w) (q, h, l, m, r, v) = λ k. record {
+  lookup = (w ∙ sym v) k;
   sections = (p.0 ∙ (λ s. old.sections ++ (same.0 s, same.1 s) ∷ []) ∙ sym q.0) k;
   definitions = (d ∙ sym h) k;
   linkage = (e ∙ sym l) k;
   table = (f ∙ sym m) k;
   thread = (g ∙ sym r) k;
 }
-one_push (Define n a) (Define o b) old new other same (p, d, e, f, g) (q, h, l, m, r) = λ k. record {
+one_push (Define n a) (Define o b) old new other same (p, d, e, f, g, w) (q, h, l, m, r, v) = λ k. record {
+  lookup = (w ∙ sym v) k;
   sections = (d ∙ sym h) k;
   definitions = (p.0 ∙ (λ s. old.definitions ++ (same.0 s, same.1 s) ∷ []) ∙ sym q.0) k;
   linkage = (e ∙ sym l) k;
   table = (f ∙ sym m) k;
   thread = (g ∙ sym r) k;
 }
-one_push (Entry n a) (Entry o b) old new other same (p, d, e, f, g) (q, h, l, m, r) = λ k. record {
+one_push (Entry n a) (Entry o b) old new other same (p, d, e, f, g, w) (q, h, l, m, r, v) = λ k. record {
+  lookup = (w ∙ sym v) k;
   sections = (d ∙ sym h) k;
   definitions = (e ∙ sym l) k;
   linkage = (p.0 ∙ (λ s. old.linkage ++ (same.0 s, same.1 s) ∷ []) ∙ sym q.0) k;
   table = (f ∙ sym m) k;
   thread = (g ∙ sym r) k;
 }
-one_push (Table n a) (Table o b) old new other same (p, d, e, f, g) (q, h, l, m, r) = λ k. record {
+one_push (Table n a) (Table o b) old new other same (p, d, e, f, g, w) (q, h, l, m, r, v) = λ k. record {
+  lookup = (w ∙ sym v) k;
   sections = (d ∙ sym h) k;
   definitions = (e ∙ sym l) k;
   linkage = (f ∙ sym m) k;
   table = (p.0 ∙ (λ s. old.table ++ (same.0 s, same.1 s) ∷ []) ∙ sym q.0) k;
   thread = (g ∙ sym r) k;
 }
-one_push (Thread n a) (Thread o b) old new other same (p, d, e, f, g) (q, h, l, m, r) = λ k. record {
+one_push (Thread n a) (Thread o b) old new other same (p, d, e, f, g, w) (q, h, l, m, r, v) = λ k. record {
+  lookup = (w ∙ sym v) k;
   sections = (d ∙ sym h) k;
   definitions = (e ∙ sym l) k;
   linkage = (f ∙ sym m) k;

@@ -17,7 +17,7 @@ use Rattle.elf_words.specs.declared.requests.RequestFault.{RequestFault}
 use Rattle.elf_words.specs.declared.requests.RequestFault.TheVariants.{BadName}
 use Rattle.elf_words.specs.declared.requests.Task.{Task}
 use Rattle.elf_words.specs.declared.requests.Wanted.{Wanted}
-use Rattle.elf_words.specs.declared.requests.Task.TheVariants.{Show, Find, Apply}
+use Rattle.elf_words.specs.declared.requests.Task.TheVariants.{Show, Find, Apply, Place}
 
 -- the parts that can be asked for, by their names
 abbrev pub part_names : List (ℕ × List ℕ)
@@ -92,12 +92,13 @@ pub record IsApplying (command : Text) (rows : List Row) (file : Option (Bor Tex
   pub small : section < 2 ^ 16
   pub items : Lays no_items (item_words rows) (Ok layout)
 
--- a task with its file, by the values of the options
+-- a task with its file, by the values of the options; no words give addresses that are kept otherwise
 abbrev pub IsTask : Text → List Row → Option (Bor Text) → Task → Type 0
 IsTask command rows file (Show parts style) =
     IsStyle rows style × AreParts (first_of (codes "only") rows) parts × IsOfFile command rows file
 IsTask command rows file (Find wanted) = IsFinding command rows file wanted
 IsTask command rows file (Apply section layout) = IsApplying command rows file section layout.now
+IsTask command rows file (Place section addresses) = ⊥
 
 -- a command with the values of its arguments asks for just this
 abbrev pub AsksBy : Option (Text × List Row) → Request → Type 0

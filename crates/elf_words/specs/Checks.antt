@@ -3,7 +3,7 @@ use Rattle.std.specs.Prelude.{⊤, ◌≡◌, List, [], Result, Ok, Err, codes, 
 use Rattle.clap.specs.Walk.{Row, Text, all_of, first_of, texts}
 use Rattle.elf_words.specs.Asked.{AreLimits, AreParts, AsksBy, AsksNothing, HasFault, IsStyle}
 use Rattle.elf_words.specs.declared.checks.Asked.{Asked}
-use Rattle.elf_words.specs.declared.checks.Asked.TheVariants.{File, Check, Archive}
+use Rattle.elf_words.specs.declared.checks.Asked.TheVariants.{File, Laid, Check, Archive}
 use Rattle.elf_words.specs.Archives.{ArchivesBy, NothingArchived}
 use Rattle.elf_words.specs.declared.checks.Checking.{Checking}
 use Rattle.elf_words.specs.declared.requests.RequestFault.{RequestFault}
@@ -29,9 +29,20 @@ abbrev pub ChecksBy : Option (Text × List Row) → Checking → Type 0
 ChecksBy None asked = ⊥
 ChecksBy (Some (command, rows)) asked = IsChecking command rows asked
 
+-- no file with items is named
+abbrev pub LacksList : Option (Text × List Row) → Type 0
+LacksList None = ⊤
+LacksList (Some (command, rows)) = command ≡ codes "apply" → first_of (codes "layout") rows ≡ None
+
+-- a file with items is named, for a section that is applied
+abbrev pub HasList : Option (Text × List Row) → Text → Type 0
+HasList None list = ⊥
+HasList (Some (command, rows)) list = (command ≡ codes "apply") × (first_of (codes "layout") rows ≡ Some list)
+
 -- a command with the values of its arguments asks for just this
 abbrev pub IsAsked : Option (Text × List Row) → Asked → Type 0
-IsAsked matches (File request) = AsksBy matches request
+IsAsked matches (File request) = AsksBy matches request × LacksList matches
+IsAsked matches (Laid laying) = AsksBy matches laying.request × HasList matches laying.list.now
 IsAsked matches (Check asked) = ChecksBy matches asked
 IsAsked matches (Archive asked) = ArchivesBy matches asked
 

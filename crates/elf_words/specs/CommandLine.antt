@@ -69,9 +69,13 @@ section_argument = record (new_rule (codes "SECTION")) { required = true; parser
 abbrev pub item_argument : Rule
 item_argument = record (new_rule (codes "ITEM")) { range = Some (record { start_inclusive = 0; end_inclusive = usize_max }) }
 
+-- a file that has items, one a line
+abbrev pub layout_option : Rule
+layout_option = record (new_rule (codes "layout")) { long = Some (codes "layout"); value_names = 1 }
+
 abbrev pub apply_command : App
 apply_command =
-    with_rule (with_rule (with_rule (with_reading_options (new_app (codes "apply"))) file_argument) section_argument) item_argument
+    with_rule (with_rule (with_rule (with_rule (with_reading_options (new_app (codes "apply"))) layout_option) file_argument) section_argument) item_argument
 
 -- the program, whose words begin behind its name, and which wants a command
 abbrev pub without_command : App

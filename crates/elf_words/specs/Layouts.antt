@@ -4,14 +4,14 @@ use Rattle.clap.specs.Walk.{Text}
 use Rattle.elf_layout.specs.Layouts.{Pushes}
 use Rattle.elf_layout.specs.declared.layout.Item.{Item}
 use Rattle.elf_layout.specs.declared.layout.LayoutFault.TheVariants.{Full, Repeat}
-use Rattle.elf_model.specs.Placing.{Layout}
+use Rattle.elf_model.specs.Placing.{Layout, Compared}
 use Rattle.elf_words.specs.Items.{Spells}
 use Rattle.elf_words.specs.declared.requests.RequestFault.{RequestFault}
 use Rattle.elf_words.specs.declared.requests.RequestFault.TheVariants.{BadItem, LayoutFull, LayoutRepeat}
 
 -- a layout without an item
 abbrev pub no_items : Layout
-no_items = record { sections = []; definitions = []; linkage = []; table = []; thread = [] }
+no_items = record { lookup = Compared; sections = []; definitions = []; linkage = []; table = []; thread = [] }
 
 -- a word spells an item, which is put behind those of its sort
 abbrev pub PutsItem : Text → Layout → Layout → Type 0

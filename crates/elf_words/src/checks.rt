@@ -10,10 +10,21 @@ use elf_table::{Limits, Style};
 pub enum Asked<'a> {
     /// Something is done with one file.
     File(Request<'a>),
+    /// A section is applied, with the items of a file too.
+    Laid(Laying<'a>),
     /// Many files are checked.
     Check(Checking<'a>),
     /// The members of an archive are listed.
     Archive(Archiving<'a>),
+}
+
+/// A section that is applied, with the items of a file behind those of its layout.
+#[derive(Clone, Copy, Drop)]
+pub struct Laying<'a> {
+    /// What is asked for of the section, with the layout that words give.
+    pub request: Request<'a>,
+    /// The path of the file, which has one item a line.
+    pub list: &'a str,
 }
 
 /// A check of many files: whose they are, how much of each may be read, and which parts of its listing

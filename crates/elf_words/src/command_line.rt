@@ -6,7 +6,7 @@ ghost use Rattle.clap.specs.declared.builder.command.Command.TheViews.{out-Comma
 ghost use Rattle.elf_words.specs.CommandLine.{apply_command, file_argument, find_command};
 ghost use Rattle.elf_words.specs.CommandLine.{gnu_option, by_segments_option};
 ghost use Rattle.elf_words.specs.CommandLine.{with_checks, with_one_file};
-ghost use Rattle.elf_words.specs.CommandLine.{headers_option, item_argument, max_read_option};
+ghost use Rattle.elf_words.specs.CommandLine.{headers_option, item_argument, layout_option, max_read_option};
 ghost use Rattle.elf_words.specs.CommandLine.{name_argument, names_option, only_option, program};
 ghost use Rattle.elf_words.specs.CommandLine.{sample_command, section_argument, show_command};
 ghost use Rattle.elf_words.specs.CommandLine.{with_listing_options, with_listings};
@@ -31,7 +31,8 @@ Examples:
   elfsee check /usr/lib
   elfsee archive --only symbols /usr/lib/x86_64-linux-gnu/libc.a
 
-Options, before or behind FILE; find and apply have only --headers, --max-read and --:
+Options, before or behind FILE; find and apply have only --headers, --max-read and --, and
+apply --layout:
   --headers N   permit N section headers, and as many program headers:
                 1 to 65279 [default: 4096]
   --names N     show N bytes of a name: 1 to 4096 [default: 256]
@@ -42,6 +43,8 @@ Options, before or behind FILE; find and apply have only --headers, --max-read a
   --gnu         name the numbers of the GNU system too
   --by-segments find tables by the program headers, as a loader does, and list the file as if it
                 had no section headers
+  --layout LIST for apply only: take the items in the file LIST too, one a line, as many as
+                there are
   --files0-from FILE
                 for check only: check the paths in FILE too, each ended by NUL
   --            end the options, so that FILE, PATH or NAME may begin with a hyphen
@@ -58,13 +61,15 @@ Exit status:
        elfsee: bad item       an item has another form, or its index or name is out of range
        elfsee: layout-full    there are too many items of one sort
        elfsee: layout-repeat  two items of one sort have the same INDEX or NAME
+     of LIST: 'in line N' stands behind bad item and layout-repeat; or
+       elfsee: cannot read layout
   3  check: some files could not be read or named; else, and for the list and the output of
      check, a read or write fault, a file that cannot be opened, or no memory: standard
      error has one of these lines:
        elfsee: read fault, elfsee: write fault, elfsee: cannot open, elfsee: out of memory";
 
 const ITEMS: &str = "\
-Items, at most 64 sections and 32 of each other sort, no index or name of a sort twice:
+Items, as words at most 64 sections and 32 of each other sort, no index or name of a sort twice:
   at:INDEX=ADDR  the address of section INDEX, 1 to 65279
   def:NAME=ADDR  the address of a symbol that is undefined or common
   plt:NAME=ADDR  the address of a symbol's entry in the procedure linkage table
@@ -176,6 +181,7 @@ fn apply<'a>(alloc: Global) -> Result<Command<'a>, AllocError>
         .about("Write a section's bytes with its relocations applied")
         .after_help(ITEMS);
     reading_options(alloc, command)?
+        .arg(layout(alloc))?
         .arg(file(alloc))?
         .arg(section(alloc))?
         .arg(item(alloc))
@@ -253,6 +259,17 @@ fn section<'a>(alloc: Global) -> Arg<'a>
         .required(true)
         .value_parser(value_parser!(u16))
         .help("The index of the section to write: 0 to 65535")
+}
+
+/// The file with items.
+fn layout<'a>(alloc: Global) -> Arg<'a>
+    ensures rule { rule_of result ≡ layout_option }
+    ensures local { result.global ≡ false }
+{
+    Arg::new(alloc, "layout")
+        .long("layout")
+        .value_name("LIST")
+        .help("Take the items in the file LIST too, one a line, as many as there are")
 }
 
 /// The items of the layout.

@@ -58,7 +58,7 @@ fn put(layout: &mut Layout, word: &str) -> Result<(), RequestFault>
 /// of its global offset table entry; `tpgot:NAME=ADDR`, that of the global offset table entry of its
 /// offset from the thread pointer. The last `=` parts them. INDEX is 1 to 5 decimal digits, from 1 to 65279; NAME 1 to 255 bytes without NUL; ADDR
 /// `0x` and 1 to 16 hexadecimal digits of either case. None for another word.
-pub(crate) fn item(word: &str) -> Option<Item<'_>>
+pub fn item(word: &str) -> Option<Item<'_>>
     ensures spelled { IfSome result (Spells word.now) }
     ensures unspelled { IsNone result → (item : Item) → Spells word.now item → ⊥ }
 {

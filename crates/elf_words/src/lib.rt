@@ -12,7 +12,8 @@ mod names;
 mod requests;
 mod words;
 
-pub use checks::{Archiving, Asked, Checking};
+pub use checks::{Archiving, Asked, Checking, Laying};
+pub use items::item;
 pub use names::checked_name;
 pub use requests::{Request, RequestFault, Task, Wanted};
 pub use words::request;

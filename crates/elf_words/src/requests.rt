@@ -7,7 +7,7 @@ ghost use Rattle.elf_words.specs.Faults.{IsFaultOf};
 ghost use Rattle.elf_words.specs.declared.requests.RequestFault.TheVariants.{Memory};
 
 use clap::error::ErrorKind;
-use elf_layout::Layout;
+use elf_layout::{Addresses, Layout};
 use elf_record::Parts;
 use elf_table::{Limits, Style};
 use std::alloc::AllocError;
@@ -40,8 +40,15 @@ pub enum Task<'a> {
     Apply {
         /// The section's index.
         section: u16,
-        /// The addresses of sections, names and procedure linkage table entries.
+        /// The addresses of sections, names and their entries.
         layout: &'a Layout,
+    },
+    /// The same, in addresses that are kept otherwise.
+    Place {
+        /// The section's index.
+        section: u16,
+        /// The addresses of sections, names and their entries.
+        addresses: &'a Addresses<'a>,
     },
 }
 

@@ -7,10 +7,10 @@ ghost use Rattle.clap.specs.declared.error.kind.ErrorKind.TheVariants.{Format};
 ghost use Rattle.clap.specs.Walk.{Text, first_of, one_of, rows_of};
 ghost use Rattle.clap.specs.Words.{found_of, subcommand_rows_of};
 ghost use Rattle.elf_model.specs.Text.{name_of};
-ghost use Rattle.elf_words.specs.Asked.{AreLimits, AreParts, ComesTo, HasNumber, IsFileNamed};
+ghost use Rattle.elf_words.specs.Asked.{AreLimits, AreParts, AsksBy, ComesTo, HasNumber, IsFileNamed};
 ghost use Rattle.elf_words.specs.Answered.{WordsAsk, WordsRefused};
 ghost use Rattle.elf_words.specs.Asked.{IsStyle, is_part, is_set};
-ghost use Rattle.elf_words.specs.Checks.{Becomes};
+ghost use Rattle.elf_words.specs.Checks.{Becomes, IsAsked};
 ghost use Rattle.elf_words.specs.Asked.{item_words, part_names};
 ghost use Rattle.elf_words.specs.Layouts.{Lays, no_items};
 ghost use Rattle.elf_words.specs.Faults.{IsUnasked};
@@ -22,7 +22,7 @@ ghost use Rattle.elf_headers.specs.declared.caps.Style.{Style};
 use crate::archive_words::{MEMBER_PARTS, archive_asked};
 use crate::check_command::check;
 use crate::check_words::check_asked;
-use crate::checks::Asked;
+use crate::checks::{Asked, Laying};
 use crate::command_line::command_line;
 use crate::items::lay;
 use crate::names::checked_name;
@@ -117,20 +117,46 @@ fn asked_by<'a>(
     match command {
         "check" => check_asked(alloc, options),
         "archive" => Ok(archive_asked(options)),
-        _ => file_asked(command, options, layout),
+        "apply" => apply_asked(options, layout),
+        _ => file_asked(command, options),
     }
 }
 
-/// What another command than `check` and `archive` with these arguments asks for.
-fn file_asked<'a>(
-    command: &str,
+/// What `apply` with these arguments asks for: with the items of a file too, where one is named.
+fn apply_asked<'a>(
     options: &ArgMatches<'a>,
     layout: &'a mut Layout,
 ) -> Result<Option<Asked<'a>>, RequestFault>
-    requires { (command.now ≢ codes "check") × (command.now ≢ codes "archive") }
+    ensures { Becomes (Some (codes "apply", rows_of (found_of options.now))) result }
+{
+    match applying(options, layout) {
+        Ok(Some(request)) => Ok(Some(with_list(options, request))),
+        Ok(None) => Ok(None),
+        Err(fault) => Err(fault),
+    }
+}
+
+/// A request to apply, with the file of items that is named, if any.
+fn with_list<'a>(options: &ArgMatches<'a>, request: Request<'a>) -> Asked<'a>
+    requires { AsksBy (Some (codes "apply", rows_of (found_of options.now))) request }
+    ensures { IsAsked (Some (codes "apply", rows_of (found_of options.now))) result }
+{
+    match text_of(options, "layout") {
+        Some(list) => Asked::Laid(Laying { request, list }),
+        None => Asked::File(request),
+    }
+}
+
+/// What another command than `check`, `archive` and `apply` with these arguments asks for.
+fn file_asked<'a>(
+    command: &str,
+    options: &ArgMatches<'a>,
+) -> Result<Option<Asked<'a>>, RequestFault>
+    requires { (command.now ≢ codes "check") × (command.now ≢ codes "archive")
+        × (command.now ≢ codes "apply") }
     ensures { Becomes (Some (command.now, rows_of (found_of options.now))) result }
 {
-    match of_file(command, options, layout) {
+    match of_file(command, options) {
         Ok(Some(request)) => Ok(Some(Asked::File(request))),
         Ok(None) => Ok(None),
         Err(fault) => Err(fault),
@@ -138,18 +164,14 @@ fn file_asked<'a>(
 }
 
 /// What another command with these arguments asks for, of one file.
-fn of_file<'a>(
-    command: &str,
-    options: &ArgMatches<'a>,
-    layout: &'a mut Layout,
-) -> Result<Option<Request<'a>>, RequestFault>
+fn of_file<'a>(command: &str, options: &ArgMatches<'a>) -> Result<Option<Request<'a>>, RequestFault>
+    requires { command.now ≢ codes "apply" }
     ensures { ComesTo (Some (command.now, rows_of (found_of options.now))) result }
 {
     match command {
         "show" => Ok(listing_of_file(options)),
         "sample" => Ok(listing(None, options)),
         "find" => lookup(options),
-        "apply" => applying(options, layout),
         _ => Ok(None),
     }
 }

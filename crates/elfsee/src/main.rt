@@ -2,6 +2,7 @@
 #![tactic(auto)]
 
 mod archives;
+mod layouts;
 mod many;
 mod sample;
 
@@ -18,6 +19,7 @@ use elf_run::{
 use elf_source::{Counted, MemorySource, OffsetReader, Out, Source, StreamSource, WriteSink};
 use elf_table::{HeaderRoom, HeaderStore, Stop};
 use elf_words::{Asked, Request, RequestFault, request};
+use layouts::apply_laid;
 use many::check_many;
 use sample::sample;
 use std::alloc::{AllocError, Global};
@@ -41,7 +43,7 @@ fn main(rt: HostRuntime) -> ExitCode {
     } else {
         None
     };
-    let (status, line) = match answer(&rt, rt.stderr(), terminal) {
+    let (status, line) = match answer(&rt, rt.stderr(), rt.stderr(), terminal) {
         Ok(ending) => ending,
         Err(ending) => ending,
     };
@@ -53,10 +55,12 @@ fn main(rt: HostRuntime) -> ExitCode {
 }
 
 /// Reads the words, and carries out what they ask for. What is wrong with words, and help, is written
-/// to `errors`; a terminal, where there is one, is told how far a check of many files is.
+/// to `errors`, and what is wrong with the lines of a file of items to `lines`; a terminal, where there
+/// is one, is told how far a check of many files is.
 fn answer<R: Env + Files + Print + Input + AllocGlobal, W: Write + Drop, E: Write + Drop>(
     rt: &R,
     errors: W,
+    lines: W,
     terminal: Option<E>,
 ) -> Result<Ending, Ending>
 where
@@ -66,6 +70,7 @@ where
     let mut layout = make_layout(rt.alloc())?;
     match read_request(rt.alloc(), words.as_slice(), &mut *layout, errors)? {
         Asked::File(request) => answer_request(rt, &request),
+        Asked::Laid(asked) => apply_laid(rt, &asked, lines),
         Asked::Check(asked) => check_many(rt, &asked, terminal),
         Asked::Archive(asked) => list_archive(rt, &asked),
     }

@@ -6,35 +6,40 @@ use Rattle.elfsee_c.specs.declared.items.Item.{Item}
 
 -- an item is put into a layout in one way
 one_put : (kind : ℕ) (item : Item) (old new other : Layout) → PutsKind kind item old new → PutsKind kind item old other → new ≡ other
-one_put zero item old new other (i, p, d, e, f, g) (j, q, h, l, m, r) = λ k. record {
+one_put zero item old new other (i, p, d, e, f, g, w) (j, q, h, l, m, r, v) = λ k. record {
+  lookup = (w ∙ sym v) k;
   sections = (p.0 ∙ sym q.0) k;
   definitions = (d ∙ sym h) k;
   linkage = (e ∙ sym l) k;
   table = (f ∙ sym m) k;
   thread = (g ∙ sym r) k;
 }
-one_put (suc zero) item old new other (i, p, d, e, f, g) (j, q, h, l, m, r) = λ k. record {
+one_put (suc zero) item old new other (i, p, d, e, f, g, w) (j, q, h, l, m, r, v) = λ k. record {
+  lookup = (w ∙ sym v) k;
   sections = (d ∙ sym h) k;
   definitions = (p.0 ∙ sym q.0) k;
   linkage = (e ∙ sym l) k;
   table = (f ∙ sym m) k;
   thread = (g ∙ sym r) k;
 }
-one_put (suc (suc zero)) item old new other (i, p, d, e, f, g) (j, q, h, l, m, r) = λ k. record {
+one_put (suc (suc zero)) item old new other (i, p, d, e, f, g, w) (j, q, h, l, m, r, v) = λ k. record {
+  lookup = (w ∙ sym v) k;
   sections = (d ∙ sym h) k;
   definitions = (e ∙ sym l) k;
   linkage = (p.0 ∙ sym q.0) k;
   table = (f ∙ sym m) k;
   thread = (g ∙ sym r) k;
 }
-one_put (suc (suc (suc zero))) item old new other (i, p, d, e, f, g) (j, q, h, l, m, r) = λ k. record {
+one_put (suc (suc (suc zero))) item old new other (i, p, d, e, f, g, w) (j, q, h, l, m, r, v) = λ k. record {
+  lookup = (w ∙ sym v) k;
   sections = (d ∙ sym h) k;
   definitions = (e ∙ sym l) k;
   linkage = (f ∙ sym m) k;
   table = (p.0 ∙ sym q.0) k;
   thread = (g ∙ sym r) k;
 }
-one_put (suc (suc (suc (suc zero)))) item old new other (i, p, d, e, f, g) (j, q, h, l, m, r) = λ k. record {
+one_put (suc (suc (suc (suc zero)))) item old new other (i, p, d, e, f, g, w) (j, q, h, l, m, r, v) = λ k. record {
+  lookup = (w ∙ sym v) k;
   sections = (d ∙ sym h) k;
   definitions = (e ∙ sym l) k;
   linkage = (f ∙ sym m) k;

@@ -3,36 +3,36 @@ use Rattle.std.specs.Prelude.{ℕ, zero, suc, ◌≡◌, ◌<◌, ◌^◌, Bool,
 use Rattle.elf_layout.specs.Layouts.{Adds, IsName}
 use Rattle.elf_layout.specs.declared.layout.Item.{Item as Laid}
 use Rattle.elf_layout.specs.declared.layout.Item.TheVariants.{Section, Define, Entry, Table, Thread}
-use Rattle.elf_model.specs.Placing.{Layout}
+use Rattle.elf_model.specs.Placing.{Layout, Compared}
 use Rattle.elfsee_c.specs.declared.items.Item.{Item}
 
 -- a layout without an item
 abbrev pub no_items : Layout
-no_items = record { sections = []; definitions = []; linkage = []; table = []; thread = [] }
+no_items = record { lookup = Compared; sections = []; definitions = []; linkage = []; table = []; thread = [] }
 
 -- an address stands behind others, of which there may be so many, and none of these has its index or name
 abbrev pub IsAdded : {K : Type 0} → ℕ → K → ℕ → List (K × ℕ) → List (K × ℕ) → Type 0
 IsAdded most key address old new = Adds {X = Unit {0}} most key address old new (Ok tt)
 
--- an item of a kind is put into a layout, behind those of its sort: 0 is a section, by an index below 2^16; by a name, 1 a
+-- an item of a kind is put into a layout, behind those of its sort, and all else stays: 0 is a section, by an index below 2^16; by a name, 1 a
 -- definition, 2 an entry of the procedure linkage table, 3 one of the global offset table and 4 one there of an offset from the
 -- thread pointer; there are no others
 abbrev pub PutsKind : ℕ → Item → Layout → Layout → Type 0
 PutsKind zero item old new =
     (item.index < 2 ^ 16) × IsAdded 64 item.index item.address old.sections new.sections
-    × (new.definitions ≡ old.definitions) × (new.linkage ≡ old.linkage) × (new.table ≡ old.table) × (new.thread ≡ old.thread)
+    × (new.definitions ≡ old.definitions) × (new.linkage ≡ old.linkage) × (new.table ≡ old.table) × (new.thread ≡ old.thread) × (new.lookup ≡ old.lookup)
 PutsKind (suc zero) item old new =
     IsName item.name.now × IsAdded 32 item.name.now item.address old.definitions new.definitions
-    × (new.sections ≡ old.sections) × (new.linkage ≡ old.linkage) × (new.table ≡ old.table) × (new.thread ≡ old.thread)
+    × (new.sections ≡ old.sections) × (new.linkage ≡ old.linkage) × (new.table ≡ old.table) × (new.thread ≡ old.thread) × (new.lookup ≡ old.lookup)
 PutsKind (suc (suc zero)) item old new =
     IsName item.name.now × IsAdded 32 item.name.now item.address old.linkage new.linkage
-    × (new.sections ≡ old.sections) × (new.definitions ≡ old.definitions) × (new.table ≡ old.table) × (new.thread ≡ old.thread)
+    × (new.sections ≡ old.sections) × (new.definitions ≡ old.definitions) × (new.table ≡ old.table) × (new.thread ≡ old.thread) × (new.lookup ≡ old.lookup)
 PutsKind (suc (suc (suc zero))) item old new =
     IsName item.name.now × IsAdded 32 item.name.now item.address old.table new.table
-    × (new.sections ≡ old.sections) × (new.definitions ≡ old.definitions) × (new.linkage ≡ old.linkage) × (new.thread ≡ old.thread)
+    × (new.sections ≡ old.sections) × (new.definitions ≡ old.definitions) × (new.linkage ≡ old.linkage) × (new.thread ≡ old.thread) × (new.lookup ≡ old.lookup)
 PutsKind (suc (suc (suc (suc zero)))) item old new =
     IsName item.name.now × IsAdded 32 item.name.now item.address old.thread new.thread
-    × (new.sections ≡ old.sections) × (new.definitions ≡ old.definitions) × (new.linkage ≡ old.linkage) × (new.table ≡ old.table)
+    × (new.sections ≡ old.sections) × (new.definitions ≡ old.definitions) × (new.linkage ≡ old.linkage) × (new.table ≡ old.table) × (new.lookup ≡ old.lookup)
 PutsKind (suc (suc (suc (suc (suc kind))))) item old new = ⊥
 
 -- an item is put into a layout

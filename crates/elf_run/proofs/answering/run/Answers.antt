@@ -8,4 +8,7 @@ pub returns-in-Find-clause-runs : goal.returns-in-Find-clause-runs
 returns-in-Find-clause-runs g c = rw (c.in-Find.is) c.look_up.ensures.runs
 
 pub returns-in-Apply-clause-runs : goal.returns-in-Apply-clause-runs
-returns-in-Apply-clause-runs g c = rw (c.in-Apply.is) c.write_applied.ensures.runs
+returns-in-Apply-clause-runs g c = rw (c.in-Apply.is, ← c.fixed-addresses.ensures) c.write_applied.ensures.runs
+
+pub returns-in-Place-clause-runs : goal.returns-in-Place-clause-runs
+returns-in-Place-clause-runs g c = rw (c.in-Place.is) c.write_applied-in-Place.ensures.runs

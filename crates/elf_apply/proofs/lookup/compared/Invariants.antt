@@ -4,7 +4,7 @@ use Rattle.elf_model.specs.Placing.{address_named}
 use Rattle.elf_source.specs.Source.{Reads}
 use Rattle.elf_table.specs.Tables.{strings_in}
 use Rattle.elf_layout.specs.Layouts.{items_cost}
-use Rattle.elf_apply.proofs.lookup.address_named.Given as goal
+use Rattle.elf_apply.proofs.lookup.compared.Given as goal
 
 abbrev pub invariant-loop-i : goal.invariant-loop-i
 invariant-loop-i g l = record {

@@ -1,0 +1,83 @@
+-- What a search finds among items in rising order.
+use Rattle.std.proofs.Common.{◌≡◌, ◌≢◌, ℕ, zero, suc, ◌+◌, ◌<◌, ◌≤◌, Bool, true, false, List, [], ◌∷◌, ◌++◌, length, length-take, get_or, take, ◌-◌, drop, Ordering, Less, Equal, Greater, Some, None, Result, Ok, Err, refl, sym, ap, subst, ◌∙◌, arith, inl, inr, eq-eqb, is_lt, is_eq, nat_cmp}
+use Rattle.std.specs.Cmp.{IsTotalOrder}
+use Rattle.std.specs.List.Sorted.{IsSearchInRange, IsBinarySearchResult, IsSortedBy}
+use Rattle.std.specs.Ordering.{ordering_reverse}
+use Rattle.std.proofs.lemmas.Bool.{cases_lt, ne_eqb}
+use Rattle.std.proofs.lemmas.Cmp.{alike_right, ranked}
+use Rattle.std.proofs.lemmas.List.{get_or-take}
+use Rattle.std.proofs.lemmas.List.Sorted.{searchable_from_sorted}
+use Rattle.elf_model.specs.Placing.{address_in}
+use Rattle.elf_layout.specs.Lent.{Rises, Finds, Follows}
+use Rattle.elf_layout.proofs.LayoutSteps.{address_in-hit, address_in-miss}
+
+-- a search by an order, among items whose keys rise
+module _ {K X : Type 0} {order : K → K → Ordering} (total : IsTotalOrder order) (key : X → K) (items : List X) (rises : Rises order key items) where
+  sorted : IsSortedBy (λ a b. is_lt (order (key a) (key b))) items
+  sorted k d low within =
+      ap is_lt (total.antisymm (key (get_or items (k + 1) d)) (key (get_or items k d)) ∙ ap ordering_reverse (rises k (k + 1) d (omega arith) within))
+
+  pub searched : (wanted : K) (r : Result ℕ ℕ) → IsSearchInRange r (length items) → IsBinarySearchResult (λ y. order (key y) wanted) items r → Finds order key items wanted r
+  searched wanted (Ok i) within equal =
+      (within, equal, λ k d below. sym (alike_right total (key (get_or items i d)) wanted (key (get_or items k d)) (equal d)) ∙ rises k i d below within)
+  searched wanted (Err i) within parted =
+      let p = parted (searchable_from_sorted total key items wanted sorted) in
+      (within, λ k d below. p.0 k d (omega arith) below, λ k d from below. p.1 k d from below)
+
+-- items whose keys rise before a place, one more of which is looked at
+module _ {K X : Type 0} {order : K → K → Ordering} (total : IsTotalOrder order) (key : X → K) (items : List X) where
+  abbrev pub Below : ℕ → Type 0
+  Below n = (a b : ℕ) (d : X) → a < b → b < n → order (key (get_or items a d)) (key (get_or items b d)) ≡ Less
+
+  pub below_more : (n : ℕ) → Below n → Follows order key items n → Below (n + 1)
+  below_more n low next a b d less within = elim (cases_lt b n) [
+    | inl inside ↦ low a b d less inside
+    | inr top ↦ subst (λ m. order (key (get_or items a d)) (key (get_or items m d)) ≡ Less) {x = n} (omega (arith, top, within)) (elim (cases_lt a (n - 1)) [
+      | inl far ↦ total.trans (key (get_or items a d)) (key (get_or items (n - 1) d)) (key (get_or items n d)) (low a (n - 1) d far (omega (arith, less, within, top, far))) (next d (omega (arith, far)))
+      | inr near ↦ subst (λ m. order (key (get_or items m d)) (key (get_or items n d)) ≡ Less) {x = n - 1} (omega (arith, near, less, within, top)) (next d (omega (arith, less, within, top)))
+    ])
+  ]
+
+  pub all_rise : (n : ℕ) → Below n → length items ≤ n → Rises order key items
+  all_rise n low past a b d less within = low a b d less (omega (arith, past, within))
+
+  -- and one that does not rise
+  pub front_falls : (n : ℕ) → n < length items → Rises order key (take (n + 1) items) → Follows order key items n
+  front_falls n within rises d some =
+      let long = length-take (n + 1) items in
+      let up = rises (n - 1) n d (omega (arith, some)) (omega (arith, long, within)) in
+      subst (λ x. order (key x) (key (get_or items n d)) ≡ Less) (get_or-take (n + 1) items (n - 1) d (omega arith)) (subst (λ x. order (key (get_or (take (n + 1) items) (n - 1) d)) (key x) ≡ Less) (get_or-take (n + 1) items n d (omega arith)) up)
+
+-- sections
+found_first : (items : List (ℕ × ℕ)) (section i : ℕ) (d : ℕ × ℕ) → i < length items → (get_or items i d).0 ≡ section
+    → ((k : ℕ) → k < i → (get_or items k d).0 ≢ section) → address_in items section ≡ Some (get_or items i d).1
+found_first [] section i d within has none = absurd (omega (arith, within))
+found_first (x ∷ xs) section zero d within has none = address_in-hit xs x section has
+found_first (x ∷ xs) section (suc i) d within has none =
+    address_in-miss xs x section (ne_eqb x.0 section (none 0 (omega arith))) ∙ found_first xs section i d (omega (arith, within)) has (λ k below. none (suc k) (omega (arith, below)))
+
+found_none : (items : List (ℕ × ℕ)) (section : ℕ) (d : ℕ × ℕ) → ((k : ℕ) → k < length items → (get_or items k d).0 ≢ section) → address_in items section ≡ None
+unfolding address_in
+found_none [] section d none = refl
+found_none (x ∷ xs) section d none =
+    address_in-miss xs x section (ne_eqb x.0 section (none 0 (omega arith))) ∙ found_none xs section d (λ k below. none (suc k) (omega (arith, below)))
+
+below_is_other : (x wanted : ℕ) → nat_cmp x wanted ≡ Less → x ≢ wanted
+below_is_other x wanted e same = let below : x < wanted = ranked x wanted Less (sym e) in omega (arith, below, same)
+
+above_is_other : (x wanted : ℕ) → nat_cmp x wanted ≡ Greater → x ≢ wanted
+above_is_other x wanted e same = let above : wanted < x = ranked x wanted Greater (sym e) in omega (arith, above, same)
+
+pub section_found : (items : List (ℕ × ℕ)) (section i : ℕ) (item : ℕ × ℕ) → Finds nat_cmp (λ x. x.0) items section (Ok i) → item ≡ get_or items i item → address_in items section ≡ Some item.1
+section_found items section i item found is =
+    found_first items section i item found.0 (ranked (get_or items i item).0 section Equal (sym (found.1 item))) (λ k below. below_is_other (get_or items k item).0 section (found.2 k item below))
+    ∙ ap (λ x. Some x.1) (sym is)
+
+pub section_absent : (items : List (ℕ × ℕ)) (section i : ℕ) → Finds nat_cmp (λ x. x.0) items section (Err i) → address_in items section ≡ None
+section_absent items section i found = found_none items section (0, 0) other
+  where
+    other : (k : ℕ) → k < length items → (get_or items k (0, 0)).0 ≢ section
+    other k below = elim (cases_lt k i) [
+      | inl before ↦ below_is_other (get_or items k (0, 0)).0 section (found.1 k (0, 0) before)
+      | inr behind ↦ above_is_other (get_or items k (0, 0)).0 section (found.2 k (0, 0) behind below)
+    ]

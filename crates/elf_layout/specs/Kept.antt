@@ -1,0 +1,31 @@
+-- Addresses, however they are kept, as a layout.
+use Rattle.std.specs.Prelude.{◌≡◌}
+use Rattle.elf_model.specs.Placing.{Layout, Compared, Searched}
+use Rattle.elf_model.specs.declared.relocation_types.Base.{Base}
+use Rattle.elf_layout.specs.Layouts.{names_for}
+use Rattle.elf_layout.specs.declared.addresses.Among.{Among}
+use Rattle.elf_layout.specs.declared.addresses.Among.TheVariants as among
+use Rattle.elf_layout.specs.declared.addresses.Kept.{Kept}
+use Rattle.elf_layout.specs.declared.addresses.Kept.TheVariants.{Fixed, Lent}
+use Rattle.elf_layout.specs.declared.addresses.LentLayout.{LentLayout}
+
+-- what a caller lends is searched
+abbrev pub lent_as : LentLayout → Layout
+lent_as lent = record {
+  lookup = Searched;
+  sections = lent.sections;
+  definitions = lent.definitions;
+  linkage = lent.linkage;
+  table = lent.table;
+  thread = lent.thread;
+}
+
+-- what is kept
+abbrev pub kept_as : Kept → Layout
+kept_as (Fixed layout) = layout.now
+kept_as (Lent lent) = lent_as lent.now
+
+-- the names that are looked through for a base, and how a symbol's name is looked for among them
+abbrev pub IsAmong : Layout → Base → Among → Type 0
+IsAmong layout base (among.Compared items) = (layout.lookup ≡ Compared) × (items.now ≡ names_for layout base)
+IsAmong layout base (among.Searched names) = (layout.lookup ≡ Searched) × (names.now ≡ names_for layout base)

@@ -1,0 +1,272 @@
+//! Items of a layout in rising order, which a caller lends.
+ghost use Rattle.std.specs.Prelude.{◌≡◌, ◌≢◌, ◌≤◌, ◌<◌, ◌+◌, ◌^◌, ℕ, List, All, MatchBool};
+ghost use Rattle.std.specs.Prelude.{IfOk, IfErr, [], length, slice_index, slice_index_or, take};
+ghost use Rattle.std.specs.Ordering.{nat_cmp};
+ghost use Rattle.std.specs.declared.cmp.Ordering.TheVariants.{Less};
+ghost use Rattle.elf_model.specs.ApplyCost.{longest, lookup_cost};
+ghost use Rattle.elf_model.specs.Bytes.{slice};
+ghost use Rattle.elf_model.specs.Names.{pad64};
+ghost use Rattle.elf_model.specs.Placing.{Searched, address_in, address_named};
+ghost use Rattle.elf_model.specs.declared.causes.Cause.TheVariants.{NameUnended};
+ghost use Rattle.elf_layout.specs.Layouts.{IsName};
+ghost use Rattle.elf_layout.specs.Lent.{Begins, BeginsAt, Finds, Follows, IsAddressAt, Item};
+ghost use Rattle.elf_layout.specs.Lent.{MayFollow, MayLend, Rises};
+ghost use Rattle.elf_layout.specs.Lent.{name_of, name_order, named, place_of};
+
+use elf_model::Cause;
+use std::cmp::Ordering;
+use std::marker::Model;
+
+/// The most bytes that a name in a layout has.
+const NAME_BYTES: usize = 255;
+
+/// Sections with their addresses, by rising index.
+#[derive(Drop)]
+pub struct SortedSections<'a> {
+    items: &'a [(u16, u64)],
+}
+
+impl<'a> Model for SortedSections<'a> {
+    ghost use Rattle.std.specs.Prelude.{List, ℕ};
+    ghost use Rattle.std.specs.Ordering.{nat_cmp};
+    ghost use Rattle.elf_layout.specs.Lent.{Rises};
+
+    ghost Value = { List (ℕ × ℕ) };
+
+    ghost view = { λ s. s.items.now };
+
+    ghost invariant = { λ s. Rises nat_cmp (λ item. item.0) s.items.now };
+}
+
+impl<'a> SortedSections<'a> {
+    /// Sections, each by its index, with the address of its first byte.
+    ///
+    /// # Errors
+    /// The place of the first item whose index is not above the index of the item before it.
+    pub fn new(items: &'a [(u16, u64)]) -> Result<SortedSections<'a>, usize>
+        ensures sorted { IfOk result (λ sections. sections ≡ items.now) }
+        ensures rise { IfOk result (λ _. Rises nat_cmp (λ item. item.0) items.now) }
+        ensures refused { IfErr result (λ i. (i < length items.now)
+            × (Rises nat_cmp (λ item. item.0) (take (i + 1) items.now) → ⊥)) }
+    {
+        let mut i = 0;
+        while i < items.len() {
+            if !section_follows(items, i) {
+                return Err(i);
+            }
+            i += 1;
+        }
+        Ok(SortedSections { items })
+    }
+
+    /// The address that is given for the section of an index, where there is one.
+    pub fn address(&self, section: u16) -> Option<u64>
+        ensures { result ≡ address_in self.now section }
+    {
+        match search_section(self.items, section) {
+            Ok(i) => Some(self.items[i].1),
+            Err(_) => None,
+        }
+    }
+}
+
+/// Whether the index at a place is above the one before it.
+fn section_follows(items: &[(u16, u64)], i: usize) -> bool
+    requires { i < length items.now }
+    ensures { MatchBool result (Follows nat_cmp (λ item. item.0) items.now i)
+        (Follows nat_cmp (λ item. item.0) items.now i → ⊥) }
+{
+    i == 0 || items[i - 1].0 < items[i].0
+}
+
+/// Where a section is among some, or would be.
+fn search_section(items: &[(u16, u64)], section: u16) -> Result<usize, usize>
+    requires { Rises nat_cmp (λ item. item.0) items.now }
+    ensures { Finds nat_cmp (λ item. item.0) items.now section result }
+{
+    items.binary_search_by_key(&section, |item| item.0)
+}
+
+/// Names with their addresses, in the rising order of their bytes.
+#[derive(Drop)]
+pub struct SortedNames<'a> {
+    items: &'a [(&'a [u8], u64)],
+    most: usize,
+}
+
+impl<'a> Model for SortedNames<'a> {
+    ghost use Rattle.std.specs.Prelude.{◌≡◌, List, ℕ};
+    ghost use Rattle.elf_model.specs.ApplyCost.{longest};
+    ghost use Rattle.elf_layout.specs.Lent.{MayLend, named};
+
+    ghost Value = { List (List ℕ × ℕ) };
+
+    ghost view = { λ n. named n.items.now };
+
+    ghost invariant = { λ n. MayLend n.items.now × (n.most ≡ longest (named n.items.now)) };
+}
+
+impl<'a> SortedNames<'a> {
+    /// Names of 1 to 255 bytes without a NUL, each with its address.
+    ///
+    /// # Errors
+    /// The place of the first item that has no such name, or whose name is not above the name of the
+    /// item before it.
+    pub fn new(items: &'a [(&'a [u8], u64)]) -> Result<SortedNames<'a>, usize>
+        ensures sorted { IfOk result (λ names. names ≡ named items.now) }
+        ensures lent { IfOk result (λ _. MayLend items.now) }
+        ensures refused { IfErr result (λ i. (i < length items.now)
+            × (MayLend (take (i + 1) items.now) → ⊥)) }
+    {
+        let mut most = 0;
+        let mut i = 0;
+        while i < items.len() {
+            if !name_follows(items, i) {
+                return Err(i);
+            }
+            most = most.max(name_at(items, i).len());
+            i += 1;
+        }
+        Ok(SortedNames { items, most })
+    }
+
+    /// Whether there is no name.
+    pub fn is_empty(&self) -> bool
+        ensures { MatchBool result (self.now ≡ []) (self.now ≢ []) }
+    {
+        self.items.is_empty()
+    }
+
+    /// How many bytes the longest name has.
+    pub fn longest(&self) -> usize
+        ensures value { result ≡ longest self.now }
+        ensures few { result ≤ 255 }
+    {
+        self.most
+    }
+
+    /// How many bytes a lookup may ask for: as many as the longest name has with its NUL, in whole
+    /// pieces of 64; none where there is no name.
+    #[tactic(auto, unfolding(crate::proofs::Words::costs))]
+    pub fn cost(&self) -> u128
+        ensures value { result ≡ lookup_cost Searched self.now }
+        ensures few { result < 2 ^ 73 }
+    {
+        if self.items.is_empty() {
+            return 0;
+        }
+        64 * (self.most as u128 + 1).div_ceil(64)
+    }
+
+    /// The address of the name that stands at an index of a string table, where there is one. `front`
+    /// is what stands there: one byte more than the longest name has, or all bytes up to the table's
+    /// end where those are fewer.
+    ///
+    /// # Errors
+    /// `NameUnended` where the table ends before the name and its NUL, and one of these names begins
+    /// with the bytes that are there.
+    pub fn find(&self, front: &[u8]) -> Result<Option<u64>, Cause>
+        ensures unended { IfErr result (λ cause. cause ≡ NameUnended) }
+        ensures found { (strings : List ℕ) (index : ℕ) → index < length strings →
+            front.now ≡ slice strings index (longest self.now + 1) →
+            result ≡ address_named strings index self.now }
+    {
+        let end = name_end(front);
+        let key = &front[..end];
+        let place = search_name(self.items, key);
+        if end < front.len() {
+            return Ok(address_at(self.items, place));
+        }
+        if begins_at(self.items, place_of(place), key) {
+            return Err(Cause::NameUnended);
+        }
+        Ok(None)
+    }
+}
+
+/// Where a name is among some, or would be.
+fn search_name(items: &[(&[u8], u64)], name: &[u8]) -> Result<usize, usize>
+    requires { Rises name_order name_of items.now }
+    ensures { Finds name_order name_of items.now name.now result }
+{
+    items.binary_search_by_key(&name, |item| item.0)
+}
+
+/// Whether there is a name at a place, and it is above the one before it.
+fn name_follows(items: &[(&[u8], u64)], i: usize) -> bool
+    requires { i < length items.now }
+    ensures { MatchBool result (MayFollow items.now i) (MayFollow items.now i → ⊥) }
+{
+    let name = name_at(items, i);
+    is_name(name) && (i == 0 || is_below(name_at(items, i - 1), name))
+}
+
+/// The name of the item at a place.
+fn name_at<'a>(items: &[(&'a [u8], u64)], i: usize) -> &'a [u8]
+    requires { i < length items.now }
+    ensures { (d : Item) → result.now ≡ name_of (slice_index_or items.now i d) }
+{
+    items[i].0
+}
+
+/// Whether bytes may be a name in a layout.
+fn is_name(name: &[u8]) -> bool
+    ensures { MatchBool result (IsName name.now) (IsName name.now → ⊥) }
+{
+    !name.is_empty() && name.len() <= NAME_BYTES && name_end(name) == name.len()
+}
+
+/// Whether a name comes before another.
+fn is_below(before: &[u8], name: &[u8]) -> bool
+    ensures { MatchBool result (name_order before.now name.now ≡ Less)
+        (name_order before.now name.now ≢ Less) }
+{
+    before.cmp(name) == Ordering::Less
+}
+
+/// How many bytes stand before the first NUL, or all.
+fn name_end(bytes: &[u8]) -> usize
+    ensures within { result ≤ length bytes.now }
+    ensures before { (k : ℕ) → k < result → slice_index bytes.now k ≢ 0 }
+    ensures ends { result < length bytes.now → slice_index bytes.now result ≡ 0 }
+{
+    let mut end = 0;
+    while end < bytes.len() && bytes[end] != 0 {
+        end += 1;
+    }
+    end
+}
+
+/// The address of what a search found.
+fn address_at(items: &[(&[u8], u64)], place: Result<usize, usize>) -> Option<u64>
+    requires { IfOk place (λ i. i < length items.now) }
+    ensures { IsAddressAt items.now place result }
+{
+    match place {
+        Ok(i) => Some(items[i].1),
+        Err(_) => None,
+    }
+}
+
+/// Where a search ended.
+fn place_of(place: Result<usize, usize>) -> usize
+    ensures { result ≡ place_of place }
+{
+    let (Ok(i) | Err(i)) = place;
+    i
+}
+
+/// Whether there is a name at a place that begins with some bytes.
+fn begins_at(items: &[(&[u8], u64)], place: usize, front: &[u8]) -> bool
+    ensures { MatchBool result (BeginsAt items.now place front.now)
+        (BeginsAt items.now place front.now → ⊥) }
+{
+    place < items.len() && begins(name_at(items, place), front)
+}
+
+/// Whether a name begins with some bytes.
+fn begins(name: &[u8], front: &[u8]) -> bool
+    ensures { MatchBool result (Begins name.now front.now) (Begins name.now front.now → ⊥) }
+{
+    name.starts_with(front)
+}
