@@ -51,6 +51,8 @@ impl<S: Source, W: Sink> Listing<'_, '_, '_, S, W> {
             Part::SegmentNotes => self.segment_notes(index),
             Part::SectionDynamic => self.section_dynamic(index),
             Part::SegmentDynamic => self.segment_dynamic(index),
+            Part::Definitions => self.definitions(index),
+            Part::Needs => self.needs(index),
             _ => self.section_row(index),
         }
     }
