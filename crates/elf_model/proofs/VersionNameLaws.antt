@@ -34,7 +34,7 @@ front-none (Fault refusal ∷ front) back h = cc
 pub back-none : (front back : List Item) → fault_of (front ++ back) ≡ None → fault_of back ≡ None
 back-none front back h = sym (listings_append front back (front-none front back h)).1 ∙ h
 
-each-none : (row : ℕ → List Item) (first count i : ℕ) → fault_of (each row first count) ≡ None → first ≤ i → i < first + count → fault_of (row i) ≡ None
+pub each-none : (row : ℕ → List Item) (first count i : ℕ) → fault_of (each row first count) ≡ None → first ≤ i → i < first + count → fault_of (row i) ≡ None
 unfolding each
 each-none row first zero i h low high = absurd (omega arith)
 each-none row first (suc count) i h low high =
@@ -84,7 +84,7 @@ met-none kind file style section at h =
     front-none (met_rows file style section (strings_of file at) (section_versions kind file at).met) (end_rows (section_versions kind file at).cut) h
 
 -- the records of a table of definitions are definitions; those of a table of needs are none
-abbrev IsDefinition : VersionKind → Bool
+abbrev pub IsDefinition : VersionKind → Bool
 IsDefinition Definition = true
 IsDefinition File = false
 IsDefinition Need = false
@@ -147,7 +147,7 @@ first-stands kind head size = by_size (size == 0)
     by_size true = tt
     by_size false = refl
 
-table-kinds : (kind : VersionKind) (file : List ℕ) (at : ℕ)
+pub table-kinds : (kind : VersionKind) (file : List ℕ) (at : ℕ)
     → All (λ (m : Met). IsDefinition m.kind ≡ IsDefinition kind) (section_versions kind file at).met
 unfolding versions_in
 table-kinds kind file at =
@@ -202,7 +202,7 @@ module _ (file : List ℕ) (style : Style) (kind : VersionKind) (type : ℕ) (ta
           both-named file style.cap kind (section_versions kind file at).met (rw told at all) (table-kinds kind file at)
 
 -- a record that names a number is one of those
-named-is : (file : List ℕ) (number : ℕ) (P : Met → Type 0) (records : List Met) (met : Met) → All P records → named_by file number records ≡ Some met → P met
+pub named-is : (file : List ℕ) (number : ℕ) (P : Met → Type 0) (records : List Met) (met : Met) → All P records → named_by file number records ≡ Some met → P met
 named-is file number P [] met all e = let n = named-none file number in absurd (cc)
 named-is file number P (first ∷ records) met all e =
     elim (cases_Bool (names_number file number first)) [
