@@ -42,7 +42,8 @@ use Rattle.elf_listing.specs.Shows.{EndsRefused, Fetches, Lists, Stopped, WroteI
 use Rattle.elf_listing.specs.declared.listing.Listing.{Listing}
 use Rattle.elf_listing.proofs.ListsLaws.{SameFile-then}
 use Rattle.elf_listing.proofs.RowLaws.{Ends-first, Front-none}
-use Rattle.elf_listing.proofs.ShowLaws.{Front-all, Spent-then}
+use Rattle.elf_listing.proofs.ShowLaws.{Spent-then, Whole-none}
+use Rattle.elf_listing.proofs.SectionShown.{table_passes}
 use Rattle.elf_listing.specs.Numbered.{told_row, version_told}
 use Rattle.elf_listing.specs.SymbolVersions.{AreNumbered, IsNoCheck, IsWhole, versioned_items}
 use Rattle.elf_listing.specs.Versions.{kind_type}
@@ -210,5 +211,13 @@ Stopped-no-check a (Source fault at) all is = Front-none a all
 
 -- the refusal behind rows that were written
 pub Ends-behind : (a b : Written) (refusal : Refusal) (rows : List Item) → WroteItems a b rows → EndsRefused a b refusal (rows ++ FaultItem refusal ∷ [])
-unfolding Front-all
-Ends-behind a b refusal rows wrote = record { front = Front-all (FaultItem refusal ∷ []) wrote; next = λ other. record { behind = []; is_next = refl } }
+Ends-behind a b refusal rows wrote = record {
+  front = record { front = rows; rest = FaultItem refusal ∷ []; split = refl; takes = wrote.takes; no_fault = wrote.no_fault };
+  next = λ other. record { behind = []; is_next = refl };
+}
+
+-- those of an empty section
+pub empty-is : (file : List ℕ) (style : Style) (section : ℕ) (a : Written) (at : ℕ) → symbol_versions.has_table file at ≡ true → sh_size file at ≡ 0
+    → WroteItems a a (table_rows symbol_versions file style section at)
+unfolding symbol_versions symbol_version_rows
+empty-is file style section a at has empty = rw (table_passes symbol_versions file style section at has (rw empty refl)) (rw empty (Whole-none a))

@@ -1,5 +1,5 @@
 //! The versions of symbols, shown one after another.
-ghost use Rattle.std.specs.Prelude.{◌≡◌, ◌<◌};
+ghost use Rattle.std.specs.Prelude.{◌≡◌, ◌<◌, min};
 ghost use Rattle.elf_headers.specs.Permitted.{style_of};
 ghost use Rattle.elf_model.specs.declared.versions.VersionKind.TheVariants.{Need};
 ghost use Rattle.elf_table.specs.Tables.{RowsWithin};
@@ -59,12 +59,12 @@ impl<S: Source, W: Sink> Listing<'_, '_, '_, S, W> {
         requires within { NumberedWithin self.old.src.now.seen.size numbered.now }
         ensures { ListsVersioned self.old self.new result section table symbols numbered.now }
     {
-        let count = table.len().min(symbols);
-        let rows = Table::new(table.at(), count, SYMBOL_VERSION_BYTES);
+        let at = self.file.place(section);
+        let rows = first_entries(&table, symbols);
         self.rows(rows, &Kind::Versions { section, numbered })?;
         if table.len() < symbols {
             return Err(Stop::Refused(Refusal {
-                at: self.file.place(section),
+                at,
                 cause: Cause::VersionCut,
             }));
         }
@@ -106,4 +106,15 @@ impl<S: Source, W: Sink> Listing<'_, '_, '_, S, W> {
         names.take_all(self.src, &mut cursor)?;
         Ok(strings)
     }
+}
+
+/// The first entries of a table of symbols' versions, as many as there are symbols.
+fn first_entries(table: &Table, symbols: u64) -> Table
+    requires { table.now.entry ≡ 2 }
+    ensures { result ≡ record {
+        at = table.now.at; count = min table.now.count symbols; entry = 2 } }
+{
+    let _ = table.entry();
+    let count = table.len().min(symbols);
+    Table::new(table.at(), count, SYMBOL_VERSION_BYTES)
 }
