@@ -140,7 +140,7 @@ version_table = record {
 
 -- definitions or needs (Linux Standard Base Core, Symbol Versioning), each with its name: their kind, the type of the sections,
 -- the size of a record, and how many bytes one asks for beside its name
-abbrev version_records : VersionKind → (type size bytes : ℕ) → TableKind
+abbrev pub version_records : VersionKind → (type size bytes : ℕ) → TableKind
 version_records kind type size bytes = record {
   part = VERSIONS;
   has_table = λ bytes at. sh_type bytes at == type;
