@@ -53,7 +53,7 @@ impl<S: Source, W: Sink> Listing<'_, '_, '_, S, W> {
             Part::SegmentDynamic => self.segment_dynamic(index),
             Part::Definitions => self.definitions(index),
             Part::Needs => self.needs(index),
-            _ => self.section_row(index),
+            Part::SymbolVersions => self.symbol_versions(index),
         }
     }
 }

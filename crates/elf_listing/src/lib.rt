@@ -16,6 +16,7 @@ mod rows;
 mod sections;
 mod segments;
 mod showing;
+mod symbol_versions;
 mod telling;
 mod versions;
 
