@@ -112,7 +112,10 @@ impl<S: Source, W: Sink> Listing<'_, '_, '_, S, W> {
 fn first_entries(table: &Table, symbols: u64) -> Table
     requires { table.now.entry ≡ 2 }
     ensures { result ≡ record {
-        at = table.now.at; count = min table.now.count symbols; entry = 2 } }
+      at = table.now.at;
+      count = min table.now.count symbols;
+      entry = 2;
+    } }
 {
     let _ = table.entry();
     let count = table.len().min(symbols);

@@ -20,6 +20,7 @@ returns-then-header-ne-SHT_GNU_VERSYM g c = Lists-nothing _ _ _ _ (λ file held.
     no_table symbol_versions file _ _ _ _ (ne_eqb _ _ (λ same. c.if-header-ne-SHT_GNU_VERSYM.true (stands.sh_type ∙ same))))
 
 pub returns-then-header-eq0 : goal.returns-then-header-eq0
+unfolding symbol_versions
 returns-then-header-eq0 g c = Lists-nothing _ _ _ _ (λ file held.
     let stands = c.section-header.ensures.stands file (c.args.self.now.loaded.belongs file held) in
     let kind = sym stands.sh_type ∙ c.if-header-ne-SHT_GNU_VERSYM.false in
@@ -64,7 +65,7 @@ returns g c =
     let within = versioned-within f.store.now c.args.section f.loaded.size _ cap _ _ typed (sym c.in_ok-found.ensures.table) some (counts.linked some) counts.counted (counts.symbols some) in
     let fetches = c.in_ok-numbered.ensures.fetches in
     let same = fetches.0.same_style in
-    Lists-behind _ _ _ _ _ _ _ _ _ _ (rw same (omega (arith, within))) fetches c.versioned.ensures (λ file held.
+    Lists-behind _ _ _ c.in_ok-numbered.numbered _ _ _ _ _ _ (rw same (omega (arith, within))) fetches c.versioned.ensures (λ file held.
     let belongs = c.args.self.now.loaded.belongs file held in
     let stands = c.section-header.ensures.stands file belongs in
     let at = section_at file c.args.section in
