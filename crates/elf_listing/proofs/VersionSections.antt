@@ -73,7 +73,7 @@ module _ (file : List ℕ) (at : ℕ) (some : (sh_size file at == 0) ≡ false) 
         (rw some (first_refusal-none range (strings_checks file at) own.0 ∙ linked.0), ap (λ (n : Strings). strings_in file n) linked.1, sym own.1)
 
 -- what a new cursor gives are the records of the table
-left_all : (kind : VersionKind) (file : List ℕ) (head : ℕ) (table : Rows) (c : Walking) → StartsVersions kind head table c
+pub left_all : (kind : VersionKind) (file : List ℕ) (head : ℕ) (table : Rows) (c : Walking) → StartsVersions kind head table c
     → versions_left file c ≡ versions_in kind file head table.at table.count
 unfolding versions_in
 left_all kind file head table c starts =

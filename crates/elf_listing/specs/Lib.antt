@@ -8,5 +8,6 @@ pub mod Reports
 pub mod RowCursors
 pub mod Shows
 pub mod Strings
+pub mod SymbolVersions
 pub mod Versions
 pub mod Viewed

@@ -1,12 +1,11 @@
 -- The records of symbol versions, shown one after another.
-use Rattle.std.specs.Prelude.{ℕ, ◌≡◌, ◌+◌, ◌*◌, ◌/◌, ◌==◌, List, ◌++◌, Some, Result}
-use Rattle.elf_model.specs.Listing.{Item, VERSIONS}
-use Rattle.elf_model.specs.Records.{sh_size, sh_type}
+use Rattle.std.specs.Prelude.{ℕ, ◌≡◌, ◌+◌, ◌*◌, List, ◌++◌, Some, Result}
+use Rattle.elf_model.specs.Listing.{Item}
 use Rattle.elf_model.specs.Names.{name_bytes}
 use Rattle.elf_model.specs.Style.{Style}
-use Rattle.elf_model.specs.HeaderTables.{TableKind, each_entry}
+use Rattle.elf_model.specs.HeaderTables.{TableKind}
 use Rattle.elf_model.specs.Numbers.{SHT_GNU_VERDEF, SHT_GNU_VERNEED}
-use Rattle.elf_model.specs.VersionRows.{end_rows, met_rows, version_row, version_table, versions_rows}
+use Rattle.elf_model.specs.VersionRows.{end_rows, met_rows, version_records, version_row}
 use Rattle.elf_model.specs.Versions.{Met, Versions, record_size}
 use Rattle.elf_model.specs.declared.versions.VersionKind.{VersionKind}
 use Rattle.elf_model.specs.declared.versions.VersionKind.TheVariants.{Definition, File, Need}
@@ -48,13 +47,7 @@ abbrev pub kind_type : VersionKind → ℕ
 kind_type kind = elim kind [ Definition ↦ SHT_GNU_VERDEF | File ↦ SHT_GNU_VERNEED | Need ↦ SHT_GNU_VERNEED ]
 
 abbrev pub records_kind : VersionKind → TableKind
-records_kind kind = record {
-  part = VERSIONS;
-  has_table = λ bytes at. sh_type bytes at == kind_type kind;
-  checks = version_table;
-  asks = each_entry (λ bytes at. sh_size bytes at / record_size kind) (λ cap. bytes_each kind + name_bytes cap);
-  rows = versions_rows kind;
-}
+records_kind kind = version_records kind (kind_type kind) (record_size kind) (bytes_each kind)
 
 -- what a call did that shows the records of a section, where it holds records of a kind
 abbrev pub ListsVersions : {S W X : Type 0} {s : Sources S} {w : Sinks W} → Listing S W s w → Listing S W s w → Result X Stop → ℕ → VersionKind → Type 0

@@ -11,3 +11,8 @@ pub const FIXED_BYTES: usize = elf_table::BUFFER_BYTES
 
 /// The size in bytes of the digits of a note's descriptor, two for each byte that is shown.
 const DESCRIPTOR_TEXT_BYTES: usize = 64;
+
+/// The size in bytes of what [`crate::show`] holds beside where it lists the versions of symbols: the
+/// place of the name of each number, 8,192 at most. The bytes of a table of records are held where
+/// those of a table's rows are else.
+pub const VERSION_BYTES: usize = elf_versions::NUMBER_NAMES_BYTES;

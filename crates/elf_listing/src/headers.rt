@@ -51,7 +51,9 @@ impl<S: Source, W: Sink> Listing<'_, '_, '_, S, W> {
             Part::SegmentNotes => self.segment_notes(index),
             Part::SectionDynamic => self.section_dynamic(index),
             Part::SegmentDynamic => self.segment_dynamic(index),
-            _ => self.section_row(index),
+            Part::Definitions => self.definitions(index),
+            Part::Needs => self.needs(index),
+            Part::SymbolVersions => self.symbol_versions(index),
         }
     }
 }

@@ -16,10 +16,11 @@ mod rows;
 mod sections;
 mod segments;
 mod showing;
+mod symbol_versions;
 mod telling;
 mod versions;
 
-pub use buffers::FIXED_BYTES;
+pub use buffers::{FIXED_BYTES, VERSION_BYTES};
 pub use elf_lines::{
     cause_word, dynamic_front, note_front, relocation_front, section_front, segment_row, show_note,
     show_refusal, show_steps, show_symbol, show_told, symbol_front,

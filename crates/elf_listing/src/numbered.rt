@@ -32,8 +32,8 @@ impl<S: Source, W: Sink> Listing<'_, '_, '_, S, W> {
         section: u16,
         numbered: &Numbered,
     ) -> Result<(), Stop>
-        requires { RowFits self.old.src.now.seen.size (Versions section numbered.now) row.now }
-        ensures { ListsRow self.old self.new result (Versions section numbered.now) row.now }
+        requires { RowFits self.old.src.now.seen.size (Versions section numbered) row.now }
+        ensures { ListsRow self.old self.new result (Versions section numbered.entry) row.now }
     {
         let word = u16_at(row.bytes, 0);
         let end = self.read_version(numbered, word % (1 << 15), row.at)?;
@@ -42,12 +42,7 @@ impl<S: Source, W: Sink> Listing<'_, '_, '_, S, W> {
 
     /// Reads the name of a number, which is empty for 0 and 1. A refusal names `at`.
     #[tactic(auto, unfolding(crate::specs::Numbered::version_told))]
-    fn read_version(
-        &mut self,
-        numbered: &Numbered,
-        number: u16,
-        at: u64,
-    ) -> Result<NameEnd, Fault>
+    fn read_version(&mut self, numbered: &Numbered, number: u16, at: u64) -> Result<NameEnd, Fault>
         requires { NumberedWithin self.old.src.now.seen.size numbered.now }
         ensures { FetchesVersion self.old self.new result numbered.now number at }
     {

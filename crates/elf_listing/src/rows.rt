@@ -3,8 +3,8 @@ ghost use Rattle.elf_listing.specs.Kinds.{IsTableOf, ListsRow, ListsRows, RowFit
 
 use crate::dynamic_row::EntryStrings;
 use crate::listing::Listing;
-use crate::row_cursor::RowCursor;
 use crate::numbered::Numbered;
+use crate::row_cursor::RowCursor;
 use elf_source::{Sink, Source};
 use elf_table::{Names, Row, Stop, Table};
 

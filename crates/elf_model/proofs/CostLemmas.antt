@@ -5,7 +5,7 @@ use Rattle.std.proofs.lemmas.Bool.Decides.{nat_tests}
 use Rattle.std.proofs.lemmas.Bool.{ltb-false, eqb-true}
 use Rattle.std.proofs.lemmas.Nat.{le-div}
 use Rattle.std.specs.Prelude.{is_none}
-use Rattle.elf_model.specs.Records.{e_shnum, e_phnum, e_shstrndx, sh_type, sh_offset, sh_size, sh_link, sh_entsize, p_type, p_offset, p_filesz, section_at, segment_at}
+use Rattle.elf_model.specs.Records.{e_shnum, e_phnum, e_shstrndx, sh_type, sh_offset, sh_size, sh_link, sh_entsize, p_type, p_offset, p_filesz}
 use Rattle.elf_model.specs.Names.{name_bytes}
 use Rattle.elf_model.specs.Checks.{Check, refuse, first_refusal, pass, header_checks, early_checks, is_outside, is_symbol_table, range_checks_of, whole_checks_of, table_checks_of}
 use Rattle.elf_model.specs.declared.causes.Refusal.{Refusal}
@@ -60,13 +60,19 @@ pub cost_where-within : (condition : Bool) (amount bound : ℕ) → (condition �
 cost_where-within true amount bound h = h refl
 cost_where-within false amount bound h = omega arith
 
+-- entries are no more than those of 16 bytes would be
+fewer : (entry size table : ℕ) → 16 ≤ entry → table ≤ size → table / entry ≤ size / 16
+fewer entry size table e t =
+    let d : table / entry * entry ≤ table = div-mul-le_self table entry in
+    let m : table / entry * 16 ≤ table / entry * entry = mul-le-mul_left (table / entry) e in
+    le-div (table / entry) size 16 (omega arith) (omega arith)
+
 -- a table's size in entries, each at a cost
 entries_within : (entry further cap size table : ℕ) → 16 ≤ entry → further ≤ 32 + cap → table ≤ size
     → table / entry * (entry + further) ≤ size + size / 16 * (32 + cap)
 entries_within entry further cap size table e f t =
     let d : table / entry * entry ≤ table = div-mul-le_self table entry in
-    let few : table / entry * 16 ≤ size = let m : table / entry * 16 ≤ table / entry * entry = mul-le-mul_left (table / entry) e in omega arith in
-    let n : table / entry ≤ size / 16 = le-div (table / entry) size 16 (omega arith) few in
+    let n : table / entry ≤ size / 16 = fewer entry size table e t in
     let m : table / entry * further ≤ size / 16 * (32 + cap) = mul-le-mul n f in
     let s : table / entry * (entry + further) ≡ table / entry * entry + table / entry * further = mul-add (table / entry) entry further in
     omega arith
@@ -115,11 +121,7 @@ kind-le kind headers i size cap bound h =
 -- records of a table, each at a cost
 records_within : (entry each cap size table : ℕ) → 16 ≤ entry → each ≤ 32 + cap → table ≤ size → table / entry * each ≤ size + size / 16 * (32 + cap)
 records_within entry each cap size table e f t =
-    let d : table / entry * entry ≤ table = div-mul-le_self table entry in
-    let few : table / entry * 16 ≤ size = let m : table / entry * 16 ≤ table / entry * entry = mul-le-mul_left (table / entry) e in omega arith in
-    let n : table / entry ≤ size / 16 = le-div (table / entry) size 16 (omega arith) few in
-    let m : table / entry * each ≤ size / 16 * (32 + cap) = mul-le-mul n f in
-    omega arith
+    let m : table / entry * each ≤ size / 16 * (32 + cap) = mul-le-mul (fewer entry size table e t) f in omega arith
 
 -- one walk over records in a file of so many bytes
 walk_within : (headers : HeaderTable) (size type entry bytes : ℕ) → 16 ≤ entry → walk_cost headers size type entry bytes ≤ size / entry * bytes
@@ -136,6 +138,7 @@ walk_within headers size type entry bytes e = by_found (first_typed headers type
         within : (outside : Bool) → not outside ≡ true → pass (refuse outside 0 TableOutside ∷ []) ≡ true
         within true h = cc
         within false h = refl
+
     by_found : (found : Option ℕ)
         → (elim found as (λ _. ℕ) [ None ↦ 0 | Some i ↦ if is_inside headers i size then header_field headers sh_size i / entry * bytes else 0 ]) ≤ size / entry * bytes
     by_found None = omega arith
@@ -213,15 +216,12 @@ module _ (headers : HeaderTable) (i size cap : ℕ) where
   rows_fit h =
       let n : ℕ = name_bytes cap in
       let linked : ℕ = header_field headers sh_size (header_field headers sh_link i) in
-      let fits : linked ≤ size = linked_fits h in
-      let d : linked / 24 * 24 ≤ linked = div-mul-le_self linked 24 in
-      let few : linked / 24 ≤ size / 16 = le-div (linked / 24) size 16 (omega arith) (omega arith) in
+      let few : linked / 24 ≤ size / 16 = fewer 24 size linked (omega arith) (linked_fits h) in
       let least : versioned_rows headers i ≤ linked / 24 = omega arith in
       let rows : versioned_rows headers i * (2 + n) ≤ size / 16 * (2 + n) = mul-le-mul_right (2 + n) (omega arith) in
       let first = walk_within headers size SHT_GNU_VERDEF DEFINITION_SIZE (DEFINITION_SIZE + DEFINED_NAME_SIZE) (omega arith) in
       let second = walk_within headers size SHT_GNU_VERNEED NEED_SIZE NEED_SIZE (omega arith) in
-      let e : size / 20 * 20 ≤ size = div-mul-le_self size 20 in
-      let fewer : size / 20 ≤ size / 16 = le-div (size / 20) size 16 (omega arith) (omega arith) in
+      let fewest : size / 20 ≤ size / 16 = fewer 20 size size (omega arith) (omega arith) in
       let s : size / 16 * 16 ≤ size = div-mul-le_self size 16 in
       let sum : size / 16 * (32 + n) ≡ size / 16 * (2 + n) + size / 16 * 30 = ap (λ (k : ℕ). size / 16 * k) (omega arith) ∙ mul-add (size / 16) (2 + n) 30 in
       omega arith

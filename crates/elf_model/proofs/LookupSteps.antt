@@ -84,3 +84,15 @@ first_that-none test first zero before = refl
 first_that-none test first (suc count) before =
     let f : test first ≡ false = before first (omega arith) (omega arith) in
     rw (f, first_that) (first_that-none test (suc first) count (λ j l h. before j (omega arith) (omega arith)))
+
+-- a search that finds finds what it seeks
+pub first_that-holds : (test : ℕ → Bool) (first count i : ℕ) → first_that test first count ≡ Some i → (test i ≡ true) × (first ≤ i) × (i < first + count)
+unfolding first_that
+first_that-holds test first zero i h = cc
+first_that-holds test first (suc count) i h = by_test (first_that-holds test (suc first) count i) (test first) refl h
+  where
+    by_test : (first_that test (suc first) count ≡ Some i → (test i ≡ true) × (suc first ≤ i) × (i < suc first + count)) → (passes : Bool) → test first ≡ passes
+        → (elim passes as (λ _. Option ℕ) [ true ↦ Some first | false ↦ first_that test (suc first) count ]) ≡ Some i
+        → (test i ≡ true) × (first ≤ i) × (i < first + suc count)
+    by_test more true t h = let same : first ≡ i = cc in (rw (← same) t, omega arith, omega arith)
+    by_test more false t h = let f = more h in (f.0, omega (arith, f.1), omega (arith, f.2))

@@ -18,6 +18,7 @@ use Rattle.elf_model.specs.VersionRows.{version_definitions, version_needs, symb
 use Rattle.elf_model.specs.Versions.{DEFINITION_SIZE, DEFINED_NAME_SIZE, NEED_SIZE}
 use Rattle.elf_model.specs.Cost.{sum_over, cost_where, table_cost, kinds_cost, tables_cost, ceiling}
 use Rattle.elf_model.specs.CostLaws.{PlacesDecideNothing, RowsCostWhatTheFileCosts, SegmentsCostWhatTheFileCosts, kind_by_kind, TablesCostKindByKind, AnyRowsAreWithinCeiling, AnySegmentsAreWithinCeiling}
+use Rattle.elf_model.proofs.LookupSteps.{first_that-holds}
 use Rattle.elf_model.proofs.CostLemmas.{table_bound, section_kinds-le, segment_kinds-le, headers_within, sum_over-le, tables_by, headers_some}
 
 -- checks that pass for one place pass for another
@@ -77,16 +78,6 @@ first_that-equal test other first (suc count) h =
     ap (λ passes. elim passes as (λ _. Option ℕ) [ true ↦ Some first | false ↦ first_that test (suc first) count ]) here
     ∙ ap (λ (rest : Option ℕ). elim (other first) as (λ _. Option ℕ) [ true ↦ Some first | false ↦ rest ]) more
 
-first_that-below : (test : ℕ → Bool) (first count i : ℕ) → first_that test first count ≡ Some i → i < first + count
-unfolding first_that
-first_that-below test first zero i h = cc
-first_that-below test first (suc count) i h = by_test (first_that-below test (suc first) count i) (test first) h
-  where
-    by_test : (first_that test (suc first) count ≡ Some i → i < suc first + count) → (passes : Bool)
-        → (elim passes as (λ _. Option ℕ) [ true ↦ Some first | false ↦ first_that test (suc first) count ]) ≡ Some i → i < first + suc count
-    by_test more true h = let same : first ≡ i = cc in omega arith
-    by_test more false h = let below = more h in omega arith
-
 -- The section headers of a file, each held in bytes of its own.
 module _ (file : List ℕ) (row : ℕ → List ℕ) (is : (i : ℕ) → i < e_shnum file → row i ≡ slice file (section_at file i) SECTION_HEADER_SIZE) where
   abbrev held : HeaderTable
@@ -141,8 +132,8 @@ module _ (file : List ℕ) (row : ℕ → List ℕ) (is : (i : ℕ) → i < e_sh
           ≡ (elim found as (λ _. ℕ) [ None ↦ 0 | Some i ↦ if is_inside all i size then header_field all sh_size i / entry * bytes else 0 ])
       by_found None f = refl
       by_found (Some i) f =
-          let few = first_that-below (λ i. header_field all sh_type i == type) 0 (e_shnum file) i f in
-          let below : i < e_shnum file = omega arith in
+          let few = first_that-holds (λ i. header_field all sh_type i == type) 0 (e_shnum file) i f in
+          let below : i < e_shnum file = omega (arith, few.2) in
           rw (inside_held i size below, size_held i below) refl
 
   walks_held : (size : ℕ) → walks_cost held size ≡ walks_cost all size

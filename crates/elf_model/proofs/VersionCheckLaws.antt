@@ -1,11 +1,10 @@
 -- The checks before the rows of version numbers are those that a cost counts by the headers.
 use Rattle.std.proofs.Common.{◌≡◌, ℕ, ◌==◌, ◌&&◌, ◌||◌, nat_lt, not, if◌then◌else◌, Bool, true, false, List, [], ◌∷◌, ◌++◌, length, refl, ap, ap₂, sym, ◌∙◌}
-use Rattle.std.specs.Prelude.{is_none}
-use Rattle.elf_model.specs.Checks.{Check, pass, first_refusal, refuse, unless_empty, is_outside, is_symbol_table, table_checks, strings_checks}
-use Rattle.elf_model.specs.HeaderTables.{HeaderTable, file_sections, header_field}
+use Rattle.elf_model.specs.Checks.{Check, pass, refuse, unless_empty, is_outside, is_symbol_table, table_checks, strings_checks}
+use Rattle.elf_model.specs.HeaderTables.{file_sections}
 use Rattle.elf_model.specs.Records.{e_shnum, sh_type, sh_offset, sh_size, sh_link, section_at}
 use Rattle.elf_model.specs.Tables.{symbol_table_checks}
-use Rattle.elf_model.specs.VersionCost.{has_strings, has_symbol_table, is_inside}
+use Rattle.elf_model.specs.VersionCost.{has_strings, has_symbol_table}
 use Rattle.elf_model.specs.VersionLaws.{CheckedRowsAreCounted}
 use Rattle.elf_model.specs.VersionRows.{symbol_versions, symbols_checks}
 use Rattle.elf_model.specs.Versions.{VERSYM_SIZE}

@@ -1,11 +1,10 @@
 -- Where the rows of definitions and needs have no fault, the name of each number is shown.
-use Rattle.std.proofs.Common.{◌≡◌, ℕ, zero, suc, ◌+◌, ◌<◌, ◌≤◌, ◌==◌, nat_lt, Bool, true, false, if◌then◌else◌, List, [], ◌∷◌, ◌++◌, All, Option, None, Some, Result, Ok, Err, refl, ap, sym, ◌∙◌, arith, inl, inr}
+use Rattle.std.proofs.Common.{◌≡◌, ℕ, zero, suc, ◌+◌, ◌<◌, ◌≤◌, ◌==◌, nat_lt, Bool, true, false, if◌then◌else◌, List, [], ◌∷◌, ◌++◌, All, Option, None, Some, Result, Ok, Err, refl, sym, ◌∙◌, arith, inl, inr}
 use Rattle.std.proofs.lemmas.Bool.{cases_Bool}
 use Rattle.std.proofs.lemmas.List.Elements.{All-nil, All-cons, All-head, All-tail, All-append}
 use Rattle.std.specs.Result.{is_ok}
 use Rattle.elf_model.specs.Checks.{Check, first_refusal}
-use Rattle.elf_model.specs.Find.{first_that}
-use Rattle.elf_model.specs.HeaderTables.{TableKind, file_sections, first_typed, header_field}
+use Rattle.elf_model.specs.HeaderTables.{TableKind, file_sections, header_field}
 use Rattle.elf_model.specs.Listing.{Item, Line, Fault, fault_of, guarded, each}
 use Rattle.elf_model.specs.Names.{Shown, shown}
 use Rattle.elf_model.specs.Numbers.{SHT_GNU_VERDEF, SHT_GNU_VERNEED}
@@ -16,12 +15,13 @@ use Rattle.elf_model.specs.Style.{Style}
 use Rattle.elf_model.specs.Tables.{all_checks, strings_of}
 use Rattle.elf_model.specs.VersionLaws.{NamesOfNumbersAreShown, records_rows}
 use Rattle.elf_model.specs.VersionRows.{version_row, met_rows, versions_rows, end_rows, section_versions, first_of_type, first_versions, first_strings, version_named, version_strings, version_definitions, version_needs}
-use Rattle.elf_model.specs.Versions.{Met, Stand, Versions, along, along_needs, behind, met_at, met_from, versions_in, first_stand, most_records, names_number, named_by, name_index, named_at, next_word, record_checks, version_of}
+use Rattle.elf_model.specs.Versions.{Met, Stand, along, along_needs, behind, met_at, met_from, versions_in, first_stand, most_records, names_number, named_by, name_index, named_at, next_word, record_checks, version_of}
 use Rattle.elf_model.specs.declared.causes.Cause.{Cause}
 use Rattle.elf_model.specs.declared.causes.Refusal.{Refusal}
 use Rattle.elf_model.specs.declared.versions.VersionKind.{VersionKind}
 use Rattle.elf_model.specs.declared.versions.VersionKind.TheVariants.{Definition, File, Need}
-use Rattle.elf_model.proofs.ListingLemmas.{nothing_behind, listings_append}
+use Rattle.elf_model.proofs.LookupSteps.{first_that-holds}
+use Rattle.elf_model.proofs.ListingLemmas.{listings_append}
 use Rattle.elf_model.proofs.VersionLaws.{named-here, named-later, named-none}
 use Rattle.elf_model.proofs.VersionSteps.{met-ended, met-most, met-record, met-refused}
 
@@ -34,7 +34,7 @@ front-none (Fault refusal ∷ front) back h = cc
 pub back-none : (front back : List Item) → fault_of (front ++ back) ≡ None → fault_of back ≡ None
 back-none front back h = sym (listings_append front back (front-none front back h)).1 ∙ h
 
-each-none : (row : ℕ → List Item) (first count i : ℕ) → fault_of (each row first count) ≡ None → first ≤ i → i < first + count → fault_of (row i) ≡ None
+pub each-none : (row : ℕ → List Item) (first count i : ℕ) → fault_of (each row first count) ≡ None → first ≤ i → i < first + count → fault_of (row i) ≡ None
 unfolding each
 each-none row first zero i h low high = absurd (omega arith)
 each-none row first (suc count) i h low high =
@@ -84,7 +84,7 @@ met-none kind file style section at h =
     front-none (met_rows file style section (strings_of file at) (section_versions kind file at).met) (end_rows (section_versions kind file at).cut) h
 
 -- the records of a table of definitions are definitions; those of a table of needs are none
-abbrev IsDefinition : VersionKind → Bool
+abbrev pub IsDefinition : VersionKind → Bool
 IsDefinition Definition = true
 IsDefinition File = false
 IsDefinition Need = false
@@ -147,7 +147,7 @@ first-stands kind head size = by_size (size == 0)
     by_size true = tt
     by_size false = refl
 
-table-kinds : (kind : VersionKind) (file : List ℕ) (at : ℕ)
+pub table-kinds : (kind : VersionKind) (file : List ℕ) (at : ℕ)
     → All (λ (m : Met). IsDefinition m.kind ≡ IsDefinition kind) (section_versions kind file at).met
 unfolding versions_in
 table-kinds kind file at =
@@ -180,18 +180,6 @@ both-named file cap kind (met ∷ others) shown_ kinds =
     (both-named file cap kind others (All-tail (IsShown file cap (version_strings file kind)) met others shown_)
     (All-tail (λ (m : Met). IsDefinition m.kind ≡ IsDefinition kind) met others kinds))
 
--- a search that finds finds what it seeks
-first_that-holds : (test : ℕ → Bool) (first count i : ℕ) → first_that test first count ≡ Some i → (test i ≡ true) × (first ≤ i) × (i < first + count)
-unfolding first_that
-first_that-holds test first zero i h = cc
-first_that-holds test first (suc count) i h = by_test (first_that-holds test (suc first) count i) (test first) refl h
-  where
-    by_test : (first_that test (suc first) count ≡ Some i → (test i ≡ true) × (suc first ≤ i) × (i < suc first + count)) → (passes : Bool) → test first ≡ passes
-        → (elim passes as (λ _. Option ℕ) [ true ↦ Some first | false ↦ first_that test (suc first) count ]) ≡ Some i
-        → (test i ≡ true) × (first ≤ i) × (i < first + suc count)
-    by_test more true t h = let same : first ≡ i = cc in (rw (← same) t, omega arith, omega arith)
-    by_test more false t h = let f = more h in (f.0, omega (arith, f.1), omega (arith, f.2))
-
 -- the records of the first section of a type, where the rows of all such sections have no fault
 module _ (file : List ℕ) (style : Style) (kind : VersionKind) (type : ℕ) (table : TableKind)
     (is_typed : (at : ℕ) → table.has_table file at ≡ (sh_type file at == type)) (is_listed : (i at : ℕ) → table.rows file style i at ≡ versions_rows kind file style i at)
@@ -214,7 +202,7 @@ module _ (file : List ℕ) (style : Style) (kind : VersionKind) (type : ℕ) (ta
           both-named file style.cap kind (section_versions kind file at).met (rw told at all) (table-kinds kind file at)
 
 -- a record that names a number is one of those
-named-is : (file : List ℕ) (number : ℕ) (P : Met → Type 0) (records : List Met) (met : Met) → All P records → named_by file number records ≡ Some met → P met
+pub named-is : (file : List ℕ) (number : ℕ) (P : Met → Type 0) (records : List Met) (met : Met) → All P records → named_by file number records ≡ Some met → P met
 named-is file number P [] met all e = let n = named-none file number in absurd (cc)
 named-is file number P (first ∷ records) met all e =
     elim (cases_Bool (names_number file number first)) [

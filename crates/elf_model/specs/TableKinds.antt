@@ -11,9 +11,9 @@ use Rattle.elf_model.specs.Names.{name_bytes}
 use Rattle.elf_model.specs.Style.{Style}
 use Rattle.elf_model.specs.Notes.{note_align, walked}
 use Rattle.elf_model.specs.Numbers.{SHT_RELA, SHT_NOTE, SHT_DYNAMIC, PT_NOTE, PT_DYNAMIC}
-use Rattle.elf_model.specs.Records.{e_shnum, e_phnum, sh_type, sh_offset, sh_size, sh_addralign, p_type, p_offset, p_filesz, p_align, section_at, segment_at}
+use Rattle.elf_model.specs.Records.{e_shnum, sh_type, sh_offset, sh_size, sh_addralign, p_type, p_offset, p_filesz, p_align}
 use Rattle.elf_model.specs.Rows.{symbol_row, relocation_row, walk_rows, dynamic_row}
-use Rattle.elf_model.specs.Tables.{SYMBOL_SIZE, RELA_SIZE, DYNAMIC_SIZE, TableChecks, nothing_linked, symbol_table, relocation_table, dynamic_table, dynamic_segment, strings_of, entry_count}
+use Rattle.elf_model.specs.Tables.{SYMBOL_SIZE, RELA_SIZE, DYNAMIC_SIZE, nothing_linked, symbol_table, relocation_table, dynamic_table, dynamic_segment, strings_of, entry_count}
 use Rattle.elf_model.specs.VersionRows.{version_kinds}
 use Rattle.elf_model.specs.declared.causes.Refusal.{Refusal}
 

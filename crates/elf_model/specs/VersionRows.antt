@@ -5,7 +5,7 @@ use Rattle.elf_model.specs.HeaderTables.{TableKind, each_entry, file_sections, f
 use Rattle.elf_model.specs.Listing.{Item, Fault, VERSIONS, each}
 use Rattle.elf_model.specs.Names.{shown, name_bytes}
 use Rattle.elf_model.specs.Numbers.{SHT_GNU_VERDEF, SHT_GNU_VERNEED, SHT_GNU_VERSYM}
-use Rattle.elf_model.specs.Records.{e_shnum, sh_type, sh_offset, sh_size, sh_link, section_at, versym}
+use Rattle.elf_model.specs.Records.{sh_type, sh_offset, sh_size, sh_link, section_at, versym}
 use Rattle.elf_model.specs.Rows.{named_row, no_name, refused_row}
 use Rattle.elf_model.specs.Style.{Style}
 use Rattle.elf_model.specs.Tables.{SYMBOL_SIZE, TableChecks, section_table, linked_at, strings_of, entry_count, entry_at, has_symbols, symbol_table_checks}
@@ -140,7 +140,7 @@ version_table = record {
 
 -- definitions or needs (Linux Standard Base Core, Symbol Versioning), each with its name: their kind, the type of the sections,
 -- the size of a record, and how many bytes one asks for beside its name
-abbrev version_records : VersionKind → (type size bytes : ℕ) → TableKind
+abbrev pub version_records : VersionKind → (type size bytes : ℕ) → TableKind
 version_records kind type size bytes = record {
   part = VERSIONS;
   has_table = λ bytes at. sh_type bytes at == type;

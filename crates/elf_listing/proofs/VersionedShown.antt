@@ -1,0 +1,223 @@
+-- The rows of symbols' versions are those of the numbers' names, where the names of all records are shown.
+use Rattle.std.proofs.Common.{◌≡◌, ℕ, zero, suc, ◌+◌, ◌*◌, ◌/◌, ◌<◌, ◌≤◌, ◌==◌, ◌&&◌, not, nat_lt, min, if◌then◌else◌, Bool, true, false, ◌⊎◌, inl, inr, List, [], ◌∷◌, ◌++◌, length, Option, None, Some, Result, Ok, Err, refl, sym, ap, ◌∙◌, subst, arith, append-nil}
+use Rattle.std.proofs.lemmas.Bool.{cases_Bool}
+use Rattle.std.proofs.lemmas.List.Elements.{All-nil}
+use Rattle.std.specs.Prelude.{All}
+use Rattle.std.specs.Prelude.{is_none}
+use Rattle.std.specs.Result.{is_ok}
+use Rattle.elf_model.specs.Checks.{first_refusal, pass, table_checks_of}
+use Rattle.elf_model.specs.Cost.{cost_where, table_cost}
+use Rattle.elf_model.specs.HeaderTables.{HeaderTable, TableKind, file_sections, first_typed, header_field}
+use Rattle.elf_model.specs.Listing.{Item, Fault as FaultItem, each, fault_of}
+use Rattle.elf_model.specs.Names.{Shown, name_bytes, shown}
+use Rattle.elf_model.specs.Numbers.{SHT_GNU_VERDEF, SHT_GNU_VERNEED}
+use Rattle.elf_model.specs.Records.{e_shnum, sh_offset, sh_size, sh_type, section_at, versym}
+use Rattle.elf_model.specs.Report.{kinds_rows, table_rows}
+use Rattle.elf_model.specs.Rows.{named_row, refused_row}
+use Rattle.elf_model.specs.Style.{Style}
+use Rattle.elf_model.specs.Tables.{all_checks, entry_count, strings_of}
+use Rattle.elf_model.specs.VersionCost.{has_symbol_table, versioned_cost, versioned_rows, walk_cost, walks_cost, is_inside}
+use Rattle.elf_model.specs.VersionLaws.{records_rows}
+use Rattle.elf_model.specs.VersionRows.{end_rows, first_of_type, first_strings, first_versions, met_rows, numbered_row, section_versions, symbol_version_front, symbol_version_row, symbol_version_rows, symbol_versions, version_definitions, version_named, version_needs, version_strings, version_table, versioned_symbols, versions_rows}
+use Rattle.elf_model.specs.Versions.{VERSYM_SIZE, Met, Versions, named_by, name_index, named_at, number_in, version_of, versions_in, met_from}
+use Rattle.elf_model.specs.declared.causes.Cause.{Cause}
+use Rattle.elf_model.specs.declared.causes.Cause.TheVariants.{VersionCut, VersionIndex}
+use Rattle.elf_model.specs.declared.causes.Refusal.{Refusal}
+use Rattle.elf_model.specs.declared.versions.VersionKind.{VersionKind}
+use Rattle.elf_model.specs.declared.versions.VersionKind.TheVariants.{Definition, File, Need}
+use Rattle.elf_model.proofs.VersionNameLaws.{IsDefinition, back-none, each-none, front-none, named-is, names_are_shown, table-kinds}
+use Rattle.elf_model.proofs.LookupSteps.{first_that-holds}
+use Rattle.elf_versions.specs.NumberNames.{NameIs, Names, name_at}
+use Rattle.elf_versions.specs.declared.number_names.NameAt.{NameAt}
+use Rattle.elf_versions.specs.declared.number_names.NameAt.TheVariants.{Nowhere, Defined, Needed}
+use Rattle.elf_table.specs.Tables.{Rows, Strings, strings_in}
+use Rattle.elf_headers.specs.Stops.{stop_of}
+use Rattle.elf_headers.specs.declared.fault.Fault.{Fault}
+use Rattle.elf_headers.specs.declared.fault.Fault.TheVariants.{Refused, Source}
+use Rattle.elf_headers.specs.declared.stop.Stop.{Stop}
+use Rattle.elf_source.specs.Output.{Written}
+use Rattle.elf_source.specs.declared.source.Source.{Ghosts as Sources}
+use Rattle.elf_source.specs.declared.sink.Sink.{Ghosts as Sinks}
+use Rattle.elf_listing.specs.Shows.{EndsRefused, Fetches, Lists, Stopped, WroteItems}
+use Rattle.elf_listing.specs.declared.listing.Listing.{Listing}
+use Rattle.elf_listing.proofs.ListsLaws.{SameFile-then}
+use Rattle.elf_listing.proofs.RowLaws.{Ends-first, Front-none}
+use Rattle.elf_listing.proofs.ShowLaws.{Spent-then, Whole-none}
+use Rattle.elf_listing.proofs.SectionShown.{table_passes}
+use Rattle.elf_listing.specs.Numbered.{told_row, version_told}
+use Rattle.elf_listing.specs.SymbolVersions.{AreNumbered, IsNoCheck, IsWhole, versioned_items}
+use Rattle.elf_listing.specs.Versions.{kind_type}
+use Rattle.elf_listing.specs.declared.numbered.Numbered.{Numbered}
+
+-- rows without a fault have checks that pass, and no record that is refused
+passes-none : (checks : Option Refusal) (members : List Item)
+    → fault_of (elim checks as (λ _. List Item) [ None ↦ members | Some refusal ↦ FaultItem refusal ∷ [] ]) ≡ None → (checks ≡ None) × (fault_of members ≡ None)
+passes-none None members h = (refl, h)
+passes-none (Some refusal) members h = cc
+
+cut-none : (cut : Option Refusal) → fault_of (end_rows cut) ≡ None → cut ≡ None
+cut-none None h = refl
+cut-none (Some refusal) h = cc
+
+section-whole : (kind : VersionKind) (table : TableKind) (file : List ℕ) (style : Style) (i at : ℕ) → table.has_table file at ≡ true
+    → table.rows file style i at ≡ versions_rows kind file style i at → fault_of (table_rows table file style i at) ≡ None
+    → (first_refusal (all_checks table.checks file at) ≡ None) × ((section_versions kind file at).cut ≡ None)
+unfolding table_rows versions_rows
+section-whole kind table file style i at has rows h =
+    let passes = passes-none (first_refusal (all_checks table.checks file at)) (table.rows file style i at) (rw (has, table_rows) at h) in
+    let none = rw (rows, versions_rows) at passes.1 in
+    let versions = section_versions kind file at in
+    (passes.0, cut-none versions.cut (back-none (met_rows file style i (strings_of file at) versions.met) (end_rows versions.cut) none))
+
+pub definitions-whole : (file : List ℕ) (style : Style) → fault_of (records_rows file style) ≡ None → IsWhole file Definition
+unfolding kinds_rows version_definitions version_needs
+definitions-whole file style h = λ i first.
+    let rows : List Item = each (λ i. table_rows version_definitions file style i (section_at file i)) 0 (e_shnum file) in
+    let others : List Item = each (λ i. table_rows version_needs file style i (section_at file i)) 0 (e_shnum file) in
+    let there = first_that-holds (λ i. header_field (file_sections file) sh_type i == SHT_GNU_VERDEF) 0 (e_shnum file) i first in
+    let row = each-none (λ i. table_rows version_definitions file style i (section_at file i)) 0 (e_shnum file) i (front-none rows (others ++ []) h) there.1 there.2 in
+    section-whole Definition version_definitions file style i (section_at file i) there.0 refl row
+
+pub needs-whole : (file : List ℕ) (style : Style) → fault_of (records_rows file style) ≡ None → IsWhole file File
+unfolding kinds_rows version_definitions version_needs
+needs-whole file style h = λ i first.
+    let others : List Item = each (λ i. table_rows version_definitions file style i (section_at file i)) 0 (e_shnum file) in
+    let rows : List Item = each (λ i. table_rows version_needs file style i (section_at file i)) 0 (e_shnum file) in
+    let there = first_that-holds (λ i. header_field (file_sections file) sh_type i == SHT_GNU_VERNEED) 0 (e_shnum file) i first in
+    let row = each-none (λ i. table_rows version_needs file style i (section_at file i)) 0 (e_shnum file) i (front-none rows [] (back-none others (rows ++ []) h)) there.1 there.2 in
+    section-whole File version_needs file style i (section_at file i) there.0 refl row
+
+-- a name that is shown makes one row, wherever its fault would be
+shown-anywhere : (front : List ℕ) (at other : ℕ) (name : Result Shown Cause) → is_ok name ≡ true → named_row front at name ≡ named_row front other name
+shown-anywhere front at other (Ok name) h = refl
+shown-anywhere front at other (Err cause) h = cc
+
+-- all records of the first section of a type are of one kind
+first-kinds : (kind : VersionKind) (type : ℕ) (file : List ℕ) → All (λ (m : Met). IsDefinition m.kind ≡ IsDefinition kind) (first_versions kind type file)
+first-kinds kind type file = by_found (first_of_type file type)
+  where
+    by_found : (found : Option ℕ)
+        → All (λ (m : Met). IsDefinition m.kind ≡ IsDefinition kind) (elim found as (λ _. List Met) [ None ↦ [] | Some i ↦ (section_versions kind file (section_at file i)).met ])
+    by_found None = All-nil _
+    by_found (Some i) = table-kinds kind file (section_at file i)
+
+-- so a number that a definition names is not one of the needs, nor the other way round
+some-definitions : (file : List ℕ) (number : ℕ) (definitions : List Met) (met : Met) → named_by file number (definitions ++ first_versions File SHT_GNU_VERNEED file) ≡ Some met
+    → met.kind ≡ Definition → definitions ≡ [] → ⊥
+some-definitions file number definitions met named kind none =
+    let needs = first_versions File SHT_GNU_VERNEED file in
+    let found : named_by file number needs ≡ Some met = rw none at named in
+    let is = named-is file number (λ (m : Met). IsDefinition m.kind ≡ false) needs met (first-kinds File SHT_GNU_VERNEED file) found in
+    let other = rw kind at is in cc
+
+some-needs : (file : List ℕ) (number : ℕ) (needs : List Met) (met : Met) → named_by file number (first_versions Definition SHT_GNU_VERDEF file ++ needs) ≡ Some met
+    → met.kind ≡ Need → needs ≡ [] → ⊥
+some-needs file number needs met named kind none =
+    let definitions = first_versions Definition SHT_GNU_VERDEF file in
+    let found : named_by file number definitions ≡ Some met = ap (named_by file number) (sym (ap (λ (n : List Met). definitions ++ n) none ∙ append-nil definitions)) ∙ named in
+    let is = named-is file number (λ (m : Met). IsDefinition m.kind ≡ true) definitions met (first-kinds Definition SHT_GNU_VERDEF file) found in
+    let other = rw kind at is in cc
+
+strings-defined : (file : List ℕ) (kind : VersionKind) → kind ≡ Definition → version_strings file kind ≡ first_strings SHT_GNU_VERDEF file
+unfolding version_strings
+strings-defined file kind is = rw is refl
+
+strings-needed : (file : List ℕ) (kind : VersionKind) → kind ≡ Need → version_strings file kind ≡ first_strings SHT_GNU_VERNEED file
+unfolding version_strings
+strings-needed file kind is = rw is refl
+
+module _ (file : List ℕ) (style : Style) (numbered : Numbered) (are : AreNumbered file numbered) (no_fault : fault_of (records_rows file style) ≡ None) (front : List ℕ) (entry number : ℕ) where
+  all : List Met
+  all = first_versions Definition SHT_GNU_VERDEF file ++ first_versions File SHT_GNU_VERNEED file
+
+  abbrev told : NameAt → Result Shown Cause
+  told name = elim name [
+    | Nowhere ↦ Err VersionIndex
+    | Defined index ↦ shown (strings_in file numbered.defined) index style.cap
+    | Needed index ↦ shown (strings_in file numbered.needed) index style.cap
+  ]
+
+  abbrev listed : Option Met → List Item
+  listed named = elim named [
+    | None ↦ refused_row entry VersionIndex
+    | Some met ↦ named_row front (named_at file met) (shown (version_strings file met.kind) (name_index file met) style.cap)
+  ]
+
+  by_name : (few : nat_lt number 2 ≡ false) (named : Option Met) → named_by file number all ≡ named → (name : NameAt) → NameIs file named name → named_row front entry (told name) ≡ listed named
+  unfolding all version_named version_of
+  by_name few None is Nowhere fits = refl
+  by_name few None is (Defined index) fits = absurd fits
+  by_name few None is (Needed index) fits = absurd fits
+  by_name few (Some met) is Nowhere fits = absurd fits
+  by_name few (Some met) is (Defined index) fits =
+      let strings : strings_in file numbered.defined ≡ version_strings file met.kind =
+      are.defined (some-definitions file number (first_versions Definition SHT_GNU_VERDEF file) met is fits.0) ∙ sym (strings-defined file met.kind fits.0) in
+      let ok = names_are_shown file style number met no_fault (rw few is) in
+      rw (strings, fits.1) (shown-anywhere front entry (named_at file met) _ ok)
+  by_name few (Some met) is (Needed index) fits =
+      let strings : strings_in file numbered.needed ≡ version_strings file met.kind =
+      are.needed (some-needs file number (first_versions File SHT_GNU_VERNEED file) met is fits.0) ∙ sym (strings-needed file met.kind fits.0) in
+      let ok = names_are_shown file style number met no_fault (rw few is) in
+      rw (strings, fits.1) (shown-anywhere front entry (named_at file met) _ ok)
+
+  pub number-is : named_row front entry (version_told numbered file style.cap number) ≡ numbered_row file style front entry number
+  unfolding version_told numbered_row version_named version_of all
+  number-is = elim (cases_Bool (nat_lt number 2)) [
+    | inl few ↦ rw few refl
+    | inr many ↦ rw many (by_name many (named_by file number all) refl (name_at numbered.names number) (are.names number))
+  ]
+
+-- the row of an entry
+pub entry-is : (file : List ℕ) (style : Style) (numbered : Numbered) → AreNumbered file numbered → fault_of (records_rows file style) ≡ None → (section at index : ℕ)
+    → told_row file style numbered section (sh_offset file at + index * VERSYM_SIZE) index ≡ symbol_version_row file style section at index
+unfolding told_row symbol_version_row
+entry-is file style numbered are no_fault section at index =
+    let place : sh_offset file at + index * 2 ≡ sh_offset file at + 2 * index = omega arith in
+    rw place
+    (number-is file style numbered are no_fault (symbol_version_front section index (versym file (sh_offset file at + 2 * index))) (sh_offset file at + 2 * index)
+    (number_in (versym file (sh_offset file at + 2 * index))))
+
+each-equal : (row other : ℕ → List Item) (first count : ℕ) → ((i : ℕ) → row i ≡ other i) → each row first count ≡ each other first count
+unfolding each
+each-equal row other first zero same = refl
+each-equal row other first (suc count) same = let one = same first in let more = each-equal row other (suc first) count same in cc
+
+-- the rows of a section
+pub rows-are : (file : List ℕ) (style : Style) (numbered : Numbered) → AreNumbered file numbered → fault_of (records_rows file style) ≡ None
+    → (section at : ℕ) (table : Rows) (symbols : ℕ) → (sh_size file at == 0) ≡ false → table.at ≡ sh_offset file at → table.count ≡ entry_count file at VERSYM_SIZE
+    → symbols ≡ versioned_symbols file at
+    → symbol_version_rows file style section at ≡ versioned_items file style numbered section table symbols at
+unfolding symbol_version_rows versioned_items
+rows-are file style numbered are no_fault section at table symbols some place count linked =
+    rw (some, place, count, linked)
+    (ap (λ (rows : List Item). rows ++ (if nat_lt (entry_count file at VERSYM_SIZE) (versioned_symbols file at) then refused_row at VersionCut else []))
+    (sym (each-equal (λ i. told_row file style numbered section (sh_offset file at + i * VERSYM_SIZE) i) (symbol_version_row file style section at) 0
+    (min (entry_count file at VERSYM_SIZE) (versioned_symbols file at)) (entry-is file style numbered are no_fault section at))))
+
+-- a call that writes behind one that reads, in a bound on both
+pub Lists-behind : {S W X Y : Type 0} {s : Sources S} {w : Sinks W} (a b c : Listing S W s w) (y : Y) (result : Result X Stop) (n m k : ℕ) (read shown : Type 0)
+    → n + m ≤ k → Fetches a b (Ok y) n → Lists b c result m read → shown → Lists a c result k shown
+Lists-behind a b c y result n m k read shown within p q is = record {
+  grows = rw (← p.1) q.grows;
+  keeps = SameFile-then p.0 q.keeps;
+  spent = Spent-then _ _ _ _ _ _ _ _ _ _ _ within p.2 q.spent;
+  shows = is;
+}
+
+-- a fault that is no check's stops before all items
+pub Stopped-no-check : (a : Written) (fault : Fault) (all : List Item) → IsNoCheck fault → Stopped a a (stop_of fault) all
+Stopped-no-check a (Refused refusal) all is = Ends-first a refusal all (λ other. absurd (is other))
+Stopped-no-check a (Source fault at) all is = Front-none a all
+
+-- the refusal behind rows that were written
+pub Ends-behind : (a b : Written) (refusal : Refusal) (rows : List Item) → WroteItems a b rows → EndsRefused a b refusal (rows ++ FaultItem refusal ∷ [])
+Ends-behind a b refusal rows wrote = record {
+  front = record { front = rows; rest = FaultItem refusal ∷ []; split = refl; takes = wrote.takes; no_fault = wrote.no_fault };
+  next = λ other. record { behind = []; is_next = refl };
+}
+
+-- those of an empty section
+pub empty-is : (file : List ℕ) (style : Style) (section : ℕ) (a : Written) (at : ℕ) → symbol_versions.has_table file at ≡ true → sh_size file at ≡ 0
+    → WroteItems a a (table_rows symbol_versions file style section at)
+unfolding symbol_versions symbol_version_rows
+empty-is file style section a at has empty = rw (table_passes symbol_versions file style section at has (rw empty refl)) (rw empty (Whole-none a))

@@ -1,0 +1,72 @@
+-- The definitions are taken in before the needs.
+use Rattle.std.proofs.Common.{rules, ◌≡◌, ◌+◌, [], refl, ◌∙◌, arith}
+use Rattle.std.proofs.lemmas.Result.{err_from_is_err_and}
+use Rattle.elf_model.specs.VersionCost.{walks_cost}
+use Rattle.elf_model.specs.declared.versions.VersionKind.TheVariants.{Definition, File}
+use Rattle.elf_model.specs.Numbers.{SHT_GNU_VERDEF}
+use Rattle.elf_model.specs.VersionRows.{first_versions}
+use Rattle.elf_names.proofs.SpendsLaws.{Spends-then, Spends-to}
+use Rattle.elf_source.proofs.ReadsLaws.{Reads-none}
+use Rattle.elf_listing.proofs.ListsLaws.{SameFile-then}
+use Rattle.elf_listing.proofs.VersionedCosts.{Says-account}
+use Rattle.elf_listing.proofs.listing.Listing.numbered.Goals as goal
+
+pub returns-in_err-defined : goal.returns-in_err-defined
+unfolding walks_cost
+returns-in_err-defined g c =
+    let p = err_from_is_err_and c.from_residual.result c.from_residual.ensures.1 in
+    let taken = c.in_err-defined.ensures in
+    let account = taken.fetches.2.account in
+    rw (p.1, p.2)
+    (record {
+      fetches = (taken.fetches.0, taken.fetches.1, Spends-to taken.fetches.2 (omega (arith, account)), Says-account _ _ _ _ 0 _ _ (omega arith) (Reads-none _ 0) taken.fetches.3);
+      within = tt;
+      read = λ file held definitions needs. taken.taken file held definitions [] (c.new-names.ensures file);
+    })
+
+pub returns-in_err-needed : goal.returns-in_err-needed
+unfolding walks_cost
+returns-in_err-needed g c =
+    let p = err_from_is_err_and c.from_residual-in_err-needed.result c.from_residual-in_err-needed.ensures.1 in
+    let first = c.in_ok-defined.ensures in
+    let second = c.in_err-needed.ensures in
+    let same = first.fetches.0.same_file in
+    let spends = rw same at second.fetches.2 in
+    let one = first.fetches.2.account in
+    let two = spends.account in
+    rw (p.1, p.2)
+    (record {
+      fetches = (
+        SameFile-then first.fetches.0 second.fetches.0,
+        second.fetches.1 ∙ first.fetches.1,
+        Spends-to (Spends-then first.fetches.2 spends) (omega (arith, one, two)),
+        Says-account _ _ _ _ _ _ _ (omega (arith, one)) first.fetches.2.reads (rw same at second.fetches.3),
+      );
+      within = tt;
+      read = λ file held definitions needs.
+          let taken = first.taken file held definitions [] (c.new-names.ensures file) in
+          second.taken file (first.fetches.2.reads.keeps.same_file ∙ held) needs (first_versions Definition SHT_GNU_VERDEF file) taken.names;
+    })
+
+pub returns : goal.returns
+unfolding walks_cost
+returns g c =
+    let first = c.in_ok-defined.ensures in
+    let second = c.in_ok-needed.ensures in
+    let same = first.fetches.0.same_file in
+    let spends = rw same at second.fetches.2 in
+    let one = first.fetches.2.account in
+    let two = spends.account in
+    record {
+      fetches = (
+        SameFile-then first.fetches.0 second.fetches.0,
+        second.fetches.1 ∙ first.fetches.1,
+        Spends-to (Spends-then first.fetches.2 spends) (omega (arith, one, two)),
+        tt,
+      );
+      within = (first.within, rw first.fetches.2.reads.keeps.same_size at second.within);
+      read = λ file held definitions needs.
+          let taken = first.taken file held definitions [] (c.new-names.ensures file) in
+          let more = second.taken file (first.fetches.2.reads.keeps.same_file ∙ held) needs (first_versions Definition SHT_GNU_VERDEF file) taken.names in
+          record { names = more.names; defined = taken.named; needed = more.named };
+    }

@@ -1,0 +1,191 @@
+-- The records of the first section are taken in, where its checks pass.
+use Rattle.std.proofs.Common.{rules, ◌≡◌, ℕ, ◌+◌, ◌*◌, ◌/◌, ◌==◌, not, true, false, List, Some, None, refl, sym, ap, ◌∙◌, arith}
+use Rattle.std.proofs.lemmas.Bool.{ne_eqb}
+use Rattle.std.proofs.lemmas.Result.{err_from_is_err_and}
+use Rattle.elf_headers.proofs.OpenLaws.{still_open}
+use Rattle.elf_headers.specs.Store.{row}
+use Rattle.elf_model.specs.HeaderTables.{file_sections, first_typed}
+use Rattle.elf_model.specs.Records.{section_at, sh_size}
+use Rattle.elf_model.specs.VersionCost.{is_inside, walk_cost}
+use Rattle.elf_model.specs.Tables.{all_checks}
+use Rattle.elf_model.specs.VersionRows.{first_of_type, version_table}
+use Rattle.elf_model.specs.Versions.{most_records, record_size}
+use Rattle.elf_names.proofs.HeldLaws.{still_held}
+use Rattle.elf_names.proofs.SpendsLaws.{Spends-none, Spends-reads, Spends-then, Spends-to}
+use Rattle.elf_source.proofs.ReadsLaws.{Reads-none}
+use Rattle.elf_versions.specs.Reading.{bytes_each}
+use Rattle.elf_versions.proofs.WordLaws.{none-of}
+use Rattle.elf_listing.specs.Parts.{store_sections}
+use Rattle.elf_listing.specs.Versions.{kind_type}
+use Rattle.elf_listing.proofs.FirstTaken.{check-says, empty-section, no-section, not-cut, not-refused, of-read, taken-all, taken-none, walk-asks}
+use Rattle.elf_listing.proofs.VersionSections.{found, outside, unnamed}
+use Rattle.elf_listing.proofs.VersionedCosts.{Says-account, walk-cost}
+use Rattle.elf_listing.proofs.ViewedLaws.{still_viewed}
+use Rattle.elf_listing.proofs.listing.Listing.take_first.Goals as goal
+
+pub returns-in_default : goal.returns-in_default
+returns-in_default g c = record {
+  fetches = (record { same_src = refl; same_out = refl; same_file = refl; same_style = refl }, refl, Spends-none _ _ _ _ (omega arith), tt);
+  within = search rules;
+  taken = λ file held whole records names.
+      let belongs = c.args.self.now.loaded.belongs file held in
+      let none : first_of_type file (kind_type c.args.kind) ≡ None =
+      ap (first_typed (file_sections file)) (sym c.section_type.ensures) ∙ sym (c.first.ensures.held file belongs) ∙ none-of _ c.in_default.not-Some in
+      taken-none file c.args.kind records _ _ (no-section file c.args.kind none) names;
+}
+
+pub returns-then-header-eq0 : goal.returns-then-header-eq0
+returns-then-header-eq0 g c = record {
+  fetches = (record { same_src = refl; same_out = refl; same_file = refl; same_style = refl }, refl, Spends-none _ _ _ _ (omega arith), tt);
+  within = search rules;
+  taken = λ file held whole records names.
+      let belongs = c.args.self.now.loaded.belongs file held in
+      let first : first_of_type file (kind_type c.args.kind) ≡ Some c.in-Some.section =
+      ap (first_typed (file_sections file)) (sym c.section_type.ensures) ∙ sym (c.first.ensures.held file belongs) ∙ c.in-Some.is in
+      taken-none file c.args.kind records _ _
+      (empty-section file c.args.kind c.in-Some.section first (sym (c.section-header.ensures.stands file belongs).sh_size ∙ c.if-header-eq0.true)) names;
+}
+
+pub returns-in_err-table : goal.returns-in_err-table
+returns-in_err-table g c =
+    let p = err_from_is_err_and c.from_residual.result c.from_residual.ensures.1 in
+    rw (p.1, p.2)
+    (record {
+      fetches = (record { same_src = refl; same_out = refl; same_file = refl; same_style = refl }, refl, Spends-none _ _ _ _ (omega arith), check-says _ _ _ _ (search rules));
+      within = tt;
+      taken = λ file held whole records names.
+          let belongs = c.args.self.now.loaded.belongs file held in
+          let stands = c.section-header.ensures.stands file belongs in
+          let at = section_at file c.in-Some.section in
+          let first : first_of_type file (kind_type c.args.kind) ≡ Some c.in-Some.section =
+          ap (first_typed (file_sections file)) (sym c.section_type.ensures) ∙ sym (c.first.ensures.held file belongs) ∙ c.in-Some.is in
+          let some : (sh_size file at == 0) ≡ false = ne_eqb _ 0 (λ e. c.if-header-eq0.false (stands.sh_size ∙ e)) in
+          let place : c.place-at.result ≡ at = omega (arith, c.place-at.ensures.value, belongs.header.e_shoff) in
+          let value = rw (belongs.size, stands.sh_offset, stands.sh_size, place) at c.in_err-table.ensures.value in
+          not-refused (all_checks version_table file at) _ (whole c.in-Some.section first).0 (outside file at some _ (sym value));
+    })
+
+pub returns-in_err-strings : goal.returns-in_err-strings
+returns-in_err-strings g c =
+    let p = err_from_is_err_and c.from_residual-in_err-strings.result c.from_residual-in_err-strings.ensures.1 in
+    rw (p.1, p.2)
+    (record {
+      fetches = (record { same_src = refl; same_out = refl; same_file = refl; same_style = refl }, refl, Spends-none _ _ _ _ (omega arith), check-says _ _ _ _ (search rules));
+      within = tt;
+      taken = λ file held whole records names.
+          let belongs = c.args.self.now.loaded.belongs file held in
+          let stands = c.section-header.ensures.stands file belongs in
+          let at = section_at file c.in-Some.section in
+          let first : first_of_type file (kind_type c.args.kind) ≡ Some c.in-Some.section =
+          ap (first_typed (file_sections file)) (sym c.section_type.ensures) ∙ sym (c.first.ensures.held file belongs) ∙ c.in-Some.is in
+          let some : (sh_size file at == 0) ≡ false = ne_eqb _ 0 (λ e. c.if-header-eq0.false (stands.sh_size ∙ e)) in
+          let place : c.place-at.result ≡ at = omega (arith, c.place-at.ensures.value, belongs.header.e_shoff) in
+          let value = rw (belongs.size, stands.sh_offset, stands.sh_size, place) at c.in_ok-table.ensures.value in
+          not-refused (all_checks version_table file at) _ (whole c.in-Some.section first).0 (unnamed file at some _ (sym value) _ (sym (c.in_err-strings.ensures.held file belongs)));
+    })
+
+pub invariant_of-self : goal.invariant_of-self
+invariant_of-self g c = record {
+  loaded = still_open _ _ c.new-2.ensures.did.costs.reads c.args.self.now.loaded;
+  viewed = still_viewed _ _ c.new-2.ensures.did.costs.reads c.args.self.now.viewed;
+  held = still_held _ c.new-2.ensures.did.costs.reads c.args.self.now.held;
+}
+
+pub returns-in_err-cursor : goal.returns-in_err-cursor
+returns-in_err-cursor g c =
+    let p = err_from_is_err_and c.from_residual-in_err-cursor.result c.from_residual-in_err-cursor.ensures.1 in
+    let f = c.args.self.now.file in
+    let fields = c.section-header.ensures.fields in
+    let cost = walk-cost f.store.now f.loaded.size c.in-Some.section c.args.kind _ _ _ _ _ (sym c.in-Some.is ∙ c.first.ensures.value) c.section_type.ensures fields.sh_offset fields.sh_size (ne_eqb _ 0 c.if-header-eq0.false) (sym c.in_ok-table.ensures.value) in
+    let did = c.in_err-cursor.ensures.did in
+    let reads = did.costs.reads in
+    let most = reads.at_most in
+    rw (p.1, p.2)
+    (record {
+      fetches = (
+        record { same_src = refl; same_out = refl; same_file = refl; same_style = refl },
+        refl,
+        Spends-to (Spends-reads _ reads) (omega (arith, most, cost)),
+        Says-account _ _ _ _ 0 _ _ (omega (arith, cost)) (Reads-none _ 0) did.costs.says,
+      );
+      within = tt;
+      taken = λ file held whole records names. of-read _ c.in_err-cursor.ensures.fault;
+    })
+
+pub returns-in_err-take_all : goal.returns-in_err-take_all
+returns-in_err-take_all g c =
+    let p = err_from_is_err_and c.from_residual-in_err-take_all.result c.from_residual-in_err-take_all.ensures.1 in
+    let f = c.args.self.now.file in
+    let fields = c.section-header.ensures.fields in
+    let cost = walk-cost f.store.now f.loaded.size c.in-Some.section c.args.kind _ _ _ _ _ (sym c.in-Some.is ∙ c.first.ensures.value) c.section_type.ensures fields.sh_offset fields.sh_size (ne_eqb _ 0 c.if-header-eq0.false) (sym c.in_ok-table.ensures.value) in
+    let made = c.in_ok-cursor.ensures in
+    let first_reads = made.did.costs.reads in
+    let did = c.in_err-take_all.ensures in
+    let reads = did.costs.reads in
+    let most = reads.at_most in
+    let account = made.account in
+    rw (p.1, p.2)
+    (record {
+      fetches = (
+        record { same_src = refl; same_out = refl; same_file = refl; same_style = refl },
+        refl,
+        Spends-to (Spends-then (Spends-reads _ first_reads) (Spends-reads _ reads)) (omega (arith, most, account, cost)),
+        Says-account _ _ _ _ _ _ _ (omega (arith, account, cost)) first_reads did.costs.says,
+      );
+      within = tt;
+      taken = λ file held whole records names.
+          let belongs = c.args.self.now.loaded.belongs file held in
+          let stands = c.section-header.ensures.stands file belongs in
+          let at = section_at file c.in-Some.section in
+          let first : first_of_type file (kind_type c.args.kind) ≡ Some c.in-Some.section =
+          ap (first_typed (file_sections file)) (sym c.section_type.ensures) ∙ sym (c.first.ensures.held file belongs) ∙ c.in-Some.is in
+          let some : (sh_size file at == 0) ≡ false = ne_eqb _ 0 (λ e. c.if-header-eq0.false (stands.sh_size ∙ e)) in
+          let place : c.place-at.result ≡ at = omega (arith, c.place-at.ensures.value, belongs.header.e_shoff) in
+          let value = rw (belongs.size, stands.sh_offset, stands.sh_size, place) at c.in_ok-table.ensures.value in
+          let all = found file at some _ (sym value) _ (sym (c.in_ok-strings.ensures.held file belongs)) in
+          let told = did.known file (first_reads.keeps.same_file ∙ held) (made.did.known file held) records names in
+          not-cut file c.args.kind c.in-Some.section records c.take_all.new.self _ _ _ first whole all.2 (rw place at made.starts) told;
+    })
+
+pub returns : goal.returns
+returns g c =
+    let f = c.args.self.now.file in
+    let fields = c.section-header.ensures.fields in
+    let cost = walk-cost f.store.now f.loaded.size c.in-Some.section c.args.kind _ _ _ _ _ (sym c.in-Some.is ∙ c.first.ensures.value) c.section_type.ensures fields.sh_offset fields.sh_size (ne_eqb _ 0 c.if-header-eq0.false) (sym c.in_ok-table.ensures.value) in
+    let made = c.in_ok-cursor.ensures in
+    let first_reads = made.did.costs.reads in
+    let did = c.in_ok-take_all.ensures in
+    let reads = did.costs.reads in
+    let most = reads.at_most in
+    let account = made.account in
+    record {
+      fetches = (
+        record { same_src = refl; same_out = refl; same_file = refl; same_style = refl },
+        refl,
+        Spends-to (Spends-then (Spends-reads _ first_reads) (Spends-reads _ reads)) (omega (arith, most, account, cost)),
+        tt,
+      );
+      within = search rules;
+      taken = λ file held whole records names.
+          let belongs = c.args.self.now.loaded.belongs file held in
+          let stands = c.section-header.ensures.stands file belongs in
+          let at = section_at file c.in-Some.section in
+          let first : first_of_type file (kind_type c.args.kind) ≡ Some c.in-Some.section =
+          ap (first_typed (file_sections file)) (sym c.section_type.ensures) ∙ sym (c.first.ensures.held file belongs) ∙ c.in-Some.is in
+          let some : (sh_size file at == 0) ≡ false = ne_eqb _ 0 (λ e. c.if-header-eq0.false (stands.sh_size ∙ e)) in
+          let place : c.place-at.result ≡ at = omega (arith, c.place-at.ensures.value, belongs.header.e_shoff) in
+          let value = rw (belongs.size, stands.sh_offset, stands.sh_size, place) at c.in_ok-table.ensures.value in
+          let all = found file at some _ (sym value) _ (sym (c.in_ok-strings.ensures.held file belongs)) in
+          let told = did.known file (first_reads.keeps.same_file ∙ held) (made.did.known file held) records names in
+          taken-all file c.args.kind c.in-Some.section records _ _ _ _ first all.2 (rw place at made.starts) told.1 all.1;
+    }
+
+pub invariant_of-self-2 : goal.invariant_of-self-2
+invariant_of-self-2 g c =
+    let made = c.new-2.ensures.did.costs.reads in
+    let taken = c.take_all.ensures.costs.reads in
+    record {
+      loaded = still_open _ _ taken (still_open _ _ made c.args.self.now.loaded);
+      viewed = still_viewed _ _ taken (still_viewed _ _ made c.args.self.now.viewed);
+      held = still_held _ taken (still_held _ made c.args.self.now.held);
+    }

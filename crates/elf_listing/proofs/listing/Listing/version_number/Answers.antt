@@ -1,0 +1,22 @@
+use Rattle.std.proofs.Common.{◌≡◌, [], refl, sym, ◌∙◌, arith}
+use Rattle.std.proofs.lemmas.Result.{err_from_is_err_and}
+use Rattle.elf_headers.specs.Permitted.{style_of}
+use Rattle.elf_listing.proofs.ListsLaws.{Lists-named, Lists-unread}
+use Rattle.elf_listing.proofs.NumberedShown.{told_is, word_is}
+use Rattle.elf_listing.proofs.RowLaws.{Stopped-name, Writes-as}
+use Rattle.elf_listing.proofs.listing.Listing.version_number.Goals as goal
+
+pub returns-in_err-end : goal.returns-in_err-end
+returns-in_err-end g c =
+    let p = err_from_is_err_and c.from_residual.result c.from_residual.ensures.1 in
+    rw (p.1, p.2) (Lists-unread _ _ _ _ _ _ (omega arith) c.in_err-end.ensures.fetches (λ file held at of_kind row.
+    let word = word_is file _ c.args.row.now.at _ row.bytes c.u16_at-word.ensures in
+    rw (sym row.here, told_is file (style_of c.args.self.now.style) c.args.numbered.now c.args.section c.args.row.now.at c.args.row.now.index _ _ word refl, c.in_err-end.ensures.fetches.1)
+    (Stopped-name _ _ _ _ [] _ (c.in_err-end.ensures.read file held))))
+
+pub returns : goal.returns
+returns g c = Lists-named _ _ _ _ _ _ _ _ (omega arith) c.in_ok-end.ensures.fetches c.named_line.ensures (λ file held at of_kind row.
+    let word = word_is file _ c.args.row.now.at _ row.bytes c.u16_at-word.ensures in
+    rw (sym row.here, ← c.in_ok-end.ensures.fetches.1)
+    (Writes-as _ _ _ (told_is file (style_of c.args.self.now.style) c.args.numbered.now c.args.section c.args.row.now.at c.args.row.now.index _ _ word c.symbol_version_front.ensures)
+    (c.named_line.ensures.shows _ _ (c.in_ok-end.ensures.read file held))))

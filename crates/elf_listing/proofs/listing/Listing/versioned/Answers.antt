@@ -1,0 +1,53 @@
+-- The rows stand before the refusal of a symbol without an entry.
+use Rattle.std.proofs.Common.{rules, ◌≡◌, ◌+◌, ◌*◌, nat_lt, true, false, refl, sym, ap, ◌∙◌, append-nil, arith}
+use Rattle.std.proofs.lemmas.Bool.Decides.{nat_tests}
+use Rattle.std.proofs.lemmas.Result.{err_from_is_err_and}
+use Rattle.elf_model.specs.Names.{name_bytes}
+use Rattle.elf_model.specs.Versions.{VERSYM_SIZE}
+use Rattle.elf_names.proofs.SpendsLaws.{Spends-to}
+use Rattle.elf_table.specs.Tables.{Rows}
+use Rattle.elf_listing.specs.SymbolVersions.{versioned_items}
+use Rattle.elf_listing.proofs.ListsLaws.{Lists-within}
+use Rattle.elf_listing.proofs.ShowLaws.{Stopped-more}
+use Rattle.elf_listing.proofs.VersionedShown.{Ends-behind}
+use Rattle.elf_listing.proofs.VersionSections.{same_le}
+use Rattle.elf_listing.proofs.listing.Listing.versioned.Goals as goal
+
+pub returns-in_err-rows : goal.returns-in_err-rows
+unfolding versioned_items
+returns-in_err-rows g c =
+    let p = err_from_is_err_and c.from_residual.result c.from_residual.ensures.1 in
+    let shape = c.first_entries-rows.ensures in
+    let cost = ap (λ (t : Rows). t.count * (VERSYM_SIZE + name_bytes c.args.self.now.style.cap.bytes)) shape in
+    rw (p.1, p.2)
+    (Lists-within _ _ _ _ _ _ _ (omega (arith, cost)) c.in_err-rows.ensures (λ file held. Stopped-more _ _ _ _ _ (rw shape at (c.in_err-rows.ensures.shows file held (λ some. tt)))))
+
+pub returns-then-len-symbols : goal.returns-then-len-symbols
+unfolding versioned_items
+returns-then-len-symbols g c =
+    let shape = c.first_entries-rows.ensures in
+    let done = c.in_ok-rows.ensures in
+    let fewer : nat_lt c.args.table.count c.args.symbols ≡ true = grind (arith, nat_tests, c.len.ensures, c.if-len-symbols.true) in
+    let cost = ap (λ (t : Rows). t.count * (VERSYM_SIZE + name_bytes c.args.self.now.style.cap.bytes)) shape in
+    let account = done.spent.0.account in
+    record {
+      grows = done.grows;
+      keeps = record { same_src = done.keeps.same_src; same_out = done.keeps.same_out; same_file = done.keeps.same_file; same_style = done.keeps.same_style };
+      spent = (Spends-to done.spent.0 (omega (arith, account, cost)), λ budget. cc);
+      shows = λ file held. rw (fewer, c.place-at.ensures.value) (Ends-behind _ _ _ _ (rw shape at (done.shows file held (λ some. tt))));
+    }
+
+pub returns : goal.returns
+unfolding versioned_items
+returns g c =
+    let shape = c.first_entries-rows.ensures in
+    let done = c.in_ok-rows.ensures in
+    let whole : nat_lt c.args.table.count c.args.symbols ≡ false = grind (arith, nat_tests, c.len.ensures, c.if-len-symbols.false) in
+    let cost = ap (λ (t : Rows). t.count * (VERSYM_SIZE + name_bytes c.args.self.now.style.cap.bytes)) shape in
+    let account = done.spent.0.account in
+    record {
+      grows = done.grows;
+      keeps = record { same_src = done.keeps.same_src; same_out = done.keeps.same_out; same_file = done.keeps.same_file; same_style = done.keeps.same_style };
+      spent = (Spends-to done.spent.0 (omega (arith, account, cost)), tt);
+      shows = λ file held. rw (whole, append-nil _) (rw shape at (done.shows file held (λ some. tt)));
+    }

@@ -1,0 +1,123 @@
+//! The versions of symbols, shown one after another.
+ghost use Rattle.std.specs.Prelude.{◌≡◌, ◌<◌, min};
+ghost use Rattle.elf_headers.specs.Permitted.{style_of};
+ghost use Rattle.elf_model.specs.declared.versions.VersionKind.TheVariants.{Need};
+ghost use Rattle.elf_table.specs.Tables.{RowsWithin};
+ghost use Rattle.elf_listing.specs.HeadersListed.{ListsHeader};
+ghost use Rattle.elf_listing.specs.Numbered.{NumberedWithin};
+ghost use Rattle.elf_listing.specs.Parts.{Awaits};
+ghost use Rattle.elf_listing.specs.SymbolVersions.{FetchesNumbers, ListsVersioned, Takes};
+ghost use Rattle.elf_listing.specs.declared.parts.Part.TheVariants.{SymbolVersions};
+
+use crate::listing::Listing;
+use crate::numbered::Numbered;
+use crate::rows::Kind;
+use crate::versions::section_type;
+use elf_record::gnu_numbers::SHT_GNU_VERSYM;
+use elf_record::sizes::SYMBOL_VERSION_BYTES;
+use elf_record::{Cause, Refusal, VersionKind};
+use elf_source::{Sink, Source};
+use elf_table::{Fault, Names, Stop, Table};
+use elf_versions::{NumberNames, VersionCursor};
+
+impl<S: Source, W: Sink> Listing<'_, '_, '_, S, W> {
+    /// Shows the versions of the symbols of a section, where it holds them: an `X` line each, or the
+    /// first refusal of its table, of the symbols that it links to or of a number; last the section's
+    /// refusal where a symbol has no entry any more (Linux Standard Base Core, Symbol Versioning).
+    /// The rows of all definitions and needs have come without a fault.
+    pub(crate) fn symbol_versions(&mut self, section: u16) -> Result<(), Stop>
+        requires awaits { Awaits SymbolVersions self.old.src.now.seen.file
+            (style_of self.old.style) }
+        requires below { section < self.old.file.store.now.loaded }
+        ensures { ListsHeader SymbolVersions self.old self.new result section }
+    {
+        let header = self.file.section(section);
+        if header.sh_type != SHT_GNU_VERSYM {
+            return Ok(());
+        }
+        if header.sh_size == 0 {
+            return Ok(());
+        }
+        let found = self.file.symbol_versions(section)?;
+        let (table, symbols) = found;
+        let numbered = self.numbered()?;
+        self.versioned(section, table, symbols, &numbered)
+    }
+
+    /// Shows the versions of so many symbols, and behind them the section's refusal where one has no
+    /// entry any more.
+    fn versioned(
+        &mut self,
+        section: u16,
+        table: Table,
+        symbols: u64,
+        numbered: &Numbered,
+    ) -> Result<(), Stop>
+        requires below { section < self.old.file.store.now.loaded }
+        requires entry { table.entry ≡ 2 }
+        requires rows { RowsWithin self.old.src.now.seen.size table }
+        requires within { NumberedWithin self.old.src.now.seen.size numbered.now }
+        ensures { ListsVersioned self.old self.new result section table symbols numbered.now }
+    {
+        let at = self.file.place(section);
+        let rows = first_entries(&table, symbols);
+        self.rows(rows, &Kind::Versions { section, numbered })?;
+        if table.len() < symbols {
+            return Err(Stop::Refused(Refusal {
+                at,
+                cause: Cause::VersionCut,
+            }));
+        }
+        Ok(())
+    }
+
+    /// Where the names of all numbers are: by the first section of definitions, else by the first of
+    /// needs.
+    fn numbered(&mut self) -> Result<Numbered, Fault>
+        ensures { FetchesNumbers self.old self.new result }
+    {
+        let mut names = NumberNames::new();
+        let defined = self.take_first(&mut names, VersionKind::Definition)?;
+        let needed = self.take_first(&mut names, VersionKind::File)?;
+        Ok(Numbered {
+            names,
+            defined,
+            needed,
+        })
+    }
+
+    /// Takes in the records of the first section that holds records of a kind, and answers the string
+    /// table of their names; an empty one where there is no record.
+    fn take_first(&mut self, names: &mut NumberNames, kind: VersionKind) -> Result<Names, Fault>
+        requires kind { kind ≡ Need → ⊥ }
+        ensures { Takes self.old self.new names.old names.new result kind }
+    {
+        let Some(section) = self.file.first(section_type(kind)) else {
+            return Ok(Names::new(0, 0));
+        };
+        let header = self.file.section(section);
+        if header.sh_size == 0 {
+            return Ok(Names::new(0, 0));
+        }
+        let at = self.file.place(section);
+        let table = self.file.bytes(header.sh_offset, header.sh_size, at)?;
+        let strings = self.file.strings(section)?;
+        let mut cursor = VersionCursor::new(self.src, kind, at, table)?;
+        names.take_all(self.src, &mut cursor)?;
+        Ok(strings)
+    }
+}
+
+/// The first entries of a table of symbols' versions, as many as there are symbols.
+fn first_entries(table: &Table, symbols: u64) -> Table
+    requires { table.now.entry ≡ 2 }
+    ensures { result ≡ record {
+      at = table.now.at;
+      count = min table.now.count symbols;
+      entry = 2;
+    } }
+{
+    let _ = table.entry();
+    let count = table.len().min(symbols);
+    Table::new(table.at(), count, SYMBOL_VERSION_BYTES)
+}
