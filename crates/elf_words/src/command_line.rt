@@ -138,7 +138,7 @@ fn program<'a>(alloc: Global) -> Result<Command<'a>, AllocError>
 }
 
 /// The command that lists a file.
-fn show<'a>(alloc: Global, parts: &'a [&'a str]) -> Result<Command<'a>, AllocError>
+pub(crate) fn show<'a>(alloc: Global, parts: &'a [&'a str]) -> Result<Command<'a>, AllocError>
     ensures app { IfOk result (λ command. app_of command ≡ show_command parts.entry) }
     ensures local { IfOk result (λ command. (fields_of command).has_globals ≡ false) }
 {
@@ -149,7 +149,7 @@ fn show<'a>(alloc: Global, parts: &'a [&'a str]) -> Result<Command<'a>, AllocErr
 }
 
 /// The command that lists the sample.
-fn sample<'a>(alloc: Global, parts: &'a [&'a str]) -> Result<Command<'a>, AllocError>
+pub(crate) fn sample<'a>(alloc: Global, parts: &'a [&'a str]) -> Result<Command<'a>, AllocError>
     ensures app { IfOk result (λ command. app_of command ≡ sample_command parts.entry) }
     ensures local { IfOk result (λ command. (fields_of command).has_globals ≡ false) }
 {
