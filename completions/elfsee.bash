@@ -47,7 +47,7 @@ _elfsee_files() {
 
 _elfsee() {
     local words cword current before command='' word ended='' skip='' files=0
-    local parts='header sections segments symbols relocs notes dynamic'
+    local parts='header sections segments symbols relocs notes dynamic versions'
     COMPREPLY=()
     _elfsee_words
     current=${words[cword]} before=${words[cword - 1]}

@@ -8,7 +8,8 @@ segments\t"the program headers"
 symbols\t"the symbols"
 relocs\t"the relocation entries"
 notes\t"the notes"
-dynamic\t"the dynamic entries"'
+dynamic\t"the dynamic entries"
+versions\t"the symbol versions, with --gnu"'
 set -l members 'members\t"the members alone"'
 
 # The words behind the program's name that are no options, and an empty line where the value of an
@@ -75,7 +76,7 @@ complete -c elfsee -n "$listing; and __elfsee_lacks --names" -l names -x -d 'sho
 complete -c elfsee -n "__fish_seen_subcommand_from show sample find apply check archive; and __elfsee_lacks --max-read" -l max-read -x -d 'read no more than so many bytes of the file'
 complete -c elfsee -n "$listing; and __elfsee_lacks --only" -l only -x -a $parts -d 'list one part'
 complete -c elfsee -n '__fish_seen_subcommand_from archive; and __elfsee_lacks --only' -l only -x -a $members -d 'list one part'
-complete -c elfsee -n "$listing; and __elfsee_lacks --gnu" -l gnu -d 'name the numbers of the GNU system too'
+complete -c elfsee -n "$listing; and __elfsee_lacks --gnu" -l gnu -d 'name the numbers of the GNU system too, and list symbol versions'
 complete -c elfsee -n "$listing; and __elfsee_lacks --by-segments" -l by-segments -d 'find tables by the program headers'
 complete -c elfsee -n '__fish_seen_subcommand_from check; and __elfsee_lacks --files0-from' -l files0-from -r -F -d 'check the paths in a file too, each ended by NUL'
 complete -c elfsee -n '__fish_seen_subcommand_from apply; and __elfsee_lacks --layout' -l layout -r -F -d 'take the items in a file too, one a line'

@@ -59,8 +59,8 @@ in_table (entry ∷ rest) n name e =
     (λ same. (bytes_eq-Decides name entry.1).1 (sym same)) (in_table rest n name) e
 
 -- a text that names no part is the name of no set of parts
-pub no_part : (name : Text) (n : ℕ) → is_part name ≡ false → name_of part_names n ≡ Some name → ⊥
-no_part name n not is = let bad : true ≡ false = sym (in_table part_names n name is) ∙ not in cc
+pub no_part : (gnu : Bool) (name : Text) (n : ℕ) → is_part gnu name ≡ false → name_of (part_names gnu) n ≡ Some name → ⊥
+no_part gnu name n not is = let bad : true ≡ false = sym (in_table (part_names gnu) n name is) ∙ not in cc
 
-pub no_member_part : (name : Text) (n : ℕ) → is_member_part name ≡ false → name_of member_part_names n ≡ Some name → ⊥
-no_member_part name n not is = let bad : true ≡ false = sym (in_table member_part_names n name is) ∙ not in cc
+pub no_member_part : (gnu : Bool) (name : Text) (n : ℕ) → is_member_part gnu name ≡ false → name_of (member_part_names gnu) n ≡ Some name → ⊥
+no_member_part gnu name n not is = let bad : true ≡ false = sym (in_table (member_part_names gnu) n name is) ∙ not in cc

@@ -1,5 +1,5 @@
 -- What the words of a command line ask for, and why they are refused.
-use Rattle.std.specs.Prelude.{⊤, ◌≡◌, ◌⊎◌, List, [], map, Option}
+use Rattle.std.specs.Prelude.{⊤, true, ◌≡◌, ◌⊎◌, List, [], map, Option}
 use Rattle.clap.specs.Walk.{Row, Text, texts}
 use Rattle.clap.specs.Simple.{subcommand_of}
 use Rattle.clap.specs.Faults.{fault_of}
@@ -16,8 +16,8 @@ use Rattle.elf_words.specs.declared.requests.RequestFault.TheVariants.{Memory, W
 
 -- the names of the parts, as the reader of the words has them
 pub record ArePartNames (parts : PartWords) : Type 0 where
-  pub listed : texts parts.listed.now ≡ map (λ part. part.1) part_names
-  pub archived : texts parts.archived.now ≡ map (λ part. part.1) member_part_names
+  pub listed : texts parts.listed.now ≡ map (λ part. part.1) (part_names true)
+  pub archived : texts parts.archived.now ≡ map (λ part. part.1) (member_part_names true)
 
 -- WHAT IS ASKED FOR: the command line takes the words, and what it makes of them is what is asked for
 pub record WordsAsk (words : List Text) (asked : Asked) : Type 0 where

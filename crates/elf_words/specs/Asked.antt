@@ -1,12 +1,12 @@
 -- What the words of a command line ask for.
-use Rattle.std.specs.Prelude.{Bool, false, bytes_eq, ℕ, ◌≡◌, ◌<◌, ◌≤◌, ◌^◌, length, unwrap_or, Result, Ok, Err, List, [], ◌∷◌, codes, Option, None, Some}
+use Rattle.std.specs.Prelude.{Bool, false, if◌then◌else◌, bytes_eq, ℕ, ◌≡◌, ◌<◌, ◌≤◌, ◌^◌, length, unwrap_or, Result, Ok, Err, List, [], ◌∷◌, codes, Option, None, Some}
 use Rattle.std.specs.Borrow.{Bor}
 use Rattle.std.specs.List.{list_any}
 use Rattle.std.specs.Str.Parse.{IsNumeral, digits_value, without_leading_plus}
 use Rattle.clap.specs.Walk.{Row, Text, all_of, first_of, one_of}
 use Rattle.elf_model.specs.NameLaws.{IsWanted}
 use Rattle.elf_model.specs.Text.{name_of as name_in_table}
-use Rattle.elf_model.specs.Listing.{HEADER, SECTIONS, SEGMENTS, SYMBOLS, RELOCS, NOTES, DYNAMIC}
+use Rattle.elf_model.specs.Listing.{HEADER, SECTIONS, SEGMENTS, SYMBOLS, RELOCS, NOTES, DYNAMIC, VERSIONS, all_parts}
 use Rattle.elf_record.specs.declared.parts.Parts.{Parts}
 use Rattle.elf_headers.specs.declared.caps.Limits.{Limits}
 use Rattle.elf_headers.specs.declared.caps.Style.{Style}
@@ -19,15 +19,16 @@ use Rattle.elf_words.specs.declared.requests.Task.{Task}
 use Rattle.elf_words.specs.declared.requests.Wanted.{Wanted}
 use Rattle.elf_words.specs.declared.requests.Task.TheVariants.{Show, Find, Apply, Place}
 
--- the parts that can be asked for, by their names
-abbrev pub part_names : List (ℕ × List ℕ)
-part_names =
+-- the parts that can be asked for, by their names: symbol versions in listings of the GNU system alone
+abbrev pub part_names : Bool → List (ℕ × List ℕ)
+part_names gnu =
     (HEADER, codes "header") ∷ (SECTIONS, codes "sections") ∷ (SEGMENTS, codes "segments") ∷ (SYMBOLS, codes "symbols")
-    ∷ (RELOCS, codes "relocs") ∷ (NOTES, codes "notes") ∷ (DYNAMIC, codes "dynamic") ∷ []
+    ∷ (RELOCS, codes "relocs") ∷ (NOTES, codes "notes") ∷ (DYNAMIC, codes "dynamic")
+    ∷ (if gnu then (VERSIONS, codes "versions") ∷ [] else [])
 
 -- whether a text is the name of a part
-abbrev pub is_part : Text → Bool
-is_part name = list_any (λ part. bytes_eq name part.1) part_names
+abbrev pub is_part : Bool → Text → Bool
+is_part gnu name = list_any (λ part. bytes_eq name part.1) (part_names gnu)
 
 -- the number that decimal digits spell, before which a plus may stand
 abbrev pub decimal_value : Text → ℕ
@@ -52,16 +53,24 @@ abbrev pub is_set : Option Text → Bool
 is_set None = false
 is_set (Some text) = bytes_eq text (codes "true")
 
+-- whether listings of the GNU system are asked for
+abbrev pub asks_gnu : List Row → Bool
+asks_gnu rows = is_set (first_of (codes "gnu") rows)
+
 -- how rows are shown, by the values of the options
 pub record IsStyle (rows : List Row) (style : Style) : Type 0 where
   pub cap : HasNumber (one_of (codes "names") rows) (Some style.cap.bytes)
-  pub gnu : style.gnu ≡ is_set (first_of (codes "gnu") rows)
+  pub gnu : style.gnu ≡ asks_gnu rows
   pub by_segments : style.by_segments ≡ is_set (first_of (codes "by-segments") rows)
 
--- the part with this name, or without a name all seven
-abbrev pub AreParts : Option Text → Parts → Type 0
-AreParts None parts = parts.0 ≡ 127
-AreParts (Some name) parts = name_in_table part_names parts.0 ≡ Some name
+-- the part with this name, or without a name all, of listings of the GNU system or of the standards' alone
+abbrev pub ArePartsOf : Bool → Option Text → Parts → Type 0
+ArePartsOf gnu None parts = parts.0 ≡ all_parts gnu
+ArePartsOf gnu (Some name) parts = name_in_table (part_names gnu) parts.0 ≡ Some name
+
+-- which parts are listed, by the values of the options
+abbrev pub AreParts : List Row → Parts → Type 0
+AreParts rows = ArePartsOf (asks_gnu rows) (first_of (codes "only") rows)
 
 -- the file whose path stands among the values, or for `sample` none
 abbrev pub IsOfFile : Text → List Row → Option (Bor Text) → Type 0
@@ -95,7 +104,7 @@ pub record IsApplying (command : Text) (rows : List Row) (file : Option (Bor Tex
 -- a task with its file, by the values of the options; no words give addresses that are kept otherwise
 abbrev pub IsTask : Text → List Row → Option (Bor Text) → Task → Type 0
 IsTask command rows file (Show parts style) =
-    IsStyle rows style × AreParts (first_of (codes "only") rows) parts × IsOfFile command rows file
+    IsStyle rows style × AreParts rows parts × IsOfFile command rows file
 IsTask command rows file (Find wanted) = IsFinding command rows file wanted
 IsTask command rows file (Apply section layout) = IsApplying command rows file section layout.now
 IsTask command rows file (Place section addresses) = ⊥

@@ -22,7 +22,7 @@ pub record IsChecking (command : Text) (rows : List Row) (asked : Checking) : Ty
   pub some : path_words rows ≡ [] → first_of (codes "files0-from") rows ≡ None → ⊥
   pub limits : AreLimits rows asked.limits
   pub style : IsStyle rows asked.style
-  pub parts : AreParts (first_of (codes "only") rows) asked.parts
+  pub parts : AreParts rows asked.parts
 
 -- a command with the values of its arguments asks for this check
 abbrev pub ChecksBy : Option (Text × List Row) → Checking → Type 0

@@ -1,6 +1,6 @@
 //! The words that ask for a listing of an archive.
 ghost use Rattle.std.specs.Prelude.{◌≡◌, IfSome, None, Some, Ok, codes, false};
-ghost use Rattle.clap.specs.Walk.{first_of, rows_of};
+ghost use Rattle.clap.specs.Walk.{rows_of};
 ghost use Rattle.clap.specs.Words.{found_of};
 ghost use Rattle.elf_model.specs.Text.{name_of};
 ghost use Rattle.elf_record.specs.declared.parts.Parts.{Parts};
@@ -9,17 +9,15 @@ ghost use Rattle.elf_words.specs.Archives.{is_member_part, member_part_names};
 ghost use Rattle.elf_words.specs.Checks.{Becomes};
 
 use crate::checks::{Archiving, Asked};
-use crate::words::{limits_of, style_of, text_of};
+use crate::words::{asks_gnu, limits_of, style_of, text_of, whole};
 use clap::ArgMatches;
 use elf_record::Parts;
 
 /// The names of the parts of an archive's listing: its members alone, and those of a listing.
-pub(crate) static MEMBER_PARTS: [&str; 8] = [
+pub(crate) static MEMBER_PARTS: [&str; 9] = [
     "members", "header", "sections", "segments", "symbols", "relocs", "notes", "dynamic",
+    "versions",
 ];
-
-/// All parts of a listing.
-const WHOLE: Parts = Parts(127);
 
 /// No part of a listing.
 const NO_PART: Parts = Parts(0);
@@ -54,22 +52,23 @@ fn archiving_of<'a>(options: &ArgMatches<'a>) -> Option<Archiving<'a>>
 
 /// The parts that the options ask for.
 fn member_parts_of(options: &ArgMatches<'_>) -> Option<Parts>
-    ensures some { IfSome result
-        (AreMemberParts (first_of (codes "only") (rows_of (found_of options.now)))) }
-    ensures none { result ≡ None → (parts : Parts) → AreMemberParts
-        (first_of (codes "only") (rows_of (found_of options.now))) parts → ⊥ }
+    ensures some { IfSome result (AreMemberParts (rows_of (found_of options.now))) }
+    ensures none { result ≡ None → (parts : Parts)
+        → AreMemberParts (rows_of (found_of options.now)) parts → ⊥ }
 {
+    let gnu = asks_gnu(options);
     match text_of(options, "only") {
-        Some(name) => member_part_named(name),
-        None => Some(WHOLE),
+        Some(name) => member_part_named(name, gnu),
+        None => Some(whole(gnu)),
     }
 }
 
-/// The part of an archive's listing that has this name.
+/// The part of an archive's listing, of the GNU system (`gnu`) or of the standards' alone, that has
+/// this name.
 #[tactic(auto, unfolding(elf_model::specs::Text::name_of))]
-fn member_part_named(name: &str) -> Option<Parts>
-    ensures some { IfSome result (λ parts. name_of member_part_names parts.0 ≡ Some name.now) }
-    ensures none { result ≡ None → is_member_part name.now ≡ false }
+fn member_part_named(name: &str, gnu: bool) -> Option<Parts>
+    ensures some { IfSome result (λ parts. name_of (member_part_names gnu) parts.0 ≡ Some name.now) }
+    ensures none { result ≡ None → is_member_part gnu name.now ≡ false }
 {
     match name {
         "members" => Some(NO_PART),
@@ -80,6 +79,7 @@ fn member_part_named(name: &str) -> Option<Parts>
         "relocs" => Some(Parts::RELOCS),
         "notes" => Some(Parts::NOTES),
         "dynamic" => Some(Parts::DYNAMIC),
+        "versions" if gnu => Some(Parts::VERSIONS),
         _ => None,
     }
 }

@@ -38,9 +38,9 @@ apply --layout:
   --names N     show N bytes of a name: 1 to 4096 [default: 256]
   --max-read N  read at most N bytes of the file: 0 to 9223372036854775807
                 [default: any number]
-  --only PART   list one part: header, sections, segments, symbols, relocs, notes or dynamic
-                [default: all of them]; archive also has: members
-  --gnu         name the numbers of the GNU system too
+  --only PART   list one part: header, sections, segments, symbols, relocs, notes or dynamic,
+                with --gnu also versions [default: all of them]; archive also has: members
+  --gnu         name the numbers of the GNU system too, and list symbol versions
   --by-segments find tables by the program headers, as a loader does, and list the file as if it
                 had no section headers
   --layout LIST for apply only: take the items in the file LIST too, one a line, as many as
@@ -138,7 +138,7 @@ fn program<'a>(alloc: Global) -> Result<Command<'a>, AllocError>
 }
 
 /// The command that lists a file.
-fn show<'a>(alloc: Global, parts: &'a [&'a str]) -> Result<Command<'a>, AllocError>
+pub(crate) fn show<'a>(alloc: Global, parts: &'a [&'a str]) -> Result<Command<'a>, AllocError>
     ensures app { IfOk result (λ command. app_of command ≡ show_command parts.entry) }
     ensures local { IfOk result (λ command. (fields_of command).has_globals ≡ false) }
 {
@@ -149,7 +149,7 @@ fn show<'a>(alloc: Global, parts: &'a [&'a str]) -> Result<Command<'a>, AllocErr
 }
 
 /// The command that lists the sample.
-fn sample<'a>(alloc: Global, parts: &'a [&'a str]) -> Result<Command<'a>, AllocError>
+pub(crate) fn sample<'a>(alloc: Global, parts: &'a [&'a str]) -> Result<Command<'a>, AllocError>
     ensures app { IfOk result (λ command. app_of command ≡ sample_command parts.entry) }
     ensures local { IfOk result (λ command. (fields_of command).has_globals ≡ false) }
 {
@@ -307,7 +307,7 @@ fn max_read<'a>(alloc: Global) -> Arg<'a>
         .help("Read at most N bytes of the file: 0 to 9223372036854775807 [default: any]")
 }
 
-/// Whether numbers of the GNU system have names.
+/// Whether the listing is one of the GNU system.
 fn gnu<'a>(alloc: Global) -> Arg<'a>
     ensures rule { rule_of result ≡ gnu_option }
     ensures local { result.global ≡ false }
@@ -315,7 +315,7 @@ fn gnu<'a>(alloc: Global) -> Arg<'a>
     Arg::new(alloc, "gnu")
         .long("gnu")
         .action(ArgAction::SetTrue)
-        .help("Name the numbers of the GNU system too")
+        .help("Name the numbers of the GNU system too, and list symbol versions")
 }
 
 /// Whether tables are found by the program headers also where there are section headers.

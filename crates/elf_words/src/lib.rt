@@ -10,6 +10,7 @@ mod command_line;
 mod items;
 mod names;
 mod requests;
+mod unasked;
 mod words;
 
 pub use checks::{Archiving, Asked, Checking, Laying};

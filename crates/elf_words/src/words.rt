@@ -2,49 +2,40 @@
 ghost use Rattle.std.specs.Prelude.{◌≡◌, ◌≢◌, ◌<◌, ◌^◌, ℕ, IfErr, IfOk, IfSome, None, Ok, Err};
 ghost use Rattle.std.specs.Prelude.{Option, Some, codes, false, map, option_map};
 ghost use Rattle.std.specs.Borrow.{Bor};
-ghost use Rattle.clap.specs.Values.{kind_of};
-ghost use Rattle.clap.specs.declared.error.kind.ErrorKind.TheVariants.{Format};
 ghost use Rattle.clap.specs.Walk.{Text, first_of, one_of, rows_of};
 ghost use Rattle.clap.specs.Words.{found_of, subcommand_rows_of};
+ghost use Rattle.elf_model.specs.Listing.{all_parts};
 ghost use Rattle.elf_model.specs.Text.{name_of};
 ghost use Rattle.elf_words.specs.Asked.{AreLimits, AreParts, AsksBy, ComesTo, HasNumber, IsFileNamed};
 ghost use Rattle.elf_words.specs.Answered.{WordsAsk, WordsRefused};
-ghost use Rattle.elf_words.specs.Asked.{IsStyle, is_part, is_set};
+ghost use Rattle.elf_words.specs.Asked.{IsStyle, asks_gnu, is_part, is_set};
 ghost use Rattle.elf_words.specs.Checks.{Becomes, IsAsked};
 ghost use Rattle.elf_words.specs.Asked.{item_words, part_names};
 ghost use Rattle.elf_words.specs.Layouts.{Lays, no_items};
-ghost use Rattle.elf_words.specs.Faults.{IsUnasked};
 ghost use Rattle.elf_words.specs.declared.requests.Task.TheVariants.{Show};
 ghost use Rattle.elf_record.specs.declared.parts.Parts.{Parts};
 ghost use Rattle.elf_headers.specs.declared.caps.Limits.{Limits};
 ghost use Rattle.elf_headers.specs.declared.caps.Style.{Style};
 
 use crate::archive_words::{MEMBER_PARTS, archive_asked};
-use crate::check_command::check;
 use crate::check_words::check_asked;
 use crate::checks::{Asked, Laying};
 use crate::command_line::command_line;
 use crate::items::lay;
 use crate::names::checked_name;
 use crate::requests::{Request, RequestFault, Task};
-use clap::error::ErrorKind;
-use clap::{ArgMatches, Error};
+use crate::unasked::unasked;
+use clap::ArgMatches;
 use elf_layout::Layout;
 use elf_record::Parts;
 use elf_table::{Cap, Limits, Style};
-use std::alloc::{AllocError, Global};
+use std::alloc::Global;
 use std::convert::AsStr;
 
-/// The names of the parts of a listing, in its order.
-static PARTS: [&str; 7] = [
-    "header", "sections", "segments", "symbols", "relocs", "notes", "dynamic",
+/// The names of the parts of a listing, in its order, the GNU system's last.
+pub(crate) static PARTS: [&str; 8] = [
+    "header", "sections", "segments", "symbols", "relocs", "notes", "dynamic", "versions",
 ];
-
-/// What `check` without a path is told, as other commands are of their FILE.
-const NO_PATH: &str = "the following required arguments were not provided:\n  <PATH>";
-
-/// All parts of a listing.
-const WHOLE: Parts = Parts(127);
 
 /// Reads the words of a command line, without the program's name.
 ///
@@ -68,27 +59,8 @@ pub fn request<'a, S: AsStr>(
     };
     match asked(alloc, &matches, layout)? {
         Some(asked) => Ok(asked),
-        None => Err(unasked(alloc)),
+        None => Err(unasked(alloc, &matches)),
     }
-}
-
-/// The answer to words that the command line lets through though they ask for nothing: to `check`
-/// where it has neither a path nor a file with paths.
-fn unasked(alloc: Global) -> RequestFault
-    ensures { IsUnasked result }
-{
-    match missing_path(alloc) {
-        Ok(error) => error.into(),
-        Err(AllocError) => RequestFault::Memory,
-    }
-}
-
-/// The error of `check` without a path.
-fn missing_path(alloc: Global) -> Result<Error, AllocError>
-    ensures { IfOk result (λ error. kind_of error ≡ Format) }
-{
-    let mut command = check(alloc, PARTS.as_slice())?.bin_name("elfsee check")?;
-    command.error(ErrorKind::Format, NO_PATH)
 }
 
 /// What words that the command line let through ask for, or None where they ask for nothing.
@@ -188,13 +160,13 @@ fn listing<'a>(file: Option<&'a str>, options: &ArgMatches<'a>) -> Option<Reques
     ensures file { IfSome result (λ request. request.file ≡ file.entry) }
     ensures task { IfSome result (λ request. (parts : Parts) × (style : Style)
         × (request.task ≡ Show parts style) × IsStyle (rows_of (found_of options.now)) style
-        × AreParts (first_of (codes "only") (rows_of (found_of options.now))) parts) }
+        × AreParts (rows_of (found_of options.now)) parts) }
     ensures limits { IfSome result (λ request.
         AreLimits (rows_of (found_of options.now)) request.limits) }
     ensures none { result ≡ None → (limits : Limits) (style : Style) (parts : Parts)
         → AreLimits (rows_of (found_of options.now)) limits
         → IsStyle (rows_of (found_of options.now)) style
-        → AreParts (first_of (codes "only") (rows_of (found_of options.now))) parts → ⊥ }
+        → AreParts (rows_of (found_of options.now)) parts → ⊥ }
 {
     let limits = limits_of(options)?;
     let style = style_of(options)?;
@@ -298,7 +270,7 @@ pub(crate) fn style_of(options: &ArgMatches<'_>) -> Option<Style>
         → IsStyle (rows_of (found_of options.now)) style → ⊥ }
 {
     let cap = Cap::new(small_number_of(options, "names")?)?;
-    let gnu = is_set(options, "gnu");
+    let gnu = asks_gnu(options);
     let by_segments = is_set(options, "by-segments");
     Some(Style {
         cap,
@@ -317,17 +289,31 @@ fn is_set(options: &ArgMatches<'_>, option: &str) -> bool
     }
 }
 
+/// Whether the options ask for a listing of the GNU system.
+pub(crate) fn asks_gnu(options: &ArgMatches<'_>) -> bool
+    ensures { result ≡ asks_gnu (rows_of (found_of options.now)) }
+{
+    is_set(options, "gnu")
+}
+
 /// The parts that the options ask for.
 pub(crate) fn parts_of(options: &ArgMatches<'_>) -> Option<Parts>
-    ensures some { IfSome result
-        (AreParts (first_of (codes "only") (rows_of (found_of options.now)))) }
+    ensures some { IfSome result (AreParts (rows_of (found_of options.now))) }
     ensures none { result ≡ None → (parts : Parts)
-        → AreParts (first_of (codes "only") (rows_of (found_of options.now))) parts → ⊥ }
+        → AreParts (rows_of (found_of options.now)) parts → ⊥ }
 {
+    let gnu = asks_gnu(options);
     match text_of(options, "only") {
-        Some(name) => part_named(name),
-        None => Some(WHOLE),
+        Some(name) => part_named(name, gnu),
+        None => Some(whole(gnu)),
     }
+}
+
+/// All parts of a listing of the GNU system (`gnu`), or of the standards' alone.
+pub(crate) fn whole(gnu: bool) -> Parts
+    ensures { result.0 ≡ all_parts gnu }
+{
+    if gnu { Parts(255) } else { Parts(127) }
 }
 
 /// The value of an argument, where it has one.
@@ -361,11 +347,11 @@ fn number_of(options: &ArgMatches<'_>, option: &str) -> Option<Option<u64>>
     options.try_get_one(option).ok()
 }
 
-/// The part of a listing that has this name.
+/// The part of a listing of the GNU system (`gnu`), or of the standards' alone, that has this name.
 #[tactic(auto, unfolding(elf_model::specs::Text::name_of))]
-fn part_named(name: &str) -> Option<Parts>
-    ensures some { IfSome result (λ parts. name_of part_names parts.0 ≡ Some name.now) }
-    ensures none { result ≡ None → is_part name.now ≡ false }
+fn part_named(name: &str, gnu: bool) -> Option<Parts>
+    ensures some { IfSome result (λ parts. name_of (part_names gnu) parts.0 ≡ Some name.now) }
+    ensures none { result ≡ None → is_part gnu name.now ≡ false }
 {
     match name {
         "header" => Some(Parts::HEADER),
@@ -375,6 +361,7 @@ fn part_named(name: &str) -> Option<Parts>
         "relocs" => Some(Parts::RELOCS),
         "notes" => Some(Parts::NOTES),
         "dynamic" => Some(Parts::DYNAMIC),
+        "versions" if gnu => Some(Parts::VERSIONS),
         _ => None,
     }
 }

@@ -103,7 +103,7 @@ fn push_names<'a>(items: &mut Vec<Placed<'a>>, names: &'a [Named]) -> Result<(),
 ///
 /// # Errors
 /// An item whose index or name there is twice.
-fn lend<'a>(items: &'a Items<'a>) -> Result<LentLayout<'a>, Item<'a>> {
+fn lend<'s, 'a: 's>(items: &'s Items<'a>) -> Result<LentLayout<'s>, Item<'s>> {
     let sections = match SortedSections::new(items.sections.as_slice()) {
         Ok(sections) => sections,
         Err(i) => {
@@ -175,7 +175,7 @@ fn last_line(text: &str, wanted: &Item<'_>) -> u64 {
 }
 
 /// Applies a section with the items of a file behind those that words give. The file is read and its
-/// items are sorted, in memory of the file's size, before the object is opened.
+/// items are sorted, in memory that its size bounds, before the object is opened.
 ///
 /// # Errors
 /// The file of items cannot be read, a line of it spells no item, or gives one that there is already:
@@ -212,11 +212,7 @@ where
 }
 
 /// The items of a layout, and of the lines of a text.
-fn collect<'a>(
-    alloc: Global,
-    layout: &'a Layout,
-    text: &'a str,
-) -> Result<Items<'a>, LinesFault> {
+fn collect<'a>(alloc: Global, layout: &'a Layout, text: &'a str) -> Result<Items<'a>, LinesFault> {
     let mut items = Items::new(alloc);
     if items.push_layout(layout).is_err() {
         return Err(LinesFault::Memory);

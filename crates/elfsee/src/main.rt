@@ -181,8 +181,8 @@ where
     StreamSource::over(OffsetReader::new(file)).map_err(|_| READ_FAULT)
 }
 
-/// Carries a request out and writes what is left of the output. It is not made part of its caller, whose stack would hold the buffers of a listing
-/// twice, one for each kind of source.
+/// Carries a request out and writes what is left of the output. It is not made part of its caller,
+/// whose stack would hold the buffers of a listing twice, one for each kind of source.
 #[inline(never)]
 fn write_answer<S: Source + Drop, W: Write + Drop>(
     request: &Request<'_>,
