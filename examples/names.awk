@@ -3,7 +3,8 @@
 #     elfsee show FILE | LC_ALL=C awk -f examples/names.awk
 #
 # It runs in any POSIX awk. In an R line the name begins at 64 + grown($4, 10), in a D line at
-# 43 + grown($2, 5), in an S line always at 105. docs/FORMAT.md has the columns; tests/format runs this.
+# 43 + grown($2, 5), in an X line at 28 + grown($3, 10), in an S line always at 105 and in a V line at 34.
+# docs/FORMAT.md has the columns; tests/format runs this.
 # How much wider than its usual width a field is.
 function grown(field, width) {
     return length(field) > width ? length(field) - width : 0
