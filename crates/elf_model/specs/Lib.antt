@@ -44,6 +44,7 @@ pub mod Find
 pub mod Placing
 pub mod Apply
 pub mod ApplyCost
+pub mod Explain
 pub mod FindApplyAnswer
 pub mod HashLaws
 pub mod Chains

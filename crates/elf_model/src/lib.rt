@@ -12,6 +12,7 @@ mod gnu_hash_laws;
 mod hash_laws;
 mod listing_laws;
 mod loader_laws;
+mod missing;
 mod names;
 mod notes;
 mod record_laws;
@@ -24,6 +25,7 @@ mod version_laws;
 mod versions;
 
 pub use causes::{Cause, Refusal};
+pub use missing::{Missing, Wanted};
 pub use relocation_types::{Base, Formula, Range, RelocationType};
 pub use states::FileState;
 pub use versions::VersionKind;

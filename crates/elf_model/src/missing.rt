@@ -1,0 +1,22 @@
+//! What a layout lacks.
+use crate::relocation_types::Base;
+
+/// An address that a layout may have.
+#[derive(Clone, Copy, Debug, PartialEq, Eq)]
+pub enum Wanted {
+    /// That of the section of an index.
+    Place(u16),
+    /// That which a base tells of a symbol's name.
+    Named(Base),
+}
+
+/// What a relocation entry was refused for want of.
+#[derive(Clone, Copy, Debug, PartialEq, Eq)]
+pub struct Missing {
+    /// The number of the entry's relocation type.
+    pub kind: u32,
+    /// Where the name of its symbol begins in the string table; 0 of symbol 0.
+    pub name: u32,
+    /// The address that the layout has not.
+    pub wanted: Wanted,
+}
