@@ -7,7 +7,8 @@ use Rattle.elf_model.specs.LoaderScope.{checks_of_type, records_of_type, records
 use Rattle.elf_model.specs.Numbers.{SHT_GNU_VERSYM, SHT_GNU_VERDEF, SHT_GNU_VERNEED}
 use Rattle.elf_model.specs.Records.{section_at, sh_offset, sh_size, sh_link}
 use Rattle.elf_model.specs.Tables.{all_checks}
-use Rattle.elf_model.specs.VersionRows.{VERSYM_SIZE, first_of_type, version_table}
+use Rattle.elf_model.specs.VersionRows.{first_of_type, version_table}
+use Rattle.elf_model.specs.Versions.{VERSYM_SIZE}
 use Rattle.elf_model.specs.declared.causes.Cause.TheVariants.{BadLink}
 use Rattle.elf_model.specs.declared.versions.VersionKind.{VersionKind}
 use Rattle.elf_model.specs.declared.versions.VersionKind.TheVariants.{Definition, File}

@@ -6,7 +6,7 @@ use Rattle.elf_model.specs.LoaderScope.{checks_of_type, records_with}
 use Rattle.elf_model.specs.Numbers.{SHT_GNU_VERSYM}
 use Rattle.elf_model.specs.Records.{sh_offset, sh_size, sh_link}
 use Rattle.elf_model.specs.Tables.{strings_of}
-use Rattle.elf_model.specs.VersionRows.{VERSYM_SIZE}
+use Rattle.elf_model.specs.Versions.{VERSYM_SIZE}
 use Rattle.elf_model.specs.declared.causes.Cause.TheVariants.{BadLink}
 use Rattle.elf_model.specs.declared.versions.VersionKind.{VersionKind}
 use Rattle.elf_table.specs.Tables.{RowsWithin}
