@@ -59,10 +59,10 @@ missing file header layout section refusal =
       | Some type ↦ elim (first_refusal (symbol_checks file header refusal.at)) [
         | Some other ↦ None
         | None ↦
-          let symbol = symbol_at file (linked_at file header) (r_sym file refusal.at) in
-          elim (r_sym file refusal.at == 0) [
-            | true ↦ missing_of (r_type file refusal.at) 0 (wanted refusal.cause type layout section None)
-            | false ↦ missing_of (r_type file refusal.at) (st_name file symbol) (wanted refusal.cause type layout section (Some (st_shndx file symbol)))
-          ]
+            let symbol = symbol_at file (linked_at file header) (r_sym file refusal.at) in
+            elim (r_sym file refusal.at == 0) [
+              | true ↦ missing_of (r_type file refusal.at) 0 (wanted refusal.cause type layout section None)
+              | false ↦ missing_of (r_type file refusal.at) (st_name file symbol) (wanted refusal.cause type layout section (Some (st_shndx file symbol)))
+            ]
       ]
     ]
