@@ -1,10 +1,10 @@
-# Prints the names of a listing's symbols, one a line, as the bytes that the file has.
+# Prints the names of a listing's lines of one kind, one a line, as the bytes that the file has: of symbols, or of
+# what `kind` says.
 #
 #     elfsee show FILE | LC_ALL=C awk -f examples/names.awk
+#     elfsee show --gnu FILE | LC_ALL=C awk -v kind=V -f examples/names.awk
 #
-# It runs in any POSIX awk. In an R line the name begins at 64 + grown($4, 10), in a D line at
-# 43 + grown($2, 5), in an X line at 28 + grown($3, 10), in an S line always at 105 and in a V line at 34.
-# docs/FORMAT.md has the columns; tests/format runs this.
+# It runs in any POSIX awk. docs/FORMAT.md has the columns; tests/format runs this.
 # How much wider than its usual width a field is.
 function grown(field, width) {
     return length(field) > width ? length(field) - width : 0
@@ -31,4 +31,14 @@ function bytes_of(text,    bytes, at, kind) {
     }
     return bytes text
 }
-/^Y/ { print bytes_of(substr($0, 85 + grown($3, 10))) }
+# Where the name of a line begins.
+function name_at() {
+    if (kind == "S") return 105
+    if (kind == "R") return 64 + grown($4, 10)
+    if (kind == "D") return 43 + grown($2, 5)
+    if (kind == "V") return 34
+    if (kind == "X") return 28 + grown($3, 10)
+    return 85 + grown($3, 10)
+}
+BEGIN { if (kind == "") kind = "Y" }
+substr($0, 1, 1) == kind { print bytes_of(substr($0, name_at())) }
