@@ -1,4 +1,3 @@
-pub mod Wants
 pub mod NumberSets
 pub mod Answering
 pub mod Comparing

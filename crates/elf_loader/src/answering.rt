@@ -3,7 +3,7 @@ ghost use Rattle.std.specs.Prelude.{◌≡◌, ◌+◌, ◌<◌, ◌≤◌, leng
 ghost use Rattle.elf_headers.specs.Ledger.{Did, why_stopped};
 ghost use Rattle.elf_loader.specs.Answering.{SaysOf, StandsAs, TellsAnswer};
 ghost use Rattle.elf_loader.specs.NumberSets.{has};
-ghost use Rattle.elf_loader.specs.Wants.{the_wanted};
+ghost use Rattle.elf_wanted.specs.Wants.{the_wanted};
 ghost use Rattle.elf_model.specs.Loader.{Symbols as AreSymbolsOf, answers};
 ghost use Rattle.elf_model.specs.Names.{pad64};
 ghost use Rattle.elf_scope.specs.Symbols.{IsSymbols, SymbolsLie};
@@ -11,7 +11,7 @@ ghost use Rattle.elf_scope.specs.Symbols.{IsSymbols, SymbolsLie};
 use crate::fitting::version_fits;
 use crate::number_set::NumberSet;
 use crate::offered::is_offered;
-use crate::wanted::Wanted;
+use elf_wanted::Wanted;
 use elf_hash::{Answer, Trial};
 use elf_headers::Fault;
 use elf_scope::Symbols;

@@ -3,7 +3,7 @@ ghost use Rattle.std.specs.Prelude.{◌≡◌, ℕ, ◌+◌, ◌*◌, ◌≤◌,
 ghost use Rattle.elf_headers.specs.Ledger.{Did, why_stopped};
 ghost use Rattle.elf_loader.specs.Comparing.{Collects, Compares};
 ghost use Rattle.elf_loader.specs.Tables.{most_of, most_versions, readings_before};
-ghost use Rattle.elf_loader.specs.Wants.{asked_of};
+ghost use Rattle.elf_wanted.specs.Wants.{asked_of};
 ghost use Rattle.elf_model.specs.Loader.{Reading, RecordTable as IsTableOf, asked_name, compared_with, readings};
 ghost use Rattle.elf_model.specs.LoaderFind.{record_cost, wanted_numbers};
 ghost use Rattle.elf_model.specs.LoaderScope.{Scope as IsScopeOf};
@@ -12,7 +12,7 @@ ghost use Rattle.elf_scope.specs.Symbols.{AreRecordTables, IsSymbols, RecordsWit
 
 use crate::comparing::compare_table;
 use crate::number_set::NumberSet;
-use crate::wanted::Asked;
+use elf_wanted::Asked;
 use elf_headers::Fault;
 use elf_scope::{RecordTable, Symbols};
 use elf_source::{Counted, Source};

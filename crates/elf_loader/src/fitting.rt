@@ -3,7 +3,7 @@ ghost use Rattle.std.specs.Prelude.{◌≡◌, ℕ, ◌+◌, ◌≤◌, List, If
 ghost use Rattle.elf_headers.specs.Ledger.{Did, IsRead, why_stopped};
 ghost use Rattle.elf_loader.specs.Answering.{TellsFit};
 ghost use Rattle.elf_loader.specs.NumberSets.{has};
-ghost use Rattle.elf_loader.specs.Wants.{asked_of};
+ghost use Rattle.elf_wanted.specs.Wants.{asked_of};
 ghost use Rattle.elf_model.specs.Bytes.{field, slice};
 ghost use Rattle.elf_model.specs.Loader.{VersionWords as AreWordsOf, fits, version_fits};
 ghost use Rattle.elf_scope.specs.Symbols.{AreWords};
@@ -11,7 +11,7 @@ ghost use Rattle.elf_table.specs.Tables.{RowsWithin};
 ghost use Rattle.std.specs.Prelude.{Option};
 
 use crate::number_set::NumberSet;
-use crate::wanted::Asked;
+use elf_wanted::Asked;
 use elf_headers::{Fault, fill, refused};
 use elf_record::{Cause, u16_at};
 use elf_scope::VersionWords;

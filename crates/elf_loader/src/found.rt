@@ -4,14 +4,14 @@ ghost use Rattle.elf_headers.specs.Ledger.{Did, why_stopped};
 ghost use Rattle.elf_loader.specs.Finding.{FindsVersion};
 ghost use Rattle.elf_loader.specs.Tables.{most_versions};
 ghost use Rattle.elf_loader.specs.Telling.{told_bytes};
-ghost use Rattle.elf_loader.specs.Wants.{asked_of};
+ghost use Rattle.elf_wanted.specs.Wants.{asked_of};
 ghost use Rattle.elf_model.specs.Loader.{VersionWords as AreWordsOf, version_word_at};
 ghost use Rattle.elf_model.specs.LoaderScope.{Scope as IsScopeOf};
 ghost use Rattle.elf_model.specs.Records.{versym};
 ghost use Rattle.elf_scope.specs.Symbols.{IsSymbols, IsWords, SymbolsLie};
 
 use crate::telling::told_name;
-use crate::wanted::Asked;
+use elf_wanted::Asked;
 use elf_headers::Fault;
 use elf_scope::{Symbols, VersionWords};
 use elf_source::{Counted, Source};

@@ -11,7 +11,5 @@ mod naming;
 mod number_set;
 mod offered;
 mod telling;
-mod wanted;
 
 pub use offered::is_offered;
-pub use wanted::{Asked, Wanted, wanted_of};

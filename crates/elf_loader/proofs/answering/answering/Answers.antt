@@ -3,7 +3,7 @@ use Rattle.std.proofs.Common.{Ok, ap, sym, ◌∙◌, arith}
 use Rattle.std.proofs.lemmas.Result.{err_from_is_err_and}
 use Rattle.elf_headers.proofs.LedgerLaws.{Did-as, Did-of, Did-then}
 use Rattle.elf_loader.specs.NumberSets.{has}
-use Rattle.elf_loader.specs.Wants.{the_wanted}
+use Rattle.elf_wanted.specs.Wants.{the_wanted}
 use Rattle.elf_loader.proofs.AnswerLaws.{fault-answers, fault-tells, offered-answers, other-answers, symbol-is, unoffered-answers}
 use Rattle.elf_loader.proofs.answering.answering.Goals as goal
 

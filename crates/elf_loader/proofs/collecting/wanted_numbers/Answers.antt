@@ -6,7 +6,7 @@ use Rattle.elf_model.specs.Loader.{asked_name, compared_with, readings}
 use Rattle.elf_model.specs.LoaderFind.{record_cost}
 use Rattle.elf_model.specs.Names.{pad64}
 use Rattle.elf_versions.proofs.WordLaws.{none-of}
-use Rattle.elf_loader.specs.Wants.{asked_of}
+use Rattle.elf_wanted.specs.Wants.{asked_of}
 use Rattle.elf_loader.proofs.CollectLaws.{all-compared, collects-all, collects-fault, collects-none, no-version, no-words}
 use Rattle.elf_loader.proofs.collecting.wanted_numbers.Goals as goal
 

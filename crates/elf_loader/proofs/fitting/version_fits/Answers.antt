@@ -5,7 +5,7 @@ use Rattle.elf_headers.specs.declared.fault.Fault.TheVariants.{Refused}
 use Rattle.elf_model.specs.declared.causes.Cause.TheVariants.{VersionCut}
 use Rattle.elf_versions.proofs.WordLaws.{none-of}
 use Rattle.elf_loader.specs.NumberSets.{has}
-use Rattle.elf_loader.specs.Wants.{asked_of}
+use Rattle.elf_wanted.specs.Wants.{asked_of}
 use Rattle.elf_loader.proofs.AnswerLaws.{fits-cut, fits-none, fits-word}
 use Rattle.elf_loader.proofs.fitting.version_fits.Goals as goal
 

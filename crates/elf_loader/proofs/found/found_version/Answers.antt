@@ -4,7 +4,7 @@ use Rattle.std.proofs.lemmas.Result.{err_from_is_err_and}
 use Rattle.elf_headers.proofs.LedgerLaws.{Charges-none, Did-as, Did-none}
 use Rattle.elf_model.specs.Loader.{asked_name}
 use Rattle.elf_versions.proofs.WordLaws.{none-of}
-use Rattle.elf_loader.specs.Wants.{asked_of}
+use Rattle.elf_wanted.specs.Wants.{asked_of}
 use Rattle.elf_loader.proofs.FoundLaws.{finds-fault, finds-told, finds-unnamed, finds-wanted, word-at}
 use Rattle.elf_loader.proofs.found.found_version.Goals as goal
 

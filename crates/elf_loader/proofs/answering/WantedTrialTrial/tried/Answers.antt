@@ -2,7 +2,7 @@
 use Rattle.std.proofs.Common.{arith}
 use Rattle.elf_headers.proofs.LedgerLaws.{Did-as}
 use Rattle.elf_loader.specs.NumberSets.{has}
-use Rattle.elf_loader.specs.Wants.{the_wanted}
+use Rattle.elf_wanted.specs.Wants.{the_wanted}
 use Rattle.elf_loader.proofs.AnswerLaws.{tries-as}
 use Rattle.elf_loader.proofs.answering.WantedTrialTrial.tried.Goals as goal
 

@@ -5,7 +5,7 @@ use Rattle.std.proofs.lemmas.Bool.Decides.{nat_tests}
 use Rattle.std.proofs.lemmas.List.Sums.{position_or_len_is}
 use Rattle.std.specs.List.{position_or_len}
 use Rattle.elf_model.specs.Loader.{AT_SIGN}
-use Rattle.elf_loader.proofs.wanted.find_sign.Goals as goal
+use Rattle.elf_wanted.proofs.wanted.find_sign.Goals as goal
 
 found : (bytes : List ℕ) (place : ℕ) → place < length bytes → ((i : ℕ) → i < place → (get_or bytes i 0 == AT_SIGN) ≡ false) → get_or bytes place 0 ≡ AT_SIGN
     → position (λ byte. byte == AT_SIGN) bytes ≡ Some place

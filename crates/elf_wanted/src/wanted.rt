@@ -1,7 +1,7 @@
 //! What is looked up.
 ghost use Rattle.std.specs.Prelude.{◌≡◌, ◌==◌, ◌<◌, length, position, None, Some, IfSome, false, option_map};
 ghost use Rattle.elf_model.specs.Loader.{AT_SIGN, asked_behind, asked_name, is_complete, wanted_of};
-ghost use Rattle.elf_loader.specs.Wants.{asked_of, the_wanted};
+ghost use Rattle.elf_wanted.specs.Wants.{asked_of, the_wanted};
 
 /// What stands between a name and its version.
 const AT_SIGN: u8 = b'@';
