@@ -1,6 +1,7 @@
 //! How the program ends.
-ghost use Rattle.std.specs.Prelude.{◌≡◌};
+ghost use Rattle.std.specs.Prelude.{◌≡◌, ◌≤◌, IfOk};
 ghost use Rattle.elf_run.specs.Answers.{exit_status, error_line, refused_status, refused_line};
+ghost use Rattle.elf_run.specs.ArchiveAnswers.{refused_by};
 
 use elf_table::Stop;
 use elf_words::RequestFault;
@@ -46,6 +47,19 @@ pub fn outcome(answer: &Result<u8, Stop>) -> Ending
         Err(Stop::Refused(_)) => (1, ""),
         Err(Stop::Source { .. }) => READ_FAULT,
         Err(Stop::Out(_)) => WRITE_FAULT,
+    }
+}
+
+/// What a listing of an archive answers, as a run does: the status 1 where the listing of a member was
+/// refused, else 0.
+pub fn archive_status(listed: Result<bool, Stop>) -> Result<u8, Stop>
+    ensures status { IfOk result (λ status. status ≤ 1) }
+    ensures refused { refused_by result ≡ listed }
+{
+    match listed {
+        Ok(true) => Ok(1),
+        Ok(false) => Ok(0),
+        Err(stop) => Err(stop),
     }
 }
 

@@ -4,12 +4,11 @@
 
 mod answering;
 mod applying;
-mod archives;
 mod endings;
 mod finding;
 
 pub use answering::run;
-pub use archives::run_archive;
 pub use endings::{
-    CANNOT_OPEN, Ending, NOT_UTF8, OUT_OF_MEMORY, READ_FAULT, WRITE_FAULT, outcome, refused,
+    CANNOT_OPEN, Ending, NOT_UTF8, OUT_OF_MEMORY, READ_FAULT, WRITE_FAULT, archive_status, outcome,
+    refused,
 };

@@ -2,9 +2,10 @@
 ghost use Rattle.std.specs.Prelude.{◌≡◌};
 
 use crate::{OUTPUT_BYTES, end_answer, open};
-use elf_run::{Ending, OUT_OF_MEMORY, run_archive};
+use elf_archive::show_archive;
+use elf_run::{Ending, OUT_OF_MEMORY, archive_status};
 use elf_source::{Counted, Out, RangeSource, Source, WriteSink};
-use elf_table::{HeaderRoom, HeaderStore};
+use elf_table::{Caps, HeaderRoom, HeaderStore};
 use elf_words::Archiving;
 use std::io::{self, BufWriter, Write};
 use std::os::unix::fs::FileExt;
@@ -42,6 +43,10 @@ fn write_archive<S: Source + Drop, W: Write + Drop>(
 {
     let mut src = Counted::new(RangeSource::new(source));
     let mut out = Out::new(WriteSink::new(output));
-    let answer = run_archive(asked, &mut src, &mut store, &mut out);
-    end_answer(&answer, out.into_inner().into_inner())
+    let caps = Caps {
+        limits: asked.limits,
+        style: asked.style,
+    };
+    let listed = show_archive(&mut src, &mut store, caps, asked.parts, &mut out);
+    end_answer(&archive_status(listed), out.into_inner().into_inner())
 }
