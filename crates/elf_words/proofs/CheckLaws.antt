@@ -21,8 +21,8 @@ no_task : (rows : List Row) (file : Option (Bor Text)) (task : Task) → IsTask 
 no_task rows None (Show parts name) (are, parts_are, is) = cc
 no_task rows (Some path) (Show parts name) (are, parts_are, is) = let e = is.0 in cc
 no_task rows file (Find wanted) is = let e = is.find in cc
-no_task rows file (Apply section layout) is = check_is_not_apply is.apply
-no_task rows file (Place section addresses) is = absurd is
+no_task rows file (Apply section layout explain) is = check_is_not_apply is.apply
+no_task rows file (Place section addresses explain) is = absurd is
 
 no_fault : (rows : List Row) (fault : RequestFault) → HasFault (Some (codes "check", rows)) fault → ⊥
 no_fault rows BadName (is, name) = cc
@@ -37,8 +37,8 @@ no_archive_task : (rows : List Row) (file : Option (Bor Text)) (task : Task) →
 no_archive_task rows None (Show parts name) (are, parts_are, is) = cc
 no_archive_task rows (Some path) (Show parts name) (are, parts_are, is) = let e = is.0 in cc
 no_archive_task rows file (Find wanted) is = let e = is.find in cc
-no_archive_task rows file (Apply section layout) is = let e = is.apply in cc
-no_archive_task rows file (Place section addresses) is = absurd is
+no_archive_task rows file (Apply section layout explain) is = let e = is.apply in cc
+no_archive_task rows file (Place section addresses explain) is = absurd is
 
 no_archive_fault : (rows : List Row) (fault : RequestFault) → HasFault (Some (codes "archive", rows)) fault → ⊥
 no_archive_fault rows BadName (is, name) = cc

@@ -93,21 +93,22 @@ abbrev pub item_words : List Row → List Text
 item_words rows = unwrap_or (all_of (codes "ITEM") rows) []
 
 -- the section with this index, below 2^16, is written, of the file whose path stands among the values, in the layout that the
--- words give
-pub record IsApplying (command : Text) (rows : List Row) (file : Option (Bor Text)) (section : ℕ) (layout : Layout) : Type 0 where
+-- words give; and whether it is told which item is missing
+pub record IsApplying (command : Text) (rows : List Row) (file : Option (Bor Text)) (section : ℕ) (layout : Layout) (explain : Bool) : Type 0 where
   pub apply : command ≡ codes "apply"
   pub path : IsFileNamed rows file
   pub index : HasNumber (one_of (codes "SECTION") rows) (Some section)
   pub small : section < 2 ^ 16
   pub items : Lays no_items (item_words rows) (Ok layout)
+  pub explained : explain ≡ is_set (first_of (codes "explain") rows)
 
 -- a task with its file, by the values of the options; no words give addresses that are kept otherwise
 abbrev pub IsTask : Text → List Row → Option (Bor Text) → Task → Type 0
 IsTask command rows file (Show parts style) =
     IsStyle rows style × AreParts rows parts × IsOfFile command rows file
 IsTask command rows file (Find wanted) = IsFinding command rows file wanted
-IsTask command rows file (Apply section layout) = IsApplying command rows file section layout.now
-IsTask command rows file (Place section addresses) = ⊥
+IsTask command rows file (Apply section layout explain) = IsApplying command rows file section layout.now explain
+IsTask command rows file (Place section addresses explain) = ⊥
 
 -- a command with the values of its arguments asks for just this
 abbrev pub AsksBy : Option (Text × List Row) → Request → Type 0

@@ -3,7 +3,8 @@
 ghost use Rattle.std.specs.Prelude.{◌≡◌, IfOk, false};
 ghost use Rattle.clap.specs.Words.{app_of, rule_of};
 ghost use Rattle.clap.specs.declared.builder.command.Command.TheViews.{out-Command as fields_of};
-ghost use Rattle.elf_words.specs.CommandLine.{apply_command, file_argument, find_command};
+ghost use Rattle.elf_words.specs.CommandLine.{apply_command, explain_option};
+ghost use Rattle.elf_words.specs.CommandLine.{file_argument, find_command};
 ghost use Rattle.elf_words.specs.CommandLine.{gnu_option, by_segments_option};
 ghost use Rattle.elf_words.specs.CommandLine.{with_checks, with_one_file};
 ghost use Rattle.elf_words.specs.CommandLine.{headers_option, item_argument, layout_option, max_read_option};
@@ -182,6 +183,7 @@ fn apply<'a>(alloc: Global) -> Result<Command<'a>, AllocError>
         .after_help(ITEMS);
     reading_options(alloc, command)?
         .arg(layout(alloc))?
+        .arg(explain(alloc))?
         .arg(file(alloc))?
         .arg(section(alloc))?
         .arg(item(alloc))
@@ -270,6 +272,17 @@ fn layout<'a>(alloc: Global) -> Arg<'a>
         .long("layout")
         .value_name("LIST")
         .help("Take the items in the file LIST too, one a line, as many as there are")
+}
+
+/// Whether it is told which item is missing, where an address is.
+fn explain<'a>(alloc: Global) -> Arg<'a>
+    ensures rule { rule_of result ≡ explain_option }
+    ensures local { result.global ≡ false }
+{
+    Arg::new(alloc, "explain")
+        .long("explain")
+        .action(ArgAction::SetTrue)
+        .help("Where an address is missing, tell on standard error which item would help")
 }
 
 /// The items of the layout.

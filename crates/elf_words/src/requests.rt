@@ -42,6 +42,8 @@ pub enum Task<'a> {
         section: u16,
         /// The addresses of sections, names and their entries.
         layout: &'a Layout,
+        /// Whether it is told which item is missing, where an address is.
+        explain: bool,
     },
     /// The same, in addresses that are kept otherwise.
     Place {
@@ -49,6 +51,8 @@ pub enum Task<'a> {
         section: u16,
         /// The addresses of sections, names and their entries.
         addresses: &'a Addresses<'a>,
+        /// Whether it is told which item is missing, where an address is.
+        explain: bool,
     },
 }
 

@@ -202,7 +202,13 @@ fn applying<'a>(
     let Some(section) = small_number_of(options, "SECTION") else {
         return Ok(None);
     };
-    Ok(in_file(options, Task::Apply { section, layout }))
+    let explain = is_set(options, "explain");
+    let task = Task::Apply {
+        section,
+        layout,
+        explain,
+    };
+    Ok(in_file(options, task))
 }
 
 /// The layout that is asked for, which has no item where no word gives one.
