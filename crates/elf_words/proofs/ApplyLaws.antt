@@ -11,7 +11,7 @@ use Rattle.elf_words.specs.declared.requests.Request.{Request}
 use Rattle.elf_words.specs.declared.requests.RequestFault.{RequestFault}
 use Rattle.elf_words.specs.declared.requests.RequestFault.TheVariants.{Memory, BadName, BadItem, LayoutFull, LayoutRepeat, Words as Told}
 use Rattle.elf_words.specs.declared.requests.Task.{Task}
-use Rattle.elf_words.specs.declared.requests.Task.TheVariants.{Show, Find, Apply, Place}
+use Rattle.elf_words.specs.declared.requests.Task.TheVariants.{Show, Find, Resolve, Apply, Place}
 use Rattle.elf_words.proofs.LayoutLaws.{never_refused}
 use Rattle.elf_words.proofs.OnceLaws.{laid}
 
@@ -40,6 +40,7 @@ only_applying : (rows : List Row) (file : Option (Bor Text)) (task : Task) → I
 only_applying rows None (Show parts name) (are, parts_are, is) = cc
 only_applying rows (Some path) (Show parts name) (are, parts_are, is) = let e = is.0 in cc
 only_applying rows file (Find wanted) is = let e = is.find in cc
+only_applying rows file (Resolve wanted) is = let e = is.find in cc
 only_applying rows file (Apply section layout explain) is = (section, layout.now, explain, is)
 only_applying rows file (Place section addresses explain) is = absurd is
 
