@@ -6,8 +6,8 @@ _elfsee_options() {
     case $1 in
     show | sample | archive) set -- --headers --names --max-read --only --gnu --by-segments ;;
     check) set -- --headers --names --max-read --only --gnu --by-segments --files0-from ;;
-    find) set -- --headers --max-read ;;
-    apply) set -- --headers --max-read --layout ;;
+    find) set -- --headers --max-read --gnu ;;
+    apply) set -- --headers --max-read --layout --explain ;;
     *) set -- ;;
     esac
     for option in "$@" --help; do

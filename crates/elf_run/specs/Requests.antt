@@ -64,5 +64,5 @@ RunsApply limits section layout old new before after result =
 abbrev pub RunsTask : Limits → Task → Counting → Counting → Written → Written → Result ℕ Stop → Type 0
 RunsTask limits (Show parts style) old new before after result = RunsShow (record { limits = limits; style = style }) parts.0 old new before after result
 RunsTask limits (Find wanted) old new before after result = RunsFind limits wanted.bytes.now old new before after result
-RunsTask limits (Apply section layout) old new before after result = RunsApply limits section layout.now old new before after result
-RunsTask limits (Place section addresses) old new before after result = RunsApply limits section addresses.now old new before after result
+RunsTask limits (Apply section layout explain) old new before after result = RunsApply limits section layout.now old new before after result
+RunsTask limits (Place section addresses explain) old new before after result = RunsApply limits section addresses.now old new before after result

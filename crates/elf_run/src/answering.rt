@@ -35,13 +35,19 @@ pub fn run<S: Source, W: Sink>(
     match request.task {
         Task::Show { parts, style } => list(src, store, Caps { limits, style }, parts, out),
         Task::Find(wanted) => look_up(src, store, limits, wanted.bytes, out),
-        Task::Apply { section, layout } => {
+        Task::Apply {
+            section,
+            layout,
+            ..
+        } => {
             let addresses = Addresses::fixed(layout);
             write_applied(src, store, limits, section, &addresses, out)
         }
-        Task::Place { section, addresses } => {
-            write_applied(src, store, limits, section, addresses, out)
-        }
+        Task::Place {
+            section,
+            addresses,
+            ..
+        } => write_applied(src, store, limits, section, addresses, out),
     }
 }
 

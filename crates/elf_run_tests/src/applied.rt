@@ -15,12 +15,26 @@ use std::test::Fail;
 /// Section 1 applied in a layout, in a file of three sections.
 pub(crate) fn first_applied(layout: &Layout) -> Result<Request<'_>, Fail> {
     let section = 1;
-    request(3, Task::Apply { section, layout })
+    request(
+        3,
+        Task::Apply {
+            section,
+            layout,
+            explain: false,
+        },
+    )
 }
 
 /// A section of the file with the call applied in a layout.
 pub(crate) fn call_applied(section: u16, layout: &Layout) -> Result<Request<'_>, Fail> {
-    request(5, Task::Apply { section, layout })
+    request(
+        5,
+        Task::Apply {
+            section,
+            layout,
+            explain: false,
+        },
+    )
 }
 
 /// A layout with an address of section 1 and of the entry for `f`.

@@ -1,17 +1,17 @@
 -- What the words for applying come to.
 use Rattle.std.proofs.Common.{◌≡◌, ℕ, ◌<◌, ◌^◌, List, Option, None, Some, Ok, Err, refl, sym, subst, codes}
-use Rattle.std.specs.Prelude.{IfSome}
+use Rattle.std.specs.Prelude.{Bool, IfSome}
 use Rattle.std.specs.Borrow.{Bor}
-use Rattle.clap.specs.Walk.{Row, Text, one_of}
+use Rattle.clap.specs.Walk.{Row, Text, first_of, one_of}
 use Rattle.elf_headers.specs.declared.caps.Limits.{Limits}
 use Rattle.elf_model.specs.Placing.{Layout}
-use Rattle.elf_words.specs.Asked.{AreLimits, AsksNothing, ComesTo, HasFault, HasNumber, IsApplying, IsFileNamed, IsTask, item_words}
+use Rattle.elf_words.specs.Asked.{AreLimits, AsksNothing, ComesTo, HasFault, HasNumber, IsApplying, IsFileNamed, IsTask, is_set, item_words}
 use Rattle.elf_words.specs.Layouts.{Lays, no_items}
 use Rattle.elf_words.specs.declared.requests.Request.{Request}
 use Rattle.elf_words.specs.declared.requests.RequestFault.{RequestFault}
 use Rattle.elf_words.specs.declared.requests.RequestFault.TheVariants.{Memory, BadName, BadItem, LayoutFull, LayoutRepeat, Words as Told}
 use Rattle.elf_words.specs.declared.requests.Task.{Task}
-use Rattle.elf_words.specs.declared.requests.Task.TheVariants.{Show, Find, Apply, Place}
+use Rattle.elf_words.specs.declared.requests.Task.TheVariants.{Show, Find, Resolve, Apply, Place}
 use Rattle.elf_words.proofs.LayoutLaws.{never_refused}
 use Rattle.elf_words.proofs.OnceLaws.{laid}
 
@@ -36,12 +36,13 @@ faultless rows layout lays (Told told) has = laid (item_words rows) no_items lay
 
 -- only an applying is asked for by `apply`
 only_applying : (rows : List Row) (file : Option (Bor Text)) (task : Task) → IsTask (codes "apply") rows file task
-    → (section : ℕ) × (layout : Layout) × IsApplying (codes "apply") rows file section layout
+    → (section : ℕ) × (layout : Layout) × (explain : Bool) × IsApplying (codes "apply") rows file section layout explain
 only_applying rows None (Show parts name) (are, parts_are, is) = cc
 only_applying rows (Some path) (Show parts name) (are, parts_are, is) = let e = is.0 in cc
 only_applying rows file (Find wanted) is = let e = is.find in cc
-only_applying rows file (Apply section layout) is = (section, layout.now, is)
-only_applying rows file (Place section addresses) is = absurd is
+only_applying rows file (Resolve wanted) is = let e = is.find in cc
+only_applying rows file (Apply section layout explain) is = (section, layout.now, explain, is)
+only_applying rows file (Place section addresses explain) is = absurd is
 
 -- there is no section with the index that is given
 pub no_section : (rows : List Row) (layout : Layout) → Lays no_items (item_words rows) (Ok layout)
@@ -49,24 +50,25 @@ pub no_section : (rows : List Row) (layout : Layout) → Lays no_items (item_wor
 no_section rows layout lays none = record {
   nothing = λ request asks.
       let is = only_applying rows request.file request.task asks.1 in
-      none is.0 is.2.small is.2.index;
+      none is.0 is.3.small is.3.index;
   faultless = faultless rows layout lays;
 }
 
 -- what an applying comes to, by whether there are a file and limits
-pub applied : (rows : List Row) (section : ℕ) (layout : Bor Layout) (r : Option Request) → Lays no_items (item_words rows) (Ok layout.now) → section < 2 ^ 16
-    → HasNumber (one_of (codes "SECTION") rows) (Some section) → IfSome r (λ request. request.task ≡ Apply section layout)
+pub applied : (rows : List Row) (section : ℕ) (layout : Bor Layout) (explain : Bool) (r : Option Request) → Lays no_items (item_words rows) (Ok layout.now) → section < 2 ^ 16
+    → HasNumber (one_of (codes "SECTION") rows) (Some section) → explain ≡ is_set (first_of (codes "explain") rows)
+    → IfSome r (λ request. request.task ≡ Apply section layout explain)
     → IfSome r (λ request. IsFileNamed rows request.file) → IfSome r (λ request. AreLimits rows request.limits)
     → (r ≡ None → (file : Option (Bor Text)) (limits : Limits) → IsFileNamed rows file → AreLimits rows limits → ⊥)
     → ComesTo (Some (codes "apply", rows)) (Ok r)
-applied rows section layout None lays small index task file limits none = record {
+applied rows section layout explain None lays small index told task file limits none = record {
   nothing = λ request asks.
       let is = only_applying rows request.file request.task asks.1 in
-      none refl request.file request.limits is.2.path asks.0;
+      none refl request.file request.limits is.3.path asks.0;
   faultless = faultless rows layout.now lays;
 }
-applied rows section layout (Some request) lays small index task file limits none = (
+applied rows section layout explain (Some request) lays small index told task file limits none = (
   limits,
   subst (λ t. IsTask (codes "apply") rows request.file t) (sym task)
-      record { apply = refl; path = file; index = index; small = small; items = lays },
+      record { apply = refl; path = file; index = index; small = small; items = lays; explained = told },
 )

@@ -8,7 +8,7 @@ use Rattle.elf_words.specs.Checks.{Becomes, NothingAsked, NothingChecked}
 use Rattle.elf_words.specs.declared.requests.RequestFault.{RequestFault}
 use Rattle.elf_words.specs.declared.requests.RequestFault.TheVariants.{Memory, BadName, BadItem, LayoutFull, LayoutRepeat, Words as Told}
 use Rattle.elf_words.specs.declared.requests.Task.{Task}
-use Rattle.elf_words.specs.declared.requests.Task.TheVariants.{Show, Find, Apply, Place}
+use Rattle.elf_words.specs.declared.requests.Task.TheVariants.{Show, Find, Resolve, Apply, Place}
 
 apart : (a b : ℕ) → a ≡ 99 → b ≡ 97 → a ≡ b → ⊥
 apart a b is_c is_a same = absurd (omega arith)
@@ -21,8 +21,9 @@ no_task : (rows : List Row) (file : Option (Bor Text)) (task : Task) → IsTask 
 no_task rows None (Show parts name) (are, parts_are, is) = cc
 no_task rows (Some path) (Show parts name) (are, parts_are, is) = let e = is.0 in cc
 no_task rows file (Find wanted) is = let e = is.find in cc
-no_task rows file (Apply section layout) is = check_is_not_apply is.apply
-no_task rows file (Place section addresses) is = absurd is
+no_task rows file (Resolve wanted) is = let e = is.find in cc
+no_task rows file (Apply section layout explain) is = check_is_not_apply is.apply
+no_task rows file (Place section addresses explain) is = absurd is
 
 no_fault : (rows : List Row) (fault : RequestFault) → HasFault (Some (codes "check", rows)) fault → ⊥
 no_fault rows BadName (is, name) = cc
@@ -37,8 +38,9 @@ no_archive_task : (rows : List Row) (file : Option (Bor Text)) (task : Task) →
 no_archive_task rows None (Show parts name) (are, parts_are, is) = cc
 no_archive_task rows (Some path) (Show parts name) (are, parts_are, is) = let e = is.0 in cc
 no_archive_task rows file (Find wanted) is = let e = is.find in cc
-no_archive_task rows file (Apply section layout) is = let e = is.apply in cc
-no_archive_task rows file (Place section addresses) is = absurd is
+no_archive_task rows file (Resolve wanted) is = let e = is.find in cc
+no_archive_task rows file (Apply section layout explain) is = let e = is.apply in cc
+no_archive_task rows file (Place section addresses explain) is = absurd is
 
 no_archive_fault : (rows : List Row) (fault : RequestFault) → HasFault (Some (codes "archive", rows)) fault → ⊥
 no_archive_fault rows BadName (is, name) = cc

@@ -1,9 +1,10 @@
 -- What the words of a command line ask for.
-use Rattle.std.specs.Prelude.{Bool, false, if◌then◌else◌, bytes_eq, ℕ, ◌≡◌, ◌<◌, ◌≤◌, ◌^◌, length, unwrap_or, Result, Ok, Err, List, [], ◌∷◌, codes, Option, None, Some}
+use Rattle.std.specs.Prelude.{Bool, true, false, if◌then◌else◌, bytes_eq, ℕ, ◌≡◌, ◌<◌, ◌≤◌, ◌^◌, length, unwrap_or, Result, Ok, Err, List, [], ◌∷◌, codes, Option, None, Some}
 use Rattle.std.specs.Borrow.{Bor}
 use Rattle.std.specs.List.{list_any}
 use Rattle.std.specs.Str.Parse.{IsNumeral, digits_value, without_leading_plus}
 use Rattle.clap.specs.Walk.{Row, Text, all_of, first_of, one_of}
+use Rattle.elf_model.specs.Loader.{is_complete, wanted_of}
 use Rattle.elf_model.specs.NameLaws.{IsWanted}
 use Rattle.elf_model.specs.Text.{name_of as name_in_table}
 use Rattle.elf_model.specs.Listing.{HEADER, SECTIONS, SEGMENTS, SYMBOLS, RELOCS, NOTES, DYNAMIC, VERSIONS, all_parts}
@@ -17,7 +18,8 @@ use Rattle.elf_words.specs.declared.requests.RequestFault.{RequestFault}
 use Rattle.elf_words.specs.declared.requests.RequestFault.TheVariants.{BadName}
 use Rattle.elf_words.specs.declared.requests.Task.{Task}
 use Rattle.elf_words.specs.declared.requests.Wanted.{Wanted}
-use Rattle.elf_words.specs.declared.requests.Task.TheVariants.{Show, Find, Apply, Place}
+use Rattle.elf_words.specs.declared.requests.WantedSymbol.{WantedSymbol}
+use Rattle.elf_words.specs.declared.requests.Task.TheVariants.{Show, Find, Resolve, Apply, Place}
 
 -- the parts that can be asked for, by their names: symbol versions in listings of the GNU system alone
 abbrev pub part_names : Bool → List (ℕ × List ℕ)
@@ -82,43 +84,67 @@ abbrev pub IsFileNamed : List Row → Option (Bor Text) → Type 0
 IsFileNamed rows None = ⊥
 IsFileNamed rows (Some path) = first_of (codes "FILE") rows ≡ Some path.now
 
--- a lookup in the file whose path stands among the values, of the name that stands there too
-pub record IsFinding (command : Text) (rows : List Row) (file : Option (Bor Text)) (wanted : Wanted) : Type 0 where
+-- a text that can be looked up: it has 1 to 4,096 bytes and no NUL, and where a loader of the GNU system looks it up, neither
+-- its name nor its version is empty
+pub record IsText (gnu : Bool) (text : Text) : Type 0 where
+  pub is_name : IsWanted text
+  pub most : length text ≤ 4096
+  pub complete : gnu ≡ true → is_complete (wanted_of text) ≡ true
+
+-- a lookup in the file whose path stands among the values, of the text that stands there too, and by whether it is one of a
+-- loader of the GNU system
+pub record IsLookup (command : Text) (rows : List Row) (file : Option (Bor Text)) (gnu : Bool) (text : Text) : Type 0 where
   pub find : command ≡ codes "find"
+  pub by_gnu : asks_gnu rows ≡ gnu
   pub path : IsFileNamed rows file
-  pub word : first_of (codes "NAME") rows ≡ Some wanted.bytes.now
+  pub word : first_of (codes "NAME") rows ≡ Some text
+
+-- a name is looked up in the file's own SysV hash table
+abbrev pub IsFinding : Text → List Row → Option (Bor Text) → Wanted → Type 0
+IsFinding command rows file wanted = IsLookup command rows file false wanted.bytes.now
+
+-- a symbol is looked up as a loader of the GNU system does it
+abbrev pub IsResolving : Text → List Row → Option (Bor Text) → WantedSymbol → Type 0
+IsResolving command rows file wanted = IsLookup command rows file true wanted.text.now
+
+-- a task looks a text up, as a loader of the GNU system does it or in the file's own SysV hash table
+abbrev pub LooksUp : Bool → Text → Task → Type 0
+LooksUp gnu text (Find wanted) = (gnu ≡ false) × (wanted.bytes.now ≡ text)
+LooksUp gnu text (Resolve wanted) = (gnu ≡ true) × (wanted.text.now ≡ text)
+LooksUp gnu text _ = ⊥
 
 -- the words for the items of a layout
 abbrev pub item_words : List Row → List Text
 item_words rows = unwrap_or (all_of (codes "ITEM") rows) []
 
 -- the section with this index, below 2^16, is written, of the file whose path stands among the values, in the layout that the
--- words give
-pub record IsApplying (command : Text) (rows : List Row) (file : Option (Bor Text)) (section : ℕ) (layout : Layout) : Type 0 where
+-- words give; and whether it is told which item is missing
+pub record IsApplying (command : Text) (rows : List Row) (file : Option (Bor Text)) (section : ℕ) (layout : Layout) (explain : Bool) : Type 0 where
   pub apply : command ≡ codes "apply"
   pub path : IsFileNamed rows file
   pub index : HasNumber (one_of (codes "SECTION") rows) (Some section)
   pub small : section < 2 ^ 16
   pub items : Lays no_items (item_words rows) (Ok layout)
+  pub explained : explain ≡ is_set (first_of (codes "explain") rows)
 
 -- a task with its file, by the values of the options; no words give addresses that are kept otherwise
 abbrev pub IsTask : Text → List Row → Option (Bor Text) → Task → Type 0
 IsTask command rows file (Show parts style) =
     IsStyle rows style × AreParts rows parts × IsOfFile command rows file
 IsTask command rows file (Find wanted) = IsFinding command rows file wanted
-IsTask command rows file (Apply section layout) = IsApplying command rows file section layout.now
-IsTask command rows file (Place section addresses) = ⊥
+IsTask command rows file (Resolve wanted) = IsResolving command rows file wanted
+IsTask command rows file (Apply section layout explain) = IsApplying command rows file section layout.now explain
+IsTask command rows file (Place section addresses explain) = ⊥
 
 -- a command with the values of its arguments asks for just this
 abbrev pub AsksBy : Option (Text × List Row) → Request → Type 0
 AsksBy None request = ⊥
 AsksBy (Some (command, rows)) request = AreLimits rows request.limits × IsTask command rows request.file request.task
 
--- a lookup of a name that can't be looked for: it has not 1 to 4,096 bytes, or a NUL
+-- a lookup of a text that can't be looked up
 abbrev pub NamesBadly : Text → List Row → Type 0
 NamesBadly command rows =
-    (command ≡ codes "find")
-    × ((name : Text) × (first_of (codes "NAME") rows ≡ Some name) × (IsWanted name → length name ≤ 4096 → ⊥))
+    (command ≡ codes "find") × ((text : Text) × (first_of (codes "NAME") rows ≡ Some text) × (IsText (asks_gnu rows) text → ⊥))
 
 -- a section to be written, in a layout of which the first word that is refused has this fault
 abbrev pub LaysBadly : Text → List Row → RequestFault → Type 0

@@ -60,7 +60,7 @@ abbrev pub with_reading_options : App → App
 with_reading_options command = with_rule (with_rule command headers_option) max_read_option
 
 abbrev pub find_command : App
-find_command = with_rule (with_rule (with_reading_options (new_app (codes "find"))) file_argument) name_argument
+find_command = with_rule (with_rule (with_rule (with_reading_options (new_app (codes "find"))) gnu_option) file_argument) name_argument
 
 abbrev pub section_argument : Rule
 section_argument = record (new_rule (codes "SECTION")) { required = true; parser = Some (Signed (pos 0) (pos 65535)) }
@@ -73,9 +73,13 @@ item_argument = record (new_rule (codes "ITEM")) { range = Some (record { start_
 abbrev pub layout_option : Rule
 layout_option = record (new_rule (codes "layout")) { long = Some (codes "layout"); value_names = 1 }
 
+-- whether it is told which item is missing
+abbrev pub explain_option : Rule
+explain_option = flag (codes "explain")
+
 abbrev pub apply_command : App
 apply_command =
-    with_rule (with_rule (with_rule (with_rule (with_reading_options (new_app (codes "apply"))) layout_option) file_argument) section_argument) item_argument
+    with_rule (with_rule (with_rule (with_rule (with_rule (with_reading_options (new_app (codes "apply"))) layout_option) explain_option) file_argument) section_argument) item_argument
 
 -- the program, whose words begin behind its name, and which wants a command
 abbrev pub without_command : App

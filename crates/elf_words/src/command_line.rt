@@ -3,7 +3,8 @@
 ghost use Rattle.std.specs.Prelude.{◌≡◌, IfOk, false};
 ghost use Rattle.clap.specs.Words.{app_of, rule_of};
 ghost use Rattle.clap.specs.declared.builder.command.Command.TheViews.{out-Command as fields_of};
-ghost use Rattle.elf_words.specs.CommandLine.{apply_command, file_argument, find_command};
+ghost use Rattle.elf_words.specs.CommandLine.{apply_command, explain_option};
+ghost use Rattle.elf_words.specs.CommandLine.{file_argument, find_command};
 ghost use Rattle.elf_words.specs.CommandLine.{gnu_option, by_segments_option};
 ghost use Rattle.elf_words.specs.CommandLine.{with_checks, with_one_file};
 ghost use Rattle.elf_words.specs.CommandLine.{headers_option, item_argument, layout_option, max_read_option};
@@ -27,12 +28,13 @@ Examples:
   elfsee show --only symbols --names 64 /bin/ls
   elfsee sample --only header
   elfsee find /lib/libexample.so printf
+  elfsee find --gnu /lib/libexample.so printf@GLIBC_2.2.5
   elfsee apply example.o 1 at:1=0x401000 def:main=0x401200
   elfsee check /usr/lib
   elfsee archive --only symbols /usr/lib/x86_64-linux-gnu/libc.a
 
-Options, before or behind FILE; find and apply have only --headers, --max-read and --, and
-apply --layout:
+Options, before or behind FILE; find and apply have only --headers, --max-read and --, find
+also --gnu, and apply --layout and --explain:
   --headers N   permit N section headers, and as many program headers:
                 1 to 65279 [default: 4096]
   --names N     show N bytes of a name: 1 to 4096 [default: 256]
@@ -40,11 +42,15 @@ apply --layout:
                 [default: any number]
   --only PART   list one part: header, sections, segments, symbols, relocs, notes or dynamic,
                 with --gnu also versions [default: all of them]; archive also has: members
-  --gnu         name the numbers of the GNU system too, and list symbol versions
+  --gnu         name the numbers of the GNU system too, and list symbol versions; of find: take
+                the symbol that a loader of the GNU system takes for NAME, NAME@VERSION or
+                NAME@@VERSION
   --by-segments find tables by the program headers, as a loader does, and list the file as if it
                 had no section headers
   --layout LIST for apply only: take the items in the file LIST too, one a line, as many as
                 there are
+  --explain     for apply only: where an address is missing, tell on standard error the type of
+                the relocation, the name of its symbol, and the item that would help
   --files0-from FILE
                 for check only: check the paths in FILE too, each ended by NUL
   --            end the options, so that FILE, PATH or NAME may begin with a hyphen
@@ -57,7 +63,8 @@ Exit status:
   2  the words are wrong, or ask for help, and no file is opened: standard error tells which
      word is wrong and why, or has the help, or one of these lines:
        elfsee: words are not UTF-8
-       elfsee: bad name       NAME is empty, or longer than 4096 bytes
+       elfsee: bad name       NAME is empty, or longer than 4096 bytes; with --gnu also where it
+                              has an empty name or an empty version
        elfsee: bad item       an item has another form, or its index or name is out of range
        elfsee: layout-full    there are too many items of one sort
        elfsee: layout-repeat  two items of one sort have the same INDEX or NAME
@@ -84,7 +91,13 @@ const FOUND: &str = "\
 The answer is the first symbol of that name in its chain in the file's SysV hash table,
 whatever its version and place; a loader may take another.
 
-Example: elfsee find /lib/libexample.so printf";
+With --gnu it is the symbol that a loader of the GNU system takes, of the GNU hash table or,
+where there is none, of the SysV one. NAME may then ask for a version: NAME@VERSION, or
+NAME@@VERSION where it is to be the default one.
+
+Examples:
+  elfsee find /lib/libexample.so printf
+  elfsee find --gnu /lib/libexample.so printf@GLIBC_2.2.5";
 
 /// The command line, with the names of the parts of a listing, and of those of an archive's.
 pub fn command_line<'a>(
@@ -165,9 +178,10 @@ fn find<'a>(alloc: Global) -> Result<Command<'a>, AllocError>
     ensures local { IfOk result (λ command. (fields_of command).has_globals ≡ false) }
 {
     let command = Command::new(alloc, "find")
-        .about("Look a name up by the file's own SysV hash table")
+        .about("Look a name up by the file's own hash table")
         .after_help(FOUND);
     reading_options(alloc, command)?
+        .arg(as_loader(alloc))?
         .arg(file(alloc))?
         .arg(name(alloc))
 }
@@ -182,6 +196,7 @@ fn apply<'a>(alloc: Global) -> Result<Command<'a>, AllocError>
         .after_help(ITEMS);
     reading_options(alloc, command)?
         .arg(layout(alloc))?
+        .arg(explain(alloc))?
         .arg(file(alloc))?
         .arg(section(alloc))?
         .arg(item(alloc))
@@ -237,6 +252,17 @@ fn name<'a>(alloc: Global) -> Arg<'a>
         .help("The name to look up: 1 to 4096 bytes")
 }
 
+/// Whether the name is looked up as a loader of the GNU system does it.
+fn as_loader<'a>(alloc: Global) -> Arg<'a>
+    ensures rule { rule_of result ≡ gnu_option }
+    ensures local { result.global ≡ false }
+{
+    Arg::new(alloc, "gnu")
+        .long("gnu")
+        .action(ArgAction::SetTrue)
+        .help("Take the symbol that a loader of the GNU system takes, by its version too")
+}
+
 /// How many headers are permitted.
 fn headers<'a>(alloc: Global) -> Arg<'a>
     ensures rule { rule_of result ≡ headers_option }
@@ -270,6 +296,17 @@ fn layout<'a>(alloc: Global) -> Arg<'a>
         .long("layout")
         .value_name("LIST")
         .help("Take the items in the file LIST too, one a line, as many as there are")
+}
+
+/// Whether it is told which item is missing, where an address is.
+fn explain<'a>(alloc: Global) -> Arg<'a>
+    ensures rule { rule_of result ≡ explain_option }
+    ensures local { result.global ≡ false }
+{
+    Arg::new(alloc, "explain")
+        .long("explain")
+        .action(ArgAction::SetTrue)
+        .help("Where an address is missing, tell the type, the symbol and the item that would help")
 }
 
 /// The items of the layout.

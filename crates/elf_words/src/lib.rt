@@ -15,6 +15,6 @@ mod words;
 
 pub use checks::{Archiving, Asked, Checking, Laying};
 pub use items::item;
-pub use names::checked_name;
-pub use requests::{Request, RequestFault, Task, Wanted};
+pub use names::{checked_name, checked_symbol};
+pub use requests::{Request, RequestFault, Task, Wanted, WantedSymbol};
 pub use words::request;

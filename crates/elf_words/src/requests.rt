@@ -1,5 +1,6 @@
 //! What can be asked for.
-ghost use Rattle.std.specs.Prelude.{◌≡◌, ◌≤◌, length};
+ghost use Rattle.std.specs.Prelude.{◌≡◌, ◌≤◌, length, true};
+ghost use Rattle.elf_model.specs.Loader.{is_complete, wanted_of};
 ghost use Rattle.elf_model.specs.NameLaws.{IsWanted};
 ghost use Rattle.clap.specs.Values.{kind_of};
 ghost use Rattle.clap.specs.declared.error.kind.ErrorKind.TheVariants.{OutOfMemory};
@@ -36,12 +37,16 @@ pub enum Task<'a> {
     },
     /// A name is looked up in it.
     Find(Wanted<'a>),
+    /// A symbol is looked up in it as a loader of the GNU system looks it up.
+    Resolve(WantedSymbol<'a>),
     /// One of its sections is written, with its relocations applied.
     Apply {
         /// The section's index.
         section: u16,
         /// The addresses of sections, names and their entries.
         layout: &'a Layout,
+        /// Whether it is told which item is missing, where an address is.
+        explain: bool,
     },
     /// The same, in addresses that are kept otherwise.
     Place {
@@ -49,6 +54,8 @@ pub enum Task<'a> {
         section: u16,
         /// The addresses of sections, names and their entries.
         addresses: &'a Addresses<'a>,
+        /// Whether it is told which item is missing, where an address is.
+        explain: bool,
     },
 }
 
@@ -59,6 +66,17 @@ pub struct Wanted<'a> {
     pub bytes: &'a [u8],
     pub ghost is_name: { IsWanted bytes.now },
     pub ghost most: { length bytes.now ≤ 4096 },
+}
+
+/// A symbol that can be looked up as a loader of the GNU system does it: a text NAME, NAME@VERSION or
+/// NAME@@VERSION of 1 to 4,096 bytes, none of them NUL, with no empty name and no empty version.
+#[derive(Clone, Copy, Debug, PartialEq, Eq)]
+pub struct WantedSymbol<'a> {
+    /// The bytes of the text.
+    pub text: &'a [u8],
+    pub ghost is_name: { IsWanted text.now },
+    pub ghost most: { length text.now ≤ 4096 },
+    pub ghost complete: { is_complete (wanted_of text.now) ≡ true },
 }
 
 impl<'a> Request<'a> {

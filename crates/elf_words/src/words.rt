@@ -8,7 +8,7 @@ ghost use Rattle.elf_model.specs.Listing.{all_parts};
 ghost use Rattle.elf_model.specs.Text.{name_of};
 ghost use Rattle.elf_words.specs.Asked.{AreLimits, AreParts, AsksBy, ComesTo, HasNumber, IsFileNamed};
 ghost use Rattle.elf_words.specs.Answered.{WordsAsk, WordsRefused};
-ghost use Rattle.elf_words.specs.Asked.{IsStyle, asks_gnu, is_part, is_set};
+ghost use Rattle.elf_words.specs.Asked.{IsStyle, IsText, LooksUp, asks_gnu, is_part, is_set};
 ghost use Rattle.elf_words.specs.Checks.{Becomes, IsAsked};
 ghost use Rattle.elf_words.specs.Asked.{item_words, part_names};
 ghost use Rattle.elf_words.specs.Layouts.{Lays, no_items};
@@ -22,7 +22,7 @@ use crate::check_words::check_asked;
 use crate::checks::{Asked, Laying};
 use crate::command_line::command_line;
 use crate::items::lay;
-use crate::names::checked_name;
+use crate::names::{checked_name, checked_symbol};
 use crate::requests::{Request, RequestFault, Task};
 use crate::unasked::unasked;
 use clap::ArgMatches;
@@ -178,17 +178,30 @@ fn listing<'a>(file: Option<&'a str>, options: &ArgMatches<'a>) -> Option<Reques
     })
 }
 
-/// A lookup in a file, within the limits that are asked for.
+/// A lookup in a file, within the limits that are asked for, as a loader of the GNU system does it
+/// where that is asked for.
 fn lookup<'a>(options: &ArgMatches<'a>) -> Result<Option<Request<'a>>, RequestFault>
     ensures { ComesTo (Some (codes "find", rows_of (found_of options.now))) result }
 {
     let Some(word) = text_of(options, "NAME") else {
         return Ok(None);
     };
-    let Some(wanted) = checked_name(word) else {
+    let Some(task) = lookup_of(word, asks_gnu(options)) else {
         return Err(RequestFault::BadName);
     };
-    Ok(in_file(options, Task::Find(wanted)))
+    Ok(in_file(options, task))
+}
+
+/// The lookup of a text, as a loader of the GNU system does it (`gnu`) or by the file's SysV hash
+/// table. None where the text is none that can be looked up so.
+fn lookup_of(text: &str, gnu: bool) -> Option<Task<'_>>
+    ensures some { IfSome result (LooksUp gnu text.now) }
+    ensures none { result ≡ None → IsText gnu text.now → ⊥ }
+{
+    if gnu {
+        return Some(Task::Resolve(checked_symbol(text)?));
+    }
+    Some(Task::Find(checked_name(text)?))
 }
 
 /// A section applied, within the limits and in the layout that are asked for.
@@ -202,7 +215,13 @@ fn applying<'a>(
     let Some(section) = small_number_of(options, "SECTION") else {
         return Ok(None);
     };
-    Ok(in_file(options, Task::Apply { section, layout }))
+    let explain = is_set(options, "explain");
+    let task = Task::Apply {
+        section,
+        layout,
+        explain,
+    };
+    Ok(in_file(options, task))
 }
 
 /// The layout that is asked for, which has no item where no word gives one.

@@ -188,7 +188,12 @@ pub fn apply_laid<R: Files + Print + AllocGlobal, W: Write + Drop>(
 where
     R::File: FileExt,
 {
-    let Task::Apply { section, layout } = asked.request.task else {
+    let Task::Apply {
+        section,
+        layout,
+        explain,
+    } = asked.request.task
+    else {
         return answer_request(rt, &asked.request);
     };
     let text = match fs::read_to_string(rt, asked.list) {
@@ -203,7 +208,7 @@ where
     };
     items.sort();
     match lend(&items) {
-        Ok(lent) => apply_lent(rt, &asked.request, section, &lent),
+        Ok(lent) => apply_lent(rt, &asked.request, section, explain, &lent),
         Err(repeat) => {
             let line = last_line(text.as_str(), &repeat);
             Err(told(rt.alloc(), errors, "layout-repeat", line))
@@ -228,6 +233,7 @@ fn apply_lent<R: Files + Print + AllocGlobal>(
     rt: &R,
     asked: &Request<'_>,
     section: u16,
+    explain: bool,
     lent: &LentLayout<'_>,
 ) -> Result<Ending, Ending>
 where
@@ -237,6 +243,7 @@ where
     let task = Task::Place {
         section,
         addresses: &addresses,
+        explain,
     };
     let request = Request {
         file: asked.file,

@@ -11,15 +11,17 @@ returns-clause-app c =
     let start : app_of c.after_help-command.result ≡ new_app (codes "apply") = search rules in
     let one = c.in_ok-reading_options.ensures.app ∙ ap with_reading_options start in
     let two = c.in_ok-arg.ensures.shape c.layout.ensures.local ∙ ap₂ with_rule one c.layout.ensures.rule in
-    let three = c.in_ok-arg-2.ensures.shape c.file.ensures.local ∙ ap₂ with_rule two c.file.ensures.rule in
-    let four = c.in_ok-arg-3.ensures.shape c.section.ensures.local ∙ ap₂ with_rule three c.section.ensures.rule in
-    IfOk-weaker c.arg-4.result _ _ (λ whole added. added.shape c.item.ensures.local ∙ ap₂ with_rule four c.item.ensures.rule) c.arg-4.ensures
+    let three = c.in_ok-arg-2.ensures.shape c.explain.ensures.local ∙ ap₂ with_rule two c.explain.ensures.rule in
+    let four = c.in_ok-arg-3.ensures.shape c.file.ensures.local ∙ ap₂ with_rule three c.file.ensures.rule in
+    let five = c.in_ok-arg-4.ensures.shape c.section.ensures.local ∙ ap₂ with_rule four c.section.ensures.rule in
+    IfOk-weaker c.arg-5.result _ _ (λ whole added. added.shape c.item.ensures.local ∙ ap₂ with_rule five c.item.ensures.rule) c.arg-5.ensures
 
 pub returns-clause-local : goal.returns-clause-local
 returns-clause-local c =
     let start : (fields_of c.after_help-command.result).has_globals ≡ false = search rules in
     let one = c.in_ok-reading_options.ensures.local start in
     let two = c.in_ok-arg.ensures.globals ∙ ap₂ ◌||◌ one c.layout.ensures.local in
-    let three = c.in_ok-arg-2.ensures.globals ∙ ap₂ ◌||◌ two c.file.ensures.local in
-    let four = c.in_ok-arg-3.ensures.globals ∙ ap₂ ◌||◌ three c.section.ensures.local in
-    IfOk-weaker c.arg-4.result _ _ (λ whole added. added.globals ∙ ap₂ ◌||◌ four c.item.ensures.local) c.arg-4.ensures
+    let three = c.in_ok-arg-2.ensures.globals ∙ ap₂ ◌||◌ two c.explain.ensures.local in
+    let four = c.in_ok-arg-3.ensures.globals ∙ ap₂ ◌||◌ three c.file.ensures.local in
+    let five = c.in_ok-arg-4.ensures.globals ∙ ap₂ ◌||◌ four c.section.ensures.local in
+    IfOk-weaker c.arg-5.result _ _ (λ whole added. added.globals ∙ ap₂ ◌||◌ five c.item.ensures.local) c.arg-5.ensures

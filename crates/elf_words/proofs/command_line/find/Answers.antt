@@ -10,12 +10,14 @@ pub returns-clause-app : goal.returns-clause-app
 returns-clause-app c =
     let start : app_of c.after_help-command.result ≡ new_app (codes "find") = search rules in
     let one = c.in_ok-reading_options.ensures.app ∙ ap with_reading_options start in
-    let two = c.in_ok-arg.ensures.shape c.file.ensures.local ∙ ap₂ with_rule one c.file.ensures.rule in
-    IfOk-weaker c.arg-2.result _ _ (λ whole added. added.shape c.name.ensures.local ∙ ap₂ with_rule two c.name.ensures.rule) c.arg-2.ensures
+    let two = c.in_ok-arg.ensures.shape c.as_loader.ensures.local ∙ ap₂ with_rule one c.as_loader.ensures.rule in
+    let three = c.in_ok-arg-2.ensures.shape c.file.ensures.local ∙ ap₂ with_rule two c.file.ensures.rule in
+    IfOk-weaker c.arg-3.result _ _ (λ whole added. added.shape c.name.ensures.local ∙ ap₂ with_rule three c.name.ensures.rule) c.arg-3.ensures
 
 pub returns-clause-local : goal.returns-clause-local
 returns-clause-local c =
     let start : (fields_of c.after_help-command.result).has_globals ≡ false = search rules in
     let one = c.in_ok-reading_options.ensures.local start in
-    let two = c.in_ok-arg.ensures.globals ∙ ap₂ ◌||◌ one c.file.ensures.local in
-    IfOk-weaker c.arg-2.result _ _ (λ whole added. added.globals ∙ ap₂ ◌||◌ two c.name.ensures.local) c.arg-2.ensures
+    let two = c.in_ok-arg.ensures.globals ∙ ap₂ ◌||◌ one c.as_loader.ensures.local in
+    let three = c.in_ok-arg-2.ensures.globals ∙ ap₂ ◌||◌ two c.file.ensures.local in
+    IfOk-weaker c.arg-3.result _ _ (λ whole added. added.globals ∙ ap₂ ◌||◌ three c.name.ensures.local) c.arg-3.ensures

@@ -17,5 +17,5 @@ pub returns-in_default : goal.returns-in_default
 returns-in_default c = no_section _ c.in_ok-layout.layout.now c.in_ok-layout.ensures.laid (c.in_default.ensures.none refl)
 
 pub returns : goal.returns
-returns c = applied _ c.in-Some.section c.in_ok-layout.layout c.in_file.result c.in_ok-layout.ensures.laid (search rules) c.in-Some.ensures.some c.in_file.ensures.task
+returns c = applied _ c.in-Some.section c.in_ok-layout.layout c.is_set-explain.result c.in_file.result c.in_ok-layout.ensures.laid (search rules) c.in-Some.ensures.some c.is_set-explain.ensures c.in_file.ensures.task
     c.in_file.ensures.file c.in_file.ensures.limits c.in_file.ensures.none
