@@ -69,6 +69,8 @@ int main(int count, char **words)
 }
 """
 SECONDS = 60
+# The most headers that `elfsee find` permits where none are given.
+HEADERS = 4096
 # Copies without section headers are made of libraries that are no larger.
 COPIED_BYTES = 16 << 20
 ABS, TLS, IFUNC, UNIQUE = 0xFFF1, 6, 10, 10
@@ -112,7 +114,7 @@ class Library:
         self.path = path
         with open(path, "rb") as file:
             self.content = mmap.mmap(file.fileno(), 0, access=mmap.ACCESS_READ)
-        self.scope = looked_up.Scope(self.content, 65279)
+        self.scope = looked_up.Scope(self.content, HEADERS)
         self.counted = collections.Counter()
         self.left_out = set()
 
@@ -185,7 +187,7 @@ class Library:
 def answer_of(program, path, text, cost):
     """The program's status and answer; with a cost it may read no more bytes."""
     limit = [] if cost is None else ["--max-read", str(cost)]
-    done = subprocess.run([program, "find", "--gnu", "--headers", "65279", *limit, "--", path, text],
+    done = subprocess.run([program, "find", "--gnu", *limit, "--", path, text],
                           stdin=subprocess.DEVNULL, capture_output=True, check=False, timeout=SECONDS)
     return done.returncode, done.stdout, done.stderr
 
@@ -231,7 +233,7 @@ def copied(library, folder):
     content = changed_files.without_sections(bytes(library.content))
     with tempfile.NamedTemporaryFile(dir=folder, delete=False) as file:
         file.write(content)
-    return file.name, looked_up.Scope(content, 65279)
+    return file.name, looked_up.Scope(content, HEADERS)
 
 
 def wrong_answer(program, library, copy, text, is_limited):
