@@ -136,7 +136,9 @@ def versioned_libraries(folder):
     for name in texts:
         for style in ("gnu", "sysv", "both") if name.endswith(".c") else ():
             path = os.path.join(folder, "%s_%s.so" % (name[:-2], style))
-            script = ["-Wl,--version-script=" + os.path.join(folder, "versions")] if name == "versioned.c" else ["-nostdlib"]
+            script = ["-nostdlib"]
+            if name == "versioned.c":
+                script = ["-Wl,--version-script=" + os.path.join(folder, "versions")]
             subprocess.run(["gcc", "-shared", "-fPIC", "-s", "-Wl,--hash-style=" + style, *script, "-o", path,
                             os.path.join(folder, name)], check=True)
             paths.append(path)

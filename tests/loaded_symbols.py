@@ -138,7 +138,8 @@ class Library:
             if own and count % 4 == 1:
                 texts.append(name + b"@@" + min(own))
             if count % 8 == 2:
-                texts += [name + b"@GLIBC_2.99", *(other for other in (name + b"_", name[:-1]) if other and other not in names)]
+                texts.append(name + b"@GLIBC_2.99")
+                texts += [other for other in (name + b"_", name[:-1]) if other and other not in names]
         return texts
 
     def number(self, index):
