@@ -1,5 +1,5 @@
 """What `elfsee apply` has to answer, computed a second time from the rules: for the scripts beside this
-module. It is written for plainness alone, and reads whole files."""
+module. It is written for plainness alone, and reads whole files. looked_up.py has the same for a lookup."""
 
 import struct
 
@@ -46,9 +46,9 @@ class Header:
     def check_inside(self):
         refuse_where(self.offset + self.size > self.length, self.at, "table-outside")
 
-    def check_rows(self):
-        refuse_where(self.entry != 24, self.at, "entry-size")
-        refuse_where(self.size % 24, self.at, "size-not-whole")
+    def check_rows(self, entry=24):
+        refuse_where(self.entry != entry, self.at, "entry-size")
+        refuse_where(self.size % entry, self.at, "size-not-whole")
         self.check_inside()
 
 
@@ -84,11 +84,16 @@ def symbols_of(headers, table):
     if symbols.size == 0:
         return symbols, None
     symbols.check_rows()
-    refuse_where(symbols.link == 0 or symbols.link >= len(headers), symbols.at, "bad-link")
-    strings = headers[symbols.link]
+    return symbols, strings_of(headers, symbols)
+
+
+def strings_of(headers, table):
+    """The string table of a section."""
+    refuse_where(table.link == 0 or table.link >= len(headers), table.at, "bad-link")
+    strings = headers[table.link]
     refuse_where(strings.type != STRTAB, strings.at, "not-strings")
     strings.check_inside()
-    return symbols, strings
+    return strings
 
 
 def is_named(content, strings, index, at, wanted):
@@ -96,7 +101,8 @@ def is_named(content, strings, index, at, wanted):
     if strings.size == 0 and index == 0:
         return False
     refuse_where(index >= strings.size, at, "name-outside")
-    there = content[strings.offset + index:strings.offset + strings.size][:len(wanted) + 1]
+    start = strings.offset + index
+    there = content[start:min(start + len(wanted) + 1, strings.offset + strings.size)]
     refuse_where(len(there) <= len(wanted) and wanted.startswith(there), at, "name-unended")
     return there == wanted + b"\0"
 

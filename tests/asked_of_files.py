@@ -25,6 +25,19 @@ int choose(int x) {
     default: return -x; } }
 int begin(int x) { return choose(x) + choose(x + 1) + (int)*places[x & 1]; }
 """
+# Functions of three versions, and symbols of each type and binding.
+VERSIONED = r"""
+int one(void) { return 1; } int two(void) { return 2; } int three(void) { return 3; }
+__asm__(".symver one, name@FIRST"); __asm__(".symver two, name@SECOND"); __asm__(".symver three, name@@THIRD");
+int data[4]; __thread int local; static int chosen(void) { return 4; }
+static void *choose(void) { return (void *)chosen; } int ifunc(void) __attribute__((ifunc("choose")));
+extern int printf(const char *, ...); int (*refers)(const char *, ...) = printf;
+int weak(void) __attribute__((weak)); int weak(void) { return data[1] + local; }
+int protected(void) __attribute__((visibility("protected"))); int protected(void) { return 5; }
+__asm__(".data; .globl unique; .type unique, @gnu_unique_object; unique: .long 6; .size unique, 4");
+__asm__(".globl absolute; .set absolute, 0x1234");
+"""
+VERSIONS = "FIRST { global: name; one; }; SECOND { global: two; data; } FIRST; THIRD { global: three; weak; } SECOND;\n"
 MODES = ("-O0", "-O2 -fno-pic", "-O2 -fPIC", "-Os -ffunction-sections -fdata-sections", "-O2 -g",
          "-O1 -fno-pic -mcmodel=kernel -mno-red-zone")
 
@@ -106,6 +119,29 @@ def compiled_objects(folder):
         subprocess.run(["gcc", "-shared", "-fPIC", "-Wl,--hash-style=sysv", "-nostdlib", "-o", path, source],
                        check=True)
         paths.append(path)
+    return paths
+
+
+def versioned_libraries(folder):
+    """Libraries with versions and without, with hash tables of either kind and of both, that can be loaded; none where
+    there is no gcc."""
+    if not shutil.which("gcc"):
+        return []
+    paths, texts = [], {"versioned.c": VERSIONED, "versions": VERSIONS}
+    for count in (200, 20000):
+        texts["plain_%d.c" % count] = "".join("int symbol_%d = %d;\n" % (i, i) for i in range(count))
+    for name, text in texts.items():
+        with open(os.path.join(folder, name), "w", encoding="ascii") as file:
+            file.write(text)
+    for name in texts:
+        for style in ("gnu", "sysv", "both") if name.endswith(".c") else ():
+            path = os.path.join(folder, "%s_%s.so" % (name[:-2], style))
+            script = ["-nostdlib"]
+            if name == "versioned.c":
+                script = ["-Wl,--version-script=" + os.path.join(folder, "versions")]
+            subprocess.run(["gcc", "-shared", "-fPIC", "-s", "-Wl,--hash-style=" + style, *script, "-o", path,
+                            os.path.join(folder, name)], check=True)
+            paths.append(path)
     return paths
 
 

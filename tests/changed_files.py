@@ -35,14 +35,14 @@ def number(rng, size):
     return rng.choice(NUMBERS)
 
 
-def change_table(rng, content):
-    """One number in a table of symbols, strings, entries or hash words."""
+def change_table(rng, content, types):
+    """One number in a table of one of some types."""
     shoff, = struct.unpack_from("<Q", content, 40)
     count, = struct.unpack_from("<H", content, 60)
     tables = []
     for at in range(shoff, min(shoff + 64 * count, len(content) - 63), 64):
         kind, = struct.unpack_from("<I", content, at + 4)
-        if kind in TABLE_TYPES:
+        if kind in types:
             tables.append(struct.unpack_from("<QQ", content, at + 24))
     if tables:
         offset, size = rng.choice(tables)
@@ -51,11 +51,11 @@ def change_table(rng, content):
         put(content, offset + width * rng.randrange(min(size, len(content)) // width + 1), width, value)
 
 
-def change(rng, content):
+def change(rng, content, types):
     """One change of a file."""
     size = len(content)
     if rng.random() < 0.4:
-        change_table(rng, content)
+        change_table(rng, content, types)
         return
     shoff, = struct.unpack_from("<Q", content, 40)
     phoff, = struct.unpack_from("<Q", content, 32)
@@ -94,10 +94,11 @@ def change(rng, content):
                     content[at:at + 64] = content[section:section + 64]
 
 
-def changed(rng, content):
-    """A copy with one change or some. Where it gets shorter than a file header, that is the last."""
+def changed(rng, content, types=TABLE_TYPES):
+    """A copy with one change or some, tables of some types more often than others. Where it gets shorter than a file
+    header, that is the last."""
     copy = bytearray(content)
     for _ in range(rng.choice((1, 1, 1, 2, 3, 5))):
         if len(copy) >= 64:
-            change(rng, copy)
+            change(rng, copy, types)
     return copy
