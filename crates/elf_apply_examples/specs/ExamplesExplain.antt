@@ -1,16 +1,18 @@
 -- Worked examples of what a layout lacks where the entry of a call, at 0x48, is refused.
-use Rattle.std.specs.Prelude.{◌≡◌, ◌+◌, ℕ, List, [], ◌∷◌, Option, None, Some}
+use Rattle.std.specs.Prelude.{◌≡◌, ◌+◌, ℕ, List, [], ◌∷◌, Option, None, Some, codes}
 use Rattle.elf_model.specs.Bytes.{little}
-use Rattle.elf_model.specs.Explain.{missing}
+use Rattle.elf_model.specs.Explain.{missing, refused_in, explained}
+use Rattle.elf_model.specs.ExplainLine.{explanation, lack_line}
 use Rattle.elf_model.specs.Fixtures.{with_bytes}
-use Rattle.elf_model.specs.FixturesApply.{one_call, with_symbol, empty_layout, placed_layout}
+use Rattle.elf_model.specs.FixturesApply.{one_call, two_relocation_sections, with_symbol, empty_layout, placed_layout}
+use Rattle.elf_model.specs.Names.Shown.{Whole, Cut}
 use Rattle.elf_model.specs.Placing.{Layout}
 use Rattle.elf_model.specs.declared.causes.Cause.{Cause}
 use Rattle.elf_model.specs.declared.causes.Cause.TheVariants.{Undefined, Unplaced, Unsupported, Overflow}
 use Rattle.elf_model.specs.declared.missing.Missing.{Missing}
 use Rattle.elf_model.specs.declared.missing.Wanted.{Wanted}
 use Rattle.elf_model.specs.declared.missing.Wanted.TheVariants.{Place, Named}
-use Rattle.elf_model.specs.declared.relocation_types.Base.TheVariants.{Linkage, Table}
+use Rattle.elf_model.specs.declared.relocation_types.Base.TheVariants.{Linkage, Table, Thread}
 
 -- what is missing at the entry of the call in a layout, whose section of entries has its header at 0x118
 abbrev pub MissesInCall : List ℕ → Layout → Cause → Option Missing → Type 0
@@ -44,3 +46,35 @@ NothingIsMissing =
     MissesInCall (typed_call 5) placed_layout Unsupported None
     × MissesInCall one_call placed_layout Overflow None
     × MissesInCall (with_bytes 0x54 (little 4 2) one_call) placed_layout Undefined None
+
+-- the first section of entries for a section that has one at an offset: none where it has the offset inside an entry, is for
+-- another section, or its checks fail
+abbrev pub SectionsOfEntries : Type 0
+SectionsOfEntries =
+    (refused_in (two_relocation_sections 10 24) 1 0x48 ≡ Some 2)
+    × (refused_in (two_relocation_sections 10 24) 1 0x60 ≡ Some 3)
+    × (refused_in (two_relocation_sections 10 24) 1 0x61 ≡ None)
+    × (refused_in (two_relocation_sections 10 24) 2 0x60 ≡ None)
+    × (refused_in (two_relocation_sections 10 16) 1 0x60 ≡ None)
+
+-- what is told of the entry of the call
+abbrev pub Tells : List ℕ → Layout → Cause → List ℕ → Type 0
+Tells file layout cause line = explanation (explained file 1 layout (record { at = 0x48; cause = cause })) ≡ line
+
+-- a definition or an entry of a name, an entry alone, a section; a name that has a fault; nothing is missing
+abbrev pub TellsOfCall : Type 0
+TellsOfCall =
+    Tells one_call placed_layout Undefined (codes "elfsee: PLT32 to f: plt:f=ADDR or def:f=ADDR would help\n")
+    × Tells (typed_call 9) placed_layout Unsupported (codes "elfsee: GOTPCREL to f: got:f=ADDR would help\n")
+    × Tells (with_symbol 6 (little 2 2)) placed_layout Unplaced (codes "elfsee: PLT32 to f: at:2=ADDR would help\n")
+    × Tells (with_symbol 0 (little 4 0)) empty_layout Unplaced (codes "elfsee: PLT32: at:1=ADDR would help\n")
+    × Tells (with_symbol 0 (little 4 9)) placed_layout Undefined []
+    × Tells one_call placed_layout Overflow []
+
+-- no item has a name that is cut, or is empty
+abbrev pub NoItemNames : Type 0
+NoItemNames =
+    (lack_line (record { missing = record { kind = 41; name = 1; wanted = Named Table }; name = Cut (codes "f g") })
+        ≡ codes "elfsee: GOTPCRELX to f g\\+: no item can name it\n")
+    × (lack_line (record { missing = record { kind = 22; name = 0; wanted = Named Thread }; name = Whole [] })
+        ≡ codes "elfsee: GOTTPOFF: no item can name it\n")

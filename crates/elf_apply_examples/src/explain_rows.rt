@@ -1,5 +1,6 @@
 //! What a layout lacks at an entry, computed by the prover.
 ghost use Rattle.elf_apply_examples.specs.ExamplesExplain.{NamesAreMissing, SectionsAreMissing, NothingIsMissing};
+ghost use Rattle.elf_apply_examples.specs.ExamplesExplain.{NoItemNames, SectionsOfEntries, TellsOfCall};
 
 /// Definitions and entries of tables.
 #[tactic(auto, unfolding(elf_model::proofs::OnLiterals::on_literals, crate::proofs::OnExamples::on_examples))]
@@ -17,4 +18,22 @@ pub fn sections_are_missing()
 #[tactic(auto, unfolding(elf_model::proofs::OnLiterals::on_literals, crate::proofs::OnExamples::on_examples))]
 pub fn nothing_is_missing()
     ensures { NothingIsMissing }
+{}
+
+/// Where the section of entries is that a refusal points into.
+#[tactic(auto, unfolding(elf_model::proofs::OnLiterals::on_literals, crate::proofs::OnExamples::on_examples))]
+pub fn sections_of_entries()
+    ensures { SectionsOfEntries }
+{}
+
+/// Lines that tell what would help.
+#[tactic(auto, unfolding(elf_model::proofs::OnLiterals::on_literals, crate::proofs::OnExamples::on_examples))]
+pub fn tells_of_call()
+    ensures { TellsOfCall }
+{}
+
+/// Lines of names that no item has.
+#[tactic(auto, unfolding(elf_model::proofs::OnLiterals::on_literals, crate::proofs::OnExamples::on_examples))]
+pub fn no_item_names()
+    ensures { NoItemNames }
 {}

@@ -1,12 +1,15 @@
 -- What a layout lacks where a relocation entry was refused: the address of a section, or one that is told of a name.
-use Rattle.std.specs.Prelude.{ℕ, ◌==◌, ◌&&◌, ◌||◌, nat_lt, not, is_none, Bool, true, false, if◌then◌else◌, List, Option, None, Some}
-use Rattle.elf_model.specs.Apply.{symbol_checks}
-use Rattle.elf_model.specs.Checks.{first_refusal}
+use Rattle.std.specs.Prelude.{ℕ, ◌-◌, ◌/◌, ◌==◌, ◌&&◌, ◌||◌, nat_lt, not, is_none, Bool, true, false, if◌then◌else◌, List, [], Option, None, Some, Result, Ok, Err}
+use Rattle.elf_model.specs.Apply.{applies_to, symbol_checks}
+use Rattle.elf_model.specs.Checks.{first_refusal, pass}
+use Rattle.elf_model.specs.Find.{first_that}
 use Rattle.elf_model.specs.Hash.{symbol_at}
+use Rattle.elf_model.specs.Names.{Shown, shown}
+use Rattle.elf_model.specs.Names.Shown.{Whole}
 use Rattle.elf_model.specs.Numbers.{SHN_UNDEF, SHN_LORESERVE}
 use Rattle.elf_model.specs.Placing.{Layout, address_in}
-use Rattle.elf_model.specs.Records.{st_name, st_shndx, r_sym, r_type}
-use Rattle.elf_model.specs.Tables.{linked_at}
+use Rattle.elf_model.specs.Records.{e_shnum, sh_offset, st_name, st_shndx, r_sym, r_type, section_at}
+use Rattle.elf_model.specs.Tables.{RELA_SIZE, entry_at, entry_count, linked_at, relocation_table_checks, strings_of}
 use Rattle.elf_model.specs.Values.{takes_place, kind_of}
 use Rattle.elf_model.specs.declared.causes.Cause.{Cause}
 use Rattle.elf_model.specs.declared.causes.Cause.TheVariants.{Unplaced, Undefined, Unsupported}
@@ -15,6 +18,7 @@ use Rattle.elf_model.specs.declared.missing.Missing.{Missing}
 use Rattle.elf_model.specs.declared.missing.Wanted.{Wanted}
 use Rattle.elf_model.specs.declared.missing.Wanted.TheVariants.{Place, Named}
 use Rattle.elf_model.specs.declared.relocation_types.Base.{Base}
+use Rattle.elf_model.specs.declared.relocation_types.Formula.{Formula}
 use Rattle.elf_model.specs.declared.relocation_types.RelocationType.{RelocationType}
 
 -- no address is given for a section
@@ -32,15 +36,16 @@ unfoldable pub name_wanted : Base → Option ℕ → Option Wanted
 name_wanted base None = None
 name_wanted base (Some index) = Some (Named base)
 
+-- the section without an address: that which is relocated where the formula takes P, else the symbol's
+unfoldable pub place_wanted : Formula → Layout → ℕ → Option ℕ → Option Wanted
+place_wanted formula layout section index =
+    elim (takes_place formula && is_unplaced layout section) [ true ↦ Some (Place section) | false ↦ symbol_place layout index ]
+
 -- What is wanted where an entry of a type was refused for a cause, by the section index of its symbol, or none for symbol
 -- 0. For want of a section's address: that of the section that is relocated where the formula takes P and it has none, else
 -- that of the symbol's section. For want of a name's: what the type's base tells of it.
 unfoldable pub wanted : Cause → RelocationType → Layout → ℕ → Option ℕ → Option Wanted
-wanted Unplaced type layout section index =
-    elim (takes_place type.formula && is_unplaced layout section) [
-      | true ↦ Some (Place section)
-      | false ↦ symbol_place layout index
-    ]
+wanted Unplaced type layout section index = place_wanted type.formula layout section index
 wanted Undefined type layout section index = name_wanted type.base index
 wanted Unsupported type layout section index = name_wanted type.base index
 wanted _ type layout section index = None
@@ -65,4 +70,52 @@ missing file header layout section refusal =
               | false ↦ missing_of (r_type file refusal.at) (st_name file symbol) (wanted refusal.cause type layout section (Some (st_shndx file symbol)))
             ]
       ]
+    ]
+
+-- one of the entries of a section of relocation entries, whose header stands at an offset, stands at another
+unfoldable pub has_entry : List ℕ → ℕ → ℕ → Bool
+has_entry file header rela =
+    let index = (rela - sh_offset file header) / RELA_SIZE in
+    nat_lt index (entry_count file header RELA_SIZE) && entry_at file header RELA_SIZE index == rela
+
+-- a section holds relocation entries for another, its checks pass, and one of its entries stands at an offset
+unfoldable pub relocates_at : List ℕ → ℕ → ℕ → ℕ → Bool
+relocates_at file section rela header =
+    applies_to file section header && pass (relocation_table_checks file header) && has_entry file header rela
+
+-- THE SECTION OF ENTRIES that a refusal at an offset points into: the first of those, by its index
+unfoldable pub refused_in : List ℕ → ℕ → ℕ → Option ℕ
+refused_in file section rela = first_that (λ i. relocates_at file section rela (section_at file i)) 0 (e_shnum file)
+
+-- how many bytes of the symbol's name are told: as many as the name of an item has at most
+abbrev pub ITEM_NAME_SIZE : ℕ
+ITEM_NAME_SIZE = 255
+
+-- the name of a symbol as it is told: where st_name is 0 it has none (gABI 4, Symbol Table)
+unfoldable pub told_name : List ℕ → ℕ → Result Shown Cause
+told_name strings index = elim (index == 0) [ true ↦ Ok (Whole []) | false ↦ shown strings index ITEM_NAME_SIZE ]
+
+-- what is missing, and the name of the entry's symbol
+pub record Lack : Type 0 where
+  pub missing : Missing
+  pub name : Shown
+
+-- that, where the name has no fault
+abbrev pub lack_with : Missing → Result Shown Cause → Option Lack
+lack_with missing (Ok name) = Some (record { missing = missing; name = name })
+lack_with missing (Err cause) = None
+
+-- the same of an entry in a section of entries with this header, where something is missing
+unfoldable pub lack_of : List ℕ → ℕ → Option Missing → Option Lack
+lack_of file header None = None
+lack_of file header (Some missing) = lack_with missing (told_name (strings_of file (linked_at file header)) missing.name)
+
+-- WHAT A LAYOUT LACKS where a section, by its index, was refused: by the section of entries that the refusal points into
+unfoldable pub explained : List ℕ → ℕ → Layout → Refusal → Option Lack
+explained file section layout refusal =
+    elim (refused_in file section refusal.at) [
+      | None ↦ None
+      | Some index ↦
+          let header = section_at file index in
+          lack_of file header (missing file header layout section refusal)
     ]

@@ -45,6 +45,7 @@ pub mod Placing
 pub mod Apply
 pub mod ApplyCost
 pub mod Explain
+pub mod ExplainLine
 pub mod FindApplyAnswer
 pub mod HashLaws
 pub mod Chains

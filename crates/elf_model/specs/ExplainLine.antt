@@ -1,0 +1,67 @@
+-- The line of what a layout lacks, for standard error: the relocation type, the symbol's name, and the item that would help.
+use Rattle.std.specs.Prelude.{ℕ, ◌==◌, Bool, true, false, List, [], ◌++◌, length, codes, decimal, Option, None, Some}
+use Rattle.elf_model.specs.Explain.{Lack}
+use Rattle.elf_model.specs.Lines.{name_text}
+use Rattle.elf_model.specs.NameTables.{relocation_type_text}
+use Rattle.elf_model.specs.Names.{Shown}
+use Rattle.elf_model.specs.Names.Shown.{Whole, Cut}
+use Rattle.elf_model.specs.Numbers.{EM_X86_64}
+use Rattle.elf_model.specs.declared.missing.Wanted.{Wanted}
+use Rattle.elf_model.specs.declared.missing.Wanted.TheVariants.{Place, Named}
+use Rattle.elf_model.specs.declared.relocation_types.Base.{Base}
+use Rattle.elf_model.specs.declared.relocation_types.Base.TheVariants.{Symbol, Linkage, Table, Thread}
+
+-- there is no name
+abbrev pub is_unnamed : Shown → Bool
+is_unnamed (Whole name) = length name == 0
+is_unnamed (Cut front) = false
+
+-- no item has this name: it is empty, or longer than the name of an item
+abbrev pub has_no_item : Shown → Bool
+has_no_item (Whole name) = length name == 0
+has_no_item (Cut front) = true
+
+-- the relocation type, named as in a listing with the names of the GNU system
+unfoldable pub type_front : ℕ → List ℕ
+type_front kind = codes "elfsee: " ++ relocation_type_text true EM_X86_64 kind
+
+-- that, and the symbol's name where there is one
+unfoldable pub entry_text : ℕ → Shown → List ℕ
+entry_text kind name =
+    elim (is_unnamed name) [
+      | true ↦ type_front kind ++ codes ": "
+      | false ↦ (type_front kind ++ codes " to ") ++ (name_text name ++ codes ": ")
+    ]
+
+-- the item of a section
+unfoldable pub place_text : ℕ → List ℕ
+place_text section = codes "at:" ++ decimal section ++ codes "=ADDR would help\n"
+
+-- the item of a name, by the word of its sort, and what stands behind it
+abbrev pub item_text : List ℕ → List ℕ → List ℕ → List ℕ
+item_text word name tail = (word ++ name) ++ tail
+
+-- the item of a definition of a name
+abbrev pub definition_text : List ℕ → List ℕ
+definition_text name = item_text (codes "def:") name (codes "=ADDR would help\n")
+
+-- the item of a name that gives what a base tells; L is S without an entry, so that a definition would do too
+unfoldable pub items_text : Base → List ℕ → List ℕ
+items_text Symbol name = definition_text name
+items_text Linkage name = item_text (codes "plt:") name (codes "=ADDR or ") ++ definition_text name
+items_text Table name = item_text (codes "got:") name (codes "=ADDR would help\n")
+items_text Thread name = item_text (codes "tpgot:") name (codes "=ADDR would help\n")
+
+-- the item that would help
+unfoldable pub help_text : Wanted → Shown → List ℕ
+help_text (Place section) name = place_text section
+help_text (Named base) name = elim (has_no_item name) [ true ↦ codes "no item can name it\n" | false ↦ items_text base (name_text name) ]
+
+-- the line
+unfoldable pub lack_line : Lack → List ℕ
+lack_line lack = entry_text lack.missing.kind lack.name ++ help_text lack.missing.wanted lack.name
+
+-- what is told of a refusal: that line, or nothing
+abbrev pub explanation : Option Lack → List ℕ
+explanation None = []
+explanation (Some lack) = lack_line lack
