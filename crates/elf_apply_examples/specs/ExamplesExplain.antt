@@ -75,6 +75,6 @@ TellsOfCall =
 abbrev pub NoItemNames : Type 0
 NoItemNames =
     (lack_line (record { missing = record { kind = 41; name = 1; wanted = Named Table }; name = Cut (codes "f g") })
-        ≡ codes "elfsee: GOTPCRELX to f g\\+: no item can name it\n")
+    ≡ codes "elfsee: GOTPCRELX to f g\\+: no item can name it\n")
     × (lack_line (record { missing = record { kind = 22; name = 0; wanted = Named Thread }; name = Whole [] })
-        ≡ codes "elfsee: GOTTPOFF: no item can name it\n")
+    ≡ codes "elfsee: GOTTPOFF: no item can name it\n")

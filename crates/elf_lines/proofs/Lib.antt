@@ -1,7 +1,9 @@
 pub mod Digits
 pub mod HexText
+pub mod LackText
 pub mod NameText
 pub mod Names
 pub mod Pieces
+pub mod PutsSteps
 pub mod TagBits
 pub mod ToldText

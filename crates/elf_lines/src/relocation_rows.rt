@@ -70,7 +70,7 @@ fn put_relocation_type(line: &mut Line, kind: u32, naming: Naming)
 
 /// A number behind a `#`.
 #[tactic(auto, unfolding(elf_model::specs::NameTables::number_sign))]
-fn number_sign(number: u32) -> Line
+pub(crate) fn number_sign(number: u32) -> Line
     ensures text { result.items ≡ number_sign number }
     ensures short { array_vec_len result ≤ 21 }
 {
@@ -94,7 +94,7 @@ fn put_addend(line: &mut Line, addend: i64)
 
 /// The name of a relocation type of x86-64.
 #[tactic(auto, using(crate::proofs::Names::name_of_both), unfolding(crate::specs::Rows::relocation_types))]
-fn relocation_type_name(kind: u32, gnu: bool) -> Option<&'static str>
+pub(crate) fn relocation_type_name(kind: u32, gnu: bool) -> Option<&'static str>
     ensures name { option_copied result ≡ name_of (relocation_types gnu) kind }
     ensures short { IfSome result (λ name. length name.now ≤ 10) }
 {

@@ -1,0 +1,4 @@
+pub mod EntryLaws
+pub mod ExplainLaws
+pub mod LackLaws
+pub mod NamingLaws

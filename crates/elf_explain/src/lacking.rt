@@ -1,0 +1,193 @@
+//! What an entry lacks in a layout.
+ghost use Rattle.std.specs.Prelude.{◌≡◌, ◌+◌, ◌≤◌, ℕ, List, IfOk, IfSome};
+ghost use Rattle.elf_model.specs.Explain.{missing, name_wanted, place_wanted, wanted};
+ghost use Rattle.elf_model.specs.Records.{r_sym};
+ghost use Rattle.elf_headers.specs.Ledger.{Did, why_stopped};
+ghost use Rattle.elf_table.specs.Relocations.{RefersTo};
+ghost use Rattle.elf_table.specs.Tables.{StringsWithin, SymbolsWithin};
+ghost use Rattle.elf_explain.specs.Explained.{EntryRead, EntryWithin, LackOf, LacksRead};
+ghost use Rattle.elf_explain.specs.Explained.{SymbolRead};
+
+use crate::entries::Linked;
+use elf_headers::{Fault, fill};
+use elf_layout::Addresses;
+use elf_model::{Missing, Wanted};
+use elf_record::numbers::{SHN_LORESERVE, SHN_UNDEF};
+use elf_record::{Cause, Refusal, Rela};
+use elf_reloc::{Base, Formula, RelocationType, relocation_type, takes_place};
+use elf_source::{Counted, Source};
+use elf_table::Names;
+
+/// The symbol that an entry names: where its name begins, its section index, which symbol 0 does not
+/// have, the string table of its name, and the file offset at which it stands.
+#[derive(Clone, Copy)]
+pub(crate) struct Named {
+    pub(crate) name: u32,
+    pub(crate) index: Option<u16>,
+    pub(crate) names: Names,
+    pub(crate) at: u64,
+}
+
+/// What an entry lacks, with the string table of its symbol's name, and the symbol's file offset.
+#[derive(Clone, Copy)]
+pub(crate) struct Lacking {
+    pub(crate) missing: Missing,
+    pub(crate) names: Names,
+    pub(crate) at: u64,
+}
+
+/// What the entry at a refusal's offset lacks, which refers to these symbols, for a section: by the
+/// entry and its symbol, 24 bytes each.
+///
+/// # Errors
+/// A fault of a read, or a refusal for want of budget, at the offset that was asked for.
+pub(crate) fn lacking_at<S: Source>(
+    src: &mut Counted<S>,
+    layout: &Addresses<'_>,
+    section: u16,
+    refusal: Refusal,
+    linked: Linked,
+) -> Result<Option<Lacking>, Fault>
+    requires { EntryWithin src.old.seen.size refusal.at linked }
+    ensures did { Did src.old src.new (why_stopped result) 48
+        (λ file. (header : ℕ) → RefersTo file header linked →
+        LacksRead file header (missing file header layout.now section refusal) result) }
+    ensures within { IfOk result (λ found.
+        IfSome found (λ lacking. StringsWithin src.old.seen.size lacking.names)) }
+{
+    let entry = read_entry(src, refusal.at)?;
+    let kind = entry.kind();
+    let Some(found) = relocation_type(kind) else {
+        return Ok(None);
+    };
+    let Some(named) = read_symbol(src, linked, entry.symbol())? else {
+        return Ok(None);
+    };
+    let wanted = wanted(refusal.cause, found, layout, section, named.index);
+    Ok(lacking_of(kind, &named, wanted))
+}
+
+/// The relocation entry at the file offset `at` (gABI 4, Relocation): one read of 24 bytes.
+///
+/// # Errors
+/// A fault of the read, or a refusal for want of budget, at that offset.
+fn read_entry<S: Source>(src: &mut Counted<S>, at: u64) -> Result<Rela, Fault>
+    requires { at + 24 ≤ src.old.seen.size }
+    ensures { Did src.old src.new (why_stopped result) 24 (λ file. EntryRead file at result) }
+{
+    let mut bytes = [0; 24];
+    fill(src, at, &mut bytes)?;
+    Ok(Rela::decode(&bytes))
+}
+
+/// The symbol of an index, which an entry names: symbol 0, of which nothing is read, or one of the
+/// symbols that are linked to; None where there is no such symbol.
+///
+/// # Errors
+/// A fault of the read, or a refusal for want of budget, at the symbol's offset.
+fn read_symbol<S: Source>(
+    src: &mut Counted<S>,
+    linked: Linked,
+    symbol: u32,
+) -> Result<Option<Named>, Fault>
+    requires { IfSome linked (SymbolsWithin src.old.seen.size) }
+    ensures did { Did src.old src.new (why_stopped result) 24
+        (λ file. (header rela : ℕ) → RefersTo file header linked → symbol ≡ r_sym file rela →
+        SymbolRead file header rela result) }
+    ensures within { IfOk result (λ found.
+        IfSome found (λ named. StringsWithin src.old.seen.size named.names)) }
+{
+    if symbol == 0 {
+        return Ok(Some(Named {
+            name: 0,
+            index: None,
+            names: Names::new(0, 0),
+            at: 0,
+        }));
+    }
+    let Some((symbols, names)) = linked else {
+        return Ok(None);
+    };
+    let index = u64::from(symbol);
+    if index >= symbols.len() {
+        return Ok(None);
+    }
+    let at = symbols.place(index);
+    let fields = symbols.symbol(src, index)?;
+    Ok(Some(Named {
+        name: fields.st_name,
+        index: Some(fields.st_shndx),
+        names,
+        at,
+    }))
+}
+
+/// What an entry of the type of a number lacks, which names this symbol, where something is wanted.
+#[tactic(auto, unfolding(elf_model::specs::Explain::missing_of))]
+fn lacking_of(kind: u32, named: &Named, wanted: Option<Wanted>) -> Option<Lacking>
+    ensures { LackOf kind named.now wanted result }
+{
+    let wanted = wanted?;
+    Some(Lacking {
+        missing: Missing {
+            kind,
+            name: named.name,
+            wanted,
+        },
+        names: named.names,
+        at: named.at,
+    })
+}
+
+/// What is wanted where an entry of a type was refused for a cause, by the section index of its
+/// symbol. For want of a section's address: that of the section that is relocated where the formula
+/// takes P and it has none, else that of the symbol's section. For want of a name's: what the type's
+/// base tells of it.
+#[tactic(auto, unfolding(elf_model::specs::Explain::wanted))]
+fn wanted(
+    cause: Cause,
+    found: RelocationType,
+    layout: &Addresses<'_>,
+    section: u16,
+    index: Option<u16>,
+) -> Option<Wanted>
+    ensures { result ≡ wanted cause found layout.now section index }
+{
+    match cause {
+        Cause::Unplaced => place_wanted(found.formula, layout, section, index),
+        Cause::Undefined | Cause::Unsupported => name_wanted(found.base, index),
+        _ => None,
+    }
+}
+
+/// The section without an address: that which is relocated where the formula takes P, else the
+/// symbol's, where its index is one of a section.
+#[tactic(auto, unfolding(elf_model::specs::Explain::place_wanted, elf_model::specs::Explain::symbol_place))]
+fn place_wanted(
+    formula: Formula,
+    layout: &Addresses<'_>,
+    section: u16,
+    index: Option<u16>,
+) -> Option<Wanted>
+    ensures { result ≡ place_wanted formula layout.now section index }
+{
+    if takes_place(formula) && layout.section_address(section).is_none() {
+        return Some(Wanted::Place(section));
+    }
+    let index = index?;
+    if index != SHN_UNDEF && index < SHN_LORESERVE && layout.section_address(index).is_none() {
+        return Some(Wanted::Place(index));
+    }
+    None
+}
+
+/// What a base tells of a symbol's name is wanted; nothing where the entry names symbol 0.
+#[tactic(auto, unfolding(elf_model::specs::Explain::name_wanted))]
+fn name_wanted(base: Base, index: Option<u16>) -> Option<Wanted>
+    ensures { result ≡ name_wanted base index }
+{
+    match index {
+        Some(_) => Some(Wanted::Named(base)),
+        None => None,
+    }
+}

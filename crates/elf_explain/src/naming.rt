@@ -1,0 +1,62 @@
+//! The name of the symbol that an entry names.
+ghost use Rattle.std.specs.Prelude.{◌≡◌, ℕ, List, [], IfErr};
+ghost use Rattle.elf_model.specs.Explain.{told_name};
+ghost use Rattle.elf_model.specs.Names.{pad64};
+ghost use Rattle.elf_headers.specs.Ledger.{Did, why_stopped};
+ghost use Rattle.elf_table.specs.Tables.{StringsWithin, strings_in};
+ghost use Rattle.elf_explain.specs.Explained.{TellsName, WithoutName};
+
+use crate::lacking::Lacking;
+use elf_headers::{Cap, Fault};
+use elf_record::Cause;
+use elf_source::{Counted, Source};
+use elf_table::{NameBuf, NameEnd};
+
+/// How many bytes of a symbol's name are told: the most that the name of an item has.
+const ITEM_NAME_BYTES: u16 = 255;
+
+/// Reads the name of the symbol into `name`, its first 255 bytes; where `st_name` is 0 it has none,
+/// and nothing is read (gABI 4, Symbol Table). None where the name has a fault. Then, and after a
+/// fault, `name` holds any bytes.
+///
+/// # Errors
+/// A fault of a read, or a refusal for want of budget, at the offset that was asked for.
+pub(crate) fn read_name<S: Source>(
+    src: &mut Counted<S>,
+    lacking: &Lacking,
+    name: &mut NameBuf,
+) -> Result<Option<NameEnd>, Fault>
+    requires { StringsWithin src.old.seen.size lacking.now.names }
+    ensures { Did src.old src.new (why_stopped result) (pad64 256)
+        (λ file. TellsName (told_name (strings_in file lacking.now.names)
+        lacking.now.missing.name) result name.new) }
+{
+    let off = lacking.missing.name;
+    if off == 0 {
+        name.clear();
+        return Ok(Some(NameEnd::Whole));
+    }
+    let cap = Cap {
+        bytes: ITEM_NAME_BYTES,
+    };
+    match lacking
+        .names
+        .read(src, u64::from(off), lacking.at, cap, name)
+    {
+        Ok(end) => Ok(Some(end)),
+        Err(fault) => unless_refused(fault),
+    }
+}
+
+/// No name where a check refuses it.
+///
+/// # Errors
+/// Any other fault, as it is.
+fn unless_refused(fault: Fault) -> Result<Option<NameEnd>, Fault>
+    ensures { WithoutName fault result }
+{
+    match fault {
+        Fault::Refused(refusal) if refusal.cause != Cause::Budget => Ok(None),
+        fault => Err(fault),
+    }
+}

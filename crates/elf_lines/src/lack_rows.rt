@@ -1,0 +1,150 @@
+//! The line of what a layout lacks.
+ghost use Rattle.std.specs.Prelude.{◌≡◌, ◌+◌, ◌≤◌, ◌++◌, true, decimal, length};
+ghost use Rattle.arrayvec.specs.ArrayVec.{array_vec_len};
+ghost use Rattle.elf_model.specs.ExplainLine.{entry_text, help_text, item_text, items_text};
+ghost use Rattle.elf_model.specs.ExplainLine.{lack_line, place_text, type_front};
+ghost use Rattle.elf_model.specs.Lines.{escaped};
+ghost use Rattle.elf_model.specs.NameTables.{number_sign, relocation_types};
+ghost use Rattle.elf_source.specs.Output.{Puts};
+ghost use Rattle.elf_lines.specs.Pieces.{shown_as};
+
+use crate::columns::{Line, put};
+use crate::named::show_around;
+use crate::relocation_rows::{number_sign, relocation_type_name};
+use elf_model::{Base, Missing, Wanted};
+use elf_source::{Out, OutFault, Sink};
+use itoa::Buffer;
+
+/// Writes the line of what a layout lacks: the type of the entry that was refused, the name of its
+/// symbol, which `is_cut` where it has more bytes than these, and the item that would help.
+///
+/// # Errors
+/// A fault of the output, with a front of the line written.
+pub fn show_lack<W: Sink>(
+    missing: Missing,
+    name: &[u8],
+    is_cut: bool,
+    out: &mut Out<W>,
+) -> Result<(), OutFault>
+    ensures puts { Puts out.old out.new result
+        (lack_line (record { missing = missing; name = shown_as is_cut name.now })) }
+{
+    show_entry(missing.kind, name, is_cut, out)?;
+    show_help(missing.wanted, name, is_cut, out)
+}
+
+/// Writes the type of an entry, and the name of its symbol where it has one.
+///
+/// # Errors
+/// A fault of the output, with a front of the text written.
+fn show_entry<W: Sink>(
+    kind: u32,
+    name: &[u8],
+    is_cut: bool,
+    out: &mut Out<W>,
+) -> Result<(), OutFault>
+    ensures puts { Puts out.old out.new result (entry_text kind (shown_as is_cut name.now)) }
+{
+    let mut line = type_front(kind);
+    if is_cut {
+        put(&mut line, b" to ");
+        return show_around(line, name, b"\\+: ", out);
+    }
+    if name.is_empty() {
+        put(&mut line, b": ");
+        return out.put(&line);
+    }
+    put(&mut line, b" to ");
+    show_around(line, name, b": ", out)
+}
+
+/// The type of an entry: its name as in a listing with the names of the GNU system, or its number.
+#[tactic(auto, unfolding(elf_model::specs::ExplainLine::type_front, elf_model::specs::NameTables::relocation_type_text))]
+fn type_front(kind: u32) -> Line
+    ensures text { result.items ≡ type_front kind }
+    ensures short { array_vec_len result ≤ 32 }
+{
+    let mut line = Line::new();
+    put(&mut line, b"elfsee: ");
+    match relocation_type_name(kind, true) {
+        Some(name) => put(&mut line, name.as_bytes()),
+        None => put(&mut line, &number_sign(kind)),
+    }
+    line
+}
+
+/// Writes the item that would help.
+///
+/// # Errors
+/// A fault of the output, with a front of the text written.
+#[tactic(auto, unfolding(elf_model::specs::ExplainLine::help_text))]
+fn show_help<W: Sink>(
+    wanted: Wanted,
+    name: &[u8],
+    is_cut: bool,
+    out: &mut Out<W>,
+) -> Result<(), OutFault>
+    ensures puts { Puts out.old out.new result (help_text wanted (shown_as is_cut name.now)) }
+{
+    match wanted {
+        Wanted::Place(section) => out.put(&place_row(section)),
+        Wanted::Named(base) => {
+            if is_cut || name.is_empty() {
+                return out.put(b"no item can name it\n");
+            }
+            show_items(base, name, out)
+        }
+    }
+}
+
+/// The item of a section.
+#[tactic(auto, unfolding(elf_model::specs::ExplainLine::place_text))]
+fn place_row(section: u16) -> Line
+    ensures { result.items ≡ place_text section }
+{
+    let mut line = Line::new();
+    let mut buffer = Buffer::new();
+    put(&mut line, b"at:");
+    put(&mut line, buffer.format(section).as_bytes());
+    put(&mut line, b"=ADDR would help\n");
+    line
+}
+
+/// Writes the item of a name that gives what a base tells: of a procedure linkage table entry, and
+/// the definition that would do too.
+///
+/// # Errors
+/// A fault of the output, with a front of the text written.
+#[tactic(auto, unfolding(elf_model::specs::ExplainLine::items_text))]
+fn show_items<W: Sink>(base: Base, name: &[u8], out: &mut Out<W>) -> Result<(), OutFault>
+    ensures puts { Puts out.old out.new result (items_text base (escaped name.now)) }
+{
+    match base {
+        Base::Symbol => show_item(b"def:", name, b"=ADDR would help\n", out),
+        Base::Linkage => {
+            show_item(b"plt:", name, b"=ADDR or ", out)?;
+            show_item(b"def:", name, b"=ADDR would help\n", out)
+        }
+        Base::Table => show_item(b"got:", name, b"=ADDR would help\n", out),
+        Base::Thread => show_item(b"tpgot:", name, b"=ADDR would help\n", out),
+    }
+}
+
+/// Writes the item of a name, by the word of its sort, and what stands behind it.
+///
+/// # Errors
+/// A fault of the output, with a front of the text written.
+fn show_item<W: Sink>(
+    word: &[u8],
+    name: &[u8],
+    tail: &[u8],
+    out: &mut Out<W>,
+) -> Result<(), OutFault>
+    requires word { length word.now ≤ 256 }
+    requires tail { length tail.now ≤ 256 }
+    ensures puts { Puts out.old out.new result (item_text word.now (escaped name.now) tail.now) }
+{
+    let mut line = Line::new();
+    put(&mut line, word);
+    show_around(line, name, tail, out)
+}
