@@ -6,7 +6,7 @@ use Rattle.elf_model.specs.Checks.{Check, refuse, first_refusal}
 use Rattle.elf_model.specs.LoaderScope.{HashKind as IsHashKind, checks_of_row, hash_row, least_size, rest_checks, rest_place, rest_size, rows_checks, segment_checks, segment_scope, segment_strings, segment_symbols, segment_words, tagged_row}
 use Rattle.elf_model.specs.Mapped.{mapped_bytes, mapped_checks, mapped_place}
 use Rattle.elf_model.specs.Numbers.{DT_SYMTAB, DT_STRTAB, DT_STRSZ}
-use Rattle.elf_model.specs.Records.{d_un}
+use Rattle.elf_model.specs.Records.{d_un, e_machine}
 use Rattle.elf_model.specs.Tables.{SYMBOL_SIZE}
 use Rattle.elf_model.specs.declared.causes.Cause.TheVariants.{HashShape, NoHash, Unmapped}
 use Rattle.elf_headers.specs.declared.fault.Fault.{Fault}
@@ -197,13 +197,14 @@ module _ (file : List ℕ) (kind : IsHashKind) (index at : ℕ) (entry : Entry) 
       rows_refuse fault r = rw all_are (refused_back (rest_checks file entry.at ++ shape) (rows_checks file at entry.at) fault shape_passes r)
 
       pub scope_settles : (scope : Scope) → Settles (rows_checks file at entry.at) (AreRowsSymbols file index at) (Ok scope.symbols)
-          → kind_of scope.hash.kind ≡ kind → scope.hash.head ≡ entry.at → scope.hash.at ≡ table.at → scope.hash.size ≡ table.count
+          → scope.machine ≡ e_machine file → kind_of scope.hash.kind ≡ kind → scope.hash.head ≡ entry.at → scope.hash.at ≡ table.at → scope.hash.size ≡ table.count
           → scope.hash.symbols ≡ scope.symbols.table.count
           → Settles (segment_checks file kind at entry.at) (IsScope file (segment_scope file kind index at entry.at)) (Ok scope)
       unfolding segment_scope
-      scope_settles scope s is_kind head place size count = (
+      scope_settles scope s machine is_kind head place size count = (
         ap first_refusal all_are ∙ passed_both (rest_checks file entry.at ++ shape) (rows_checks file at entry.at) shape_passes s.0,
         record {
+          machine = machine;
           kind = is_kind;
           head = head;
           place = place ∙ hash_is.1.place;

@@ -3,7 +3,7 @@ use Rattle.std.proofs.Common.{◌≡◌, ℕ, List, [], Option, None, Some, Resu
 use Rattle.elf_model.specs.LoaderScope.{HashKind as IsHashKind, GnuTable, SysvTable, hash_section, scope_by_sections, section_checks, section_scope, version_checks, section_words, records_of_type, least_size}
 use Rattle.elf_model.specs.Find.{hash_checks_from}
 use Rattle.elf_model.specs.Numbers.{SHT_HASH, SHT_GNU_HASH, SHT_GNU_VERDEF, SHT_GNU_VERNEED}
-use Rattle.elf_model.specs.Records.{section_at, sh_offset, sh_size}
+use Rattle.elf_model.specs.Records.{e_machine, section_at, sh_offset, sh_size}
 use Rattle.elf_model.specs.VersionRows.{first_of_type}
 use Rattle.elf_model.specs.declared.causes.Cause.TheVariants.{NoHash}
 use Rattle.elf_model.specs.declared.versions.VersionKind.TheVariants.{Definition, File}
@@ -48,14 +48,15 @@ module _ (file : List ℕ) where
 pub section_is : (file : List ℕ) (kind : IsHashKind) (at : ℕ) (scope : Scope) (found : ℕ × (Rows × Strings)) (versions : Versions)
     → Settles (hash_checks_from (least_size kind) file at) (AreHashed file at) (Ok found)
     → Settles (version_checks file at) (AreVersions file (section_words file) (records_of_type file SHT_GNU_VERDEF Definition (records_of_type file SHT_GNU_VERNEED File []))) (Ok versions)
-    → kind_of scope.hash.kind ≡ kind → scope.hash.head ≡ at → scope.hash.at ≡ sh_offset file at → scope.hash.size ≡ sh_size file at
+    → scope.machine ≡ e_machine file → kind_of scope.hash.kind ≡ kind → scope.hash.head ≡ at → scope.hash.at ≡ sh_offset file at → scope.hash.size ≡ sh_size file at
     → scope.hash.symbols ≡ found.1.0.count → scope.symbols.index ≡ found.0 → scope.symbols.table ≡ found.1.0 → scope.symbols.names ≡ found.1.1
     → scope.symbols.words ≡ versions.words → scope.symbols.definitions ≡ versions.definitions → scope.symbols.needs ≡ versions.needs
     → Settles (section_checks file kind at) (IsScope file (section_scope file kind at)) (Ok scope)
 unfolding section_scope
-section_is file kind at scope found versions h v is_kind head place size count index table names words definitions needs = (
+section_is file kind at scope found versions h v machine is_kind head place size count index table names words definitions needs = (
   passed_both (hash_checks_from (least_size kind) file at) (version_checks file at) h.0 v.0,
   record {
+    machine = machine;
     kind = is_kind;
     head = head;
     place = place;

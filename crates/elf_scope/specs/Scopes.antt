@@ -2,6 +2,7 @@
 use Rattle.std.specs.Prelude.{ℕ, ◌≡◌, ◌+◌, ◌≤◌, List, Result, Ok, Err}
 use Rattle.elf_model.specs.Budget.{IsBudget}
 use Rattle.elf_model.specs.LoaderScope.{Scope as IsScopeOf}
+use Rattle.elf_model.specs.Records.{e_machine}
 use Rattle.elf_model.specs.declared.causes.Refusal.{Refusal}
 use Rattle.elf_headers.specs.declared.fault.Fault.{Fault}
 use Rattle.elf_headers.specs.declared.fault.Fault.TheVariants.{Refused, Source}
@@ -9,8 +10,9 @@ use Rattle.elf_hash.specs.Kinds.{kind_of}
 use Rattle.elf_scope.specs.Symbols.{IsSymbols, SymbolsLie}
 use Rattle.elf_scope.specs.declared.scope.Scope.{Scope}
 
--- WHAT A LOOKUP IS MADE IN is what the definitions tell
+-- WHAT A LOOKUP IS MADE IN is what the definitions tell, and the machine is the file's
 pub record IsScope (file : List ℕ) (told : IsScopeOf) (scope : Scope) : Type 0 where
+  pub machine : scope.machine ≡ e_machine file
   pub kind : kind_of scope.hash.kind ≡ told.kind
   pub head : scope.hash.head ≡ told.head
   pub place : scope.hash.at ≡ told.table.place

@@ -71,6 +71,7 @@ fn section_scope(file: &File<'_>, kind: HashKind, section: u16) -> Result<Scope,
     let header = file.section(section);
     let versions = section_versions(file, header.sh_link)?;
     Ok(Scope {
+        machine: file.loaded.header().e_machine,
         hash: HashPlace {
             kind,
             head: file.place(section),

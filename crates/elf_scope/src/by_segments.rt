@@ -107,6 +107,7 @@ fn segment_scope(
     }
     let symbols = segment_symbols(view, segment, found, row.at)?;
     Ok(Scope {
+        machine: view.loaded.header().e_machine,
         hash: HashPlace {
             kind,
             head: row.at,

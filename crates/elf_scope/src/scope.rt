@@ -5,6 +5,8 @@ use elf_hash::HashPlace;
 /// What a lookup is made in: a hash table, and the symbols that it is of. It holds no bytes.
 #[derive(Clone, Copy)]
 pub struct Scope {
+    /// The machine of the file (gABI 4, ELF Header), by which some numbers of symbols have names.
+    pub machine: u16,
     /// Where the hash table is. It is of as many symbols as there are.
     pub hash: HashPlace,
     /// The symbols.

@@ -1,10 +1,11 @@
 -- The checks of the hash table's section, then those of the tables of versions.
-use Rattle.std.proofs.Common.{refl, sym, ◌∙◌}
+use Rattle.std.proofs.Common.{refl, ap, sym, ◌∙◌}
 use Rattle.std.proofs.lemmas.Result.{err_from_is_err_and}
 use Rattle.elf_model.specs.Find.{hash_checks_from}
 use Rattle.elf_model.specs.LoaderScope.{version_checks}
 use Rattle.elf_model.specs.Records.{section_at}
 use Rattle.elf_table.proofs.HashSectionLaws.{place_is}
+use Rattle.elf_record.specs.declared.ehdr.Ehdr.{Ehdr}
 use Rattle.elf_hash.specs.Kinds.{kind_of}
 use Rattle.elf_scope.specs.Kinds.{least_bytes}
 use Rattle.elf_scope.proofs.SectionLaws.{section_is}
@@ -34,4 +35,4 @@ returns-clause-held c = λ bytes belongs.
     let hashed = rw c.least_bytes.ensures at told in
     let is = c.section-header.ensures.stands bytes belongs in
     section_is bytes (kind_of c.args.kind) at _ _ _ hashed (c.in_ok-versions.ensures.held bytes at belongs (sym is.sh_link))
-    refl (c.place.ensures.value ∙ place_is bytes c.args.section _ _ belongs) is.sh_offset is.sh_size c.len.ensures refl refl refl refl refl refl
+    (ap (λ (h : Ehdr). h.e_machine) c.header.ensures.value ∙ belongs.header.e_machine) refl (c.place.ensures.value ∙ place_is bytes c.args.section _ _ belongs) is.sh_offset is.sh_size c.len.ensures refl refl refl refl refl refl

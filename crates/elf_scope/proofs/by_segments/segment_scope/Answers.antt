@@ -1,7 +1,8 @@
 -- The hash table's bytes, then the symbols.
-use Rattle.std.proofs.Common.{◌<◌, ◌≤◌, refl, arith}
+use Rattle.std.proofs.Common.{◌<◌, ◌≤◌, refl, ap, ◌∙◌, arith}
 use Rattle.std.proofs.lemmas.Result.{err_from_is_err_and}
 use Rattle.elf_model.specs.Records.{segment_at}
+use Rattle.elf_record.specs.declared.ehdr.Ehdr.{Ehdr}
 use Rattle.elf_hash.specs.Kinds.{kind_of}
 use Rattle.elf_scope.specs.Kinds.{least_bytes}
 use Rattle.elf_scope.proofs.ScopeLaws.{hash_refuses, rows_refuse, scope_settles, shape_refuses}
@@ -32,4 +33,4 @@ returns-clause-held c = λ bytes views are value.
     let at = segment_at bytes c.args.segment in
     let room : least_bytes c.args.kind ≤ c.in_ok-hash.hash.count = let a = c.if-len-least_bytes.false in let b = c.len.ensures in let d = c.least_bytes.ensures in omega arith in
     scope_settles bytes (kind_of c.args.kind) c.args.segment at c.args.row.now value _ (c.in_ok-hash.ensures.value bytes views) room _ (c.in_ok-symbols.ensures.held bytes at views are)
-    refl refl c.at.ensures c.len-2.ensures c.len-3.ensures
+    (ap (λ (h : Ehdr). h.e_machine) c.header.ensures.value ∙ views.belongs.header.e_machine) refl refl c.at.ensures c.len-2.ensures c.len-3.ensures
