@@ -1,6 +1,7 @@
 -- The version of a symbol that is found.
 use Rattle.std.proofs.Common.{◌≡◌, ℕ, ◌+◌, ◌*◌, ◌<◌, ◌≤◌, subst, nat_lt, true, false, is_some, List, [], Option, None, Some, Result, Ok, Err, refl, sym, ap, ◌∙◌, arith}
 use Rattle.std.proofs.lemmas.Bool.Decides.{nat_tests}
+use Rattle.elf_model.specs.Bytes.{field}
 use Rattle.elf_model.specs.Chains.{Walked}
 use Rattle.elf_model.specs.Cost.{cost_where}
 use Rattle.elf_model.specs.Loader.{Asked, Naming, VersionWords, asked_name, naming_of, readings, version_word_at}
@@ -16,17 +17,19 @@ use Rattle.elf_source.specs.Source.{Counting}
 use Rattle.elf_headers.specs.Ledger.{Charges}
 use Rattle.elf_headers.specs.declared.fault.Fault.{Fault}
 use Rattle.elf_headers.specs.declared.fault.Fault.TheVariants.{Refused, Source}
-use Rattle.elf_headers.proofs.LedgerLaws.{Charges-more}
-use Rattle.elf_scope.specs.Symbols.{IsWords}
+use Rattle.elf_headers.proofs.LedgerLaws.{Charges-more, Charges-none}
+use Rattle.elf_scope.specs.Symbols.{AreWords, IsWords}
 use Rattle.elf_scope.specs.declared.symbols.VersionWords.{VersionWords as Words}
 use Rattle.elf_table.specs.Cursors.{row_at}
 use Rattle.elf_table.specs.declared.names.NameEnd.{NameEnd}
 use Rattle.elf_loader.specs.Finding.{FindsVersion, FoundAs, Spends}
+use Rattle.elf_loader.specs.Lookups.{FindsWith, FoundWith}
 use Rattle.elf_loader.specs.Telling.{TellsName, told_bytes}
+use Rattle.elf_loader.specs.declared.found.FoundVersion.{FoundVersion}
 use Rattle.elf_loader.specs.declared.found.VersionName.TheVariants.{Wanted, Unnamed, Told}
 
 -- where a version is wanted, it is told as it is wanted
-in-wanted :
+pub in-wanted :
     (file : List ℕ) (scope : Scope) (asked : Asked) (records y : ℕ) (walked : Walked) (words : VersionWords) (version : List ℕ) → asked_name asked ≡ Some version
     → found_in file scope asked records y walked (Some words)
     ≡ found_lookup scope y walked records false (Some (record { index = words.index; word = versym file (version_word_at words y); name = Whole version }))
@@ -34,7 +37,7 @@ unfolding found_in
 in-wanted file scope asked records y walked words version n = rw (n, found_in) refl
 
 -- where its number is 0 or 1, it has no name
-in-unnamed :
+pub in-unnamed :
     (file : List ℕ) (scope : Scope) (asked : Asked) (records y : ℕ) (walked : Walked) (words : VersionWords) → asked_name asked ≡ None
     → nat_lt (number_in (versym file (version_word_at words y))) 2 ≡ true
     → found_in file scope asked records y walked (Some words)
@@ -43,7 +46,7 @@ unfolding found_in
 in-unnamed file scope asked records y walked words n low = rw (n, low, found_in) refl
 
 -- else it is that of its number
-in-told :
+pub in-told :
     (file : List ℕ) (scope : Scope) (asked : Asked) (records y : ℕ) (walked : Walked) (words : VersionWords) → asked_name asked ≡ None
     → nat_lt (number_in (versym file (version_word_at words y))) 2 ≡ false
     → found_in file scope asked records y walked (Some words)
@@ -52,7 +55,7 @@ unfolding found_in
 in-told file scope asked records y walked words n high = rw (n, high, found_in) refl
 
 -- what telling it reads, whatever it answers
-told-spends : (file : List ℕ) (scope : Scope) (words : VersionWords) (y : ℕ) (walked : Walked) (naming : Naming) → Spends (told_by file scope words y walked naming) walked naming.read (is_some naming.found)
+pub told-spends : (file : List ℕ) (scope : Scope) (words : VersionWords) (y : ℕ) (walked : Walked) (naming : Naming) → Spends (told_by file scope words y walked naming) walked naming.read (is_some naming.found)
 unfolding told_by
 told-spends file scope words y walked naming = go naming.found refl naming.refused refl
   where
@@ -172,3 +175,63 @@ finds-fault file scope asked words y word told a b fault n here high tells =
 -- where a word stands
 pub word-at : (told : VersionWords) (code : Words) (y : ℕ) → IsWords told code → code.words.entry ≡ 2 → row_at code.words y ≡ version_word_at told y
 word-at told code y is entry = rw (entry, is.place) (omega arith)
+
+pub word-is : (file : List ℕ) (told : VersionWords) (code : Words) (y word : ℕ) → IsWords told code → code.words.entry ≡ 2 → word ≡ field file (row_at code.words y) 2
+    → word ≡ versym file (version_word_at told y)
+word-is file told code y word is entry stands = stands ∙ ap (λ (at : ℕ). field file at 2) (word-at told code y is entry)
+
+-- the same where there may be no versions
+pub finds-none : (file : List ℕ) (scope : Scope) (asked : Asked) (y : ℕ) (told : List ℕ) (c : Counting) → AreWords scope.symbols.words None → FindsWith file scope asked y told c c (Ok None)
+unfolding found_in
+finds-none file scope asked y told c are = go scope.symbols.words refl are
+  where
+    go : (words : Option VersionWords) → scope.symbols.words ≡ words → AreWords words None → FindsWith file scope asked y told c c (Ok None)
+    go None e none = record {
+      records = 0;
+      is_named = false;
+      costs = Charges-more _ (omega arith) (Charges-none c);
+      spends = λ walked before first. rw e (record { tried = refl; chain_words = refl; records = omega arith; is_named = refl });
+      finds = λ walked before first. rw e refl;
+    }
+    go (Some words) e none = absurd none
+
+with-words : (file : List ℕ) (scope : Scope) (asked : Asked) (y : ℕ) {words : VersionWords} → scope.symbols.words ≡ Some words → (before : ℕ) (walked : Walked)
+    → found_in file scope asked before y walked scope.symbols.words ≡ found_in file scope asked before y walked (Some words)
+with-words file scope asked y e before walked = ap (found_in file scope asked before y walked) e
+
+module _ {a b : Counting} (file : List ℕ) (scope : Scope) (asked : Asked) (y : ℕ) (told : List ℕ) (code : Words) (are : AreWords scope.symbols.words (Some code)) where
+  pub finds-some : (version : FoundVersion) → ((words : VersionWords) → IsWords words code → FindsVersion file scope asked words y a b told (Ok version))
+      → FindsWith file scope asked y told a b (Ok (Some version))
+  finds-some version finds = go scope.symbols.words refl are
+    where
+      go : (words : Option VersionWords) → scope.symbols.words ≡ words → AreWords words (Some code) → FindsWith file scope asked y told a b (Ok (Some version))
+      go None e is = absurd is
+      go (Some words) e is =
+          let f = finds words is in
+          record {
+            records = f.records;
+            is_named = f.is_named;
+            costs = f.costs;
+            spends = λ walked before first. let is = with-words file scope asked y e before walked in rw is (f.spends walked before first);
+            finds = λ walked before first. let is = with-words file scope asked y e before walked in rw is (f.finds walked before first);
+          }
+
+  pub finds-failed : (fault : Fault) → ((words : VersionWords) → IsWords words code → FindsVersion file scope asked words y a b told (Err fault))
+      → FindsWith file scope asked y told a b (Err fault)
+  finds-failed fault finds = go scope.symbols.words refl are
+    where
+      fails : (fault : Fault) (walked : Walked) (looked there : LoaderLookup) → looked ≡ there → FoundAs scope asked y told walked there (Err fault) → FoundWith scope asked y told walked looked (Err fault)
+      fails (Refused refusal) walked looked there e found = λ other. ap (λ (l : LoaderLookup). l.lookup.answer) e ∙ found other
+      fails (Source fault at) walked looked there e found = tt
+
+      go : (words : Option VersionWords) → scope.symbols.words ≡ words → AreWords words (Some code) → FindsWith file scope asked y told a b (Err fault)
+      go None e is = absurd is
+      go (Some words) e is =
+          let f = finds words is in
+          record {
+            records = f.records;
+            is_named = f.is_named;
+            costs = f.costs;
+            spends = λ walked before first. let is = with-words file scope asked y e before walked in rw is (f.spends walked before first);
+            finds = λ walked before first. fails fault walked _ _ (with-words file scope asked y e before walked) (f.finds walked before first);
+          }

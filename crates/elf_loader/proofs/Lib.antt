@@ -8,3 +8,5 @@ pub mod AnswerLaws
 pub mod CollectLaws
 pub mod TellingLaws
 pub mod FoundLaws
+pub mod ReadLaws
+pub mod LookLaws

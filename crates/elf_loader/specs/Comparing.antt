@@ -1,12 +1,17 @@
 -- What comparing the records of versions with a wanted one gives.
-use Rattle.std.specs.Prelude.{ℕ, ◌≡◌, ◌+◌, ◌*◌, ◌≤◌, ◌||◌, List, None, Some, Result, Ok, Err}
+use Rattle.std.specs.Prelude.{ℕ, ◌≡◌, ◌+◌, ◌*◌, ◌≤◌, ◌||◌, List, length, None, Some, Result, Ok, Err}
 use Rattle.elf_model.specs.Budget.{IsBudget}
-use Rattle.elf_model.specs.Loader.{Compared, is_among}
+use Rattle.elf_model.specs.Loader.{Asked, Compared, asked_name, is_among}
+use Rattle.elf_model.specs.Names.{pad64}
 use Rattle.elf_source.specs.Source.{Counting}
 use Rattle.elf_headers.specs.Ledger.{Charges}
 use Rattle.elf_headers.specs.declared.fault.Fault.{Fault}
 use Rattle.elf_headers.specs.declared.fault.Fault.TheVariants.{Refused, Source}
 use Rattle.elf_loader.specs.NumberSets.{has}
+
+-- how many bytes comparing so many records with the version that is asked for may ask for: none where none is
+abbrev pub comparing_bytes : Asked → ℕ → ℕ
+comparing_bytes asked records = elim (asked_name asked) [ None ↦ 0 | Some version ↦ records * (28 + pad64 (length version + 1)) ]
 
 -- SO MUCH OF COMPARING IS DONE: some records are read, and what they give is in the set; the others are left
 pub record ComparedAs (old new : List ℕ) (records : ℕ) (all left : Compared) : Type 0 where

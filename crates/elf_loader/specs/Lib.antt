@@ -5,3 +5,4 @@ pub mod Tables
 pub mod Naming
 pub mod Telling
 pub mod Finding
+pub mod Lookups

@@ -3,7 +3,7 @@ use Rattle.std.specs.Prelude.{ℕ, ◌≡◌, ◌+◌, ◌*◌, true, is_some, L
 use Rattle.elf_model.specs.Budget.{IsBudget}
 use Rattle.elf_model.specs.Chains.{Walked}
 use Rattle.elf_model.specs.Cost.{cost_where}
-use Rattle.elf_model.specs.Loader.{Naming, VersionWords, version_word_at}
+use Rattle.elf_model.specs.Loader.{Asked, Naming, VersionWords, asked_name, version_word_at}
 use Rattle.elf_model.specs.LoaderFind.{TOLD_BYTES, found_lookup, refused_lookup, told_by}
 use Rattle.elf_model.specs.LoaderScope.{Scope}
 use Rattle.elf_model.specs.Names.{Shown, pad64}
@@ -19,6 +19,10 @@ use Rattle.elf_table.specs.declared.names.NameEnd.TheVariants.{Whole, Cut}
 -- how many bytes telling a name may ask for
 abbrev pub told_bytes : ℕ
 told_bytes = pad64 (TOLD_BYTES + 1)
+
+-- how many bytes telling a version may ask for, with so many records: none where one is asked for by its name
+abbrev pub telling_bytes : Asked → ℕ → ℕ
+telling_bytes asked records = elim (asked_name asked) [ None ↦ records * 28 + told_bytes | Some version ↦ 0 ]
 
 -- a name as it is shown, by how its bytes end
 abbrev pub shown_by : NameEnd → List ℕ → Shown

@@ -11,11 +11,11 @@ ghost use Rattle.elf_scope.specs.Symbols.{IsSymbols, SymbolsLie};
 use crate::fitting::version_fits;
 use crate::number_set::NumberSet;
 use crate::offered::is_offered;
-use elf_wanted::Wanted;
 use elf_hash::{Answer, Trial};
 use elf_headers::Fault;
 use elf_scope::Symbols;
 use elf_source::{Counted, Source};
+use elf_wanted::Wanted;
 
 /// The trial of symbols by what is wanted of them, where the numbers of the version by its name are
 /// told.

@@ -1,7 +1,7 @@
 //! The numbers of the version that is asked for, of all records of versions.
 ghost use Rattle.std.specs.Prelude.{◌≡◌, ℕ, ◌+◌, ◌*◌, ◌≤◌, [], ◌++◌, List, length, IfSome};
 ghost use Rattle.elf_headers.specs.Ledger.{Did, why_stopped};
-ghost use Rattle.elf_loader.specs.Comparing.{Collects, Compares};
+ghost use Rattle.elf_loader.specs.Comparing.{Collects, Compares, comparing_bytes};
 ghost use Rattle.elf_loader.specs.Tables.{most_of, most_versions, readings_before};
 ghost use Rattle.elf_wanted.specs.Wants.{asked_of};
 ghost use Rattle.elf_model.specs.Loader.{Reading, RecordTable as IsTableOf, asked_name, compared_with, readings};
@@ -12,10 +12,10 @@ ghost use Rattle.elf_scope.specs.Symbols.{AreRecordTables, IsSymbols, RecordsWit
 
 use crate::comparing::compare_table;
 use crate::number_set::NumberSet;
-use elf_wanted::Asked;
 use elf_headers::Fault;
 use elf_scope::{RecordTable, Symbols};
 use elf_source::{Counted, Source};
+use elf_wanted::Asked;
 
 // Compares the records of a table, if there is one.
 fn compare_any<S: Source>(
@@ -75,7 +75,7 @@ pub(crate) fn wanted_numbers<S: Source>(
     requires most { IfSome (asked_name (asked_of asked.now)) (λ version. length version ≤ 4096) }
     requires lies { SymbolsLie src.old.seen.size symbols.now }
     ensures { Did src.old src.new (why_stopped result)
-        (most_versions symbols.now * record_cost (asked_of asked.now))
+        (comparing_bytes (asked_of asked.now) (most_versions symbols.now))
         (λ file. (scope : IsScopeOf) → IsSymbols file scope.symbols symbols.now →
         Collects src.old src.new (record_cost (asked_of asked.now))
         (wanted_numbers file scope (asked_of asked.now)) result) }

@@ -11,11 +11,11 @@ ghost use Rattle.elf_table.specs.Tables.{RowsWithin};
 ghost use Rattle.std.specs.Prelude.{Option};
 
 use crate::number_set::NumberSet;
-use elf_wanted::Asked;
 use elf_headers::{Fault, fill, refused};
 use elf_record::{Cause, u16_at};
 use elf_scope::VersionWords;
 use elf_source::{Counted, Source};
+use elf_wanted::Asked;
 
 /// The bit of the word of a symbol's version that hides it; the others are its number.
 const HIDDEN: u16 = 0x8000;

@@ -1,9 +1,11 @@
 //! The version of a symbol that is found.
 ghost use Rattle.std.specs.Prelude.{◌≡◌, ℕ, ◌+◌, ◌*◌, ◌<◌};
 ghost use Rattle.elf_headers.specs.Ledger.{Did, why_stopped};
+ghost use Rattle.elf_loader.specs.Answering.{IsWord};
 ghost use Rattle.elf_loader.specs.Finding.{FindsVersion};
+ghost use Rattle.elf_loader.specs.Lookups.{FindsWith};
 ghost use Rattle.elf_loader.specs.Tables.{most_versions};
-ghost use Rattle.elf_loader.specs.Telling.{told_bytes};
+ghost use Rattle.elf_loader.specs.Telling.{telling_bytes};
 ghost use Rattle.elf_wanted.specs.Wants.{asked_of};
 ghost use Rattle.elf_model.specs.Loader.{VersionWords as AreWordsOf, version_word_at};
 ghost use Rattle.elf_model.specs.LoaderScope.{Scope as IsScopeOf};
@@ -11,11 +13,12 @@ ghost use Rattle.elf_model.specs.Records.{versym};
 ghost use Rattle.elf_scope.specs.Symbols.{IsSymbols, IsWords, SymbolsLie};
 
 use crate::telling::told_name;
-use elf_wanted::Asked;
+use elf_hash::Found;
 use elf_headers::Fault;
 use elf_scope::{Symbols, VersionWords};
 use elf_source::{Counted, Source};
 use elf_table::{NameBuf, NameEnd};
+use elf_wanted::Asked;
 
 /// The name of the version of a symbol that is found.
 #[derive(Clone, Copy, Debug, PartialEq, Eq)]
@@ -40,12 +43,44 @@ pub struct FoundVersion {
     pub name: VersionName,
 }
 
+/// The version of a symbol that a walk finds, where there are versions. A symbol without a word has
+/// none; in a file that stays as it is there is no such symbol where there are versions.
+///
+/// # Errors
+/// Those of [`found_version`].
+pub(crate) fn version_of<S: Source>(
+    src: &mut Counted<S>,
+    symbols: &Symbols,
+    asked: &Asked<'_>,
+    found: &Found,
+    name: &mut NameBuf,
+) -> Result<Option<FoundVersion>, Fault>
+    requires lies { SymbolsLie src.old.seen.size symbols.now }
+    ensures { Did src.old src.new (why_stopped result)
+        (telling_bytes (asked_of asked.now) (most_versions symbols.now))
+        (λ file. (scope : IsScopeOf) → IsSymbols file scope.symbols symbols.now →
+        IsWord file symbols.now.words found.now.index found.now.answer.version →
+        FindsWith file scope (asked_of asked.now) found.now.index name.new src.old src.new result) }
+{
+    let Some(words) = &symbols.words else {
+        return Ok(None);
+    };
+    let Some(word) = found.answer.version else {
+        return Ok(None);
+    };
+    if found.index >= words.words.len() {
+        return Ok(None);
+    }
+    let version = found_version(src, symbols, words, asked, (found.index, word), name)?;
+    Ok(Some(version))
+}
+
 /// Tells the version of the symbol of an index, whose word is known: under the wanted name where one
 /// is wanted, without one where its number is 0 or 1, else by the name of its number, into `name`.
 ///
 /// # Errors
 /// Those of [`told_name`].
-pub(crate) fn found_version<S: Source>(
+fn found_version<S: Source>(
     src: &mut Counted<S>,
     symbols: &Symbols,
     words: &VersionWords,
@@ -56,7 +91,7 @@ pub(crate) fn found_version<S: Source>(
     requires lies { SymbolsLie src.old.seen.size symbols.now }
     requires below { found.0 < words.now.words.count }
     ensures { Did src.old src.new (why_stopped result)
-        (most_versions symbols.now * 28 + told_bytes)
+        (telling_bytes (asked_of asked.now) (most_versions symbols.now))
         (λ file. (scope : IsScopeOf) (told : AreWordsOf) → IsSymbols file scope.symbols symbols.now →
         IsWords told words.now → found.1 ≡ versym file (version_word_at told found.0) →
         FindsVersion file scope (asked_of asked.now) told found.0 src.old src.new name.new result) }

@@ -7,9 +7,14 @@ mod collecting;
 mod comparing;
 mod fitting;
 mod found;
+mod looking;
+mod lookup;
 mod naming;
 mod number_set;
 mod offered;
 mod telling;
 
+pub use found::{FoundVersion, VersionName};
+pub use looking::look_up;
+pub use lookup::{FoundSymbol, Lookup};
 pub use offered::is_offered;

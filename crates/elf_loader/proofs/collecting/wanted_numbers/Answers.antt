@@ -1,5 +1,5 @@
 -- None is wanted, or all records are compared.
-use Rattle.std.proofs.Common.{◌≡◌, ◌+◌, length, None, Some, [], refl, ap, sym, ◌∙◌, arith, option_map}
+use Rattle.std.proofs.Common.{◌≡◌, ◌+◌, ◌*◌, length, None, Some, [], refl, ap, sym, ◌∙◌, arith, option_map}
 use Rattle.std.proofs.lemmas.Result.{err_from_is_err_and}
 use Rattle.elf_headers.proofs.LedgerLaws.{Charges-none, Did-as, Did-none}
 use Rattle.elf_model.specs.Loader.{asked_name, compared_with, readings}
@@ -7,6 +7,8 @@ use Rattle.elf_model.specs.LoaderFind.{record_cost}
 use Rattle.elf_model.specs.Names.{pad64}
 use Rattle.elf_versions.proofs.WordLaws.{none-of}
 use Rattle.elf_wanted.specs.Wants.{asked_of}
+use Rattle.elf_loader.specs.Comparing.{comparing_bytes}
+use Rattle.elf_loader.specs.Tables.{most_versions}
 use Rattle.elf_loader.proofs.CollectLaws.{all-compared, collects-all, collects-fault, collects-none, no-version, no-words}
 use Rattle.elf_loader.proofs.collecting.wanted_numbers.Goals as goal
 
@@ -31,8 +33,9 @@ returns-in_err-compare_all g c =
     let version = c.in-Some-name.version.now in
     let asks : asked_name (asked_of c.args.asked.now) ≡ Some version = sym c.name.ensures ∙ ap (option_map (λ name. name.now)) c.in-Some-name.is in
     let each : record_cost (asked_of c.args.asked.now) ≡ 28 + pad64 (length version + 1) = rw asks refl in
-    rw (p.1, p.2, each)
-    (Did-as _ (omega arith) c.in_err-compare_all.ensures
+    let bytes : comparing_bytes (asked_of c.args.asked.now) (most_versions c.args.symbols.now) ≡ most_versions c.args.symbols.now * (28 + pad64 (length version + 1)) = rw (asks, comparing_bytes) refl in
+    rw (p.1, p.2)
+    (Did-as _ (omega (arith, bytes)) c.in_err-compare_all.ensures
     (λ file read costs scope is.
     collects-fault c.args.src.now c.compare_all.new.src (record_cost (asked_of c.args.asked.now)) (28 + pad64 (length version + 1)) c.new-numbers.result c.compare_all.new.numbers _ (compared_with file version (readings file scope.symbols.records)) (compared_with file version []) _
     each (all-compared file scope (asked_of c.args.asked.now) version c.in-Some._words asks (rw c.in-Some.is at is.words)) (read scope.symbols.records is.records)))
@@ -42,8 +45,9 @@ returns g c =
     let version = c.in-Some-name.version.now in
     let asks : asked_name (asked_of c.args.asked.now) ≡ Some version = sym c.name.ensures ∙ ap (option_map (λ name. name.now)) c.in-Some-name.is in
     let each : record_cost (asked_of c.args.asked.now) ≡ 28 + pad64 (length version + 1) = rw asks refl in
+    let bytes : comparing_bytes (asked_of c.args.asked.now) (most_versions c.args.symbols.now) ≡ most_versions c.args.symbols.now * (28 + pad64 (length version + 1)) = rw (asks, comparing_bytes) refl in
     rw each
-    (Did-as _ (omega arith) c.in_ok-compare_all.ensures
+    (Did-as _ (omega (arith, bytes)) c.in_ok-compare_all.ensures
     (λ file read costs scope is.
     collects-all c.args.src.now c.compare_all.new.src (28 + pad64 (length version + 1)) file version c.new-numbers.result c.compare_all.new.numbers _ (compared_with file version (readings file scope.symbols.records))
     (all-compared file scope (asked_of c.args.asked.now) version c.in-Some._words asks (rw c.in-Some.is at is.words)) c.new-numbers.ensures (read scope.symbols.records is.records)))

@@ -1,10 +1,12 @@
 -- The wanted name, no name, or the name of its number.
-use Rattle.std.proofs.Common.{◌≡◌, None, Some, ap, sym, ◌∙◌, arith, option_map}
+use Rattle.std.proofs.Common.{◌≡◌, ◌+◌, ◌*◌, None, Some, refl, ap, sym, ◌∙◌, arith, option_map}
 use Rattle.std.proofs.lemmas.Result.{err_from_is_err_and}
 use Rattle.elf_headers.proofs.LedgerLaws.{Charges-none, Did-as, Did-none}
 use Rattle.elf_model.specs.Loader.{asked_name}
 use Rattle.elf_versions.proofs.WordLaws.{none-of}
 use Rattle.elf_wanted.specs.Wants.{asked_of}
+use Rattle.elf_loader.specs.Tables.{most_versions}
+use Rattle.elf_loader.specs.Telling.{telling_bytes, told_bytes}
 use Rattle.elf_loader.proofs.FoundLaws.{finds-fault, finds-told, finds-unnamed, finds-wanted, word-at}
 use Rattle.elf_loader.proofs.found.found_version.Goals as goal
 
@@ -29,9 +31,10 @@ pub returns-in_err-end : goal.returns-in_err-end
 returns-in_err-end g c =
     let none : c.name.result ≡ None = none-of c.name.result c.in_default.not-Some in
     let asks : asked_name (asked_of c.args.asked.now) ≡ None = sym c.name.ensures ∙ ap (option_map (λ name. name.now)) none in
+    let bytes : telling_bytes (asked_of c.args.asked.now) (most_versions c.args.symbols.now) ≡ most_versions c.args.symbols.now * 28 + told_bytes = rw (asks, telling_bytes) refl in
     let p = err_from_is_err_and c.from_residual.result c.from_residual.ensures.1 in
     rw (p.1, p.2)
-    (Did-as _ (omega arith) c.in_err-end.ensures
+    (Did-as _ (omega (arith, bytes)) c.in_err-end.ensures
     (λ file read costs scope told is words here.
     finds-fault file scope (asked_of c.args.asked.now) told c.args.found.0 c.args.found.1 c.told_name.new.name c.args.src.now c.told_name.new.src _ asks here c.if-number-lt2.false
     (read scope told c.args.found.0 is (c.place.ensures ∙ word-at told c.args.words.now c.args.found.0 words c.args.words.now.entry))))
@@ -40,8 +43,9 @@ pub returns : goal.returns
 returns g c =
     let none : c.name.result ≡ None = none-of c.name.result c.in_default.not-Some in
     let asks : asked_name (asked_of c.args.asked.now) ≡ None = sym c.name.ensures ∙ ap (option_map (λ name. name.now)) none in
+    let bytes : telling_bytes (asked_of c.args.asked.now) (most_versions c.args.symbols.now) ≡ most_versions c.args.symbols.now * 28 + told_bytes = rw (asks, telling_bytes) refl in
     rw c.told_as-2.ensures
-    (Did-as _ (omega arith) c.in_ok-end.ensures
+    (Did-as _ (omega (arith, bytes)) c.in_ok-end.ensures
     (λ file read costs scope told is words here.
     finds-told file scope (asked_of c.args.asked.now) told c.args.found.0 c.args.found.1 c.told_name.new.name c.args.src.now c.told_name.new.src c.args.words.now c.in_ok-end.end asks words here c.if-number-lt2.false
     (read scope told c.args.found.0 is (c.place.ensures ∙ word-at told c.args.words.now c.args.found.0 words c.args.words.now.entry))))

@@ -1,0 +1,187 @@
+//! The call that looks a name up as a loader does.
+ghost use Rattle.std.specs.Prelude.{◌≡◌, ℕ, ◌+◌, ◌*◌, ◌/◌, None, Ok};
+ghost use Rattle.elf_headers.specs.Ledger.{Did, why_stopped};
+ghost use Rattle.elf_hash.specs.Scopes.{IsTable, place_of};
+ghost use Rattle.elf_hash.specs.Walks.{Gives, walk_bytes};
+ghost use Rattle.elf_loader.specs.Answering.{StandsAs};
+ghost use Rattle.elf_loader.specs.Lookups.{AreShort, LooksBehind, LooksUp, behind_bytes, looked_with, trial_bytes};
+ghost use Rattle.elf_loader.specs.NumberSets.{has};
+ghost use Rattle.elf_loader.specs.Tables.{most_versions};
+ghost use Rattle.elf_loader.specs.Telling.{telling_bytes};
+ghost use Rattle.elf_model.specs.Chains.{Walked as Walk};
+ghost use Rattle.elf_model.specs.Loader.{asked_name};
+ghost use Rattle.elf_model.specs.LoaderFind.{loaded_in, loader_ceiling, looked_by, record_cost, walk_in, wanted_numbers};
+ghost use Rattle.elf_model.specs.LoaderScope.{Scope as IsScopeOf};
+ghost use Rattle.elf_scope.specs.Scopes.{IsScope, ScopeLies};
+ghost use Rattle.elf_wanted.specs.Wants.{asked_of, the_wanted};
+
+use crate::answering::WantedTrial;
+use crate::collecting::wanted_numbers;
+use crate::found::version_of;
+use crate::lookup::{FoundSymbol, Lookup};
+use crate::number_set::NumberSet;
+use elf_hash::{HashTable, Walked, counts, walk};
+use elf_headers::{Fault, HeaderStore};
+use elf_scope::{Scope, find_scope};
+use elf_source::{Counted, Source};
+use elf_table::NameBuf;
+use elf_wanted::Wanted;
+
+/// Looks a name up in a file, alone or with a version, as a loader of the GNU system does (gABI 5,
+/// Dynamic Linking; Linux Standard Base Core, Symbol Versioning): by the file's hash table, of the
+/// GNU system or else of the gABI, the first symbol of the name's chain that has the name, is offered
+/// to others ([`crate::is_offered`]) and whose version fits. What the lookup is made in is found as
+/// by [`find_scope`], and the headers are loaded into the store. The name and the version that is
+/// asked for have at most 4,096 bytes each. Where the name of the symbol's version is told, `name`
+/// holds it, or its first 256 bytes; else `name` holds any bytes.
+///
+/// Where the source's file is known the answer is the file's own, and so is the refusal; no more is
+/// asked for than the lookup costs, also where the source fails.
+///
+/// # Errors
+/// The first that fails: what [`find_scope`] refuses; `HashShape` at what tells of the hash table
+/// where its counts are no table's of its size; where a version is asked for, what
+/// [`elf_versions::VersionCursor::advance`] refuses of the definitions and the needs, and a fault of
+/// a version's name at the record that holds it; on the way `HashIndex` at the word that leads to a
+/// symbol index which no symbol and no chain word has, in a table of the gABI `HashCycle` at the
+/// bucket's word where the chain goes round, a fault of a symbol's name at the symbol, `VersionCut`
+/// at what tells of the words of versions where a symbol has none; where the name of the symbol's
+/// version is told, what is refused of the records before the one that has its number and of its
+/// name, and `VersionIndex` at the symbol's word where no record has the number. Else a fault of the
+/// source, or `Budget` where a limit has no room for a read, at the offset that was asked for.
+pub fn look_up<S: Source>(
+    src: &mut Counted<S>,
+    store: &mut HeaderStore,
+    wanted: &Wanted<'_>,
+    name: &mut NameBuf,
+) -> Result<Lookup, Fault>
+    requires { AreShort (the_wanted wanted.now) }
+    ensures did { Did src.old src.new (why_stopped result)
+        (loader_ceiling src.old.seen.size store.old.slots (the_wanted wanted.now))
+        (λ file. LooksUp file store.old.slots (the_wanted wanted.now) name.new
+        src.old src.new result) }
+    ensures slots { store.new.slots ≡ store.old.slots }
+{
+    let scope = find_scope(src, store)?;
+    look_in(src, &scope, wanted, name)
+}
+
+/// Looks up in what a lookup is made in.
+///
+/// # Errors
+/// Those of the table's counts, and of [`look_in_table`].
+fn look_in<S: Source>(
+    src: &mut Counted<S>,
+    scope: &Scope,
+    wanted: &Wanted<'_>,
+    name: &mut NameBuf,
+) -> Result<Lookup, Fault>
+    requires short { AreShort (the_wanted wanted.now) }
+    requires lies { ScopeLies src.old.seen.size scope.now }
+    ensures { Did src.old src.new (why_stopped result)
+        (behind_bytes 28 src.old.seen.size (the_wanted wanted.now))
+        (λ file. (told : IsScopeOf) → IsScope file told scope.now →
+        LooksBehind file (the_wanted wanted.now) 28 0 (loaded_in file told (the_wanted wanted.now))
+        name.new src.old src.new result) }
+{
+    let table = counts(src, &scope.hash)?;
+    look_in_table(src, scope, &table, wanted, name)
+}
+
+/// Looks up in a hash table with its counts: tells the numbers of the version that is asked for, and
+/// goes along the chain.
+///
+/// # Errors
+/// Those of [`wanted_numbers`], and of [`look_along`].
+fn look_in_table<S: Source>(
+    src: &mut Counted<S>,
+    scope: &Scope,
+    table: &HashTable,
+    wanted: &Wanted<'_>,
+    name: &mut NameBuf,
+) -> Result<Lookup, Fault>
+    requires short { AreShort (the_wanted wanted.now) }
+    requires lies { ScopeLies src.old.seen.size scope.now }
+    requires place { place_of table.now ≡ scope.now.hash }
+    ensures { Did src.old src.new (why_stopped result)
+        (behind_bytes 12 src.old.seen.size (the_wanted wanted.now))
+        (λ file. (told : IsScopeOf) → IsScope file told scope.now → IsTable file told table.now →
+        LooksBehind file (the_wanted wanted.now) 12 0 (looked_with file told (the_wanted wanted.now)
+        (wanted_numbers file told (the_wanted wanted.now).asked)) name.new src.old src.new result) }
+{
+    let numbers = wanted_numbers(src, &scope.symbols, &wanted.asked)?;
+    look_along(src, scope, table, wanted, &numbers, name)
+}
+
+/// Goes along the chain of the wanted name for the symbol that answers, and tells its version.
+///
+/// # Errors
+/// Those of [`walk`], and of [`version_of`].
+fn look_along<S: Source>(
+    src: &mut Counted<S>,
+    scope: &Scope,
+    table: &HashTable,
+    wanted: &Wanted<'_>,
+    numbers: &NumberSet,
+    name: &mut NameBuf,
+) -> Result<Lookup, Fault>
+    requires short { AreShort (the_wanted wanted.now) }
+    requires lies { ScopeLies src.old.seen.size scope.now }
+    requires place { place_of table.now ≡ scope.now.hash }
+    ensures { Did src.old src.new (why_stopped result)
+        (walk_bytes 12 (scope.now.hash.size / 4) (scope.now.hash.size / 4)
+        (trial_bytes (the_wanted wanted.now))
+        + telling_bytes (asked_of wanted.now.asked) (most_versions scope.now.symbols))
+        (λ file. (told : IsScopeOf) (before : ℕ) → IsScope file told scope.now →
+        IsTable file told table.now → (asked_name (asked_of wanted.now.asked) ≡ None → before ≡ 0) →
+        LooksBehind file (the_wanted wanted.now) 12 (before * record_cost (asked_of wanted.now.asked))
+        (looked_by file told (asked_of wanted.now.asked) before
+        (walk_in file told (the_wanted wanted.now) (has numbers.now))) name.new src.old src.new result) }
+{
+    let trial = WantedTrial {
+        symbols: &scope.symbols,
+        wanted,
+        numbers,
+    };
+    let walked = walk(src, table, wanted.name, &trial)?;
+    answer_of(src, scope, wanted, &walked, name)
+}
+
+/// What is answered by a walk, with the version of the symbol that it finds.
+///
+/// # Errors
+/// Those of [`version_of`].
+fn answer_of<S: Source>(
+    src: &mut Counted<S>,
+    scope: &Scope,
+    wanted: &Wanted<'_>,
+    walked: &Walked,
+    name: &mut NameBuf,
+) -> Result<Lookup, Fault>
+    requires { ScopeLies src.old.seen.size scope.now }
+    ensures { Did src.old src.new (why_stopped result)
+        (telling_bytes (asked_of wanted.now.asked) (most_versions scope.now.symbols))
+        (λ file. (told : IsScopeOf) (walk : Walk) (before : ℕ) → IsScope file told scope.now →
+        Gives (StandsAs file scope.now.symbols) walk (Ok walked.now) →
+        (asked_name (asked_of wanted.now.asked) ≡ None → before ≡ 0) →
+        LooksBehind file (the_wanted wanted.now) 0
+        (walk_bytes (before * record_cost (asked_of wanted.now.asked)) walk.read walk.tried
+        (trial_bytes (the_wanted wanted.now)))
+        (looked_by file told (asked_of wanted.now.asked) before walk)
+        name.new src.old src.new result) }
+{
+    let Some(found) = walked.found else {
+        return Ok(Lookup::Absent {
+            tried: walked.tried,
+        });
+    };
+    let version = version_of(src, &scope.symbols, &wanted.asked, &found, name)?;
+    Ok(Lookup::Found(FoundSymbol {
+        section: scope.symbols.index,
+        machine: scope.machine,
+        index: found.index,
+        symbol: found.answer.symbol,
+        version,
+        tried: walked.tried,
+    }))
+}
