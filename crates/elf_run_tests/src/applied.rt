@@ -1,19 +1,16 @@
 //! Sections written with their relocations applied: the bytes, the statuses, and where reads and writes
 //! fail.
-use crate::requests::{carry_out, check_answer, check_outputs, check_reads, request};
+use crate::requests::{check_answer, check_outputs, check_reads, request};
 use elf_fixtures::{
-    falling_relocations, one_call, one_symbol_table, overlapping_relocations, third_overflows,
-    with_bytes,
+    falling_relocations, one_call, overlapping_relocations, third_overflows, with_bytes,
 };
 use elf_layout::{Item, Layout};
-use elf_source::TurnSource;
-use elf_table::HeaderRoom;
 use elf_words::{Request, Task};
 use std::process::Abort;
 use std::test::Fail;
 
 /// Section 1 applied in a layout, in a file of three sections.
-pub(crate) fn first_applied(layout: &Layout) -> Result<Request<'_>, Fail> {
+fn first_applied(layout: &Layout) -> Result<Request<'_>, Fail> {
     let section = 1;
     request(
         3,
@@ -26,7 +23,7 @@ pub(crate) fn first_applied(layout: &Layout) -> Result<Request<'_>, Fail> {
 }
 
 /// A section of the file with the call applied in a layout.
-pub(crate) fn call_applied(section: u16, layout: &Layout) -> Result<Request<'_>, Fail> {
+fn call_applied(section: u16, layout: &Layout) -> Result<Request<'_>, Fail> {
     request(
         5,
         Task::Apply {
@@ -38,7 +35,7 @@ pub(crate) fn call_applied(section: u16, layout: &Layout) -> Result<Request<'_>,
 }
 
 /// A layout with an address of section 1 and of the entry for `f`.
-pub(crate) fn placed_call(rt: &impl Abort) -> Layout {
+fn placed_call(rt: &impl Abort) -> Layout {
     let mut layout = Layout::new();
     for item in [
         Item::Section {
@@ -84,20 +81,4 @@ fn each_read_and_write_of_an_applied_section_fails_in_turn(rt: HostRuntime) -> R
     let layout = placed_call(&rt);
     let asked = call_applied(1, &layout)?;
     check_reads(&rt, &asked, one_call(), &offsets, 5)
-}
-
-#[test]
-fn a_file_that_changes_between_reads_is_asked_for_no_more(rt: HostRuntime) -> Result<(), Fail> {
-    let (one, other) = (one_symbol_table(), overlapping_relocations());
-    let layout = Layout::new();
-    let asked = first_applied(&layout)?;
-    let mut room = HeaderRoom::new(rt.alloc(), 3)?;
-    let mut store = room.store();
-    for (first, second) in [(one, other), (other, one)] {
-        let source = TurnSource::new(first, second).ok_or("two lengths")?;
-        let finished = carry_out(&rt, &asked, source, &mut store);
-        // Six passes through three sections of thirteen entries, and the file.
-        assert!(rt; finished.asked <= 64 + 192 + 6 * 39 * 48 + 312);
-    }
-    Ok(())
 }

@@ -1,5 +1,5 @@
-//! Tests of requests carried out: whole answers, every budget up to a cost, each read and each write
-//! failing in turn, and files that change between reads.
+//! Tests of requests carried out: whole answers, within budgets too, and each read and each write failing
+//! in turn.
 #![tactic(auto)]
 
 #[cfg(test)]

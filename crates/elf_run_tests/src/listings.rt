@@ -1,52 +1,39 @@
-//! Whole listings, listings whose reads and writes fail in turn, and listings of files that change
-//! between reads.
+//! A whole listing, and listings whose reads and writes fail in turn.
 
 use crate::requests::{LISTED, carry_out, check_answer, check_outputs, check_reads, listing};
 use elf_fakes::Pieces;
 use elf_fixtures::{
     hash_with_cycle, library_without_sections, note_segment, one_call, one_symbol_table,
-    overlapping_relocations,
 };
 use elf_listing::FIXED_BYTES;
-use elf_record::Parts;
-use elf_source::{MemorySource, StreamSource, TurnSource};
+use elf_source::{MemorySource, StreamSource};
 use elf_table::HeaderRoom;
 use std::process::Abort;
 use std::test::Fail;
 
-/// What each part lists of the file with one call, in order.
-const CALL: [&str; 7] = [
+/// The listing of the file with one call.
+const CALL: &str = concat!(
     "H REL     62 0000000000000000 0000000000000000 0000000000000098 00000000     0     5     0\n",
-    concat!(
-        "S     0 NULL                       0000000000000000 0000000000000000 0000000000000000 00000000 00000000 \n",
-        "S     1 PROGBITS      AX           0000000000000000 0000000000000040 0000000000000005 00000000 00000000 \n",
-        "S     2 RELA          I            0000000000000000 0000000000000048 0000000000000018 00000003 00000001 \n",
-        "S     3 SYMTAB                     0000000000000000 0000000000000060 0000000000000030 00000004 00000001 \n",
-        "S     4 STRTAB                     0000000000000000 0000000000000090 0000000000000003 00000000 00000000 \n",
-    ),
-    "",
-    concat!(
-        "Y     3          0 0000000000000000 0000000000000000 NOTYPE  LOCAL  DEFAULT   UND   \n",
-        "Y     3          1 0000000000000000 0000000000000000 NOTYPE  GLOBAL DEFAULT   UND   f\n",
-    ),
+    "S     0 NULL                       0000000000000000 0000000000000000 0000000000000000 00000000 00000000 \n",
+    "S     1 PROGBITS      AX           0000000000000000 0000000000000040 0000000000000005 00000000 00000000 \n",
+    "S     2 RELA          I            0000000000000000 0000000000000048 0000000000000018 00000003 00000001 \n",
+    "S     3 SYMTAB                     0000000000000000 0000000000000060 0000000000000030 00000004 00000001 \n",
+    "S     4 STRTAB                     0000000000000000 0000000000000090 0000000000000003 00000000 00000000 \n",
+    "Y     3          0 0000000000000000 0000000000000000 NOTYPE  LOCAL  DEFAULT   UND   \n",
+    "Y     3          1 0000000000000000 0000000000000000 NOTYPE  GLOBAL DEFAULT   UND   f\n",
     "R     2 0000000000000001 PLT32      00000001 -0000000000000004 f\n",
-    "",
-    "",
-];
+);
 
 #[test]
-fn every_set_of_parts_is_listed(rt: HostRuntime) -> Result<(), Fail> {
-    for bits in 0..128u16 {
-        let mut text = Vec::new(rt.alloc());
-        for part in 0..7 {
-            if bits & (1 << part) != 0 {
-                text.extend_from_slice(CALL[part].as_bytes())?;
-            }
-        }
-        let asked = listing(5, Parts(bits))?;
-        check_answer(&rt, &asked, one_call(), &text, 0, 672)?;
-    }
-    Ok(())
+fn a_file_is_listed_whole(rt: HostRuntime) -> Result<(), Fail> {
+    check_answer(
+        &rt,
+        &listing(5, LISTED)?,
+        one_call(),
+        CALL.as_bytes(),
+        0,
+        672,
+    )
 }
 
 #[test]
@@ -85,27 +72,6 @@ fn each_write_of_a_listing_fails_in_turn(rt: HostRuntime) -> Result<(), Fail> {
     check_outputs(&rt, &listing(3, LISTED)?, one_symbol_table())?;
     check_outputs(&rt, &listing(4, LISTED)?, hash_with_cycle())?;
     check_outputs(&rt, &listing(5, LISTED)?, one_call())
-}
-
-#[test]
-fn files_that_change_between_reads_are_listed_within_the_ceiling(
-    rt: HostRuntime,
-) -> Result<(), Fail> {
-    let (one, other) = (one_symbol_table(), overlapping_relocations());
-    let asked = listing(3, LISTED)?;
-    let mut room = HeaderRoom::new(rt.alloc(), 3)?;
-    let mut store = room.store();
-    let whole = carry_out(&rt, &asked, MemorySource::new(one), &mut store).text;
-    for (first, second) in [(one, other), (other, one)] {
-        let source = TurnSource::new(first, second).ok_or("two lengths")?;
-        let finished = carry_out(&rt, &asked, source, &mut store);
-        // 64 + 3 * (120 + 64 + 312 + 312 / 16 * (32 + 64))
-        assert!(rt; finished.asked <= 7024);
-        // The same store lists a file that stays the same.
-        let again = carry_out(&rt, &asked, MemorySource::new(one), &mut store).text;
-        assert!(rt; again == whole);
-    }
-    Ok(())
 }
 
 #[test]

@@ -5,7 +5,7 @@ use elf_words::{Request, Task, checked_name};
 use std::test::Fail;
 
 /// A lookup of a name, with so many headers permitted.
-pub(crate) fn lookup(headers: u16, name: &str) -> Result<Request<'_>, Fail> {
+fn lookup(headers: u16, name: &str) -> Result<Request<'_>, Fail> {
     let wanted = checked_name(name).ok_or("name")?;
     request(headers, Task::Find(wanted))
 }

@@ -1,7 +1,5 @@
 //! Requests carried out on files in memory, and where each read fails or the output ends early.
 
-ghost use Rattle.std.specs.Prelude.{◌<◌, ◌≤◌};
-
 use elf_record::Parts;
 use elf_run::{outcome, run};
 use elf_source::{
@@ -92,52 +90,6 @@ pub(crate) fn check_answer(
     assert!(rt; finished.text.as_slice() == text, "status {status}");
     assert!(rt; finished.asked <= cost, "{cost} bytes");
     Ok(())
-}
-
-/// Carries a request out within the budgets up to what it costs: the multiples of a step, and the last
-/// 64. It is answered whole, or, within less than its cost, by the line of the budget: behind whole lines
-/// of a listing, else alone. No more is asked for than the budget.
-pub(crate) fn check_budgets(
-    rt: &(impl Abort + AllocGlobal),
-    request: &Request<'_>,
-    file: &[u8],
-    cost: u64,
-    step: u64,
-) -> Result<(), Fail>
-    requires few { cost ≤ 100000 }
-    requires steps { 0 < step }
-{
-    let mut room = HeaderRoom::new(rt.alloc(), request.limits.headers)?;
-    let mut store = room.store();
-    let whole = carry_out(rt, request, MemorySource::new(file), &mut store);
-    let lists = matches!(request.task, Task::Show { .. });
-    for budget in 0..=cost {
-        if budget % step != 0 && budget + 64 < cost {
-            continue;
-        }
-        let within = within(request, budget);
-        let answered = carry_out(rt, &within, MemorySource::new(file), &mut store);
-        assert!(rt; answered.asked <= u128::from(budget), "{budget} bytes");
-        if answered.text != whole.text {
-            assert!(rt; budget < cost, "within {budget} bytes");
-            assert!(rt; outcome(&answered.answer) == (1, ""), "{budget} bytes");
-            let front = front_before_budget(rt, &answered.text);
-            assert!(rt; front.is_empty() || (lists && front.ends_with(b"\n".as_slice())));
-            assert!(rt; front.is_empty() || whole.text.starts_with(front));
-            assert!(rt; answered.asked + 4096 > u128::from(budget) || !lists);
-        }
-    }
-    Ok(())
-}
-
-/// What stands before the line of the budget, which ends a text.
-fn front_before_budget<'a>(rt: &impl Abort, text: &'a [u8]) -> &'a [u8] {
-    let length = "! 0000000000000000 budget\n".len();
-    assert!(rt; text.len() >= length);
-    let (front, last) = text.split_at(text.len() - length);
-    assert!(rt; last.starts_with(b"! ".as_slice()));
-    assert!(rt; last.ends_with(b" budget\n".as_slice()));
-    front
 }
 
 /// Carries a request out with its first read failing, then its second, and so on until none fails:

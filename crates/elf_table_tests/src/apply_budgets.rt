@@ -1,6 +1,6 @@
 //! Where a limit on what may be asked for refuses a section, and how much was asked for by then.
 use elf_apply::{Applied, apply};
-use elf_fixtures::{one_call, rising_relocations};
+use elf_fixtures::one_call;
 use elf_layout::{Item, Layout};
 use elf_record::{Cause, Refusal};
 use elf_source::{Counted, MemorySource, Out, SliceSink};
@@ -12,16 +12,10 @@ use std::test::Fail;
 /// of the output, which are 9 where nothing was written.
 type Limited = (Result<Applied, Stop>, u128, [u8; 128]);
 
-/// Applies to section 1 of a file within a limit, of which none is left afterwards.
-fn limited(
-    rt: &impl Abort,
-    file: &[u8],
-    layout: &Layout,
-    store: &mut HeaderStore,
-    budget: u64,
-) -> Limited {
+/// Applies to section 1 of the file with one call within a limit, of which none is left afterwards.
+fn limited(rt: &impl Abort, layout: &Layout, store: &mut HeaderStore, budget: u64) -> Limited {
     let mut bytes = [9; 128];
-    let mut src = Counted::new(MemorySource::new(file));
+    let mut src = Counted::new(MemorySource::new(one_call()));
     src.limit(Some(budget));
     let mut out = Out::new(SliceSink::new(&mut bytes));
     let answer = apply(&mut src, store, 1, layout, &mut out);
@@ -49,15 +43,9 @@ fn linked(rt: &impl Abort) -> Layout {
 }
 
 /// Checks the refusal within a budget, and how many bytes were asked for before.
-fn check_refused(
-    rt: &impl Abort,
-    file: &[u8],
-    layout: &Layout,
-    store: &mut HeaderStore,
-    row: (u64, u64, u128),
-) {
+fn check_refused(rt: &impl Abort, layout: &Layout, store: &mut HeaderStore, row: (u64, u64, u128)) {
     let (budget, at, wanted) = row;
-    let (answer, asked, bytes) = limited(rt, file, layout, store, budget);
+    let (answer, asked, bytes) = limited(rt, layout, store, budget);
     let cause = Cause::Budget;
     assert!(rt;
         answer == Err(Stop::Refused(Refusal { at, cause })),
@@ -68,39 +56,16 @@ fn check_refused(
 }
 
 #[test]
-fn a_refusal_names_the_read_or_the_section(rt: HostRuntime) -> Result<(), Fail> {
-    let mut room = HeaderRoom::new(rt.alloc(), 3)?;
-    let mut store = room.store();
-    let layout = Layout::new();
-    let file = rising_relocations();
-    for row in [
-        (0, 0, 0),
-        (63, 0, 0),
-        (64, 0x120, 64),
-        (255, 0x120, 64),
-        (256, 0xc0, 256),
-        (351, 0xc0, 256),
-        (352, 0x40, 352),
-        (671, 0x40, 352),
-    ] {
-        check_refused(&rt, file, &layout, &mut store, row);
-    }
-    let (answer, asked, _) = limited(&rt, file, &layout, &mut store, 672);
-    assert!(rt; (answer.is_ok(), asked) == (true, 576));
-    Ok(())
-}
-
-#[test]
 fn each_entry_may_take_its_symbol_and_all_names(rt: HostRuntime) -> Result<(), Fail> {
     let mut room = HeaderRoom::new(rt.alloc(), 5)?;
     let mut store = room.store();
     let layout = linked(&rt);
-    check_refused(&rt, one_call(), &layout, &mut store, (384, 0x48, 384));
-    check_refused(&rt, one_call(), &layout, &mut store, (408, 0x78, 408));
-    check_refused(&rt, one_call(), &layout, &mut store, (433, 0x91, 432));
-    check_refused(&rt, one_call(), &layout, &mut store, (434, 0x40, 434));
-    check_refused(&rt, one_call(), &layout, &mut store, (550, 0x40, 434));
-    let (answer, asked, _) = limited(&rt, one_call(), &layout, &mut store, 551);
+    check_refused(&rt, &layout, &mut store, (384, 0x48, 384));
+    check_refused(&rt, &layout, &mut store, (408, 0x78, 408));
+    check_refused(&rt, &layout, &mut store, (433, 0x91, 432));
+    check_refused(&rt, &layout, &mut store, (434, 0x40, 434));
+    check_refused(&rt, &layout, &mut store, (550, 0x40, 434));
+    let (answer, asked, _) = limited(&rt, &layout, &mut store, 551);
     assert!(rt; (answer.is_ok(), asked) == (true, 489));
     Ok(())
 }

@@ -1,6 +1,7 @@
 //! Tests of what no clause says of sources, sinks, lines, loads, tables, names, notes, versions,
 //! lookups and applied sections: readers and writers that give or take little, are interrupted, fail
-//! or end, how often they are called and for how much at once, and files that change between reads.
+//! or end, how often they are called and for how much at once, and an entry that falls back between
+//! reads.
 //! They are in a crate of their own, since a crate with tests is proved twice.
 #![tactic(auto)]
 
@@ -18,8 +19,6 @@ mod chains;
 mod lines;
 #[cfg(test)]
 mod loads;
-#[cfg(test)]
-mod lookups;
 #[cfg(test)]
 mod names;
 #[cfg(test)]

@@ -98,32 +98,6 @@ fn reads_that_follow_one_another_seek_once(rt: HostRuntime) {
 }
 
 #[test]
-fn the_sixty_fourth_interruption_is_a_failure(rt: HostRuntime) {
-    let script = Script::new();
-    let mut source = stream(6, 1, &script, &rt);
-    let mut two = [0; 2];
-    for (interrupted, want) in [(63, Ok(())), (64, Err(SourceFault::Device)), (0, Ok(()))] {
-        script.interrupt(interrupted, 0, 0);
-        assert!(rt; fill_at(&mut source, 1, &mut two, &rt) == want);
-        two = [0; 2];
-        script.interrupt(0, interrupted, 0);
-        let answer = fill_at(&mut source, 3, &mut two, &rt);
-        assert!(rt; answer == want, "{interrupted}");
-    }
-    assert!(rt; two == *b"de");
-}
-
-#[test]
-fn a_reader_that_ends_early_is_not_honest(rt: HostRuntime) {
-    let script = Script::new();
-    let mut source = stream(7, 4, &script, &rt);
-    script.go_wrong(1, Trouble::Ends);
-    let ended = fill_at(&mut source, 5, &mut [0; 2], &rt);
-    assert!(rt; ended == Err(SourceFault::Ended));
-    assert!(rt; gives(&mut source, 4, b"ef", &rt));
-}
-
-#[test]
 fn a_length_that_is_not_found_is_a_failure(rt: HostRuntime) {
     let script = Script::new();
     script.go_wrong(0, FAILS);
