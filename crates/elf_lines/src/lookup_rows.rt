@@ -8,7 +8,7 @@ use elf_source::{Out, OutFault, Sink};
 
 /// The `F` line, which ends a lookup: whether the name was found, and how many symbols were compared.
 #[tactic(auto, unfolding(elf_model::specs::Lines::steps_line))]
-pub fn steps_row(found: bool, steps: u32) -> Line
+pub fn steps_row(found: bool, steps: u64) -> Line
     ensures { result.items ≡ steps_line found steps }
 {
     let word = if found { "found" } else { "absent" };
@@ -16,7 +16,7 @@ pub fn steps_row(found: bool, steps: u32) -> Line
     put(&mut line, b"F ");
     put_left(&mut line, 6, word.as_bytes());
     put(&mut line, b" ");
-    put_decimal(&mut line, 10, u64::from(steps));
+    put_decimal(&mut line, 10, steps);
     put(&mut line, b"\n");
     line
 }
@@ -26,7 +26,7 @@ pub fn steps_row(found: bool, steps: u32) -> Line
 ///
 /// # Errors
 /// A fault of the output, with a front of the line written.
-pub fn show_steps<W: Sink>(found: bool, steps: u32, out: &mut Out<W>) -> Result<(), OutFault>
+pub fn show_steps<W: Sink>(found: bool, steps: u64, out: &mut Out<W>) -> Result<(), OutFault>
     ensures puts { Puts out.old out.new result (steps_line found steps) }
 {
     out.put(&steps_row(found, steps))

@@ -1,7 +1,7 @@
 -- What a listing's report is as the answer of a run.
 use Rattle.std.proofs.Common.{◌≡◌, ℕ, ◌+◌, ◌≤◌, List, ◌++◌, Option, None, Some, Result, Ok, Err, ap, sym, ◌∙◌, inl, inr, refl}
 use Rattle.std.specs.Prelude.{IfErr}
-use Rattle.elf_model.specs.Answer.{Answer, IsShown, status_of, show_answer_by}
+use Rattle.elf_model.specs.Answer.{Answer, status_of, show_answer_by}
 use Rattle.elf_model.specs.Budget.{IsBudget, IsBudgeted, IsReport}
 use Rattle.elf_model.specs.Cost.{listing_cost}
 use Rattle.elf_model.specs.Listing.{Item, end_text, lines_of, report_of}

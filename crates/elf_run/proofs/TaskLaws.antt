@@ -1,12 +1,10 @@
 -- What a task did that is no listing, between the call that sets its limit and the one that takes it away.
-use Rattle.std.proofs.Common.{◌≡◌, ◌⊎◌, ℕ, ◌+◌, ◌^◌, ◌<◌, ◌≤◌, List, [], ◌∷◌, ◌++◌, Option, None, Some, option_map, Result, Ok, Err, ap, sym, ◌∙◌, inl, inr, refl, subst, arith}
+use Rattle.std.proofs.Common.{◌≡◌, ◌⊎◌, ℕ, ◌+◌, ◌^◌, ◌<◌, ◌≤◌, List, [], ◌++◌, Option, None, Some, Result, Ok, Err, ap, sym, ◌∙◌, inl, inr, refl, subst, arith}
 use Rattle.std.specs.Prelude.{IfErr, IfSome}
 use Rattle.elf_model.specs.Answer.{Answer}
 use Rattle.elf_model.specs.Apply.{applied}
 use Rattle.elf_model.specs.Budget.{IsBudget}
-use Rattle.elf_model.specs.Find.{looked}
-use Rattle.elf_model.specs.FindApplyAnswer.{IsAnswered, apply_answer, applied_status, applied_text, find_answer}
-use Rattle.elf_model.specs.Hash.{Refused as IsRefused}
+use Rattle.elf_model.specs.FindApplyAnswer.{IsAnswered, apply_answer, applied_status, applied_text}
 use Rattle.elf_model.specs.Lines.{refusal_line}
 use Rattle.elf_model.specs.Placing.{Layout}
 use Rattle.elf_model.specs.declared.causes.Cause.TheVariants.{Budget}
@@ -17,13 +15,12 @@ use Rattle.elf_source.specs.Source.{Counting, Keeps, Limits, counted}
 use Rattle.elf_source.specs.Output.{Written, Takes, TakesFront}
 use Rattle.elf_source.proofs.LimitLaws.{budget_below, late_budget}
 use Rattle.elf_source.proofs.PutsLaws.{Takes-nothing, TakesFront-all, TakesFront-more, TakesFront-then}
-use Rattle.elf_headers.specs.Faults.{RefusalSays, Says}
+use Rattle.elf_headers.specs.Faults.{Says}
 use Rattle.elf_headers.specs.Stops.{stop_of}
 use Rattle.elf_headers.specs.declared.fault.Fault.{Fault}
 use Rattle.elf_headers.specs.declared.fault.Fault.TheVariants.{Refused as Refuses, Source as Unread}
 use Rattle.elf_headers.specs.declared.stop.Stop.{Stop}
 use Rattle.elf_headers.specs.declared.stop.Stop.TheVariants.{Refused, Source, Out}
-use Rattle.elf_hash.specs.Lookups.{Walks}
 use Rattle.elf_apply.specs.Applied.{Applies, ApplySays, WantsBudget, text_of}
 use Rattle.elf_apply.specs.declared.applying.Applied.{Applied}
 use Rattle.elf_listing.specs.Reports.{FaultSays, TellsStop}
@@ -138,12 +135,16 @@ output_alone budget s t out (Err (Refused refusal)) fails = absurd fails
 output_alone budget s t out (Err (Source fault at)) fails = absurd fails
 output_alone budget s t out (Err (Out fault)) fails = (fails, λ whole. tt)
 
+-- a refusal is the whole answer, unless it is for want of budget
+abbrev pub RefusesAs : Answer → Fault → Type 0
+RefusesAs whole (Refuses refusal) = (IsBudget refusal → ⊥) → whole ≡ refused_answer refusal
+RefusesAs whole (Unread fault at) = Unit {0}
+
 -- where a lookup stopped
-pub lookup_stops : (s1 s2 : Counting) (a : Written) (file : List ℕ) (headers : ℕ) (wanted : List ℕ) (n : ℕ) (fault : Fault) → Says s1 s2 n fault
-    → Walks file (looked file headers wanted) (Err fault) → StopsIn s1 n a a (find_answer file headers wanted) (stop_of fault)
-lookup_stops s1 s2 a file headers wanted n (Refuses refusal) says walks =
-    (λ budget. let said = says budget in (said.0, (said.1.most, said.1.is_set, said.1.above)), refl, λ other. rw (walks other) refl)
-lookup_stops s1 s2 a file headers wanted n (Unread fault at) says walks = TakesFront-all [] _ (Takes-nothing a)
+pub lookup_stops : (s1 s2 : Counting) (a : Written) (n : ℕ) (fault : Fault) (whole : Answer) → Says s1 s2 n fault → RefusesAs whole fault → StopsIn s1 n a a whole (stop_of fault)
+lookup_stops s1 s2 a n (Refuses refusal) whole says refuses =
+    (λ budget. let said = says budget in (said.0, (said.1.most, said.1.is_set, said.1.above)), refl, refuses)
+lookup_stops s1 s2 a n (Unread fault at) whole says refuses = TakesFront-all [] _ (Takes-nothing a)
 
 -- a lookup's budget is used up where its refusal is for want of it, and the refusal names the read that it had no room for
 pub lookup_used : (a b : Written) (budget : Option ℕ) (s0 s1 s2 s3 : Counting) (n : ℕ) (fault : Fault) (told : Stop) (whole answer : Answer) → s0.asked ≤ 2 ^ 127 → Limits s0 s1 budget

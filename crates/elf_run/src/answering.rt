@@ -4,6 +4,7 @@ ghost use Rattle.elf_run.specs.Requests.{RunsShow, RunsTask};
 
 use crate::applying::write_applied;
 use crate::finding::look_up;
+use crate::resolving::resolve;
 use elf_layout::Addresses;
 use elf_listing::show;
 use elf_record::Parts;
@@ -35,6 +36,7 @@ pub fn run<S: Source, W: Sink>(
     match request.task {
         Task::Show { parts, style } => list(src, store, Caps { limits, style }, parts, out),
         Task::Find(wanted) => look_up(src, store, limits, wanted.bytes, out),
+        Task::Resolve(wanted) => resolve(src, store, limits, wanted.text, out),
         Task::Apply {
             section,
             layout,

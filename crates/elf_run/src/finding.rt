@@ -61,11 +61,11 @@ fn show_lookup<W: Sink>(lookup: &Lookup, wanted: &[u8], out: &mut Out<W>) -> Res
             steps,
         } => {
             show_symbol(*section, u64::from(*index), symbol, wanted, out)?;
-            show_steps(true, *steps, out)?;
+            show_steps(true, u64::from(*steps), out)?;
             Ok(0)
         }
         Lookup::Absent { steps } => {
-            show_steps(false, *steps, out)?;
+            show_steps(false, u64::from(*steps), out)?;
             Ok(1)
         }
     }

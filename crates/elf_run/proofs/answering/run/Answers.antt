@@ -7,6 +7,9 @@ returns-in-Show-clause-runs g c = rw (c.in-Show.is) c.list.ensures.runs
 pub returns-in-Find-clause-runs : goal.returns-in-Find-clause-runs
 returns-in-Find-clause-runs g c = rw (c.in-Find.is) c.look_up.ensures.runs
 
+pub returns-in-Resolve-clause-runs : goal.returns-in-Resolve-clause-runs
+returns-in-Resolve-clause-runs g c = rw (c.in-Resolve.is) c.resolve.ensures.runs
+
 pub returns-in-Apply-clause-runs : goal.returns-in-Apply-clause-runs
 returns-in-Apply-clause-runs g c = rw (c.in-Apply.is, ← c.fixed-addresses.ensures) c.write_applied.ensures.runs
 

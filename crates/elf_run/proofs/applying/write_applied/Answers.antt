@@ -1,5 +1,4 @@
 -- What was applied is the answer, or the budget ends it.
-use Rattle.std.proofs.Common.{◌≡◌, ap, sym, ◌∙◌}
 use Rattle.elf_source.proofs.GrowthLaws.{grows_then}
 use Rattle.elf_source.proofs.LimitLaws.{spent_within}
 use Rattle.elf_model.specs.Apply.{applied}

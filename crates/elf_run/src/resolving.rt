@@ -1,0 +1,150 @@
+//! A name looked up as a loader does.
+ghost use Rattle.std.specs.Prelude.{◌≡◌, ◌^◌, ◌≤◌, ◌++◌, ℕ, List, length, IfErr, Some, option_map, true};
+ghost use Rattle.elf_lines.specs.Pieces.{shown_as};
+ghost use Rattle.elf_listing.specs.Shows.{IsOfOutput};
+ghost use Rattle.elf_loader.specs.Finding.{name_shown, version_found};
+ghost use Rattle.elf_loader.specs.Lookups.{AnswersLookup};
+ghost use Rattle.elf_model.specs.LineFronts.{symbol_front};
+ghost use Rattle.elf_model.specs.Lines.{named_line};
+ghost use Rattle.elf_model.specs.Loader.{asked_name};
+ghost use Rattle.elf_model.specs.LoaderAnswer.{found_version_line};
+ghost use Rattle.elf_model.specs.LoaderFind.{LoaderLookup};
+ghost use Rattle.elf_model.specs.Names.Shown.{Whole};
+ghost use Rattle.elf_model.specs.Records.{e_machine};
+ghost use Rattle.elf_record.specs.Sym.{IsSym};
+ghost use Rattle.elf_source.specs.Growth.{Grows};
+ghost use Rattle.elf_source.specs.Output.{OutFails, Puts};
+ghost use Rattle.elf_run.specs.Answers.{WroteAnswer};
+ghost use Rattle.elf_run.specs.Lookups.{resolved_answer};
+ghost use Rattle.elf_run.specs.Requests.{RunsResolve};
+ghost use Rattle.elf_wanted.specs.Wants.{asked_of};
+
+use elf_lines::{Naming, show_named, symbol_front, symbol_version_front};
+use elf_listing::{show_steps, show_stop};
+use elf_loader::{FoundSymbol, FoundVersion, Lookup, VersionName, look_up};
+use elf_source::{Counted, Out, OutFault, Sink, Source};
+use elf_table::{HeaderStore, Limits, NameBuf, NameEnd, Stop};
+use elf_wanted::{Asked, Wanted, wanted_of};
+
+/// Looks a name up in a file as a loader does, alone or with a version: `text` is NAME, NAME@VERSION
+/// or NAME@@VERSION. Writes the symbol's line, in the names of the GNU system, the line of its
+/// version, where the file has versions, and how many symbols were tried; or that number alone where
+/// no symbol answers, or the line of the refusal. Answers the status: 0 where a symbol was found, else
+/// 1. The text has at most 4,096 bytes. Where there is a budget no more is read; afterwards no limit
+/// is set.
+///
+/// # Errors
+/// A refusal, whose line was written, a fault of the source, with nothing written, or of the
+/// output, with a front of the text written.
+pub(crate) fn resolve<S: Source, W: Sink>(
+    src: &mut Counted<S>,
+    store: &mut HeaderStore,
+    limits: Limits,
+    text: &[u8],
+    out: &mut Out<W>,
+) -> Result<u8, Stop>
+    requires slots { (store.old.slots ≡ limits.headers) × (src.old.asked ≤ 2 ^ 127) }
+    requires most { length text.now ≤ 4096 }
+    ensures slots { store.new.slots ≡ store.old.slots }
+    ensures runs { RunsResolve limits text.now src.old src.new out.old out.new result }
+{
+    let wanted = wanted_of(text);
+    let mut name = NameBuf::new();
+    src.limit(limits.budget);
+    let found = look_up(src, store, &wanted, &mut name);
+    src.limit(None);
+    match found {
+        Ok(lookup) => show_resolved(&lookup, &wanted, &name, out),
+        Err(fault) => Err(show_stop(fault.into(), out)),
+    }
+}
+
+/// Writes the lines of a lookup's answer, and answers its status.
+///
+/// # Errors
+/// A fault of the output, with a front of the lines written.
+fn show_resolved<W: Sink>(
+    lookup: &Lookup,
+    wanted: &Wanted<'_>,
+    name: &NameBuf,
+    out: &mut Out<W>,
+) -> Result<u8, Stop>
+    ensures grows { Grows out.old out.new }
+    ensures fails { IfErr result (IsOfOutput out.new) }
+    ensures text { (file : List ℕ) (looked : LoaderLookup) →
+        AnswersLookup file (asked_of wanted.now.asked) name.now looked lookup.now →
+        WroteAnswer out.old out.new result (resolved_answer file wanted.now.name.now looked) }
+{
+    match lookup {
+        Lookup::Found(found) => {
+            show_found(found, wanted, name, out)?;
+            show_steps(true, found.tried, out)?;
+            Ok(0)
+        }
+        Lookup::Absent { tried } => {
+            show_steps(false, *tried, out)?;
+            Ok(1)
+        }
+    }
+}
+
+/// Writes the line of a symbol that is found, under the wanted name, and that of its version.
+///
+/// # Errors
+/// A fault of the output, with a front of the lines written.
+fn show_found<W: Sink>(
+    found: &FoundSymbol,
+    wanted: &Wanted<'_>,
+    name: &NameBuf,
+    out: &mut Out<W>,
+) -> Result<(), OutFault>
+    ensures grows { Grows out.old out.new }
+    ensures fails { IfErr result (OutFails out.new) }
+    ensures puts { (file : List ℕ) (at : ℕ) → IsSym file at found.now.symbol →
+        found.now.machine ≡ e_machine file →
+        let front = symbol_front true (e_machine file) file at found.now.section found.now.index in
+        let version = option_map (version_found (asked_of wanted.now.asked) name.now) found.now.version in
+        Puts out.old out.new result
+        (named_line front (Whole wanted.now.name.now) ++ found_version_line found.now.index version) }
+{
+    let naming = Naming {
+        gnu: true,
+        machine: found.machine,
+    };
+    let front = symbol_front(found.section, found.index, &found.symbol, naming);
+    show_named(front, wanted.name, false, out)?;
+    let Some(version) = &found.version else {
+        return Ok(());
+    };
+    show_version(found.index, version, &wanted.asked, name, out)
+}
+
+/// Writes the line of the version of the symbol of an index.
+///
+/// # Errors
+/// A fault of the output, with a front of the line written.
+fn show_version<W: Sink>(
+    index: u64,
+    version: &FoundVersion,
+    asked: &Asked<'_>,
+    name: &NameBuf,
+    out: &mut Out<W>,
+) -> Result<(), OutFault>
+    ensures puts { let version = version_found (asked_of asked.now) name.now version.now in
+        Puts out.old out.new result (found_version_line index (Some version)) }
+{
+    let front = symbol_version_front(version.index, index, version.word);
+    let (bytes, is_cut) = version_name(version.name, asked, name);
+    show_named(front, bytes, is_cut, out)
+}
+
+/// The name of a version, and whether it is cut.
+fn version_name<'a>(version: VersionName, asked: &Asked<'a>, name: &'a NameBuf) -> (&'a [u8], bool)
+    ensures { shown_as result.1 result.0.now ≡ name_shown (asked_name (asked_of asked.now)) name.now version }
+{
+    match version {
+        VersionName::Wanted => (asked.name().unwrap_or(&[]), false),
+        VersionName::Unnamed => (&[], false),
+        VersionName::Told(end) => (name.bytes(), end == NameEnd::Cut),
+    }
+}
