@@ -194,7 +194,7 @@ where
         explain,
     } = asked.request.task
     else {
-        return answer_request(rt, &asked.request);
+        return answer_request(rt, &asked.request, errors);
     };
     let text = match fs::read_to_string(rt, asked.list) {
         Ok(text) => text,
@@ -208,7 +208,7 @@ where
     };
     items.sort();
     match lend(&items) {
-        Ok(lent) => apply_lent(rt, &asked.request, section, explain, &lent),
+        Ok(lent) => apply_lent(rt, &asked.request, section, explain, &lent, errors),
         Err(repeat) => {
             let line = last_line(text.as_str(), &repeat);
             Err(told(rt.alloc(), errors, "layout-repeat", line))
@@ -229,12 +229,13 @@ fn collect<'a>(alloc: Global, layout: &'a Layout, text: &'a str) -> Result<Items
 }
 
 /// Applies a section of the file that is asked for in a layout that is lent.
-fn apply_lent<R: Files + Print + AllocGlobal>(
+fn apply_lent<R: Files + Print + AllocGlobal, W: Write + Drop>(
     rt: &R,
     asked: &Request<'_>,
     section: u16,
     explain: bool,
     lent: &LentLayout<'_>,
+    errors: W,
 ) -> Result<Ending, Ending>
 where
     R::File: FileExt,
@@ -250,7 +251,7 @@ where
         limits: asked.limits,
         task,
     };
-    answer_request(rt, &request)
+    answer_request(rt, &request, errors)
 }
 
 /// Tells what is wrong with a line, and answers how the program ends. Where it can't be written, the

@@ -2,6 +2,7 @@
 #![tactic(auto)]
 
 mod archives;
+mod explaining;
 mod layouts;
 mod many;
 mod sample;
@@ -19,6 +20,7 @@ use elf_run::{
 use elf_source::{Counted, MemorySource, OffsetReader, Out, Source, StreamSource, WriteSink};
 use elf_table::{HeaderRoom, HeaderStore, Stop};
 use elf_words::{Asked, Request, RequestFault, request};
+use explaining::tell_why;
 use layouts::apply_laid;
 use many::check_many;
 use sample::sample;
@@ -69,7 +71,7 @@ where
     let words = read_words(rt)?;
     let mut layout = make_layout(rt.alloc())?;
     match read_request(rt.alloc(), words.as_slice(), &mut *layout, errors)? {
-        Asked::File(request) => answer_request(rt, &request),
+        Asked::File(request) => answer_request(rt, &request, lines),
         Asked::Laid(asked) => apply_laid(rt, &asked, lines),
         Asked::Check(asked) => check_many(rt, &asked, terminal),
         Asked::Archive(asked) => list_archive(rt, &asked),
@@ -82,9 +84,10 @@ fn make_layout(alloc: Global) -> Result<Box<Layout>, Ending> {
 }
 
 /// Makes what memory is needed, opens the file, and carries the request out.
-fn answer_request<R: Files + Print + AllocGlobal>(
+fn answer_request<R: Files + Print + AllocGlobal, E: Write + Drop>(
     rt: &R,
     request: &Request<'_>,
+    errors: E,
 ) -> Result<Ending, Ending>
 where
     R::File: FileExt,
@@ -99,11 +102,11 @@ where
     match request.file {
         Some(path) => {
             let source = open(rt, path)?;
-            Ok(write_answer(request, source, store, output))
+            Ok(write_answer(rt.alloc(), request, source, store, output, errors))
         }
         None => {
             let source = MemorySource::new(sample());
-            Ok(write_answer(request, source, store, output))
+            Ok(write_answer(rt.alloc(), request, source, store, output, errors))
         }
     }
 }
@@ -184,18 +187,26 @@ where
 /// Carries a request out and writes what is left of the output. It is not made part of its caller,
 /// whose stack would hold the buffers of a listing twice, one for each kind of source.
 #[inline(never)]
-fn write_answer<S: Source + Drop, W: Write + Drop>(
+fn write_answer<S: Source + Drop, W: Write + Drop, E: Write + Drop>(
+    alloc: Global,
     request: &Request<'_>,
     source: S,
     mut store: HeaderStore<'_>,
     output: BufWriter<W>,
+    errors: E,
 ) -> Ending
     requires { store.slots ≡ request.now.limits.headers }
 {
     let mut src = Counted::new(source);
     let mut out = Out::new(WriteSink::new(output));
     let answer = run(request, &mut src, &mut store, &mut out);
-    end_answer(&answer, out.into_inner().into_inner())
+    let ending = end_answer(&answer, out.into_inner().into_inner());
+    if let Err(Stop::Refused(refusal)) = answer {
+        if ending.0 == 1 {
+            tell_why(alloc, request, refusal, &mut src, &mut store, errors);
+        }
+    }
+    ending
 }
 
 /// Writes what is left of the output, and answers how the program ends. After a fault of the output

@@ -1,0 +1,77 @@
+//! What would help behind a refusal of a section, told on standard error.
+use crate::TOLD_BYTES;
+use elf_explain::explain;
+use elf_layout::Addresses;
+use elf_listing::show_lack;
+use elf_record::Refusal;
+use elf_source::{Counted, Out, Sink, Source, WriteSink};
+use elf_table::{HeaderStore, NameBuf, NameEnd};
+use elf_words::{Request, Task};
+use std::alloc::Global;
+use std::io::{BufWriter, Write};
+
+/// Tells what would help where a request to apply was refused, if it asks for that. Where there is no
+/// memory for the line, or it can't be written, the refusal alone tells. The read budget holds for all
+/// that was asked of the source since its count began: where it has no room, nothing is told.
+pub fn tell_why<S: Source, W: Write + Drop>(
+    alloc: Global,
+    request: &Request<'_>,
+    refusal: Refusal,
+    src: &mut Counted<S>,
+    store: &mut HeaderStore<'_>,
+    errors: W,
+) {
+    let fixed;
+    let (section, addresses) = match request.task {
+        Task::Apply {
+            section,
+            layout,
+            explain: true,
+        } => {
+            fixed = Addresses::fixed(layout);
+            (section, &fixed)
+        }
+        Task::Place {
+            section,
+            addresses,
+            explain: true,
+        } => (section, addresses),
+        _ => return,
+    };
+    let Ok(errors) = BufWriter::with_capacity(alloc, TOLD_BYTES, errors) else {
+        return;
+    };
+    let mut out = Out::new(WriteSink::new(errors));
+    limit_rest(src, request.limits.budget);
+    tell_lack(src, store, section, addresses, refusal, &mut out);
+    src.limit(None);
+    let mut errors = out.into_inner().into_inner();
+    let _ = errors.flush();
+    let _ = errors.into_parts();
+}
+
+/// Sets what is left of a budget for the whole account as the limit.
+fn limit_rest<S: Source>(src: &mut Counted<S>, budget: Option<u64>) {
+    match budget {
+        None => src.limit(None),
+        Some(bytes) => {
+            let asked = u64::try_from(src.asked()).unwrap_or(u64::MAX);
+            src.limit(Some(bytes.saturating_sub(asked)));
+        }
+    }
+}
+
+/// Writes the line of what a layout lacks, if there is something.
+fn tell_lack<S: Source, W: Sink>(
+    src: &mut Counted<S>,
+    store: &mut HeaderStore<'_>,
+    section: u16,
+    layout: &Addresses<'_>,
+    refusal: Refusal,
+    out: &mut Out<W>,
+) {
+    let mut name = NameBuf::new();
+    if let Ok(Some((missing, end))) = explain(src, store, section, layout, refusal, &mut name) {
+        let _ = show_lack(missing, name.bytes(), end == NameEnd::Cut, out);
+    }
+}
