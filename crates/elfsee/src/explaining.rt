@@ -21,29 +21,15 @@ pub fn tell_why<S: Source, W: Write + Drop>(
     store: &mut HeaderStore<'_>,
     errors: W,
 ) {
-    let fixed;
-    let (section, addresses) = match request.task {
-        Task::Apply {
-            section,
-            layout,
-            explain: true,
-        } => {
-            fixed = Addresses::fixed(layout);
-            (section, &fixed)
-        }
-        Task::Place {
-            section,
-            addresses,
-            explain: true,
-        } => (section, addresses),
-        _ => return,
-    };
+    if !asks_why(request) {
+        return;
+    }
     let Ok(errors) = BufWriter::with_capacity(alloc, TOLD_BYTES, errors) else {
         return;
     };
     let mut out = Out::new(WriteSink::new(errors));
     limit_rest(src, request.limits.budget);
-    tell_lack(src, store, section, addresses, refusal, &mut out);
+    tell_lack(request, refusal, src, store, &mut out);
     src.limit(None);
     let mut errors = out.into_inner().into_inner();
     let _ = errors.flush();
@@ -61,8 +47,43 @@ fn limit_rest<S: Source>(src: &mut Counted<S>, budget: Option<u64>) {
     }
 }
 
-/// Writes the line of what a layout lacks, if there is something.
+/// Whether a request asks what would help.
+fn asks_why(request: &Request<'_>) -> bool {
+    match request.task {
+        Task::Apply { explain, .. } => explain,
+        Task::Place { explain, .. } => explain,
+        _ => false,
+    }
+}
+
+/// Writes the line of what the layout of a request lacks, if there is something.
 fn tell_lack<S: Source, W: Sink>(
+    request: &Request<'_>,
+    refusal: Refusal,
+    src: &mut Counted<S>,
+    store: &mut HeaderStore<'_>,
+    out: &mut Out<W>,
+) {
+    match request.task {
+        Task::Apply {
+            section,
+            layout,
+            ..
+        } => {
+            let addresses = Addresses::fixed(layout);
+            write_lack(src, store, section, &addresses, refusal, out);
+        }
+        Task::Place {
+            section,
+            addresses,
+            ..
+        } => write_lack(src, store, section, addresses, refusal, out),
+        _ => {}
+    }
+}
+
+/// Writes the line of what a layout lacks, if there is something.
+fn write_lack<S: Source, W: Sink>(
     src: &mut Counted<S>,
     store: &mut HeaderStore<'_>,
     section: u16,
