@@ -17,6 +17,21 @@ QUIET = [(os.POSIX_SPAWN_OPEN, 0, os.devnull, os.O_RDONLY, 0),
 Run = collections.namedtuple("Run", "wall processor")
 
 
+TOP = os.path.dirname(os.path.dirname(os.path.abspath(__file__)))
+# What a page has around a measured text that is written into it.
+BEGIN = "<!-- Measured, down to the end. -->"
+END = "<!-- The end of what was measured. -->"
+
+
+def put_into(path, text):
+    """Puts a measured text between the markers of a page."""
+    with open(path, encoding="utf-8") as file:
+        before, rest = file.read().split(BEGIN)
+        _, after = rest.split(END)
+    with open(path, "w", encoding="utf-8") as file:
+        file.write(f"{before}{BEGIN}\n\n{text}\n{END}{after}")
+
+
 def run_once(words):
     began = time.perf_counter()
     process = os.posix_spawn(words[0], words, ENVIRONMENT, file_actions=QUIET)
