@@ -13,7 +13,7 @@ use Rattle.elf_words.specs.Answered.{IsRefusal}
 use Rattle.elf_words.specs.Checks.{Becomes, NothingAsked}
 use Rattle.elf_words.specs.Layouts.{no_items}
 use Rattle.elf_words.proofs.LayoutLaws.{never_refused}
-use Rattle.elf_words.specs.CommandLine.{PartWords, program}
+use Rattle.elf_command_line.specs.CommandLine.{PartWords, program}
 use Rattle.elf_words.specs.Faults.{IsFaultOf, IsUnasked}
 use Rattle.elf_words.specs.declared.requests.RequestFault.{RequestFault}
 use Rattle.elf_words.specs.declared.requests.RequestFault.TheVariants.{Memory, BadName, BadItem, LayoutFull, LayoutRepeat, Words as Told}

@@ -9,7 +9,7 @@ use Rattle.clap.specs.declared.error.kind.ErrorKind.TheVariants as kind
 use Rattle.elf_words.specs.Archives.{member_part_names}
 use Rattle.elf_words.specs.Asked.{HasFault, part_names}
 use Rattle.elf_words.specs.Checks.{IsAsked, NothingAsked}
-use Rattle.elf_words.specs.CommandLine.{PartWords, program}
+use Rattle.elf_command_line.specs.CommandLine.{PartWords, program}
 use Rattle.elf_words.specs.declared.checks.Asked.{Asked}
 use Rattle.elf_words.specs.declared.requests.RequestFault.{RequestFault}
 use Rattle.elf_words.specs.declared.requests.RequestFault.TheVariants.{Memory, Words as Told}

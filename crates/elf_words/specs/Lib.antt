@@ -2,7 +2,6 @@ pub mod Asked
 pub mod Answered
 pub mod Archives
 pub mod Checks
-pub mod CommandLine
 pub mod Faults
 pub mod Items
 pub mod Layouts

@@ -1,12 +1,9 @@
 //! What can be asked for on a command line, and the words that ask for it.
 #![tactic(auto)]
 
-mod archive_command;
 mod archive_words;
-mod check_command;
 mod check_words;
 mod checks;
-mod command_line;
 mod items;
 mod names;
 mod requests;

@@ -4,14 +4,12 @@ ghost use Rattle.clap.specs.Values.{kind_of};
 ghost use Rattle.clap.specs.declared.error.kind.ErrorKind.TheVariants.{Format};
 ghost use Rattle.elf_words.specs.Faults.{IsUnasked};
 
-use crate::archive_command::archive;
 use crate::archive_words::MEMBER_PARTS;
-use crate::check_command::check;
-use crate::command_line::{sample, show};
 use crate::requests::RequestFault;
 use crate::words::{PARTS, asks_gnu, text_of};
 use clap::error::ErrorKind;
 use clap::{ArgMatches, Command, Error};
+use elf_command_line::{archive, check, sample, show};
 use std::alloc::{AllocError, Global};
 
 /// What `check` without a path is told, as other commands are of their FILE.

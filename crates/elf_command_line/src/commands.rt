@@ -3,15 +3,15 @@
 ghost use Rattle.std.specs.Prelude.{◌≡◌, IfOk, false};
 ghost use Rattle.clap.specs.Words.{app_of, rule_of};
 ghost use Rattle.clap.specs.declared.builder.command.Command.TheViews.{out-Command as fields_of};
-ghost use Rattle.elf_words.specs.CommandLine.{apply_command, explain_option};
-ghost use Rattle.elf_words.specs.CommandLine.{file_argument, find_command};
-ghost use Rattle.elf_words.specs.CommandLine.{gnu_option, by_segments_option};
-ghost use Rattle.elf_words.specs.CommandLine.{with_checks, with_one_file};
-ghost use Rattle.elf_words.specs.CommandLine.{headers_option, item_argument, layout_option, max_read_option};
-ghost use Rattle.elf_words.specs.CommandLine.{name_argument, names_option, only_option, program};
-ghost use Rattle.elf_words.specs.CommandLine.{sample_command, section_argument, show_command};
-ghost use Rattle.elf_words.specs.CommandLine.{with_listing_options, with_listings};
-ghost use Rattle.elf_words.specs.CommandLine.{with_reading_options, without_command};
+ghost use Rattle.elf_command_line.specs.CommandLine.{apply_command, explain_option};
+ghost use Rattle.elf_command_line.specs.CommandLine.{file_argument, find_command};
+ghost use Rattle.elf_command_line.specs.CommandLine.{gnu_option, by_segments_option};
+ghost use Rattle.elf_command_line.specs.CommandLine.{with_checks, with_one_file};
+ghost use Rattle.elf_command_line.specs.CommandLine.{headers_option, item_argument, layout_option, max_read_option};
+ghost use Rattle.elf_command_line.specs.CommandLine.{name_argument, names_option, only_option, program};
+ghost use Rattle.elf_command_line.specs.CommandLine.{sample_command, section_argument, show_command};
+ghost use Rattle.elf_command_line.specs.CommandLine.{with_listing_options, with_listings};
+ghost use Rattle.elf_command_line.specs.CommandLine.{with_reading_options, without_command};
 
 use crate::archive_command::archive;
 use crate::check_command::check;
@@ -151,7 +151,7 @@ fn program<'a>(alloc: Global) -> Result<Command<'a>, AllocError>
 }
 
 /// The command that lists a file.
-pub(crate) fn show<'a>(alloc: Global, parts: &'a [&'a str]) -> Result<Command<'a>, AllocError>
+pub fn show<'a>(alloc: Global, parts: &'a [&'a str]) -> Result<Command<'a>, AllocError>
     ensures app { IfOk result (λ command. app_of command ≡ show_command parts.entry) }
     ensures local { IfOk result (λ command. (fields_of command).has_globals ≡ false) }
 {
@@ -162,7 +162,7 @@ pub(crate) fn show<'a>(alloc: Global, parts: &'a [&'a str]) -> Result<Command<'a
 }
 
 /// The command that lists the sample.
-pub(crate) fn sample<'a>(alloc: Global, parts: &'a [&'a str]) -> Result<Command<'a>, AllocError>
+pub fn sample<'a>(alloc: Global, parts: &'a [&'a str]) -> Result<Command<'a>, AllocError>
     ensures app { IfOk result (λ command. app_of command ≡ sample_command parts.entry) }
     ensures local { IfOk result (λ command. (fields_of command).has_globals ≡ false) }
 {

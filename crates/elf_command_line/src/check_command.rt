@@ -2,9 +2,9 @@
 ghost use Rattle.std.specs.Prelude.{◌≡◌, IfOk, false};
 ghost use Rattle.clap.specs.Words.{app_of, rule_of};
 ghost use Rattle.clap.specs.declared.builder.command.Command.TheViews.{out-Command as fields_of};
-ghost use Rattle.elf_words.specs.CommandLine.{check_command, list_option, path_argument};
+ghost use Rattle.elf_command_line.specs.CommandLine.{check_command, list_option, path_argument};
 
-use crate::command_line::listing_options;
+use crate::commands::listing_options;
 use clap::{Arg, Command};
 use std::alloc::{AllocError, Global};
 
@@ -25,7 +25,7 @@ Examples:
   find /opt -name '*.so' -print0 | elfsee check --files0-from -";
 
 /// The command that checks many files.
-pub(crate) fn check<'a>(alloc: Global, parts: &'a [&'a str]) -> Result<Command<'a>, AllocError>
+pub fn check<'a>(alloc: Global, parts: &'a [&'a str]) -> Result<Command<'a>, AllocError>
     ensures app { IfOk result (λ command. app_of command ≡ check_command parts.entry) }
     ensures local { IfOk result (λ command. (fields_of command).has_globals ≡ false) }
 {

@@ -2,9 +2,9 @@
 ghost use Rattle.std.specs.Prelude.{◌≡◌, IfOk, false};
 ghost use Rattle.clap.specs.Words.{app_of};
 ghost use Rattle.clap.specs.declared.builder.command.Command.TheViews.{out-Command as fields_of};
-ghost use Rattle.elf_words.specs.CommandLine.{archive_command};
+ghost use Rattle.elf_command_line.specs.CommandLine.{archive_command};
 
-use crate::command_line::{file, listing_options};
+use crate::commands::{file, listing_options};
 use clap::Command;
 use std::alloc::{AllocError, Global};
 
@@ -20,7 +20,7 @@ Exit status: 1 where the archive or a member is refused.
 Example: elfsee archive --only symbols /usr/lib/x86_64-linux-gnu/libc.a";
 
 /// The command that lists an archive, with the names of its parts.
-pub(crate) fn archive<'a>(alloc: Global, parts: &'a [&'a str]) -> Result<Command<'a>, AllocError>
+pub fn archive<'a>(alloc: Global, parts: &'a [&'a str]) -> Result<Command<'a>, AllocError>
     ensures app { IfOk result (λ command. app_of command ≡ archive_command parts.entry) }
     ensures local { IfOk result (λ command. (fields_of command).has_globals ≡ false) }
 {

@@ -3,8 +3,8 @@ use Rattle.std.proofs.lemmas.Result.{IfOk-weaker}
 use Rattle.clap.specs.Simple.{new_app, with_rule}
 use Rattle.clap.specs.Words.{app_of}
 use Rattle.clap.specs.declared.builder.command.Command.TheViews.{out-Command as fields_of}
-use Rattle.elf_words.specs.CommandLine.{with_listing_options}
-use Rattle.elf_words.proofs.check_command.check.Goals as goal
+use Rattle.elf_command_line.specs.CommandLine.{with_listing_options}
+use Rattle.elf_command_line.proofs.check_command.check.Goals as goal
 
 pub returns-clause-app : goal.returns-clause-app
 returns-clause-app c =

@@ -1,7 +1,7 @@
 use Rattle.std.proofs.Common.{ap, ap₂, ◌∙◌}
 use Rattle.std.proofs.lemmas.Result.{IfOk-weaker}
 use Rattle.clap.specs.Simple.{with_subcommand}
-use Rattle.elf_words.proofs.command_line.one_file.Goals as goal
+use Rattle.elf_command_line.proofs.commands.one_file.Goals as goal
 
 pub returns : goal.returns
 returns c =
