@@ -2,6 +2,7 @@
 //! the definitions spell by its fields.
 #![tactic(auto)]
 
+mod carried;
 mod dynamic;
 mod edits;
 mod lookups;
@@ -10,6 +11,7 @@ mod relocations;
 mod tables;
 mod versions;
 
+pub use carried::sample;
 pub use dynamic::{library_without_sections, repeated_tags};
 pub use edits::with_bytes;
 pub use lookups::{hash_with_cycle, hash_with_end};

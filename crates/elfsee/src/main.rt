@@ -5,13 +5,13 @@ mod archives;
 mod explaining;
 mod layouts;
 mod many;
-mod sample;
 
 ghost use Rattle.std.specs.Prelude.{◌≡◌, ◌⊎◌, codes, IfErr};
 ghost use Rattle.elf_run.specs.Answers.{refused_line, refused_status};
 ghost use Rattle.elf_words.specs.declared.requests.RequestFault.{RequestFault};
 
 use archives::list_archive;
+use elf_fixtures::sample;
 use elf_layout::Layout;
 use elf_listing::show_told;
 use elf_run::{
@@ -23,7 +23,6 @@ use elf_words::{Asked, Request, RequestFault, request};
 use explaining::tell_why;
 use layouts::apply_laid;
 use many::check_many;
-use sample::sample;
 use std::alloc::{AllocError, Global};
 use std::fs::File;
 use std::io::{BufWriter, ErrorKind, Input, IsTerminal, Write};

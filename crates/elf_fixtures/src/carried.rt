@@ -1,4 +1,4 @@
-//! The file that `elfsee sample` lists.
+//! The file that the program carries, which `elfsee sample` lists.
 ghost use Rattle.std.specs.Prelude.{◌≡◌};
 ghost use Rattle.elf_model.specs.Fixtures.{one_symbol_table};
 
@@ -7,5 +7,5 @@ ghost use Rattle.elf_model.specs.Fixtures.{one_symbol_table};
 pub fn sample() -> &'static [u8]
     ensures { result.now ≡ one_symbol_table }
 {
-    elf_fixtures::one_symbol_table()
+    crate::one_symbol_table()
 }
