@@ -1,9 +1,8 @@
 //! The command that lists an archive, with its help.
-ghost use Rattle.std.specs.Prelude.{◌≡◌, IfOk, false};
-ghost use Rattle.clap.specs.Words.{app_of};
-ghost use Rattle.clap.specs.declared.builder.command.Command.TheViews.{out-Command as fields_of};
-ghost use Rattle.elf_command_line.specs.CommandLine.{archive_command};
+ghost use Rattle.std.specs.Prelude.{IfOk};
+ghost use Rattle.elf_command_line.specs.CommandLine.{IsBuilt, archive_command};
 
+use crate::adding::with_arg;
 use crate::commands::{file, listing_options};
 use clap::Command;
 use std::alloc::{AllocError, Global};
@@ -21,11 +20,10 @@ Example: elfsee archive --only symbols /usr/lib/x86_64-linux-gnu/libc.a";
 
 /// The command that lists an archive, with the names of its parts.
 pub fn archive<'a>(alloc: Global, parts: &'a [&'a str]) -> Result<Command<'a>, AllocError>
-    ensures app { IfOk result (λ command. app_of command ≡ archive_command parts.entry) }
-    ensures local { IfOk result (λ command. (fields_of command).has_globals ≡ false) }
+    ensures { IfOk result (IsBuilt (archive_command parts.entry)) }
 {
     let command = Command::new(alloc, "archive")
         .about("List the members of an archive, such as a static library, and what is in each")
         .after_help(LINES);
-    listing_options(alloc, command, parts)?.arg(file(alloc))
+    with_arg(listing_options(alloc, command, parts), file(alloc))
 }

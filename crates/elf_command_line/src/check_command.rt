@@ -1,9 +1,9 @@
 //! The command that checks many files, with its help.
 ghost use Rattle.std.specs.Prelude.{◌≡◌, IfOk, false};
-ghost use Rattle.clap.specs.Words.{app_of, rule_of};
-ghost use Rattle.clap.specs.declared.builder.command.Command.TheViews.{out-Command as fields_of};
-ghost use Rattle.elf_command_line.specs.CommandLine.{check_command, list_option, path_argument};
+ghost use Rattle.clap.specs.Words.{rule_of};
+ghost use Rattle.elf_command_line.specs.CommandLine.{IsBuilt, check_command, list_option, path_argument};
 
+use crate::adding::with_arg;
 use crate::commands::listing_options;
 use clap::{Arg, Command};
 use std::alloc::{AllocError, Global};
@@ -26,15 +26,13 @@ Examples:
 
 /// The command that checks many files.
 pub fn check<'a>(alloc: Global, parts: &'a [&'a str]) -> Result<Command<'a>, AllocError>
-    ensures app { IfOk result (λ command. app_of command ≡ check_command parts.entry) }
-    ensures local { IfOk result (λ command. (fields_of command).has_globals ≡ false) }
+    ensures { IfOk result (IsBuilt (check_command parts.entry)) }
 {
     let command = Command::new(alloc, "check")
         .about("Check many files: which are at fault, where and why")
         .after_help(LINES);
-    listing_options(alloc, command, parts)?
-        .arg(list(alloc))?
-        .arg(path(alloc))
+    let command = with_arg(listing_options(alloc, command, parts), list(alloc));
+    with_arg(command, path(alloc))
 }
 
 /// The file with paths.

@@ -2,8 +2,8 @@
 
 ghost use Rattle.std.specs.Prelude.{◌≡◌, IfOk, false};
 ghost use Rattle.clap.specs.Words.{app_of, rule_of};
-ghost use Rattle.clap.specs.declared.builder.command.Command.TheViews.{out-Command as fields_of};
-ghost use Rattle.elf_command_line.specs.CommandLine.{apply_command, explain_option};
+ghost use Rattle.clap.specs.Simple.{App};
+ghost use Rattle.elf_command_line.specs.CommandLine.{IsBuilt, apply_command, explain_option};
 ghost use Rattle.elf_command_line.specs.CommandLine.{file_argument, find_command};
 ghost use Rattle.elf_command_line.specs.CommandLine.{gnu_option, by_segments_option};
 ghost use Rattle.elf_command_line.specs.CommandLine.{with_checks, with_one_file};
@@ -13,6 +13,7 @@ ghost use Rattle.elf_command_line.specs.CommandLine.{sample_command, section_arg
 ghost use Rattle.elf_command_line.specs.CommandLine.{with_listing_options, with_listings};
 ghost use Rattle.elf_command_line.specs.CommandLine.{with_reading_options, without_command};
 
+use crate::adding::{with_arg, with_command};
 use crate::archive_command::archive;
 use crate::check_command::check;
 use clap::{Arg, ArgAction, Command, value_parser};
@@ -108,32 +109,30 @@ pub fn command_line<'a>(
     ensures { IfOk result (λ command. app_of command
         ≡ program (record { listed = parts.entry; archived = member_parts.entry })) }
 {
-    checks(alloc, parts)?.subcommand(archive(alloc, member_parts)?)
+    with_command(checks(alloc, parts), archive(alloc, member_parts))
 }
 
 /// The program, with the commands that read one file, or many.
 fn checks<'a>(alloc: Global, parts: &'a [&'a str]) -> Result<Command<'a>, AllocError>
     ensures { IfOk result (λ command. app_of command ≡ with_checks parts.entry) }
 {
-    one_file(alloc, parts)?.subcommand(check(alloc, parts)?)
+    with_command(one_file(alloc, parts), check(alloc, parts))
 }
 
 /// The program, with the commands that read one file.
 fn one_file<'a>(alloc: Global, parts: &'a [&'a str]) -> Result<Command<'a>, AllocError>
     ensures { IfOk result (λ command. app_of command ≡ with_one_file parts.entry) }
 {
-    listings(alloc, parts)?
-        .subcommand(find(alloc)?)?
-        .subcommand(apply(alloc)?)
+    let program = with_command(listings(alloc, parts), find(alloc));
+    with_command(program, apply(alloc))
 }
 
 /// The program, with the commands that list.
 fn listings<'a>(alloc: Global, parts: &'a [&'a str]) -> Result<Command<'a>, AllocError>
     ensures { IfOk result (λ command. app_of command ≡ with_listings parts.entry) }
 {
-    program(alloc)?
-        .subcommand(show(alloc, parts)?)?
-        .subcommand(sample(alloc, parts)?)
+    let program = with_command(program(alloc), show(alloc, parts));
+    with_command(program, sample(alloc, parts))
 }
 
 /// The program, without its commands.
@@ -152,19 +151,17 @@ fn program<'a>(alloc: Global) -> Result<Command<'a>, AllocError>
 
 /// The command that lists a file.
 pub fn show<'a>(alloc: Global, parts: &'a [&'a str]) -> Result<Command<'a>, AllocError>
-    ensures app { IfOk result (λ command. app_of command ≡ show_command parts.entry) }
-    ensures local { IfOk result (λ command. (fields_of command).has_globals ≡ false) }
+    ensures { IfOk result (IsBuilt (show_command parts.entry)) }
 {
     let command = Command::new(alloc, "show")
         .about("List a file, whole or one part of it")
         .after_help("Example: elfsee show --only symbols /bin/ls");
-    listing_options(alloc, command, parts)?.arg(file(alloc))
+    with_arg(listing_options(alloc, command, parts), file(alloc))
 }
 
 /// The command that lists the sample.
 pub fn sample<'a>(alloc: Global, parts: &'a [&'a str]) -> Result<Command<'a>, AllocError>
-    ensures app { IfOk result (λ command. app_of command ≡ sample_command parts.entry) }
-    ensures local { IfOk result (λ command. (fields_of command).has_globals ≡ false) }
+    ensures { IfOk result (IsBuilt (sample_command parts.entry)) }
 {
     let command = Command::new(alloc, "sample")
         .about("List a small file that the program carries")
@@ -174,32 +171,30 @@ pub fn sample<'a>(alloc: Global, parts: &'a [&'a str]) -> Result<Command<'a>, Al
 
 /// The command that looks a name up.
 fn find<'a>(alloc: Global) -> Result<Command<'a>, AllocError>
-    ensures app { IfOk result (λ command. app_of command ≡ find_command) }
-    ensures local { IfOk result (λ command. (fields_of command).has_globals ≡ false) }
+    ensures { IfOk result (IsBuilt find_command) }
 {
     let command = Command::new(alloc, "find")
         .about("Look a name up by the file's own hash table")
         .after_help(FOUND);
-    reading_options(alloc, command)?
-        .arg(as_loader(alloc))?
-        .arg(file(alloc))?
-        .arg(name(alloc))
+    let command = reading_options(alloc, command);
+    let command = with_arg(command, as_loader(alloc));
+    let command = with_arg(command, file(alloc));
+    with_arg(command, name(alloc))
 }
 
 /// The command that writes a section with its relocations applied.
 fn apply<'a>(alloc: Global) -> Result<Command<'a>, AllocError>
-    ensures app { IfOk result (λ command. app_of command ≡ apply_command) }
-    ensures local { IfOk result (λ command. (fields_of command).has_globals ≡ false) }
+    ensures { IfOk result (IsBuilt apply_command) }
 {
     let command = Command::new(alloc, "apply")
         .about("Write a section's bytes with its relocations applied")
         .after_help(ITEMS);
-    reading_options(alloc, command)?
-        .arg(layout(alloc))?
-        .arg(explain(alloc))?
-        .arg(file(alloc))?
-        .arg(section(alloc))?
-        .arg(item(alloc))
+    let command = reading_options(alloc, command);
+    let command = with_arg(command, layout(alloc));
+    let command = with_arg(command, explain(alloc));
+    let command = with_arg(command, file(alloc));
+    let command = with_arg(command, section(alloc));
+    with_arg(command, item(alloc))
 }
 
 /// A command with the options of a listing.
@@ -208,28 +203,24 @@ pub(crate) fn listing_options<'a>(
     command: Command<'a>,
     parts: &'a [&'a str],
 ) -> Result<Command<'a>, AllocError>
-    ensures app { IfOk result (λ whole.
-        app_of whole ≡ with_listing_options parts.entry (app_of command.entry)) }
-    ensures local { (fields_of command.entry).has_globals ≡ false →
-        IfOk result (λ whole. (fields_of whole).has_globals ≡ false) }
+    ensures { (app : App) → IsBuilt app command.entry
+        → IfOk result (IsBuilt (with_listing_options parts.entry app)) }
 {
-    command
-        .arg(headers(alloc))?
-        .arg(names(alloc))?
-        .arg(max_read(alloc))?
-        .arg(only(alloc, parts))?
-        .arg(gnu(alloc))?
-        .arg(by_segments(alloc))
+    let command = with_arg(Ok(command), headers(alloc));
+    let command = with_arg(command, names(alloc));
+    let command = with_arg(command, max_read(alloc));
+    let command = with_arg(command, only(alloc, parts));
+    let command = with_arg(command, gnu(alloc));
+    with_arg(command, by_segments(alloc))
 }
 
 /// A command with the options of what reads a file and lists nothing.
 fn reading_options<'a>(alloc: Global, command: Command<'a>) -> Result<Command<'a>, AllocError>
-    ensures app { IfOk result (λ whole.
-        app_of whole ≡ with_reading_options (app_of command.entry)) }
-    ensures local { (fields_of command.entry).has_globals ≡ false →
-        IfOk result (λ whole. (fields_of whole).has_globals ≡ false) }
+    ensures { (app : App) → IsBuilt app command.entry
+        → IfOk result (IsBuilt (with_reading_options app)) }
 {
-    command.arg(headers(alloc))?.arg(max_read(alloc))
+    let command = with_arg(Ok(command), headers(alloc));
+    with_arg(command, max_read(alloc))
 }
 
 /// The file's path.

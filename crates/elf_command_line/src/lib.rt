@@ -1,6 +1,7 @@
 //! The commands and options of the command line, as they are described to `clap`.
 #![tactic(auto)]
 
+mod adding;
 mod archive_command;
 mod check_command;
 mod commands;

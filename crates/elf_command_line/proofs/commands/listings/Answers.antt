@@ -1,10 +1,8 @@
-use Rattle.std.proofs.Common.{ap, ap₂, ◌∙◌}
-use Rattle.std.proofs.lemmas.Result.{IfOk-weaker}
 use Rattle.clap.specs.Simple.{with_subcommand}
+use Rattle.elf_command_line.specs.CommandLine.{sample_command, show_command, without_command}
 use Rattle.elf_command_line.proofs.commands.listings.Goals as goal
 
 pub returns : goal.returns
 returns c =
-    let one = c.in_ok-subcommand.ensures.shape c.in_ok-show.ensures.local ∙ ap₂ with_subcommand c.in_ok-program.ensures (ap (λ app. app.top) c.in_ok-show.ensures.app) in
-    IfOk-weaker c.subcommand-2.result _ _ (λ whole added. added.shape c.in_ok-sample.ensures.local ∙ ap₂ with_subcommand one (ap (λ app. app.top) c.in_ok-sample.ensures.app))
-    c.subcommand-2.ensures
+    let one = c.with_command-program.ensures without_command (show_command c.args.parts) c.program.ensures c.show.ensures in
+    c.with_command.ensures (with_subcommand without_command (show_command c.args.parts).top) (sample_command c.args.parts) one c.sample.ensures

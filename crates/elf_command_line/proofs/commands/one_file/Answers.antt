@@ -1,10 +1,8 @@
-use Rattle.std.proofs.Common.{ap, ap₂, ◌∙◌}
-use Rattle.std.proofs.lemmas.Result.{IfOk-weaker}
 use Rattle.clap.specs.Simple.{with_subcommand}
+use Rattle.elf_command_line.specs.CommandLine.{apply_command, find_command, with_listings}
 use Rattle.elf_command_line.proofs.commands.one_file.Goals as goal
 
 pub returns : goal.returns
 returns c =
-    let one = c.in_ok-subcommand.ensures.shape c.in_ok-find.ensures.local ∙ ap₂ with_subcommand c.in_ok-listings.ensures (ap (λ app. app.top) c.in_ok-find.ensures.app) in
-    IfOk-weaker c.subcommand-2.result _ _ (λ whole added. added.shape c.in_ok-apply.ensures.local ∙ ap₂ with_subcommand one (ap (λ app. app.top) c.in_ok-apply.ensures.app))
-    c.subcommand-2.ensures
+    let one = c.with_command-program.ensures (with_listings c.args.parts) find_command c.listings.ensures c.find.ensures in
+    c.with_command.ensures (with_subcommand (with_listings c.args.parts) find_command.top) apply_command one c.apply.ensures
