@@ -28,8 +28,10 @@ where
     let Ok(output) = BufWriter::with_capacity(rt.alloc(), OUTPUT_BYTES, io::writer(rt)) else {
         return Err(OUT_OF_MEMORY);
     };
-    let source = open(rt, asked.file)?;
-    Ok(write_archive(asked, source, room.store(), output))
+    match open(rt, asked.file) {
+        Ok(source) => Ok(write_archive(asked, source, room.store(), output)),
+        Err(ending) => Err(ending),
+    }
 }
 
 /// Lists an archive and writes what is left of the output.

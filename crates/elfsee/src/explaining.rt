@@ -1,5 +1,5 @@
 //! What would help behind a refusal of a section, told on standard error.
-use crate::TOLD_BYTES;
+use crate::{TOLD_BYTES, write_rest};
 use elf_explain::explain;
 use elf_layout::Addresses;
 use elf_listing::show_lack;
@@ -8,32 +8,39 @@ use elf_source::{Counted, Out, Sink, Source, WriteSink};
 use elf_table::{HeaderStore, NameBuf, NameEnd};
 use elf_words::{Request, Task};
 use std::alloc::Global;
-use std::io::{BufWriter, Write};
+use std::io::{BufWriter, Stderr};
 
 /// Tells what would help where a request to apply was refused, if it asks for that. Where there is no
 /// memory for the line, or it can't be written, the refusal alone tells. The read budget holds for all
 /// that was asked of the source since its count began: where it has no room, nothing is told.
-pub fn tell_why<S: Source, W: Write + Drop>(
+pub fn tell_why<S: Source>(
     alloc: Global,
     request: &Request<'_>,
     refusal: Refusal,
     src: &mut Counted<S>,
     store: &mut HeaderStore<'_>,
-    errors: W,
+    errors: Stderr,
 ) {
-    if !asks_why(request) {
-        return;
+    if asks_why(request) {
+        if let Ok(errors) = BufWriter::with_capacity(alloc, TOLD_BYTES, errors) {
+            tell_into(request, refusal, src, store, errors);
+        }
     }
-    let Ok(errors) = BufWriter::with_capacity(alloc, TOLD_BYTES, errors) else {
-        return;
-    };
+}
+
+/// Tells what would help where a request to apply was refused, within the rest of the read budget.
+fn tell_into<S: Source>(
+    request: &Request<'_>,
+    refusal: Refusal,
+    src: &mut Counted<S>,
+    store: &mut HeaderStore<'_>,
+    errors: BufWriter<Stderr>,
+) {
     let mut out = Out::new(WriteSink::new(errors));
     limit_rest(src, request.limits.budget);
     tell_lack(request, refusal, src, store, &mut out);
     src.limit(None);
-    let mut errors = out.into_inner().into_inner();
-    let _ = errors.flush();
-    let _ = errors.into_parts();
+    let _ = write_rest(out.into_inner().into_inner(), true);
 }
 
 /// Sets what is left of a budget for the whole account as the limit.

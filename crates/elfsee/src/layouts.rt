@@ -7,7 +7,7 @@ use elf_run::{Ending, OUT_OF_MEMORY};
 use elf_words::{Laying, Request, Task, item};
 use std::alloc::{AllocError, Global};
 use std::fs;
-use std::io::{ErrorKind, Write};
+use std::io::{ErrorKind, Stderr, Write};
 use std::os::unix::fs::FileExt;
 use std::rt::Files;
 
@@ -47,22 +47,23 @@ impl<'a> Items<'a> {
     /// Puts an item behind those of its sort.
     fn push(&mut self, item: Item<'a>) -> Result<(), AllocError> {
         match item {
-            Item::Section { index, address } => Ok(self.sections.push((index, address))?),
-            Item::Define { name, address } => Ok(self.definitions.push((name, address))?),
-            Item::Entry { name, address } => Ok(self.linkage.push((name, address))?),
-            Item::Table { name, address } => Ok(self.table.push((name, address))?),
-            Item::Thread { name, address } => Ok(self.thread.push((name, address))?),
+            Item::Section { index, address } => push_section(&mut self.sections, index, address),
+            Item::Define { name, address } => push_name(&mut self.definitions, name, address),
+            Item::Entry { name, address } => push_name(&mut self.linkage, name, address),
+            Item::Table { name, address } => push_name(&mut self.table, name, address),
+            Item::Thread { name, address } => push_name(&mut self.thread, name, address),
         }
     }
 
     /// Puts the items of a layout behind those that are there.
     fn push_layout(&mut self, layout: &'a Layout) -> Result<(), AllocError> {
-        for section in layout.sections() {
-            self.sections.push(*section)?;
+        if push_sections(&mut self.sections, layout.sections()).is_err()
+            || push_names(&mut self.definitions, layout.definitions()).is_err()
+            || push_names(&mut self.linkage, layout.linkage()).is_err()
+            || push_names(&mut self.table, layout.table()).is_err()
+        {
+            return Err(AllocError);
         }
-        push_names(&mut self.definitions, layout.definitions())?;
-        push_names(&mut self.linkage, layout.linkage())?;
-        push_names(&mut self.table, layout.table())?;
         push_names(&mut self.thread, layout.thread())
     }
 
@@ -91,10 +92,42 @@ impl<'a> Items<'a> {
     }
 }
 
+/// Puts a section behind others.
+fn push_section(items: &mut Vec<(u16, u64)>, index: u16, address: u64) -> Result<(), AllocError> {
+    match items.push((index, address)) {
+        Ok(()) => Ok(()),
+        Err(_) => Err(AllocError),
+    }
+}
+
+/// Puts a name behind others.
+fn push_name<'a>(
+    items: &mut Vec<Placed<'a>>,
+    name: &'a [u8],
+    address: u64,
+) -> Result<(), AllocError> {
+    match items.push((name, address)) {
+        Ok(()) => Ok(()),
+        Err(_) => Err(AllocError),
+    }
+}
+
+/// Puts sections behind others.
+fn push_sections(items: &mut Vec<(u16, u64)>, sections: &[(u16, u64)]) -> Result<(), AllocError> {
+    for (index, address) in sections {
+        if push_section(items, *index, *address).is_err() {
+            return Err(AllocError);
+        }
+    }
+    Ok(())
+}
+
 /// Puts names behind others.
 fn push_names<'a>(items: &mut Vec<Placed<'a>>, names: &'a [Named]) -> Result<(), AllocError> {
     for name in names {
-        items.push((name.name(), name.address()))?;
+        if push_name(items, name.name(), name.address()).is_err() {
+            return Err(AllocError);
+        }
     }
     Ok(())
 }
@@ -180,10 +213,10 @@ fn last_line(text: &str, wanted: &Item<'_>) -> u64 {
 /// # Errors
 /// The file of items cannot be read, a line of it spells no item, or gives one that there is already:
 /// standard error tells which line. Else as [`answer_request`].
-pub fn apply_laid<R: Files + Print + AllocGlobal, W: Write + Drop>(
+pub fn apply_laid<R: Files + Print + AllocGlobal>(
     rt: &R,
     asked: &Laying<'_>,
-    errors: W,
+    errors: Stderr,
 ) -> Result<Ending, Ending>
 where
     R::File: FileExt,
@@ -229,13 +262,13 @@ fn collect<'a>(alloc: Global, layout: &'a Layout, text: &'a str) -> Result<Items
 }
 
 /// Applies a section of the file that is asked for in a layout that is lent.
-fn apply_lent<R: Files + Print + AllocGlobal, W: Write + Drop>(
+fn apply_lent<R: Files + Print + AllocGlobal>(
     rt: &R,
     asked: &Request<'_>,
     section: u16,
     explain: bool,
     lent: &LentLayout<'_>,
-    errors: W,
+    errors: Stderr,
 ) -> Result<Ending, Ending>
 where
     R::File: FileExt,
@@ -256,7 +289,7 @@ where
 
 /// Tells what is wrong with a line, and answers how the program ends. Where it can't be written, the
 /// status alone tells.
-fn told<W: Write + Drop>(alloc: Global, mut errors: W, what: &str, line: u64) -> Ending {
+fn told(alloc: Global, mut errors: Stderr, what: &str, line: u64) -> Ending {
     let Ok(text) = format!(in alloc; "elfsee: {what} in line {line}\n") else {
         return OUT_OF_MEMORY;
     };

@@ -25,7 +25,7 @@ use layouts::apply_laid;
 use many::check_many;
 use std::alloc::{AllocError, Global};
 use std::fs::File;
-use std::io::{BufWriter, ErrorKind, Input, IsTerminal, Write};
+use std::io::{BufWriter, ErrorKind, Input, IsTerminal, Stderr, Write};
 use std::os::unix::fs::{FileExt, FileTypeExt};
 use std::process::ExitCode;
 use std::rt::{Env, Files};
@@ -38,13 +38,13 @@ const OUTPUT_BYTES: usize = 65_536;
 const TOLD_BYTES: usize = 4_096;
 
 fn main(rt: HostRuntime) -> ExitCode {
-    let terminal = rt.stderr();
-    let terminal = if terminal.is_terminal() {
-        Some(terminal)
+    let errors = rt.stderr();
+    let terminal = if errors.is_terminal() {
+        Some(errors)
     } else {
         None
     };
-    let (status, line) = match answer(&rt, rt.stderr(), rt.stderr(), terminal) {
+    let (status, line) = match answer(&rt, errors, terminal) {
         Ok(ending) => ending,
         Err(ending) => ending,
     };
@@ -56,24 +56,45 @@ fn main(rt: HostRuntime) -> ExitCode {
 }
 
 /// Reads the words, and carries out what they ask for. What is wrong with words, and help, is written
-/// to `errors`, and what is wrong with the lines of a file of items to `lines`; a terminal, where there
-/// is one, is told how far a check of many files is.
-fn answer<R: Env + Files + Print + Input + AllocGlobal, W: Write + Drop, E: Write + Drop>(
+/// to `errors`, and so is what is wrong with the lines of a file of items; a terminal, where there is
+/// one, is told how far a check of many files is.
+fn answer<R: Env + Files + Print + Input + AllocGlobal>(
     rt: &R,
-    errors: W,
-    lines: W,
-    terminal: Option<E>,
+    errors: Stderr,
+    terminal: Option<Stderr>,
 ) -> Result<Ending, Ending>
 where
     R::File: FileExt,
 {
-    let words = read_words(rt)?;
-    let mut layout = make_layout(rt.alloc())?;
-    match read_request(rt.alloc(), words.as_slice(), &mut *layout, errors)? {
-        Asked::File(request) => answer_request(rt, &request, lines),
-        Asked::Laid(asked) => apply_laid(rt, &asked, lines),
-        Asked::Check(asked) => check_many(rt, &asked, terminal),
-        Asked::Archive(asked) => list_archive(rt, &asked),
+    let words = match read_words(rt) {
+        Ok(words) => words,
+        Err(ending) => return Err(ending),
+    };
+    let mut layout = match make_layout(rt.alloc()) {
+        Ok(layout) => layout,
+        Err(ending) => return Err(ending),
+    };
+    match read_request(rt.alloc(), words.as_slice(), &mut *layout, errors) {
+        Ok(asked) => carry_out(rt, &asked, errors, terminal),
+        Err(ending) => Err(ending),
+    }
+}
+
+/// Carries out what is asked for.
+fn carry_out<R: Files + Print + Input + AllocGlobal>(
+    rt: &R,
+    asked: &Asked<'_>,
+    errors: Stderr,
+    terminal: Option<Stderr>,
+) -> Result<Ending, Ending>
+where
+    R::File: FileExt,
+{
+    match asked {
+        Asked::File(request) => answer_request(rt, request, errors),
+        Asked::Laid(laying) => apply_laid(rt, laying, errors),
+        Asked::Check(checking) => check_many(rt, checking, terminal),
+        Asked::Archive(archiving) => list_archive(rt, archiving),
     }
 }
 
@@ -83,10 +104,10 @@ fn make_layout(alloc: Global) -> Result<Box<Layout>, Ending> {
 }
 
 /// Makes what memory is needed, opens the file, and carries the request out.
-fn answer_request<R: Files + Print + AllocGlobal, E: Write + Drop>(
+fn answer_request<R: Files + Print + AllocGlobal>(
     rt: &R,
     request: &Request<'_>,
-    errors: E,
+    errors: Stderr,
 ) -> Result<Ending, Ending>
 where
     R::File: FileExt,
@@ -94,18 +115,33 @@ where
     let Ok(mut room) = HeaderRoom::new(rt.alloc(), request.headers()) else {
         return Err(OUT_OF_MEMORY);
     };
-    let store = room.store();
     let Ok(output) = BufWriter::with_capacity(rt.alloc(), OUTPUT_BYTES, io::writer(rt)) else {
         return Err(OUT_OF_MEMORY);
     };
+    answer_into(rt, request, room.store(), output, errors)
+}
+
+/// Opens the file, and carries the request out.
+fn answer_into<R: Files + AllocGlobal, W: Write + Drop>(
+    rt: &R,
+    request: &Request<'_>,
+    store: HeaderStore<'_>,
+    output: BufWriter<W>,
+    errors: Stderr,
+) -> Result<Ending, Ending>
+where
+    R::File: FileExt,
+    requires { store.slots ≡ request.now.limits.headers }
+{
+    let alloc = rt.alloc();
     match request.file {
-        Some(path) => {
-            let source = open(rt, path)?;
-            Ok(write_answer(rt.alloc(), request, source, store, output, errors))
-        }
+        Some(path) => match open(rt, path) {
+            Ok(source) => Ok(write_answer(alloc, request, source, store, output, errors)),
+            Err(ending) => Err(ending),
+        },
         None => {
             let source = MemorySource::new(sample());
-            Ok(write_answer(rt.alloc(), request, source, store, output, errors))
+            Ok(write_answer(alloc, request, source, store, output, errors))
         }
     }
 }
@@ -125,11 +161,11 @@ fn read_words<R: Env + AllocGlobal>(rt: &R) -> Result<Vec<String>, Ending>
 }
 
 /// Reads what is asked for, and tells what is wrong with words that ask for nothing.
-fn read_request<'a, W: Write + Drop>(
+fn read_request<'a>(
     alloc: Global,
     words: &'a [String],
     layout: &'a mut Layout,
-    errors: W,
+    errors: Stderr,
 ) -> Result<Asked<'a>, Ending>
     ensures { IfErr result (λ ending. (fault : RequestFault)
         × (ending.0 ≡ refused_status fault) × (ending.1.now ≡ refused_line fault)) }
@@ -151,16 +187,14 @@ fn read_request<'a, W: Write + Drop>(
 ///
 /// # Errors
 /// There is no memory for the text; nothing is written then.
-fn tell<W: Write + Drop>(alloc: Global, told: &clap::Error, errors: W) -> Result<(), AllocError> {
+fn tell(alloc: Global, told: &clap::Error, errors: Stderr) -> Result<(), AllocError> {
     let text = format!(in alloc; "{told}")?;
     let Ok(errors) = BufWriter::with_capacity(alloc, TOLD_BYTES, errors) else {
         return Err(AllocError);
     };
     let mut out = Out::new(WriteSink::new(errors));
     let _ = show_told(text.as_bytes(), &mut out);
-    let mut errors = out.into_inner().into_inner();
-    let _ = errors.flush();
-    let _ = errors.into_parts();
+    let _ = write_rest(out.into_inner().into_inner(), true);
     Ok(())
 }
 
@@ -186,13 +220,13 @@ where
 /// Carries a request out and writes what is left of the output. It is not made part of its caller,
 /// whose stack would hold the buffers of a listing twice, one for each kind of source.
 #[inline(never)]
-fn write_answer<S: Source + Drop, W: Write + Drop, E: Write + Drop>(
+fn write_answer<S: Source + Drop, W: Write + Drop>(
     alloc: Global,
     request: &Request<'_>,
     source: S,
     mut store: HeaderStore<'_>,
     output: BufWriter<W>,
-    errors: E,
+    errors: Stderr,
 ) -> Ending
     requires { store.slots ≡ request.now.limits.headers }
 {
@@ -210,16 +244,18 @@ fn write_answer<S: Source + Drop, W: Write + Drop, E: Write + Drop>(
 
 /// Writes what is left of the output, and answers how the program ends. After a fault of the output
 /// nothing more is written.
-fn end_answer<W: Write + Drop>(answer: &Result<u8, Stop>, mut output: BufWriter<W>) -> Ending {
-    if let Err(Stop::Out(_)) = answer {
-        let _ = output.into_parts();
-        return outcome(answer);
-    }
-    if output.flush().is_err() {
-        let _ = output.into_parts();
-        if !matches!(answer, Err(Stop::Source { .. })) {
-            return WRITE_FAULT;
-        }
+fn end_answer<W: Write + Drop>(answer: &Result<u8, Stop>, output: BufWriter<W>) -> Ending {
+    let wanted = !matches!(answer, Err(Stop::Out(_)));
+    if !write_rest(output, wanted) && !matches!(answer, Err(Stop::Source { .. })) {
+        return WRITE_FAULT;
     }
     outcome(answer)
+}
+
+/// Writes what is left of an output if that is wanted, and takes the output apart, since one that
+/// is dropped tries once more to write what it could not. Answers whether what was wanted is written.
+fn write_rest<W: Write + Drop>(mut output: BufWriter<W>, wanted: bool) -> bool {
+    let written = !wanted || output.flush().is_ok();
+    let _ = output.into_parts();
+    written
 }

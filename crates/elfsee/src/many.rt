@@ -1,13 +1,14 @@
 //! The check of many files.
 ghost use Rattle.std.specs.Prelude.{◌≡◌};
 
+use crate::write_rest;
 use elf_many::{Checks, ListFault, Walk, check_list, check_path};
 use elf_run::{CANNOT_OPEN, Ending, OUT_OF_MEMORY, READ_FAULT, WRITE_FAULT};
 use elf_source::{Out, OutFault, Sink, WriteSink};
 use elf_table::{Caps, HeaderRoom, HeaderStore};
 use elf_words::Checking;
 use std::fs;
-use std::io::{self, BufWriter, Input, Write};
+use std::io::{self, BufWriter, Input, Stderr, Write};
 use std::os::unix::fs::FileExt;
 use std::rt::Files;
 
@@ -22,10 +23,10 @@ const LIST_BYTES: usize = 65_536;
 ///
 /// # Errors
 /// There is no memory; a list of paths can't be opened or read; or the output can't be written.
-pub fn check_many<R: Files + Print + Input + AllocGlobal, E: Write + Drop>(
+pub fn check_many<R: Files + Print + Input + AllocGlobal>(
     rt: &R,
     asked: &Checking<'_>,
-    terminal: Option<E>,
+    terminal: Option<Stderr>,
 ) -> Result<Ending, Ending>
 where
     R::File: FileExt,
@@ -36,25 +37,58 @@ where
     let Ok(mut walk) = Walk::new(rt.alloc()) else {
         return Err(OUT_OF_MEMORY);
     };
+    check_within(rt, asked, room.store(), &mut walk, terminal)
+}
+
+/// Makes what memory is needed beside that for headers and a walk, and checks all files that are asked
+/// for.
+fn check_within<R: Files + Print + Input + AllocGlobal>(
+    rt: &R,
+    asked: &Checking<'_>,
+    store: HeaderStore<'_>,
+    walk: &mut Walk,
+    terminal: Option<Stderr>,
+) -> Result<Ending, Ending>
+where
+    R::File: FileExt,
+    requires { store.slots ≡ asked.now.limits.headers }
+{
     let Ok(mut entries) = vec![in rt.alloc(); 0u8; LIST_BYTES] else {
         return Err(OUT_OF_MEMORY);
     };
     let Ok(output) = BufWriter::with_capacity(rt.alloc(), OUTPUT_BYTES, io::writer(rt)) else {
         return Err(OUT_OF_MEMORY);
     };
+    check_into(rt, asked, store, walk, &mut entries, output, terminal)
+}
+
+/// Checks all files that are asked for, and writes their lines to an output.
+fn check_into<R: Files + Input, W: Write + Drop>(
+    rt: &R,
+    asked: &Checking<'_>,
+    store: HeaderStore<'_>,
+    walk: &mut Walk,
+    entries: &mut [u8],
+    output: BufWriter<W>,
+    terminal: Option<Stderr>,
+) -> Result<Ending, Ending>
+where
+    R::File: FileExt,
+    requires { store.slots ≡ asked.now.limits.headers }
+{
     let out = Out::new(WriteSink::new(output));
-    let mut checks = new_checks(asked, out, room.store(), terminal);
-    let answer = check_all(rt, asked, &mut checks, &mut walk, &mut entries);
+    let mut checks = new_checks(asked, out, store, terminal);
+    let answer = check_all(rt, asked, &mut checks, walk, entries);
     finish(checks.into_out().into_inner().into_inner(), answer)
 }
 
 /// A check within what is asked for, with no file yet.
-fn new_checks<'a, W: Sink, E: Write + Drop>(
+fn new_checks<'a, W: Sink>(
     asked: &Checking<'_>,
     out: Out<W>,
     store: HeaderStore<'a>,
-    terminal: Option<E>,
-) -> Checks<'a, W, E>
+    terminal: Option<Stderr>,
+) -> Checks<'a, W, Stderr>
     requires { store.slots ≡ asked.now.limits.headers }
 {
     let caps = Caps {
@@ -68,32 +102,58 @@ fn new_checks<'a, W: Sink, E: Write + Drop>(
 ///
 /// # Errors
 /// How the program ends where the list or the output failed.
-fn check_all<R: Files + Input, W: Sink, E: Write + Drop>(
+fn check_all<R: Files + Input, W: Sink>(
     rt: &R,
     asked: &Checking<'_>,
-    checks: &mut Checks<'_, W, E>,
+    checks: &mut Checks<'_, W, Stderr>,
     walk: &mut Walk,
     entries: &mut [u8],
 ) -> Result<u8, Ending>
 where
     R::File: FileExt,
 {
-    for path in &asked.paths {
-        check_path(rt, checks, walk, path).map_err(unwritten)?;
+    if let Err(fault) = check_paths(rt, checks, walk, &asked.paths) {
+        return Err(unwritten(fault));
     }
     if let Some(list) = asked.list {
-        check_listed(rt, checks, walk, list, entries)?;
+        if let Err(ending) = check_listed(rt, checks, walk, list, entries) {
+            return Err(ending);
+        }
     }
-    checks.end().map_err(unwritten)
+    match checks.end() {
+        Ok(status) => Ok(status),
+        Err(fault) => Err(unwritten(fault)),
+    }
+}
+
+/// Checks files and folders.
+///
+/// # Errors
+/// The output failed.
+fn check_paths<R: Files, W: Sink>(
+    rt: &R,
+    checks: &mut Checks<'_, W, Stderr>,
+    walk: &mut Walk,
+    paths: &[&str],
+) -> Result<(), OutFault>
+where
+    R::File: FileExt,
+{
+    for path in paths {
+        if let Err(fault) = check_path(rt, checks, walk, path) {
+            return Err(fault);
+        }
+    }
+    Ok(())
 }
 
 /// Checks the paths of a list; `-` is standard input.
 ///
 /// # Errors
 /// How the program ends where the list or the output failed.
-fn check_listed<R: Files + Input, W: Sink, E: Write + Drop>(
+fn check_listed<R: Files + Input, W: Sink>(
     rt: &R,
-    checks: &mut Checks<'_, W, E>,
+    checks: &mut Checks<'_, W, Stderr>,
     walk: &mut Walk,
     list: &str,
     entries: &mut [u8],
@@ -101,14 +161,17 @@ fn check_listed<R: Files + Input, W: Sink, E: Write + Drop>(
 where
     R::File: FileExt,
 {
-    let answer = if list == "-" {
-        check_list(rt, checks, walk, &mut rt.reader(), entries)
-    } else {
-        let Ok(mut file) = fs::open(rt, list) else {
-            return Err(CANNOT_OPEN);
-        };
-        check_list(rt, checks, walk, &mut file, entries)
-    };
+    if list == "-" {
+        return listed(check_list(rt, checks, walk, &mut rt.reader(), entries));
+    }
+    match fs::open(rt, list) {
+        Ok(mut file) => listed(check_list(rt, checks, walk, &mut file, entries)),
+        Err(_) => Err(CANNOT_OPEN),
+    }
+}
+
+/// What a list answers, or how the program ends where it came to no end.
+fn listed(answer: Result<(), ListFault>) -> Result<(), Ending> {
     match answer {
         Ok(()) => Ok(()),
         Err(ListFault::Read) => Err(READ_FAULT),
@@ -129,13 +192,14 @@ fn unwritten(_fault: OutFault) -> Ending
 /// # Errors
 /// The output can't be written, or what failed before.
 fn finish<W: Write + Drop>(
-    mut output: BufWriter<W>,
+    output: BufWriter<W>,
     answer: Result<u8, Ending>,
 ) -> Result<Ending, Ending> {
-    if answer != Err(WRITE_FAULT) && output.flush().is_err() {
-        let _ = output.into_parts();
+    if !write_rest(output, answer != Err(WRITE_FAULT)) {
         return Err(WRITE_FAULT);
     }
-    let _ = output.into_parts();
-    Ok((answer?, ""))
+    match answer {
+        Ok(status) => Ok((status, "")),
+        Err(ending) => Err(ending),
+    }
 }
