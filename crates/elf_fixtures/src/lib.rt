@@ -1,5 +1,5 @@
-//! The files that worked examples and tests are over, byte by byte. Each is proved to be the file that
-//! the definitions spell by its fields.
+//! The files that worked examples and tests are over, byte by byte, and which of them the program
+//! carries. Each is proved to be the file that the definitions spell by its fields.
 #![tactic(auto)]
 
 mod carried;
