@@ -100,7 +100,10 @@ where
 
 /// Makes a layout without an item, in memory of its own: on the stack it would take a third of it.
 fn make_layout(alloc: Global) -> Result<Box<Layout>, Ending> {
-    Box::new(alloc, Layout::new()).map_err(|_| OUT_OF_MEMORY)
+    match Box::new(alloc, Layout::new()) {
+        Ok(layout) => Ok(layout),
+        Err(_) => Err(OUT_OF_MEMORY),
+    }
 }
 
 /// Makes what memory is needed, opens the file, and carries the request out.
@@ -157,7 +160,10 @@ fn read_words<R: Env + AllocGlobal>(rt: &R) -> Result<Vec<String>, Ending>
         Err(_) => return Err(NOT_UTF8),
     };
     let _program = words.next();
-    words.collect(rt.alloc()).map_err(|_| OUT_OF_MEMORY)
+    match words.collect(rt.alloc()) {
+        Ok(words) => Ok(words),
+        Err(_) => Err(OUT_OF_MEMORY),
+    }
 }
 
 /// Reads what is asked for, and tells what is wrong with words that ask for nothing.
@@ -214,7 +220,10 @@ where
     let Ok(file) = fs::open(rt, path) else {
         return Err(CANNOT_OPEN);
     };
-    StreamSource::over(OffsetReader::new(file)).map_err(|_| READ_FAULT)
+    match StreamSource::over(OffsetReader::new(file)) {
+        Ok(source) => Ok(source),
+        Err(_) => Err(READ_FAULT),
+    }
 }
 
 /// Carries a request out and writes what is left of the output. It is not made part of its caller,
