@@ -1,23 +1,16 @@
 -- The command line: its commands and their options, as the reader of the words sees them.
-use Rattle.std.specs.Prelude.{◌≡◌, List, [], ◌∷◌, codes, pos, false, true, Some}
+use Rattle.std.specs.Prelude.{List, [], ◌∷◌, codes, pos, true, Some}
 use Rattle.std.specs.Borrow.{Bor}
 use Rattle.clap.specs.Walk.{Rule, Text}
 use Rattle.clap.specs.Simple.{App, new_app, new_rule, with_rule, with_subcommand}
 use Rattle.clap.specs.Lexer.{usize_max}
-use Rattle.clap.specs.Words.{app_of}
 use Rattle.clap.specs.declared.builder.action.ArgAction.TheVariants.{SetTrue}
-use Rattle.clap.specs.declared.builder.command.Command.{Command}
-use Rattle.clap.specs.declared.builder.command.Command.TheViews.{out-Command as fields_of}
 use Rattle.clap.specs.declared.builder.value_parser.ValueParser.{ValueParser}
 use Rattle.clap.specs.declared.builder.value_parser.ValueParser.TheVariants.{Signed, Unsigned, Names}
 
 -- a `&[&str]`
 abbrev pub Words : Type 0
 Words = Bor (List (Bor Text))
-
--- a command that the reader of the words sees so, with no argument that its subcommands have too
-abbrev pub IsBuilt : App → Command → Type 0
-IsBuilt app command = (app_of command ≡ app) × ((fields_of command).has_globals ≡ false)
 
 -- an option with one value, which help has a name for
 abbrev pub option : Text → ValueParser → Rule

@@ -1,12 +1,24 @@
 //! Commands with an argument or a command more, each where there is memory for it.
 ghost use Rattle.std.specs.Prelude.{◌≡◌, IfOk, false};
-ghost use Rattle.clap.specs.Simple.{App, with_rule, with_subcommand};
+ghost use Rattle.clap.specs.Simple.{App, new_app, with_rule, with_subcommand};
 ghost use Rattle.clap.specs.Walk.{Rule};
 ghost use Rattle.clap.specs.Words.{app_of, rule_of};
-ghost use Rattle.elf_command_line.specs.CommandLine.{IsBuilt};
+ghost use Rattle.elf_command_line.specs.Building.{IsBuilt};
 
 use clap::{Arg, Command};
-use std::alloc::AllocError;
+use std::alloc::{AllocError, Global};
+
+/// A command of this name, with what its help tells before and behind its arguments.
+pub(crate) fn new_command<'a>(
+    alloc: Global,
+    name: &'a str,
+    about: &'a str,
+    more: &'a str,
+) -> Command<'a>
+    ensures { IsBuilt (new_app name.entry.now) result }
+{
+    Command::new(alloc, name).about(about).after_help(more)
+}
 
 /// A command with an argument more, which its subcommands do not have.
 pub(crate) fn with_arg<'a>(

@@ -1,8 +1,9 @@
 //! The command that lists an archive, with its help.
 ghost use Rattle.std.specs.Prelude.{IfOk};
-ghost use Rattle.elf_command_line.specs.CommandLine.{IsBuilt, archive_command};
+ghost use Rattle.elf_command_line.specs.Building.{IsBuilt};
+ghost use Rattle.elf_command_line.specs.CommandLine.{archive_command};
 
-use crate::adding::with_arg;
+use crate::adding::{new_command, with_arg};
 use crate::commands::{file, listing_options};
 use clap::Command;
 use std::alloc::{AllocError, Global};
@@ -22,8 +23,11 @@ Example: elfsee archive --only symbols /usr/lib/x86_64-linux-gnu/libc.a";
 pub fn archive<'a>(alloc: Global, parts: &'a [&'a str]) -> Result<Command<'a>, AllocError>
     ensures { IfOk result (IsBuilt (archive_command parts.entry)) }
 {
-    let command = Command::new(alloc, "archive")
-        .about("List the members of an archive, such as a static library, and what is in each")
-        .after_help(LINES);
+    let command = new_command(
+        alloc,
+        "archive",
+        "List the members of an archive, such as a static library, and what is in each",
+        LINES,
+    );
     with_arg(listing_options(alloc, command, parts), file(alloc))
 }

@@ -1,9 +1,11 @@
 //! The command that checks many files, with its help.
 ghost use Rattle.std.specs.Prelude.{◌≡◌, IfOk, false};
 ghost use Rattle.clap.specs.Words.{rule_of};
-ghost use Rattle.elf_command_line.specs.CommandLine.{IsBuilt, check_command, list_option, path_argument};
+ghost use Rattle.elf_command_line.specs.Building.{IsBuilt};
+ghost use Rattle.elf_command_line.specs.CommandLine.{check_command, list_option, path_argument};
 
-use crate::adding::with_arg;
+use crate::adding::{new_command, with_arg};
+use crate::arguments::valued;
 use crate::commands::listing_options;
 use clap::{Arg, Command};
 use std::alloc::{AllocError, Global};
@@ -28,9 +30,12 @@ Examples:
 pub fn check<'a>(alloc: Global, parts: &'a [&'a str]) -> Result<Command<'a>, AllocError>
     ensures { IfOk result (IsBuilt (check_command parts.entry)) }
 {
-    let command = Command::new(alloc, "check")
-        .about("Check many files: which are at fault, where and why")
-        .after_help(LINES);
+    let command = new_command(
+        alloc,
+        "check",
+        "Check many files: which are at fault, where and why",
+        LINES,
+    );
     let command = with_arg(listing_options(alloc, command, parts), list(alloc));
     with_arg(command, path(alloc))
 }
@@ -40,10 +45,12 @@ fn list<'a>(alloc: Global) -> Arg<'a>
     ensures rule { rule_of result ≡ list_option }
     ensures local { result.global ≡ false }
 {
-    Arg::new(alloc, "files0-from")
-        .long("files0-from")
-        .value_name("FILE")
-        .help("Check the paths in FILE too, each ended by NUL; - is standard input")
+    valued(
+        alloc,
+        "files0-from",
+        "FILE",
+        "Check the paths in FILE too, each ended by NUL; - is standard input",
+    )
 }
 
 /// The paths.

@@ -3,7 +3,8 @@
 ghost use Rattle.std.specs.Prelude.{◌≡◌, IfOk, false};
 ghost use Rattle.clap.specs.Words.{app_of, rule_of};
 ghost use Rattle.clap.specs.Simple.{App};
-ghost use Rattle.elf_command_line.specs.CommandLine.{IsBuilt, apply_command, explain_option};
+ghost use Rattle.elf_command_line.specs.Building.{IsBuilt};
+ghost use Rattle.elf_command_line.specs.CommandLine.{apply_command, explain_option};
 ghost use Rattle.elf_command_line.specs.CommandLine.{file_argument, find_command};
 ghost use Rattle.elf_command_line.specs.CommandLine.{gnu_option, by_segments_option};
 ghost use Rattle.elf_command_line.specs.CommandLine.{with_checks, with_one_file};
@@ -13,10 +14,11 @@ ghost use Rattle.elf_command_line.specs.CommandLine.{sample_command, section_arg
 ghost use Rattle.elf_command_line.specs.CommandLine.{with_listing_options, with_listings};
 ghost use Rattle.elf_command_line.specs.CommandLine.{with_reading_options, without_command};
 
-use crate::adding::{with_arg, with_command};
+use crate::adding::{new_command, with_arg, with_command};
 use crate::archive_command::archive;
+use crate::arguments::{flag, required, valued};
 use crate::check_command::check;
-use clap::{Arg, ArgAction, Command, value_parser};
+use clap::{Arg, Command, value_parser};
 use std::alloc::{AllocError, Global};
 
 const ABOUT: &str = "\
@@ -139,10 +141,8 @@ fn listings<'a>(alloc: Global, parts: &'a [&'a str]) -> Result<Command<'a>, Allo
 fn program<'a>(alloc: Global) -> Result<Command<'a>, AllocError>
     ensures { IfOk result (λ command. app_of command ≡ without_command) }
 {
-    let program = Command::new(alloc, "elfsee")
+    let program = new_command(alloc, "elfsee", ABOUT, MORE)
         .subcommand_value_name("show|sample|find|apply|check|archive")
-        .about(ABOUT)
-        .after_help(MORE)
         .no_binary_name(true)
         .subcommand_required(true)
         .arg_required_else_help(true);
@@ -153,9 +153,12 @@ fn program<'a>(alloc: Global) -> Result<Command<'a>, AllocError>
 pub fn show<'a>(alloc: Global, parts: &'a [&'a str]) -> Result<Command<'a>, AllocError>
     ensures { IfOk result (IsBuilt (show_command parts.entry)) }
 {
-    let command = Command::new(alloc, "show")
-        .about("List a file, whole or one part of it")
-        .after_help("Example: elfsee show --only symbols /bin/ls");
+    let command = new_command(
+        alloc,
+        "show",
+        "List a file, whole or one part of it",
+        "Example: elfsee show --only symbols /bin/ls",
+    );
     with_arg(listing_options(alloc, command, parts), file(alloc))
 }
 
@@ -163,9 +166,12 @@ pub fn show<'a>(alloc: Global, parts: &'a [&'a str]) -> Result<Command<'a>, Allo
 pub fn sample<'a>(alloc: Global, parts: &'a [&'a str]) -> Result<Command<'a>, AllocError>
     ensures { IfOk result (IsBuilt (sample_command parts.entry)) }
 {
-    let command = Command::new(alloc, "sample")
-        .about("List a small file that the program carries")
-        .after_help("Example: elfsee sample --only header");
+    let command = new_command(
+        alloc,
+        "sample",
+        "List a small file that the program carries",
+        "Example: elfsee sample --only header",
+    );
     listing_options(alloc, command, parts)
 }
 
@@ -173,9 +179,12 @@ pub fn sample<'a>(alloc: Global, parts: &'a [&'a str]) -> Result<Command<'a>, Al
 fn find<'a>(alloc: Global) -> Result<Command<'a>, AllocError>
     ensures { IfOk result (IsBuilt find_command) }
 {
-    let command = Command::new(alloc, "find")
-        .about("Look a name up by the file's own hash table")
-        .after_help(FOUND);
+    let command = new_command(
+        alloc,
+        "find",
+        "Look a name up by the file's own hash table",
+        FOUND,
+    );
     let command = reading_options(alloc, command);
     let command = with_arg(command, as_loader(alloc));
     let command = with_arg(command, file(alloc));
@@ -186,9 +195,12 @@ fn find<'a>(alloc: Global) -> Result<Command<'a>, AllocError>
 fn apply<'a>(alloc: Global) -> Result<Command<'a>, AllocError>
     ensures { IfOk result (IsBuilt apply_command) }
 {
-    let command = Command::new(alloc, "apply")
-        .about("Write a section's bytes with its relocations applied")
-        .after_help(ITEMS);
+    let command = new_command(
+        alloc,
+        "apply",
+        "Write a section's bytes with its relocations applied",
+        ITEMS,
+    );
     let command = reading_options(alloc, command);
     let command = with_arg(command, layout(alloc));
     let command = with_arg(command, explain(alloc));
@@ -228,9 +240,7 @@ pub(crate) fn file<'a>(alloc: Global) -> Arg<'a>
     ensures rule { rule_of result ≡ file_argument }
     ensures local { result.global ≡ false }
 {
-    Arg::new(alloc, "FILE")
-        .required(true)
-        .help("The file to read")
+    required(alloc, "FILE", "The file to read")
 }
 
 /// The name that is looked up.
@@ -238,9 +248,7 @@ fn name<'a>(alloc: Global) -> Arg<'a>
     ensures rule { rule_of result ≡ name_argument }
     ensures local { result.global ≡ false }
 {
-    Arg::new(alloc, "NAME")
-        .required(true)
-        .help("The name to look up: 1 to 4096 bytes")
+    required(alloc, "NAME", "The name to look up: 1 to 4096 bytes")
 }
 
 /// Whether the name is looked up as a loader of the GNU system does it.
@@ -248,10 +256,11 @@ fn as_loader<'a>(alloc: Global) -> Arg<'a>
     ensures rule { rule_of result ≡ gnu_option }
     ensures local { result.global ≡ false }
 {
-    Arg::new(alloc, "gnu")
-        .long("gnu")
-        .action(ArgAction::SetTrue)
-        .help("Take the symbol that a loader of the GNU system takes, by its version too")
+    flag(
+        alloc,
+        "gnu",
+        "Take the symbol that a loader of the GNU system takes, by its version too",
+    )
 }
 
 /// How many headers are permitted.
@@ -259,12 +268,14 @@ fn headers<'a>(alloc: Global) -> Arg<'a>
     ensures rule { rule_of result ≡ headers_option }
     ensures local { result.global ≡ false }
 {
-    Arg::new(alloc, "headers")
-        .long("headers")
-        .value_name("N")
-        .value_parser(value_parser!(u16).range(1..=65279))
-        .default_value("4096")
-        .help("Permit N section headers, and as many program headers: 1 to 65279")
+    valued(
+        alloc,
+        "headers",
+        "N",
+        "Permit N section headers, and as many program headers: 1 to 65279",
+    )
+    .value_parser(value_parser!(u16).range(1..=65279))
+    .default_value("4096")
 }
 
 /// The section that is written.
@@ -272,10 +283,12 @@ fn section<'a>(alloc: Global) -> Arg<'a>
     ensures rule { rule_of result ≡ section_argument }
     ensures local { result.global ≡ false }
 {
-    Arg::new(alloc, "SECTION")
-        .required(true)
-        .value_parser(value_parser!(u16))
-        .help("The index of the section to write: 0 to 65535")
+    required(
+        alloc,
+        "SECTION",
+        "The index of the section to write: 0 to 65535",
+    )
+    .value_parser(value_parser!(u16))
 }
 
 /// The file with items.
@@ -283,10 +296,12 @@ fn layout<'a>(alloc: Global) -> Arg<'a>
     ensures rule { rule_of result ≡ layout_option }
     ensures local { result.global ≡ false }
 {
-    Arg::new(alloc, "layout")
-        .long("layout")
-        .value_name("LIST")
-        .help("Take the items in the file LIST too, one a line, as many as there are")
+    valued(
+        alloc,
+        "layout",
+        "LIST",
+        "Take the items in the file LIST too, one a line, as many as there are",
+    )
 }
 
 /// Whether it is told which item is missing, where an address is.
@@ -294,10 +309,11 @@ fn explain<'a>(alloc: Global) -> Arg<'a>
     ensures rule { rule_of result ≡ explain_option }
     ensures local { result.global ≡ false }
 {
-    Arg::new(alloc, "explain")
-        .long("explain")
-        .action(ArgAction::SetTrue)
-        .help("Where an address is missing, tell the type, the symbol and the item that would help")
+    flag(
+        alloc,
+        "explain",
+        "Where an address is missing, tell the type, the symbol and the item that would help",
+    )
 }
 
 /// The items of the layout.
@@ -315,12 +331,9 @@ fn names<'a>(alloc: Global) -> Arg<'a>
     ensures rule { rule_of result ≡ names_option }
     ensures local { result.global ≡ false }
 {
-    Arg::new(alloc, "names")
-        .long("names")
-        .value_name("N")
+    valued(alloc, "names", "N", "Show N bytes of a name: 1 to 4096")
         .value_parser(value_parser!(u16).range(1..=4096))
         .default_value("256")
-        .help("Show N bytes of a name: 1 to 4096")
 }
 
 /// How many bytes may be read.
@@ -328,11 +341,13 @@ fn max_read<'a>(alloc: Global) -> Arg<'a>
     ensures rule { rule_of result ≡ max_read_option }
     ensures local { result.global ≡ false }
 {
-    Arg::new(alloc, "max-read")
-        .long("max-read")
-        .value_name("N")
-        .value_parser(value_parser!(u64).range(0..=i64::MAX))
-        .help("Read at most N bytes of the file: 0 to 9223372036854775807 [default: any]")
+    valued(
+        alloc,
+        "max-read",
+        "N",
+        "Read at most N bytes of the file: 0 to 9223372036854775807 [default: any]",
+    )
+    .value_parser(value_parser!(u64).range(0..=i64::MAX))
 }
 
 /// Whether the listing is one of the GNU system.
@@ -340,10 +355,11 @@ fn gnu<'a>(alloc: Global) -> Arg<'a>
     ensures rule { rule_of result ≡ gnu_option }
     ensures local { result.global ≡ false }
 {
-    Arg::new(alloc, "gnu")
-        .long("gnu")
-        .action(ArgAction::SetTrue)
-        .help("Name the numbers of the GNU system too, and list symbol versions")
+    flag(
+        alloc,
+        "gnu",
+        "Name the numbers of the GNU system too, and list symbol versions",
+    )
 }
 
 /// Whether tables are found by the program headers also where there are section headers.
@@ -351,10 +367,11 @@ fn by_segments<'a>(alloc: Global) -> Arg<'a>
     ensures rule { rule_of result ≡ by_segments_option }
     ensures local { result.global ≡ false }
 {
-    Arg::new(alloc, "by-segments")
-        .long("by-segments")
-        .action(ArgAction::SetTrue)
-        .help("Find tables by the program headers, as a loader does")
+    flag(
+        alloc,
+        "by-segments",
+        "Find tables by the program headers, as a loader does",
+    )
 }
 
 /// The one part that is listed.
@@ -362,9 +379,5 @@ fn only<'a>(alloc: Global, parts: &'a [&'a str]) -> Arg<'a>
     ensures rule { rule_of result ≡ only_option parts.entry }
     ensures local { result.global ≡ false }
 {
-    Arg::new(alloc, "only")
-        .long("only")
-        .value_name("PART")
-        .value_parser(parts)
-        .help("List one part [default: all]")
+    valued(alloc, "only", "PART", "List one part [default: all]").value_parser(parts)
 }

@@ -3,6 +3,7 @@
 
 mod adding;
 mod archive_command;
+mod arguments;
 mod check_command;
 mod commands;
 

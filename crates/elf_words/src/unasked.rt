@@ -53,17 +53,28 @@ fn lacks_gnu(options: &ArgMatches<'_>) -> bool {
 fn missing_gnu(alloc: Global, command: &str) -> Result<Error, AllocError>
     ensures { IfOk result (λ error. kind_of error ≡ Format) }
 {
-    let mut command = listing_command(alloc, command)?;
-    command.error(ErrorKind::Format, NO_GNU)
+    let listing = listing_command(alloc, command);
+    lacking(named(listing, full_name(command)), NO_GNU)
 }
 
-/// The command that lists and has this name, as it is told of.
+/// The command that lists and has this name.
 fn listing_command<'a>(alloc: Global, command: &str) -> Result<Command<'a>, AllocError> {
+    let parts = PARTS.as_slice();
     match command {
-        "sample" => sample(alloc, PARTS.as_slice())?.bin_name("elfsee sample"),
-        "check" => check(alloc, PARTS.as_slice())?.bin_name("elfsee check"),
-        "archive" => archive(alloc, MEMBER_PARTS.as_slice())?.bin_name("elfsee archive"),
-        _ => show(alloc, PARTS.as_slice())?.bin_name("elfsee show"),
+        "sample" => sample(alloc, parts),
+        "check" => check(alloc, parts),
+        "archive" => archive(alloc, MEMBER_PARTS.as_slice()),
+        _ => show(alloc, parts),
+    }
+}
+
+/// The name of the command that lists and has this name, as it is told of.
+fn full_name(command: &str) -> &'static str {
+    match command {
+        "sample" => "elfsee sample",
+        "check" => "elfsee check",
+        "archive" => "elfsee archive",
+        _ => "elfsee show",
     }
 }
 
@@ -71,6 +82,21 @@ fn listing_command<'a>(alloc: Global, command: &str) -> Result<Command<'a>, Allo
 fn missing_path(alloc: Global) -> Result<Error, AllocError>
     ensures { IfOk result (λ error. kind_of error ≡ Format) }
 {
-    let mut command = check(alloc, PARTS.as_slice())?.bin_name("elfsee check")?;
-    command.error(ErrorKind::Format, NO_PATH)
+    let command = check(alloc, PARTS.as_slice());
+    lacking(named(command, "elfsee check"), NO_PATH)
+}
+
+/// A command with the name that it is told of by.
+fn named<'a>(
+    command: Result<Command<'a>, AllocError>,
+    name: &str,
+) -> Result<Command<'a>, AllocError> {
+    command?.bin_name(name)
+}
+
+/// The error of a command that lacks what this tells.
+fn lacking(command: Result<Command<'_>, AllocError>, told: &str) -> Result<Error, AllocError>
+    ensures { IfOk result (λ error. kind_of error ≡ Format) }
+{
+    command?.error(ErrorKind::Format, told)
 }

@@ -1,13 +1,15 @@
 //! The words of a command line.
 ghost use Rattle.std.specs.Prelude.{◌≡◌, ◌≢◌, ◌<◌, ◌^◌, ℕ, IfErr, IfOk, IfSome, None, Ok, Err};
-ghost use Rattle.std.specs.Prelude.{Option, Some, codes, false, map, option_map};
+ghost use Rattle.std.specs.Prelude.{[], Option, Some, codes, false, map, option_map};
 ghost use Rattle.std.specs.Borrow.{Bor};
 ghost use Rattle.clap.specs.Walk.{Text, first_of, one_of, rows_of};
-ghost use Rattle.clap.specs.Words.{found_of, subcommand_rows_of};
+ghost use Rattle.clap.specs.Kinds.{Kinds};
+ghost use Rattle.clap.specs.Words.{app_of, found_of, subcommand_rows_of};
 ghost use Rattle.elf_model.specs.Listing.{all_parts};
 ghost use Rattle.elf_model.specs.Text.{name_of};
 ghost use Rattle.elf_words.specs.Asked.{AreLimits, AreParts, AsksBy, ComesTo, HasNumber, IsFileNamed};
-ghost use Rattle.elf_words.specs.Answered.{WordsAsk, WordsRefused};
+ghost use Rattle.elf_words.specs.Answered.{ArePartNames, IsRefusal, WordsAsk, WordsRefused};
+ghost use Rattle.elf_command_line.specs.CommandLine.{PartWords, program};
 ghost use Rattle.elf_words.specs.Asked.{IsStyle, IsText, LooksUp, asks_gnu, is_part, is_set};
 ghost use Rattle.elf_words.specs.Checks.{Becomes, IsAsked};
 ghost use Rattle.elf_words.specs.Asked.{item_words, part_names};
@@ -24,12 +26,12 @@ use crate::items::lay;
 use crate::names::{checked_name, checked_symbol};
 use crate::requests::{Request, RequestFault, Task};
 use crate::unasked::unasked;
-use clap::ArgMatches;
+use clap::{ArgMatches, Command};
 use elf_command_line::command_line;
 use elf_layout::Layout;
 use elf_record::Parts;
 use elf_table::{Cap, Limits, Style};
-use std::alloc::Global;
+use std::alloc::{AllocError, Global};
 use std::convert::AsStr;
 
 /// The names of the parts of a listing, in its order, the GNU system's last.
@@ -52,14 +54,44 @@ pub fn request<'a, S: AsStr>(
     ensures asked { IfOk result (WordsAsk (map S.text words.entry.now)) }
     ensures refused { IfErr result (WordsRefused (map S.text words.entry.now)) }
 {
-    let mut commands = command_line(alloc, PARTS.as_slice(), MEMBER_PARTS.as_slice())?;
-    let matches = match commands.try_get_matches_from_mut(words) {
-        Ok(matches) => matches,
-        Err(error) => return Err(error.into()),
-    };
-    match asked(alloc, &matches, layout)? {
-        Some(asked) => Ok(asked),
-        None => Err(unasked(alloc, &matches)),
+    match command_line(alloc, PARTS.as_slice(), MEMBER_PARTS.as_slice()) {
+        Ok(commands) => read_by(alloc, commands, words, layout),
+        Err(AllocError) => Err(RequestFault::Memory),
+    }
+}
+
+/// Reads words by a command line, which has the names of the parts that there are.
+fn read_by<'a, S: AsStr>(
+    alloc: Global,
+    mut commands: Command<'a>,
+    words: &'a [S],
+    layout: &'a mut Layout,
+) -> Result<Asked<'a>, RequestFault>
+    ensures asked { (parts : PartWords) → app_of commands.entry ≡ program parts
+        → ArePartNames parts → IfOk result (WordsAsk (map S.text words.entry.now)) }
+    ensures refused { (parts : PartWords) → app_of commands.entry ≡ program parts
+        → ArePartNames parts → IfErr result (WordsRefused (map S.text words.entry.now)) }
+{
+    match commands.try_get_matches_from_mut(words) {
+        Ok(matches) => answered(alloc, matches, layout),
+        Err(error) => Err(error.into()),
+    }
+}
+
+/// What words that the command line let through ask for, or why they are refused.
+fn answered<'a>(
+    alloc: Global,
+    matches: ArgMatches<'a>,
+    layout: &'a mut Layout,
+) -> Result<Asked<'a>, RequestFault>
+    ensures asked { IfOk result (IsAsked (subcommand_rows_of matches.entry)) }
+    ensures refused { (kinds : Kinds) → kinds ≡ []
+        → IfErr result (IsRefusal kinds (subcommand_rows_of matches.entry)) }
+{
+    match asked(alloc, &matches, layout) {
+        Ok(Some(asked)) => Ok(asked),
+        Ok(None) => Err(unasked(alloc, &matches)),
+        Err(fault) => Err(fault),
     }
 }
 
