@@ -2,8 +2,8 @@
 ghost use Rattle.std.specs.Prelude.{◌≡◌, ◌≤◌};
 
 use crate::requests::Request;
+use elf_headers::{Limits, Style};
 use elf_record::Parts;
-use elf_table::{Limits, Style};
 
 /// What is asked for.
 #[derive(Drop)]

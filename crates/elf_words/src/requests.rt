@@ -8,9 +8,9 @@ ghost use Rattle.elf_words.specs.Faults.{IsFaultOf};
 ghost use Rattle.elf_words.specs.declared.requests.RequestFault.TheVariants.{Memory};
 
 use clap::error::ErrorKind;
+use elf_headers::{Limits, Style};
 use elf_layout::{Addresses, Layout};
 use elf_record::Parts;
-use elf_table::{Limits, Style};
 use std::alloc::AllocError;
 use thiserror::Error;
 

@@ -28,9 +28,9 @@ use crate::requests::{Request, RequestFault, Task};
 use crate::unasked::unasked;
 use clap::{ArgMatches, Command};
 use elf_command_line::command_line;
+use elf_headers::{Cap, Limits, Style};
 use elf_layout::Layout;
 use elf_record::Parts;
-use elf_table::{Cap, Limits, Style};
 use std::alloc::{AllocError, Global};
 use std::convert::AsStr;
 
