@@ -19,7 +19,10 @@ Exit status: 1 where the archive or a member is refused.
 
 Example: elfsee archive --only symbols /usr/lib/x86_64-linux-gnu/libc.a";
 
-/// The command that lists an archive, with the names of its parts.
+/// The command that lists an archive, with the names of its parts: the members, and those of a listing.
+///
+/// # Errors
+/// There is no memory for it; nothing of it is left then.
 pub fn archive<'a>(alloc: Global, parts: &'a [&'a str]) -> Result<Command<'a>, AllocError>
     ensures { IfOk result (IsBuilt (archive_command parts.entry)) }
 {

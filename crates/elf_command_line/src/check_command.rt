@@ -26,7 +26,10 @@ Examples:
   elfsee check --only header /usr/lib
   find /opt -name '*.so' -print0 | elfsee check --files0-from -";
 
-/// The command that checks many files.
+/// The command that checks many files, with the names of the parts that it can go by.
+///
+/// # Errors
+/// There is no memory for it; nothing of it is left then.
 pub fn check<'a>(alloc: Global, parts: &'a [&'a str]) -> Result<Command<'a>, AllocError>
     ensures { IfOk result (IsBuilt (check_command parts.entry)) }
 {

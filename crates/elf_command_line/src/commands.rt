@@ -102,7 +102,11 @@ Examples:
   elfsee find /lib/libexample.so printf
   elfsee find --gnu /lib/libexample.so printf@GLIBC_2.2.5";
 
-/// The command line, with the names of the parts of a listing, and of those of an archive's.
+/// The command line, with the names of the parts of a listing, and of those of an archive's: all
+/// commands with their arguments and help, as `clap` reads words by them.
+///
+/// # Errors
+/// There is no memory for it; nothing of it is left then.
 pub fn command_line<'a>(
     alloc: Global,
     parts: &'a [&'a str],
@@ -149,7 +153,10 @@ fn program<'a>(alloc: Global) -> Result<Command<'a>, AllocError>
     program.bin_name("elfsee")
 }
 
-/// The command that lists a file.
+/// The command that lists a file, with the names of the parts that it can list alone.
+///
+/// # Errors
+/// There is no memory for it; nothing of it is left then.
 pub fn show<'a>(alloc: Global, parts: &'a [&'a str]) -> Result<Command<'a>, AllocError>
     ensures { IfOk result (IsBuilt (show_command parts.entry)) }
 {
@@ -162,7 +169,10 @@ pub fn show<'a>(alloc: Global, parts: &'a [&'a str]) -> Result<Command<'a>, Allo
     with_arg(listing_options(alloc, command, parts), file(alloc))
 }
 
-/// The command that lists the sample.
+/// The command that lists the sample, with the names of the parts that it can list alone.
+///
+/// # Errors
+/// There is no memory for it; nothing of it is left then.
 pub fn sample<'a>(alloc: Global, parts: &'a [&'a str]) -> Result<Command<'a>, AllocError>
     ensures { IfOk result (IsBuilt (sample_command parts.entry)) }
 {
