@@ -29,7 +29,7 @@ use elf_source::{Counted, Out, Sink, Source};
 use elf_table::{Fault, File, HeaderStore, Loaded, Stop, header, load};
 
 /// What was applied.
-#[derive(Clone, Copy, Debug, PartialEq, Eq)]
+#[derive(Clone, Copy)]
 pub struct Applied {
     /// How many bytes the section has, all of which were written.
     pub size: u64,

@@ -1,7 +1,7 @@
 //! A member of an archive.
 
 /// Some bytes of a file: the offset of the first, and how many there are.
-#[derive(Clone, Copy, Debug, PartialEq, Eq)]
+#[derive(Clone, Copy)]
 pub struct Extent {
     /// The file offset in bytes.
     pub at: u64,
@@ -10,7 +10,7 @@ pub struct Extent {
 }
 
 /// A member of an archive.
-#[derive(Clone, Copy, Debug, PartialEq, Eq)]
+#[derive(Clone, Copy)]
 pub struct Member {
     /// Its index among the members, from 0 on.
     pub index: u64,

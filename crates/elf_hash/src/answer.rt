@@ -2,7 +2,7 @@
 use elf_record::Sym;
 
 /// A symbol that answers a trial.
-#[derive(Clone, Copy, Debug, PartialEq, Eq)]
+#[derive(Clone, Copy)]
 pub struct Answer {
     /// The symbol.
     pub symbol: Sym,

@@ -4,7 +4,7 @@ ghost use Rattle.elf_model.specs.LoaderScope.{least_size};
 ghost use Rattle.elf_hash.specs.Kinds.{kind_of};
 
 /// The kinds of hash tables.
-#[derive(Clone, Copy, Debug, PartialEq, Eq)]
+#[derive(Clone, Copy)]
 pub enum HashKind {
     /// A table of the GNU system, in a section of type GNU_HASH or at the dynamic entry GNU_HASH.
     Gnu,

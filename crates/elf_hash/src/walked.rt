@@ -2,7 +2,7 @@
 use crate::answer::Answer;
 
 /// The first symbol of a chain that answers a trial.
-#[derive(Clone, Copy, Debug, PartialEq, Eq)]
+#[derive(Clone, Copy)]
 pub struct Found {
     /// The symbol's index in its table.
     pub index: u64,
@@ -11,7 +11,7 @@ pub struct Found {
 }
 
 /// What a walk along a chain answers, and what it took.
-#[derive(Clone, Copy, Debug, PartialEq, Eq)]
+#[derive(Clone, Copy)]
 pub struct Walked {
     /// The first symbol of the chain that answers, if one does.
     pub found: Option<Found>,

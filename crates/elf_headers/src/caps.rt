@@ -7,7 +7,7 @@ const MOST_HEADERS: u16 = 65_279;
 const MOST_NAME: u16 = 4_096;
 
 /// How many bytes of a name are shown, 1 to 4,096.
-#[derive(Clone, Copy, Debug, PartialEq, Eq)]
+#[derive(Clone, Copy)]
 pub struct Cap {
     /// The number of bytes.
     pub bytes: u16,
@@ -31,7 +31,7 @@ impl Cap {
 
 /// How rows are shown: how many bytes of a name, whether numbers of the GNU system have names beside
 /// those of the standards, and by which headers tables are found.
-#[derive(Clone, Copy, Debug, PartialEq, Eq)]
+#[derive(Clone, Copy)]
 pub struct Style {
     /// How many bytes of a name are shown.
     pub cap: Cap,
@@ -62,7 +62,7 @@ impl Style {
 
 /// The limits on what is read of a file: how many section headers, and as many program headers, are
 /// permitted, and how many bytes may be read, where that is limited.
-#[derive(Clone, Copy, Debug, PartialEq, Eq)]
+#[derive(Clone, Copy)]
 pub struct Limits {
     /// The number of headers.
     pub headers: u16,
@@ -88,7 +88,7 @@ impl Limits {
 }
 
 /// The caps of a listing: the limits on what is read of its file, and how its rows are shown.
-#[derive(Clone, Copy, Debug, PartialEq, Eq)]
+#[derive(Clone, Copy)]
 pub struct Caps {
     /// The limits on what is read.
     pub limits: Limits,

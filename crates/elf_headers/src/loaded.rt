@@ -7,7 +7,7 @@ use std::marker::Model;
 
 /// A file whose section headers were loaded: its length, and its file header. The section headers
 /// are in the store that was loaded.
-#[derive(Clone, Copy, Debug, PartialEq, Eq)]
+#[derive(Clone, Copy)]
 pub struct Loaded {
     size: u64,
     header: Ehdr,

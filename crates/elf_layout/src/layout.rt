@@ -17,7 +17,7 @@ const SECTIONS: usize = 64;
 const NAMES: usize = 32;
 
 /// What a layout gives an address for.
-#[derive(Clone, Copy, Debug, PartialEq, Eq)]
+#[derive(Clone, Copy)]
 pub enum Item<'a> {
     /// A section, by its index.
     Section {

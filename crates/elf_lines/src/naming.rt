@@ -2,7 +2,7 @@
 
 /// How numbers are named in the lines of a file: by the names of the standards alone, or by those of
 /// the GNU system too; and on which machine, since some names are of x86-64 alone.
-#[derive(Clone, Copy, Debug, PartialEq, Eq)]
+#[derive(Clone, Copy)]
 pub struct Naming {
     /// Whether numbers of the GNU system have names.
     pub gnu: bool,

@@ -15,7 +15,7 @@ use elf_table::Stop;
 
 /// A part of a listing that goes through the headers in the store: through the section headers, or
 /// through the program headers of a file that has none.
-#[derive(Clone, Copy, Debug, PartialEq, Eq)]
+#[derive(Clone, Copy)]
 pub enum Part {
     /// The section headers.
     Headers,

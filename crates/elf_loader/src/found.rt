@@ -21,7 +21,7 @@ use elf_table::{NameBuf, NameEnd};
 use elf_wanted::Asked;
 
 /// The name of the version of a symbol that is found.
-#[derive(Clone, Copy, Debug, PartialEq, Eq)]
+#[derive(Clone, Copy)]
 pub enum VersionName {
     /// That of the wanted version, whole.
     Wanted,
@@ -32,7 +32,7 @@ pub enum VersionName {
 }
 
 /// The version of a symbol that is found (Linux Standard Base Core, Symbol Version Table).
-#[derive(Clone, Copy, Debug, PartialEq, Eq)]
+#[derive(Clone, Copy)]
 pub struct FoundVersion {
     /// The index of the section of the words of versions, or of the program header of the dynamic
     /// entries.

@@ -3,7 +3,7 @@ use crate::found::FoundVersion;
 use elf_record::Sym;
 
 /// A symbol that is found.
-#[derive(Clone, Copy, Debug, PartialEq, Eq)]
+#[derive(Clone, Copy)]
 pub struct FoundSymbol {
     /// The index of the symbols' section, or of the program header of the dynamic entries.
     pub section: u16,
@@ -21,7 +21,7 @@ pub struct FoundSymbol {
 
 /// What a lookup answers, with the number of symbols that were tried: those of the hash of the wanted
 /// name in the name's chain.
-#[derive(Clone, Copy, Debug, PartialEq, Eq)]
+#[derive(Clone, Copy)]
 pub enum Lookup {
     /// The first symbol of the chain that answers.
     Found(FoundSymbol),

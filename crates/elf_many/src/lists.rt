@@ -10,7 +10,7 @@ use std::rt::Files;
 use std::str;
 
 /// Why a list came to no end.
-#[derive(Clone, Copy, Debug, PartialEq, Eq)]
+#[derive(Clone, Copy)]
 pub enum ListFault {
     /// The list can't be read.
     Read,
@@ -19,7 +19,7 @@ pub enum ListFault {
 }
 
 /// Whether the list is within an entry that is longer than the room for it.
-#[derive(Clone, Copy, Debug, PartialEq, Eq)]
+#[derive(Clone, Copy)]
 enum Place {
     /// At an entry's begin.
     Entry,

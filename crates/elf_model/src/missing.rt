@@ -2,7 +2,7 @@
 use crate::relocation_types::Base;
 
 /// An address that a layout may have.
-#[derive(Clone, Copy, Debug, PartialEq, Eq)]
+#[derive(Clone, Copy)]
 pub enum Wanted {
     /// That of the section of an index.
     Place(u16),
@@ -11,7 +11,7 @@ pub enum Wanted {
 }
 
 /// What a relocation entry was refused for want of.
-#[derive(Clone, Copy, Debug, PartialEq, Eq)]
+#[derive(Clone, Copy)]
 pub struct Missing {
     /// The number of the entry's relocation type.
     pub kind: u32,

@@ -1,7 +1,7 @@
 //! What a relocation type is: how its value is calculated, and where it fits.
 
 /// Which address of a symbol a relocation type's formula begins with (x86-64 psABI, Relocation).
-#[derive(Clone, Copy, Debug, PartialEq, Eq)]
+#[derive(Clone, Copy)]
 pub enum Base {
     /// S, the symbol's value.
     Symbol,
@@ -15,7 +15,7 @@ pub enum Base {
 
 /// How the value of a relocation type is calculated: B is the address that its base tells, A the
 /// addend, P the place of the bytes that are relocated (x86-64 psABI, Relocation).
-#[derive(Clone, Copy, Debug, PartialEq, Eq)]
+#[derive(Clone, Copy)]
 pub enum Formula {
     /// B + A.
     Absolute,
@@ -24,7 +24,7 @@ pub enum Formula {
 }
 
 /// Which values a relocation type takes, of those modulo 2^64.
-#[derive(Clone, Copy, Debug, PartialEq, Eq)]
+#[derive(Clone, Copy)]
 pub enum Range {
     /// Any.
     Any,
@@ -37,7 +37,7 @@ pub enum Range {
 }
 
 /// A relocation type that stores a value (x86-64 psABI, Relocation Types).
-#[derive(Clone, Copy, Debug, PartialEq, Eq)]
+#[derive(Clone, Copy)]
 pub struct RelocationType {
     /// How many bytes it changes: 1, 2, 4 or 8.
     pub width: u32,

@@ -4,7 +4,7 @@ use crate::causes::Refusal;
 /// The state of a file among many.
 ///
 /// Each has a word of its own in a check's line.
-#[derive(Clone, Copy, Debug, PartialEq, Eq)]
+#[derive(Clone, Copy)]
 pub enum FileState {
     /// Its listing has no fault.
     Ok,

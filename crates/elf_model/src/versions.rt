@@ -3,7 +3,7 @@
 /// What a record of symbol versions is (Linux Standard Base Core, Symbol Versioning).
 ///
 /// Each has a word of its own in a listing.
-#[derive(Clone, Copy, Debug, PartialEq, Eq)]
+#[derive(Clone, Copy)]
 pub enum VersionKind {
     /// A version that the file defines.
     Definition,

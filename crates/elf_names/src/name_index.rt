@@ -3,7 +3,7 @@ use elf_table::Names;
 
 /// An index into a string table, as `st_name` and `sh_name` are, with the entry that holds it
 /// (gABI 4, String Table).
-#[derive(Clone, Copy, Debug, PartialEq, Eq)]
+#[derive(Clone, Copy)]
 pub struct NameIndex {
     /// The string table.
     pub names: Names,

@@ -15,7 +15,7 @@ use elf_source::{Counted, Source};
 use elf_table::{Fault, Table};
 
 /// Where the string table of dynamic entries is in memory, as they say (gABI 5, Dynamic Section).
-#[derive(Clone, Copy, Debug, PartialEq, Eq)]
+#[derive(Clone, Copy)]
 pub struct DynStrings {
     /// Its virtual address, the value of the first DT_STRTAB, if there is one.
     pub address: Option<u64>,

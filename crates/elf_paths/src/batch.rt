@@ -45,7 +45,7 @@ impl Model for Batch {
 }
 
 /// What becomes of a name that is put.
-#[derive(Clone, Copy, Debug, PartialEq, Eq)]
+#[derive(Clone, Copy)]
 pub enum Put {
     /// It has its place in this batch or another, or had it before, or it is `.` or `..`.
     Placed,

@@ -5,7 +5,7 @@ use crate::fields::{i64_at, put_i64, put_u64, u64_at};
 use arrayvec::ArrayVec;
 
 /// A dynamic entry of an ELF64 file, 16 bytes (gABI 5, Dynamic Section).
-#[derive(Clone, Copy, Debug, PartialEq, Eq)]
+#[derive(Clone, Copy)]
 pub struct Dyn {
     /// What the entry tells, at 0, in two's complement.
     pub d_tag: i64,

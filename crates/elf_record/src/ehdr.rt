@@ -19,7 +19,7 @@ const VERSION_CURRENT: u8 = 1;
 /// The file header of an ELF64 file, 64 bytes at offset 0 (gABI 4, ELF Header).
 ///
 /// Every byte is in a field, the padding of the identification too.
-#[derive(Clone, Copy, Debug, PartialEq, Eq)]
+#[derive(Clone, Copy)]
 pub struct Ehdr {
     /// The magic number, bytes 0 to 3: 7f 45 4c 46.
     pub ident_magic: [u8; 4],

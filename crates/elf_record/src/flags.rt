@@ -6,7 +6,7 @@ use bitflags::{Flag, Flags, bitflag_items};
 /// A section's flags, as the number `sh_flags` of a section header (gABI 4, Section Attribute Flags).
 ///
 /// Bits without a name are kept.
-#[derive(Clone, Copy, Debug, PartialEq, Eq)]
+#[derive(Clone, Copy)]
 pub struct SectionFlags(pub u64);
 
 bitflag_items! {
@@ -64,7 +64,7 @@ impl Flags for SectionFlags {
 /// A segment's flags, as the number `p_flags` of a program header (gABI 5, Segment Flag Bits).
 ///
 /// Bits without a name are kept.
-#[derive(Clone, Copy, Debug, PartialEq, Eq)]
+#[derive(Clone, Copy)]
 pub struct SegmentFlags(pub u32);
 
 bitflag_items! {

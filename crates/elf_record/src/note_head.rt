@@ -8,7 +8,7 @@ use arrayvec::ArrayVec;
 /// Section, whose words have eight bytes in 64-bit files).
 ///
 /// The name and the descriptor follow it, each padded; the sizes do not count the padding.
-#[derive(Clone, Copy, Debug, PartialEq, Eq)]
+#[derive(Clone, Copy)]
 pub struct NoteHead {
     /// The size of the note's name in bytes, its ending NUL counted, at 0.
     pub namesz: u32,

@@ -8,7 +8,7 @@ use bitflags::{Flag, Flags, bitflag_items};
 /// A set of parts of a listing, as the number of its bits: HEADER 1, SECTIONS 2, SEGMENTS 4,
 /// SYMBOLS 8, RELOCS 16, NOTES 32, DYNAMIC 64, and in listings of the GNU system VERSIONS 128.
 /// Other bits have no meaning and are ignored.
-#[derive(Clone, Copy, Debug, PartialEq, Eq)]
+#[derive(Clone, Copy)]
 pub struct Parts(pub u16);
 
 bitflag_items! {

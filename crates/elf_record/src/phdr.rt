@@ -5,7 +5,7 @@ use crate::fields::{put_u32, put_u64, u32_at, u64_at};
 use arrayvec::ArrayVec;
 
 /// A program header of an ELF64 file, 56 bytes (gABI 5, Program Header).
-#[derive(Clone, Copy, Debug, PartialEq, Eq)]
+#[derive(Clone, Copy)]
 pub struct Phdr {
     /// The segment's type, at 0.
     pub p_type: u32,

@@ -5,7 +5,7 @@ use crate::fields::{put_u32, put_u64, u32_at, u64_at};
 use arrayvec::ArrayVec;
 
 /// A section header of an ELF64 file, 64 bytes (gABI 4, Section Header).
-#[derive(Clone, Copy, Debug, PartialEq, Eq)]
+#[derive(Clone, Copy)]
 pub struct Shdr {
     /// The offset of the section's name in the section name string table, at 0.
     pub sh_name: u32,

@@ -6,7 +6,7 @@ use crate::numbers::{SHN_ABS, SHN_COMMON, SHN_LORESERVE, SHN_UNDEF};
 use arrayvec::ArrayVec;
 
 /// A symbol of an ELF64 file, 24 bytes (gABI 4, Symbol Table).
-#[derive(Clone, Copy, Debug, PartialEq, Eq)]
+#[derive(Clone, Copy)]
 pub struct Sym {
     /// The offset of the symbol's name in the string table, at 0.
     pub st_name: u32,
@@ -23,7 +23,7 @@ pub struct Sym {
 }
 
 /// Where a symbol is defined (gABI 4, Special Section Indexes).
-#[derive(Clone, Copy, Debug, PartialEq, Eq)]
+#[derive(Clone, Copy)]
 pub enum Place {
     /// Not in this file: the index 0.
     Undefined,

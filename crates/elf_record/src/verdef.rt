@@ -7,7 +7,7 @@ use arrayvec::ArrayVec;
 /// A version definition, 20 bytes (Linux Standard Base Core, Symbol Versioning).
 ///
 /// Its names stand apart from it.
-#[derive(Clone, Copy, Debug, PartialEq, Eq)]
+#[derive(Clone, Copy)]
 pub struct Verdef {
     /// The version of its layout, which is 1, at 0.
     pub vd_version: u16,

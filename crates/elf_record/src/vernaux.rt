@@ -5,7 +5,7 @@ use crate::fields::{put_u16, put_u32, u16_at, u32_at};
 use arrayvec::ArrayVec;
 
 /// A version that is needed of a file, 16 bytes (Linux Standard Base Core, Symbol Versioning).
-#[derive(Clone, Copy, Debug, PartialEq, Eq)]
+#[derive(Clone, Copy)]
 pub struct Vernaux {
     /// The hash of its name, at 0.
     pub vna_hash: u32,

@@ -7,7 +7,7 @@ use arrayvec::ArrayVec;
 /// A file of which versions are needed, 16 bytes (Linux Standard Base Core, Symbol Versioning).
 ///
 /// Its versions stand apart from it.
-#[derive(Clone, Copy, Debug, PartialEq, Eq)]
+#[derive(Clone, Copy)]
 pub struct Verneed {
     /// The version of its layout, which is 1, at 0.
     pub vn_version: u16,

@@ -8,7 +8,7 @@ use elf_record::numbers::{SHT_DYNAMIC, SHT_RELA};
 use elf_table::holds_symbols;
 
 /// A kind of rows that a section may have.
-#[derive(Clone, Copy, Debug, PartialEq, Eq)]
+#[derive(Clone, Copy)]
 pub enum Kind {
     /// Symbols, of a section of type SYMTAB or DYNSYM (gABI 4, Symbol Table).
     Symbols,

@@ -20,7 +20,7 @@ use std::marker::Model;
 const PIECE: usize = 64;
 
 /// How a name that was read ends.
-#[derive(Clone, Copy, Debug, PartialEq, Eq)]
+#[derive(Clone, Copy, PartialEq, Eq)]
 pub enum NameEnd {
     /// The name is whole.
     Whole,
@@ -29,7 +29,7 @@ pub enum NameEnd {
 }
 
 /// A string table, somewhere in a file (gABI 4, String Table). It holds no bytes.
-#[derive(Clone, Copy, Debug, PartialEq, Eq)]
+#[derive(Clone, Copy)]
 pub struct Names {
     at: u64,
     size: u64,

@@ -13,7 +13,7 @@ use elf_source::{Counted, Source};
 use std::marker::Model;
 
 /// A table of rows of one size, somewhere in a file. It holds no bytes.
-#[derive(Clone, Copy, Debug, PartialEq, Eq)]
+#[derive(Clone, Copy)]
 pub struct Table {
     at: u64,
     count: u64,

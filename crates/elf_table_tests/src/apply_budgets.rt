@@ -48,7 +48,7 @@ fn check_refused(rt: &impl Abort, layout: &Layout, store: &mut HeaderStore, row:
     let (answer, asked, bytes) = limited(rt, layout, store, budget);
     let cause = Cause::Budget;
     assert!(rt;
-        answer == Err(Stop::Refused(Refusal { at, cause })),
+        answer.err() == Some(Stop::Refused(Refusal { at, cause })),
         "{budget} bytes"
     );
     assert!(rt; asked == wanted, "{budget} bytes");

@@ -34,7 +34,7 @@ fn a_fault_in_any_page_names_its_offset(rt: HostRuntime) -> Result<(), Fail> {
         let file = three_pages(count);
         let answer = open(&mut Counted::new(Planned::new(&file, failing)), &mut store);
         assert!(rt;
-            answer == Err(Fault::Source { fault, at }),
+            answer.err() == Some(Fault::Source { fault, at }),
             "{count}, {failing}"
         );
     }

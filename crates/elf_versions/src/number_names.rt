@@ -20,7 +20,7 @@ const NUMBERS: usize = 1024;
 pub const NUMBER_NAMES_BYTES: usize = 8 * NUMBERS;
 
 /// Where the name of a number is.
-#[derive(Clone, Copy, Debug, PartialEq, Eq)]
+#[derive(Clone, Copy, PartialEq, Eq)]
 pub enum NameAt {
     /// No record names the number.
     Nowhere,

@@ -10,7 +10,7 @@ const BASE: u16 = 1;
 
 /// A record of definitions or needs (Linux Standard Base Core, Symbol Versioning). A needed file has
 /// no number, no flags and no hash: these are 0.
-#[derive(Clone, Copy, Debug, PartialEq, Eq)]
+#[derive(Clone, Copy)]
 pub struct VersionRecord {
     /// What it is.
     pub kind: VersionKind,

@@ -7,7 +7,7 @@ ghost use Rattle.elf_wanted.specs.Wants.{asked_of, the_wanted};
 const AT_SIGN: u8 = b'@';
 
 /// Which version of a symbol is asked for.
-#[derive(Clone, Copy, Debug, PartialEq, Eq)]
+#[derive(Clone, Copy)]
 pub enum Asked<'a> {
     /// The one that a name alone takes: a version that is not hidden, or none.
     NoVersion,
@@ -18,7 +18,7 @@ pub enum Asked<'a> {
 }
 
 /// A symbol that is looked up, by its name and its version.
-#[derive(Clone, Copy, Debug, PartialEq, Eq)]
+#[derive(Clone, Copy)]
 pub struct Wanted<'a> {
     /// The name of the symbol.
     pub name: &'a [u8],

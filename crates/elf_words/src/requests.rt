@@ -60,7 +60,7 @@ pub enum Task<'a> {
 }
 
 /// A name that can be looked for, of 1 to 4,096 bytes, none of them NUL.
-#[derive(Clone, Copy, Debug, PartialEq, Eq)]
+#[derive(Clone, Copy)]
 pub struct Wanted<'a> {
     /// The name's bytes.
     pub bytes: &'a [u8],
@@ -70,7 +70,7 @@ pub struct Wanted<'a> {
 
 /// A symbol that can be looked up as a loader of the GNU system does it: a text NAME, NAME@VERSION or
 /// NAME@@VERSION of 1 to 4,096 bytes, none of them NUL, with no empty name and no empty version.
-#[derive(Clone, Copy, Debug, PartialEq, Eq)]
+#[derive(Clone, Copy)]
 pub struct WantedSymbol<'a> {
     /// The bytes of the text.
     pub text: &'a [u8],
