@@ -1,22 +1,25 @@
 -- The loop of a listing over a cursor's rows.
-use Rattle.std.proofs.Common.{◌≡◌, ℕ, ◌+◌, ◌*◌, ◌<◌, ◌≤◌, List, [], Option, None, Some, refl, sym, ap, ◌∙◌, arith, zero-add}
+use Rattle.std.proofs.Common.{◌≡◌, ℕ, ◌+◌, ◌*◌, ◌<◌, ◌≤◌, List, [], Option, None, Some, Err, refl, sym, ap, ◌∙◌, arith, zero-add}
 use Rattle.elf_model.specs.Bytes.{slice}
 use Rattle.elf_model.specs.Cost.{sum_over}
 use Rattle.elf_model.specs.Listing.{Item, each}
 use Rattle.elf_model.proofs.CostLemmas.{last_cost, sums_grow}
 use Rattle.elf_source.specs.Output.{Written}
-use Rattle.elf_headers.specs.Faults.{IsAt}
+use Rattle.elf_source.specs.Source.{Counting, Reads}
+use Rattle.elf_names.specs.Ahead.{Spends}
+use Rattle.elf_names.proofs.SpendsLaws.{Spends-then, Spends-to}
+use Rattle.elf_headers.specs.Faults.{IsAt, Says}
 use Rattle.elf_table.specs.Cursors.{Reading, GivesRow, HoldsRows, unread_bytes, next_row, ShowsRow}
 use Rattle.elf_table.specs.Tables.{Rows, size_of}
 use Rattle.elf_headers.specs.declared.fault.Fault.{Fault}
 use Rattle.elf_table.specs.declared.row.Row.{Row}
 use Rattle.elf_listing.specs.Kinds.{row_size, own_cost, rows_cost, IsRowOf}
-use Rattle.elf_listing.specs.Shows.{WroteItems, Stopped}
+use Rattle.elf_listing.specs.Shows.{Spent, Stopped, WroteItems}
 use Rattle.elf_headers.specs.Stops.{stop_of}
 use Rattle.elf_listing.specs.declared.rows.Kind.{Kind}
 use Rattle.elf_headers.specs.declared.stop.Stop.{Stop}
 use Rattle.elf_listing.proofs.EachLaws.{each-none, each-more, each-front}
-use Rattle.elf_listing.proofs.ShowLaws.{Whole-none, Whole-then, Stopped-then, Stopped-more, Stopped-unread}
+use Rattle.elf_listing.proofs.ShowLaws.{Spent-fault, StopSays-then, Whole-none, Whole-then, Stopped-then, Stopped-more, Stopped-unread}
 
 -- no row was shown yet
 pub rows_none : (row : ℕ → List Item) (i : ℕ) (a : Written) → i ≡ 0 → WroteItems a a (each row 0 i)
@@ -58,6 +61,18 @@ pub account_row : (old new : Reading) (before after own bound : ℕ) → new.lef
     → before + (unread_bytes old + old.left * own) ≤ bound → after + own ≤ bound
 account_row old new before after own bound less step within =
     let product = ap (λ (n : ℕ). n * own) less in omega arith
+
+-- a row stopped, and what it might ask for was left in the bound
+pub spent_stopped : (a b c : Counting) (out : Written) (x y z : ℕ) (stop : Stop) (n m k : ℕ) → b.asked + y + m ≤ a.asked + (x + k)
+    → Spends a b x y n → Spent {X = Unit {0}} b c out y z (Err stop) m → Spent {X = Unit {0}} a c out x z (Err stop) k
+spent_stopped a b c out x y z stop n m k within p q =
+    (Spends-to (Spends-then p q.0) (omega (arith, q.0.account)), StopSays-then a b c out stop (x + n) (y + m) (x + k) (omega arith) p.reads q.1)
+
+-- a read failed before the next row, and what it might ask for was left in the bound
+pub spent_unread : (a b c : Counting) (out : Written) (x y : ℕ) (fault : Fault) (n m k : ℕ) → b.asked + y + m ≤ a.asked + (x + k)
+    → Spends a b x y n → Reads b c m → Says b c m fault → Spent {X = Unit {0}} a c out x y (Err (stop_of fault)) k
+spent_unread a b c out x y fault n m k within p reads says =
+    spent_stopped a b c out x y y (stop_of fault) n m k within p (Spent-fault b c out y fault m m (omega arith) reads says)
 
 -- the index of the row that a step gave
 pub given_index : {holds : Option (List ℕ)} {old new : Reading} {row : Row} → GivesRow holds old new → ShowsRow new row → row.index ≡ old.index

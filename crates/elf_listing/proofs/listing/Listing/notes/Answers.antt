@@ -6,6 +6,7 @@ use Rattle.elf_model.specs.Notes.{note_align}
 use Rattle.elf_names.proofs.HeldLaws.{still_held}
 use Rattle.elf_names.proofs.SpendsLaws.{Spends-none, Spends-reads, Spends-then, Spends-to}
 use Rattle.elf_headers.proofs.OpenLaws.{still_open}
+use Rattle.elf_listing.proofs.LoopLaws.{spent_stopped, spent_unread}
 use Rattle.elf_listing.proofs.ViewedLaws.{still_viewed}
 use Rattle.elf_listing.specs.Notes.{note_items}
 use Rattle.elf_listing.proofs.NotesShown.{all_left, before_all, before_more, before_stopped, before_fault, before_none, note_left, note_of, table_rows}
@@ -35,8 +36,17 @@ notes-init g c =
 pub returns-in_err-advance : goal.returns-in_err-advance
 returns-in_err-advance g c = record {
   grows = c.notes.invariant.grows;
-  keeps = search rules;
-  spent = search rules;
+  keeps = record {
+    same_src = c.notes.invariant.keeps.same_src;
+    same_out = c.notes.invariant.keeps.same_out;
+    same_file = c.notes.invariant.keeps.same_file;
+    same_style = c.notes.invariant.keeps.same_style;
+  };
+  spent =
+      let p = err_from_is_err_and c.from_residual.result c.from_residual.ensures.1 in
+      let known = c.notes.invariant in
+      let asks = c.in_err-advance.ensures.asks in
+      rw (p.1, p.2) (spent_unread _ _ _ _ _ _ _ _ _ _ known.asked known.spends asks.reads (asks.says known.not_failed));
   shows = λ file held.
       let p = err_from_is_err_and c.from_residual.result c.from_residual.ensures.1 in
       let known = c.notes.invariant in
@@ -49,8 +59,21 @@ returns-in_err-advance g c = record {
 pub returns-in_err-note_row : goal.returns-in_err-note_row
 returns-in_err-note_row g c = record {
   grows = grows_then c.notes.invariant.grows c.in_err-note_row.ensures.grows;
-  keeps = search rules;
-  spent = search rules;
+  keeps =
+      let known = c.notes.invariant.keeps in
+      let lists = c.in_err-note_row.ensures.keeps in
+      record {
+        same_src = lists.same_src ∙ known.same_src;
+        same_out = lists.same_out ∙ known.same_out;
+        same_file = lists.same_file ∙ known.same_file;
+        same_style = lists.same_style ∙ known.same_style;
+      };
+  spent =
+      let p = err_from_is_err_and c.from_residual-in_err-note_row.result c.from_residual-in_err-note_row.ensures.1 in
+      let known = c.notes.invariant in
+      let account = c.in_ok-advance.ensures.keeps.moves.account in
+      let before = Spends-then known.spends (Spends-reads c.notes.self.ahead.credit c.in_ok-advance.ensures.asks.reads) in
+      rw (p.1, p.2) (spent_stopped _ _ _ _ _ _ _ _ _ _ _ (omega (arith, known.asked, account)) before c.in_err-note_row.ensures.spent);
   shows = λ file held.
       let p = err_from_is_err_and c.from_residual-in_err-note_row.result c.from_residual-in_err-note_row.ensures.1 in
       let known = c.notes.invariant in
