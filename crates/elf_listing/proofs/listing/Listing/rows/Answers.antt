@@ -2,15 +2,13 @@
 use Rattle.elf_headers.specs.Permitted.{style_of}
 use Rattle.std.proofs.Common.{rules, ◌≡◌, ◌+◌, ◌<◌, refl, ◌∙◌, arith}
 use Rattle.std.proofs.lemmas.Result.{err_from_is_err_and}
-use Rattle.elf_source.proofs.ReadsLaws.{Reads-then}
 use Rattle.elf_names.proofs.HeldLaws.{still_held}
 use Rattle.elf_names.proofs.SpendsLaws.{Spends-none, Spends-reads, Spends-then, Spends-to}
 use Rattle.elf_headers.proofs.OpenLaws.{still_open}
 use Rattle.elf_listing.proofs.ViewedLaws.{still_viewed}
 use Rattle.elf_listing.specs.Kinds.{own_cost, row_items}
 use Rattle.elf_listing.specs.RowCursors.{reading, rows_listed}
-use Rattle.elf_listing.proofs.LoopLaws.{rows_none, rows_more, rows_unread, rows_stopped, account_begins, account_step, account_row, agrees_none, given_index, given_row}
-use Rattle.elf_listing.proofs.ShowLaws.{StopSays-then}
+use Rattle.elf_listing.proofs.LoopLaws.{rows_none, rows_more, rows_unread, rows_stopped, account_begins, account_step, account_row, agrees_none, given_index, given_row, spent_stopped, spent_unread}
 use Rattle.elf_source.proofs.GrowthLaws.{grows_not, grows_then}
 use Rattle.elf_listing.proofs.listing.Listing.rows.Goals as goal
 
@@ -33,8 +31,17 @@ rows-init g c =
 pub returns-in_err-advance : goal.returns-in_err-advance
 returns-in_err-advance g c = record {
   grows = c.rows.invariant.grows;
-  keeps = search rules;
-  spent = search rules;
+  keeps = record {
+    same_src = c.rows.invariant.keeps.same_src;
+    same_out = c.rows.invariant.keeps.same_out;
+    same_file = c.rows.invariant.keeps.same_file;
+    same_style = c.rows.invariant.keeps.same_style;
+  };
+  spent =
+      let p = err_from_is_err_and c.from_residual.result c.from_residual.ensures.1 in
+      let known = c.rows.invariant in
+      let e = c.in_err-advance.ensures in
+      rw (p.1, p.2) (spent_unread _ _ _ _ _ _ _ _ _ _ (omega (arith, known.asked)) known.spends e.reads (e.says known.not_failed));
   shows = λ file held of_kind.
       let p = err_from_is_err_and c.from_residual.result c.from_residual.ensures.1 in
       let known = c.rows.invariant in
@@ -60,12 +67,8 @@ returns-in_err-row g c = record {
       let own = own_cost c.args.kind.now c.args.self.now.style.cap.bytes in
       let credit = c.rows.self.ahead.credit in
       let within = account_row (reading c.rows.cursor) (reading c.advance.new.self) _ (c.advance.new.src.asked + credit) own _ gives.one_less (omega (arith, account)) known.asked in
-      let says = rw known.keeps.same_style at c.in_err-row.ensures.spent.1 in
-      let asks = rw known.keeps.same_style at c.in_err-row.ensures.spent.0 in
-      rw (p.1, p.2) (
-        Spends-to (Spends-then known.spends (Spends-then (Spends-reads credit reads) asks)) (omega (arith, within, asks.account)),
-        StopSays-then _ _ _ _ _ _ _ _ (omega (arith, within)) (Reads-then known.spends.reads reads) says,
-      );
+      let before = Spends-then known.spends (Spends-reads credit reads) in
+      rw (p.1, p.2) (spent_stopped _ _ _ _ _ _ _ _ _ _ _ within before (rw known.keeps.same_style at c.in_err-row.ensures.spent));
   shows = λ file held of_kind.
       let p = err_from_is_err_and c.from_residual-in_err-row.result c.from_residual-in_err-row.ensures.1 in
       let known = c.rows.invariant in
