@@ -1,5 +1,5 @@
 -- The symbol that a relocation entry names, by what the file's sections answer.
-use Rattle.std.proofs.Common.{◌≡◌, ℕ, ◌+◌, ◌*◌, ◌<◌, ◌≤◌, ◌==◌, nat_lt, true, false, List, Result, Err, refl, sym, ap, ◌∙◌, subst, arith}
+use Rattle.std.proofs.Common.{◌≡◌, ℕ, ◌+◌, ◌*◌, ◌<◌, ◌≤◌, ◌==◌, nat_lt, true, false, List, Result, Ok, Err, IfErr, refl, sym, ap, ◌∙◌, subst, arith}
 use Rattle.std.proofs.lemmas.Bool.{lt-ltb, le-ltb}
 use Rattle.elf_model.specs.Bytes.{slice}
 use Rattle.elf_model.specs.Names.{Shown, shown}
@@ -8,12 +8,20 @@ use Rattle.elf_model.specs.Rows.{no_name, symbol_named}
 use Rattle.elf_model.specs.Tables.{linked_at, entry_at, entry_count, has_symbols, strings_of}
 use Rattle.elf_model.specs.declared.causes.Cause.{Cause}
 use Rattle.elf_model.specs.declared.causes.Cause.TheVariants.{BadLink, SymbolIndex}
+use Rattle.elf_source.specs.Source.{Counting, Reads}
+use Rattle.elf_headers.specs.Faults.{Says}
 use Rattle.elf_table.specs.Tables.{Rows, Strings}
 use Rattle.elf_table.specs.Relocations.{AreSymbols}
 use Rattle.elf_table.specs.Cursors.{row_at}
 use Rattle.elf_table.specs.NamesRead.{NameRead}
 use Rattle.elf_headers.specs.declared.fault.Fault.{Fault}
 use Rattle.elf_table.specs.declared.names.NameEnd.{NameEnd}
+use Rattle.elf_listing.proofs.VersionedCosts.{Says-account}
+
+-- what a fault says where there is one, behind reads, in a bound on what is asked for by both
+pub says_behind : {X : Type 0} (a b c : Counting) (result : Result X Fault) (n m k : ℕ) → b.asked + m ≤ a.asked + k → Reads a b n → IfErr result (Says b c m) → IfErr result (Says a c k)
+says_behind a b c (Ok x) n m k within p q = tt
+says_behind a b c (Err fault) n m k within p q = Says-account a b c fault n m k within p q
 
 -- what is read of a name, where another offset and name are the same
 pub read_as : (p q : ℕ × Result Shown Cause) (result : Result NameEnd Fault) (name : List ℕ) → p ≡ q → NameRead q.0 result name q.1 → NameRead p.0 result name p.1
