@@ -1,6 +1,6 @@
 -- The load's checks stand before the tables, and what is asked for is added up.
 use Rattle.elf_headers.specs.Permitted.{style_of}
-use Rattle.std.proofs.Common.{rules, ◌≡◌, true, false, sym, ap, arith, ◌∙◌}
+use Rattle.std.proofs.Common.{◌≡◌, true, false, sym, ap, arith, ◌∙◌}
 use Rattle.std.proofs.lemmas.Result.{err_from_is_err_and}
 use Rattle.elf_model.specs.Listing.{has_tables}
 use Rattle.elf_model.proofs.ListingLemmas.{load_none}
@@ -17,7 +17,7 @@ use Rattle.elf_listing.proofs.showing.list_loaded.Goals as goal
 
 pub returns-then-not-intersects-clause-text : goal.returns-then-not-intersects-clause-text
 returns-then-not-intersects-clause-text g c = λ file held.
-    let none : has_tables c.args.parts.0 ≡ false = search rules in
+    let none : has_tables c.args.parts.0 ≡ false = sym (c.intersects.ensures tt) ∙ c.if-not-intersects.true in
     rw (load_none file c.args.store.now.slots (style_of c.args.style) c.args.parts.0 none) (Whole-none _)
 
 pub returns-in_err-loaded-clause-below : goal.returns-in_err-loaded-clause-below
@@ -29,7 +29,7 @@ returns-in_err-loaded-clause-below g c =
 pub returns-in_err-loaded-clause-cost : goal.returns-in_err-loaded-clause-cost
 returns-in_err-loaded-clause-cost g c = λ file held.
     let p = err_from_is_err_and c.from_residual.result c.from_residual.ensures.1 in
-    let tables : has_tables c.args.parts.0 ≡ true = search rules in
+    let tables : has_tables c.args.parts.0 ≡ true = sym (c.intersects.ensures tt) ∙ c.if-not-intersects.false in
     let read = c.requires.header file held in
     let sized = sym (c.args.src.now.seen.sized file held) in
     rw (p.1, p.2) (Costs-fault _ _ _ _ _ _ (load_within file c.args.header.now c.args.src.now.seen.size c.args.store.now.slots c.args.style.cap.bytes c.args.parts.0 read.1 sized read.0 tables) c.load.ensures.reads c.in_err-loaded.ensures.says)
@@ -37,15 +37,15 @@ returns-in_err-loaded-clause-cost g c = λ file held.
 pub returns-in_err-loaded-clause-text : goal.returns-in_err-loaded-clause-text
 returns-in_err-loaded-clause-text g c = λ file held.
     let p = err_from_is_err_and c.from_residual.result c.from_residual.ensures.1 in
-    let tables : has_tables c.args.parts.0 ≡ true = search rules in
+    let tables : has_tables c.args.parts.0 ≡ true = sym (c.intersects.ensures tt) ∙ c.if-not-intersects.false in
     rw (p.1, p.2) (Stopped-first _ _ _ (load_alone file c.args.store.now.slots (style_of c.args.style) c.args.parts.0 _ _ (c.in_err-loaded.ensures.held file held (c.requires.header file held).1) c.load.ensures.slots tables))
 
 pub load_view-requires : goal.load_view-requires
 load_view-requires g c =
     let opens = c.in_ok-loaded.ensures.opens in
     record {
-      whole = search rules;
-      none = search rules;
+      whole = opens.count ∙ sym (ap (λ (header : Ehdr). header.e_shnum) opens.same_header);
+      none = c.load.ensures.segments;
       room = rw opens.same_header opens.passes.few_segments;
       within = let within = opens.passes.segments in rw (opens.same_header, c.load.ensures.reads.keeps.same_size) (λ some. let inside = within some in omega (arith, inside));
     }
@@ -65,7 +65,7 @@ returns-in_err-load_view-clause-below g c =
 pub returns-in_err-load_view-clause-cost : goal.returns-in_err-load_view-clause-cost
 returns-in_err-load_view-clause-cost g c = λ file held.
     let p = err_from_is_err_and c.from_residual-in_err-load_view.result c.from_residual-in_err-load_view.ensures.1 in
-    let tables : has_tables c.args.parts.0 ≡ true = search rules in
+    let tables : has_tables c.args.parts.0 ≡ true = sym (c.intersects.ensures tt) ∙ c.if-not-intersects.false in
     let read = c.requires.header file held in
     let belongs = c.in_ok-loaded.ensures.held file held read.1 in
     let within = view_within file c.in_ok-loaded.loaded c.load.new.store c.args.store.now.slots c.args.style.cap.bytes c.args.parts.0 belongs c.load.ensures.slots read.0 tables in
@@ -82,16 +82,17 @@ returns-in_err-load_view-clause-text g c = λ file held.
 pub list_tables-requires : goal.list_tables-requires
 list_tables-requires g c =
     let reads = Reads-then c.load.ensures.reads c.load_view.ensures.reads in
+    let opens = c.in_ok-loaded.ensures.opens in
     record {
       opened = record {
-        size = c.in_ok-loaded.ensures.opens.same_size ∙ sym reads.keeps.same_size;
+        size = opens.same_size ∙ sym reads.keeps.same_size;
         belongs = λ file held.
             let before = sym reads.keeps.same_file ∙ held in
             let loaded = sym c.load_view.ensures.reads.keeps.same_file ∙ held in
             (c.in_ok-load_view.ensures.held file loaded (c.in_ok-loaded.ensures.held file before (c.requires.header file before).1)).0;
       };
-      whole = search rules;
-      counted = search rules;
+      whole = c.load_view.ensures.loaded ∙ (opens.count ∙ sym (ap (λ (header : Ehdr). header.e_shnum) opens.same_header));
+      counted = c.in_ok-load_view.ensures.segments;
       viewed = record {
         all = viewed_all c.args.parts.0 c.in_ok-loaded.loaded c.load_view.new.store c.in_ok-load_view.ensures.segments;
         held = λ file held.
@@ -116,7 +117,7 @@ returns-clause-below g c =
 
 pub returns-clause-cost : goal.returns-clause-cost
 returns-clause-cost g c = λ file held.
-    let tables : has_tables c.args.parts.0 ≡ true = search rules in
+    let tables : has_tables c.args.parts.0 ≡ true = sym (c.intersects.ensures tt) ∙ c.if-not-intersects.false in
     let read = c.requires.header file held in
     let loaded = c.load.ensures.reads.keeps.same_file ∙ held in
     let both = c.in_ok-load_view.ensures.held file loaded (c.in_ok-loaded.ensures.held file held read.1) in
@@ -130,7 +131,7 @@ returns-clause-cost g c = λ file held.
 
 pub returns-clause-text : goal.returns-clause-text
 returns-clause-text g c = λ file held.
-    let tables : has_tables c.args.parts.0 ≡ true = search rules in
+    let tables : has_tables c.args.parts.0 ≡ true = sym (c.intersects.ensures tt) ∙ c.if-not-intersects.false in
     let belongs = c.in_ok-loaded.ensures.held file held (c.requires.header file held).1 in
     let reads = Reads-then c.load.ensures.reads c.load_view.ensures.reads in
     Writes-as _ _ _ (load_passed file c.args.store.now.slots _ (style_of c.args.style) c.args.parts.0 belongs.passes c.load.ensures.slots tables)
