@@ -10,9 +10,12 @@ use Rattle.elf_model.specs.VersionCost.{is_inside, walk_cost}
 use Rattle.elf_model.specs.Tables.{all_checks}
 use Rattle.elf_model.specs.VersionRows.{first_of_type, version_table}
 use Rattle.elf_model.specs.Versions.{most_records, record_size}
+use Rattle.elf_names.specs.Ahead.{Spends}
 use Rattle.elf_names.proofs.HeldLaws.{still_held}
 use Rattle.elf_names.proofs.SpendsLaws.{Spends-none, Spends-reads, Spends-then, Spends-to}
+use Rattle.elf_source.specs.Source.{Counting}
 use Rattle.elf_source.proofs.ReadsLaws.{Reads-none}
+use Rattle.elf_table.specs.Tables.{Strings, StringsWithin}
 use Rattle.elf_versions.specs.Reading.{bytes_each}
 use Rattle.elf_versions.proofs.WordLaws.{none-of}
 use Rattle.elf_listing.specs.Parts.{store_sections}
@@ -23,10 +26,18 @@ use Rattle.elf_listing.proofs.VersionedCosts.{Says-account, walk-cost}
 use Rattle.elf_listing.proofs.ViewedLaws.{still_viewed}
 use Rattle.elf_listing.proofs.listing.Listing.take_first.Goals as goal
 
+-- nothing was read
+spends_not : (src : Counting) (credit n : ℕ) → Spends src src credit credit n
+spends_not src credit n = Spends-none src credit credit n (omega arith)
+
+-- an empty table lies within every source
+empty_within : (size : ℕ) (names : Strings) → names ≡ record { at = 0; size = 0 } → StringsWithin size names
+empty_within size names is = rw is (λ some. omega arith)
+
 pub returns-in_default : goal.returns-in_default
 returns-in_default g c = record {
-  fetches = (record { same_src = refl; same_out = refl; same_file = refl; same_style = refl }, refl, Spends-none _ _ _ _ (omega arith), tt);
-  within = search rules;
+  fetches = (record { same_src = refl; same_out = refl; same_file = refl; same_style = refl }, refl, spends_not _ _ _, tt);
+  within = empty_within _ _ c.new.ensures;
   taken = λ file held whole records names.
       let belongs = c.args.self.now.loaded.belongs file held in
       let none : first_of_type file (kind_type c.args.kind) ≡ None =
@@ -36,8 +47,8 @@ returns-in_default g c = record {
 
 pub returns-then-header-eq0 : goal.returns-then-header-eq0
 returns-then-header-eq0 g c = record {
-  fetches = (record { same_src = refl; same_out = refl; same_file = refl; same_style = refl }, refl, Spends-none _ _ _ _ (omega arith), tt);
-  within = search rules;
+  fetches = (record { same_src = refl; same_out = refl; same_file = refl; same_style = refl }, refl, spends_not _ _ _, tt);
+  within = empty_within _ _ c.new-then-header-eq0.ensures;
   taken = λ file held whole records names.
       let belongs = c.args.self.now.loaded.belongs file held in
       let first : first_of_type file (kind_type c.args.kind) ≡ Some c.in-Some.section =
@@ -51,7 +62,7 @@ returns-in_err-table g c =
     let p = err_from_is_err_and c.from_residual.result c.from_residual.ensures.1 in
     rw (p.1, p.2)
     (record {
-      fetches = (record { same_src = refl; same_out = refl; same_file = refl; same_style = refl }, refl, Spends-none _ _ _ _ (omega arith), check-says _ _ _ _ (search rules));
+      fetches = (record { same_src = refl; same_out = refl; same_file = refl; same_style = refl }, refl, spends_not _ _ _, check-says _ _ _ _ (search rules));
       within = tt;
       taken = λ file held whole records names.
           let belongs = c.args.self.now.loaded.belongs file held in
@@ -70,7 +81,7 @@ returns-in_err-strings g c =
     let p = err_from_is_err_and c.from_residual-in_err-strings.result c.from_residual-in_err-strings.ensures.1 in
     rw (p.1, p.2)
     (record {
-      fetches = (record { same_src = refl; same_out = refl; same_file = refl; same_style = refl }, refl, Spends-none _ _ _ _ (omega arith), check-says _ _ _ _ (search rules));
+      fetches = (record { same_src = refl; same_out = refl; same_file = refl; same_style = refl }, refl, spends_not _ _ _, check-says _ _ _ _ c.in_err-strings.ensures.refusal);
       within = tt;
       taken = λ file held whole records names.
           let belongs = c.args.self.now.loaded.belongs file held in
@@ -165,7 +176,7 @@ returns g c =
         Spends-to (Spends-then (Spends-reads _ first_reads) (Spends-reads _ reads)) (omega (arith, most, account, cost)),
         tt,
       );
-      within = search rules;
+      within = rw c.args.self.now.loaded.size at c.in_ok-strings.ensures.within;
       taken = λ file held whole records names.
           let belongs = c.args.self.now.loaded.belongs file held in
           let stands = c.section-header.ensures.stands file belongs in
