@@ -1,9 +1,7 @@
 -- The loop of a listing over a cursor's rows.
-use Rattle.std.proofs.Common.{◌≡◌, ℕ, ◌+◌, ◌*◌, ◌<◌, ◌≤◌, List, [], Option, None, Some, Err, refl, sym, ap, ◌∙◌, arith, zero-add}
+use Rattle.std.proofs.Common.{◌≡◌, ℕ, ◌+◌, ◌*◌, ◌<◌, ◌≤◌, List, [], Option, None, Some, Err, refl, sym, ap, ◌∙◌, arith}
 use Rattle.elf_model.specs.Bytes.{slice}
-use Rattle.elf_model.specs.Cost.{sum_over}
 use Rattle.elf_model.specs.Listing.{Item, each}
-use Rattle.elf_model.proofs.CostLemmas.{last_cost, sums_grow}
 use Rattle.elf_source.specs.Output.{Written}
 use Rattle.elf_source.specs.Source.{Counting, Reads}
 use Rattle.elf_names.specs.Ahead.{Spends}

@@ -1,5 +1,5 @@
 -- What stopped the listing is told behind its lines.
-use Rattle.std.proofs.Common.{rules, ◌≡◌, ℕ, ap, sym, ◌∙◌, Err}
+use Rattle.std.proofs.Common.{ℕ, ap, sym, ◌∙◌}
 use Rattle.elf_source.specs.Source.{Seen}
 use Rattle.elf_model.specs.Cost.{ceiling}
 use Rattle.elf_listing.proofs.AskLaws.{asks_within, told_late, told_says}
@@ -21,7 +21,7 @@ returns-in-Ok-clause-asks g c =
 pub returns-in-Err-clause-text : goal.returns-in-Err-clause-text
 returns-in-Err-clause-text g c = λ file held.
     let now = ap (λ (seen : Seen). seen.file) c.limit.ensures.seen ∙ held in
-    let end : c.list-listed.result ≡ Err c.in-Err.stop = search rules in
+    let end = c.in-Err.is in
     let ends = rw (c.requires.0, end) at (c.list-listed.ensures.text file now) in
     let says = rw (c.requires.0, end) at (c.list-listed.ensures.cost file now).1 in
     let sized = sym (c.args.src.now.seen.sized file held) in
@@ -29,7 +29,7 @@ returns-in-Err-clause-text g c = λ file held.
 
 pub returns-in-Err-clause-asks : goal.returns-in-Err-clause-asks
 returns-in-Err-clause-asks g c =
-    let end : c.list-listed.result ≡ Err c.in-Err.stop = search rules in
+    let end = c.in-Err.is in
     let says = rw end at c.list-listed.ensures.ceiling.1 in
     let n : ℕ = ceiling c.limit.new.self.seen.size c.args.store.now.slots c.args.caps.style.cap.bytes in
     asks_within c.args.caps c.args.parts.0 c.args.src.now c.limit.new.self c.list-listed.new.src c.limit-2.new.self n _ c.requires.1 c.limit.ensures
@@ -38,7 +38,7 @@ returns-in-Err-clause-asks g c =
 
 pub returns-in-Err-clause-says : goal.returns-in-Err-clause-says
 returns-in-Err-clause-says g c =
-    let end : c.list-listed.result ≡ Err c.in-Err.stop = search rules in
+    let end = c.in-Err.is in
     let says = rw end at c.list-listed.ensures.ceiling.1 in
     told_says _ _ _ _ _ _ _ _ c.in-Err.stop _ c.limit.ensures c.limit-2.ensures c.show_stop.ensures.tells says
 

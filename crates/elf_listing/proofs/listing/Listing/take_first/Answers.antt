@@ -1,26 +1,21 @@
 -- The records of the first section are taken in, where its checks pass.
-use Rattle.std.proofs.Common.{rules, ◌≡◌, ℕ, ◌+◌, ◌*◌, ◌/◌, ◌==◌, not, true, false, List, Some, None, refl, sym, ap, ◌∙◌, arith}
+use Rattle.std.proofs.Common.{rules, ◌≡◌, ℕ, ◌==◌, true, false, Some, None, refl, sym, ap, ◌∙◌, arith}
 use Rattle.std.proofs.lemmas.Bool.{ne_eqb}
 use Rattle.std.proofs.lemmas.Result.{err_from_is_err_and}
 use Rattle.elf_headers.proofs.OpenLaws.{still_open}
-use Rattle.elf_headers.specs.Store.{row}
 use Rattle.elf_model.specs.HeaderTables.{file_sections, first_typed}
 use Rattle.elf_model.specs.Records.{section_at, sh_size}
-use Rattle.elf_model.specs.VersionCost.{is_inside, walk_cost}
 use Rattle.elf_model.specs.Tables.{all_checks}
 use Rattle.elf_model.specs.VersionRows.{first_of_type, version_table}
-use Rattle.elf_model.specs.Versions.{most_records, record_size}
 use Rattle.elf_names.specs.Ahead.{Spends}
 use Rattle.elf_names.proofs.HeldLaws.{still_held}
 use Rattle.elf_names.proofs.SpendsLaws.{Spends-none, Spends-reads, Spends-then, Spends-to}
 use Rattle.elf_source.specs.Source.{Counting}
 use Rattle.elf_source.proofs.ReadsLaws.{Reads-none}
 use Rattle.elf_table.specs.Tables.{Strings, StringsWithin}
-use Rattle.elf_versions.specs.Reading.{bytes_each}
 use Rattle.elf_versions.proofs.WordLaws.{none-of}
-use Rattle.elf_listing.specs.Parts.{store_sections}
 use Rattle.elf_listing.specs.Versions.{kind_type}
-use Rattle.elf_listing.proofs.FirstTaken.{check-says, empty-section, no-section, not-cut, not-refused, of-read, taken-all, taken-none, walk-asks}
+use Rattle.elf_listing.proofs.FirstTaken.{check-says, empty-section, no-section, not-cut, not-refused, of-read, taken-all, taken-none}
 use Rattle.elf_listing.proofs.VersionSections.{found, outside, unnamed}
 use Rattle.elf_listing.proofs.VersionedCosts.{Says-account, walk-cost}
 use Rattle.elf_listing.proofs.ViewedLaws.{still_viewed}

@@ -1,5 +1,5 @@
 -- The checks of the section stand before its records.
-use Rattle.std.proofs.Common.{rules, ◌≡◌, ◌*◌, ◌+◌, ◌/◌, ◌==◌, false, refl, sym, ap, ◌∙◌, arith}
+use Rattle.std.proofs.Common.{rules, ◌≡◌, ◌*◌, ◌+◌, ◌/◌, ◌==◌, false, refl, sym, ◌∙◌, arith}
 use Rattle.std.proofs.lemmas.Bool.{eq-eqb, ne_eqb}
 use Rattle.std.proofs.lemmas.Result.{err_from_is_err_and}
 use Rattle.elf_headers.specs.Permitted.{style_of}
@@ -48,7 +48,7 @@ returns-in_err-table g c =
 pub returns-in_err-names : goal.returns-in_err-names
 returns-in_err-names g c =
     let p = err_from_is_err_and c.from_residual-in_err-names.result c.from_residual-in_err-names.ensures.1 in
-    rw (p.1, p.2) (Lists-refused _ _ _ _ (search rules) (λ file held.
+    rw (p.1, p.2) (Lists-refused _ _ _ _ c.in_err-names.ensures.refusal (λ file held.
     let belongs = c.args.self.now.loaded.belongs file held in
     let stands = c.section-header.ensures.stands file belongs in
     let at = section_at file c.args.section in
