@@ -10,7 +10,7 @@ use Rattle.elf_table.specs.Cursors.{Reading, GivesRow, unread_bytes}
 use Rattle.elf_headers.specs.Store.{row}
 use Rattle.elf_table.specs.Relocations.{Relocates}
 use Rattle.elf_table.specs.Sections.{table_of}
-use Rattle.elf_table.specs.Tables.{Rows}
+use Rattle.elf_table.specs.Tables.{Rows, RowsWithin}
 use Rattle.elf_apply.proofs.Opened.{entries_counted}
 use Rattle.elf_source.specs.Source.{Counting, Reads}
 use Rattle.elf_source.proofs.ReadsLaws.{Reads-to}
@@ -18,7 +18,7 @@ use Rattle.elf_headers.specs.Load.{section_place}
 use Rattle.elf_headers.specs.declared.fault.Fault.{Fault}
 use Rattle.elf_headers.specs.declared.fault.Fault.TheVariants.{Refused, Source}
 use Rattle.elf_apply.specs.Entries.{target_as, patch_as, Changes, Refers}
-use Rattle.elf_apply.specs.Walk.{changes_from, rows_changes, changes_left, changes_all, beside_entry_cost, entry_count_in, entries_from, sections_of, walk_left, walk_all, Walked, ReadsEntries}
+use Rattle.elf_apply.specs.Walk.{changes_from, rows_changes, changes_left, changes_all, beside_entry_cost, entry_count_in, entries_from, sections_of, steps_left, walk_left, walk_all, Walked, ReadsEntries}
 use Rattle.elf_apply.specs.declared.entry.Placed.{Placed}
 use Rattle.elf_apply.specs.declared.entry.Target.{Target as TargetCode}
 use Rattle.elf_apply.specs.declared.walk.Entries.{Entries}
@@ -144,7 +144,20 @@ pub cost-opened :
 unfolding walk_left
 cost-opened target old new f u step below counted = grind (arith, entries-next)
 
--- the steps that are left
+pub cost-passed : (target : TargetCode) (old new : Entries) → new.cursor ≡ old.cursor → new.next ≡ old.next + 1 → old.next < sections_of target → walk_left target new ≤ walk_left target old
+unfolding walk_left
+cost-passed target old new same step below = grind (arith, entries-next)
+
+-- the steps that are left: a section was passed, and has no more rows than the file has bytes
+pub rows-few : (size : ℕ) (table : Rows) → table.entry ≡ 24 → RowsWithin size table → table.count ≤ size
+rows-few size table entry within = grind arith
+
+pub steps-passed : (target : TargetCode) (old new : Entries) → new.next ≡ old.next + 1 → old.next < sections_of target → new.cursor.left ≤ target.file.loaded.size → steps_left target new < steps_left target old
+unfolding steps_left
+steps-passed target old new step below few =
+    let n : sections_of target - old.next ≡ suc (sections_of target - new.next) = omega arith in
+    rw n (omega arith)
+
 -- what the walk holds refers to the symbols of its section
 refers_here : (file : List ℕ) (target : TargetCode) (new : Entries) (section : ℕ) → new.current ≡ section → Refers file target (section_at file section) new.symbols → Refers file target (section_at file new.current) new.symbols
 refers_here file target new section here h = let P : ℕ → Type 0 = λ k. Refers file target (section_at file k) new.symbols in subst P (sym here) h
@@ -205,6 +218,3 @@ pub same-walked : (file : List ℕ) (target : TargetCode) (old new : Entries) (c
 same-walked file target old new cursor result same walked reads =
     let P : Reading → Type 0 = λ c. (let now : Entries = record { cursor = c; symbols = old.symbols; current = old.current; next = old.next; count = old.count } in ReadsEntries file target now → Walked file target now new result) in
     subst P same walked (record { agrees = reads.agrees; links = reads.links; placed = reads.placed })
-
--- how many entries are left, by the next section
-pub ruleset counted = (entries-next, entries-end, entries-other)

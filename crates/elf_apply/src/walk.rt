@@ -120,7 +120,6 @@ impl Entries {
     }
 
     /// Goes to the next section: its entries, where it has some for the target.
-    #[tactic(auto, using(crate::proofs::WalkSteps::counted), unfolding(crate::proofs::Words::walk))]
     fn open(&mut self, target: &Target<'_>) -> Result<Step, Fault>
         requires goes { Goes target.now.file.loaded.size target.now self.old }
         requires none { self.old.cursor.left ≡ 0 }

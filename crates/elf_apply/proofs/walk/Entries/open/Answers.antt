@@ -1,13 +1,55 @@
 use Rattle.std.proofs.Common.{◌≡◌, ◌<◌, ◌+◌, ◌*◌, refl, sym, ap, ◌∙◌, arith}
 use Rattle.elf_model.specs.Records.{section_at}
+use Rattle.elf_table.specs.Tables.{Rows}
 use Rattle.elf_apply.specs.Entries.{target_as}
 use Rattle.elf_apply.specs.Walk.{sections_of}
-use Rattle.elf_apply.proofs.WalkSteps.{entries-next, entries-table, left-end, left-passed, section_none, cost-opened, opened-fault, opened-rows}
+use Rattle.elf_apply.proofs.WalkSteps.{rows-few, entries-end, entries-next, entries-other, entries-table, steps-passed, cost-passed, left-end, left-passed, section_none, cost-opened, opened-fault, opened-rows}
 use Rattle.elf_apply.proofs.walk.Entries.open.Goals as goal
+
+pub overflow_add-self-in-Ok : goal.overflow_add-self-in-Ok
+overflow_add-self-in-Ok c = omega arith
+
+pub returns-then-not-applies-clause-goes : goal.returns-then-not-applies-clause-goes
+returns-then-not-applies-clause-goes c = record {
+  not_failed = c.requires.goes.not_failed;
+  entry = c.requires.goes.entry;
+  within = c.requires.goes.within;
+  linked = c.requires.goes.linked;
+  next = omega (arith, c.if-section-sections.false, c.sections.ensures);
+  few = omega (arith, c.requires.goes.few);
+}
+
+pub returns-in-Ok-clause-goes : goal.returns-in-Ok-clause-goes
+returns-in-Ok-clause-goes c = record {
+  not_failed = c.new-self.ensures.failed;
+  entry = ap (λ (t : Rows). t.entry) c.new-self.ensures.table ∙ c.in-Ok.ensures.entry;
+  within = rw c.new-self.ensures.table c.in-Ok.ensures.within;
+  linked = c.in-Ok.ensures.linked;
+  next = omega (arith, c.if-section-sections.false, c.sections.ensures);
+  few = omega arith;
+}
+
+pub returns-then-section-sections-clause-fewer : goal.returns-then-section-sections-clause-fewer
+returns-then-section-sections-clause-fewer c = entries-end c.args.target.now c.args.self.now.next (omega (arith, c.if-section-sections.true, c.sections.ensures))
 
 pub returns-then-section-sections-clause-walked : goal.returns-then-section-sections-clause-walked
 returns-then-section-sections-clause-walked c = λ file belongs reads.
     left-end file c.args.target.now c.args.self.now c.requires.none (omega (arith, c.if-section-sections.true, c.sections.ensures))
+
+pub returns-then-not-applies-clause-fewer : goal.returns-then-not-applies-clause-fewer
+returns-then-not-applies-clause-fewer c = steps-passed c.args.target.now c.args.self.now _ refl (omega (arith, c.if-section-sections.false, c.sections.ensures)) (omega (arith, c.requires.none))
+
+pub returns-then-not-applies-clause-counts : goal.returns-then-not-applies-clause-counts
+returns-then-not-applies-clause-counts c =
+    let below : c.args.self.now.next < sections_of c.args.target.now = omega (arith, c.if-section-sections.false, c.sections.ensures) in
+    omega (
+      arith,
+      entries-next c.args.target.now c.args.self.now.next below,
+      entries-other c.args.target.now c.args.self.now.next (sym (c.applies.ensures _ 0 c.section-header.ensures.fields) ∙ c.if-not-applies.true),
+    )
+
+pub returns-then-not-applies-clause-left : goal.returns-then-not-applies-clause-left
+returns-then-not-applies-clause-left c = cost-passed c.args.target.now c.args.self.now _ refl refl (omega (arith, c.if-section-sections.false, c.sections.ensures))
 
 pub returns-then-not-applies-clause-walked : goal.returns-then-not-applies-clause-walked
 returns-then-not-applies-clause-walked c = λ file belongs reads.
@@ -16,6 +58,10 @@ returns-then-not-applies-clause-walked c = λ file belongs reads.
           (section_none (target_as file c.args.target.now) (section_at file c.args.self.now.next) (sym (c.applies.ensures file (section_at file c.args.self.now.next) stands) ∙ c.if-not-applies.true)),
       record { agrees = reads.agrees; links = reads.links; placed = reads.placed },
     )
+
+pub returns-in-Ok-clause-fewer : goal.returns-in-Ok-clause-fewer
+returns-in-Ok-clause-fewer c = steps-passed c.args.target.now c.args.self.now _ refl (omega (arith, c.if-section-sections.false, c.sections.ensures))
+    (omega (arith, c.new-self.ensures.left, rows-few c.args.target.now.file.loaded.size c.in-Ok.found.0 c.in-Ok.ensures.entry c.in-Ok.ensures.within))
 
 pub returns-in-Ok-clause-counts : goal.returns-in-Ok-clause-counts
 returns-in-Ok-clause-counts c =
@@ -42,6 +88,9 @@ returns-in-Ok-clause-walked c = λ file belongs reads.
     opened-rows file c.args.target.now c.args.self.now _ c.in-Ok.found.0 c.new-self.ensures.table c.new-self.ensures.index c.new-self.ensures.left c.new-self.ensures.held refl refl
     c.requires.none (omega (arith, c.if-section-sections.false, c.sections.ensures)) (sym (c.applies.ensures file (section_at file c.args.self.now.next) stands) ∙ c.if-not-applies.false)
     (c.in-Ok.ensures.held file belongs) refl
+
+pub returns-in-Err-clause-left : goal.returns-in-Err-clause-left
+returns-in-Err-clause-left c = cost-passed c.args.target.now c.args.self.now _ refl refl (omega (arith, c.if-section-sections.false, c.sections.ensures))
 
 pub returns-in-Err-clause-walked : goal.returns-in-Err-clause-walked
 returns-in-Err-clause-walked c = λ file belongs reads.
