@@ -13,12 +13,12 @@ use Rattle.elf_table.specs.Sections.{table_of}
 use Rattle.elf_table.specs.Tables.{Rows, RowsWithin}
 use Rattle.elf_apply.proofs.Opened.{entries_counted}
 use Rattle.elf_source.specs.Source.{Counting, Reads}
-use Rattle.elf_source.proofs.ReadsLaws.{Reads-to}
+use Rattle.elf_source.proofs.ReadsLaws.{Reads-then, Reads-to}
 use Rattle.elf_headers.specs.Load.{section_place}
 use Rattle.elf_headers.specs.declared.fault.Fault.{Fault}
 use Rattle.elf_headers.specs.declared.fault.Fault.TheVariants.{Refused, Source}
 use Rattle.elf_apply.specs.Entries.{target_as, patch_as, Changes, Refers}
-use Rattle.elf_apply.specs.Walk.{changes_from, rows_changes, changes_left, changes_all, beside_entry_cost, entry_count_in, entries_from, sections_of, steps_left, walk_left, walk_all, Walked, ReadsEntries}
+use Rattle.elf_apply.specs.Walk.{AsksOf, Goes, changes_from, rows_changes, changes_left, changes_all, beside_entry_cost, entry_count_in, entries_from, sections_of, steps_left, walk_left, walk_all, Walked, ReadsEntries}
 use Rattle.elf_apply.specs.declared.entry.Placed.{Placed}
 use Rattle.elf_apply.specs.declared.entry.Target.{Target as TargetCode}
 use Rattle.elf_apply.specs.declared.walk.Entries.{Entries}
@@ -182,6 +182,11 @@ unfolding walk_left
 cost-row target old new before middle after same f f' less account own = grind arith
 
 -- the source failed before a row
+cost-fault : (target : TargetCode) (old new : Entries) (before after : ℕ) (fault : Fault) → new.next ≡ old.next → new.cursor.failed ≡ Some fault
+    → after + unread_bytes new.cursor ≤ before + unread_bytes old.cursor → after + walk_left target new ≤ before + walk_left target old
+unfolding walk_left
+cost-fault target old new before after fault next failed account = rw (next, failed) (omega (arith, account))
+
 -- the bytes that are still to be read of a section are left to ask for
 pub unread-left : (target : TargetCode) (e : Entries) → unread_bytes e.cursor ≤ walk_left target e
 unfolding walk_left
@@ -190,6 +195,49 @@ unread-left target e = omega arith
 -- reads by what was left to ask for
 pub reads-left : {a b : Counting} {n : ℕ} (left left' : ℕ) → Reads a b n → b.asked + left' ≤ a.asked + left → Reads a b left
 reads-left left left' reads account = Reads-to reads (omega (arith, account))
+
+-- a row was read, and then what is beside it
+pub row-asks : (target : TargetCode) (old new : Entries) (a b c : Counting) → new.next ≡ old.next → old.cursor.failed ≡ None → new.cursor.failed ≡ None → new.cursor.left + 1 ≡ old.cursor.left
+    → Reads a b (unread_bytes old.cursor) → b.asked + unread_bytes new.cursor ≤ a.asked + unread_bytes old.cursor → Reads b c (beside_entry_cost target) → AsksOf a c target old new
+row-asks target old new a b c same f f' less reads account own =
+    let all = cost-row target old new a.asked b.asked c.asked same f f' less account own.at_most in
+    record { reads = reads-left (walk_left target old) (walk_left target new) (Reads-then reads own) all; account = all }
+
+pub row-goes : (size : ℕ) (target : TargetCode) (holds : Option (List ℕ)) (old new : Entries) → GivesRow holds old.cursor new.cursor → new.next ≡ old.next → new.count ≡ old.count → new.symbols.linked ≡ old.symbols.linked
+    → Goes size target old → Goes size target new
+row-goes size target holds old new gives next count linked goes = record {
+  not_failed = gives.still_not_failed;
+  entry = ap (λ (t : Rows). t.entry) gives.same_table ∙ goes.entry;
+  within = rw gives.same_table goes.within;
+  linked = rw linked goes.linked;
+  next = omega (arith, goes.next);
+  few = omega (arith, goes.few);
+}
+
+pub goes-same : (size size' : ℕ) (target : TargetCode) (old : Entries) (cursor : Reading) → size' ≡ size → cursor ≡ old.cursor → Goes size target old
+    → Goes size' target (record { cursor = cursor; symbols = old.symbols; current = old.current; next = old.next; count = old.count })
+goes-same size size' target old cursor sized same goes = rw (sized, same) goes
+
+pub steps-row : (target : TargetCode) (old new : Entries) → new.next ≡ old.next → new.cursor.left + 1 ≡ old.cursor.left → steps_left target new < steps_left target old
+unfolding steps_left
+steps-row target old new next less = rw next (omega arith)
+
+-- the source failed before a row
+pub fault-asks : (target : TargetCode) (old new : Entries) (a b : Counting) (fault : Fault) → new.next ≡ old.next → new.cursor.failed ≡ Some fault
+    → Reads a b (unread_bytes old.cursor) → b.asked + unread_bytes new.cursor ≤ a.asked + unread_bytes old.cursor → AsksOf a b target old new
+fault-asks target old new a b fault next failed reads account =
+    let all = cost-fault target old new a.asked b.asked fault next failed account in
+    record { reads = reads-left (walk_left target old) (walk_left target new) reads all; account = all }
+
+-- no row is left: what the step to the next section did
+pub end-asks : (target : TargetCode) (old new : Entries) (a b : Counting) (cursor : Reading) → cursor ≡ old.cursor
+    → walk_left target new ≤ walk_left target (record { cursor = cursor; symbols = old.symbols; current = old.current; next = old.next; count = old.count })
+    → Reads a b (unread_bytes old.cursor) → b.asked + unread_bytes cursor ≤ a.asked + unread_bytes old.cursor → AsksOf a b target old new
+end-asks target old new a b cursor same fewer reads account =
+    let left : walk_left target new ≤ walk_left target old = rw same at fewer in
+    let none : b.asked ≤ a.asked = omega (arith, account, ap unread_bytes same) in
+    let all : b.asked + walk_left target new ≤ a.asked + walk_left target old = omega arith in
+    record { reads = reads-left (walk_left target old) (walk_left target new) reads all; account = all }
 
 -- what a row gives is the first of what is left
 module _ (file : List ℕ) (target : TargetCode) (old new : Entries) (at : ℕ) (next : new.next ≡ old.next) (here : new.current ≡ old.current) (index : new.cursor.index ≡ old.cursor.index + 1) (less : new.cursor.left + 1 ≡ old.cursor.left)

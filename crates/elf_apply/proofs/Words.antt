@@ -5,7 +5,6 @@ use Rattle.elf_model.specs.Values.{patch_of, whole}
 use Rattle.elf_model.specs.ApplyCost.{layout_names_cost}
 use Rattle.elf_layout.specs.Layouts.{names_for}
 use Rattle.elf_apply.specs.Entries.{term_of, taken_place}
-use Rattle.elf_apply.specs.Walk.{walk_left, steps_left}
 
 -- the request
 unfoldable pub request : Unit {0}
@@ -39,8 +38,3 @@ linkage = tt
 unfoldable pub place : Unit {0}
 unfolding taken_place place_value
 place = tt
-
--- a step of the walk
-unfoldable pub walk : Unit {0}
-unfolding walk_left steps_left
-walk = tt

@@ -90,7 +90,6 @@ impl Entries {
     }
 
     /// One step: an entry, or a section.
-    #[tactic(auto, unfolding(crate::proofs::Words::walk))]
     fn step<S: Source>(&mut self, src: &mut Counted<S>, target: &Target<'_>) -> Result<Step, Fault>
         requires { MayWalk src.old target.now self.old }
         ensures asks { AsksOf src.old src.new target.now self.old self.new }
