@@ -13,12 +13,12 @@ use Rattle.elf_table.specs.Sections.{table_of}
 use Rattle.elf_table.specs.Tables.{Rows, RowsWithin}
 use Rattle.elf_apply.proofs.Opened.{entries_counted}
 use Rattle.elf_source.specs.Source.{Counting, Reads}
-use Rattle.elf_source.proofs.ReadsLaws.{Reads-then, Reads-to}
+use Rattle.elf_source.proofs.ReadsLaws.{Reads-none, Reads-then, Reads-to}
 use Rattle.elf_headers.specs.Load.{section_place}
 use Rattle.elf_headers.specs.declared.fault.Fault.{Fault}
 use Rattle.elf_headers.specs.declared.fault.Fault.TheVariants.{Refused, Source}
 use Rattle.elf_apply.specs.Entries.{target_as, patch_as, Changes, Refers}
-use Rattle.elf_apply.specs.Walk.{AsksOf, Goes, changes_from, rows_changes, changes_left, changes_all, beside_entry_cost, entry_count_in, entries_from, sections_of, steps_left, walk_left, walk_all, Walked, ReadsEntries}
+use Rattle.elf_apply.specs.Walk.{AsksOf, Goes, changes_from, rows_changes, changes_left, changes_all, beside_entry_cost, entry_count_in, entries_from, sections_of, steps_left, walk_left, walk_all, Walked, FindsEntry, ReadsEntries}
 use Rattle.elf_apply.specs.declared.entry.Placed.{Placed}
 use Rattle.elf_apply.specs.declared.entry.Target.{Target as TargetCode}
 use Rattle.elf_apply.specs.declared.walk.Entries.{Entries}
@@ -195,6 +195,18 @@ unread-left target e = omega arith
 -- reads by what was left to ask for
 pub reads-left : {a b : Counting} {n : ℕ} (left left' : ℕ) → Reads a b n → b.asked + left' ≤ a.asked + left → Reads a b left
 reads-left left left' reads account = Reads-to reads (omega (arith, account))
+
+-- steps one after another
+pub asks-none : (target : TargetCode) (e : Entries) (a : Counting) → AsksOf a a target e e
+asks-none target e a = record { reads = Reads-none a (walk_left target e); account = omega arith }
+
+pub asks-then : {target : TargetCode} {old mid new : Entries} {a b c : Counting} → AsksOf a b target old mid → AsksOf b c target mid new → AsksOf a c target old new
+asks-then p q = record { reads = Reads-to (Reads-then p.reads q.reads) (omega (arith, p.account, q.account)); account = omega (arith, p.account, q.account) }
+
+pub finds-fault : (file : List ℕ) (target : TargetCode) (old mid new : Entries) (fault : Fault) → changes_left file target old ≡ changes_left file target mid
+    → Walked file target mid new (Err fault) → FindsEntry file target old new (Err fault)
+finds-fault file target old mid new (Refused refusal) same walked = λ other. let found = walked other in (found.0, same ∙ found.1)
+finds-fault file target old mid new (Source fault at) same walked = tt
 
 -- a row was read, and then what is beside it
 pub row-asks : (target : TargetCode) (old new : Entries) (a b c : Counting) → new.next ≡ old.next → old.cursor.failed ≡ None → new.cursor.failed ≡ None → new.cursor.left + 1 ≡ old.cursor.left

@@ -1,13 +1,11 @@
 -- Nothing was given so far.
-use Rattle.std.proofs.Common.{◌≡◌, ℕ, ◌+◌, ◌≤◌, List, Some}
-use Rattle.elf_source.specs.Source.{Reads}
-use Rattle.elf_apply.specs.Walk.{CountsEntries, Goes, ReadsEntries, changes_left, walk_left, steps_left}
+use Rattle.std.proofs.Common.{◌≡◌, ℕ, ◌≤◌, List, Some}
+use Rattle.elf_apply.specs.Walk.{AsksOf, CountsEntries, Goes, ReadsEntries, changes_left, steps_left}
 use Rattle.elf_apply.proofs.walk.Entries.next.Given as goal
 
 abbrev pub invariant-steps : goal.invariant-steps
 invariant-steps g l = record {
-  reads_most : Reads l.fn.src l.src (walk_left l.target l.fn.self);
-  asked : l.src.asked + walk_left l.target l.self ≤ l.fn.src.asked + walk_left l.target l.fn.self;
+  asks : AsksOf l.fn.src l.src l.target l.fn.self l.self;
   still : Goes l.fn.src.seen.size l.target l.self;
   fewer : steps_left l.target l.self ≤ steps_left l.target l.fn.self;
   counts : CountsEntries l.target l.fn.self l.self;
