@@ -1,12 +1,40 @@
-use Rattle.std.proofs.Common.{sym, ap, ◌∙◌, ◌+◌, ◌-◌, ◌≤◌, ◌++◌, arith, length, length-drop, min, List, ℕ, ◌≡◌, take, Err}
+use Rattle.std.proofs.Common.{[], sym, ap, ◌∙◌, ◌+◌, ◌-◌, ◌≤◌, ◌++◌, arith, length, length-drop, length-take, min, List, ℕ, ◌≡◌, take, Err}
 use Rattle.std.proofs.lemmas.Result.{err_from_is_err_and}
 use Rattle.elf_source.proofs.PutsLaws.{Takes-then}
+use Rattle.elf_source.proofs.ReadsLaws.{Reads-none, Reads-to}
 use Rattle.elf_model.specs.Bytes.{slice}
 use Rattle.elf_apply.proofs.InOrderSteps.{midway_skip, midway_jump, front_part, slice_split, all_gone, gone_text, writes_then, writes_as, front_more}
-use Rattle.elf_apply.proofs.WindowSteps.{takes_as}
+use Rattle.elf_apply.proofs.WindowSteps.{front_written, takes_as}
 use Rattle.elf_source.proofs.GrowthLaws.{grows_put, grows_then}
 use Rattle.elf_model.proofs.Slices.{slice-size}
 use Rattle.elf_apply.proofs.in_order.Held.advance.Goals as goal
+
+pub release-requires-clause-few : goal.release-requires-clause-few
+release-requires-clause-few g c = omega (arith, c.min-ready.ensures, c.low.ensures, c.len.ensures.value)
+
+pub release-requires-clause-fits : goal.release-requires-clause-fits
+release-requires-clause-fits g c = omega (arith, c.min-ready.ensures, c.low.ensures, c.len.ensures.value)
+
+pub copy-requires : goal.copy-requires
+copy-requires g c = record { free = c.requires.may.free; within = omega (arith, c.requires.may.within, c.if-low-end.true); fits = c.requires.may.fits }
+
+pub jump-requires : goal.jump-requires
+jump-requires g c =
+    all_gone [] 0 0 [] c.args.self.now c.release.new.self c.min-ready.result c.args.end c.low-low.result (omega (arith, c.min-ready.ensures, c.low.ensures, c.len.ensures.value)) c.requires.low c.release.ensures.rest.low c.release.ensures.rest.bytes c.low-low.ensures c.if-low-end.true
+
+pub overflow_add-at : goal.overflow_add-at
+overflow_add-at g c = omega (arith, c.requires.may.within, c.requires.may.fits, c.if-low-end.true)
+
+pub returns-in_err-release-clause-reads : goal.returns-in_err-release-clause-reads
+returns-in_err-release-clause-reads g c = Reads-none _ _
+
+pub returns-in_err-release-clause-grows : goal.returns-in_err-release-clause-grows
+returns-in_err-release-clause-grows g c = grows_put _ _ c.release.ensures.puts
+
+pub returns-in_err-release-clause-wrote : goal.returns-in_err-release-clause-wrote
+returns-in_err-release-clause-wrote g c =
+    let p = err_from_is_err_and c.from_residual.result c.from_residual.ensures.1 in
+    rw p.1 (omega (arith, front_written _ _ _ c.in_err-release.ensures.puts.0, length-take c.min-ready.result c.args.self.now.bytes, c.min-ready.ensures, c.low.ensures, c.len.ensures.value))
 
 pub returns-in_err-release-clause-text : goal.returns-in_err-release-clause-text
 returns-in_err-release-clause-text g c = λ file held size now long within midway.
@@ -21,8 +49,16 @@ returns-in_err-release-clause-text g c = λ file held size now long within midwa
     rw (p.1, p.2) (front_more _ _ (slice now low (c.args.end - low)) (take k c.args.self.now.bytes) (slice now (low + k) rest)
     (slice_split now low (c.args.end - low) k rest (omega (arith, less)) ∙ ap (λ l. l ++ slice now (low + k) rest) (sym part)) puts.0)
 
+pub returns-in_err-copy-clause-reads : goal.returns-in_err-copy-clause-reads
+returns-in_err-copy-clause-reads g c = Reads-to c.copy.ensures.reads (omega (arith, c.copy.ensures.reads.at_most, c.min-ready.ensures, c.low.ensures, c.len.ensures.value, c.low-low.ensures, c.release.ensures.rest.low, c.if-low-end.true))
+
 pub returns-in_err-copy-clause-grows : goal.returns-in_err-copy-clause-grows
 returns-in_err-copy-clause-grows g c = grows_then (grows_put _ _ c.release.ensures.puts) c.copy.ensures.grows
+
+pub returns-in_err-copy-clause-wrote : goal.returns-in_err-copy-clause-wrote
+returns-in_err-copy-clause-wrote g c =
+    let p = err_from_is_err_and c.from_residual-in_err-copy.result c.from_residual-in_err-copy.ensures.1 in
+    rw p.1 (omega (arith, c.in_err-copy.ensures.wrote, c.in_ok-release.ensures.puts.0.counts, length-take c.min-ready.result c.args.self.now.bytes, c.min-ready.ensures, c.low.ensures, c.len.ensures.value, c.low-low.ensures, c.release.ensures.rest.low, c.if-low-end.true))
 
 pub returns-in_err-copy-clause-text : goal.returns-in_err-copy-clause-text
 returns-in_err-copy-clause-text g c = λ file held size now long within midway.
@@ -32,6 +68,18 @@ returns-in_err-copy-clause-text g c = λ file held size now long within midway.
     rw (p.1, p.2) (writes_as (Unit {0}) c.args.out.now c.copy.new.out (Err c.in_err-copy.field-0.0) _ _ text
     (writes_then (Unit {0}) c.args.out.now c.release.new.out c.copy.new.out (Err c.in_err-copy.field-0.0) _ _
     c.in_ok-release.ensures.puts.0 (c.in_err-copy.ensures.text file held (omega (arith, long, within, c.if-low-end.true)))))
+
+pub returns-in_ok-copy-clause-low : goal.returns-in_ok-copy-clause-low
+returns-in_ok-copy-clause-low g c = c.jump.ensures.low
+
+pub returns-in_ok-copy-clause-long : goal.returns-in_ok-copy-clause-long
+returns-in_ok-copy-clause-long g c = omega (arith, ap length c.jump.ensures.bytes, c.min-ready.ensures, c.low.ensures, c.len.ensures.value, c.low-low.ensures, c.release.ensures.rest.low, c.if-low-end.true)
+
+pub returns-in_ok-copy-clause-reads : goal.returns-in_ok-copy-clause-reads
+returns-in_ok-copy-clause-reads g c = Reads-to c.copy.ensures.reads (omega (arith, c.copy.ensures.reads.at_most, c.min-ready.ensures, c.low.ensures, c.len.ensures.value, c.low-low.ensures, c.release.ensures.rest.low, c.if-low-end.true))
+
+pub returns-in_ok-copy-clause-wrote : goal.returns-in_ok-copy-clause-wrote
+returns-in_ok-copy-clause-wrote g c = omega (arith, c.in_ok-copy.ensures.wrote, c.in_ok-release.ensures.puts.0.counts, length-take c.min-ready.result c.args.self.now.bytes, c.min-ready.ensures, c.low.ensures, c.len.ensures.value, c.low-low.ensures, c.release.ensures.rest.low, c.if-low-end.true)
 
 pub returns-in_ok-copy-clause-grows : goal.returns-in_ok-copy-clause-grows
 returns-in_ok-copy-clause-grows g c = grows_then (grows_put _ _ c.release.ensures.puts) c.copy.ensures.grows
@@ -50,6 +98,18 @@ returns-in_ok-copy-clause-still g c = λ file held size now long within midway.
     let none = all_gone file c.args.at size now c.args.self.now c.release.new.self c.min-ready.result c.args.end c.low-low.result is c.requires.low c.release.ensures.rest.low c.release.ensures.rest.bytes c.low-low.ensures c.if-low-end.true in
     midway_jump base now c.release.new.self c.jump.new.self none c.jump.ensures.bytes (omega (arith, c.jump.ensures.low, c.low-low.ensures, c.if-low-end.true)) (omega (arith, c.jump.ensures.low, sized, within))
     (midway_skip base now c.args.self.now c.release.new.self c.min-ready.result (omega (arith, is)) c.release.ensures.rest.low c.release.ensures.rest.bytes midway)
+
+pub returns-else-low-end-clause-reads : goal.returns-else-low-end-clause-reads
+returns-else-low-end-clause-reads g c = Reads-none _ _
+
+pub returns-else-low-end-clause-grows : goal.returns-else-low-end-clause-grows
+returns-else-low-end-clause-grows g c = grows_put _ _ c.release.ensures.puts
+
+pub returns-else-low-end-clause-low : goal.returns-else-low-end-clause-low
+returns-else-low-end-clause-low g c = omega (arith, c.min-ready.ensures, c.low.ensures, c.len.ensures.value, c.low-low.ensures, c.release.ensures.rest.low, c.if-low-end.false, c.requires.low)
+
+pub returns-else-low-end-clause-wrote : goal.returns-else-low-end-clause-wrote
+returns-else-low-end-clause-wrote g c = omega (arith, c.in_ok-release.ensures.puts.0.counts, length-take c.min-ready.result c.args.self.now.bytes, c.min-ready.ensures, c.low.ensures, c.len.ensures.value, c.low-low.ensures, c.release.ensures.rest.low, c.if-low-end.false, c.requires.low)
 
 pub returns-else-low-end-clause-long : goal.returns-else-low-end-clause-long
 returns-else-low-end-clause-long g c =
