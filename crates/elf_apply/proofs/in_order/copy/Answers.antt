@@ -1,13 +1,57 @@
 use Rattle.std.proofs.Common.{refl, sym, ap, ◌∙◌, ◌+◌, arith, Err}
 use Rattle.std.proofs.lemmas.List.{take_all}
 use Rattle.std.proofs.lemmas.Result.{err_from_is_err_and}
-use Rattle.elf_source.proofs.ReadsLaws.{Reads-then, Reads-to}
+use Rattle.elf_source.proofs.ReadsLaws.{Reads-none, Reads-then, Reads-to}
 use Rattle.elf_model.specs.Bytes.{slice}
-use Rattle.elf_apply.proofs.WindowSteps.{window_more, window_stopped, short_take, takes_as}
+use Rattle.elf_apply.proofs.WindowSteps.{window_more, window_stopped, short_take, takes_start, takes_as}
 use Rattle.elf_apply.proofs.InOrderSteps.{writes_as}
-use Rattle.elf_source.proofs.GrowthLaws.{grows_then}
+use Rattle.elf_source.proofs.GrowthLaws.{grows_not, grows_then}
 use Rattle.elf_model.proofs.Slices.{slice-size, slice-slice}
 use Rattle.elf_apply.proofs.in_order.copy.Goals as goal
+
+pub pages-init : goal.pages-init
+pages-init g c = record {
+  within = omega arith;
+  reads = Reads-none _ _;
+  asked = omega arith;
+  grows = grows_not _;
+  wrote = omega (arith, c.args.out.now.fits);
+  text = λ file held long. takes_start _ (slice file c.args.at c.args.size);
+}
+
+pub pages-smaller : goal.pages-smaller
+pages-smaller g c = omega (arith, c.pages-test.true, c.min-count.ensures)
+
+pub copy_page-requires-clause-few : goal.copy_page-requires-clause-few
+copy_page-requires-clause-few g c = omega (arith, short_take c.min-count.result 4096 (omega (arith, c.min-count.ensures)), c.min-count.ensures)
+
+pub copy_page-requires-clause-within : goal.copy_page-requires-clause-within
+copy_page-requires-clause-within g c =
+    let known = c.pages.invariant in
+    let count = c.min-count.ensures in
+    let few = short_take c.min-count.result 4096 (omega (arith, count)) in
+    omega (arith, few, count, c.pages-test.true, c.requires.within, known.reads.keeps.same_size)
+
+pub returns-in_err-copy_page-clause-reads : goal.returns-in_err-copy_page-clause-reads
+returns-in_err-copy_page-clause-reads g c =
+    let known = c.pages.invariant in
+    let count = c.min-count.ensures in
+    let few = short_take c.min-count.result 4096 (omega (arith, count)) in
+    Reads-to (Reads-then known.reads c.copy_page.ensures.reads) (omega (arith, known.asked, c.copy_page.ensures.reads.at_most, few, c.pages-test.true, count))
+
+pub returns-in_err-copy_page-clause-wrote : goal.returns-in_err-copy_page-clause-wrote
+returns-in_err-copy_page-clause-wrote g c =
+    let p = err_from_is_err_and c.from_residual.result c.from_residual.ensures.1 in
+    let known = c.pages.invariant in
+    let count = c.min-count.ensures in
+    let few = short_take c.min-count.result 4096 (omega (arith, count)) in
+    rw p.1 (omega (arith, known.wrote, c.in_err-copy_page.ensures.wrote, few, c.pages-test.true, count))
+
+pub returns-clause-reads : goal.returns-clause-reads
+returns-clause-reads g c = c.pages.invariant.reads
+
+pub returns-clause-wrote : goal.returns-clause-wrote
+returns-clause-wrote g c = omega (arith, c.pages.invariant.wrote, c.pages.invariant.within, c.pages-test.false)
 
 pub returns-in_err-copy_page-clause-grows : goal.returns-in_err-copy_page-clause-grows
 returns-in_err-copy_page-clause-grows g c = grows_then c.pages.invariant.grows c.copy_page.ensures.grows

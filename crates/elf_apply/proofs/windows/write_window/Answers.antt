@@ -1,10 +1,41 @@
 use Rattle.std.proofs.Common.{rules, ap, ◌∙◌, ◌+◌, ◌≤◌, arith, length, Err}
 use Rattle.std.proofs.lemmas.Result.{err_from_is_err_and}
+use Rattle.elf_source.proofs.GrowthLaws.{grows_put}
+use Rattle.elf_source.proofs.ReadsLaws.{Reads-then, Reads-to}
 use Rattle.elf_headers.proofs.OpenLaws.{still_open}
 use Rattle.elf_apply.specs.Walk.{changes_all}
 use Rattle.elf_apply.proofs.ReadLaws.{not_over}
-use Rattle.elf_apply.proofs.WindowSteps.{window_done, folds_ok, pass_failed, takes_as, front_as}
+use Rattle.elf_apply.proofs.WindowSteps.{front_written, window_done, folds_ok, pass_failed, takes_as, front_as}
 use Rattle.elf_apply.proofs.windows.write_window.Goals as goal
+
+pub returns-clause-reads : goal.returns-clause-reads
+returns-clause-reads g c = Reads-to (Reads-then c.fill.ensures.reads c.patch_window.ensures.reads) (omega (arith, c.fill.ensures.reads.at_most, c.patch_window.ensures.reads.at_most))
+
+pub returns-in_err-put-clause-reads : goal.returns-in_err-put-clause-reads
+returns-in_err-put-clause-reads g c = Reads-to (Reads-then c.fill.ensures.reads c.patch_window.ensures.reads) (omega (arith, c.fill.ensures.reads.at_most, c.patch_window.ensures.reads.at_most))
+
+pub returns-in_err-patch_window-clause-reads : goal.returns-in_err-patch_window-clause-reads
+returns-in_err-patch_window-clause-reads g c = Reads-to (Reads-then c.fill.ensures.reads c.patch_window.ensures.reads) (omega (arith, c.fill.ensures.reads.at_most, c.patch_window.ensures.reads.at_most))
+
+pub returns-in_err-fill-clause-reads : goal.returns-in_err-fill-clause-reads
+returns-in_err-fill-clause-reads g c = Reads-to c.fill.ensures.reads (omega (arith, c.fill.ensures.reads.at_most))
+
+pub returns-clause-grows : goal.returns-clause-grows
+returns-clause-grows g c = grows_put _ _ c.put.ensures.puts
+
+pub returns-in_err-put-clause-grows : goal.returns-in_err-put-clause-grows
+returns-in_err-put-clause-grows g c = grows_put _ _ c.put.ensures.puts
+
+pub returns-clause-wrote : goal.returns-clause-wrote
+returns-clause-wrote g c = omega (arith, c.in_ok-put.ensures.puts.0.counts)
+
+pub returns-in_err-put-clause-wrote : goal.returns-in_err-put-clause-wrote
+returns-in_err-put-clause-wrote g c =
+    let p = err_from_is_err_and c.from_residual-in_err-put.result c.from_residual-in_err-put.ensures.1 in
+    rw p.1 (omega (arith, front_written _ _ _ c.in_err-put.ensures.puts.0))
+
+pub overflow_add-at : goal.overflow_add-at
+overflow_add-at g c = omega (arith, c.requires.part, c.requires.may.fits)
 
 pub returns-clause-text : goal.returns-clause-text
 returns-clause-text g c = λ file held patches are inside.
