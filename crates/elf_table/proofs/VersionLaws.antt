@@ -1,10 +1,12 @@
 -- What the checks of versions of symbols leave.
-use Rattle.std.proofs.Common.{◌≡◌, ℕ, ◌/◌, ◌==◌, ◌&&◌, ◌||◌, not, Bool, true, false, inl, inr, List, [], ◌∷◌, ◌++◌, None, Some, Ok, Err, refl, sym, ap, ◌∙◌}
-use Rattle.std.proofs.lemmas.Bool.{cases_Bool}
+use Rattle.std.proofs.Common.{◌≡◌, ℕ, ◌<◌, ◌/◌, ◌==◌, ◌&&◌, ◌||◌, not, Bool, true, false, inl, inr, List, [], ◌∷◌, ◌++◌, None, Some, Result, Ok, Err, IfOk, refl, sym, ap, ◌∙◌, arith}
+use Rattle.std.proofs.lemmas.Bool.{cases_Bool, lt-ltb, ne_eqb}
 use Rattle.elf_model.specs.Checks.{Check, first_refusal, is_outside, pass, refuse, table_checks, table_checks_of}
+use Rattle.elf_model.specs.HeaderTables.{held_headers}
 use Rattle.elf_model.specs.Numbers.{SHT_STRTAB}
 use Rattle.elf_model.specs.Records.{sh_link, sh_offset, sh_size, sh_type}
 use Rattle.elf_model.specs.Tables.{all_checks, has_symbols, linked_at}
+use Rattle.elf_model.specs.VersionCost.{has_strings, links}
 use Rattle.elf_model.specs.VersionRows.{symbol_versions, symbols_checks}
 use Rattle.elf_model.specs.declared.causes.Cause.TheVariants.{BadLink, NotStrings, TableOutside}
 use Rattle.elf_model.proofs.CheckSteps.{first_refusal-none, first_refusal-some}
@@ -103,3 +105,13 @@ not_false false h = cc
 pub not_true : (a : Bool) → not a ≡ true → a ≡ false
 not_true true h = cc
 not_true false h = refl
+
+-- a header in the store links to a section that is not the first, which may be a string table
+module _ (row : ℕ → List ℕ) (count section link : ℕ) (is : link ≡ sh_link (row section) 0) (some : 0 < link) (below : link < count) where
+  pub links_there : links (held_headers count row) section ≡ true
+  links_there = rw (← is, lt-ltb link count below, ne_eqb link 0 (λ e. omega arith)) refl
+
+  pub strings_found : (size place : ℕ) (answer : Result Strings Fault) → answer ≡ string_table_of (row link) 0 size place
+      → IfOk answer (λ names. has_strings (held_headers count row) section size ≡ true)
+  strings_found size place (Ok names) h = both-true _ _ links_there (rw (← is) (strings-are (row link) 0 size place names (sym h)))
+  strings_found size place (Err fault) h = tt

@@ -66,6 +66,7 @@ pub(crate) fn checked_strings(header: &Shdr, size: u64, place: u64) -> Result<Na
     ensures value { (bytes : List ℕ) (at : ℕ) → IsShdr bytes at header.now →
         result ≡ string_table_of bytes at size place }
     ensures within { IfOk result (StringsWithin size) }
+    ensures refusal { IfErr result IsOfCheck }
 {
     if header.sh_type != SHT_STRTAB {
         return refused(place, Cause::NotStrings);
