@@ -19,5 +19,3 @@ module _ (file : List ℕ) (v z first count : ℕ) where
   pub mapped_none : count ≤ first → mapped_from file v z first (count - first) ≡ None
   unfolding mapped_from
   mapped_none past = let none : count - first ≡ 0 = omega arith in rw none refl
-
-pub ruleset mapped_steps = (mapped_found, mapped_passed, mapped_none)

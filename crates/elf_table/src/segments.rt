@@ -132,7 +132,6 @@ impl SegmentView<'_> {
     }
 
     /// The index of the first LOAD program header that holds `size` bytes from an address on.
-    #[tactic(auto, using(crate::proofs::MappedLaws::mapped_steps))]
     fn mapping(&self, address: u64, size: u64) -> Option<u16>
         ensures held { (file : List ℕ) → Views file self.now.loaded self.now.store.now →
             mapped_at file address size ≡ option_map (segment_at file) result }
