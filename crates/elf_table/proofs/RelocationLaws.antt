@@ -63,13 +63,17 @@ module _ (file : List ℕ) (at : ℕ) where
       | inr some ↦ sym (passed_first _ _ _ (rw (some, table_at, table_of) at held)).1
     ]
 
-    passes_empty : (back : List Check) → table.count ≡ 0 → first_refusal (unless_empty (sh_size file at) (table_checks file at 24 ++ back)) ≡ None
-    passes_empty back none = elim (cases_Bool (sh_size file at == 0)) [
-      | inl empty ↦ rw empty refl
+    -- no rows are no bytes
+    no_rows : table.count ≡ 0 → (sh_size file at == 0) ≡ true
+    no_rows none = elim (cases_Bool (sh_size file at == 0)) [
+      | inl empty ↦ empty
       | inr some ↦
           let zero = no_bytes (passed_first _ _ _ (rw (some, table_at, table_of) at held)).0 (sym (ap (λ (t : Rows). t.count) table_is) ∙ none) in
-          let other = rw zero at some in cc
+          rw zero refl
     ]
+
+    passes_empty : (back : List Check) → table.count ≡ 0 → first_refusal (unless_empty (sh_size file at) (table_checks file at 24 ++ back)) ≡ None
+    passes_empty back none = rw (no_rows none) refl
 
     -- where there are rows, what stands behind decides
     behind : (back : List Check) → (table.count ≡ 0 → ⊥) → first_refusal (unless_empty (sh_size file at) (table_checks file at 24 ++ back)) ≡ first_refusal back
@@ -85,6 +89,21 @@ module _ (file : List ℕ) (at : ℕ) where
 
     pub strings_refused : (fault : Fault) → (table.count ≡ 0 → ⊥) → string_table_at file at ≡ Err fault → RefusedBy (symbol_table_checks file at) fault
     strings_refused fault rows h = back_refused (strings_checks file at) fault rows (failed (strings_checks file at) (names_at file (linked_at file at)) fault h)
+
+    -- the symbols, which have no names where there are none
+    pub symbols_none : table.count ≡ 0 → (names : Strings) → names ≡ strings table.at 0 → Ok (table, names) ≡ symbols_at file at
+    symbols_none none names is =
+        let own : table ≡ rows (sh_offset file at) 0 24 = table_is ∙ ap (λ (n : ℕ). rows (sh_offset file at) n 24) (sym (ap (λ (t : Rows). t.count) table_is) ∙ none) in
+        rw (no_rows none, symbols_at, is, own) refl
+
+    pub symbols_some : (table.count ≡ 0 → ⊥) → (names : Strings) → string_table_at file at ≡ Ok names → Ok (table, names) ≡ symbols_at file at
+    symbols_some rows names h = elim (cases_Bool (sh_size file at == 0)) [
+      | inl empty ↦ absurd (rows (ap (λ (t : Rows). t.count) table_is ∙ rw (eqb-true (sh_size file at) 0 empty) refl))
+      | inr some ↦
+          let own = passed_first _ _ table (rw (some, table_at, table_of) at held) in
+          let named = passed_first _ _ names h in
+          rw (some, symbols_at, first_refusal-none (table_checks file at 24) (strings_checks file at) own.0 ∙ named.0, own.1, named.1) refl
+    ]
 
     pub relocations_none : table.count ≡ 0 → AreRelocations file at table None
     relocations_none none = record {

@@ -203,7 +203,6 @@ impl File<'_> {
     ///
     /// # Errors
     /// The first check that fails: those of [`File::table`], then those of [`File::linked`].
-    #[tactic(auto, using(crate::proofs::RelocationLaws::relocations_none))]
     pub fn relocations(&self, section: u16) -> Result<(Table, Option<(Table, Names)>), Fault>
         requires below { section < self.now.store.now.loaded }
         ensures held { (file : List ℕ) → Belongs file self.now.loaded self.now.store.now →
