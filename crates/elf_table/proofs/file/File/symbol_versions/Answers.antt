@@ -22,6 +22,18 @@ returns-then-section-eq0-clause-held c = λ file belongs.
     let stands = c.section.ensures.stands file belongs.rows in
     unversioned file (section_at file c.args.section) _ (sym stands.sh_size ∙ c.if-section-eq0.true) (sym (c.in_ok-table.ensures.held file belongs))
 
+pub returns-then-section-eq0-clause-counts : goal.returns-then-section-eq0-clause-counts
+returns-then-section-eq0-clause-counts c =
+    let none = sym c.section.ensures.fields.sh_size ∙ c.if-section-eq0.true in
+    let entry = c.in_ok-table.ensures.entry in
+    let sized = rw entry at c.in_ok-table.ensures.sized in
+    record {
+      entry = entry;
+      counted = omega (arith, sized);
+      linked = λ some. let other = rw none at some in cc;
+      symbols = λ some. let other = rw none at some in cc;
+    }
+
 pub returns-then-not-links_to_symbols-clause-held : goal.returns-then-not-links_to_symbols-clause-held
 returns-then-not-links_to_symbols-clause-held c = λ file belongs.
     let at = section_at file c.args.section in
@@ -31,15 +43,22 @@ returns-then-not-links_to_symbols-clause-held c = λ file belongs.
     let place : c.place.result ≡ at = omega (arith, c.place.ensures.value, belongs.header.e_shoff) in
     rw (c.refused.ensures, place) (unlinked file at some _ (sym (c.in_ok-table.ensures.held file belongs)) none)
 
-pub returns-in_err-symbols-clause-held : goal.returns-in_err-symbols-clause-held
-returns-in_err-symbols-clause-held c = λ file belongs.
+pub returns-in_err-symbols : goal.returns-in_err-symbols
+returns-in_err-symbols c =
     let p = err_from_is_err_and c.from_residual-in_err-symbols.result c.from_residual-in_err-symbols.ensures.1 in
-    let at = section_at file c.args.section in
-    let stands = c.section.ensures.stands file belongs.rows in
-    let some : (sh_size file at == 0) ≡ false = ne_eqb _ 0 (λ e. c.if-section-eq0.false (stands.sh_size ∙ e)) in
-    let linked : (sh_link file at == 0 || not (has_symbols file at)) ≡ false = not_true _ (sym (c.links_to_symbols.ensures.held file belongs) ∙ c.if-not-links_to_symbols.false) in
-    let link = (c.section-link.ensures.stands file belongs.rows).sh_link in
-    rw (p.1, p.2) (symbols_refused file at some _ (sym (c.in_ok-table.ensures.held file belongs)) linked _ (sym (ap (λ k. symbols_at file (section_at file k)) link) ∙ sym (c.in_err-symbols.ensures.held file belongs)))
+    record {
+      held = λ file belongs.
+          let at = section_at file c.args.section in
+          let stands = c.section.ensures.stands file belongs.rows in
+          let some : (sh_size file at == 0) ≡ false = ne_eqb _ 0 (λ e. c.if-section-eq0.false (stands.sh_size ∙ e)) in
+          let linked : (sh_link file at == 0 || not (has_symbols file at)) ≡ false = not_true _ (sym (c.links_to_symbols.ensures.held file belongs) ∙ c.if-not-links_to_symbols.false) in
+          let link = (c.section-link.ensures.stands file belongs.rows).sh_link in
+          rw (p.1, p.2) (symbols_refused file at some _ (sym (c.in_ok-table.ensures.held file belongs)) linked _ (sym (ap (λ k. symbols_at file (section_at file k)) link) ∙ sym (c.in_err-symbols.ensures.held file belongs)));
+      table = rw p.1 tt;
+      within = rw p.1 tt;
+      counts = rw p.1 tt;
+      refusal = rw (p.1, p.2) c.in_err-symbols.ensures.refusal;
+    }
 
 pub returns-clause-held : goal.returns-clause-held
 returns-clause-held c = λ file belongs.
