@@ -98,6 +98,9 @@ symbols-stored bytes size place table named held names = elim (cases_Bool (sh_si
 pub both-true : (a b : Bool) → a ≡ true → b ≡ true → (a && b) ≡ true
 both-true a b p q = rw (p, q) refl
 
+pub not_empty : (n : ℕ) → n ≡ 0 → (n == 0) ≡ false → ⊥
+not_empty n none some = let other : true ≡ false = ap (λ (k : ℕ). k == 0) (sym none) ∙ some in cc
+
 pub not_false : (a : Bool) → not a ≡ false → a ≡ true
 not_false true h = refl
 not_false false h = cc

@@ -9,7 +9,7 @@ use Rattle.elf_model.specs.Checks.{is_symbol_table}
 use Rattle.elf_headers.specs.Store.{row}
 use Rattle.elf_table.specs.Sections.{symbols_at}
 use Rattle.elf_table.specs.Versions.{sections_in}
-use Rattle.elf_table.proofs.VersionLaws.{both-true, not_false, not_true, symbols-stored, symbols_refused, table-refused, unlinked, unversioned, versioned}
+use Rattle.elf_table.proofs.VersionLaws.{both-true, not_empty, not_false, not_true, symbols-stored, symbols_refused, table-refused, unlinked, unversioned, versioned}
 use Rattle.elf_table.proofs.file.File.symbol_versions.Goals as goal
 
 pub returns-in_err-table-clause-held : goal.returns-in_err-table-clause-held
@@ -30,8 +30,8 @@ returns-then-section-eq0-clause-counts c =
     record {
       entry = entry;
       counted = omega (arith, sized);
-      linked = λ some. let other = rw none at some in cc;
-      symbols = λ some. let other = rw none at some in cc;
+      linked = λ some. absurd (not_empty _ none some);
+      symbols = λ some. absurd (not_empty _ none some);
     }
 
 pub returns-then-not-links_to_symbols-clause-held : goal.returns-then-not-links_to_symbols-clause-held
