@@ -22,7 +22,6 @@ use memchr::memchr;
 ///
 /// # Errors
 /// A fault of a read, or a refusal for want of budget, at the first byte that was not asked for.
-#[tactic(auto, using(elf_source::proofs::OnwardLaws::onward_then))]
 pub fn search_name<S: Source, const N: usize>(
     window: &mut Window<N>,
     src: &mut Counted<S>,

@@ -29,6 +29,15 @@ returns-in-Some-clause-searched g c = λ file h a.
     found-here file (take n front) l.name c.add.new.self c.args.window.now.at l.done n c.args.want c.in-Some.place c.args.cap.bytes piece (i.no_nul file h a)
     (i.name file h a) c.in-Some.ensures.first (omega arith) (omega arith) (omega arith) c.add.ensures
 
+pub skip-requires : goal.skip-requires
+skip-requires g c = omega (arith, ap length c.front-front.ensures)
+
+pub returns-in_err-bring-clause-onward : goal.returns-in_err-bring-clause-onward
+returns-in_err-bring-clause-onward g c = onward_then _ _ _ _ _ _ _ _ (omega arith) c.loop-done.invariant.onward c.in_err-bring.ensures.onward
+
+pub returns-in-Some-clause-onward : goal.returns-in-Some-clause-onward
+returns-in-Some-clause-onward g c = onward_then _ _ _ _ _ _ _ _ (omega arith) c.loop-done.invariant.onward c.in_ok-bring.ensures.onward
+
 pub loop-done-preserved : goal.loop-done-preserved
 loop-done-preserved g c =
     let l = c.loop-done in
