@@ -29,6 +29,12 @@ returns-in-Some-clause-searched g c = λ file h a.
     found-here file (take n front) l.name c.add.new.self c.args.window.now.at l.done n c.args.want c.in-Some.place c.args.cap.bytes piece (i.no_nul file h a)
     (i.name file h a) c.in-Some.ensures.first (omega arith) (omega arith) (omega arith) c.add.ensures
 
+pub returns-in-Some-clause-inside : goal.returns-in-Some-clause-inside
+returns-in-Some-clause-inside g c = omega (arith, c.in_ok-bring.ensures.brings.stays)
+
+pub loop-done-smaller : goal.loop-done-smaller
+loop-done-smaller g c = omega (arith, ap length c.front-front.ensures, c.in_ok-bring.ensures.brings.long)
+
 pub skip-requires : goal.skip-requires
 skip-requires g c = omega (arith, ap length c.front-front.ensures)
 

@@ -1,4 +1,4 @@
-use Rattle.std.proofs.Common.{◌≡◌, ◌+◌, ap, refl, ◌∙◌, arith}
+use Rattle.std.proofs.Common.{◌≡◌, ℕ, ◌+◌, ◌-◌, ◌≤◌, min, ap, refl, ◌∙◌, arith}
 use Rattle.elf_model.proofs.Searches.{shown-none, shown-past, shown-whole, shown-cut, shown-unended}
 use Rattle.elf_table.specs.Windows.{Ahead}
 use Rattle.elf_table.proofs.names.Names.read.Goals as goal
@@ -42,3 +42,23 @@ returns-clause-read g c = λ file h.
       shown-unended file c.search_name.new.name c.args.self.now.at c.args.self.now.size c.args.off c.min-want.result c.args.cap.bytes (omega arith) (omega arith) (omega arith) (omega arith)
           (rw (c.if-branch.false, place) at (c.in_ok-search_name.ensures.searched file h (rw c.new-window.ensures refl))),
     ))
+
+-- what was asked for is no more than the window was to ask for
+not-past : (after before unread want size all off most : ℕ) → after ≤ before + unread → unread ≡ want → want ≡ min (size - off) most → size ≡ all → after ≤ before + (all - off)
+not-past after before unread want size all off most few is least same = omega arith
+
+pub returns-in_err-search_name-clause-not_past : goal.returns-in_err-search_name-clause-not_past
+returns-in_err-search_name-clause-not_past g c =
+    not-past _ _ _ _ _ _ _ _ c.in_err-search_name.ensures.reads.at_most (ap (λ (w : Ahead). w.unread) c.new-window.ensures) c.min-want.ensures c.size-size.ensures.value
+
+pub returns-then-branch-clause-not_past : goal.returns-then-branch-clause-not_past
+returns-then-branch-clause-not_past g c =
+    not-past _ _ _ _ _ _ _ _ c.in_ok-search_name.ensures.reads.at_most (ap (λ (w : Ahead). w.unread) c.new-window.ensures) c.min-want.ensures c.size-size.ensures.value
+
+pub returns-then-left-from-clause-not_past : goal.returns-then-left-from-clause-not_past
+returns-then-left-from-clause-not_past g c =
+    not-past _ _ _ _ _ _ _ _ c.in_ok-search_name.ensures.reads.at_most (ap (λ (w : Ahead). w.unread) c.new-window.ensures) c.min-want.ensures c.size-size.ensures.value
+
+pub returns-clause-not_past : goal.returns-clause-not_past
+returns-clause-not_past g c =
+    not-past _ _ _ _ _ _ _ _ c.in_ok-search_name.ensures.reads.at_most (ap (λ (w : Ahead). w.unread) c.new-window.ensures) c.min-want.ensures c.size-size.ensures.value
