@@ -4,6 +4,9 @@ use Rattle.std.proofs.Math.Nat.{mul-le-mul_right}
 use Rattle.std.proofs.lemmas.Bool.{cases_lt}
 use Rattle.std.proofs.lemmas.Grind.{common_steps}
 use Rattle.elf_model.specs.Bytes.{slice}
+use Rattle.elf_source.specs.Onward.{ReadsOnward}
+use Rattle.elf_source.specs.Source.{Seen}
+use Rattle.elf_source.proofs.OnwardLaws.{onward_more, onward_none, onward_then}
 use Rattle.elf_table.specs.Tables.{Rows, size_of}
 use Rattle.elf_table.specs.Cursors.{Reading, GivesRow, Stands, page_of, row_at}
 use Rattle.elf_headers.specs.Faults.{IsAt}
@@ -120,3 +123,9 @@ Gives-next file table index shown entry failed old passed new e nf below at held
       exact = λ bytes same a.
           held-front bytes new entry h.long (ag bytes same a) ∙ ap (λ (x : ℕ). slice bytes x entry) place ∙ ap (slice bytes (row_at table index)) e;
     }
+
+-- what a window asks for once bytes were passed over, by where its range ends
+pub onward_asked : (one_read : Seen → ℕ → ℕ → Seen → Type 0) (a b : Seen) (ends unread : ℕ) (passed new : Ahead) → ReadsOnward one_read a b (frontier passed) (frontier new)
+    → range_end passed ≡ ends → range_end new ≡ ends → passed.unread ≤ unread → ReadsOnward one_read a b (ends - unread) (ends - new.unread)
+onward_asked one_read a b ends unread passed new onward from to less =
+    onward_then one_read a a b _ (ends - unread) _ _ (omega arith) (onward_none one_read a a _ _ refl (omega arith)) (onward_more one_read a b _ _ _ (omega arith) onward)

@@ -1,6 +1,6 @@
 -- The window stands at the row that was shown: it is passed over, and then the next is held.
 use Rattle.std.proofs.Common.{◌≡◌, ◌<◌, None, rules, refl, ◌∙◌, arith}
-use Rattle.elf_table.proofs.Standing.{Stands-skip, Stands-next, fault_at_row, Gives-next}
+use Rattle.elf_table.proofs.Standing.{Stands-skip, Stands-next, fault_at_row, Gives-next, onward_asked}
 use Rattle.elf_table.proofs.cursor.Cursor.advance.Goals as goal
 
 pub returns-in-Err-clause-steps : goal.returns-in-Err-clause-steps
@@ -16,6 +16,11 @@ returns-in-Err-clause-steps g c =
           let entry = c.entry-entry.ensures.value in
           fault_at_row i.table i.index c.skip.new.self c.in-Err.fault stands (omega (arith, brings.0)) brings.1;
     })
+
+pub returns-in-Err-clause-onward : goal.returns-in-Err-clause-onward
+returns-in-Err-clause-onward g c =
+    let ends = c.skip.ensures.end ∙ c.self.invariant.3 in
+    rw (← c.self.view_is) (onward_asked _ _ _ _ _ c.skip.new.self c.bring.new.self c.bring.ensures.onward ends (c.bring.ensures.moves.same_end ∙ ends) c.skip.ensures.unread)
 
 pub invariant_of-self-2 : goal.invariant_of-self-2
 invariant_of-self-2 g c =
@@ -46,3 +51,8 @@ returns-clause-steps g c =
     rw (← c.self.view_is)
     (Gives-next c.args.src.now.seen.file i.table i.index i.shown c.entry-entry.result i.failed i.window c.skip.new.self c.bring.new.self c.entry-entry.ensures.value nf below
     c.skip.ensures.at c.skip.ensures.held stands c.in_default-bring.ensures.brings c.in_default-bring.ensures.agrees)
+
+pub returns-clause-onward : goal.returns-clause-onward
+returns-clause-onward g c =
+    let ends = c.skip.ensures.end ∙ c.self.invariant.3 in
+    rw (← c.self.view_is) (onward_asked _ _ _ _ _ c.skip.new.self c.bring.new.self c.bring.ensures.onward ends (c.bring.ensures.moves.same_end ∙ ends) c.skip.ensures.unread)
