@@ -1,8 +1,21 @@
 use Rattle.std.proofs.Common.{◌≡◌, length, arith}
+use Rattle.std.proofs.lemmas.Grind.{common_steps}
 use Rattle.elf_model.specs.Bytes.{slice}
 use Rattle.elf_model.proofs.Slices.{slice-size}
 use Rattle.elf_table.proofs.Paging.{Agrees-passed}
 use Rattle.elf_table.proofs.window.Window.skip.Goals as goal
+
+pub overflow_add-self : goal.overflow_add-self
+overflow_add-self g c = grind (arith, common_steps)
+
+pub invariant_of-self : goal.invariant_of-self
+invariant_of-self g c = grind (arith, common_steps)
+
+pub returns-clause-left : goal.returns-clause-left
+returns-clause-left g c = grind (arith, common_steps)
+
+pub returns-clause-end : goal.returns-clause-end
+returns-clause-end g c = grind (arith, common_steps)
 
 pub returns-clause-agrees : goal.returns-clause-agrees
 returns-clause-agrees g c = λ file a.
