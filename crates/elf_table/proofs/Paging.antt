@@ -25,6 +25,17 @@ drop-slice file at size count = go (cases_lt size count)
         drop_all count (slice file at size) (omega (arith, length-take size (drop at file))) ∙ ap (slice file (at + count)) (sym none)
     go (inr enough) = slice-rest file at size count enough
 
+-- what a window holds, in its fields, once bytes were passed over
+pub passed-held : (bytes : List ℕ) (from held count passed : ℕ) → passed ≡ min count held → slice bytes (from + passed) (held - passed) ≡ drop count (slice bytes from held)
+passed-held bytes from held count passed m = go (cases_lt held count)
+  where
+    go : (held < count) ⊎ (count ≤ held) → slice bytes (from + passed) (held - passed) ≡ drop count (slice bytes from held)
+    go (inl past) =
+        let none : held - passed ≡ 0 = omega arith in
+        let less : held - count ≡ 0 = omega arith in
+        rw (drop-slice bytes from held count, none, less) refl
+    go (inr inside) = let p : passed ≡ count = omega arith in rw (drop-slice bytes from held count, p) refl
+
 -- what is left of what was held
 pub Agrees-skip : (file : List ℕ) (old new : Ahead) (count : ℕ) → new.at ≡ old.at + count → new.held ≡ drop count old.held → HoldsBytes file old → HoldsBytes file new
 Agrees-skip file old new count a h e =

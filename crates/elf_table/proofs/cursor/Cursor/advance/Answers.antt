@@ -1,7 +1,20 @@
 -- The window stands at the row that was shown: it is passed over, and then the next is held.
 use Rattle.std.proofs.Common.{◌≡◌, ◌<◌, None, rules, refl, ◌∙◌, arith}
+use Rattle.std.proofs.lemmas.Grind.{common_steps}
 use Rattle.elf_table.proofs.Standing.{Stands-skip, Stands-next, fault_at_row, Gives-next, onward_asked}
 use Rattle.elf_table.proofs.cursor.Cursor.advance.Goals as goal
+
+pub bring-requires : goal.bring-requires
+bring-requires g c = grind (arith, common_steps)
+
+pub invariant_of-self : goal.invariant_of-self
+invariant_of-self g c = grind (arith, common_steps)
+
+pub returns-in-Err-clause-account : goal.returns-in-Err-clause-account
+returns-in-Err-clause-account g c = grind (arith, common_steps)
+
+pub returns-clause-account : goal.returns-clause-account
+returns-clause-account g c = grind (arith, common_steps)
 
 pub returns-in-Err-clause-steps : goal.returns-in-Err-clause-steps
 returns-in-Err-clause-steps g c =

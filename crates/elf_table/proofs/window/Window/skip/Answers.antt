@@ -2,7 +2,7 @@ use Rattle.std.proofs.Common.{◌≡◌, length, arith}
 use Rattle.std.proofs.lemmas.Grind.{common_steps}
 use Rattle.elf_model.specs.Bytes.{slice}
 use Rattle.elf_model.proofs.Slices.{slice-size}
-use Rattle.elf_table.proofs.Paging.{Agrees-passed}
+use Rattle.elf_table.proofs.Paging.{Agrees-passed, passed-held}
 use Rattle.elf_table.proofs.window.Window.skip.Goals as goal
 
 pub overflow_add-self : goal.overflow_add-self
@@ -13,6 +13,9 @@ invariant_of-self g c = grind (arith, common_steps)
 
 pub returns-clause-left : goal.returns-clause-left
 returns-clause-left g c = grind (arith, common_steps)
+
+pub returns-clause-held : goal.returns-clause-held
+returns-clause-held g c = rw (← c.self.view_is) (passed-held _ _ _ _ _ c.min-held.ensures)
 
 pub returns-clause-end : goal.returns-clause-end
 returns-clause-end g c = grind (arith, common_steps)
