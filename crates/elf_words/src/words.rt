@@ -55,7 +55,7 @@ pub fn request<'a, S: AsStr>(
     ensures refused { IfErr result (WordsRefused (map S.text words.entry.now)) }
 {
     match command_line(alloc, PARTS.as_slice(), MEMBER_PARTS.as_slice()) {
-        Ok(commands) => read_by(alloc, commands, words, layout),
+        Ok(mut commands) => read_by(alloc, &mut commands, words, layout),
         Err(AllocError) => Err(RequestFault::Memory),
     }
 }
@@ -63,17 +63,17 @@ pub fn request<'a, S: AsStr>(
 /// Reads words by a command line, which has the names of the parts that there are.
 fn read_by<'a, S: AsStr>(
     alloc: Global,
-    mut commands: Command<'a>,
+    commands: &mut Command<'a>,
     words: &'a [S],
     layout: &'a mut Layout,
 ) -> Result<Asked<'a>, RequestFault>
-    ensures asked { (parts : PartWords) → app_of commands.entry ≡ program parts
+    ensures asked { (parts : PartWords) → app_of commands.old ≡ program parts
         → ArePartNames parts → IfOk result (WordsAsk (map S.text words.entry.now)) }
-    ensures refused { (parts : PartWords) → app_of commands.entry ≡ program parts
+    ensures refused { (parts : PartWords) → app_of commands.old ≡ program parts
         → ArePartNames parts → IfErr result (WordsRefused (map S.text words.entry.now)) }
 {
     match commands.try_get_matches_from_mut(words) {
-        Ok(matches) => answered(alloc, matches, layout),
+        Ok(matches) => answered(alloc, &matches, layout),
         Err(error) => Err(error.into()),
     }
 }
@@ -81,16 +81,16 @@ fn read_by<'a, S: AsStr>(
 /// What words that the command line let through ask for, or why they are refused.
 fn answered<'a>(
     alloc: Global,
-    matches: ArgMatches<'a>,
+    matches: &ArgMatches<'a>,
     layout: &'a mut Layout,
 ) -> Result<Asked<'a>, RequestFault>
-    ensures asked { IfOk result (IsAsked (subcommand_rows_of matches.entry)) }
+    ensures asked { IfOk result (IsAsked (subcommand_rows_of matches.now)) }
     ensures refused { (kinds : Kinds) → kinds ≡ []
-        → IfErr result (IsRefusal kinds (subcommand_rows_of matches.entry)) }
+        → IfErr result (IsRefusal kinds (subcommand_rows_of matches.now)) }
 {
-    match asked(alloc, &matches, layout) {
+    match asked(alloc, matches, layout) {
         Ok(Some(asked)) => Ok(asked),
-        Ok(None) => Err(unasked(alloc, &matches)),
+        Ok(None) => Err(unasked(alloc, matches)),
         Err(fault) => Err(fault),
     }
 }

@@ -5,11 +5,11 @@ use Rattle.elf_words.proofs.FaultLaws.{faulty, unasked_told}
 use Rattle.elf_words.proofs.words.answered.Goals as goal
 
 pub returns-in-Ok-Some-clause-asked : goal.returns-in-Ok-Some-clause-asked
-returns-in-Ok-Some-clause-asked c = subst (λ asked. Becomes (subcommand_rows_of c.args.matches) (Ok asked)) c.in-Ok-Some.field-0-is c.in-Ok-Some.ensures
+returns-in-Ok-Some-clause-asked c = subst (λ asked. Becomes (subcommand_rows_of c.args.matches.now) (Ok asked)) c.in-Ok-Some.field-0-is c.in-Ok-Some.ensures
 
 pub returns-in-Ok-None-clause-refused : goal.returns-in-Ok-None-clause-refused
 returns-in-Ok-None-clause-refused c = λ kinds none. unasked_told kinds _ c.unasked.result none c.unasked.ensures
-    (subst (λ asked. Becomes (subcommand_rows_of c.args.matches) (Ok asked)) c.in-Ok-None.field-0-is c.in-Ok-None.ensures)
+    (subst (λ asked. Becomes (subcommand_rows_of c.args.matches.now) (Ok asked)) c.in-Ok-None.field-0-is c.in-Ok-None.ensures)
 
-pub returns-clause-refused : goal.returns-clause-refused
-returns-clause-refused c = λ kinds none. faulty kinds _ c.in-Err.fault none c.in-Err.ensures
+pub returns-in-Err-clause-refused : goal.returns-in-Err-clause-refused
+returns-in-Err-clause-refused c = λ kinds none. faulty kinds _ c.in-Err.fault none c.in-Err.ensures

@@ -26,8 +26,8 @@ returns-in-Ok-clause-refused g c = λ parts is named.
       refusal = matches_met (λ matches. IsRefusal (fault_of (program parts) (map g.S.AsStr.text c.args.words.now)) matches fault) _ parts (map g.S.AsStr.text c.args.words.now) c.in-Ok.matches is c.in-Ok.ensures.ok.2 refusal;
     }) (c.answered.ensures.refused (fault_of (program parts) (map g.S.AsStr.text c.args.words.now)) taken)
 
-pub returns-clause-refused : goal.returns-clause-refused
-returns-clause-refused g c = λ parts is named. record {
+pub returns-in-Err-clause-refused : goal.returns-in-Err-clause-refused
+returns-in-Err-clause-refused g c = λ parts is named. record {
   parts = parts;
   named = named;
   refusal = fault_met _ parts (map g.S.AsStr.text c.args.words.now) c.in-Err.error c.into.result is c.in-Err.ensures.kinds c.into.ensures;
