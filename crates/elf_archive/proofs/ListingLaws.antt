@@ -1,8 +1,8 @@
 -- A member's line, and its listing behind it.
 use Rattle.std.proofs.Common.{◌≡◌, ℕ, ◌+◌, ◌-◌, ◌≤◌, nat_le, Bool, true, false, List, [], ◌∷◌, Err, refl, ap, ◌∙◌, subst, arith}
 use Rattle.std.proofs.lemmas.Bool.Decides.{nat_tests}
-use Rattle.elf_model.specs.Archive.{Extent, Member, Progress, bytes_in, is_elf, lists_members, next_member}
-use Rattle.elf_model.specs.ArchiveCost.{long_name_bytes, member_cost}
+use Rattle.elf_model.specs.Archive.{Extent, Member, Next, Ends, Broken, OneMember, Progress, bytes_in, is_elf, lists_members, next_member}
+use Rattle.elf_model.specs.ArchiveCost.{header_cost, long_name_bytes, member_cost}
 use Rattle.elf_model.specs.Budget.{IsBudget}
 use Rattle.elf_model.specs.Cost.{ceiling, cost_where, listing_cost}
 use Rattle.elf_model.specs.Listing.{Fault as FaultItem}
@@ -10,7 +10,7 @@ use Rattle.elf_model.specs.Style.{Style}
 use Rattle.elf_model.specs.declared.causes.Refusal.{Refusal}
 use Rattle.elf_headers.specs.declared.fault.Fault.{Fault}
 use Rattle.elf_headers.specs.declared.fault.Fault.TheVariants.{Refused, Source}
-use Rattle.elf_archive.specs.Listed.{allowance, next_items}
+use Rattle.elf_archive.specs.Listed.{allowance, next_cost, next_items}
 use Rattle.elf_archive.specs.Members.{TellsMember, step_cost}
 use Rattle.elf_archive.proofs.AllowanceLaws.{allowed, header_allowed}
 use Rattle.elf_archive.proofs.AskLaws.{where_room}
@@ -45,6 +45,12 @@ pub member_allowed : (size headers cap bytes : ℕ) (p q : Progress) → p.at + 
 member_allowed size headers cap bytes p q within behind =
     let all = allowed (size - p.at) (size - q.at) bytes headers cap (omega (arith, within, behind)) in
     omega (arith, where_room p.at size (60 + long_name_bytes cap) (omega (arith, within)), all)
+
+-- what is next costs its header at least
+pub header_first : (file : List ℕ) (headers : ℕ) (style : Style) (parts : ℕ) (p : Progress) (next : Next) → header_cost file style.cap p ≤ next_cost file headers style parts p next
+header_first file headers style parts p Ends = omega arith
+header_first file headers style parts p (Broken refusal) = omega arith
+header_first file headers style parts p (OneMember member) = omega arith
 
 -- a refusal that a step answers is what is listed
 pub unread_next : (file : List ℕ) (headers : ℕ) (style : Style) (parts : ℕ) (old new : Progress) (name : List ℕ) (fault : Fault) → TellsMember file style.cap old new name (Err fault)

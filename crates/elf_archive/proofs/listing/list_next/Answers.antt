@@ -2,16 +2,29 @@
 use Rattle.std.proofs.Common.{◌+◌, [], ◌∷◌, Ok, Err, refl, ◌∙◌, arith}
 use Rattle.std.proofs.lemmas.Result.{err_from_is_err_and}
 use Rattle.elf_model.specs.Archive.{Member, member_line, member_listing, told}
+use Rattle.elf_model.specs.ArchiveCost.{header_cost, member_cost}
 use Rattle.elf_model.specs.Cost.{ceiling}
 use Rattle.elf_model.specs.Listing.{Line}
-use Rattle.elf_source.proofs.GrowthLaws.{grows_then}
+use Rattle.elf_source.proofs.GrowthLaws.{grows_not, grows_put, grows_then}
 use Rattle.elf_headers.specs.Permitted.{style_of}
 use Rattle.elf_listing.proofs.RowLaws.{Stopped-first, Whole-line}
 use Rattle.elf_listing.proofs.ShowLaws.{Stopped-then, Whole-then}
 use Rattle.elf_archive.specs.Members.{member_of, step_cost}
-use Rattle.elf_archive.proofs.ConsumeLaws.{Consumes-fault, Consumes-then}
-use Rattle.elf_archive.proofs.ListingLaws.{member_allowed, step_allowed, unread_next}
+use Rattle.elf_headers.specs.declared.stop.Stop.TheVariants.{Out}
+use Rattle.elf_archive.proofs.ConsumeLaws.{Consumes-fault, Consumes-then, Consumes-to}
+use Rattle.elf_archive.proofs.ListingLaws.{header_first, member_allowed, step_allowed, unread_next}
 use Rattle.elf_archive.proofs.listing.list_next.Goals as goal
+
+pub returns-in_err-member-clause-slots : goal.returns-in_err-member-clause-slots
+returns-in_err-member-clause-slots g c = refl
+
+pub returns-in_err-member-clause-grows : goal.returns-in_err-member-clause-grows
+returns-in_err-member-clause-grows g c = grows_not _
+
+pub returns-in_err-member-clause-stands : goal.returns-in_err-member-clause-stands
+returns-in_err-member-clause-stands g c =
+    let p = err_from_is_err_and c.from_residual.result c.from_residual.ensures.1 in
+    rw p.1 tt
 
 pub returns-in_err-member-clause-within : goal.returns-in_err-member-clause-within
 returns-in_err-member-clause-within g c =
@@ -23,11 +36,27 @@ returns-in_err-member-clause-within g c =
       takes = Consumes-fault _ _ c.args.out.now _ (step_cost c.args.src.now.seen.size c.args.choice.style.cap.bytes c.args.cursor.now) _ (omega arith) c.in_err-member.ensures.asks.0 c.in_err-member.ensures.asks.1;
     })
 
+pub returns-in_err-member-clause-cost : goal.returns-in_err-member-clause-cost
+returns-in_err-member-clause-cost g c = λ file held.
+    let p = err_from_is_err_and c.from_residual.result c.from_residual.ensures.1 in
+    let asks = c.in_err-member.ensures.cost file held in
+    rw (p.1, p.2) (Consumes-fault _ _ c.args.out.now _ _ _ (header_first file c.args.store.now.slots (style_of c.args.choice.style) c.args.choice.parts.0 c.args.cursor.now _) asks.0 asks.1)
+
 pub returns-in_err-member-clause-text : goal.returns-in_err-member-clause-text
 returns-in_err-member-clause-text g c = λ file held.
     let p = err_from_is_err_and c.from_residual.result c.from_residual.ensures.1 in
     rw (p.1, p.2) (Stopped-first _ _ _
     (unread_next file c.args.store.now.slots (style_of c.args.choice.style) c.args.choice.parts.0 c.args.cursor.now c.advance.new.self c.advance.new.name _ (c.in_err-member.ensures.tells file held)))
+
+pub returns-in_err-member-clause-steps : goal.returns-in_err-member-clause-steps
+returns-in_err-member-clause-steps g c = λ file held.
+    let p = err_from_is_err_and c.from_residual.result c.from_residual.ensures.1 in
+    rw p.1 tt
+
+pub returns-in_err-show_member-clause-stands : goal.returns-in_err-show_member-clause-stands
+returns-in_err-show_member-clause-stands g c =
+    let p = err_from_is_err_and c.from_residual-in_err-show_member.result c.from_residual-in_err-show_member.ensures.1 in
+    rw p.1 tt
 
 pub returns-in_err-show_member-clause-within : goal.returns-in_err-show_member-clause-within
 returns-in_err-show_member-clause-within g c =
@@ -39,9 +68,26 @@ returns-in_err-show_member-clause-within g c =
       takes = (c.in_ok-member.ensures.asks.0, c.in_err-show_member.ensures.puts.1);
     })
 
+pub returns-in_err-show_member-clause-cost : goal.returns-in_err-show_member-clause-cost
+returns-in_err-show_member-clause-cost g c = λ file held.
+    let p = err_from_is_err_and c.from_residual-in_err-show_member.result c.from_residual-in_err-show_member.ensures.1 in
+    let tells = rw c.in-Some.is at (c.in_ok-member.ensures.tells file held) in
+    let m : Member = member_of c.in-Some.member c.advance.new.name in
+    rw (p.1, p.2, tells.0) (Consumes-to {X = Unit {0}} _ _ c.show_member.new.out (Err (Out c.in_err-show_member.field-0.0)) (header_cost file c.args.choice.style.cap.bytes c.args.cursor.now) _ (omega arith) ((c.in_ok-member.ensures.cost file held).0, c.in_err-show_member.ensures.puts.1))
+
+pub returns-in_err-show_member-clause-steps : goal.returns-in_err-show_member-clause-steps
+returns-in_err-show_member-clause-steps g c = λ file held.
+    let p = err_from_is_err_and c.from_residual-in_err-show_member.result c.from_residual-in_err-show_member.ensures.1 in
+    rw p.1 tt
+
 pub returns-in_err-refused-clause-grows : goal.returns-in_err-refused-clause-grows
 returns-in_err-refused-clause-grows g c =
     grows_then (record { bytes = _; takes = c.in_ok-show_member.ensures.puts.0 }) c.in_err-refused.ensures.grows
+
+pub returns-in_err-refused-clause-stands : goal.returns-in_err-refused-clause-stands
+returns-in_err-refused-clause-stands g c =
+    let p = err_from_is_err_and c.from_residual-in_err-refused.result c.from_residual-in_err-refused.ensures.1 in
+    rw p.1 tt
 
 pub returns-in_err-refused-clause-within : goal.returns-in_err-refused-clause-within
 returns-in_err-refused-clause-within g c =
@@ -59,6 +105,15 @@ returns-in_err-refused-clause-within g c =
           c.in_ok-member.ensures.asks.0 c.in_err-refused.ensures.ceiling;
     })
 
+pub returns-in_err-refused-clause-cost : goal.returns-in_err-refused-clause-cost
+returns-in_err-refused-clause-cost g c = λ file held.
+    let p = err_from_is_err_and c.from_residual-in_err-refused.result c.from_residual-in_err-refused.ensures.1 in
+    let tells = rw c.in-Some.is at (c.in_ok-member.ensures.tells file held) in
+    let m : Member = member_of c.in-Some.member c.advance.new.name in
+    let now = c.in_ok-member.ensures.asks.0.keeps.same_file ∙ held in
+    rw (p.1, p.2, tells.0) (Consumes-then {X = Unit {0}} _ _ _ c.list_member.new.out (Err c.in_err-refused.field-0.0) (header_cost file c.args.choice.style.cap.bytes c.args.cursor.now) (member_cost file c.args.store.now.slots (style_of c.args.choice.style) c.args.choice.parts.0 m) _ (omega arith)
+    (c.in_ok-member.ensures.cost file held).0 (c.in_err-refused.ensures.cost file now m refl))
+
 pub returns-in_err-refused-clause-text : goal.returns-in_err-refused-clause-text
 returns-in_err-refused-clause-text g c = λ file held.
     let p = err_from_is_err_and c.from_residual-in_err-refused.result c.from_residual-in_err-refused.ensures.1 in
@@ -68,6 +123,11 @@ returns-in_err-refused-clause-text g c = λ file held.
     let shown = c.in_err-refused.ensures.text file now m refl in
     rw (p.1, p.2, tells.0) (Stopped-then _ _ _ _ (Line (member_line m) ∷ []) (told (member_listing file c.args.store.now.slots (style_of c.args.choice.style) c.args.choice.parts.0 m))
     (Whole-line (member_line m) c.in_ok-show_member.ensures.puts.0) shown.0)
+
+pub returns-in_err-refused-clause-steps : goal.returns-in_err-refused-clause-steps
+returns-in_err-refused-clause-steps g c = λ file held.
+    let p = err_from_is_err_and c.from_residual-in_err-refused.result c.from_residual-in_err-refused.ensures.1 in
+    rw p.1 tt
 
 pub returns-clause-grows : goal.returns-clause-grows
 returns-clause-grows g c =
@@ -87,6 +147,14 @@ returns-clause-within g c =
       takes = Consumes-then {X = Unit {0}} _ _ _ c.list_member.new.out (Ok tt) (step_cost size cap c.args.cursor.now) (4 + ceiling c.in-Some.member.extent.size headers cap) _ (omega arith)
           c.in_ok-member.ensures.asks.0 (c.in_ok-refused.ensures.ceiling.0, tt);
     }
+
+pub returns-clause-cost : goal.returns-clause-cost
+returns-clause-cost g c = λ file held.
+    let tells = rw c.in-Some.is at (c.in_ok-member.ensures.tells file held) in
+    let m : Member = member_of c.in-Some.member c.advance.new.name in
+    let now = c.in_ok-member.ensures.asks.0.keeps.same_file ∙ held in
+    rw (tells.0) (Consumes-then {X = Unit {0}} _ _ _ c.list_member.new.out (Ok tt) (header_cost file c.args.choice.style.cap.bytes c.args.cursor.now) (member_cost file c.args.store.now.slots (style_of c.args.choice.style) c.args.choice.parts.0 m) _ (omega arith)
+    (c.in_ok-member.ensures.cost file held).0 ((c.in_ok-refused.ensures.cost file now m refl).0, tt))
 
 pub returns-clause-text : goal.returns-clause-text
 returns-clause-text g c = λ file held.
