@@ -1,19 +1,26 @@
 -- A member's line stands behind those before it, and its listing behind that.
-use Rattle.std.proofs.Common.{◌+◌, [], ◌∷◌, Ok, Err, refl, ◌∙◌, arith}
+use Rattle.std.proofs.Common.{rules, ◌≡◌, ◌+◌, [], ◌∷◌, Ok, Err, None, refl, ◌∙◌, arith}
 use Rattle.std.proofs.lemmas.Result.{err_from_is_err_and}
 use Rattle.elf_model.specs.Archive.{Member, member_line, member_listing, told}
 use Rattle.elf_model.specs.ArchiveCost.{header_cost, member_cost}
 use Rattle.elf_model.specs.Cost.{ceiling}
 use Rattle.elf_model.specs.Listing.{Line}
-use Rattle.elf_source.proofs.GrowthLaws.{grows_not, grows_put, grows_then}
+use Rattle.elf_source.proofs.GrowthLaws.{grows_front, grows_not, grows_then}
+use Rattle.elf_source.proofs.PutsLaws.{Takes-nothing}
 use Rattle.elf_headers.specs.Permitted.{style_of}
 use Rattle.elf_listing.proofs.RowLaws.{Stopped-first, Whole-line}
 use Rattle.elf_listing.proofs.ShowLaws.{Stopped-then, Whole-then}
 use Rattle.elf_archive.specs.Members.{member_of, step_cost}
 use Rattle.elf_headers.specs.declared.stop.Stop.TheVariants.{Out}
-use Rattle.elf_archive.proofs.ConsumeLaws.{Consumes-fault, Consumes-then, Consumes-to}
+use Rattle.elf_archive.proofs.ConsumeLaws.{Consumes-fault, Consumes-then, Consumes-to, still_whole}
 use Rattle.elf_archive.proofs.ListingLaws.{header_first, member_allowed, step_allowed, unread_next}
 use Rattle.elf_archive.proofs.listing.list_next.Goals as goal
+
+pub advance-requires-clause-size : goal.advance-requires-clause-size
+advance-requires-clause-size g c = c.requires.size
+
+pub advance-requires-clause-stands : goal.advance-requires-clause-stands
+advance-requires-clause-stands g c = c.requires.stands
 
 pub returns-in_err-member-clause-slots : goal.returns-in_err-member-clause-slots
 returns-in_err-member-clause-slots g c = refl
@@ -80,6 +87,62 @@ returns-in_err-show_member-clause-steps g c = λ file held.
     let p = err_from_is_err_and c.from_residual-in_err-show_member.result c.from_residual-in_err-show_member.ensures.1 in
     rw p.1 tt
 
+pub returns-in_default-clause-slots : goal.returns-in_default-clause-slots
+returns-in_default-clause-slots g c = refl
+
+pub returns-in_default-clause-grows : goal.returns-in_default-clause-grows
+returns-in_default-clause-grows g c = grows_not _
+
+pub returns-in_default-clause-stands : goal.returns-in_default-clause-stands
+returns-in_default-clause-stands g c = tt
+
+pub returns-in_default-clause-within : goal.returns-in_default-clause-within
+returns-in_default-clause-within g c =
+    let most = step_allowed c.args.src.now.seen.size c.args.store.now.slots c.args.choice.style.cap.bytes c.args.cursor.now in
+    record {
+      bytes = step_cost c.args.src.now.seen.size c.args.choice.style.cap.bytes c.args.cursor.now;
+      within = omega (arith, most);
+      takes = (c.in_ok-member.ensures.asks.0, tt);
+    }
+
+pub returns-in_default-clause-cost : goal.returns-in_default-clause-cost
+returns-in_default-clause-cost g c = λ file held.
+    let none : c.in_ok-member.field-0 ≡ None = search rules in
+    let ends = rw none at (c.in_ok-member.ensures.tells file held) in
+    rw ends ((c.in_ok-member.ensures.cost file held).0, tt)
+
+pub returns-in_default-clause-text : goal.returns-in_default-clause-text
+returns-in_default-clause-text g c = λ file held.
+    let none : c.in_ok-member.field-0 ≡ None = search rules in
+    let ends = rw none at (c.in_ok-member.ensures.tells file held) in
+    rw ends (record { takes = Takes-nothing _; no_fault = refl })
+
+pub returns-in_default-clause-steps : goal.returns-in_default-clause-steps
+returns-in_default-clause-steps g c = λ file held.
+    let none : c.in_ok-member.field-0 ≡ None = search rules in
+    let ends = rw none at (c.in_ok-member.ensures.tells file held) in
+    ends
+
+pub returns-in_err-show_member-clause-slots : goal.returns-in_err-show_member-clause-slots
+returns-in_err-show_member-clause-slots g c = refl
+
+pub returns-in_err-show_member-clause-grows : goal.returns-in_err-show_member-clause-grows
+returns-in_err-show_member-clause-grows g c = grows_front c.in_err-show_member.ensures.puts.0
+
+pub list_member-requires-clause-whole : goal.list_member-requires-clause-whole
+list_member-requires-clause-whole g c = still_whole _ _ _ c.requires.whole c.in_ok-member.ensures.asks.0
+
+pub list_member-requires-clause-size : goal.list_member-requires-clause-size
+list_member-requires-clause-size g c = rw c.in_ok-member.ensures.asks.0.keeps.same_size c.requires.size
+
+pub list_member-requires-clause-lies : goal.list_member-requires-clause-lies
+list_member-requires-clause-lies g c =
+    let passes = rw c.in-Some.is at c.in_ok-member.ensures.steps in
+    rw c.in_ok-member.ensures.asks.0.keeps.same_size passes.lies
+
+pub returns-in_err-refused-clause-slots : goal.returns-in_err-refused-clause-slots
+returns-in_err-refused-clause-slots g c = c.in_err-refused.ensures.slots
+
 pub returns-in_err-refused-clause-grows : goal.returns-in_err-refused-clause-grows
 returns-in_err-refused-clause-grows g c =
     grows_then (record { bytes = _; takes = c.in_ok-show_member.ensures.puts.0 }) c.in_err-refused.ensures.grows
@@ -129,9 +192,17 @@ returns-in_err-refused-clause-steps g c = λ file held.
     let p = err_from_is_err_and c.from_residual-in_err-refused.result c.from_residual-in_err-refused.ensures.1 in
     rw p.1 tt
 
+pub returns-clause-slots : goal.returns-clause-slots
+returns-clause-slots g c = c.in_ok-refused.ensures.slots
+
 pub returns-clause-grows : goal.returns-clause-grows
 returns-clause-grows g c =
     grows_then (record { bytes = _; takes = c.in_ok-show_member.ensures.puts.0 }) c.in_ok-refused.ensures.grows
+
+pub returns-clause-stands : goal.returns-clause-stands
+returns-clause-stands g c =
+    let passes = rw c.in-Some.is at c.in_ok-member.ensures.steps in
+    (passes.stands, omega (arith, passes.begins, passes.ends))
 
 pub returns-clause-within : goal.returns-clause-within
 returns-clause-within g c =
