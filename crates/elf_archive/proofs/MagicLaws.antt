@@ -1,10 +1,11 @@
 -- The magic string of an archive.
 use Rattle.std.proofs.Common.{◌≡◌, ◌≢◌, ℕ, ◌^◌, ◌<◌, ◌≤◌, ◌==◌, true, false, nat_lt, List, length, None, Some, refl, arith}
 use Rattle.std.proofs.lemmas.Bool.Decides.{nat_tests}
-use Rattle.elf_model.specs.Archive.{ARCHIVE_MAGIC, THIN_MAGIC, archive_checks}
+use Rattle.elf_model.specs.Archive.{ARCHIVE_MAGIC, THIN_MAGIC, archive_checks, archive_length_checks}
 use Rattle.elf_model.specs.Bytes.{slice, field}
 use Rattle.elf_model.specs.Checks.{first_refusal}
 use Rattle.elf_model.specs.declared.causes.Cause.TheVariants.{Thin, NotArchive}
+use Rattle.elf_model.specs.declared.causes.Refusal.{Refusal}
 use Rattle.elf_model.proofs.Slices.{field-slice}
 
 -- the number of the first eight bytes
@@ -31,3 +32,11 @@ is-archive file enough few is =
     let below : nat_lt (length file) (2 ^ 63) ≡ true = grind (arith, nat_tests) in
     let whole : nat_lt (length file) 8 ≡ false = grind (arith, nat_tests) in
     rw (below, whole, is) refl
+
+-- a length that an archive may have is not refused
+pub length-passes : (size : ℕ) (refusal : Refusal) → 8 ≤ size → size < 2 ^ 63 → first_refusal (archive_length_checks size) ≡ Some refusal → ⊥
+length-passes size refusal enough few is =
+    let below : nat_lt size (2 ^ 63) ≡ true = grind (arith, nat_tests) in
+    let whole : nat_lt size 8 ≡ false = grind (arith, nat_tests) in
+    let none = rw (below, whole) at is in
+    absurd (cc)

@@ -7,8 +7,13 @@ use Rattle.std.proofs.lemmas.List.{take_all}
 use Rattle.elf_model.specs.Bytes.{slice}
 use Rattle.elf_model.specs.Archive.{Extent, long_name, long_of, long_offset, member_name, newline_in, short_name, without_slash}
 use Rattle.elf_model.specs.Notes.{capped}
+use Rattle.elf_model.specs.declared.causes.Cause.{Cause}
 use Rattle.elf_model.specs.declared.causes.Cause.TheVariants.{NameOutside, NameUnended}
 use Rattle.elf_model.proofs.Slices.{slice-rest}
+use Rattle.elf_headers.specs.Faults.{IsOfRead}
+use Rattle.elf_headers.specs.declared.fault.Fault.{Fault}
+use Rattle.elf_headers.specs.declared.fault.Fault.TheVariants.{Refused, Source}
+use Rattle.elf_table.specs.NamesRead.{Refuses}
 use Rattle.elf_archive.proofs.MemberLaws.{name-of}
 
 -- two slices, one behind the other
@@ -103,3 +108,8 @@ pub long_buffer : (file buffer : List ℕ) (table : Extent) (offset cap want : �
 long_buffer file buffer table offset cap want room inside few within whole =
     let size : length (take want buffer) ≡ want = length-take-le want buffer room in
     rw size (long_front file table offset cap want inside few within whole)
+
+-- a fault of a read refuses nothing
+pub unread-refuses : {X : Type 0} (at : ℕ) (fault : Fault) (answer : Result X Cause) → IsOfRead fault → Refuses at fault answer
+unread-refuses at (Refused refusal) answer read = λ other. absurd (other read)
+unread-refuses at (Source fault offset) answer read = tt

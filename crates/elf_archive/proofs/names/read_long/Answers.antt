@@ -1,5 +1,8 @@
-use Rattle.std.proofs.Common.{refl, ◌∙◌, arith}
-use Rattle.elf_archive.proofs.NameLaws.{long-none, long-outside, long_buffer}
+use Rattle.std.proofs.Common.{ℕ, Err, length-take, refl, ◌∙◌, arith}
+use Rattle.std.proofs.lemmas.Result.{err_from_is_err_and}
+use Rattle.elf_source.proofs.ReadsLaws.{Reads-to}
+use Rattle.elf_archive.proofs.AskLaws.{Asks-to}
+use Rattle.elf_archive.proofs.NameLaws.{long-none, long-outside, long_buffer, unread-refuses}
 use Rattle.elf_archive.proofs.names.read_long.Goals as goal
 
 pub returns-in_default-clause-read : goal.returns-in_default-clause-read
@@ -19,3 +22,29 @@ pub returns-in-None-clause-read : goal.returns-in-None-clause-read
 returns-in-None-clause-read g c = λ file held.
     let told = rw c.in-None.is at (c.in_ok-is_cut.ensures.read file held) in
     rw (c.refused-in-None.ensures, c.in-Some.is) (λ other. (refl, long_buffer file _ _ c.args.offset c.args.cap.bytes c.min-want.result (omega arith) c.if-offset-table.false (omega arith) (omega arith) (λ few. omega arith) ∙ told))
+
+pub returns-in_err-is_cut-clause-reads : goal.returns-in_err-is_cut-clause-reads
+returns-in_err-is_cut-clause-reads g c =
+    let reads = c.in_err-is_cut.ensures.reads in
+    Reads-to reads (omega (arith, reads.at_most, length-take {A = ℕ}))
+
+pub returns-in_err-is_cut-clause-says : goal.returns-in_err-is_cut-clause-says
+returns-in_err-is_cut-clause-says g c =
+    let p = err_from_is_err_and c.from_residual.result c.from_residual.ensures.1 in
+    let asks = Asks-to {X = Unit {0}} _ _ (Err c.in_err-is_cut.field-0.0) _ _ (omega (arith, length-take {A = ℕ})) (c.in_err-is_cut.ensures.reads, c.in_err-is_cut.ensures.says) in
+    rw (p.1, p.2) asks.1
+
+pub returns-in-Some-2-clause-reads : goal.returns-in-Some-2-clause-reads
+returns-in-Some-2-clause-reads g c =
+    let reads = c.in_ok-is_cut.ensures.reads in
+    Reads-to reads (omega (arith, reads.at_most, length-take {A = ℕ}))
+
+pub returns-in-None-clause-reads : goal.returns-in-None-clause-reads
+returns-in-None-clause-reads g c =
+    let reads = c.in_ok-is_cut.ensures.reads in
+    Reads-to reads (omega (arith, reads.at_most, length-take {A = ℕ}))
+
+pub returns-in_err-is_cut-clause-read : goal.returns-in_err-is_cut-clause-read
+returns-in_err-is_cut-clause-read g c = λ file held.
+    let p = err_from_is_err_and c.from_residual.result c.from_residual.ensures.1 in
+    rw (p.1, p.2) (unread-refuses c.args.at _ _ c.in_err-is_cut.ensures.fault)

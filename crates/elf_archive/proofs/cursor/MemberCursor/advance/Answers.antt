@@ -1,9 +1,10 @@
 use Rattle.std.proofs.Common.{◌≡◌, ◌+◌, nat_le, Err, subst, sym, ap, ◌∙◌, arith}
 use Rattle.std.proofs.lemmas.Result.{err_from_is_err_and}
+use Rattle.elf_model.specs.ArchiveCost.{long_name_bytes}
 use Rattle.elf_model.specs.Bytes.{slice}
 use Rattle.elf_model.specs.Cost.{cost_where}
 use Rattle.elf_source.proofs.ReadsLaws.{Reads-then, Reads-to}
-use Rattle.elf_archive.proofs.AskLaws.{Asks-then, Asks-to, header_least, header_some, where_room}
+use Rattle.elf_archive.proofs.AskLaws.{Asks-then, Asks-to, header_least, header_some, name_most, where_more, where_room}
 use Rattle.elf_model.specs.Archive.{Member, OneMember, Progress, next_member}
 use Rattle.elf_archive.specs.Members.{TellsMember, member_of, names_of}
 use Rattle.elf_archive.specs.declared.member.Member.{Member as Given}
@@ -81,3 +82,42 @@ returns-clause-cost g c = λ file held.
     let reads = c.in_ok-is_cut.ensures.reads in
     let before = c.in_ok-size.ensures.asks.0 in
     (Reads-to (Reads-then before reads) (omega (arith, cost, first, before.at_most, reads.at_most)), tt)
+
+pub returns-in_err-size-clause-asks : goal.returns-in_err-size-clause-asks
+returns-in_err-size-clause-asks g c =
+    let p = err_from_is_err_and c.from_residual.result c.from_residual.ensures.1 in
+    let at = ap (λ (v : Progress). v.at) c.self.view_is in
+    let same = ap (λ a. cost_where (nat_le (a + 60) c.args.src.now.seen.size) 60) at in
+    let more = where_more (nat_le (c.args.self.now.at + 60) c.args.src.now.seen.size) 60 (60 + long_name_bytes c.args.cap.bytes) (omega arith) in
+    rw (p.1, p.2) (Asks-to {X = Unit {0}} _ _ (Err c.in_err-size.field-0.0) _ _ (omega (arith, same, more)) (c.in_err-size.ensures.asks.0, c.in_err-size.ensures.asks.1))
+
+pub returns-in_err-size-clause-steps : goal.returns-in_err-size-clause-steps
+returns-in_err-size-clause-steps g c =
+    let p = err_from_is_err_and c.from_residual.result c.from_residual.ensures.1 in
+    rw p.1 tt
+
+pub returns-in_err-is_cut-clause-asks : goal.returns-in_err-is_cut-clause-asks
+returns-in_err-is_cut-clause-asks g c =
+    let p = err_from_is_err_and c.from_residual-in_err-is_cut.result c.from_residual-in_err-is_cut.ensures.1 in
+    let at = ap (λ (v : Progress). v.at) c.self.view_is in
+    let lies = c.in_ok-size.ensures.lies in
+    let most = name_most c.read_header.new.header c.args.cap.bytes in
+    let first = where_room c.self.inside.at c.args.src.now.seen.size 60 (omega (arith, lies)) in
+    let all = where_room c.args.self.now.at c.args.src.now.seen.size (60 + long_name_bytes c.args.cap.bytes) (omega (arith, lies, at)) in
+    rw (p.1, p.2) (Asks-then {X = Unit {0}} _ _ _ (Err c.in_err-is_cut.field-0.0) _ _ _ (omega (arith, most, first, all)) c.in_ok-size.ensures.asks.0 (c.in_err-is_cut.ensures.reads, c.in_err-is_cut.ensures.says))
+
+pub returns-in_err-is_cut-clause-steps : goal.returns-in_err-is_cut-clause-steps
+returns-in_err-is_cut-clause-steps g c =
+    let p = err_from_is_err_and c.from_residual-in_err-is_cut.result c.from_residual-in_err-is_cut.ensures.1 in
+    rw p.1 tt
+
+pub returns-clause-asks : goal.returns-clause-asks
+returns-clause-asks g c =
+    let at = ap (λ (v : Progress). v.at) c.self.view_is in
+    let lies = c.in_ok-size.ensures.lies in
+    let most = name_most c.read_header.new.header c.args.cap.bytes in
+    let first = where_room c.self.inside.at c.args.src.now.seen.size 60 (omega (arith, lies)) in
+    let all = where_room c.args.self.now.at c.args.src.now.seen.size (60 + long_name_bytes c.args.cap.bytes) (omega (arith, lies, at)) in
+    let reads = c.in_ok-is_cut.ensures.reads in
+    let before = c.in_ok-size.ensures.asks.0 in
+    (Reads-to (Reads-then before reads) (omega (arith, most, first, all, before.at_most, reads.at_most)), tt)
