@@ -69,3 +69,11 @@ step_within size now headers slots cap bytes more total p q same_size same_slots
     let before : allowance (now - p.at) slots cap ≡ allowance (size - p.at) headers cap =
     ap (λ n. allowance (n - p.at) slots cap) same_size ∙ ap (λ h. allowance (size - p.at) h cap) same_slots in
     omega (arith, so_far, step, behind, before)
+
+-- the last step, within what is allowed
+pub step_ends : (size now headers slots cap bytes more total : ℕ) (p : Progress) → now ≡ size → slots ≡ headers → bytes + allowance (size - p.at) headers cap ≤ total
+    → more + 0 ≤ allowance (now - p.at) slots cap → bytes + more ≤ total
+step_ends size now headers slots cap bytes more total p same_size same_slots so_far step =
+    let before : allowance (now - p.at) slots cap ≡ allowance (size - p.at) headers cap =
+    ap (λ n. allowance (n - p.at) slots cap) same_size ∙ ap (λ h. allowance (size - p.at) h cap) same_slots in
+    omega (arith, so_far, step, before)

@@ -1,12 +1,13 @@
 -- Each step lists the next member behind those before it.
-use Rattle.std.proofs.Common.{rules, ◌≡◌, ℕ, ◌+◌, ◌||◌, length, None, refl, sym, ap, ◌∙◌, subst, arith}
+use Rattle.std.proofs.Common.{rules, ◌≡◌, ℕ, ◌+◌, ◌||◌, length, None, Ok, Err, refl, sym, ap, ◌∙◌, subst, arith}
 use Rattle.std.proofs.lemmas.Result.{err_from_is_err_and}
 use Rattle.elf_model.specs.Archive.{before_members}
 use Rattle.elf_source.proofs.GrowthLaws.{grows_not, grows_then}
 use Rattle.elf_source.proofs.ReadsLaws.{Reads-none, Reads-then}
 use Rattle.elf_headers.specs.Permitted.{style_of}
 use Rattle.elf_archive.specs.Members.{StandsIn}
-use Rattle.elf_archive.proofs.ListingLaws.{step_within}
+use Rattle.elf_archive.proofs.ConsumeLaws.{Consumes-then, still_whole}
+use Rattle.elf_archive.proofs.ListingLaws.{step_ends, step_within}
 use Rattle.elf_archive.proofs.WalkLaws.{walk_begins, walk_ends, walk_more, walk_stops}
 use Rattle.elf_archive.proofs.listing.list_members.Goals as goal
 
@@ -89,3 +90,35 @@ returns-clause-walks g c = λ file held.
     let text = rw known.slots at (c.in_ok-refused.ensures.text file now) in
     let steps = rw none at (c.in_ok-refused.ensures.steps file now) in
     walk_ends file c.args.store.now.slots (style_of c.args.choice.style) c.args.choice.parts.0 (length file) before_members c.members.cursor c.list_next.new.cursor _ _ _ _ _ _ c.members.any (known.walks file held) steps takes text
+
+pub list_next-requires-clause-whole : goal.list_next-requires-clause-whole
+list_next-requires-clause-whole g c = still_whole _ _ _ c.requires.whole c.members.invariant.reads
+
+pub list_next-requires-clause-stands : goal.list_next-requires-clause-stands
+list_next-requires-clause-stands g c = subst (λ (n : ℕ). StandsIn n c.members.cursor) (sym c.members.invariant.reads.keeps.same_size) c.members.invariant.stands
+
+pub returns-in_err-refused-clause-allowed : goal.returns-in_err-refused-clause-allowed
+returns-in_err-refused-clause-allowed g c =
+    let p = err_from_is_err_and c.from_residual.result c.from_residual.ensures.1 in
+    let known = c.members.invariant in
+    let step = c.in_err-refused.ensures.within in
+    let within = step_ends c.args.src.now.seen.size c.members.src.seen.size c.args.store.now.slots c.members.store.slots c.args.choice.style.cap.bytes known.bytes step.bytes _ c.members.cursor known.reads.keeps.same_size known.slots known.within step.within in
+    rw (p.1, p.2) (Consumes-then {X = Unit {0}} _ _ _ c.list_next.new.out (Err c.in_err-refused.field-0.0) known.bytes step.bytes _ within known.reads step.takes)
+
+pub returns-clause-allowed : goal.returns-clause-allowed
+returns-clause-allowed g c =
+    let known = c.members.invariant in
+    let none : c.in_ok-refused.field-0 ≡ None = search rules in
+    let step = rw none at c.in_ok-refused.ensures.within in
+    let within = step_ends c.args.src.now.seen.size c.members.src.seen.size c.args.store.now.slots c.members.store.slots c.args.choice.style.cap.bytes known.bytes step.bytes _ c.members.cursor known.reads.keeps.same_size known.slots known.within step.within in
+    Consumes-then {X = Unit {0}} _ _ _ c.list_next.new.out (Ok tt) known.bytes step.bytes _ within known.reads (step.takes.0, tt)
+
+pub members-smaller-then-any : goal.members-smaller-then-any
+members-smaller-then-any g c =
+    let stands = rw c.in-Some.is at c.in_ok-refused.ensures.stands in
+    omega (arith, stands.0.within, stands.1, c.members.invariant.reads.keeps.same_size)
+
+pub members-smaller : goal.members-smaller
+members-smaller g c =
+    let stands = rw c.in-Some.is at c.in_ok-refused.ensures.stands in
+    omega (arith, stands.0.within, stands.1, c.members.invariant.reads.keeps.same_size)
