@@ -1,5 +1,6 @@
 -- Names of numbers in two tables, one behind the other.
-use Rattle.std.proofs.Common.{◌≡◌, ℕ, ◌==◌, if◌then◌else◌, Bool, true, false, List, [], ◌∷◌, ◌++◌, Option, None, Some, refl}
+use Rattle.std.proofs.Common.{◌≡◌, ℕ, ◌≤◌, ◌==◌, ◌&&◌, nat_le, if◌then◌else◌, Bool, true, false, List, [], ◌∷◌, ◌++◌, length, Bor, Option, None, Some, IfSome, option_copied, refl, arith}
+use Rattle.std.proofs.lemmas.Bool.Decides.{nat_tests}
 use Rattle.elf_model.specs.Text.{name_of}
 
 -- the name of the first table, or else of the second
@@ -16,3 +17,26 @@ name_of_both (entry ∷ names) more n = by_cases (n == entry.0) (name_of_both na
         → (if same then Some entry.1 else name_of (names ++ more) n) ≡ first_of (if same then Some entry.1 else name_of names n) (name_of more n)
     by_cases true rest = refl
     by_cases false rest = rest
+
+-- the names of a table have at most so many bytes
+abbrev pub are_short : ℕ → List (ℕ × List ℕ) → Bool
+are_short most [] = true
+are_short most (entry ∷ names) = nat_le (length entry.1) most && are_short most names
+
+-- so has each that is found in it
+pub short_in : (most : ℕ) (names : List (ℕ × List ℕ)) (n : ℕ) → are_short most names ≡ true → IfSome (name_of names n) (λ name. length name ≤ most)
+unfolding name_of
+short_in most [] n short = tt
+short_in most (entry ∷ names) n short = by_cases (nat_le (length entry.1) most) refl (n == entry.0) (λ fits. short_in most names n (rw fits at short))
+  where
+    by_cases : (t : Bool) → nat_le (length entry.1) most ≡ t → (same : Bool)
+        → (nat_le (length entry.1) most ≡ true → IfSome (name_of names n) (λ name. length name ≤ most))
+        → IfSome (if same then Some entry.1 else name_of names n) (λ name. length name ≤ most)
+    by_cases true fits true rest = let h : length entry.1 ≤ most = grind (arith, nat_tests) in h
+    by_cases true fits false rest = rest fits
+    by_cases false fits same rest = let no = rw fits at short in absurd (cc)
+
+pub short_name : (most : ℕ) (names : List (ℕ × List ℕ)) (n : ℕ) (result : Option (Bor (List ℕ))) → are_short most names ≡ true → option_copied result ≡ name_of names n
+    → IfSome result (λ name. length name.now ≤ most)
+short_name most names n None short is = tt
+short_name most names n (Some name) short is = let found = rw (← is) at (short_in most names n short) in found

@@ -59,7 +59,6 @@ fn tag_name(tag: u64, gnu: bool) -> Option<&'static str>
 #[tactic(auto, unfolding(crate::specs::Rows::gnu_dynamic_tags, crate::specs::Rows::name_of))]
 fn gnu_tag(tag: u64, gnu: bool) -> Option<&'static str>
     ensures name { option_copied result ≡ name_of (names_where gnu gnu_dynamic_tags) tag }
-    ensures short { IfSome result (λ name. length name.now ≤ 16) }
 {
     if !gnu {
         return None;
@@ -113,7 +112,6 @@ fn gnu_tag(tag: u64, gnu: bool) -> Option<&'static str>
 #[tactic(auto, unfolding(crate::specs::Rows::standard_dynamic_tags, crate::specs::Rows::name_of))]
 fn standard_tag(tag: u64) -> Option<&'static str>
     ensures name { option_copied result ≡ name_of standard_dynamic_tags tag }
-    ensures short { IfSome result (λ name. length name.now ≤ 16) }
 {
     match tag {
         DT_NULL => Some("NULL"),

@@ -109,7 +109,6 @@ pub(crate) fn relocation_type_name(kind: u32, gnu: bool) -> Option<&'static str>
 #[tactic(auto, unfolding(crate::specs::Rows::further_relocation_types, crate::specs::Rows::name_of))]
 fn further_relocation_type(kind: u32, gnu: bool) -> Option<&'static str>
     ensures name { option_copied result ≡ name_of (names_where gnu further_relocation_types) kind }
-    ensures short { IfSome result (λ name. length name.now ≤ 10) }
 {
     if !gnu {
         return None;
@@ -156,7 +155,6 @@ fn further_relocation_type(kind: u32, gnu: bool) -> Option<&'static str>
 #[tactic(auto, unfolding(crate::specs::Rows::standard_relocation_types, crate::specs::Rows::name_of))]
 fn standard_relocation_type(kind: u32) -> Option<&'static str>
     ensures name { option_copied result ≡ name_of standard_relocation_types kind }
-    ensures short { IfSome result (λ name. length name.now ≤ 10) }
 {
     match kind {
         R_X86_64_NONE => Some("NONE"),
