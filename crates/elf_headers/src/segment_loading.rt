@@ -19,7 +19,6 @@ impl Loaded {
     /// # Errors
     /// A fault of a read, or a refusal for want of budget, at the offset that was asked for. Then
     /// no header is loaded, and the store may be loaded again.
-    #[tactic(auto, using(crate::proofs::ViewLaws::views_read))]
     pub fn load_segments<S: Source>(
         &self,
         src: &mut Counted<S>,
