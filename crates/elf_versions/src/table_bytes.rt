@@ -59,14 +59,16 @@ impl TableBytes {
     {
         let _ = table.entry();
         let size = table.len();
-        let whole = size <= most && size <= BUFFER_BYTES as u64;
+        if size > most || size > BUFFER_BYTES as u64 {
+            return Ok(TableBytes::unread(table));
+        }
         let mut bytes = [0; BUFFER_BYTES];
-        if whole && size > 0 {
+        if size > 0 {
             fill(src, table.at(), &mut bytes[..size as usize])?;
         }
         Ok(TableBytes {
             table,
-            whole,
+            whole: true,
             bytes,
         })
     }
