@@ -6,6 +6,15 @@ use Rattle.elf_versions.proofs.TakenLaws.{behind-more, end-cut, end-names, going
 use Rattle.elf_versions.proofs.WordLaws.{none-of}
 use Rattle.elf_versions.proofs.number_names.NumberNames.take_all.Goals as goal
 
+pub advance-requires : goal.advance-requires
+advance-requires g c = let i = c.records.invariant in rw (i.same_held, i.so_far.costs.reads.keeps.same_size) c.requires.within
+
+pub take-requires : goal.take-requires
+take-requires g c = let leaves = rw c.in-Some.is at c.in_ok-given.ensures.leaves in leaves.3
+
+pub records-smaller : goal.records-smaller
+records-smaller g c = let leaves = rw c.in-Some.is at c.in_ok-given.ensures.leaves in omega (arith, leaves.2)
+
 pub records-preserved : goal.records-preserved
 records-preserved g c =
     let l = c.records in
