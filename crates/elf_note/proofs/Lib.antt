@@ -1,3 +1,4 @@
 pub mod EntriesLeft
 pub mod ShownNames
 pub mod Stepping
+pub mod ThroughLaws

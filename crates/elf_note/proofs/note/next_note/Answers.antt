@@ -1,11 +1,12 @@
 use Rattle.std.proofs.Common.{◌≡◌, ℕ, ◌+◌, ◌-◌, ◌<◌, ◌≤◌, min, length, ap, sym, ◌∙◌, arith, rules}
 use Rattle.std.proofs.lemmas.List.{take_at}
+use Rattle.std.proofs.lemmas.Result.{err_from_is_err_and}
 use Rattle.elf_model.specs.Bytes.{slice}
 use Rattle.elf_model.specs.Notes.{to_next}
 use Rattle.elf_record.specs.NoteHead.{IsNoteHead}
 use Rattle.elf_table.specs.Windows.{bytes_left, range_end}
 use Rattle.elf_note.proofs.Stepping.{left-zeros, left-few, left-short, moved-by, found-tells}
-use Rattle.elf_source.proofs.OnwardLaws.{onward_then}
+use Rattle.elf_note.proofs.ThroughLaws.{through_then, through_skip, through_err}
 use Rattle.elf_note.proofs.note.next_note.Goals as goal
 
 pub returns-then-branch-clause-tells : goal.returns-then-branch-clause-tells
@@ -84,20 +85,20 @@ returns-clause-tells g c = λ file h a.
 
 pub returns-in_err-name_end-clause-went : goal.returns-in_err-name_end-clause-went
 returns-in_err-name_end-clause-went g c =
-    record { reads = search rules; says = search rules; moves = search rules; agrees = search rules; onward = onward_then _ _ _ _ _ _ _ _ (omega arith) c.take.ensures.went.onward c.read_name.ensures.went.onward }
+    let p = err_from_is_err_and c.from_residual-in_err-name_end.result c.from_residual-in_err-name_end.ensures.1 in
+    rw (p.1, p.2) (through_err _ _ _ _ _ _ (through_then _ _ _ _ _ _ _ _ _ c.in_ok-take.ensures.went c.in_err-name_end.ensures.went))
 
 pub returns-in_err-read_rest-clause-went : goal.returns-in_err-read_rest-clause-went
 returns-in_err-read_rest-clause-went g c =
-    record { reads = search rules; says = search rules; moves = search rules; agrees = search rules; onward = onward_then _ _ _ _ _ _ _ _ (omega (arith, c.skip.ensures.end, c.skip.ensures.unread)) (onward_then _ _ _ _ _ _ _ _ (omega arith) c.take.ensures.went.onward c.read_name.ensures.went.onward) c.read_rest.ensures.went.onward }
+    let p = err_from_is_err_and c.from_residual-in_err-read_rest.result c.from_residual-in_err-read_rest.ensures.1 in
+    let s = c.skip.ensures in
+    let named = through_then _ _ _ _ _ _ _ _ _ c.in_ok-take.ensures.went c.in_ok-name_end.ensures.went in
+    rw (p.1, p.2)
+    (through_err _ _ _ _ _ _ (through_then _ _ _ _ _ _ _ _ _ (through_skip _ _ _ _ _ _ _ _ named s.page s.at s.unread s.end s.agrees) c.in_err-read_rest.ensures.went))
 
 pub returns-clause-went : goal.returns-clause-went
-returns-clause-went g c = record {
-  reads = search rules;
-  says = search rules;
-  moves = search rules;
-  agrees = λ file h a.
-      let h1 = c.in_ok-take.ensures.went.reads.keeps.same_file ∙ h in
-      let name = c.in_ok-name_end.ensures.went in
-      c.in_ok-read_rest.ensures.went.agrees file (name.reads.keeps.same_file ∙ h1) (c.skip.ensures.agrees file (name.agrees file h1 (c.in_ok-take.ensures.went.agrees file h a)));
-  onward = onward_then _ _ _ _ _ _ _ _ (omega (arith, c.skip.ensures.end, c.skip.ensures.unread)) (onward_then _ _ _ _ _ _ _ _ (omega arith) c.take.ensures.went.onward c.read_name.ensures.went.onward) c.read_rest.ensures.went.onward;
-}
+returns-clause-went g c =
+    let s = c.skip.ensures in
+    let named = through_then _ _ _ _ _ _ _ _ _ c.in_ok-take.ensures.went c.in_ok-name_end.ensures.went in
+    let rest = through_then _ _ _ _ _ _ _ _ _ (through_skip _ _ _ _ _ _ _ _ named s.page s.at s.unread s.end s.agrees) c.in_ok-read_rest.ensures.went in
+    record { reads = rest.reads; says = tt; moves = rest.moves; onward = rest.onward; agrees = rest.agrees }
