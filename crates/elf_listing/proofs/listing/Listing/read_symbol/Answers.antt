@@ -41,8 +41,7 @@ pub returns : goal.returns
 returns g c = record {
   fetches =
       let first = c.in_ok-entry.ensures.ahead.costs.spends in
-      let more = c.read_name.ensures.fetches in
-      (
+      let more = c.read_name.ensures.fetches in (
         record { same_src = more.0.same_src; same_out = more.0.same_out; same_file = more.0.same_file; same_style = more.0.same_style },
         more.1,
         Spends-then first more.2,
