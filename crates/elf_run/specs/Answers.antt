@@ -42,20 +42,7 @@ pub record Answers (old new : Written) (result : Result ℕ Stop) (Permits Holds
   pub wrote : WroteAnswer old new result answer
   pub holds : Holds answer
 
--- the exit status of a run, and the line on standard error
-abbrev pub exit_status : Result ℕ Stop → ℕ
-exit_status (Ok status) = status
-exit_status (Err (Refused refusal)) = 1
-exit_status (Err (Source fault at)) = 3
-exit_status (Err (Out fault)) = 3
-
-abbrev pub error_line : Result ℕ Stop → List ℕ
-error_line (Ok status) = []
-error_line (Err (Refused refusal)) = []
-error_line (Err (Source fault at)) = codes "elfsee: read fault"
-error_line (Err (Out fault)) = codes "elfsee: write fault"
-
--- the same for words that are no request
+-- the exit status for words that are no request, and the line on standard error
 abbrev pub refused_status : RequestFault → ℕ
 refused_status (Words error) = 2
 refused_status BadName = 2

@@ -9,7 +9,4 @@ mod finding;
 mod resolving;
 
 pub use answering::run;
-pub use endings::{
-    CANNOT_OPEN, Ending, NOT_UTF8, OUT_OF_MEMORY, READ_FAULT, WRITE_FAULT, archive_status, outcome,
-    refused,
-};
+pub use endings::{archive_status, refused};

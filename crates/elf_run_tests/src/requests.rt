@@ -1,7 +1,8 @@
 //! Requests carried out on files in memory, and where each read fails or the output ends early.
 
+use elf_program::outcome;
 use elf_record::Parts;
-use elf_run::{outcome, run};
+use elf_run::run;
 use elf_source::{
     Counted, FailSource, MemorySource, Out, OutFault, SliceSink, Source, SourceFault, WriteSink,
 };

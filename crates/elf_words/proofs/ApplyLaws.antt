@@ -5,7 +5,8 @@ use Rattle.std.specs.Borrow.{Bor}
 use Rattle.clap.specs.Walk.{Row, Text, first_of, one_of}
 use Rattle.elf_headers.specs.declared.caps.Limits.{Limits}
 use Rattle.elf_model.specs.Placing.{Layout}
-use Rattle.elf_words.specs.Asked.{AreLimits, AsksNothing, ComesTo, HasFault, HasNumber, IsApplying, IsFileNamed, IsTask, is_set, item_words}
+use Rattle.elf_listing_words.specs.Options.{AreLimits, HasNumber, is_set}
+use Rattle.elf_words.specs.Asked.{AsksNothing, ComesTo, HasFault, IsApplying, IsFileNamed, IsTask, item_words}
 use Rattle.elf_words.specs.Layouts.{Lays, no_items}
 use Rattle.elf_words.specs.declared.requests.Request.{Request}
 use Rattle.elf_words.specs.declared.requests.RequestFault.{RequestFault}

@@ -1,8 +1,9 @@
 pub mod CheckLaws
 pub mod ApplyLaws
+pub mod ArchiveLaws
 pub mod FaultLaws
 pub mod ItemLaws
 pub mod LayoutLaws
+pub mod ListingLaws
 pub mod NulLaws
 pub mod OnceLaws
-pub mod ReadLaws

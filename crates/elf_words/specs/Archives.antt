@@ -1,18 +1,14 @@
 -- What the words of a command line ask for of an archive.
-use Rattle.std.specs.Prelude.{Bool, bytes_eq, ℕ, ◌≡◌, List, ◌∷◌, codes, Option, None, Some}
+use Rattle.std.specs.Prelude.{Bool, bytes_eq, ◌≡◌, List, codes, Option, None, Some}
 use Rattle.std.specs.List.{list_any}
 use Rattle.clap.specs.Walk.{Row, Text, first_of}
 use Rattle.elf_model.specs.Listing.{all_parts}
 use Rattle.elf_model.specs.Text.{name_of as name_in_table}
 use Rattle.elf_record.specs.declared.parts.Parts.{Parts}
-use Rattle.elf_words.specs.Asked.{AreLimits, IsStyle, asks_gnu, part_names}
+use Rattle.elf_listing_words.specs.Options.{AreLimits, IsStyle, asks_gnu, member_part_names}
 use Rattle.elf_words.specs.declared.checks.Archiving.{Archiving}
 
--- the parts of an archive that can be asked for: its members alone, or a part of their listings
-abbrev pub member_part_names : Bool → List (ℕ × List ℕ)
-member_part_names gnu = (0, codes "members") ∷ part_names gnu
-
--- whether a text is the name of one
+-- whether a text is the name of a part of an archive
 abbrev pub is_member_part : Bool → Text → Bool
 is_member_part gnu name = list_any (λ part. bytes_eq name part.1) (member_part_names gnu)
 

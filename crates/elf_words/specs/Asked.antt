@@ -1,17 +1,12 @@
--- What the words of a command line ask for.
-use Rattle.std.specs.Prelude.{Bool, true, false, if◌then◌else◌, bytes_eq, ℕ, ◌≡◌, ◌<◌, ◌≤◌, ◌^◌, length, unwrap_or, Result, Ok, Err, List, [], ◌∷◌, codes, Option, None, Some}
+-- What the words of a command line ask for, of one file.
+use Rattle.std.specs.Prelude.{Bool, true, false, ◌≡◌, ◌<◌, ◌≤◌, ◌^◌, ℕ, length, unwrap_or, Result, Ok, Err, List, [], codes, Option, None, Some}
 use Rattle.std.specs.Borrow.{Bor}
-use Rattle.std.specs.List.{list_any}
-use Rattle.std.specs.Str.Parse.{IsNumeral, digits_value, without_leading_plus}
 use Rattle.clap.specs.Walk.{Row, Text, all_of, first_of, one_of}
 use Rattle.elf_model.specs.Loader.{is_complete, wanted_of}
 use Rattle.elf_model.specs.NameLaws.{IsWanted}
-use Rattle.elf_model.specs.Text.{name_of as name_in_table}
-use Rattle.elf_model.specs.Listing.{HEADER, SECTIONS, SEGMENTS, SYMBOLS, RELOCS, NOTES, DYNAMIC, VERSIONS, all_parts}
-use Rattle.elf_record.specs.declared.parts.Parts.{Parts}
-use Rattle.elf_headers.specs.declared.caps.Limits.{Limits}
-use Rattle.elf_headers.specs.declared.caps.Style.{Style}
 use Rattle.elf_model.specs.Placing.{Layout}
+use Rattle.elf_listing_words.specs.Listings.{IsOfFile}
+use Rattle.elf_listing_words.specs.Options.{AreLimits, AreParts, HasNumber, IsStyle, asks_gnu, is_set}
 use Rattle.elf_words.specs.Layouts.{Lays, no_items}
 use Rattle.elf_words.specs.declared.requests.Request.{Request}
 use Rattle.elf_words.specs.declared.requests.RequestFault.{RequestFault}
@@ -20,64 +15,6 @@ use Rattle.elf_words.specs.declared.requests.Task.{Task}
 use Rattle.elf_words.specs.declared.requests.Wanted.{Wanted}
 use Rattle.elf_words.specs.declared.requests.WantedSymbol.{WantedSymbol}
 use Rattle.elf_words.specs.declared.requests.Task.TheVariants.{Show, Find, Resolve, Apply, Place}
-
--- the parts that can be asked for, by their names: symbol versions in listings of the GNU system alone
-abbrev pub part_names : Bool → List (ℕ × List ℕ)
-part_names gnu =
-    (HEADER, codes "header") ∷ (SECTIONS, codes "sections") ∷ (SEGMENTS, codes "segments") ∷ (SYMBOLS, codes "symbols")
-    ∷ (RELOCS, codes "relocs") ∷ (NOTES, codes "notes") ∷ (DYNAMIC, codes "dynamic")
-    ∷ (if gnu then (VERSIONS, codes "versions") ∷ [] else [])
-
--- whether a text is the name of a part
-abbrev pub is_part : Bool → Text → Bool
-is_part gnu name = list_any (λ part. bytes_eq name part.1) (part_names gnu)
-
--- the number that decimal digits spell, before which a plus may stand
-abbrev pub decimal_value : Text → ℕ
-decimal_value text = digits_value 10 (without_leading_plus text)
-
--- a text spells a number below 2^64
-abbrev pub SpellsNumber : Text → Type 0
-SpellsNumber text = IsNumeral 10 (without_leading_plus text) × (decimal_value text < 2 ^ 64)
-
--- the number that the value of an option spells, where there is one
-abbrev pub HasNumber : Option Text → Option ℕ → Type 0
-HasNumber None value = value ≡ None
-HasNumber (Some text) value = SpellsNumber text × (value ≡ Some (decimal_value text))
-
--- how many headers are permitted and how many bytes may be read, by the values of the options
-pub record AreLimits (rows : List Row) (limits : Limits) : Type 0 where
-  pub headers : HasNumber (one_of (codes "headers") rows) (Some limits.headers)
-  pub budget : HasNumber (one_of (codes "max-read") rows) limits.budget
-
--- whether an option without a value is set, by its text among the rows
-abbrev pub is_set : Option Text → Bool
-is_set None = false
-is_set (Some text) = bytes_eq text (codes "true")
-
--- whether listings of the GNU system are asked for
-abbrev pub asks_gnu : List Row → Bool
-asks_gnu rows = is_set (first_of (codes "gnu") rows)
-
--- how rows are shown, by the values of the options
-pub record IsStyle (rows : List Row) (style : Style) : Type 0 where
-  pub cap : HasNumber (one_of (codes "names") rows) (Some style.cap.bytes)
-  pub gnu : style.gnu ≡ asks_gnu rows
-  pub by_segments : style.by_segments ≡ is_set (first_of (codes "by-segments") rows)
-
--- the part with this name, or without a name all, of listings of the GNU system or of the standards' alone
-abbrev pub ArePartsOf : Bool → Option Text → Parts → Type 0
-ArePartsOf gnu None parts = parts.0 ≡ all_parts gnu
-ArePartsOf gnu (Some name) parts = name_in_table (part_names gnu) parts.0 ≡ Some name
-
--- which parts are listed, by the values of the options
-abbrev pub AreParts : List Row → Parts → Type 0
-AreParts rows = ArePartsOf (asks_gnu rows) (first_of (codes "only") rows)
-
--- the file whose path stands among the values, or for `sample` none
-abbrev pub IsOfFile : Text → List Row → Option (Bor Text) → Type 0
-IsOfFile command rows (Some path) = (command ≡ codes "show") × (first_of (codes "FILE") rows ≡ Some path.now)
-IsOfFile command rows None = command ≡ codes "sample"
 
 -- the file whose path stands among the values
 abbrev pub IsFileNamed : List Row → Option (Bor Text) → Type 0

@@ -1,7 +1,8 @@
 -- What the words of a command line ask for, of one file, of many or of an archive.
 use Rattle.std.specs.Prelude.{⊤, ◌≡◌, List, [], Result, Ok, Err, codes, Option, None, Some, option_map, unwrap_or}
 use Rattle.clap.specs.Walk.{Row, Text, all_of, first_of, texts}
-use Rattle.elf_words.specs.Asked.{AreLimits, AreParts, AsksBy, AsksNothing, HasFault, IsStyle}
+use Rattle.elf_listing_words.specs.Options.{AreLimits, AreParts, IsStyle}
+use Rattle.elf_words.specs.Asked.{AsksBy, AsksNothing, HasFault}
 use Rattle.elf_words.specs.declared.checks.Asked.{Asked}
 use Rattle.elf_words.specs.declared.checks.Asked.TheVariants.{File, Laid, Check, Archive}
 use Rattle.elf_words.specs.Archives.{ArchivesBy, NothingArchived}

@@ -2,6 +2,5 @@ pub mod Asked
 pub mod Answered
 pub mod Archives
 pub mod Checks
-pub mod Faults
 pub mod Items
 pub mod Layouts

@@ -5,19 +5,14 @@ ghost use Rattle.clap.specs.Words.{found_of};
 ghost use Rattle.elf_model.specs.Text.{name_of};
 ghost use Rattle.elf_record.specs.declared.parts.Parts.{Parts};
 ghost use Rattle.elf_words.specs.Archives.{AreMemberParts, IsArchiving, NothingArchived};
-ghost use Rattle.elf_words.specs.Archives.{is_member_part, member_part_names};
+ghost use Rattle.elf_listing_words.specs.Options.{member_part_names};
+ghost use Rattle.elf_words.specs.Archives.{is_member_part};
 ghost use Rattle.elf_words.specs.Checks.{Becomes};
 
 use crate::checks::{Archiving, Asked};
-use crate::words::{asks_gnu, limits_of, style_of, text_of, whole};
 use clap::ArgMatches;
+use elf_listing_words::{asks_gnu, limits_of, style_of, text_of, whole};
 use elf_record::Parts;
-
-/// The names of the parts of an archive's listing: its members alone, and those of a listing.
-pub(crate) static MEMBER_PARTS: [&str; 9] = [
-    "members", "header", "sections", "segments", "symbols", "relocs", "notes", "dynamic",
-    "versions",
-];
 
 /// No part of a listing.
 const NO_PART: Parts = Parts(0);

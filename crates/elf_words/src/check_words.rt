@@ -2,13 +2,13 @@
 ghost use Rattle.std.specs.Prelude.{◌≡◌, IfOk, IfSome, Some, None, codes};
 ghost use Rattle.clap.specs.Walk.{first_of, rows_of, texts};
 ghost use Rattle.clap.specs.Words.{found_of};
-ghost use Rattle.elf_words.specs.Asked.{AreLimits, AreParts, IsStyle};
+ghost use Rattle.elf_listing_words.specs.Options.{AreLimits, AreParts, IsStyle};
 ghost use Rattle.elf_words.specs.Checks.{Becomes, IsChecking, NothingChecked, path_words};
 
 use crate::checks::{Asked, Checking};
 use crate::requests::RequestFault;
-use crate::words::{limits_of, parts_of, style_of, text_of};
 use clap::ArgMatches;
+use elf_listing_words::{limits_of, parts_of, style_of, text_of};
 use std::alloc::{AllocError, Global};
 
 /// What `check` with these arguments asks for, or None where there is neither a path nor a file with

@@ -7,7 +7,6 @@ mod checks;
 mod items;
 mod names;
 mod requests;
-mod unasked;
 mod words;
 
 pub use checks::{Archiving, Asked, Checking, Laying};

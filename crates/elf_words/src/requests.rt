@@ -2,16 +2,10 @@
 ghost use Rattle.std.specs.Prelude.{◌≡◌, ◌≤◌, length, true};
 ghost use Rattle.elf_model.specs.Loader.{is_complete, wanted_of};
 ghost use Rattle.elf_model.specs.NameLaws.{IsWanted};
-ghost use Rattle.clap.specs.Values.{kind_of};
-ghost use Rattle.clap.specs.declared.error.kind.ErrorKind.TheVariants.{OutOfMemory};
-ghost use Rattle.elf_words.specs.Faults.{IsFaultOf};
-ghost use Rattle.elf_words.specs.declared.requests.RequestFault.TheVariants.{Memory};
 
-use clap::error::ErrorKind;
 use elf_headers::{Limits, Style};
 use elf_layout::{Addresses, Layout};
 use elf_record::Parts;
-use std::alloc::AllocError;
 use thiserror::Error;
 
 /// What is asked for: which file, how much of it may be read, and what is done with it.
@@ -114,23 +108,4 @@ pub enum RequestFault {
     /// There was no memory for the request.
     #[error("out of memory")]
     Memory,
-}
-
-impl From<clap::Error> for RequestFault {
-    ghost from_gives = { IsFaultOf };
-
-    fn from(error: clap::Error) -> RequestFault {
-        if error.kind() == ErrorKind::OutOfMemory {
-            return RequestFault::Memory;
-        }
-        RequestFault::Words(error)
-    }
-}
-
-impl From<AllocError> for RequestFault {
-    ghost from_gives = { λ _ fault. fault ≡ Memory };
-
-    fn from(_error: AllocError) -> RequestFault {
-        RequestFault::Memory
-    }
 }

@@ -1,43 +1,30 @@
 //! The words of a command line.
-ghost use Rattle.std.specs.Prelude.{◌≡◌, ◌≢◌, ◌<◌, ◌^◌, ℕ, IfErr, IfOk, IfSome, None, Ok, Err};
-ghost use Rattle.std.specs.Prelude.{[], Option, Some, codes, false, map, option_map};
+ghost use Rattle.std.specs.Prelude.{◌≡◌, ◌≢◌, IfErr, IfOk, IfSome, None, Ok, Err};
+ghost use Rattle.std.specs.Prelude.{Option, Some, codes, map};
 ghost use Rattle.std.specs.Borrow.{Bor};
-ghost use Rattle.clap.specs.Walk.{Text, first_of, one_of, rows_of};
-ghost use Rattle.clap.specs.Kinds.{Kinds};
-ghost use Rattle.clap.specs.Words.{app_of, found_of, subcommand_rows_of};
-ghost use Rattle.elf_model.specs.Listing.{all_parts};
-ghost use Rattle.elf_model.specs.Text.{name_of};
-ghost use Rattle.elf_words.specs.Asked.{AreLimits, AreParts, AsksBy, ComesTo, HasNumber, IsFileNamed};
-ghost use Rattle.elf_words.specs.Answered.{ArePartNames, IsRefusal, WordsAsk, WordsRefused};
-ghost use Rattle.elf_command_line.specs.CommandLine.{PartWords, program};
-ghost use Rattle.elf_words.specs.Asked.{IsStyle, IsText, LooksUp, asks_gnu, is_part, is_set};
+ghost use Rattle.clap.specs.Walk.{Text, rows_of};
+ghost use Rattle.clap.specs.Words.{found_of, subcommand_rows_of};
+ghost use Rattle.elf_listing_words.specs.Options.{AreLimits};
+ghost use Rattle.elf_words.specs.Asked.{AsksBy, ComesTo, IsFileNamed, IsText, LooksUp, item_words};
+ghost use Rattle.elf_words.specs.Answered.{IsRefusal, WordsAsk, WordsRefused, unread};
 ghost use Rattle.elf_words.specs.Checks.{Becomes, IsAsked};
-ghost use Rattle.elf_words.specs.Asked.{item_words, part_names};
 ghost use Rattle.elf_words.specs.Layouts.{Lays, no_items};
-ghost use Rattle.elf_words.specs.declared.requests.Task.TheVariants.{Show};
-ghost use Rattle.elf_record.specs.declared.parts.Parts.{Parts};
 ghost use Rattle.elf_headers.specs.declared.caps.Limits.{Limits};
-ghost use Rattle.elf_headers.specs.declared.caps.Style.{Style};
 
-use crate::archive_words::{MEMBER_PARTS, archive_asked};
+use crate::archive_words::archive_asked;
 use crate::check_words::check_asked;
 use crate::checks::{Asked, Laying};
 use crate::items::lay;
 use crate::names::{checked_name, checked_symbol};
 use crate::requests::{Request, RequestFault, Task};
-use crate::unasked::unasked;
-use clap::{ArgMatches, Command};
-use elf_command_line::command_line;
-use elf_headers::{Cap, Limits, Style};
+use clap::ArgMatches;
 use elf_layout::Layout;
-use elf_record::Parts;
-use std::alloc::{AllocError, Global};
+use elf_listing_words::{
+    WordsFault, asks_gnu, is_set, limits_of, listing_of, matches_of, small_number_of, text_of,
+    unasked,
+};
+use std::alloc::Global;
 use std::convert::AsStr;
-
-/// The names of the parts of a listing, in its order, the GNU system's last.
-pub(crate) static PARTS: [&str; 8] = [
-    "header", "sections", "segments", "symbols", "relocs", "notes", "dynamic", "versions",
-];
 
 /// Reads the words of a command line, without the program's name.
 ///
@@ -54,27 +41,19 @@ pub fn request<'a, S: AsStr>(
     ensures asked { IfOk result (WordsAsk (map S.text words.entry.now)) }
     ensures refused { IfErr result (WordsRefused (map S.text words.entry.now)) }
 {
-    match command_line(alloc, PARTS.as_slice(), MEMBER_PARTS.as_slice()) {
-        Ok(mut commands) => read_by(alloc, &mut commands, words, layout),
-        Err(AllocError) => Err(RequestFault::Memory),
+    match matches_of(alloc, words) {
+        Ok(matches) => answered(alloc, &matches, layout),
+        Err(fault) => Err(of_words(fault)),
     }
 }
 
-/// Reads words by a command line, which has the names of the parts that there are.
-fn read_by<'a, S: AsStr>(
-    alloc: Global,
-    commands: &mut Command<'a>,
-    words: &'a [S],
-    layout: &'a mut Layout,
-) -> Result<Asked<'a>, RequestFault>
-    ensures asked { (parts : PartWords) → app_of commands.old ≡ program parts
-        → ArePartNames parts → IfOk result (WordsAsk (map S.text words.entry.now)) }
-    ensures refused { (parts : PartWords) → app_of commands.old ≡ program parts
-        → ArePartNames parts → IfErr result (WordsRefused (map S.text words.entry.now)) }
+/// The fault of a request whose words are not read.
+fn of_words(fault: WordsFault) -> RequestFault
+    ensures { result ≡ unread fault }
 {
-    match commands.try_get_matches_from_mut(words) {
-        Ok(matches) => answered(alloc, &matches, layout),
-        Err(error) => Err(error.into()),
+    match fault {
+        WordsFault::Told(error) => RequestFault::Words(error),
+        WordsFault::Memory => RequestFault::Memory,
     }
 }
 
@@ -85,12 +64,11 @@ fn answered<'a>(
     layout: &'a mut Layout,
 ) -> Result<Asked<'a>, RequestFault>
     ensures asked { IfOk result (IsAsked (subcommand_rows_of matches.now)) }
-    ensures refused { (kinds : Kinds) → kinds ≡ []
-        → IfErr result (IsRefusal kinds (subcommand_rows_of matches.now)) }
+    ensures refused { IfErr result (IsRefusal (subcommand_rows_of matches.now)) }
 {
     match asked(alloc, matches, layout) {
         Ok(Some(asked)) => Ok(asked),
-        Ok(None) => Err(unasked(alloc, matches)),
+        Ok(None) => Err(of_words(unasked(alloc, matches))),
         Err(fault) => Err(fault),
     }
 }
@@ -173,41 +151,27 @@ fn of_file<'a>(command: &str, options: &ArgMatches<'a>) -> Result<Option<Request
     ensures { ComesTo (Some (command.now, rows_of (found_of options.now))) result }
 {
     match command {
-        "show" => Ok(listing_of_file(options)),
-        "sample" => Ok(listing(None, options)),
         "find" => lookup(options),
-        _ => Ok(None),
+        _ => Ok(listing_asked(command, options)),
     }
 }
 
-/// A listing of the file whose path is among the arguments.
-fn listing_of_file<'a>(options: &ArgMatches<'a>) -> Option<Request<'a>>
-    ensures { ComesTo (Some (codes "show", rows_of (found_of options.now))) (Ok result) }
+/// A listing, which is asked for as the programs that list read it.
+fn listing_asked<'a>(command: &str, options: &ArgMatches<'a>) -> Option<Request<'a>>
+    requires { (command.now ≢ codes "apply") × (command.now ≢ codes "find") }
+    ensures { ComesTo (Some (command.now, rows_of (found_of options.now))) (Ok result) }
 {
-    listing(Some(text_of(options, "FILE")?), options)
-}
-
-/// A listing of a file, or of the sample where there is none, with the options that are asked for.
-fn listing<'a>(file: Option<&'a str>, options: &ArgMatches<'a>) -> Option<Request<'a>>
-    ensures file { IfSome result (λ request. request.file ≡ file.entry) }
-    ensures task { IfSome result (λ request. (parts : Parts) × (style : Style)
-        × (request.task ≡ Show parts style) × IsStyle (rows_of (found_of options.now)) style
-        × AreParts (rows_of (found_of options.now)) parts) }
-    ensures limits { IfSome result (λ request.
-        AreLimits (rows_of (found_of options.now)) request.limits) }
-    ensures none { result ≡ None → (limits : Limits) (style : Style) (parts : Parts)
-        → AreLimits (rows_of (found_of options.now)) limits
-        → IsStyle (rows_of (found_of options.now)) style
-        → AreParts (rows_of (found_of options.now)) parts → ⊥ }
-{
-    let limits = limits_of(options)?;
-    let style = style_of(options)?;
-    let parts = parts_of(options)?;
-    Some(Request {
-        file,
-        limits,
-        task: Task::Show { parts, style },
-    })
+    match listing_of(command, options) {
+        Some(listing) => Some(Request {
+            file: listing.file,
+            limits: listing.limits,
+            task: Task::Show {
+                parts: listing.parts,
+                style: listing.style,
+            },
+        }),
+        None => None,
+    }
 }
 
 /// A lookup in a file, within the limits that are asked for, as a loader of the GNU system does it
@@ -301,118 +265,4 @@ fn in_file<'a>(options: &ArgMatches<'a>, task: Task<'a>) -> Option<Request<'a>>
         limits,
         task,
     })
-}
-
-/// The limits that the options ask for.
-pub(crate) fn limits_of(options: &ArgMatches<'_>) -> Option<Limits>
-    ensures some { IfSome result (AreLimits (rows_of (found_of options.now))) }
-    ensures none { result ≡ None → (limits : Limits)
-        → AreLimits (rows_of (found_of options.now)) limits → ⊥ }
-{
-    let headers = small_number_of(options, "headers")?;
-    let budget = number_of(options, "max-read")?;
-    Limits::new(headers, budget)
-}
-
-/// How rows are shown, by the options.
-pub(crate) fn style_of(options: &ArgMatches<'_>) -> Option<Style>
-    ensures some { IfSome result (IsStyle (rows_of (found_of options.now))) }
-    ensures none { result ≡ None → (style : Style)
-        → IsStyle (rows_of (found_of options.now)) style → ⊥ }
-{
-    let cap = Cap::new(small_number_of(options, "names")?)?;
-    let gnu = asks_gnu(options);
-    let by_segments = is_set(options, "by-segments");
-    Some(Style {
-        cap,
-        gnu,
-        by_segments,
-    })
-}
-
-/// Whether an option without a value is set.
-fn is_set(options: &ArgMatches<'_>, option: &str) -> bool
-    ensures { result ≡ is_set (first_of option.now (rows_of (found_of options.now))) }
-{
-    match text_of(options, option) {
-        Some(text) => text == "true",
-        None => false,
-    }
-}
-
-/// Whether the options ask for a listing of the GNU system.
-pub(crate) fn asks_gnu(options: &ArgMatches<'_>) -> bool
-    ensures { result ≡ asks_gnu (rows_of (found_of options.now)) }
-{
-    is_set(options, "gnu")
-}
-
-/// The parts that the options ask for.
-pub(crate) fn parts_of(options: &ArgMatches<'_>) -> Option<Parts>
-    ensures some { IfSome result (AreParts (rows_of (found_of options.now))) }
-    ensures none { result ≡ None → (parts : Parts)
-        → AreParts (rows_of (found_of options.now)) parts → ⊥ }
-{
-    let gnu = asks_gnu(options);
-    match text_of(options, "only") {
-        Some(name) => part_named(name, gnu),
-        None => Some(whole(gnu)),
-    }
-}
-
-/// All parts of a listing of the GNU system (`gnu`), or of the standards' alone.
-pub(crate) fn whole(gnu: bool) -> Parts
-    ensures { result.0 ≡ all_parts gnu }
-{
-    if gnu { Parts(255) } else { Parts(127) }
-}
-
-/// The value of an argument, where it has one.
-pub(crate) fn text_of<'a>(options: &ArgMatches<'a>, argument: &str) -> Option<&'a str>
-    ensures { option_map (λ text. text.now) result
-        ≡ first_of argument.now (rows_of (found_of options.now)) }
-{
-    options.get_str(argument)
-}
-
-/// The number below 2^16 that an option has, where it has one.
-fn small_number_of(options: &ArgMatches<'_>, option: &str) -> Option<u16>
-    ensures some { IfSome result (λ value.
-        HasNumber (one_of option.now (rows_of (found_of options.now))) (Some value)) }
-    ensures none { result ≡ None → (value : ℕ) → value < 2 ^ 16
-        → HasNumber (one_of option.now (rows_of (found_of options.now))) (Some value) → ⊥ }
-{
-    match number_of(options, option)? {
-        Some(value) => u16::try_from(value).ok(),
-        None => None,
-    }
-}
-
-/// The number that an option has, where it has one; None where its value is no number.
-fn number_of(options: &ArgMatches<'_>, option: &str) -> Option<Option<u64>>
-    ensures some { IfSome result
-        (HasNumber (one_of option.now (rows_of (found_of options.now)))) }
-    ensures none { result ≡ None → (value : Option ℕ)
-        → HasNumber (one_of option.now (rows_of (found_of options.now))) value → ⊥ }
-{
-    options.try_get_one(option).ok()
-}
-
-/// The part of a listing of the GNU system (`gnu`), or of the standards' alone, that has this name.
-#[tactic(auto, unfolding(elf_model::specs::Text::name_of))]
-fn part_named(name: &str, gnu: bool) -> Option<Parts>
-    ensures some { IfSome result (λ parts. name_of (part_names gnu) parts.0 ≡ Some name.now) }
-    ensures none { result ≡ None → is_part gnu name.now ≡ false }
-{
-    match name {
-        "header" => Some(Parts::HEADER),
-        "sections" => Some(Parts::SECTIONS),
-        "segments" => Some(Parts::SEGMENTS),
-        "symbols" => Some(Parts::SYMBOLS),
-        "relocs" => Some(Parts::RELOCS),
-        "notes" => Some(Parts::NOTES),
-        "dynamic" => Some(Parts::DYNAMIC),
-        "versions" if gnu => Some(Parts::VERSIONS),
-        _ => None,
-    }
 }

@@ -1,9 +1,9 @@
 //! The listing of an archive.
 ghost use Rattle.std.specs.Prelude.{◌≡◌};
 
-use crate::{OUTPUT_BYTES, end_answer, open};
 use elf_archive::show_archive;
-use elf_run::{Ending, OUT_OF_MEMORY, archive_status};
+use elf_program::{Ending, OUT_OF_MEMORY, OUTPUT_BYTES, end_answer, open};
+use elf_run::archive_status;
 use elf_source::{Counted, Out, RangeSource, Source, WriteSink};
 use elf_table::{Caps, HeaderRoom, HeaderStore};
 use elf_words::Archiving;

@@ -1,8 +1,8 @@
 //! What would help behind a refusal of a section, told on standard error.
-use crate::{TOLD_BYTES, write_rest};
 use elf_explain::explain;
 use elf_layout::Addresses;
-use elf_listing::show_lack;
+use elf_lines::show_lack;
+use elf_program::{TOLD_BYTES, write_rest};
 use elf_record::Refusal;
 use elf_source::{Counted, Out, Sink, Source, WriteSink};
 use elf_table::{HeaderStore, NameBuf, NameEnd};

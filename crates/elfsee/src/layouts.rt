@@ -3,7 +3,7 @@ ghost use Rattle.std.specs.Prelude.{◌≡◌};
 
 use crate::answer_request;
 use elf_layout::{Addresses, Item, Layout, LentLayout, Named, SortedNames, SortedSections};
-use elf_run::{Ending, OUT_OF_MEMORY};
+use elf_program::{Ending, OUT_OF_MEMORY};
 use elf_words::{Laying, Request, Task, item};
 use std::alloc::{AllocError, Global};
 use std::fs;

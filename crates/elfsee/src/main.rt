@@ -6,36 +6,28 @@ mod explaining;
 mod layouts;
 mod many;
 
-ghost use Rattle.std.specs.Prelude.{◌≡◌, ◌⊎◌, codes, IfErr};
+ghost use Rattle.std.specs.Prelude.{◌≡◌, IfErr};
 ghost use Rattle.elf_run.specs.Answers.{refused_line, refused_status};
 ghost use Rattle.elf_words.specs.declared.requests.RequestFault.{RequestFault};
 
 use archives::list_archive;
 use elf_fixtures::sample;
 use elf_layout::Layout;
-use elf_listing::show_told;
-use elf_run::{
-    CANNOT_OPEN, Ending, NOT_UTF8, OUT_OF_MEMORY, READ_FAULT, WRITE_FAULT, outcome, refused, run,
+use elf_program::{
+    Ending, OUT_OF_MEMORY, OUTPUT_BYTES, end_answer, exit, open, read_words, tell_words,
 };
-use elf_source::{Counted, MemorySource, OffsetReader, Out, Source, StreamSource, WriteSink};
+use elf_run::{refused, run};
+use elf_source::{Counted, MemorySource, Out, Source, WriteSink};
 use elf_table::{HeaderRoom, HeaderStore, Stop};
 use elf_words::{Asked, Request, RequestFault, request};
 use explaining::tell_why;
 use layouts::apply_laid;
 use many::check_many;
-use std::alloc::{AllocError, Global};
-use std::fs::File;
-use std::io::{BufWriter, ErrorKind, Input, IsTerminal, Stderr, Write};
-use std::os::unix::fs::{FileExt, FileTypeExt};
+use std::alloc::Global;
+use std::io::{self, BufWriter, Input, IsTerminal, Stderr, Write};
+use std::os::unix::fs::FileExt;
 use std::process::ExitCode;
 use std::rt::{Env, Files};
-use std::{env, fs, io};
-
-/// How many bytes of output are kept before they are written.
-const OUTPUT_BYTES: usize = 65_536;
-
-/// How many bytes of what is told of words are kept before they are written.
-const TOLD_BYTES: usize = 4_096;
 
 fn main(rt: HostRuntime) -> ExitCode {
     let errors = rt.stderr();
@@ -44,15 +36,7 @@ fn main(rt: HostRuntime) -> ExitCode {
     } else {
         None
     };
-    let (status, line) = match answer(&rt, errors, terminal) {
-        Ok(ending) => ending,
-        Err(ending) => ending,
-    };
-    if !line.is_empty() {
-        // Where standard error can't be written either, the status alone tells.
-        let _ = eprintln!(rt; "{line}");
-    }
-    ExitCode::from(status)
+    exit(&rt, answer(&rt, errors, terminal))
 }
 
 /// Reads the words, and carries out what they ask for. What is wrong with words, and help, is written
@@ -149,23 +133,6 @@ where
     }
 }
 
-/// The words behind the program's name.
-fn read_words<R: Env + AllocGlobal>(rt: &R) -> Result<Vec<String>, Ending>
-    ensures told { IfErr result (λ ending. (ending.1.now ≡ codes "elfsee: out of memory")
-        ⊎ (ending.1.now ≡ codes "elfsee: words are not UTF-8")) }
-{
-    let mut words = match env::args(rt) {
-        Ok(words) => words,
-        Err(fault) if fault.kind() == ErrorKind::OutOfMemory => return Err(OUT_OF_MEMORY),
-        Err(_) => return Err(NOT_UTF8),
-    };
-    let _program = words.next();
-    match words.collect(rt.alloc()) {
-        Ok(words) => Ok(words),
-        Err(_) => Err(OUT_OF_MEMORY),
-    }
-}
-
 /// Reads what is asked for, and tells what is wrong with words that ask for nothing.
 fn read_request<'a>(
     alloc: Global,
@@ -181,49 +148,9 @@ fn read_request<'a>(
         Err(fault) => fault,
     };
     if let RequestFault::Words(told) = &fault {
-        if tell(alloc, told, errors).is_err() {
-            return Err(refused(&RequestFault::Memory));
-        }
+        return Err(tell_words(alloc, told, errors));
     }
     Err(refused(&fault))
-}
-
-/// Writes what is wrong with words, or help, with each byte of a word spelt so that no terminal
-/// acts on it. Where it can't be written, the status alone tells.
-///
-/// # Errors
-/// There is no memory for the text; nothing is written then.
-fn tell(alloc: Global, told: &clap::Error, errors: Stderr) -> Result<(), AllocError> {
-    let text = format!(in alloc; "{told}")?;
-    let Ok(errors) = BufWriter::with_capacity(alloc, TOLD_BYTES, errors) else {
-        return Err(AllocError);
-    };
-    let mut out = Out::new(WriteSink::new(errors));
-    let _ = show_told(text.as_bytes(), &mut out);
-    let _ = write_rest(out.into_inner().into_inner(), true);
-    Ok(())
-}
-
-/// Opens a file that can be read at an offset. Folders, pipes and sockets are not opened, so that
-/// opening never waits.
-fn open<R: Files>(rt: &R, path: &str) -> Result<StreamSource<OffsetReader<R::File>>, Ending>
-where
-    R::File: FileExt,
-{
-    let Ok(found) = fs::metadata(rt, path) else {
-        return Err(CANNOT_OPEN);
-    };
-    let kind = found.file_type();
-    if kind.is_dir() || kind.is_fifo() || kind.is_socket() {
-        return Err(CANNOT_OPEN);
-    }
-    let Ok(file) = fs::open(rt, path) else {
-        return Err(CANNOT_OPEN);
-    };
-    match StreamSource::over(OffsetReader::new(file)) {
-        Ok(source) => Ok(source),
-        Err(_) => Err(READ_FAULT),
-    }
 }
 
 /// Carries a request out and writes what is left of the output. It is not made part of its caller,
@@ -249,22 +176,4 @@ fn write_answer<S: Source + Drop, W: Write + Drop>(
         }
     }
     ending
-}
-
-/// Writes what is left of the output, and answers how the program ends. After a fault of the output
-/// nothing more is written.
-fn end_answer<W: Write + Drop>(answer: &Result<u8, Stop>, output: BufWriter<W>) -> Ending {
-    let wanted = !matches!(answer, Err(Stop::Out(_)));
-    if !write_rest(output, wanted) && !matches!(answer, Err(Stop::Source { .. })) {
-        return WRITE_FAULT;
-    }
-    outcome(answer)
-}
-
-/// Writes what is left of an output if that is wanted, and takes the output apart, since one that
-/// is dropped tries once more to write what it could not. Answers whether what was wanted is written.
-fn write_rest<W: Write + Drop>(mut output: BufWriter<W>, wanted: bool) -> bool {
-    let written = !wanted || output.flush().is_ok();
-    let _ = output.into_parts();
-    written
 }

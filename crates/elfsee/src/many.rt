@@ -1,9 +1,10 @@
 //! The check of many files.
 ghost use Rattle.std.specs.Prelude.{◌≡◌};
 
-use crate::write_rest;
 use elf_many::{Checks, ListFault, Walk, check_list, check_path};
-use elf_run::{CANNOT_OPEN, Ending, OUT_OF_MEMORY, READ_FAULT, WRITE_FAULT};
+use elf_program::{
+    CANNOT_OPEN, Ending, OUT_OF_MEMORY, OUTPUT_BYTES, READ_FAULT, WRITE_FAULT, write_rest,
+};
 use elf_source::{Out, OutFault, Sink, WriteSink};
 use elf_table::{Caps, HeaderRoom, HeaderStore};
 use elf_words::Checking;
@@ -11,9 +12,6 @@ use std::fs;
 use std::io::{self, BufWriter, Input, Stderr, Write};
 use std::os::unix::fs::FileExt;
 use std::rt::Files;
-
-/// How many bytes of output are kept before they are written.
-const OUTPUT_BYTES: usize = 65_536;
 
 /// How many bytes of a list of paths are read at once.
 const LIST_BYTES: usize = 65_536;

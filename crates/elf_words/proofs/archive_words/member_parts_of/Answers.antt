@@ -3,7 +3,7 @@ use Rattle.std.specs.Prelude.{codes}
 use Rattle.clap.specs.Walk.{first_of, rows_of}
 use Rattle.clap.specs.Words.{found_of}
 use Rattle.elf_words.specs.Archives.{AreMemberPartsOf}
-use Rattle.elf_words.proofs.ReadLaws.{no_member_part}
+use Rattle.elf_words.proofs.ArchiveLaws.{no_member_part}
 use Rattle.elf_words.proofs.archive_words.member_parts_of.Goals as goal
 
 pub returns-in-Some-clause-none : goal.returns-in-Some-clause-none

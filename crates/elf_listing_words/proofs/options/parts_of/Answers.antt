@@ -2,9 +2,9 @@ use Rattle.std.proofs.Common.{sym, subst}
 use Rattle.std.specs.Prelude.{codes}
 use Rattle.clap.specs.Walk.{first_of, rows_of}
 use Rattle.clap.specs.Words.{found_of}
-use Rattle.elf_words.specs.Asked.{ArePartsOf}
-use Rattle.elf_words.proofs.ReadLaws.{no_part}
-use Rattle.elf_words.proofs.words.parts_of.Goals as goal
+use Rattle.elf_listing_words.specs.Options.{ArePartsOf}
+use Rattle.elf_listing_words.proofs.ReadLaws.{no_part}
+use Rattle.elf_listing_words.proofs.options.parts_of.Goals as goal
 
 pub returns-in-Some-clause-none : goal.returns-in-Some-clause-none
 returns-in-Some-clause-none c = λ failed parts are.

@@ -10,8 +10,7 @@ use Rattle.clap.specs.Walk.{Text, one_of, rows_of}
 use Rattle.clap.proofs.WalkLemmas.{one_text-rows}
 use Rattle.clap.specs.declared.parser.matches.Found.{Found}
 use Rattle.elf_model.specs.Text.{name_of}
-use Rattle.elf_words.specs.Archives.{is_member_part, member_part_names}
-use Rattle.elf_words.specs.Asked.{HasNumber, is_part, part_names}
+use Rattle.elf_listing_words.specs.Options.{HasNumber, is_part, part_names}
 
 module _ (E : Type 0) (G : List ℕ → Result ℕ E → Type 0) (only : (u : List ℕ) (x : Result ℕ E) → G u x → ParsesUnsigned 64 10 u x) where
   some_text : (o : Option Text) (r : Result (Option ℕ) E) → (o ≡ None → r ≡ Ok None) → ((t : Text) → o ≡ Some t → TriesOne G t r)
@@ -51,7 +50,8 @@ in_entries : (same : Bool) (here : Bool) (text name : Text) (below : Option Text
 in_entries true here text name below rest is other e = rw (is (some_same e)) refl
 in_entries false here text name below rest is other e = rw (other e) (or_true here)
 
-in_table : (table : List (ℕ × Text)) (n : ℕ) (name : Text) → name_of table n ≡ Some name → list_any (λ entry. bytes_eq name entry.1) table ≡ true
+-- a name that a table has is among its names
+pub in_table : (table : List (ℕ × Text)) (n : ℕ) (name : Text) → name_of table n ≡ Some name → list_any (λ entry. bytes_eq name entry.1) table ≡ true
 unfolding name_of
 in_table [] n name e = cc
 in_table (entry ∷ rest) n name e =
@@ -61,6 +61,3 @@ in_table (entry ∷ rest) n name e =
 -- a text that names no part is the name of no set of parts
 pub no_part : (gnu : Bool) (name : Text) (n : ℕ) → is_part gnu name ≡ false → name_of (part_names gnu) n ≡ Some name → ⊥
 no_part gnu name n not is = let bad : true ≡ false = sym (in_table (part_names gnu) n name is) ∙ not in cc
-
-pub no_member_part : (gnu : Bool) (name : Text) (n : ℕ) → is_member_part gnu name ≡ false → name_of (member_part_names gnu) n ≡ Some name → ⊥
-no_member_part gnu name n not is = let bad : true ≡ false = sym (in_table (member_part_names gnu) n name is) ∙ not in cc

@@ -1,8 +1,8 @@
 use Rattle.std.proofs.Common.{◌∙◌, sym}
 use Rattle.std.specs.Str.Parse.{ParsesUnsigned, ExplainsUnsignedError, HasUnsignedDigitsIfOk}
 use Rattle.clap.specs.Words.{found_of}
-use Rattle.elf_words.proofs.ReadLaws.{no_number, number_read}
-use Rattle.elf_words.proofs.words.number_of.Goals as goal
+use Rattle.elf_listing_words.proofs.ReadLaws.{no_number, number_read}
+use Rattle.elf_listing_words.proofs.options.number_of.Goals as goal
 
 pub returns-clause-some : goal.returns-clause-some
 returns-clause-some c = rw (c.ok.ensures.value) (number_read _ (λ bs r. ParsesUnsigned 64 10 bs r × ExplainsUnsignedError 10 bs r × HasUnsignedDigitsIfOk bs r) (λ u x g. g.0)

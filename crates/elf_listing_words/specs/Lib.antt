@@ -1,0 +1,4 @@
+pub mod Faults
+pub mod Listings
+pub mod Options
+pub mod Reading

@@ -1,0 +1,16 @@
+//! Words, as the command line reads them, and the listings of one file that they ask for.
+#![tactic(auto)]
+
+mod faults;
+mod listings;
+mod nothing;
+mod options;
+mod reading;
+
+pub use faults::WordsFault;
+pub use listings::{Listing, listing_asked, listing_of};
+pub use nothing::unasked;
+pub use options::{
+    asks_gnu, is_set, limits_of, parts_of, small_number_of, style_of, text_of, whole,
+};
+pub use reading::matches_of;

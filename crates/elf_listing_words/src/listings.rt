@@ -1,0 +1,107 @@
+//! The words that ask for a listing of one file.
+ghost use Rattle.std.specs.Prelude.{◌≡◌, IfErr, IfOk, IfSome, None, map};
+ghost use Rattle.clap.specs.Walk.{rows_of};
+ghost use Rattle.clap.specs.Words.{found_of, subcommand_rows_of};
+ghost use Rattle.elf_headers.specs.declared.caps.Limits.{Limits};
+ghost use Rattle.elf_headers.specs.declared.caps.Style.{Style};
+ghost use Rattle.elf_listing_words.specs.Listings.{IsListing, ListingAsked, ListingRefused, ListsBy};
+ghost use Rattle.elf_listing_words.specs.Faults.{IsUnasked};
+ghost use Rattle.elf_listing_words.specs.Listings.{NothingListed};
+ghost use Rattle.elf_listing_words.specs.declared.listings.Listing.{Listing};
+ghost use Rattle.elf_listing_words.specs.Options.{AreLimits, AreParts, IsStyle};
+ghost use Rattle.elf_record.specs.declared.parts.Parts.{Parts};
+
+use crate::faults::WordsFault;
+use crate::nothing::unasked;
+use crate::options::{limits_of, parts_of, style_of, text_of};
+use crate::reading::matches_of;
+use clap::ArgMatches;
+use elf_headers::{Limits, Style};
+use elf_record::Parts;
+use std::alloc::Global;
+use std::convert::AsStr;
+
+/// A listing that is asked for: of which file, how much of it may be read, which parts there are, and
+/// how rows are shown.
+#[derive(Clone, Copy, Drop)]
+pub struct Listing<'a> {
+    /// The file's path, or none for the sample, which is a file that the program carries.
+    pub file: Option<&'a str>,
+    /// How many headers are permitted, and how many bytes may be read.
+    pub limits: Limits,
+    /// The parts of the listing.
+    pub parts: Parts,
+    /// How rows are shown.
+    pub style: Style,
+}
+
+/// The listing that words ask for, which are those of the whole command line, without the program's
+/// name.
+///
+/// # Errors
+/// `Told` for words that ask for no listing of one file, or for help; `Memory` where there is none for
+/// reading them.
+pub fn listing_asked<'a, S: AsStr>(alloc: Global, words: &'a [S]) -> Result<Listing<'a>, WordsFault>
+    ensures asked { IfOk result (ListingAsked (map S.text words.entry.now)) }
+    ensures refused { IfErr result (ListingRefused (map S.text words.entry.now)) }
+{
+    match matches_of(alloc, words) {
+        Ok(matches) => listing_by(alloc, &matches),
+        Err(fault) => Err(fault),
+    }
+}
+
+/// The listing that words ask for which the command line let through.
+///
+/// # Errors
+/// They ask for none.
+fn listing_by<'a>(alloc: Global, matches: &ArgMatches<'a>) -> Result<Listing<'a>, WordsFault>
+    ensures asked { IfOk result (ListsBy (subcommand_rows_of matches.now)) }
+    ensures refused { IfErr result (λ fault. IsUnasked fault × NothingListed (subcommand_rows_of matches.now)) }
+{
+    match matches.subcommand() {
+        Some((command, options)) => match listing_of(command, options) {
+            Some(listing) => Ok(listing),
+            None => Err(unasked(alloc, matches)),
+        },
+        None => Err(unasked(alloc, matches)),
+    }
+}
+
+/// The listing of one file that a command with these arguments asks for, or None where it asks for none.
+pub fn listing_of<'a>(command: &str, options: &ArgMatches<'a>) -> Option<Listing<'a>>
+    ensures some { IfSome result (IsListing command.now (rows_of (found_of options.now))) }
+    ensures none { result ≡ None → (listing : Listing)
+        → IsListing command.now (rows_of (found_of options.now)) listing → ⊥ }
+{
+    match command {
+        "show" => options_of(Some(text_of(options, "FILE")?), options),
+        "sample" => options_of(None, options),
+        _ => None,
+    }
+}
+
+/// The listing of a file, or of the sample where there is none, with the options that are asked for.
+fn options_of<'a>(file: Option<&'a str>, options: &ArgMatches<'a>) -> Option<Listing<'a>>
+    ensures file { IfSome result (λ listing. listing.file ≡ file.entry) }
+    ensures limits { IfSome result (λ listing.
+        AreLimits (rows_of (found_of options.now)) listing.limits) }
+    ensures style { IfSome result (λ listing.
+        IsStyle (rows_of (found_of options.now)) listing.style) }
+    ensures parts { IfSome result (λ listing.
+        AreParts (rows_of (found_of options.now)) listing.parts) }
+    ensures none { result ≡ None → (limits : Limits) (style : Style) (parts : Parts)
+        → AreLimits (rows_of (found_of options.now)) limits
+        → IsStyle (rows_of (found_of options.now)) style
+        → AreParts (rows_of (found_of options.now)) parts → ⊥ }
+{
+    let limits = limits_of(options)?;
+    let style = style_of(options)?;
+    let parts = parts_of(options)?;
+    Some(Listing {
+        file,
+        limits,
+        parts,
+        style,
+    })
+}

@@ -1,0 +1,35 @@
+//! The files that programs open.
+ghost use Rattle.std.specs.Prelude.{◌≡◌, ◌⊎◌, IfErr, codes};
+
+use crate::endings::{CANNOT_OPEN, Ending, READ_FAULT};
+use elf_source::{OffsetReader, StreamSource};
+use std::fs;
+use std::os::unix::fs::{FileExt, FileTypeExt};
+use std::rt::Files;
+
+/// Opens a file that can be read at an offset. Folders, pipes and sockets are not opened, so that
+/// opening never waits.
+///
+/// # Errors
+/// How the program ends where there is no such file, or where its size can't be told.
+pub fn open<R: Files>(rt: &R, path: &str) -> Result<StreamSource<OffsetReader<R::File>>, Ending>
+where
+    R::File: FileExt,
+    ensures { IfErr result (λ ending. (ending.0 ≡ 3)
+        × ((ending.1.now ≡ codes "elfsee: cannot open") ⊎ (ending.1.now ≡ codes "elfsee: read fault"))) }
+{
+    let Ok(found) = fs::metadata(rt, path) else {
+        return Err(CANNOT_OPEN);
+    };
+    let kind = found.file_type();
+    if kind.is_dir() || kind.is_fifo() || kind.is_socket() {
+        return Err(CANNOT_OPEN);
+    }
+    let Ok(file) = fs::open(rt, path) else {
+        return Err(CANNOT_OPEN);
+    };
+    match StreamSource::over(OffsetReader::new(file)) {
+        Ok(source) => Ok(source),
+        Err(_) => Err(READ_FAULT),
+    }
+}

@@ -1,0 +1,14 @@
+//! What the programs share: their words, the files that they open, what they write last, and how they end.
+#![tactic(auto)]
+
+mod endings;
+mod files;
+mod outputs;
+mod words;
+
+pub use endings::{
+    BAD_WORDS, CANNOT_OPEN, Ending, NOT_UTF8, OUT_OF_MEMORY, READ_FAULT, WRITE_FAULT, exit, outcome,
+};
+pub use files::open;
+pub use outputs::{OUTPUT_BYTES, TOLD_BYTES, end_answer, write_rest};
+pub use words::{read_words, tell_words};

@@ -1,0 +1,88 @@
+//! The listings of elfsee alone, which are proved and built long before all of it: the commands `show` and
+//! `sample`, of the same command line and with the same output.
+#![tactic(auto)]
+
+ghost use Rattle.std.specs.Prelude.{◌≡◌};
+
+use elf_fixtures::sample;
+use elf_listing::show;
+use elf_listing_words::{Listing, WordsFault, listing_asked};
+use elf_program::{
+    Ending, OUT_OF_MEMORY, OUTPUT_BYTES, end_answer, exit, open, read_words, tell_words,
+};
+use elf_source::{Counted, MemorySource, Out, Source, WriteSink};
+use elf_table::{Caps, HeaderRoom, HeaderStore};
+use std::alloc::Global;
+use std::io::{self, BufWriter, Stderr, Write};
+use std::os::unix::fs::FileExt;
+use std::process::ExitCode;
+use std::rt::{Env, Files};
+
+fn main(rt: HostRuntime) -> ExitCode {
+    let errors = rt.stderr();
+    exit(&rt, answer(&rt, errors))
+}
+
+/// Reads the words, and lists what they ask for. What is wrong with words, and help, is written to
+/// `errors`.
+fn answer<R: Env + Files + Print + AllocGlobal>(rt: &R, errors: Stderr) -> Result<Ending, Ending>
+where
+    R::File: FileExt,
+{
+    let words = match read_words(rt) {
+        Ok(words) => words,
+        Err(ending) => return Err(ending),
+    };
+    match listing_asked(rt.alloc(), words.as_slice()) {
+        Ok(listing) => list(rt, &listing),
+        Err(WordsFault::Told(told)) => Err(tell_words(rt.alloc(), &told, errors)),
+        Err(WordsFault::Memory) => Err(OUT_OF_MEMORY),
+    }
+}
+
+/// Makes what memory is needed, opens the file, and lists it.
+fn list<R: Files + Print + AllocGlobal>(rt: &R, listing: &Listing<'_>) -> Result<Ending, Ending>
+where
+    R::File: FileExt,
+{
+    let Ok(mut room) = HeaderRoom::new(rt.alloc(), listing.limits.headers) else {
+        return Err(OUT_OF_MEMORY);
+    };
+    let Ok(output) = BufWriter::with_capacity(rt.alloc(), OUTPUT_BYTES, io::writer(rt)) else {
+        return Err(OUT_OF_MEMORY);
+    };
+    match listing.file {
+        Some(path) => match open(rt, path) {
+            Ok(source) => Ok(write_listing(listing, source, room.store(), output)),
+            Err(ending) => Err(ending),
+        },
+        None => {
+            let source = MemorySource::new(sample());
+            Ok(write_listing(listing, source, room.store(), output))
+        }
+    }
+}
+
+/// Lists a file and writes what is left of the output. It is not made part of its caller, whose stack
+/// would hold the buffers of a listing twice, one for each kind of source.
+#[inline(never)]
+fn write_listing<S: Source + Drop, W: Write + Drop>(
+    listing: &Listing<'_>,
+    source: S,
+    mut store: HeaderStore<'_>,
+    output: BufWriter<W>,
+) -> Ending
+    requires { store.slots ≡ listing.now.limits.headers }
+{
+    let mut src = Counted::new(source);
+    let mut out = Out::new(WriteSink::new(output));
+    let caps = Caps {
+        limits: listing.limits,
+        style: listing.style,
+    };
+    let answer = match show(&mut src, &mut store, caps, listing.parts, &mut out) {
+        Ok(()) => Ok(0),
+        Err(stop) => Err(stop),
+    };
+    end_answer(&answer, out.into_inner().into_inner())
+}
