@@ -1,12 +1,23 @@
-//! Commands with an argument or a command more, each where there is memory for it.
+//! Commands that are made of what describes them.
 ghost use Rattle.std.specs.Prelude.{◌≡◌, IfOk, false};
-ghost use Rattle.clap.specs.Simple.{App, new_app, with_rule, with_subcommand};
-ghost use Rattle.clap.specs.Walk.{Rule};
-ghost use Rattle.clap.specs.Words.{app_of, rule_of};
+ghost use Rattle.clap.specs.Simple.{App, new_app, with_subcommand};
+ghost use Rattle.clap.specs.Words.{app_of};
 ghost use Rattle.elf_command_line.specs.Building.{IsBuilt};
+ghost use Rattle.elf_command_line.specs.Described.{described, with_commands, with_words};
 
-use clap::{Arg, Command};
+use crate::words::{Word, arg_of};
+use clap::Command;
+use clap::builder::ValueParser;
 use std::alloc::{AllocError, Global};
+
+/// A command, as it is described.
+pub(crate) struct Described {
+    pub(crate) name: &'static str,
+    /// What help tells before the arguments, and behind them.
+    pub(crate) about: &'static str,
+    pub(crate) more: &'static str,
+    pub(crate) words: &'static [Word],
+}
 
 /// A command of this name, with what its help tells before and behind its arguments.
 pub(crate) fn new_command<'a>(
@@ -20,29 +31,65 @@ pub(crate) fn new_command<'a>(
     Command::new(alloc, name).about(about).after_help(more)
 }
 
-/// A command with an argument more, which its subcommands do not have.
-pub(crate) fn with_arg<'a>(
-    command: Result<Command<'a>, AllocError>,
-    arg: Arg<'a>,
+/// The command that is described so, where this parser takes the name of a part.
+pub(crate) fn command_of<'a>(
+    alloc: Global,
+    command: &Described,
+    part: ValueParser<'a>,
 ) -> Result<Command<'a>, AllocError>
-    ensures { (app : App) (rule : Rule) → IfOk command.entry (IsBuilt app)
-        → rule_of arg.entry ≡ rule → arg.entry.global ≡ false
-        → IfOk result (IsBuilt (with_rule app rule)) }
+    ensures { IfOk result (IsBuilt (described part.entry command.now)) }
 {
-    command?.arg(arg)
+    let named = new_command(alloc, command.name, command.about, command.more);
+    with_words(alloc, named, command.words, part)
+}
+
+/// A command with the arguments of these words behind those that it has.
+fn with_words<'a>(
+    alloc: Global,
+    command: Command<'a>,
+    words: &[Word],
+    part: ValueParser<'a>,
+) -> Result<Command<'a>, AllocError>
+    ensures { (app : App) → IsBuilt app command.entry
+        → IfOk result (IsBuilt (with_words part.entry app words.now)) }
+{
+    let mut whole = command;
+    for word in words {
+        whole = whole.arg(arg_of(alloc, word, part))?;
+    }
+    Ok(whole)
+}
+
+/// A command with these commands below it, behind those that it has.
+pub(crate) fn with_commands<'a>(
+    alloc: Global,
+    command: Command<'a>,
+    below: &[Described],
+    part: ValueParser<'a>,
+) -> Result<Command<'a>, AllocError>
+    ensures { (app : App) → app_of command.entry ≡ app
+        → IfOk result (λ whole. app_of whole ≡ with_commands part.entry app below.now) }
+{
+    let mut whole = command;
+    for one in below {
+        whole = with_command(alloc, whole, one, part)?;
+    }
+    Ok(whole)
 }
 
 /// A command with a command more below it.
 pub(crate) fn with_command<'a>(
-    command: Result<Command<'a>, AllocError>,
-    below: Result<Command<'a>, AllocError>,
+    alloc: Global,
+    command: Command<'a>,
+    below: &Described,
+    part: ValueParser<'a>,
 ) -> Result<Command<'a>, AllocError>
-    ensures { (app other : App) → IfOk command.entry (λ command. app_of command ≡ app)
-        → IfOk below.entry (IsBuilt other)
-        → IfOk result (λ whole. app_of whole ≡ with_subcommand app other.top) }
+    ensures { (app : App) → app_of command.entry ≡ app
+        → IfOk result (λ whole. app_of whole
+        ≡ with_subcommand app (described part.entry below.now).top) }
 {
-    match (command, below) {
-        (Ok(command), Ok(below)) => command.subcommand(below),
-        _ => Err(AllocError),
+    match command_of(alloc, below, part) {
+        Ok(below) => command.subcommand(below),
+        Err(error) => Err(error),
     }
 }

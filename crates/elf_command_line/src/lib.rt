@@ -2,11 +2,8 @@
 #![tactic(auto)]
 
 mod adding;
-mod archive_command;
-mod arguments;
-mod check_command;
 mod commands;
+mod texts;
+mod words;
 
-pub use archive_command::archive;
-pub use check_command::check;
-pub use commands::{command_line, sample, show};
+pub use commands::{archive, check, command_line, sample, show};

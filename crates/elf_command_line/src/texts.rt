@@ -1,0 +1,109 @@
+//! What help tells of the program and its commands.
+
+pub(crate) const ABOUT: &str = "\
+Lists what is in an ELF64 file, looks names up in it, and applies its relocations.
+Whatever bytes the file has, elfsee always finishes, within its limits of memory and reads.";
+
+pub(crate) const MORE: &str = "\
+Examples:
+  elfsee show /bin/ls
+  elfsee show --only symbols --names 64 /bin/ls
+  elfsee sample --only header
+  elfsee find /lib/libexample.so printf
+  elfsee find --gnu /lib/libexample.so printf@GLIBC_2.2.5
+  elfsee apply example.o 1 at:1=0x401000 def:main=0x401200
+  elfsee check /usr/lib
+  elfsee archive --only symbols /usr/lib/x86_64-linux-gnu/libc.a
+
+Options, before or behind FILE; find and apply have only --headers, --max-read and --, find
+also --gnu, and apply --layout and --explain:
+  --headers N   permit N section headers, and as many program headers:
+                1 to 65279 [default: 4096]
+  --names N     show N bytes of a name: 1 to 4096 [default: 256]
+  --max-read N  read at most N bytes of the file: 0 to 9223372036854775807
+                [default: any number]
+  --only PART   list one part: header, sections, segments, symbols, relocs, notes or dynamic,
+                with --gnu also versions [default: all of them]; archive also has: members
+  --gnu         name the numbers of the GNU system too, and list symbol versions; of find: take
+                the symbol that a loader of the GNU system takes for NAME, NAME@VERSION or
+                NAME@@VERSION
+  --by-segments find tables by the program headers, as a loader does, and list the file as if it
+                had no section headers
+  --layout LIST for apply only: take the items in the file LIST too, one a line, as many as
+                there are
+  --explain     for apply only: where an address is missing, tell on standard error the type of
+                the relocation, the name of its symbol, and the item that would help
+  --files0-from FILE
+                for check only: check the paths in FILE too, each ended by NUL
+  --            end the options, so that FILE, PATH or NAME may begin with a hyphen
+
+Exit status:
+  0  listed, found or applied; check: no file is at fault
+  1  refused, or more to read than permitted: the last line is '!', an offset and the cause;
+     or there is no such name: the line 'F absent' with the number of names compared;
+     check: some files are refused; archive: the archive or a member is refused
+  2  the words are wrong, or ask for help, and no file is opened: standard error tells which
+     word is wrong and why, or has the help, or one of these lines:
+       elfsee: words are not UTF-8
+       elfsee: bad name       NAME is empty, or longer than 4096 bytes; with --gnu also where it
+                              has an empty name or an empty version
+       elfsee: bad item       an item has another form, or its index or name is out of range
+       elfsee: layout-full    there are too many items of one sort
+       elfsee: layout-repeat  two items of one sort have the same INDEX or NAME
+     of LIST: 'in line N' stands behind bad item and layout-repeat; or
+       elfsee: cannot read layout
+  3  check: some files could not be read or named; else, and for the list and the output of
+     check, a read or write fault, a file that cannot be opened, or no memory: standard
+     error has one of these lines:
+       elfsee: read fault, elfsee: write fault, elfsee: cannot open, elfsee: out of memory";
+
+pub(crate) const ITEMS: &str = "\
+Items, as words at most 64 sections and 32 of each other sort, no index or name of a sort twice:
+  at:INDEX=ADDR  the address of section INDEX, 1 to 65279
+  def:NAME=ADDR  the address of a symbol that is undefined or common
+  plt:NAME=ADDR  the address of a symbol's entry in the procedure linkage table
+  got:NAME=ADDR  the address of a symbol's entry in the global offset table
+  tpgot:NAME=ADDR
+                 the address of the entry there of a symbol's offset from the thread pointer
+NAME has 1 to 255 bytes, and the last '=' ends it; ADDR is 0x and 1 to 16 hexadecimal digits.
+
+Example: elfsee apply example.o 1 at:1=0x401000 def:main=0x401200";
+
+pub(crate) const FOUND: &str = "\
+The answer is the first symbol of that name in its chain in the file's SysV hash table,
+whatever its version and place; a loader may take another.
+
+With --gnu it is the symbol that a loader of the GNU system takes, of the GNU hash table or,
+where there is none, of the SysV one. NAME may then ask for a version: NAME@VERSION, or
+NAME@@VERSION where it is to be the default one.
+
+Examples:
+  elfsee find /lib/libexample.so printf
+  elfsee find --gnu /lib/libexample.so printf@GLIBC_2.2.5";
+
+pub(crate) const CHECKED: &str = "\
+Each file has one line: C, its state, where it is at fault and why, and its path.
+  ok       'show' with these options ends with status 0
+  refused  it ends with status 1: an offset in the file and the cause follow the state
+  no-elf   it does not begin with the magic number
+  unread   it cannot be opened or read, or lies more than 64 folders deep
+  memory   there was no memory for it
+If a PATH is a folder, all files in it are checked, in the order of their names; links in it are
+not followed. If some names are not UTF-8 or too long, a last line 'C unnamed' counts them.
+
+Exit status: 0 all are ok or no-elf, 1 some are refused, 3 some are unread, memory or unnamed.
+
+Examples:
+  elfsee check --only header /usr/lib
+  find /opt -name '*.so' -print0 | elfsee check --files0-from -";
+
+pub(crate) const MEMBERS: &str = "\
+Each member has a line: A, its index, the offset and the size of its data, and its name. If it
+is an ELF file, its listing follows, with offsets from the first byte of its data. If that file
+is refused, the next member follows.
+  --only PART  the members and one part of each listing; --only members: the members only
+  --max-read N read at most N bytes of the archive
+
+Exit status: 1 where the archive or a member is refused.
+
+Example: elfsee archive --only symbols /usr/lib/x86_64-linux-gnu/libc.a";

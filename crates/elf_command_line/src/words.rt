@@ -1,0 +1,107 @@
+//! What commands take among their words, as data, and the arguments that are made of it.
+ghost use Rattle.elf_command_line.specs.Building.{IsArg, any_words, counted, indexed};
+ghost use Rattle.elf_command_line.specs.Building.{required, valued};
+ghost use Rattle.elf_command_line.specs.CommandLine.{flag, option};
+ghost use Rattle.elf_command_line.specs.Described.{rule_by};
+
+use clap::builder::ValueParser;
+use clap::{Arg, ArgAction};
+use std::alloc::Global;
+
+/// What a command takes among its words.
+pub(crate) struct Word {
+    pub(crate) name: &'static str,
+    pub(crate) kind: Kind,
+    pub(crate) help: &'static str,
+}
+
+/// How a word is read.
+pub(crate) enum Kind {
+    /// An option without a value.
+    Flag,
+    /// An option with a value, which help has this name for.
+    Value(&'static str),
+    /// An option with a number, as the parser has it.
+    Number(ValueParser<'static>),
+    /// An option with a number, and what it is where the option is not there.
+    Count(ValueParser<'static>, &'static str),
+    /// An option with the name of a part.
+    Part,
+    /// A word that has to be there.
+    Needed,
+    /// A word that has to be there, a number.
+    Index(ValueParser<'static>),
+    /// Any number of words.
+    Any,
+}
+
+/// The argument that a word is, where this parser takes the name of a part.
+pub(crate) fn arg_of<'a>(alloc: Global, word: &Word, part: ValueParser<'a>) -> Arg<'a>
+    ensures { IsArg (rule_by part.entry word.now) result }
+{
+    match word.kind {
+        Kind::Flag => flag(alloc, word),
+        Kind::Value(value) => valued(alloc, word, value),
+        Kind::Number(parser) => parsed(alloc, word, "N", parser),
+        Kind::Count(parser, default) => count(alloc, word, parser, default),
+        Kind::Part => parsed(alloc, word, "PART", part),
+        Kind::Needed => required(alloc, word),
+        Kind::Index(parser) => index(alloc, word, parser),
+        Kind::Any => any(alloc, word),
+    }
+}
+
+/// An option without a value.
+fn flag<'a>(alloc: Global, word: &Word) -> Arg<'a>
+    ensures { IsArg (flag word.now.name.now) result }
+{
+    Arg::new(alloc, word.name)
+        .long(word.name)
+        .action(ArgAction::SetTrue)
+        .help(word.help)
+}
+
+/// An option with one value, which help has a name for.
+fn valued<'a>(alloc: Global, word: &Word, value: &'static str) -> Arg<'a>
+    ensures { IsArg (valued word.now.name.now) result }
+{
+    Arg::new(alloc, word.name)
+        .long(word.name)
+        .value_name(value)
+        .help(word.help)
+}
+
+/// An option with one value, which the parser takes.
+fn parsed<'a>(alloc: Global, word: &Word, value: &'static str, parser: ValueParser<'a>) -> Arg<'a>
+    ensures { IsArg (option word.now.name.now parser.entry) result }
+{
+    valued(alloc, word, value).value_parser(parser)
+}
+
+/// An option with a number, and what it is where the option is not there.
+fn count<'a>(alloc: Global, word: &Word, parser: ValueParser<'a>, default: &'static str) -> Arg<'a>
+    ensures { IsArg (counted word.now.name.now parser.entry default.entry.now) result }
+{
+    parsed(alloc, word, "N", parser).default_value(default)
+}
+
+/// A word that has to be there.
+fn required<'a>(alloc: Global, word: &Word) -> Arg<'a>
+    ensures { IsArg (required word.now.name.now) result }
+{
+    Arg::new(alloc, word.name).required(true).help(word.help)
+}
+
+/// A word that has to be there, which the parser takes.
+fn index<'a>(alloc: Global, word: &Word, parser: ValueParser<'a>) -> Arg<'a>
+    ensures { IsArg (indexed word.now.name.now parser.entry) result }
+{
+    required(alloc, word).value_parser(parser)
+}
+
+/// Any number of words.
+fn any<'a>(alloc: Global, word: &Word) -> Arg<'a>
+    ensures { IsArg (any_words word.now.name.now) result }
+{
+    Arg::new(alloc, word.name).num_args(0..).help(word.help)
+}
