@@ -12,7 +12,15 @@ use Rattle.elf_record.specs.NoteHead.{IsNoteHead}
 use Rattle.elf_record.specs.declared.note_head.NoteHead.{NoteHead}
 use Rattle.elf_table.specs.declared.names.NameEnd.{NameEnd}
 use Rattle.elf_table.specs.Windows.{Ahead, bytes_left, range_end}
-use Rattle.elf_note.specs.NoteCursors.{rest, notes_left, no_notes, cut_at, NameIs, TellsNote, note_size}
+use Rattle.elf_headers.specs.Faults.{IsOfRead}
+use Rattle.elf_headers.specs.declared.fault.Fault.{Fault}
+use Rattle.elf_headers.specs.declared.fault.Fault.TheVariants.{Refused, Source}
+use Rattle.elf_note.specs.NoteCursors.{rest, notes_left, no_notes, cut_at, NameIs, TellsNote, note_cut, note_size}
+
+-- a fault of a read is no refusal of a table of notes
+pub no-cut : {at : ℕ} (fault : Fault) → IsOfRead fault → fault ≡ note_cut at → ⊥
+no-cut (Refused refusal) budget is = cc
+no-cut (Source fault at) budget is = cc
 
 short : (file : List ℕ) (w : Ahead) → bytes_left w < 12 → length (rest file w) < 12
 short file w few = omega (arith, length-take (bytes_left w) (drop w.at file))

@@ -1,11 +1,11 @@
-use Rattle.std.proofs.Common.{◌≡◌, ℕ, ◌+◌, ◌-◌, ◌<◌, ◌≤◌, min, length, ap, sym, ◌∙◌, arith, rules}
+use Rattle.std.proofs.Common.{◌≡◌, ℕ, ◌+◌, ◌-◌, ◌<◌, ◌≤◌, min, length, inl, ap, sym, ◌∙◌, arith, rules}
 use Rattle.std.proofs.lemmas.List.{take_at}
 use Rattle.std.proofs.lemmas.Result.{err_from_is_err_and}
 use Rattle.elf_model.specs.Bytes.{slice}
 use Rattle.elf_model.specs.Notes.{to_next}
 use Rattle.elf_record.specs.NoteHead.{IsNoteHead}
 use Rattle.elf_table.specs.Windows.{bytes_left, range_end}
-use Rattle.elf_note.proofs.Stepping.{left-zeros, left-few, left-short, moved-by, found-tells}
+use Rattle.elf_note.proofs.Stepping.{left-zeros, left-few, left-short, moved-by, found-tells, no-cut}
 use Rattle.elf_note.proofs.ThroughLaws.{through_then, through_skip, through_err}
 use Rattle.elf_note.proofs.note.next_note.Goals as goal
 
@@ -83,22 +83,35 @@ returns-clause-tells g c = λ file h a.
     (λ note n l. c.in_ok-name_end.ensures.read file h1 a1 note (n ∙ ap (λ (x : ℕ). slice file x head.namesz) (sym ta) ∙ ap (slice file c.take.new.window.at) (sym f3)) (l ∙ sym f3))
     (rw gap at place) (sh ∙ ap (λ (x : ℕ). min x 32) f4) (take_at c.read_rest.new.desc _ c.min-shown.result size ∙ rest)
 
-pub returns-in_err-name_end-clause-went : goal.returns-in_err-name_end-clause-went
-returns-in_err-name_end-clause-went g c =
-    let p = err_from_is_err_and c.from_residual-in_err-name_end.result c.from_residual-in_err-name_end.ensures.1 in
-    rw (p.1, p.2) (through_err _ _ _ _ _ _ (through_then _ _ _ _ _ _ _ _ _ c.in_ok-take.ensures.went c.in_err-name_end.ensures.went))
-
-pub returns-in_err-read_rest-clause-went : goal.returns-in_err-read_rest-clause-went
-returns-in_err-read_rest-clause-went g c =
-    let p = err_from_is_err_and c.from_residual-in_err-read_rest.result c.from_residual-in_err-read_rest.ensures.1 in
-    let s = c.skip.ensures in
-    let named = through_then _ _ _ _ _ _ _ _ _ c.in_ok-take.ensures.went c.in_ok-name_end.ensures.went in
-    rw (p.1, p.2)
-    (through_err _ _ _ _ _ _ (through_then _ _ _ _ _ _ _ _ _ (through_skip _ _ _ _ _ _ _ _ named s.page s.at s.unread s.end s.agrees) c.in_err-read_rest.ensures.went))
-
 pub returns-clause-went : goal.returns-clause-went
 returns-clause-went g c =
     let s = c.skip.ensures in
     let named = through_then _ _ _ _ _ _ _ _ _ c.in_ok-take.ensures.went c.in_ok-name_end.ensures.went in
     let rest = through_then _ _ _ _ _ _ _ _ _ (through_skip _ _ _ _ _ _ _ _ named s.page s.at s.unread s.end s.agrees) c.in_ok-read_rest.ensures.went in
     record { reads = rest.reads; says = tt; moves = rest.moves; onward = rest.onward; agrees = rest.agrees }
+
+pub returns-in_err-ends_in_zeros : goal.returns-in_err-ends_in_zeros
+returns-in_err-ends_in_zeros g c =
+    let p = err_from_is_err_and c.from_residual.result c.from_residual.ensures.1 in
+    let e = c.in_err-ends_in_zeros.ensures in
+    rw (p.1, p.2) (record { went = through_err _ _ _ _ _ _ (e.went); stops = inl e.fault; passes = tt; tells = λ file h a cut. absurd (no-cut _ e.fault cut) })
+
+pub returns-in_err-take : goal.returns-in_err-take
+returns-in_err-take g c =
+    let p = err_from_is_err_and c.from_residual-in_err-take.result c.from_residual-in_err-take.ensures.1 in
+    let e = c.in_err-take.ensures in
+    rw (p.1, p.2) (record { went = through_err _ _ _ _ _ _ (e.went); stops = inl e.fault; passes = tt; tells = λ file h a cut. absurd (no-cut _ e.fault cut) })
+
+pub returns-in_err-name_end : goal.returns-in_err-name_end
+returns-in_err-name_end g c =
+    let p = err_from_is_err_and c.from_residual-in_err-name_end.result c.from_residual-in_err-name_end.ensures.1 in
+    let e = c.in_err-name_end.ensures in
+    rw (p.1, p.2) (record { went = through_err _ _ _ _ _ _ (through_then _ _ _ _ _ _ _ _ _ c.in_ok-take.ensures.went e.went); stops = inl e.fault; passes = tt; tells = λ file h a cut. absurd (no-cut _ e.fault cut) })
+
+pub returns-in_err-read_rest : goal.returns-in_err-read_rest
+returns-in_err-read_rest g c =
+    let p = err_from_is_err_and c.from_residual-in_err-read_rest.result c.from_residual-in_err-read_rest.ensures.1 in
+    let e = c.in_err-read_rest.ensures in
+    let s = c.skip.ensures in
+    let named = through_then _ _ _ _ _ _ _ _ _ c.in_ok-take.ensures.went c.in_ok-name_end.ensures.went in
+    rw (p.1, p.2) (record { went = through_err _ _ _ _ _ _ (through_then _ _ _ _ _ _ _ _ _ (through_skip _ _ _ _ _ _ _ _ named s.page s.at s.unread s.end s.agrees) e.went); stops = inl e.fault; passes = tt; tells = λ file h a cut. absurd (no-cut _ e.fault cut) })
