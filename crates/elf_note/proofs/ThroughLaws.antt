@@ -1,13 +1,20 @@
 -- Calls through a window, one behind the other.
-use Rattle.std.proofs.Common.{◌≡◌, ℕ, ◌+◌, ◌-◌, ◌≤◌, List, Some, Result, Ok, Err, IfErr, ◌∙◌, arith}
+use Rattle.std.proofs.Common.{◌≡◌, ℕ, ◌+◌, ◌-◌, ◌≤◌, List, Some, Result, Ok, Err, IfErr, ap, ◌∙◌, arith}
 use Rattle.elf_source.specs.Source.{Seen, Counting, Reads}
 use Rattle.elf_source.proofs.ReadsLaws.{Reads-then, Reads-to}
 use Rattle.elf_source.proofs.OnwardLaws.{onward_then, onward_more}
-use Rattle.elf_headers.specs.Faults.{Says}
+use Rattle.elf_headers.specs.Faults.{IsAt, IsOfRead, Says}
+use Rattle.elf_headers.specs.declared.fault.Fault.TheVariants.{Refused, Source}
+use Rattle.elf_model.specs.declared.causes.Refusal.{Refusal}
 use Rattle.elf_headers.specs.declared.fault.Fault.{Fault}
 use Rattle.elf_headers.proofs.LedgerLaws.{Charges-then}
 use Rattle.elf_table.specs.Windows.{Ahead, HoldsBytes, frontier, range_end}
 use Rattle.elf_note.specs.WindowCalls.{Through}
+
+-- a fault of a read at an offset is one of a read
+pub of-read : (at : ℕ) (fault : Fault) → IsAt at fault → IsOfRead fault
+of-read at (Refused refusal) is = ap (λ (r : Refusal). r.cause) is
+of-read at (Source fault offset) is = tt
 
 says_after : {Y : Type 0} {a b c : Counting} (result : Result Y Fault) (n m k : ℕ) → n + m ≤ k → Reads a b n → Reads b c m → IfErr result (Says b c m)
     → IfErr result (Says a c k)
