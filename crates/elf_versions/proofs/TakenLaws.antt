@@ -1,12 +1,13 @@
 -- Records that are taken in one after the other.
-use Rattle.std.proofs.Common.{◌≡◌, ℕ, ◌*◌, ◌≤◌, Bool, true, false, if◌then◌else◌, List, [], ◌∷◌, ◌++◌, Option, None, Result, sym, ap, subst, ◌∙◌, append_assoc, append-nil, arith}
+use Rattle.std.proofs.Common.{◌≡◌, ℕ, ◌*◌, ◌≤◌, Bool, true, false, if◌then◌else◌, List, [], ◌∷◌, ◌++◌, Option, None, Result, Err, refl, sym, ap, subst, ◌∙◌, append_assoc, append-nil, arith}
 use Rattle.std.proofs.Math.Nat.{mul-le-mul_right}
 use Rattle.elf_model.specs.Versions.{Met, Versions, no_versions, with_met}
 use Rattle.elf_source.specs.Source.{Counting}
 use Rattle.elf_headers.specs.Ledger.{Did, why_stopped}
 use Rattle.elf_headers.specs.declared.fault.Fault.{Fault}
-use Rattle.elf_versions.specs.NumberNames.{Names, behind_all}
-use Rattle.elf_versions.specs.Reading.{Held, KeepsWalk, Walking, unheld, unread, why_stopped_now}
+use Rattle.elf_headers.specs.declared.fault.Fault.TheVariants.{Refused, Source}
+use Rattle.elf_versions.specs.NumberNames.{Names, ReadsNames, behind_all}
+use Rattle.elf_versions.specs.Reading.{Held, KeepsWalk, TellsVersion, Walking, unheld, unread, why_stopped_now}
 use Rattle.elf_versions.specs.declared.number_names.NameAt.{NameAt}
 
 -- what may still be asked for grows with the records that are left
@@ -22,6 +23,19 @@ unread-fewer old new keeps =
     let held = keeps.same_held in
     let each = keeps.same_each in
     rw (held, each) (less-unheld old.held new.left old.left old.each keeps.fewer)
+
+-- before the first step none was met
+pub met-none : (file : List ℕ) (records : List Met) (all : Versions) (names : List NameAt) → Names file records names
+    → (seen : List Met) × (all ≡ behind_all seen all) × Names file (records ++ seen) names
+met-none file records all names is = ([], refl, subst (λ (met : List Met). Names file met names) (sym (append-nil records)) is)
+
+-- a step that is refused refuses all
+pub stops-all :
+    (file : List ℕ) (records seen : List Met) (all left new : Versions) (names : List NameAt) (fault : Fault) → all ≡ behind_all seen left
+    → TellsVersion file left new (Err fault) → ReadsNames file records all names (Err fault)
+stops-all file records seen all left new names (Refused refusal) before tells =
+    λ other. ap (λ (v : Versions). v.cut) (before ∙ ap (behind_all seen) (tells other))
+stops-all file records seen all left new names (Source fault at) before tells = tt
 
 -- one record more behind those that were met
 pub behind-more :

@@ -1,10 +1,20 @@
 -- Each record that is given is taken in, until none is left.
-use Rattle.std.proofs.Common.{◌∷◌, [], ◌++◌, None, Some, Ok, ◌∙◌, arith}
-use Rattle.elf_headers.proofs.LedgerLaws.{Did-as, Did-then}
+use Rattle.std.proofs.Common.{◌∷◌, [], ◌++◌, None, Some, Ok, Err, refl, ◌∙◌, arith}
+use Rattle.std.proofs.lemmas.Result.{err_from_is_err_and}
+use Rattle.elf_headers.proofs.LedgerLaws.{Did-as, Did-none, Did-then}
 use Rattle.elf_versions.specs.Reading.{versions_left}
-use Rattle.elf_versions.proofs.TakenLaws.{behind-more, end-cut, end-names, going-did, names-more, unread-fewer}
+use Rattle.elf_versions.proofs.TakenLaws.{behind-more, end-cut, end-names, going-did, met-none, names-more, stops-all, unread-fewer}
 use Rattle.elf_versions.proofs.WordLaws.{none-of}
 use Rattle.elf_versions.proofs.number_names.NumberNames.take_all.Goals as goal
+
+pub records-init : goal.records-init
+records-init g c = record {
+  going = c.requires.going;
+  same_held = refl;
+  fewer = omega arith;
+  so_far = Did-as _ (omega arith) (Did-none c.args.src.now)
+      (λ file told costs agrees. (agrees, λ records names. met-none file records (versions_left file c.args.cursor.now) c.args.self.now names));
+}
 
 pub advance-requires : goal.advance-requires
 advance-requires g c = let i = c.records.invariant in rw (i.same_held, i.so_far.costs.reads.keeps.same_size) c.requires.within
@@ -60,3 +70,19 @@ returns g c =
       end-cut seen.0 (versions_left file c.args.cursor.now) (versions_left file l.cursor) seen.1 ends,
       end-names file records seen.0 (versions_left file c.args.cursor.now) (versions_left file l.cursor) l.self seen.1 ends seen.2,
     ))
+
+pub returns-in_err-given : goal.returns-in_err-given
+returns-in_err-given g c =
+    let l = c.records in
+    let i = l.invariant in
+    let a = c.in_err-given.ensures in
+    let new = c.advance.new.self in
+    let fewer = unread-fewer l.cursor new a.keeps in
+    let p = err_from_is_err_and c.from_residual.result c.from_residual.ensures.1 in
+    rw (p.1, p.2)
+    (Did-as _ (omega (arith, fewer, i.fewer)) (Did-then i.so_far (going-did l.cursor.failed (Err c.in_err-given.field-0.0) i.going a.did))
+    (λ file told costs agrees records names.
+    let before = told.0 agrees in
+    let seen = before.1 records names in
+    stops-all file records seen.0 (versions_left file c.args.cursor.now) (versions_left file l.cursor) (versions_left file new) l.self _ seen.1
+    ((told.1 before.0).tells i.going)))
