@@ -1,13 +1,16 @@
 -- Words that are those of a record of a file.
-use Rattle.std.proofs.Common.{◌≡◌, ℕ, ◌+◌, ◌^◌, ◌<◌, ◌≤◌, nat_lt, Bool, true, false, if◌then◌else◌, List, Option, None, Some, IfSome, ◌⊎◌, inl, inr, refl, ap, ◌∙◌, arith}
+use Rattle.std.proofs.Common.{◌≡◌, ℕ, ◌+◌, ◌^◌, ◌<◌, ◌≤◌, nat_lt, Bool, true, false, if◌then◌else◌, List, Option, None, Some, IfSome, Err, ◌⊎◌, inl, inr, refl, ap, ◌∙◌, arith}
 use Rattle.std.proofs.lemmas.Bool.Decides.{nat_tests}
 use Rattle.elf_model.specs.Bytes.{field}
 use Rattle.elf_model.specs.Checks.{first_refusal}
-use Rattle.elf_model.specs.Versions.{record_size, record_checks, met_at, word_checks, name_distance, name_end, name_index}
+use Rattle.elf_model.specs.Versions.{Stand, record_size, record_checks, met_at, word_checks, name_distance, name_end, name_index}
 use Rattle.elf_model.specs.declared.versions.VersionKind.{VersionKind}
 use Rattle.elf_model.specs.declared.versions.VersionKind.TheVariants.{Definition, File, Need}
+use Rattle.elf_headers.specs.Faults.{IsOfRead}
+use Rattle.elf_headers.specs.declared.fault.Fault.{Fault}
+use Rattle.elf_headers.specs.declared.fault.Fault.TheVariants.{Refused, Source}
 use Rattle.elf_versions.specs.Words.{HoldsName, HoldsWords, aux_word, checks_of, distance_of_name, end_of_name}
-use Rattle.elf_versions.specs.Reading.{Fits, Held, bytes_each, index_bytes, stand_of, unheld}
+use Rattle.elf_versions.specs.Reading.{Fits, Held, ReadsRecord, bytes_each, index_bytes, stand_of, unheld}
 use Rattle.elf_versions.specs.declared.stepping.Standing.{Standing}
 use Rattle.elf_versions.specs.declared.words.Words.{Words}
 
@@ -100,3 +103,8 @@ own-index file Definition at words (inl is) h = cc
 own-index file Definition at words (inr is) h = cc
 own-index file File at words is h = h.name
 own-index file Need at words is h = h.name
+
+-- where a read fails no check is told
+pub read-fails : (file : List ℕ) (table size : ℕ) (stand : Stand) (fault : Fault) → IsOfRead fault → ReadsRecord file table size stand (Err fault)
+read-fails file table size stand (Refused refusal) budget = λ other. absurd (other budget)
+read-fails file table size stand (Source fault at) budget = tt

@@ -1,9 +1,10 @@
 -- The checks are those of the words, and the name is read where they pass.
 use Rattle.std.proofs.Common.{◌≡◌, ◌+◌, sym, ◌∙◌, arith, rules}
+use Rattle.std.proofs.lemmas.Result.{err_from_is_err_and}
 use Rattle.elf_headers.specs.declared.fault.Fault.TheVariants.{Refused}
 use Rattle.elf_headers.proofs.LedgerLaws.{Did-as, Did-stop, Did-then}
-use Rattle.elf_versions.specs.Reading.{bytes_each}
-use Rattle.elf_versions.proofs.WordLaws.{asks-words, asks-name, distance-inside, fits-all, none-of, record-checked}
+use Rattle.elf_versions.specs.Reading.{bytes_each, stand_of}
+use Rattle.elf_versions.proofs.WordLaws.{asks-words, asks-name, distance-inside, fits-all, none-of, read-fails, record-checked}
 use Rattle.elf_versions.proofs.reading.read_record.Goals as goal
 
 pub returns-in-Some-clause-did : goal.returns-in-Some-clause-did
@@ -61,3 +62,27 @@ returns-clause-fits g c =
           fits-all h.table.count (bytes_each s.kind) c.behind.result c.behind.ensures.near (c.behind.ensures.owner h.table.count (omega (arith, c.requires.inside)) c.requires.owner)
           c.behind.ensures.pays;
     }
+
+pub returns-in_err-words : goal.returns-in_err-words
+returns-in_err-words g c =
+    let h = c.args.held.now in
+    let s = c.args.stand.now in
+    let p = err_from_is_err_and c.from_residual.result c.from_residual.ensures.1 in
+    rw (p.1, p.2)
+    (record {
+      did = Did-as _ (asks-words h s.kind) c.in_err-words.ensures.did
+          (λ file told costs held knows. read-fails file h.table.at h.table.count (stand_of s) _ (told held));
+      fits = tt;
+    })
+
+pub returns-in_err-name : goal.returns-in_err-name
+returns-in_err-name g c =
+    let h = c.args.held.now in
+    let s = c.args.stand.now in
+    let p = err_from_is_err_and c.from_residual-in_err-name.result c.from_residual-in_err-name.ensures.1 in
+    rw (p.1, p.2)
+    (record {
+      did = Did-as _ (asks-name h s.kind) (Did-then c.in_ok-words.ensures.did c.in_err-name.ensures.did)
+          (λ file told costs held knows. read-fails file h.table.at h.table.count (stand_of s) _ (told.1 held (told.0 held)));
+      fits = tt;
+    })
