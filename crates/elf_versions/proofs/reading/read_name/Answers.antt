@@ -1,5 +1,6 @@
 -- A definition's name stands behind it; any other record holds the index itself.
 use Rattle.std.proofs.Common.{◌≡◌, ℕ, ◌+◌, ap, ◌∙◌, arith}
+use Rattle.std.proofs.lemmas.Result.{err_from_is_err_and}
 use Rattle.elf_model.specs.Bytes.{field}
 use Rattle.elf_headers.proofs.LedgerLaws.{Did-as, Did-none}
 use Rattle.elf_versions.specs.Words.{end_of_name}
@@ -34,3 +35,8 @@ returns-in-File g c =
           (λ file told costs held words.
           own-index file c.args.stand.now.kind (c.args.held.now.table.at + c.args.stand.now.place) c.args.words.now c.in-File.is words);
     }
+
+pub returns-in_err-read-in-Definition : goal.returns-in_err-read-in-Definition
+returns-in_err-read-in-Definition g c =
+    let p = err_from_is_err_and c.from_residual.result c.from_residual.ensures.1 in
+    rw (p.1, p.2, c.in-Definition.is) (record { did = Did-as _ (omega arith) c.in_err-read-in-Definition.ensures.did (λ file told costs held words. told held) })

@@ -1,8 +1,9 @@
 -- The checks are those of the words, and the name is read where they pass.
-use Rattle.std.proofs.Common.{◌≡◌, ◌+◌, sym, ◌∙◌, arith, rules}
+use Rattle.std.proofs.Common.{◌≡◌, ℕ, ◌+◌, ap, sym, ◌∙◌, arith}
 use Rattle.std.proofs.lemmas.Result.{err_from_is_err_and}
 use Rattle.elf_headers.specs.declared.fault.Fault.TheVariants.{Refused}
 use Rattle.elf_headers.proofs.LedgerLaws.{Did-as, Did-stop, Did-then}
+use Rattle.elf_table.specs.Tables.{Rows}
 use Rattle.elf_versions.specs.Reading.{bytes_each, stand_of}
 use Rattle.elf_versions.proofs.WordLaws.{asks-words, asks-name, distance-inside, fits-all, none-of, read-fails, record-checked}
 use Rattle.elf_versions.proofs.reading.read_record.Goals as goal
@@ -11,8 +12,8 @@ pub returns-in-Some-clause-did : goal.returns-in-Some-clause-did
 returns-in-Some-clause-did g c =
     let h = c.args.held.now in
     let s = c.args.stand.now in
-    let at : c.at.result + s.place ≡ h.table.at + s.place = search rules in
-    let size : c.len.result ≡ h.table.count = search rules in
+    let at : c.at.result + s.place ≡ h.table.at + s.place = ap (λ (x : ℕ). x + s.place) (c.at.ensures ∙ ap (λ (t : Rows). t.at) c.table-table.ensures.is) in
+    let size : c.len.result ≡ h.table.count = c.len.ensures ∙ ap (λ (t : Rows). t.count) c.table-table.ensures.is in
     let passes = rw c.in-Some.is at c.refused_words.ensures.passes in
     let checked = rw (at, size) at c.refused_words.ensures.is in
     Did-as _ (asks-words h s.kind) (Did-stop (Refused c.in-Some.refusal) passes c.in_ok-words.ensures.did)
@@ -24,8 +25,8 @@ given-requires g c =
     let h = c.args.held.now in
     let s = c.args.stand.now in
     let aux = c.in_ok-words.words.aux in
-    let at : c.at.result ≡ h.table.at = search rules in
-    let size : c.len.result ≡ h.table.count = search rules in
+    let at : c.at.result ≡ h.table.at = c.at.ensures ∙ ap (λ (t : Rows). t.at) c.table-table.ensures.is in
+    let size : c.len.result ≡ h.table.count = c.len.ensures ∙ ap (λ (t : Rows). t.count) c.table-table.ensures.is in
     let passes = rw (none-of c.refused_words.result c.in_default.not-Some) at c.refused_words.ensures.passes in
     let inside = passes.0 in
     omega (arith, at, size, inside, distance-inside s.kind aux, c.table-table.ensures.ends)
@@ -35,9 +36,9 @@ returns-clause-did g c =
     let h = c.args.held.now in
     let s = c.args.stand.now in
     let words = c.in_ok-words.words in
-    let at : c.at.result + s.place ≡ h.table.at + s.place = search rules in
-    let size : c.len.result ≡ h.table.count = search rules in
-    let same : c.at-2.result ≡ h.table.at = search rules in
+    let at : c.at.result + s.place ≡ h.table.at + s.place = ap (λ (x : ℕ). x + s.place) (c.at.ensures ∙ ap (λ (t : Rows). t.at) c.table-table.ensures.is) in
+    let size : c.len.result ≡ h.table.count = c.len.ensures ∙ ap (λ (t : Rows). t.count) c.table-table.ensures.is in
+    let same : c.at-2.result ≡ h.table.at = c.at-2.ensures ∙ ap (λ (t : Rows). t.at) c.table-table.ensures.is in
     let checked = rw (at, size) at c.refused_words.ensures.is in
     let passes = none-of c.refused_words.result c.in_default.not-Some in
     let leads = rw same at c.behind.ensures.leads in
@@ -86,3 +87,24 @@ returns-in_err-name g c =
           (λ file told costs held knows. read-fails file h.table.at h.table.count (stand_of s) _ (told.1 held (told.0 held)));
       fits = tt;
     })
+
+pub read_words-requires : goal.read_words-requires
+read_words-requires g c = record { within = c.requires.within; inside = c.requires.inside; low = omega (arith, c.table-table.ensures.ends) }
+
+pub read_name-requires : goal.read_name-requires
+read_name-requires g c =
+    let h = c.args.held.now in
+    let size : c.len.result ≡ h.table.count = c.len.ensures ∙ ap (λ (t : Rows). t.count) c.table-table.ensures.is in
+    let passes = rw (none-of c.refused_words.result c.in_default.not-Some) at c.refused_words.ensures.passes in
+    let same = c.in_ok-words.ensures.did.costs.reads.keeps.same_size in
+    record { within = rw same c.requires.within; inside = rw size at passes.0; low = omega (arith, c.table-table.ensures.ends) }
+
+pub behind-requires : goal.behind-requires
+behind-requires g c =
+    let at : c.at-2.result ≡ c.args.held.now.table.at = c.at-2.ensures ∙ ap (λ (t : Rows). t.at) c.table-table.ensures.is in
+    let ends = c.table-table.ensures.ends in
+    record {
+      low = omega (arith, ends, c.requires.inside);
+      ends = omega (arith, at, ends, c.requires.inside);
+      owned = omega (arith, at, ends, c.requires.owner);
+    }
