@@ -1,11 +1,11 @@
 -- What reads in turns come to.
-use Rattle.std.proofs.Common.{◌≡◌, ℕ, ◌+◌, ◌≤◌, List, ◌++◌, length, take, drop, sym, ap, ◌∙◌, Result, Ok, Err, IfErr, refl, length-take-le}
-use Rattle.std.proofs.Math.Seq.{take-add, take-append-add}
+use Rattle.std.proofs.Common.{◌≡◌, ℕ, ◌+◌, ◌-◌, ◌≤◌, List, ◌++◌, length, take, drop, sym, ap, ◌∙◌, Result, Ok, Err, IfErr, refl, arith, length-drop, length-take-le}
+use Rattle.std.proofs.Math.Seq.{take-add, take-append-add, take-length}
 use Rattle.std.proofs.lemmas.List.{drop-drop, take-append-le}
 use Rattle.elf_source.specs.Source.{Seen, IsHonest, Faults}
 use Rattle.elf_source.specs.declared.faults.SourceFault.{SourceFault}
 use Rattle.elf_source.specs.declared.faults.SourceFault.TheVariants.{Device, Ended}
-use borrow.Rule.Slice.PartMut.{put_mid, post_of}
+use borrow.Rule.Slice.PartMut.{put_mid, post_of, mid_of, same_len_mid}
 
 -- the first bytes of a buffer, and some of those that a turn put behind them
 pub take-put_part : (got count room : ℕ) (out part : List ℕ) → got ≤ length out → count ≤ length part
@@ -32,3 +32,20 @@ pub ended-is_known : (old new : Seen) (result : Result (Unit {0}) SourceFault) �
 ended-is_known old new (Ok x) other fails = tt
 ended-is_known old new (Err Device) other fails = absurd (other refl)
 ended-is_known old new (Err Ended) other fails = λ honest. search fails
+
+-- a turn gave no more bytes than there was room for
+pub turn_within : (got count : ℕ) (out part : List ℕ) → got ≤ length out → length part ≡ length (mid_of got (length out - got) out)
+    → count ≤ length (mid_of got (length out - got) out) → got + count ≤ length (put_mid got (length out - got) out part)
+turn_within got count out part within same some =
+    let room = length-take-le (length out - got) (drop got out) (omega (arith, length-drop got out)) in
+    rw (same_len_mid got (length out - got) out part same) (omega (arith, room, within, some))
+
+-- once there is no more room all bytes are those of the range
+pub filled_all : (got at n : ℕ) (out file : List ℕ) → got ≤ length out → length out ≤ got → length out ≡ n
+    → take got out ≡ take got (drop at file) → out ≡ take n (drop at file)
+filled_all got at n out file within most same filled =
+    let is : got ≡ n = omega (arith, within, most, same) in
+    sym (ap (λ (k : ℕ). take k out) (sym same) ∙ take-length out)
+    ∙ ap (λ (k : ℕ). take k out) (sym is)
+    ∙ filled
+    ∙ ap (λ (k : ℕ). take k (drop at file)) is

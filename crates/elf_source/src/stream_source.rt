@@ -131,7 +131,6 @@ fn find_end<R: Reader>(reader: &mut R) -> Result<u64, SourceFault>
 }
 
 // Fills `out` from the offset `at` on. Each turn gets a byte, ends, or is interrupted.
-#[tactic(auto, using(crate::proofs::TurnLaws::filled_then))]
 fn read_all<R: Reader>(reader: &mut R, at: u64, out: &mut [u8]) -> Result<(), SourceFault>
     requires { at + length out.old < 2 ^ 64 }
     ensures same { R.file reader.new ≡ R.file reader.old }

@@ -8,3 +8,11 @@ returns-in_err-go-clause-bytes g c = record {
   seeks = λ away. (c.go.result, c.go.ensures.seeks away, search rules);
   reads = search rules;
 }
+
+pub returns-clause-bytes : goal.returns-clause-bytes
+returns-clause-bytes g c = record {
+  there = c.go.new.self.inner;
+  stays = search rules;
+  seeks = λ away. (c.go.result, c.go.ensures.seeks away, search rules);
+  reads = search rules;
+}
