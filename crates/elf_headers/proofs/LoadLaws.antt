@@ -1,15 +1,22 @@
 -- What the file header and a load ask for.
-use Rattle.std.proofs.Common.{◌≡◌, ℕ, ◌+◌, ◌*◌, ◌≤◌, List, length, Result, Ok, Err, refl, arith}
+use Rattle.std.proofs.Common.{◌≡◌, ℕ, ◌+◌, ◌*◌, ◌≤◌, List, [], ◌∷◌, length, Option, None, Some, Result, Ok, Err, inl, inr, refl, sym, ap, subst, ◌∙◌, arith, rules}
 use Rattle.std.specs.Prelude.{is_none}
-use Rattle.elf_model.specs.Checks.{first_refusal, length_checks, early_checks}
+use Rattle.std.proofs.lemmas.Bool.{cases_Bool}
+use Rattle.elf_model.specs.Budget.{IsBudget}
+use Rattle.elf_model.specs.Bytes.{slice}
+use Rattle.elf_model.specs.Checks.{Check, first_refusal, length_checks, early_checks, load_checks, section_name_checks}
+use Rattle.elf_model.specs.Cost.{cost_where}
+use Rattle.elf_model.specs.declared.causes.Refusal.{Refusal}
+use Rattle.elf_model.proofs.CheckSteps.{first_refusal-none}
 use Rattle.elf_model.proofs.CostLemmas.{cost_where-le}
 use Rattle.elf_record.specs.Ehdr.{IsEhdr}
 use Rattle.elf_record.specs.declared.ehdr.Ehdr.{Ehdr}
-use Rattle.elf_source.specs.Source.{Seen}
+use Rattle.elf_source.specs.Source.{Counting, Reads, Seen}
 use Rattle.elf_source.specs.Onward.{ReadsOnward}
 use Rattle.elf_source.proofs.OnwardLaws.{onward_none, onward_one}
-use Rattle.elf_headers.specs.Faults.{FillsOnce}
-use Rattle.elf_headers.specs.Load.{early_of, file_header_cost, load_cost}
+use Rattle.elf_headers.specs.Faults.{FillsOnce, IsOfRead, Says}
+use Rattle.elf_headers.specs.Load.{Belongs, LoadedAs, Opened, early_of, file_header_cost, load_cost}
+use Rattle.elf_headers.specs.Store.{AreRows, HoldsSections, Stored}
 use Rattle.elf_headers.specs.declared.fault.Fault.{Fault}
 use Rattle.elf_headers.specs.declared.fault.Fault.TheVariants.{Refused, Source}
 
@@ -37,3 +44,58 @@ fills_onward one_read old new at n low high (Err (Source fault offset)) once fro
 -- a load asks for no more section headers than there are slots
 pub load_slots : (header : Ehdr) (size slots : ℕ) → load_cost header size slots ≤ 64 * slots
 load_slots header size slots = grind arith
+
+-- a load whose early checks pass asks for all section headers
+load_passed : (header : Ehdr) (size slots : ℕ) → first_refusal (early_of header size slots) ≡ None → load_cost header size slots ≡ 64 * header.e_shnum
+load_passed header size slots passes = ap (λ (r : Option Refusal). cost_where (is_none r) (64 * header.e_shnum)) passes
+
+pub load_reads : {a b : Counting} (header : Ehdr) (size slots : ℕ) → first_refusal (early_of header size slots) ≡ None → Reads a b (64 * header.e_shnum)
+    → Reads a b (load_cost header size slots)
+load_reads {a} {b} header size slots passes reads = subst (Reads a b) (sym (load_passed header size slots passes)) reads
+
+pub load_says : (a b : Counting) (fault : Fault) (header : Ehdr) (size slots : ℕ) → first_refusal (early_of header size slots) ≡ None
+    → Says a b (64 * header.e_shnum) fault → Says a b (load_cost header size slots) fault
+load_says a b fault header size slots passes says = subst (λ (n : ℕ). Says a b n fault) (sym (load_passed header size slots passes)) says
+
+-- checks none of which refuses for want of budget
+abbrev NoBudget : List Check → Type 0
+NoBudget [] = Unit {0}
+NoBudget (check ∷ checks) = (IsBudget check.refusal → ⊥) × NoBudget checks
+
+unbudgeted : (checks : List Check) (refusal : Refusal) → NoBudget checks → first_refusal checks ≡ Some refusal → IsBudget refusal → ⊥
+unbudgeted [] refusal other is budget = cc
+unbudgeted (check ∷ checks) refusal other is budget =
+    elim (cases_Bool check.fails) [
+      | inl fails ↦ let same = rw fails at is in other.0 (cc)
+      | inr passes ↦ unbudgeted checks refusal other.1 (rw passes at is) budget
+    ]
+
+-- as the early checks
+pub early_unbudgeted : (header : Ehdr) (size slots : ℕ) (refusal : Refusal) → first_refusal (early_of header size slots) ≡ Some refusal → IsBudget refusal → ⊥
+early_unbudgeted header size slots refusal = unbudgeted (early_of header size slots) refusal (search rules)
+
+-- a fault of a read is no answer of a check
+pub read_stops : (file : List ℕ) (fault : Fault) (store : Stored) → IsOfRead fault → LoadedAs file (Err fault) store
+read_stops file (Refused refusal) store is = λ other. absurd (other is)
+read_stops file (Source fault at) store is = tt
+
+-- rows that were read where the file header tells them are the file's section headers
+pub rows_loaded : (file : List ℕ) (header : Ehdr) (store : Stored) → IsEhdr file 0 header → store.loaded ≡ header.e_shnum
+    → AreRows file header.e_shoff 64 header.e_shnum store.rows → HoldsSections file store
+rows_loaded file header store is count rows = λ i below. rows i (omega (arith, below, count)) ∙ ap (λ (n : ℕ). slice file (n + 64 * i) 64) is.e_shoff
+
+-- where the early checks pass the answer is that of the section names' checks
+pub late_answer : {answer : Option Refusal} (file : List ℕ) (header : Ehdr) (size old new : ℕ) → first_refusal (early_of header size old) ≡ None → new ≡ old
+    → IsEhdr file 0 header → size ≡ length file → answer ≡ first_refusal (section_name_checks file) → first_refusal (load_checks file new) ≡ answer
+late_answer file header size old new passes same is long late =
+    ap (λ (n : ℕ). first_refusal (load_checks file n)) same
+    ∙ first_refusal-none (early_checks file old) (section_name_checks file) (sym (early_is file header size old is long) ∙ passes)
+    ∙ sym late
+
+-- a file with this header, all of whose section headers are in the store
+pub belongs_loaded :
+    (file : List ℕ) (header : Ehdr) (size : ℕ) (loaded : Opened) (store new : Stored) → loaded ≡ record { size = size; header = header } → new ≡ store
+    → size ≡ length file → IsEhdr file 0 header → store.loaded ≡ header.e_shnum → HoldsSections file store
+    → first_refusal (load_checks file store.slots) ≡ None → Belongs file loaded new
+belongs_loaded file header size loaded store new made kept long is count rows passes =
+    rw (made, kept) (record { size = long; header = is; count = count; rows = rows; passes = passes })

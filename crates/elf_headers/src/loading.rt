@@ -54,7 +54,9 @@ pub fn load<S: Source>(
     if let Some(refusal) = refused_unread(store, header, size) {
         return Err(Fault::Refused(refusal));
     }
-    store.fill(src, header.e_shnum, header.e_shoff)?;
+    if let Err(fault) = store.fill(src, header.e_shnum, header.e_shoff) {
+        return Err(fault);
+    }
     if let Some(refusal) = refused_late(store, header, size) {
         return Err(Fault::Refused(refusal));
     }

@@ -7,7 +7,8 @@ use Rattle.elf_model.proofs.CheckSteps.{first_refusal-some, first_refusal-none}
 use Rattle.elf_record.specs.declared.ehdr.Ehdr.{Ehdr}
 use Rattle.elf_headers.specs.Load.{early_of}
 use Rattle.elf_headers.specs.Store.{Stored, emptied}
-use Rattle.elf_headers.proofs.LoadLaws.{early_is}
+use Rattle.elf_source.proofs.ReadsLaws.{Reads-none}
+use Rattle.elf_headers.proofs.LoadLaws.{belongs_loaded, early_is, early_unbudgeted, late_answer, load_reads, load_says, read_stops, rows_loaded}
 use Rattle.elf_headers.proofs.loading.load.Goals as goal
 
 -- the answer of the early checks, by the source and the store that were given
@@ -27,8 +28,8 @@ returns-in-Some-clause-held g c = λ file held is other.
     first_refusal-some (early_checks file c.forget.new.self.slots) (section_name_checks file) c.in-Some.refusal
     (sym (early_is file c.args.header.now c.length-size.result c.forget.new.self.slots is size) ∙ sym c.in-Some.ensures.refusal)
 
-pub returns-in_err-fill-clause-early : goal.returns-in_err-fill-clause-early
-returns-in_err-fill-clause-early g c = λ refusal fails.
+pub returns-in-Err-clause-early : goal.returns-in-Err-clause-early
+returns-in-Err-clause-early g c = λ refusal fails.
     let same = sym (told_early c.args.header.now c.args.store.now c.forget.new.self c.in_default.ensures.refusal c.length-size.ensures.value c.forget.ensures) ∙ fails in
     absurd (cc same)
 
@@ -41,3 +42,44 @@ pub returns-clause-early : goal.returns-clause-early
 returns-clause-early g c = λ refusal fails.
     let same = sym (told_early c.args.header.now c.args.store.now c.forget.new.self c.in_default.ensures.refusal c.length-size.ensures.value c.forget.ensures) ∙ fails in
     absurd (cc same)
+
+pub returns-in-Some-clause-reads : goal.returns-in-Some-clause-reads
+returns-in-Some-clause-reads g c = Reads-none c.args.src.now _
+
+pub returns-in-Some-clause-says : goal.returns-in-Some-clause-says
+returns-in-Some-clause-says g c = λ budget.
+    absurd (early_unbudgeted c.args.header.now c.length-size.result c.forget.new.self.slots c.in-Some.refusal (sym c.in-Some.ensures.refusal) budget)
+
+pub returns-in-Err-clause-reads : goal.returns-in-Err-clause-reads
+returns-in-Err-clause-reads g c = load_reads c.args.header.now c.args.src.now.seen.size c.args.store.now.slots (told_early c.args.header.now c.args.store.now c.forget.new.self c.in_default.ensures.refusal c.length-size.ensures.value c.forget.ensures) c.fill.ensures.reads
+
+pub returns-in-Err-clause-says : goal.returns-in-Err-clause-says
+returns-in-Err-clause-says g c = load_says c.args.src.now c.fill.new.src c.in-Err.fault c.args.header.now c.args.src.now.seen.size c.args.store.now.slots (told_early c.args.header.now c.args.store.now c.forget.new.self c.in_default.ensures.refusal c.length-size.ensures.value c.forget.ensures) c.in-Err.ensures.says
+
+pub returns-in-Err-clause-held : goal.returns-in-Err-clause-held
+returns-in-Err-clause-held g c = λ file held is. read_stops file c.in-Err.fault c.fill.new.self c.in-Err.ensures.fault
+
+pub returns-in-Some-refused_late-clause-reads : goal.returns-in-Some-refused_late-clause-reads
+returns-in-Some-refused_late-clause-reads g c = load_reads c.args.header.now c.args.src.now.seen.size c.args.store.now.slots (told_early c.args.header.now c.args.store.now c.forget.new.self c.in_default.ensures.refusal c.length-size.ensures.value c.forget.ensures) c.fill.ensures.reads
+
+pub returns-in-Some-refused_late-clause-says : goal.returns-in-Some-refused_late-clause-says
+returns-in-Some-refused_late-clause-says g c = λ budget. absurd (c.in-Some-refused_late.ensures.checked budget)
+
+pub returns-in-Some-refused_late-clause-held : goal.returns-in-Some-refused_late-clause-held
+returns-in-Some-refused_late-clause-held g c = λ file held is other.
+    let slots = ap (λ (s : Stored). s.slots) c.in-Some-refused_late.ensures.kept ∙ c.fill.ensures.slots ∙ ap (λ (s : Stored). s.slots) c.forget.ensures in
+    let long = c.args.src.now.seen.sized file held in
+    let rows = rows_loaded file c.args.header.now c.fill.new.self is c.in_default-fill.ensures.loaded (c.in_default-fill.ensures.rows file held) in
+    late_answer file c.args.header.now c.args.src.now.seen.size c.args.store.now.slots _ (told_early c.args.header.now c.args.store.now c.forget.new.self c.in_default.ensures.refusal c.length-size.ensures.value c.forget.ensures) slots is (sym long) (c.in-Some-refused_late.ensures.held file (long ∙ sym c.length-size.ensures.value) is rows)
+
+pub returns-clause-reads : goal.returns-clause-reads
+returns-clause-reads g c = load_reads c.args.header.now c.args.src.now.seen.size c.args.store.now.slots (told_early c.args.header.now c.args.store.now c.forget.new.self c.in_default.ensures.refusal c.length-size.ensures.value c.forget.ensures) c.fill.ensures.reads
+
+pub returns-clause-held : goal.returns-clause-held
+returns-clause-held g c = λ file held is.
+    let slots = c.fill.ensures.slots ∙ ap (λ (s : Stored). s.slots) c.forget.ensures in
+    let long = c.args.src.now.seen.sized file held in
+    let size = c.length-size.ensures.value ∙ sym long in
+    let rows = rows_loaded file c.args.header.now c.fill.new.self is c.in_default-fill.ensures.loaded (c.in_default-fill.ensures.rows file held) in
+    let passes = late_answer file c.args.header.now c.args.src.now.seen.size c.args.store.now.slots _ (told_early c.args.header.now c.args.store.now c.forget.new.self c.in_default.ensures.refusal c.length-size.ensures.value c.forget.ensures) slots is (sym long) (c.in_default-refused_late.ensures.held file (sym size) is rows) in
+    belongs_loaded file c.args.header.now c.length-size.result c.new.result c.fill.new.self c.refused_late.new.store c.new.ensures c.in_default-refused_late.ensures.kept size is c.in_default-fill.ensures.loaded rows passes
