@@ -4,7 +4,7 @@ use Rattle.std.specs.Prelude.{is_none}
 use Rattle.std.proofs.lemmas.Bool.{cases_Bool}
 use Rattle.elf_model.specs.Budget.{IsBudget}
 use Rattle.elf_model.specs.Bytes.{slice}
-use Rattle.elf_model.specs.Checks.{Check, first_refusal, length_checks, early_checks, load_checks, section_name_checks}
+use Rattle.elf_model.specs.Checks.{Check, first_refusal, length_checks, ident_checks, early_checks, load_checks, section_name_checks}
 use Rattle.elf_model.specs.Cost.{cost_where}
 use Rattle.elf_model.specs.declared.causes.Refusal.{Refusal}
 use Rattle.elf_model.proofs.CheckSteps.{first_refusal-none}
@@ -73,6 +73,10 @@ unbudgeted (check ∷ checks) refusal other is budget =
 -- as the early checks
 pub early_unbudgeted : (header : Ehdr) (size slots : ℕ) (refusal : Refusal) → first_refusal (early_of header size slots) ≡ Some refusal → IsBudget refusal → ⊥
 early_unbudgeted header size slots refusal = unbudgeted (early_of header size slots) refusal (search rules)
+
+-- and as those of the bytes of a file header
+pub ident_unbudgeted : (bytes : List ℕ) (refusal : Refusal) → first_refusal (ident_checks bytes) ≡ Some refusal → IsBudget refusal → ⊥
+ident_unbudgeted bytes refusal = unbudgeted (ident_checks bytes) refusal (search rules)
 
 -- a fault of a read is no answer of a check
 pub read_stops : (file : List ℕ) (fault : Fault) (store : Stored) → IsOfRead fault → LoadedAs file (Err fault) store
