@@ -51,35 +51,45 @@ returns-in-Some-clause-says g c = λ budget.
     absurd (early_unbudgeted c.args.header.now c.length-size.result c.forget.new.self.slots c.in-Some.refusal (sym c.in-Some.ensures.refusal) budget)
 
 pub returns-in-Err-clause-reads : goal.returns-in-Err-clause-reads
-returns-in-Err-clause-reads g c = load_reads c.args.header.now c.args.src.now.seen.size c.args.store.now.slots (told_early c.args.header.now c.args.store.now c.forget.new.self c.in_default.ensures.refusal c.length-size.ensures.value c.forget.ensures) c.fill.ensures.reads
+returns-in-Err-clause-reads g c =
+    let early = told_early c.args.header.now c.args.store.now c.forget.new.self c.in_default.ensures.refusal c.length-size.ensures.value c.forget.ensures in
+    load_reads c.args.header.now c.args.src.now.seen.size c.args.store.now.slots early c.fill.ensures.reads
 
 pub returns-in-Err-clause-says : goal.returns-in-Err-clause-says
-returns-in-Err-clause-says g c = load_says c.args.src.now c.fill.new.src c.in-Err.fault c.args.header.now c.args.src.now.seen.size c.args.store.now.slots (told_early c.args.header.now c.args.store.now c.forget.new.self c.in_default.ensures.refusal c.length-size.ensures.value c.forget.ensures) c.in-Err.ensures.says
+returns-in-Err-clause-says g c =
+    let early = told_early c.args.header.now c.args.store.now c.forget.new.self c.in_default.ensures.refusal c.length-size.ensures.value c.forget.ensures in
+    load_says c.args.src.now c.fill.new.src c.in-Err.fault c.args.header.now c.args.src.now.seen.size c.args.store.now.slots early c.in-Err.ensures.says
 
 pub returns-in-Err-clause-held : goal.returns-in-Err-clause-held
 returns-in-Err-clause-held g c = λ file held is. read_stops file c.in-Err.fault c.fill.new.self c.in-Err.ensures.fault
 
 pub returns-in-Some-refused_late-clause-reads : goal.returns-in-Some-refused_late-clause-reads
-returns-in-Some-refused_late-clause-reads g c = load_reads c.args.header.now c.args.src.now.seen.size c.args.store.now.slots (told_early c.args.header.now c.args.store.now c.forget.new.self c.in_default.ensures.refusal c.length-size.ensures.value c.forget.ensures) c.fill.ensures.reads
+returns-in-Some-refused_late-clause-reads g c =
+    let early = told_early c.args.header.now c.args.store.now c.forget.new.self c.in_default.ensures.refusal c.length-size.ensures.value c.forget.ensures in
+    load_reads c.args.header.now c.args.src.now.seen.size c.args.store.now.slots early c.fill.ensures.reads
 
 pub returns-in-Some-refused_late-clause-says : goal.returns-in-Some-refused_late-clause-says
 returns-in-Some-refused_late-clause-says g c = λ budget. absurd (c.in-Some-refused_late.ensures.checked budget)
 
 pub returns-in-Some-refused_late-clause-held : goal.returns-in-Some-refused_late-clause-held
 returns-in-Some-refused_late-clause-held g c = λ file held is other.
+    let early = told_early c.args.header.now c.args.store.now c.forget.new.self c.in_default.ensures.refusal c.length-size.ensures.value c.forget.ensures in
     let slots = ap (λ (s : Stored). s.slots) c.in-Some-refused_late.ensures.kept ∙ c.fill.ensures.slots ∙ ap (λ (s : Stored). s.slots) c.forget.ensures in
     let long = c.args.src.now.seen.sized file held in
     let rows = rows_loaded file c.args.header.now c.fill.new.self is c.in_default-fill.ensures.loaded (c.in_default-fill.ensures.rows file held) in
-    late_answer file c.args.header.now c.args.src.now.seen.size c.args.store.now.slots _ (told_early c.args.header.now c.args.store.now c.forget.new.self c.in_default.ensures.refusal c.length-size.ensures.value c.forget.ensures) slots is (sym long) (c.in-Some-refused_late.ensures.held file (long ∙ sym c.length-size.ensures.value) is rows)
+    late_answer file c.args.header.now c.args.src.now.seen.size c.args.store.now.slots _ early slots is (sym long) (c.in-Some-refused_late.ensures.held file (long ∙ sym c.length-size.ensures.value) is rows)
 
 pub returns-clause-reads : goal.returns-clause-reads
-returns-clause-reads g c = load_reads c.args.header.now c.args.src.now.seen.size c.args.store.now.slots (told_early c.args.header.now c.args.store.now c.forget.new.self c.in_default.ensures.refusal c.length-size.ensures.value c.forget.ensures) c.fill.ensures.reads
+returns-clause-reads g c =
+    let early = told_early c.args.header.now c.args.store.now c.forget.new.self c.in_default.ensures.refusal c.length-size.ensures.value c.forget.ensures in
+    load_reads c.args.header.now c.args.src.now.seen.size c.args.store.now.slots early c.fill.ensures.reads
 
 pub returns-clause-held : goal.returns-clause-held
 returns-clause-held g c = λ file held is.
+    let early = told_early c.args.header.now c.args.store.now c.forget.new.self c.in_default.ensures.refusal c.length-size.ensures.value c.forget.ensures in
     let slots = c.fill.ensures.slots ∙ ap (λ (s : Stored). s.slots) c.forget.ensures in
     let long = c.args.src.now.seen.sized file held in
     let size = c.length-size.ensures.value ∙ sym long in
     let rows = rows_loaded file c.args.header.now c.fill.new.self is c.in_default-fill.ensures.loaded (c.in_default-fill.ensures.rows file held) in
-    let passes = late_answer file c.args.header.now c.args.src.now.seen.size c.args.store.now.slots _ (told_early c.args.header.now c.args.store.now c.forget.new.self c.in_default.ensures.refusal c.length-size.ensures.value c.forget.ensures) slots is (sym long) (c.in_default-refused_late.ensures.held file (sym size) is rows) in
+    let passes = late_answer file c.args.header.now c.args.src.now.seen.size c.args.store.now.slots _ early slots is (sym long) (c.in_default-refused_late.ensures.held file (sym size) is rows) in
     belongs_loaded file c.args.header.now c.length-size.result c.new.result c.fill.new.self c.refused_late.new.store c.new.ensures c.in_default-refused_late.ensures.kept size is c.in_default-fill.ensures.loaded rows passes
