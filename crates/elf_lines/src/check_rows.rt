@@ -5,7 +5,7 @@ ghost use Rattle.elf_model.specs.Checking.{check_front, check_line, place_text, 
 ghost use Rattle.elf_model.specs.Checking.{unnamed_line};
 ghost use Rattle.elf_source.specs.Output.{Puts};
 
-use crate::columns::{Line, put, put_decimal, put_hex, put_left};
+use crate::columns::{Line, line_of, put, put_decimal, put_left, put_xword};
 use crate::named::show_named;
 use crate::rows::cause_word;
 use elf_model::FileState;
@@ -16,10 +16,8 @@ use elf_source::{Out, OutFault, Sink};
 fn check_row(state: FileState) -> Line
     ensures { result.items ≡ check_front state }
 {
-    let mut line = Line::new();
-    put(&mut line, b"C ");
+    let mut line = line_of(b"C ");
     put_left(&mut line, 12, state_word(state).as_bytes());
-    put(&mut line, b" ");
     put_place(&mut line, state);
     put(&mut line, b" ");
     line
@@ -36,8 +34,7 @@ fn put_place(line: &mut Line, state: FileState)
         put(line, b"-");
         return;
     };
-    put_hex(line, 16, refusal.at);
-    put(line, b" ");
+    put_xword(line, refusal.at);
     put(line, cause_word(refusal.cause).as_bytes());
 }
 
@@ -82,11 +79,8 @@ pub fn show_unnamed<W: Sink>(count: u64, out: &mut Out<W>) -> Result<(), OutFaul
 fn unnamed_row(count: u64) -> Line
     ensures { result.items ≡ unnamed_line count }
 {
-    let mut line = Line::new();
-    put(&mut line, b"C ");
+    let mut line = line_of(b"C ");
     put_left(&mut line, 12, b"unnamed");
-    put(&mut line, b" ");
-    put_decimal(&mut line, 10, count);
-    put(&mut line, b"\n");
+    put_decimal(&mut line, 10, count, b'\n');
     line
 }

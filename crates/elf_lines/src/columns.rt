@@ -1,8 +1,8 @@
 //! A line of a listing while it is put together, field by field.
-ghost use Rattle.std.specs.Prelude.{◌≡◌, ◌+◌, ◌<◌, ◌≤◌, ◌++◌, [], if◌then◌else◌, length, max};
+ghost use Rattle.std.specs.Prelude.{◌≡◌, ◌+◌, ◌<◌, ◌≤◌, ◌++◌, ◌∷◌, [], if◌then◌else◌, length, max};
 ghost use Rattle.std.specs.Prelude.{IfSome, unwrap_or, option_copied};
 ghost use Rattle.arrayvec.specs.ArrayVec.{array_vec_len};
-ghost use Rattle.elf_model.specs.Text.{digit, hex, spaces, left_in, right_in, right_decimal};
+ghost use Rattle.elf_model.specs.Text.{digit, hex, space, spaces, left_in, right_in, right_decimal};
 ghost use Rattle.elf_model.specs.NameTables.{name_or_decimal};
 
 use arrayvec::ArrayVec;
@@ -25,6 +25,17 @@ pub fn put(line: &mut Line, text: &[u8])
     line.try_extend_from_slice(text).unwrap();
 }
 
+/// A line that begins with a text.
+pub fn line_of(text: &[u8]) -> Line
+    requires { length text.now ≤ 256 }
+    ensures items { result.items ≡ text.now }
+    ensures len { array_vec_len result ≡ length text.now }
+{
+    let mut line = Line::new();
+    put(&mut line, text);
+    line
+}
+
 /// Puts so many spaces at the end.
 pub fn put_spaces(line: &mut Line, count: usize)
     requires { array_vec_len line.old + count ≤ 256 }
@@ -36,19 +47,21 @@ pub fn put_spaces(line: &mut Line, count: usize)
     }
 }
 
-/// Puts a text at the left of a column of this width. A longer text is not cut.
+/// Puts a text at the left of a column of this width, and a space. A longer text is not cut.
 #[tactic(auto, unfolding(elf_model::specs::Text::left_in))]
 pub fn put_left(line: &mut Line, width: usize, text: &[u8])
-    requires { array_vec_len line.old + max width (length text.now) ≤ 256 }
-    ensures items { line.new.items ≡ line.old.items ++ left_in width text.now }
-    ensures len { array_vec_len line.new ≡ array_vec_len line.old + max width (length text.now) }
+    requires { array_vec_len line.old + (max width (length text.now) + 1) ≤ 256 }
+    ensures items { line.new.items ≡ line.old.items ++ left_in width text.now ++ space }
+    ensures len { array_vec_len line.new
+        ≡ array_vec_len line.old + (max width (length text.now) + 1) }
 {
     put(line, text);
     put_spaces(line, width.saturating_sub(text.len()));
+    put(line, b" ");
 }
 
 /// Puts a name at the left of a column of this width, or the last hexadecimal digits of a number
-/// that has none.
+/// that has none, and a space.
 #[tactic(auto, using(crate::proofs::Digits::length_hex), unfolding(elf_model::specs::Text::left_in))]
 pub fn put_name_or_hex(
     line: &mut Line,
@@ -62,43 +75,46 @@ pub fn put_name_or_hex(
     requires digits { digits ≤ width }
     requires short { IfSome name (λ name. length name.now ≤ width) }
     ensures items { let text = unwrap_or (option_copied name.entry) (hex digits number) in
-        line.new.items ≡ line.old.items ++ left_in width text }
-    ensures len { array_vec_len line.new ≡ array_vec_len line.old + width }
+        line.new.items ≡ line.old.items ++ left_in width text ++ space }
+    ensures len { array_vec_len line.new ≡ array_vec_len line.old + (width + 1) }
 {
     match name {
         Some(name) => put_left(line, width, name.as_bytes()),
         None => {
             put_hex(line, digits, number);
             put_spaces(line, width - digits as usize);
+            put(line, b" ");
         }
     }
 }
 
-/// Puts a decimal number at the right of a column of this width. A longer number is not cut.
+/// Puts a decimal number at the right of a column of this width, and the byte that ends it. A longer
+/// number is not cut.
 #[tactic(auto, unfolding(elf_model::specs::Text::right_decimal, elf_model::specs::Text::right_in))]
-pub fn put_decimal(line: &mut Line, width: usize, number: u64)
-    requires { array_vec_len line.old + max width 20 ≤ 256 }
-    ensures items { line.new.items ≡ line.old.items ++ right_decimal width number }
-    ensures len { array_vec_len line.new ≤ array_vec_len line.old + max width 20 }
+pub fn put_decimal(line: &mut Line, width: usize, number: u64, end: u8)
+    requires { array_vec_len line.old + (max width 20 + 1) ≤ 256 }
+    ensures items { line.new.items ≡ line.old.items ++ right_decimal width number ++ end ∷ [] }
+    ensures len { array_vec_len line.new ≤ array_vec_len line.old + (max width 20 + 1) }
 {
     let mut buffer = Buffer::new();
     let text = buffer.format(number).as_bytes();
     put_spaces(line, width.saturating_sub(text.len()));
     put(line, text);
+    line.push(end);
 }
 
 /// Puts a name at the left of a column of this width, or a decimal number that has none at the
-/// right of it. A longer number is not cut.
+/// right of it, and a space. A longer number is not cut.
 pub fn put_name_or_decimal(line: &mut Line, width: usize, name: Option<&'static str>, number: u64)
-    requires room { array_vec_len line.old + max width 20 ≤ 256 }
+    requires room { array_vec_len line.old + (max width 20 + 1) ≤ 256 }
     requires short { IfSome name (λ name. length name.now ≤ width) }
     ensures items { let text = name_or_decimal width (option_copied name.entry) number in
-        line.new.items ≡ line.old.items ++ text }
-    ensures len { array_vec_len line.new ≤ array_vec_len line.old + max width 20 }
+        line.new.items ≡ line.old.items ++ text ++ space }
+    ensures len { array_vec_len line.new ≤ array_vec_len line.old + (max width 20 + 1) }
 {
     match name {
         Some(name) => put_left(line, width, name.as_bytes()),
-        None => put_decimal(line, width, number),
+        None => put_decimal(line, width, number, b' '),
     }
 }
 
@@ -125,6 +141,35 @@ pub fn put_hex(line: &mut Line, digits: u32, number: u64)
         left -= 1;
         line.push(digit_of((number >> (4 * left)) % 16));
     }
+}
+
+/// Puts a number of 64 bits in its sixteen hexadecimal digits, and a space.
+pub fn put_xword(line: &mut Line, number: u64)
+    requires { array_vec_len line.old + 17 ≤ 256 }
+    ensures items { line.new.items ≡ line.old.items ++ hex 16 number ++ space }
+    ensures len { array_vec_len line.new ≡ array_vec_len line.old + 17 }
+{
+    put_hex(line, 16, number);
+    put(line, b" ");
+}
+
+/// Puts a number of 32 bits in its eight hexadecimal digits, and a space.
+pub fn put_word(line: &mut Line, number: u32)
+    requires { array_vec_len line.old + 9 ≤ 256 }
+    ensures items { line.new.items ≡ line.old.items ++ hex 8 number ++ space }
+    ensures len { array_vec_len line.new ≡ array_vec_len line.old + 9 }
+{
+    put_hex(line, 8, u64::from(number));
+    put(line, b" ");
+}
+
+/// Puts a number of 16 bits, in decimal at the right of five columns, and a space.
+pub fn put_half(line: &mut Line, number: u16)
+    requires { array_vec_len line.old + 21 ≤ 256 }
+    ensures items { line.new.items ≡ line.old.items ++ right_decimal 5 number ++ space }
+    ensures len { array_vec_len line.new ≤ array_vec_len line.old + 21 }
+{
+    put_decimal(line, 5, u64::from(number), b' ');
 }
 
 #[tactic(auto, unfolding(elf_model::specs::Text::digit))]

@@ -8,7 +8,7 @@ ghost use Rattle.elf_model.specs.NameTables.{number_sign, relocation_types};
 ghost use Rattle.elf_source.specs.Output.{Puts};
 ghost use Rattle.elf_lines.specs.Pieces.{shown_as};
 
-use crate::columns::{Line, put};
+use crate::columns::{Line, line_of, put};
 use crate::named::show_around;
 use crate::relocation_rows::{number_sign, relocation_type_name};
 use elf_model::{Base, Missing, Wanted};
@@ -64,8 +64,7 @@ fn type_front(kind: u32) -> Line
     ensures text { result.items ≡ type_front kind }
     ensures short { array_vec_len result ≤ 32 }
 {
-    let mut line = Line::new();
-    put(&mut line, b"elfsee: ");
+    let mut line = line_of(b"elfsee: ");
     match relocation_type_name(kind, true) {
         Some(name) => put(&mut line, name.as_bytes()),
         None => put(&mut line, &number_sign(kind)),
@@ -102,9 +101,8 @@ fn show_help<W: Sink>(
 fn place_row(section: u16) -> Line
     ensures { result.items ≡ place_text section }
 {
-    let mut line = Line::new();
+    let mut line = line_of(b"at:");
     let mut buffer = Buffer::new();
-    put(&mut line, b"at:");
     put(&mut line, buffer.format(section).as_bytes());
     put(&mut line, b"=ADDR would help\n");
     line
@@ -144,7 +142,5 @@ fn show_item<W: Sink>(
     requires tail { length tail.now ≤ 256 }
     ensures puts { Puts out.old out.new result (item_text word.now (escaped name.now) tail.now) }
 {
-    let mut line = Line::new();
-    put(&mut line, word);
-    show_around(line, name, tail, out)
+    show_around(line_of(word), name, tail, out)
 }

@@ -9,6 +9,7 @@ mod dynamic_rows;
 mod lack_rows;
 mod lookup_rows;
 mod member_rows;
+mod name_tables;
 mod named;
 mod naming;
 mod note_rows;

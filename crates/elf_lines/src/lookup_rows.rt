@@ -3,7 +3,7 @@ ghost use Rattle.std.specs.Prelude.{◌≡◌};
 ghost use Rattle.elf_model.specs.Lines.{steps_line};
 ghost use Rattle.elf_source.specs.Output.{Puts};
 
-use crate::columns::{Line, put, put_decimal, put_left};
+use crate::columns::{Line, line_of, put_decimal, put_left};
 use elf_source::{Out, OutFault, Sink};
 
 /// The `F` line, which ends a lookup: whether the name was found, and how many symbols were compared.
@@ -12,12 +12,9 @@ pub fn steps_row(found: bool, steps: u64) -> Line
     ensures { result.items ≡ steps_line found steps }
 {
     let word = if found { "found" } else { "absent" };
-    let mut line = Line::new();
-    put(&mut line, b"F ");
+    let mut line = line_of(b"F ");
     put_left(&mut line, 6, word.as_bytes());
-    put(&mut line, b" ");
-    put_decimal(&mut line, 10, steps);
-    put(&mut line, b"\n");
+    put_decimal(&mut line, 10, steps, b'\n');
     line
 }
 

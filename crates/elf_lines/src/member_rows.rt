@@ -2,7 +2,7 @@
 ghost use Rattle.std.specs.Prelude.{◌≡◌};
 ghost use Rattle.elf_model.specs.Archive.{member_front};
 
-use crate::columns::{Line, put, put_decimal, put_hex};
+use crate::columns::{Line, line_of, put_decimal, put_xword};
 
 /// The `A` line of an archive's member up to the name: its index, the file offset and the size in
 /// bytes of its data. The space before the name is the last byte.
@@ -10,13 +10,9 @@ use crate::columns::{Line, put, put_decimal, put_hex};
 pub fn member_front(index: u64, at: u64, size: u64) -> Line
     ensures { result.items ≡ member_front index at size }
 {
-    let mut line = Line::new();
-    put(&mut line, b"A ");
-    put_decimal(&mut line, 5, index);
-    put(&mut line, b" ");
-    put_hex(&mut line, 16, at);
-    put(&mut line, b" ");
-    put_hex(&mut line, 16, size);
-    put(&mut line, b" ");
+    let mut line = line_of(b"A ");
+    put_decimal(&mut line, 5, index, b' ');
+    put_xword(&mut line, at);
+    put_xword(&mut line, size);
     line
 }

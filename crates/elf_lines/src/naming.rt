@@ -1,4 +1,5 @@
 //! How numbers are named.
+use elf_record::numbers::EM_X86_64;
 
 /// How numbers are named in the lines of a file: by the names of the standards alone, or by those of
 /// the GNU system too; and on which machine, since some names are of x86-64 alone.
@@ -11,7 +12,8 @@ pub struct Naming {
 }
 
 impl Naming {
-    ghost use Rattle.std.specs.Prelude.{◌≡◌, false};
+    ghost use Rattle.std.specs.Prelude.{◌≡◌, ◌==◌, ◌&&◌, false};
+    ghost use Rattle.elf_model.specs.Numbers.{EM_X86_64};
 
     /// The names of the standards alone.
     pub fn standard(machine: u16) -> Naming
@@ -22,5 +24,12 @@ impl Naming {
             gnu: false,
             machine,
         }
+    }
+
+    /// Whether numbers of the GNU system that are of x86-64 alone have names.
+    pub fn is_gnu_on_x86_64(self) -> bool
+        ensures { result ≡ (self.gnu && (self.machine == EM_X86_64)) }
+    {
+        self.gnu && self.machine == EM_X86_64
     }
 }

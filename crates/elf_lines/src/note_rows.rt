@@ -8,7 +8,7 @@ ghost use Rattle.elf_source.specs.Output.{OutFails, Puts};
 ghost use Rattle.elf_lines.specs.Notes.{IsDescriptor};
 ghost use Rattle.elf_lines.specs.Pieces.{shown_as};
 
-use crate::columns::{Line, put, put_decimal, put_hex, put_where};
+use crate::columns::{Line, line_of, put, put_half, put_where, put_word};
 use crate::named::show_around;
 use elf_record::NoteHead;
 use elf_source::{Out, OutFault, Sink};
@@ -24,16 +24,11 @@ const SHOWN_DESCRIPTOR: u32 = 32;
 pub fn note_front(index: u16, head: &NoteHead) -> Line
     ensures { result.items ≡ note_front index head.now.kind head.now.namesz head.now.descsz }
 {
-    let mut line = Line::new();
-    put(&mut line, b"N ");
-    put_decimal(&mut line, 5, u64::from(index));
-    put(&mut line, b" ");
-    put_hex(&mut line, 8, u64::from(head.kind));
-    put(&mut line, b" ");
-    put_hex(&mut line, 8, u64::from(head.namesz));
-    put(&mut line, b" ");
-    put_hex(&mut line, 8, u64::from(head.descsz));
-    put(&mut line, b" ");
+    let mut line = line_of(b"N ");
+    put_half(&mut line, index);
+    put_word(&mut line, head.kind);
+    put_word(&mut line, head.namesz);
+    put_word(&mut line, head.descsz);
     line
 }
 

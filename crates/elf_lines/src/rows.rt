@@ -7,7 +7,10 @@ ghost use Rattle.elf_model.specs.NameTables.{file_types};
 ghost use Rattle.elf_record.specs.Ehdr.{IsEhdr};
 ghost use Rattle.elf_source.specs.Output.{Puts};
 
-use crate::columns::{Line, put, put_decimal, put_hex, put_name_or_hex};
+use crate::columns::{
+    Line, line_of, put, put_decimal, put_half, put_hex, put_name_or_hex, put_word, put_xword,
+};
+use crate::name_tables::name_of;
 use elf_record::numbers::{ET_CORE, ET_DYN, ET_EXEC, ET_NONE, ET_REL};
 use elf_record::{Cause, Ehdr, Refusal};
 use elf_source::{Out, OutFault, Sink};
@@ -19,27 +22,17 @@ use elf_source::{Out, OutFault, Sink};
 pub fn header_row(header: &Ehdr) -> Line
     ensures { (file : List ℕ) → IsEhdr file 0 header.now → result.items ≡ header_line file }
 {
-    let mut line = Line::new();
-    put(&mut line, b"H ");
-    let name = file_type_name(header.e_type);
-    put_name_or_hex(&mut line, 4, name, 4, u64::from(header.e_type));
-    put(&mut line, b" ");
-    put_decimal(&mut line, 5, u64::from(header.e_machine));
-    put(&mut line, b" ");
-    put_hex(&mut line, 16, header.e_entry);
-    put(&mut line, b" ");
-    put_hex(&mut line, 16, header.e_phoff);
-    put(&mut line, b" ");
-    put_hex(&mut line, 16, header.e_shoff);
-    put(&mut line, b" ");
-    put_hex(&mut line, 8, u64::from(header.e_flags));
-    put(&mut line, b" ");
-    put_decimal(&mut line, 5, u64::from(header.e_phnum));
-    put(&mut line, b" ");
-    put_decimal(&mut line, 5, u64::from(header.e_shnum));
-    put(&mut line, b" ");
-    put_decimal(&mut line, 5, u64::from(header.e_shstrndx));
-    put(&mut line, b"\n");
+    let mut line = line_of(b"H ");
+    let kind = u64::from(header.e_type);
+    put_name_or_hex(&mut line, 4, file_type_name(kind), 4, kind);
+    put_half(&mut line, header.e_machine);
+    put_xword(&mut line, header.e_entry);
+    put_xword(&mut line, header.e_phoff);
+    put_xword(&mut line, header.e_shoff);
+    put_word(&mut line, header.e_flags);
+    put_half(&mut line, header.e_phnum);
+    put_half(&mut line, header.e_shnum);
+    put_decimal(&mut line, 5, u64::from(header.e_shstrndx), b'\n');
     line
 }
 
@@ -48,8 +41,7 @@ pub fn header_row(header: &Ehdr) -> Line
 pub fn refusal_row(refusal: Refusal) -> Line
     ensures { result.items ≡ refusal_line refusal }
 {
-    let mut line = Line::new();
-    put(&mut line, b"! ");
+    let mut line = line_of(b"! ");
     put_hex(&mut line, 16, refusal.at);
     put(&mut line, b" ");
     put(&mut line, cause_word(refusal.cause).as_bytes());
@@ -112,18 +104,19 @@ pub fn cause_word(cause: Cause) -> &'static str
     }
 }
 
-/// The name of an object file type (gABI 4, ELF Header).
-#[tactic(auto, unfolding(crate::specs::Rows::file_types, crate::specs::Rows::name_of))]
-fn file_type_name(kind: u16) -> Option<&'static str>
+/// The name of an object file type.
+fn file_type_name(kind: u64) -> Option<&'static str>
     ensures name { option_copied result ≡ name_of file_types kind }
     ensures short { IfSome result (λ name. length name.now ≤ 4) }
 {
-    match kind {
-        ET_NONE => Some("NONE"),
-        ET_REL => Some("REL"),
-        ET_EXEC => Some("EXEC"),
-        ET_DYN => Some("DYN"),
-        ET_CORE => Some("CORE"),
-        _ => None,
-    }
+    name_of(&FILE_TYPES, kind)
 }
+
+/// The object file types (gABI 4, ELF Header).
+const FILE_TYPES: [(u64, &str); 5] = [
+    (ET_NONE as u64, "NONE"),
+    (ET_REL as u64, "REL"),
+    (ET_EXEC as u64, "EXEC"),
+    (ET_DYN as u64, "DYN"),
+    (ET_CORE as u64, "CORE"),
+];

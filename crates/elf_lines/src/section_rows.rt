@@ -2,17 +2,17 @@
 ghost use Rattle.std.specs.Prelude.{◌≡◌, ◌+◌, ◌≤◌, ◌++◌, ℕ, List, length, IfSome, option_copied};
 ghost use Rattle.arrayvec.specs.ArrayVec.{array_vec_len};
 ghost use Rattle.elf_model.specs.Text.{name_of};
-ghost use Rattle.elf_model.specs.NameTables.{further_section_types, section_flags, section_flags_text};
-ghost use Rattle.elf_model.specs.NameTables.{flags_with_letters, further_section_flags, in_twelve};
-ghost use Rattle.elf_model.specs.NameTables.{letters_of};
-ghost use Rattle.elf_model.specs.NameTables.{section_types, standard_section_flags};
-ghost use Rattle.elf_model.specs.NameTables.{standard_section_types};
+ghost use Rattle.elf_model.specs.NameTables.{flags_with_letters, in_twelve, letters_of, names_where};
+ghost use Rattle.elf_lines.specs.Tables.{letters};
+ghost use Rattle.elf_model.specs.NameTables.{section_flags, section_flags_text, section_types};
 ghost use Rattle.elf_model.specs.LineFronts.{section_front};
 ghost use Rattle.elf_record.specs.Shdr.{IsShdr};
 
-use crate::columns::{Line, put, put_decimal, put_hex, put_left, put_name_or_hex, put_where};
+use crate::columns::{
+    Line, line_of, put_half, put_left, put_name_or_hex, put_where, put_word, put_xword,
+};
+use crate::name_tables::name_of_either;
 use crate::naming::Naming;
-use bitflags::Flags;
 use elf_record::gnu_numbers::{
     SHF_EXCLUDE, SHF_GNU_MBIND, SHF_GNU_RETAIN, SHF_X86_64_LARGE, SHT_GNU_ATTRIBUTES, SHT_GNU_HASH,
     SHT_GNU_LIBLIST, SHT_GNU_VERDEF, SHT_GNU_VERNEED, SHT_GNU_VERSYM, SHT_RELR, SHT_X86_64_UNWIND,
@@ -31,26 +31,16 @@ pub fn section_front(index: u16, header: &Shdr, naming: Naming) -> Line
     ensures { (file : List ℕ) (at : ℕ) → IsShdr file at header.now →
         result.items ≡ section_front naming.gnu naming.machine file at index }
 {
-    let mut line = Line::new();
-    put(&mut line, b"S ");
-    put_decimal(&mut line, 5, u64::from(index));
-    put(&mut line, b" ");
-    let name = section_type_name(header.sh_type, naming);
-    put_name_or_hex(&mut line, 13, name, 8, u64::from(header.sh_type));
-    put(&mut line, b" ");
-    let letters = section_letters(header.sh_flags, naming);
-    put_left(&mut line, 12, &letters);
-    put(&mut line, b" ");
-    put_hex(&mut line, 16, header.sh_addr);
-    put(&mut line, b" ");
-    put_hex(&mut line, 16, header.sh_offset);
-    put(&mut line, b" ");
-    put_hex(&mut line, 16, header.sh_size);
-    put(&mut line, b" ");
-    put_hex(&mut line, 8, u64::from(header.sh_link));
-    put(&mut line, b" ");
-    put_hex(&mut line, 8, u64::from(header.sh_info));
-    put(&mut line, b" ");
+    let mut line = line_of(b"S ");
+    put_half(&mut line, index);
+    let kind = u64::from(header.sh_type);
+    put_name_or_hex(&mut line, 13, section_type_name(kind, naming), 8, kind);
+    put_left(&mut line, 12, &section_letters(header.sh_flags, naming));
+    put_xword(&mut line, header.sh_addr);
+    put_xword(&mut line, header.sh_offset);
+    put_xword(&mut line, header.sh_size);
+    put_word(&mut line, header.sh_link);
+    put_word(&mut line, header.sh_info);
     line
 }
 
@@ -66,8 +56,11 @@ fn section_letters(bits: u64, naming: Naming) -> Line
     ensures text { result.items ≡ section_flags_text naming.gnu naming.machine bits }
     ensures short { array_vec_len result ≤ 12 }
 {
-    let mut line = standard_letters(bits);
-    put_further_letters(&mut line, bits, naming);
+    let mut line = Line::new();
+    put_letters(&mut line, true, &STANDARD_LETTERS, bits);
+    put_letters(&mut line, naming.gnu, &GNU_LETTERS, bits);
+    put_letters(&mut line, naming.is_gnu_on_x86_64(), &X86_64_LETTERS, bits);
+    put_letters(&mut line, naming.gnu, &PROCESSOR_LETTERS, bits);
     let known = flags_with_letters(naming);
     put_where(&mut line, bits & known != bits, b"?");
     in_twelve(line)
@@ -87,49 +80,46 @@ fn in_twelve(letters: Line) -> Line
     line
 }
 
-/// The letters of the flags that the standard has.
-fn standard_letters(bits: u64) -> Line
-    ensures text { result.items ≡ letters_of standard_section_flags bits }
-    ensures short { array_vec_len result ≤ 11 }
-{
-    let flags = SectionFlags(bits);
-    let mut line = Line::new();
-    put_where(&mut line, flags.contains(SectionFlags::WRITE), b"W");
-    put_where(&mut line, flags.contains(SectionFlags::ALLOC), b"A");
-    put_where(&mut line, flags.contains(SectionFlags::EXECINSTR), b"X");
-    put_where(&mut line, flags.contains(SectionFlags::MERGE), b"M");
-    put_where(&mut line, flags.contains(SectionFlags::STRINGS), b"S");
-    put_where(&mut line, flags.contains(SectionFlags::INFO_LINK), b"I");
-    put_where(&mut line, flags.contains(SectionFlags::LINK_ORDER), b"L");
-    put_where(
-        &mut line,
-        flags.contains(SectionFlags::OS_NONCONFORMING),
-        b"O",
-    );
-    put_where(&mut line, flags.contains(SectionFlags::GROUP), b"G");
-    put_where(&mut line, flags.contains(SectionFlags::TLS), b"T");
-    put_where(&mut line, flags.contains(SectionFlags::COMPRESSED), b"C");
-    line
-}
-
-/// Puts the letters of the flags that have names beside the standard's.
-#[tactic(auto, unfolding(crate::specs::Rows::further_section_flags, crate::specs::Rows::gnu_section_flags, crate::specs::Rows::x86_64_section_flags, crate::specs::Rows::processor_section_flags, crate::specs::Rows::letters_of))]
-fn put_further_letters(line: &mut Line, bits: u64, naming: Naming)
-    requires { array_vec_len line.old + 4 ≤ 256 }
+/// Puts the letters of the flags of a table that are set, where a condition holds.
+#[tactic(auto, unfolding(crate::specs::Rows::letters_of))]
+fn put_letters(line: &mut Line, condition: bool, mut table: &[(u64, u8)], bits: u64)
+    requires { array_vec_len line.old + length table.now ≤ 256 }
     ensures items { line.new.items
-        ≡ line.old.items ++ letters_of (further_section_flags naming.gnu naming.machine) bits }
-    ensures len { array_vec_len line.new ≤ array_vec_len line.old + 4 }
+        ≡ line.old.items ++ letters_of (names_where condition (letters table.entry.now)) bits }
+    ensures len { array_vec_len line.new ≤ array_vec_len line.old + length table.entry.now }
 {
-    if !naming.gnu {
+    if !condition {
         return;
     }
-    put_where(line, bits & SHF_GNU_RETAIN == SHF_GNU_RETAIN, b"R");
-    put_where(line, bits & SHF_GNU_MBIND == SHF_GNU_MBIND, b"D");
-    if naming.machine == EM_X86_64 {
-        put_where(line, bits & SHF_X86_64_LARGE == SHF_X86_64_LARGE, b"l");
+    while let [flag, rest @ ..] = table {
+        put_where(line, bits & flag.0 == flag.0, &[flag.1]);
+        table = rest;
     }
-    put_where(line, bits & SHF_EXCLUDE == SHF_EXCLUDE, b"E");
 }
+
+/// The flags of the standard, and their letters.
+const STANDARD_LETTERS: [(u64, u8); 11] = [
+    (SectionFlags::WRITE.0, b'W'),
+    (SectionFlags::ALLOC.0, b'A'),
+    (SectionFlags::EXECINSTR.0, b'X'),
+    (SectionFlags::MERGE.0, b'M'),
+    (SectionFlags::STRINGS.0, b'S'),
+    (SectionFlags::INFO_LINK.0, b'I'),
+    (SectionFlags::LINK_ORDER.0, b'L'),
+    (SectionFlags::OS_NONCONFORMING.0, b'O'),
+    (SectionFlags::GROUP.0, b'G'),
+    (SectionFlags::TLS.0, b'T'),
+    (SectionFlags::COMPRESSED.0, b'C'),
+];
+
+/// The flags of the GNU system, and their letters.
+const GNU_LETTERS: [(u64, u8); 2] = [(SHF_GNU_RETAIN, b'R'), (SHF_GNU_MBIND, b'D')];
+
+/// The flags of x86-64, and their letters (x86-64 psABI, Section Attribute Flags).
+const X86_64_LETTERS: [(u64, u8); 1] = [(SHF_X86_64_LARGE, b'l')];
+
+/// The flags of every processor, and their letters.
+const PROCESSOR_LETTERS: [(u64, u8); 1] = [(SHF_EXCLUDE, b'E')];
 
 /// All flags that have letters.
 #[tactic(auto, unfolding(crate::specs::Rows::section_flags, crate::specs::Rows::standard_section_flags, crate::specs::Rows::further_section_flags, crate::specs::Rows::gnu_section_flags, crate::specs::Rows::x86_64_section_flags, crate::specs::Rows::processor_section_flags))]
@@ -147,64 +137,51 @@ fn flags_with_letters(naming: Naming) -> u64
 }
 
 /// The name of a section type.
-#[tactic(auto, using(crate::proofs::Names::name_of_both), unfolding(crate::specs::Rows::section_types))]
-fn section_type_name(kind: u32, naming: Naming) -> Option<&'static str>
+fn section_type_name(kind: u64, naming: Naming) -> Option<&'static str>
     ensures name { option_copied result ≡ name_of (section_types naming.gnu naming.machine) kind }
     ensures short { IfSome result (λ name. length name.now ≤ 13) }
 {
-    match standard_section_type(kind) {
-        Some(name) => Some(name),
-        None => further_section_type(kind, naming),
-    }
+    let unwind = name_of_either(&[], naming.is_gnu_on_x86_64(), &X86_64_SECTION_TYPES, kind);
+    name_of_either(
+        &STANDARD_SECTION_TYPES,
+        naming.gnu,
+        &GNU_SECTION_TYPES,
+        kind,
+    )
+    .or(unwind)
 }
 
-/// The name of a section type that the standard does not have.
-#[tactic(auto, unfolding(crate::specs::Rows::further_section_types, crate::specs::Rows::gnu_section_types, crate::specs::Rows::x86_64_section_types, crate::specs::Rows::name_of))]
-fn further_section_type(kind: u32, naming: Naming) -> Option<&'static str>
-    ensures name { option_copied result
-        ≡ name_of (further_section_types naming.gnu naming.machine) kind }
-    ensures short { IfSome result (λ name. length name.now ≤ 13) }
-{
-    if !naming.gnu {
-        return None;
-    }
-    match kind {
-        SHT_RELR => Some("RELR"),
-        SHT_GNU_ATTRIBUTES => Some("GNU_ATTRIBS"),
-        SHT_GNU_HASH => Some("GNU_HASH"),
-        SHT_GNU_LIBLIST => Some("GNU_LIBLIST"),
-        SHT_GNU_VERDEF => Some("VERDEF"),
-        SHT_GNU_VERNEED => Some("VERNEED"),
-        SHT_GNU_VERSYM => Some("VERSYM"),
-        SHT_X86_64_UNWIND if naming.machine == EM_X86_64 => Some("X86_64_UNWIND"),
-        _ => None,
-    }
-}
+/// The section types of the standard that have names (gABI 4, Section Types).
+const STANDARD_SECTION_TYPES: [(u64, &str); 17] = [
+    (SHT_NULL as u64, "NULL"),
+    (SHT_PROGBITS as u64, "PROGBITS"),
+    (SHT_SYMTAB as u64, "SYMTAB"),
+    (SHT_STRTAB as u64, "STRTAB"),
+    (SHT_RELA as u64, "RELA"),
+    (SHT_HASH as u64, "HASH"),
+    (SHT_DYNAMIC as u64, "DYNAMIC"),
+    (SHT_NOTE as u64, "NOTE"),
+    (SHT_NOBITS as u64, "NOBITS"),
+    (SHT_REL as u64, "REL"),
+    (SHT_SHLIB as u64, "SHLIB"),
+    (SHT_DYNSYM as u64, "DYNSYM"),
+    (SHT_INIT_ARRAY as u64, "INIT_ARRAY"),
+    (SHT_FINI_ARRAY as u64, "FINI_ARRAY"),
+    (SHT_PREINIT_ARRAY as u64, "PREINIT_ARRAY"),
+    (SHT_GROUP as u64, "GROUP"),
+    (SHT_SYMTAB_SHNDX as u64, "SYMTAB_SHNDX"),
+];
 
-/// The name of a section type (gABI 4, Section Types).
-#[tactic(auto, unfolding(crate::specs::Rows::standard_section_types, crate::specs::Rows::name_of))]
-fn standard_section_type(kind: u32) -> Option<&'static str>
-    ensures name { option_copied result ≡ name_of standard_section_types kind }
-    ensures short { IfSome result (λ name. length name.now ≤ 13) }
-{
-    match kind {
-        SHT_NULL => Some("NULL"),
-        SHT_PROGBITS => Some("PROGBITS"),
-        SHT_SYMTAB => Some("SYMTAB"),
-        SHT_STRTAB => Some("STRTAB"),
-        SHT_RELA => Some("RELA"),
-        SHT_HASH => Some("HASH"),
-        SHT_DYNAMIC => Some("DYNAMIC"),
-        SHT_NOTE => Some("NOTE"),
-        SHT_NOBITS => Some("NOBITS"),
-        SHT_REL => Some("REL"),
-        SHT_SHLIB => Some("SHLIB"),
-        SHT_DYNSYM => Some("DYNSYM"),
-        SHT_INIT_ARRAY => Some("INIT_ARRAY"),
-        SHT_FINI_ARRAY => Some("FINI_ARRAY"),
-        SHT_PREINIT_ARRAY => Some("PREINIT_ARRAY"),
-        SHT_GROUP => Some("GROUP"),
-        SHT_SYMTAB_SHNDX => Some("SYMTAB_SHNDX"),
-        _ => None,
-    }
-}
+/// The section types of the GNU system that have names.
+const GNU_SECTION_TYPES: [(u64, &str); 7] = [
+    (SHT_RELR as u64, "RELR"),
+    (SHT_GNU_ATTRIBUTES as u64, "GNU_ATTRIBS"),
+    (SHT_GNU_HASH as u64, "GNU_HASH"),
+    (SHT_GNU_LIBLIST as u64, "GNU_LIBLIST"),
+    (SHT_GNU_VERDEF as u64, "VERDEF"),
+    (SHT_GNU_VERNEED as u64, "VERNEED"),
+    (SHT_GNU_VERSYM as u64, "VERSYM"),
+];
+
+/// The section types of x86-64 that have names (x86-64 psABI, Section Types).
+const X86_64_SECTION_TYPES: [(u64, &str); 1] = [(SHT_X86_64_UNWIND as u64, "X86_64_UNWIND")];

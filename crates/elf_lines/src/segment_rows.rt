@@ -3,12 +3,12 @@ ghost use Rattle.std.specs.Prelude.{◌≡◌, ◌+◌, ◌≤◌, ◌++◌, ◌
 ghost use Rattle.std.specs.Prelude.{codes, IfSome, option_copied};
 ghost use Rattle.arrayvec.specs.ArrayVec.{array_vec_len};
 ghost use Rattle.elf_model.specs.Text.{name_of};
-ghost use Rattle.elf_model.specs.NameTables.{gnu_segment_types, names_where, segment_types};
-ghost use Rattle.elf_model.specs.NameTables.{segment_flags_text, standard_segment_types};
+ghost use Rattle.elf_model.specs.NameTables.{segment_flags_text, segment_types};
 ghost use Rattle.elf_model.specs.Lines.{segment_line};
 ghost use Rattle.elf_record.specs.Phdr.{IsPhdr};
 
-use crate::columns::{Line, put, put_decimal, put_hex, put_name_or_hex};
+use crate::columns::{Line, line_of, put, put_half, put_hex, put_name_or_hex, put_xword};
+use crate::name_tables::name_of_either;
 use bitflags::Flags;
 use elf_record::gnu_numbers::{
     PT_GNU_EH_FRAME, PT_GNU_PROPERTY, PT_GNU_RELRO, PT_GNU_SFRAME, PT_GNU_STACK,
@@ -26,25 +26,17 @@ pub fn segment_row(index: u16, header: &Phdr, gnu: bool) -> Line
     ensures { (file : List ℕ) (at : ℕ) → IsPhdr file at header.now →
         result.items ≡ segment_line gnu file at index }
 {
-    let mut line = Line::new();
-    put(&mut line, b"P ");
-    put_decimal(&mut line, 5, u64::from(index));
-    put(&mut line, b" ");
-    let name = segment_type_name(header.p_type, gnu);
-    put_name_or_hex(&mut line, 8, name, 8, u64::from(header.p_type));
-    put(&mut line, b" ");
+    let mut line = line_of(b"P ");
+    put_half(&mut line, index);
+    let kind = u64::from(header.p_type);
+    put_name_or_hex(&mut line, 8, segment_type_name(kind, gnu), 8, kind);
     put_permissions(&mut line, SegmentFlags(header.p_flags));
     put(&mut line, b" ");
-    put_hex(&mut line, 16, header.p_offset);
-    put(&mut line, b" ");
-    put_hex(&mut line, 16, header.p_vaddr);
-    put(&mut line, b" ");
-    put_hex(&mut line, 16, header.p_paddr);
-    put(&mut line, b" ");
-    put_hex(&mut line, 16, header.p_filesz);
-    put(&mut line, b" ");
-    put_hex(&mut line, 16, header.p_memsz);
-    put(&mut line, b" ");
+    put_xword(&mut line, header.p_offset);
+    put_xword(&mut line, header.p_vaddr);
+    put_xword(&mut line, header.p_paddr);
+    put_xword(&mut line, header.p_filesz);
+    put_xword(&mut line, header.p_memsz);
     put_hex(&mut line, 16, header.p_align);
     put(&mut line, b"\n");
     line
@@ -72,51 +64,30 @@ fn put_letter(line: &mut Line, is_set: bool, letter: u8)
 }
 
 /// The name of a segment type.
-#[tactic(auto, using(crate::proofs::Names::name_of_both), unfolding(crate::specs::Rows::segment_types))]
-fn segment_type_name(kind: u32, gnu: bool) -> Option<&'static str>
+fn segment_type_name(kind: u64, gnu: bool) -> Option<&'static str>
     ensures name { option_copied result ≡ name_of (segment_types gnu) kind }
     ensures short { IfSome result (λ name. length name.now ≤ 8) }
 {
-    match standard_segment_type(kind) {
-        Some(name) => Some(name),
-        None => gnu_segment_type(kind, gnu),
-    }
+    name_of_either(&STANDARD_SEGMENT_TYPES, gnu, &GNU_SEGMENT_TYPES, kind)
 }
 
-/// The name of a segment type of the GNU system, where these have names.
-#[tactic(auto, unfolding(crate::specs::Rows::gnu_segment_types, crate::specs::Rows::name_of))]
-fn gnu_segment_type(kind: u32, gnu: bool) -> Option<&'static str>
-    ensures name { option_copied result ≡ name_of (names_where gnu gnu_segment_types) kind }
-    ensures short { IfSome result (λ name. length name.now ≤ 8) }
-{
-    if !gnu {
-        return None;
-    }
-    match kind {
-        PT_GNU_EH_FRAME => Some("EH_FRAME"),
-        PT_GNU_STACK => Some("STACK"),
-        PT_GNU_RELRO => Some("RELRO"),
-        PT_GNU_PROPERTY => Some("PROPERTY"),
-        PT_GNU_SFRAME => Some("SFRAME"),
-        _ => None,
-    }
-}
+/// The segment types of the standard (gABI 5, Segment Types).
+const STANDARD_SEGMENT_TYPES: [(u64, &str); 8] = [
+    (PT_NULL as u64, "NULL"),
+    (PT_LOAD as u64, "LOAD"),
+    (PT_DYNAMIC as u64, "DYNAMIC"),
+    (PT_INTERP as u64, "INTERP"),
+    (PT_NOTE as u64, "NOTE"),
+    (PT_SHLIB as u64, "SHLIB"),
+    (PT_PHDR as u64, "PHDR"),
+    (PT_TLS as u64, "TLS"),
+];
 
-/// The name of a segment type of the standard (gABI 5, Segment Types).
-#[tactic(auto, unfolding(crate::specs::Rows::standard_segment_types, crate::specs::Rows::name_of))]
-fn standard_segment_type(kind: u32) -> Option<&'static str>
-    ensures name { option_copied result ≡ name_of standard_segment_types kind }
-    ensures short { IfSome result (λ name. length name.now ≤ 8) }
-{
-    match kind {
-        PT_NULL => Some("NULL"),
-        PT_LOAD => Some("LOAD"),
-        PT_DYNAMIC => Some("DYNAMIC"),
-        PT_INTERP => Some("INTERP"),
-        PT_NOTE => Some("NOTE"),
-        PT_SHLIB => Some("SHLIB"),
-        PT_PHDR => Some("PHDR"),
-        PT_TLS => Some("TLS"),
-        _ => None,
-    }
-}
+/// The segment types of the GNU system that have names.
+const GNU_SEGMENT_TYPES: [(u64, &str); 5] = [
+    (PT_GNU_EH_FRAME as u64, "EH_FRAME"),
+    (PT_GNU_STACK as u64, "STACK"),
+    (PT_GNU_RELRO as u64, "RELRO"),
+    (PT_GNU_PROPERTY as u64, "PROPERTY"),
+    (PT_GNU_SFRAME as u64, "SFRAME"),
+];

@@ -2,7 +2,7 @@
 ghost use Rattle.std.specs.Prelude.{◌≡◌, ◌≤◌, if◌then◌else◌, codes, length};
 ghost use Rattle.elf_model.specs.VersionRows.{kind_text, version_front, symbol_version_front};
 
-use crate::columns::{Line, put, put_decimal, put_hex, put_left};
+use crate::columns::{Line, line_of, put, put_decimal, put_half, put_hex, put_left, put_word};
 use elf_record::VersionKind;
 
 /// The `V` line of a record of definitions or needs up to its name: the index of its section, its
@@ -12,18 +12,13 @@ use elf_record::VersionKind;
 pub fn version_front(section: u16, kind: VersionKind, number: u16, flags: u16, hash: u32) -> Line
     ensures { result.items ≡ version_front kind section number flags hash }
 {
-    let mut line = Line::new();
-    put(&mut line, b"V ");
-    put_decimal(&mut line, 5, u64::from(section));
-    put(&mut line, b" ");
+    let mut line = line_of(b"V ");
+    put_half(&mut line, section);
     put_left(&mut line, 4, kind_name(kind).as_bytes());
-    put(&mut line, b" ");
-    put_decimal(&mut line, 5, u64::from(number));
-    put(&mut line, b" ");
+    put_half(&mut line, number);
     put_hex(&mut line, 4, u64::from(flags));
     put(&mut line, b" ");
-    put_hex(&mut line, 8, u64::from(hash));
-    put(&mut line, b" ");
+    put_word(&mut line, hash);
     line
 }
 
@@ -35,14 +30,10 @@ pub fn symbol_version_front(section: u16, index: u64, word: u16) -> Line
     ensures { result.items ≡ symbol_version_front section index word }
 {
     let number = word % (1 << 15);
-    let mut line = Line::new();
-    put(&mut line, b"X ");
-    put_decimal(&mut line, 5, u64::from(section));
-    put(&mut line, b" ");
-    put_decimal(&mut line, 10, index);
-    put(&mut line, b" ");
-    put_decimal(&mut line, 5, u64::from(number));
-    put(&mut line, b" ");
+    let mut line = line_of(b"X ");
+    put_half(&mut line, section);
+    put_decimal(&mut line, 10, index, b' ');
+    put_half(&mut line, number);
     put(&mut line, hidden_mark(word == number));
     put(&mut line, b" ");
     line

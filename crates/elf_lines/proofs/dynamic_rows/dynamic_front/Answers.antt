@@ -11,14 +11,10 @@ unfolding dynamic_front dynamic_tag_text
 returns c = λ file at is.
     let bits : c.cast_unsigned-tag.result ≡ d_tag file at = tag_bits c.args.entry.now.d_tag _ _ is.d_tag_bits is.d_tag_low c.cast_unsigned-tag.ensures in
     rw (
-      c.put-4.ensures.items,
-      c.put_hex.ensures.items,
-      c.put-3.ensures.items,
+      c.put_xword.ensures.items,
       c.put_name_or_hex.ensures.items,
-      c.put-2.ensures.items,
       c.put_decimal.ensures.items,
-      c.put.ensures.items,
-      c.new-line.ensures,
+      c.line_of-line.ensures.items,
       c.tag_name.ensures.name,
       bits,
       is.d_un,

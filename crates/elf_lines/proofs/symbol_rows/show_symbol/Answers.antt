@@ -1,11 +1,8 @@
 -- In the standards' names a symbol's line is the same on every machine.
-use Rattle.std.proofs.Common.{◌≡◌, ℕ, false, List, refl, ap, ◌∙◌}
+use Rattle.std.proofs.Common.{◌≡◌, ℕ, false, List, refl}
 use Rattle.elf_model.specs.LineFronts.{symbol_front}
-use Rattle.elf_model.specs.Lines.{named_line}
 use Rattle.elf_model.specs.NameTables.{places}
-use Rattle.elf_model.specs.Names.Shown.{Whole}
 use Rattle.elf_model.specs.Records.{e_machine}
-use Rattle.elf_source.specs.Output.{Puts}
 use Rattle.elf_source.proofs.GrowthLaws.{grows_put}
 use Rattle.elf_lines.proofs.symbol_rows.show_symbol.Goals as goal
 
