@@ -34,3 +34,17 @@ pub help_named : (base : Base) (name : List ℕ) (is_cut : Bool) → is_cut ≡ 
 unfolding help_text name_text
 help_named base name true whole some = absurd (cc)
 help_named base name false whole some = rw (some, help_text) refl
+
+-- no item has the front of a name
+pub help_cut : (base : Base) (name : List ℕ) (is_cut : Bool) → is_cut ≡ true
+    → help_text (Named base) (shown_as is_cut name) ≡ codes "no item can name it\n"
+unfolding help_text
+help_cut base name true cut = refl
+help_cut base name false cut = absurd (cc)
+
+-- nor an empty one
+pub help_unnamed : (base : Base) (name : List ℕ) (is_cut : Bool) → is_cut ≡ false → (length name == 0) ≡ true
+    → help_text (Named base) (shown_as is_cut name) ≡ codes "no item can name it\n"
+unfolding help_text
+help_unnamed base name true whole none = absurd (cc)
+help_unnamed base name false whole none = rw (none, help_text) refl
