@@ -1,5 +1,5 @@
 -- The letter that is put is that of the first flag of those that are left.
-use Rattle.std.proofs.Common.{◌≡◌, ◌==◌, ℕ, ◌+◌, ◌-◌, ◌≤◌, suc, if◌then◌else◌, List, [], ◌∷◌, ◌++◌, length, take, drop, get_or, arith, append_assoc, bit_and}
+use Rattle.std.proofs.Common.{◌≡◌, ◌==◌, ℕ, ◌-◌, ◌≤◌, if◌then◌else◌, List, [], ◌∷◌, ◌++◌, length, take, drop, get_or, arith, append_assoc, bit_and}
 use Rattle.std.proofs.lemmas.List.{take_all}
 use Rattle.elf_model.specs.NameTables.{letters_of}
 use Rattle.elf_lines.specs.Tables.{letters}
