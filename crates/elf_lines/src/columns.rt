@@ -88,8 +88,8 @@ pub fn put_name_or_hex(
     }
 }
 
-/// Puts a decimal number at the right of a column of this width, and the byte that ends it. A longer
-/// number is not cut.
+/// Puts a decimal number at the right of a column of this width, and the byte that ends it. A
+/// longer number is not cut.
 #[tactic(auto, unfolding(elf_model::specs::Text::right_decimal, elf_model::specs::Text::right_in))]
 pub fn put_decimal(line: &mut Line, width: usize, number: u64, end: u8)
     requires { array_vec_len line.old + (max width 20 + 1) ≤ 256 }
