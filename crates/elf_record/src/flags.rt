@@ -1,7 +1,7 @@
 //! The flags of sections and of segments.
 ghost use Rattle.std.specs.Prelude.{⊤, [], ◌∷◌, codes};
 
-use bitflags::{Flag, Flags, bitflag_items};
+use bitflags::{Flag, Flags};
 
 /// A section's flags, as the number `sh_flags` of a section header (gABI 4, Section Attribute Flags).
 ///
@@ -9,31 +9,77 @@ use bitflags::{Flag, Flags, bitflag_items};
 #[derive(Clone, Copy)]
 pub struct SectionFlags(pub u64);
 
-bitflag_items! {
-    impl SectionFlags: u64 {
-        /// The section is writable while the program runs.
-        const WRITE = 0x1;
-        /// The section is in memory while the program runs.
-        const ALLOC = 0x2;
-        /// The section has instructions.
-        const EXECINSTR = 0x4;
-        /// Equal entries of the section may be merged.
-        const MERGE = 0x10;
-        /// The section's entries are strings, each ended by a NUL.
-        const STRINGS = 0x20;
-        /// `sh_info` is a section's index.
-        const INFO_LINK = 0x40;
-        /// The section keeps its order relative to the one that `sh_link` names.
-        const LINK_ORDER = 0x80;
-        /// The section needs treatment that the operating system defines.
-        const OS_NONCONFORMING = 0x100;
-        /// The section belongs to a section group.
-        const GROUP = 0x200;
-        /// The section has thread-local storage.
-        const TLS = 0x400;
-        /// The section's bytes are compressed.
-        const COMPRESSED = 0x800;
-    }
+impl SectionFlags {
+    /// The section is writable while the program runs.
+    pub const WRITE: SectionFlags = SectionFlags(0x1);
+    /// The section is in memory while the program runs.
+    pub const ALLOC: SectionFlags = SectionFlags(0x2);
+    /// The section has instructions.
+    pub const EXECINSTR: SectionFlags = SectionFlags(0x4);
+    /// Equal entries of the section may be merged.
+    pub const MERGE: SectionFlags = SectionFlags(0x10);
+    /// The section's entries are strings, each ended by a NUL.
+    pub const STRINGS: SectionFlags = SectionFlags(0x20);
+    /// `sh_info` is a section's index.
+    pub const INFO_LINK: SectionFlags = SectionFlags(0x40);
+    /// The section keeps its order relative to the one that `sh_link` names.
+    pub const LINK_ORDER: SectionFlags = SectionFlags(0x80);
+    /// The section needs treatment that the operating system defines.
+    pub const OS_NONCONFORMING: SectionFlags = SectionFlags(0x100);
+    /// The section belongs to a section group.
+    pub const GROUP: SectionFlags = SectionFlags(0x200);
+    /// The section has thread-local storage.
+    pub const TLS: SectionFlags = SectionFlags(0x400);
+    /// The section's bytes are compressed.
+    pub const COMPRESSED: SectionFlags = SectionFlags(0x800);
+
+    /// All flags that have a name.
+    pub const FLAGS: &'static [Flag<SectionFlags>] = &[
+        Flag {
+            name: "WRITE",
+            value: SectionFlags::WRITE,
+        },
+        Flag {
+            name: "ALLOC",
+            value: SectionFlags::ALLOC,
+        },
+        Flag {
+            name: "EXECINSTR",
+            value: SectionFlags::EXECINSTR,
+        },
+        Flag {
+            name: "MERGE",
+            value: SectionFlags::MERGE,
+        },
+        Flag {
+            name: "STRINGS",
+            value: SectionFlags::STRINGS,
+        },
+        Flag {
+            name: "INFO_LINK",
+            value: SectionFlags::INFO_LINK,
+        },
+        Flag {
+            name: "LINK_ORDER",
+            value: SectionFlags::LINK_ORDER,
+        },
+        Flag {
+            name: "OS_NONCONFORMING",
+            value: SectionFlags::OS_NONCONFORMING,
+        },
+        Flag {
+            name: "GROUP",
+            value: SectionFlags::GROUP,
+        },
+        Flag {
+            name: "TLS",
+            value: SectionFlags::TLS,
+        },
+        Flag {
+            name: "COMPRESSED",
+            value: SectionFlags::COMPRESSED,
+        },
+    ];
 }
 
 impl Flags for SectionFlags {
@@ -67,15 +113,29 @@ impl Flags for SectionFlags {
 #[derive(Clone, Copy)]
 pub struct SegmentFlags(pub u32);
 
-bitflag_items! {
-    impl SegmentFlags: u32 {
-        /// The segment may be executed.
-        const X = 1;
-        /// The segment may be written.
-        const W = 2;
-        /// The segment may be read.
-        const R = 4;
-    }
+impl SegmentFlags {
+    /// The segment may be executed.
+    pub const X: SegmentFlags = SegmentFlags(1);
+    /// The segment may be written.
+    pub const W: SegmentFlags = SegmentFlags(2);
+    /// The segment may be read.
+    pub const R: SegmentFlags = SegmentFlags(4);
+
+    /// All flags that have a name.
+    pub const FLAGS: &'static [Flag<SegmentFlags>] = &[
+        Flag {
+            name: "X",
+            value: SegmentFlags::X,
+        },
+        Flag {
+            name: "W",
+            value: SegmentFlags::W,
+        },
+        Flag {
+            name: "R",
+            value: SegmentFlags::R,
+        },
+    ];
 }
 
 impl Flags for SegmentFlags {

@@ -3,7 +3,7 @@ ghost use Rattle.std.specs.Int.RustNames.{bit_and};
 ghost use Rattle.std.specs.Prelude.{◌≡◌, ⊤, [], ◌∷◌, codes};
 ghost use Rattle.elf_model.specs.Listing.{all_parts};
 
-use bitflags::{Flag, Flags, bitflag_items};
+use bitflags::{Flag, Flags};
 
 /// A set of parts of a listing, as the number of its bits: HEADER 1, SECTIONS 2, SEGMENTS 4,
 /// SYMBOLS 8, RELOCS 16, NOTES 32, DYNAMIC 64, and in listings of the GNU system VERSIONS 128.
@@ -11,25 +11,59 @@ use bitflags::{Flag, Flags, bitflag_items};
 #[derive(Clone, Copy)]
 pub struct Parts(pub u16);
 
-bitflag_items! {
-    impl Parts: u16 {
-        /// The file header.
-        const HEADER = 1;
-        /// The section headers.
-        const SECTIONS = 2;
-        /// The program headers.
-        const SEGMENTS = 4;
-        /// The symbols.
-        const SYMBOLS = 8;
-        /// The relocation entries.
-        const RELOCS = 16;
-        /// The notes.
-        const NOTES = 32;
-        /// The dynamic entries.
-        const DYNAMIC = 64;
-        /// The symbol versions, of listings of the GNU system alone.
-        const VERSIONS = 128;
-    }
+impl Parts {
+    /// The file header.
+    pub const HEADER: Parts = Parts(1);
+    /// The section headers.
+    pub const SECTIONS: Parts = Parts(2);
+    /// The program headers.
+    pub const SEGMENTS: Parts = Parts(4);
+    /// The symbols.
+    pub const SYMBOLS: Parts = Parts(8);
+    /// The relocation entries.
+    pub const RELOCS: Parts = Parts(16);
+    /// The notes.
+    pub const NOTES: Parts = Parts(32);
+    /// The dynamic entries.
+    pub const DYNAMIC: Parts = Parts(64);
+    /// The symbol versions, of listings of the GNU system alone.
+    pub const VERSIONS: Parts = Parts(128);
+
+    /// All parts that have a name.
+    pub const FLAGS: &'static [Flag<Parts>] = &[
+        Flag {
+            name: "HEADER",
+            value: Parts::HEADER,
+        },
+        Flag {
+            name: "SECTIONS",
+            value: Parts::SECTIONS,
+        },
+        Flag {
+            name: "SEGMENTS",
+            value: Parts::SEGMENTS,
+        },
+        Flag {
+            name: "SYMBOLS",
+            value: Parts::SYMBOLS,
+        },
+        Flag {
+            name: "RELOCS",
+            value: Parts::RELOCS,
+        },
+        Flag {
+            name: "NOTES",
+            value: Parts::NOTES,
+        },
+        Flag {
+            name: "DYNAMIC",
+            value: Parts::DYNAMIC,
+        },
+        Flag {
+            name: "VERSIONS",
+            value: Parts::VERSIONS,
+        },
+    ];
 }
 
 impl Parts {
