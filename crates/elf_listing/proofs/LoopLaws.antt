@@ -5,7 +5,7 @@ use Rattle.elf_model.specs.Listing.{Item, each}
 use Rattle.elf_source.specs.Output.{Written}
 use Rattle.elf_source.specs.Source.{Counting, Reads}
 use Rattle.elf_names.specs.Ahead.{Spends}
-use Rattle.elf_names.proofs.SpendsLaws.{Spends-then, Spends-to}
+use Rattle.elf_names.proofs.SpendsLaws.{Spends-reads, Spends-then, Spends-to}
 use Rattle.elf_headers.specs.Faults.{IsAt, Says}
 use Rattle.elf_table.specs.Cursors.{Reading, GivesRow, HoldsRows, unread_bytes, next_row, ShowsRow}
 use Rattle.elf_table.specs.Tables.{Rows, size_of}
@@ -71,6 +71,20 @@ pub spent_unread : (a b c : Counting) (out : Written) (x y : ℕ) (fault : Fault
     → Spends a b x y n → Reads b c m → Says b c m fault → Spent {X = Unit {0}} a c out x y (Err (stop_of fault)) k
 spent_unread a b c out x y fault n m k within p reads says =
     spent_stopped a b c out x y y (stop_of fault) n m k within p (Spent-fault b c out y fault m m (omega arith) reads says)
+
+-- what is bounded with what is left is bounded
+pub at_most : (n m k : ℕ) → n + m ≤ k → n ≤ k
+at_most n m k within = omega arith
+
+-- a step read, and then its row stopped, which might ask for so much
+pub step_stopped : (a b d c : Counting) (out : Written) (x y z : ℕ) (stop : Stop) (n u m own k : ℕ) → m ≡ own → d.asked + y + own ≤ a.asked + (x + k)
+    → Spends a b x y n → Reads b d u → Spent {X = Unit {0}} d c out y z (Err stop) m → Spent {X = Unit {0}} a c out x z (Err stop) k
+step_stopped a b d c out x y z stop n u m own k same within p reads q =
+    spent_stopped a d c out x y z stop (n + u) m k (omega (arith, same)) (Spends-then p (Spends-reads y reads)) q
+
+-- a step read, and then its row
+pub step_more : {a b d c : Counting} {x y z n u m k : ℕ} → Spends a b x y n → Reads b d u → Spends d c y z m → c.asked + z ≤ a.asked + (x + k) → Spends a c x z k
+step_more {y = y} p reads q within = Spends-to (Spends-then p (Spends-then (Spends-reads y reads) q)) within
 
 -- the index of the row that a step gave
 pub given_index : {holds : Option (List ℕ)} {old new : Reading} {row : Row} → GivesRow holds old new → ShowsRow new row → row.index ≡ old.index

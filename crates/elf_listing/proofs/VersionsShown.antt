@@ -1,5 +1,5 @@
 -- The rows of symbol versions, by what is left of a walk over their records.
-use Rattle.std.proofs.Common.{◌≡◌, ℕ, ◌+◌, ◌*◌, ◌≤◌, List, [], ◌∷◌, ◌++◌, Option, None, Some, Err, refl, sym, ap, ◌∙◌, append_assoc, append-nil, arith}
+use Rattle.std.proofs.Common.{◌≡◌, ℕ, ◌+◌, ◌-◌, ◌*◌, ◌≤◌, List, [], ◌∷◌, ◌++◌, Option, None, Some, Ok, Err, refl, sym, ap, ◌∙◌, append_assoc, append-nil, arith}
 use Rattle.elf_model.specs.Listing.{Item, Fault as FaultItem}
 use Rattle.elf_model.specs.Rows.{named_row}
 use Rattle.elf_model.specs.Names.{Shown, shown}
@@ -11,11 +11,18 @@ use Rattle.elf_headers.specs.Stops.{stop_of}
 use Rattle.elf_headers.specs.declared.fault.Fault.{Fault}
 use Rattle.elf_headers.specs.declared.fault.Fault.TheVariants.{Refused, Source as Unread}
 use Rattle.elf_source.specs.Output.{Written}
-use Rattle.elf_versions.specs.Reading.{GivesVersion, IsVersion, TellsVersion}
+use Rattle.elf_source.specs.Source.{Counting, Reads}
+use Rattle.elf_headers.specs.Ledger.{Did}
+use Rattle.elf_headers.specs.Permitted.{style_of}
+use Rattle.elf_headers.specs.declared.caps.Style.{Style as Shape}
+use Rattle.elf_versions.specs.Reading.{Agrees, GivesVersion, IsVersion, KeepsWalk, LeavesWalk, StepsIn, TellsVersion, Walking, unread, versions_left, why_stopped_now}
+use Rattle.elf_versions.proofs.TakenLaws.{going-did, unread-fewer}
 use Rattle.elf_versions.specs.declared.record.VersionRecord.{VersionRecord}
 use Rattle.elf_listing.specs.Notes.{WrittenBefore}
 use Rattle.elf_listing.specs.Shows.{Front, Stopped, WroteItems}
 use Rattle.elf_listing.specs.Versions.{versions_items}
+use Rattle.elf_headers.specs.declared.stop.Stop.{Stop}
+use Rattle.elf_listing.proofs.NotesShown.{before_more, before_stopped}
 
 -- the row of a record as it is given
 pub record_is : (file : List ℕ) (style : Style) (section : ℕ) (strings : List ℕ) (met : Met) (given : VersionRecord) → IsVersion file met given
@@ -65,13 +72,55 @@ records_fault a b (Refused refusal) file style section strings all left new tell
 records_fault a b (Unread fault at) file style section strings all left new tells before =
     record { front = before.done; rest = versions_items file style section strings left; split = before.split; takes = before.whole.takes; no_fault = before.whole.no_fault }
 
+-- a step of a cursor that gave a record: what it read, what may still be asked for, and in a known file the record that was next
+pub record Given (a b : Counting) (old new : Walking) (given : VersionRecord) : Type 0 where
+  pub reads : Reads a b (unread old - unread new)
+  pub account : b.asked + unread new ≤ a.asked + unread old
+  pub going : new.failed ≡ None
+  pub less : new.left + 1 ≡ old.left
+  pub agrees : (file : List ℕ) → a.seen.file ≡ Some file → Agrees file old → Agrees file new
+  pub gives : (file : List ℕ) → a.seen.file ≡ Some file → Agrees file old → GivesVersion file (versions_left file old) (versions_left file new) given
+
+pub step_given : (a b : Counting) (old new : Walking) (given : VersionRecord) (answer : Option VersionRecord) → answer ≡ Some given → old.failed ≡ None
+    → Did a b (why_stopped_now old.failed (Ok answer)) (unread old - unread new) (λ file. Agrees file old → StepsIn file old new (Ok answer))
+    → KeepsWalk old new → LeavesWalk old new (Ok answer) → Given a b old new given
+step_given a b old new given answer is going did keeps leaves =
+    let did = going-did old.failed (Ok answer) going did in
+    let reads = did.costs.reads in
+    let left = rw is at leaves in
+    record {
+      reads = reads;
+      account = let fewer = unread-fewer old new keeps in omega (arith, reads.at_most);
+      going = left.1;
+      less = left.2;
+      agrees = λ file held agrees. (did.known file held agrees).agrees;
+      gives = λ file held agrees. rw is at ((did.known file held agrees).tells going);
+    }
+
+-- the record that was next was shown, and then what is left behind it
+pub record_more : (a b c : Written) (file : List ℕ) (style now : Shape) (section : ℕ) (strings : List ℕ) (all : List Item) (old new : Versions) (given : VersionRecord)
+    → now ≡ style → GivesVersion file old new given → WrittenBefore a b all (versions_items file (style_of style) section strings old)
+    → ((met : Met) → IsVersion file met given → WroteItems b c (version_row file (style_of now) section strings met))
+    → WrittenBefore a c all (versions_items file (style_of style) section strings new)
+record_more a b c file style now section strings all old new given same gives before shown =
+    before_more _ _ _ _ (ap (versions_items file (style_of style) section strings) gives.first ∙ record_left file (style_of style) section strings gives.met new) before
+    (rw same at (shown gives.met gives.is))
+
+-- or its row stopped
+pub record_stopped : (a b c : Written) (stop : Stop) (file : List ℕ) (style now : Shape) (section : ℕ) (strings : List ℕ) (all : List Item) (old new : Versions) (given : VersionRecord)
+    → now ≡ style → GivesVersion file old new given → WrittenBefore a b all (versions_items file (style_of style) section strings old)
+    → ((met : Met) → IsVersion file met given → Stopped b c stop (version_row file (style_of now) section strings met)) → Stopped a c stop all
+record_stopped a b c stop file style now section strings all old new given same gives before shown =
+    before_stopped _ _ _ _ _ _ _ _ (ap (versions_items file (style_of style) section strings) gives.first ∙ record_left file (style_of style) section strings gives.met new) before
+    (rw same at (shown gives.met gives.is))
+
 -- the account of a walk: what was asked for, what the cursor may still ask for, and the names of the records that are left
-pub records_account : (u0 u1 l0 l1 own before after later bound : ℕ) → l1 + 1 ≡ l0 → after + u1 ≤ before + u0 → later ≤ after + own
-    → before + (u0 + l0 * own) ≤ bound → later + (u1 + l1 * own) ≤ bound
-records_account u0 u1 l0 l1 own before after later bound less step more within =
+pub records_account : (u0 u1 l0 l1 own before after credit later bound : ℕ) → l1 + 1 ≡ l0 → after + u1 ≤ before + u0 → later ≤ after + (credit + own)
+    → before + credit + (u0 + l0 * own) ≤ bound → later + (u1 + l1 * own) ≤ bound
+records_account u0 u1 l0 l1 own before after credit later bound less step more within =
     let product = ap (λ (n : ℕ). n * own) less in omega arith
 
 -- what a record's name may ask for is left in the bound
-pub record_pays : (u0 u1 l0 l1 own before after bound : ℕ) → l1 + 1 ≡ l0 → after + u1 ≤ before + u0 → before + (u0 + l0 * own) ≤ bound → after + own ≤ bound
-record_pays u0 u1 l0 l1 own before after bound less step within =
+pub record_pays : (u0 u1 l0 l1 own before after credit bound : ℕ) → l1 + 1 ≡ l0 → after + u1 ≤ before + u0 → before + credit + (u0 + l0 * own) ≤ bound → after + credit + own ≤ bound
+record_pays u0 u1 l0 l1 own before after credit bound less step within =
     let product = ap (λ (n : ℕ). n * own) less in omega arith

@@ -4,7 +4,6 @@ use Rattle.std.proofs.lemmas.Result.{err_from_is_err_and}
 use Rattle.elf_headers.specs.Permitted.{style_of}
 use Rattle.elf_headers.proofs.OpenLaws.{still_open}
 use Rattle.elf_model.specs.Names.{name_bytes}
-use Rattle.elf_model.specs.VersionRows.{version_row}
 use Rattle.elf_names.proofs.HeldLaws.{still_held}
 use Rattle.elf_names.proofs.SpendsLaws.{Spends-none, Spends-reads, Spends-then, Spends-to}
 use Rattle.elf_source.proofs.GrowthLaws.{grows_not, grows_then}
@@ -12,10 +11,10 @@ use Rattle.elf_table.specs.Tables.{strings_in}
 use Rattle.elf_versions.specs.Reading.{unread, versions_left}
 use Rattle.elf_versions.proofs.TakenLaws.{going-did, unread-fewer}
 use Rattle.elf_versions.proofs.WordLaws.{none-of}
-use Rattle.elf_listing.specs.Versions.{records_cost, versions_items}
-use Rattle.elf_listing.proofs.LoopLaws.{spent_stopped, spent_unread}
-use Rattle.elf_listing.proofs.NotesShown.{before_all, before_more, before_stopped}
-use Rattle.elf_listing.proofs.VersionsShown.{record_left, record_pays, records_account, records_end, records_fault}
+use Rattle.elf_listing.specs.Versions.{records_cost}
+use Rattle.elf_listing.proofs.LoopLaws.{at_most, spent_unread, step_more, step_stopped}
+use Rattle.elf_listing.proofs.NotesShown.{before_all}
+use Rattle.elf_listing.proofs.VersionsShown.{record_more, record_pays, record_stopped, records_account, records_end, records_fault, step_given}
 use Rattle.elf_listing.proofs.ViewedLaws.{still_viewed}
 use Rattle.elf_listing.proofs.listing.Listing.version_rows.Goals as goal
 
@@ -54,57 +53,48 @@ returns-in_err-version_row g c =
     let known = c.records.invariant in
     let p = err_from_is_err_and c.from_residual-in_err-version_row.result c.from_residual-in_err-version_row.ensures.1 in
     let a = c.in_ok-given.ensures in
+    let old = c.records.cursor in
     let new = c.advance.new.self in
-    let did = going-did c.records.cursor.failed (Ok (Some c.in-Some.given)) known.going (rw c.in-Some.is at a.did) in
-    let leaves = rw c.in-Some.is at a.leaves in
-    let fewer = unread-fewer c.records.cursor new a.keeps in
-    let credit = c.records.self.ahead.credit in
-    let cap = c.args.self.now.style.cap.bytes in
-    let reads = did.costs.reads in
-    let most = reads.at_most in
-    let within = record_pays (unread c.records.cursor) (unread new) c.records.cursor.left new.left (name_bytes cap) (c.records.self.src.now.asked + credit) (c.advance.new.src.asked + credit) _ leaves.2 (omega (arith, most, fewer)) known.asked in
-    let lists = c.in_err-version_row.ensures.keeps in
-    let asks = rw known.keeps.same_style at c.in_err-version_row.ensures.spent in
+    let step = step_given _ _ old new c.in-Some.given _ c.in-Some.is known.going a.did a.keeps a.leaves in
+    let own = name_bytes c.args.self.now.style.cap.bytes in
+    let row = c.in_err-version_row.ensures in
+    let lists = row.keeps in
     record {
-      grows = grows_then known.grows c.in_err-version_row.ensures.grows;
+      grows = grows_then known.grows row.grows;
       keeps = record {
         same_src = lists.same_src ∙ known.keeps.same_src;
         same_out = lists.same_out ∙ known.keeps.same_out;
         same_file = lists.same_file ∙ known.keeps.same_file;
         same_style = lists.same_style ∙ known.keeps.same_style;
       };
-      spent = rw (p.1, p.2) (spent_stopped _ _ _ _ _ _ _ _ _ _ _ within (Spends-then known.spends (Spends-reads credit reads)) asks);
+      spent =
+          let within = record_pays (unread old) (unread new) old.left new.left own c.records.self.src.now.asked c.advance.new.src.asked c.records.self.ahead.credit _ step.less step.account known.asked in
+          rw (p.1, p.2) (step_stopped _ _ _ _ _ _ _ _ _ _ _ _ own _ (ap (λ s. name_bytes s.cap.bytes) known.keeps.same_style) within known.spends step.reads row.spent);
       shows = λ file held agrees.
           let now = known.spends.reads.keeps.same_file ∙ held in
-          let step = did.known file now (known.agrees file held agrees) in
-          let gives = step.tells known.going in
-          let strings = strings_in file c.args.names in
-          let style = style_of c.args.self.now.style in
-          let next = ap (versions_items file style c.args.section strings) gives.first ∙ record_left file style c.args.section strings gives.met _ in
-          let shown = rw known.keeps.same_style at (c.in_err-version_row.ensures.shows file gives.met (reads.keeps.same_file ∙ now) gives.is) in
-          rw (p.1, p.2) (before_stopped _ _ _ _ _ _ _ _ next (known.text file held agrees) shown);
+          rw (p.1, p.2)
+          (record_stopped _ _ _ _ file c.args.self.now.style c.records.self.style c.args.section (strings_in file c.args.names) _ (versions_left file old) (versions_left file new) c.in-Some.given
+          known.keeps.same_style (step.gives file now (known.agrees file held agrees)) (known.text file held agrees) (λ met is. row.shows file met (step.reads.keeps.same_file ∙ now) is));
     }
 
 pub records-preserved : goal.records-preserved
 records-preserved g c =
     let known = c.records.invariant in
     let a = c.in_ok-given.ensures in
+    let old = c.records.cursor in
     let new = c.advance.new.self in
-    let did = going-did c.records.cursor.failed (Ok (Some c.in-Some.given)) known.going (rw c.in-Some.is at a.did) in
-    let leaves = rw c.in-Some.is at a.leaves in
-    let fewer = unread-fewer c.records.cursor new a.keeps in
+    let step = step_given _ _ old new c.in-Some.given _ c.in-Some.is known.going a.did a.keeps a.leaves in
+    let own = name_bytes c.args.self.now.style.cap.bytes in
+    let row = c.in_ok-version_row.ensures in
+    let lists = row.keeps in
+    let asks = row.spent.0 in
     let credit = c.records.self.ahead.credit in
-    let cap = c.args.self.now.style.cap.bytes in
-    let reads = did.costs.reads in
-    let most = reads.at_most in
-    let lists = c.in_ok-version_row.ensures.keeps in
-    let asks = rw known.keeps.same_style at c.in_ok-version_row.ensures.spent.0 in
-    let account = asks.account in
     let later = c.version_row.new.self.src.now.asked + c.version_row.new.self.ahead.credit in
     let bound = c.args.self.now.src.now.asked + (c.args.self.now.ahead.credit + records_cost c.args.cursor.now c.args.self.now.style.cap.bytes) in
-    let asked = records_account (unread c.records.cursor) (unread new) c.records.cursor.left new.left (name_bytes cap) (c.records.self.src.now.asked + credit) (c.advance.new.src.asked + credit) later bound leaves.2 (omega (arith, most, fewer)) (omega (arith, account)) known.asked in
+    let most = rw known.keeps.same_style at asks.account in
+    let asked = records_account (unread old) (unread new) old.left new.left own c.records.self.src.now.asked c.advance.new.src.asked credit later bound step.less step.account most known.asked in
     record {
-      going = leaves.1;
+      going = step.going;
       same_held = a.keeps.same_held ∙ known.same_held;
       keeps = record {
         same_src = lists.same_src ∙ known.keeps.same_src;
@@ -112,19 +102,14 @@ records-preserved g c =
         same_file = lists.same_file ∙ known.keeps.same_file;
         same_style = lists.same_style ∙ known.keeps.same_style;
       };
-      spends = Spends-to (Spends-then known.spends (Spends-then (Spends-reads credit reads) asks)) (omega (arith, asked));
+      spends = step_more known.spends step.reads asks (at_most _ _ _ asked);
       asked = asked;
-      agrees = λ file held agrees. (did.known file (known.spends.reads.keeps.same_file ∙ held) (known.agrees file held agrees)).agrees;
-      grows = grows_then known.grows c.in_ok-version_row.ensures.grows;
+      agrees = λ file held agrees. step.agrees file (known.spends.reads.keeps.same_file ∙ held) (known.agrees file held agrees);
+      grows = grows_then known.grows row.grows;
       text = λ file held agrees.
           let now = known.spends.reads.keeps.same_file ∙ held in
-          let step = did.known file now (known.agrees file held agrees) in
-          let gives = step.tells known.going in
-          let strings = strings_in file c.args.names in
-          let style = style_of c.args.self.now.style in
-          let next = ap (versions_items file style c.args.section strings) gives.first ∙ record_left file style c.args.section strings gives.met _ in
-          let shown = rw known.keeps.same_style at (c.in_ok-version_row.ensures.shows file gives.met (reads.keeps.same_file ∙ now) gives.is) in
-          before_more _ _ _ _ next (known.text file held agrees) shown;
+          record_more _ _ _ file c.args.self.now.style c.records.self.style c.args.section (strings_in file c.args.names) _ (versions_left file old) (versions_left file new) c.in-Some.given
+          known.keeps.same_style (step.gives file now (known.agrees file held agrees)) (known.text file held agrees) (λ met is. row.shows file met (step.reads.keeps.same_file ∙ now) is);
     }
 
 pub returns : goal.returns
