@@ -1,5 +1,5 @@
 -- The loop of a listing over a cursor's rows.
-use Rattle.std.proofs.Common.{◌≡◌, ℕ, ◌+◌, ◌*◌, ◌<◌, ◌≤◌, List, [], Option, None, Some, Err, refl, sym, ap, ◌∙◌, arith}
+use Rattle.std.proofs.Common.{◌≡◌, ℕ, ◌+◌, ◌*◌, ◌<◌, ◌≤◌, Bool, true, false, List, [], Option, None, Some, Ok, Err, refl, sym, ap, ◌∙◌, arith}
 use Rattle.elf_model.specs.Bytes.{slice}
 use Rattle.elf_model.specs.Listing.{Item, each}
 use Rattle.elf_source.specs.Output.{Written}
@@ -11,7 +11,11 @@ use Rattle.elf_table.specs.Cursors.{Reading, GivesRow, HoldsRows, unread_bytes, 
 use Rattle.elf_table.specs.Tables.{Rows, size_of}
 use Rattle.elf_headers.specs.declared.fault.Fault.{Fault}
 use Rattle.elf_table.specs.declared.row.Row.{Row}
-use Rattle.elf_listing.specs.Kinds.{row_size, own_cost, rows_cost, IsRowOf}
+use Rattle.elf_headers.specs.Permitted.{style_of}
+use Rattle.elf_headers.specs.declared.caps.Style.{Style as Shape}
+use Rattle.elf_listing.specs.Kinds.{row_size, row_items, own_cost, rows_cost, IsRowOf, KindOf}
+use Rattle.elf_listing.specs.RowCursors.{AdvancesRows, EndsListed, GivesListed, reading, rows_left, rows_listed}
+use Rattle.elf_listing.specs.declared.row_cursor.RowCursor.{RowCursor}
 use Rattle.elf_listing.specs.Shows.{Spent, Stopped, WroteItems}
 use Rattle.elf_headers.specs.Stops.{stop_of}
 use Rattle.elf_listing.specs.declared.rows.Kind.{Kind}
@@ -60,6 +64,10 @@ pub account_row : (old new : Reading) (before after own bound : ℕ) → new.lef
 account_row old new before after own bound less step within =
     let product = ap (λ (n : ℕ). n * own) less in omega arith
 
+-- with the credit that is left
+pub with_credit : (u0 u1 before after credit : ℕ) → after + u1 ≤ before + u0 → after + credit + u1 ≤ before + credit + u0
+with_credit u0 u1 before after credit step = omega arith
+
 -- a row stopped, and what it might ask for was left in the bound
 pub spent_stopped : (a b c : Counting) (out : Written) (x y z : ℕ) (stop : Stop) (n m k : ℕ) → b.asked + y + m ≤ a.asked + (x + k)
     → Spends a b x y n → Spent {X = Unit {0}} b c out y z (Err stop) m → Spent {X = Unit {0}} a c out x z (Err stop) k
@@ -86,6 +94,14 @@ step_stopped a b d c out x y z stop n u m own k same within p reads q =
 pub step_more : {a b d c : Counting} {x y z n u m k : ℕ} → Spends a b x y n → Reads b d u → Spends d c y z m → c.asked + z ≤ a.asked + (x + k) → Spends a c x z k
 step_more {y = y} p reads q within = Spends-to (Spends-then p (Spends-then (Spends-reads y reads) q)) within
 
+-- a step read, and gave no row
+pub step_last : {a b d : Counting} {x y n u k : ℕ} → Spends a b x y n → Reads b d u → d.asked + y ≤ a.asked + (x + k) → Spends a d x y k
+step_last {y = y} p reads within = Spends-to (Spends-then p (Spends-reads y reads)) within
+
+-- the account of a loop whose rows ask for nothing: what was asked for, and what is unread
+pub account_kept : (u0 u1 before after credit later bound : ℕ) → after + u1 ≤ before + u0 → later ≤ after + (credit + 0) → before + credit + u0 ≤ bound → later + u1 ≤ bound
+account_kept u0 u1 before after credit later bound step more within = omega arith
+
 -- the index of the row that a step gave
 pub given_index : {holds : Option (List ℕ)} {old new : Reading} {row : Row} → GivesRow holds old new → ShowsRow new row → row.index ≡ old.index
 given_index gives lends = omega (arith, lends.its_index, gives.next_index)
@@ -104,3 +120,51 @@ given_row {old = old} {new = new} {row = row} file kind table gives lends held a
       bytes = lends.its_bytes ∙ (gives.exact file held agrees ∙ (ap (λ (p : ℕ). slice file p old.table.entry) (sym moved) ∙ ap (λ (n : ℕ). slice file row.at n) whole));
       here = moved ∙ (ap (λ (n : ℕ). old.table.at + old.index * n) whole ∙ (ap (λ (p : ℕ). p + old.index * row_size kind) from_ ∙ ap (λ (i : ℕ). table.at + i * row_size kind) (sym index)));
     }
+
+-- a step that answered that it gave a row
+pub step_gives : {holds : Option (List ℕ)} {old new : RowCursor} (answer : Bool) → answer ≡ true → AdvancesRows holds old new (Ok answer) → GivesListed holds old new
+step_gives answer is steps = rw is at steps
+
+-- or that there is none
+pub step_ends : (holds : Option (List ℕ)) {old new : RowCursor} (answer : Bool) → answer ≡ false → AdvancesRows holds old new (Ok answer) → EndsListed old new
+step_ends holds answer is steps = rw is at steps
+
+-- a step gave the next row of a table of a file, and those before it were shown
+pub record Turn (file : List ℕ) (style : Shape) (kind : Kind) (table : Rows) (old new : RowCursor) (row : Row) (a b : Written) : Type 0 where
+  pub of_kind : KindOf file table.at kind
+  pub is_row : IsRowOf file table.at kind row
+  pub index : row.index ≡ (reading old).index
+  pub next : (reading new).index ≡ (reading old).index + 1
+  pub below : (reading old).index < rows_listed kind file table
+  pub before : WroteItems a b (each (row_items kind file (style_of style) table.at) 0 (reading old).index)
+
+pub turn : {holds : Option (List ℕ)} (file : List ℕ) (style : Shape) (kind : Kind) (table : Rows) (old new : RowCursor) (row : Row) (a b : Written)
+    → GivesListed holds old new → ShowsRow (reading new) row → holds ≡ Some file → HoldsRows file (reading old) → (reading old).table ≡ table → table.entry ≡ row_size kind
+    → (reading old).index + (reading old).left ≡ table.count → (reading old).index + rows_left file old ≡ rows_listed kind file table → (0 < table.count → KindOf file table.at kind)
+    → WroteItems a b (each (row_items kind file (style_of style) table.at) 0 (reading old).index) → Turn file style kind table old new row a b
+turn file style kind table old new row a b step lends held agrees same entry counted listed kind_of before =
+    let gives = step.gives in
+    let less = step.one_less file held agrees in
+    record {
+      of_kind = kind_of (omega (arith, counted, gives.one_less));
+      is_row = given_row file kind table gives lends held agrees same entry;
+      index = given_index gives lends;
+      next = gives.next_index;
+      below = omega (arith, listed, less);
+      before = before;
+    }
+
+-- its row was shown
+pub turn_more : (file : List ℕ) (style now : Shape) (kind : Kind) (table : Rows) (old new : RowCursor) (row : Row) (a b c : Written) → now ≡ style → Turn file style kind table old new row a b
+    → (KindOf file table.at kind → IsRowOf file table.at kind row → WroteItems b c (row_items kind file (style_of now) table.at row.index))
+    → WroteItems a c (each (row_items kind file (style_of style) table.at) 0 (reading new).index)
+turn_more file style now kind table old new row a b c same this shown =
+    rows_more (row_items kind file (style_of style) table.at) (reading old).index _ this.next this.before (rw (this.index, same) at (shown this.of_kind this.is_row))
+
+-- or stopped
+pub turn_stopped : (file : List ℕ) (style now : Shape) (kind : Kind) (table : Rows) (old new : RowCursor) (row : Row) (a b c : Written) (stop : Stop) → now ≡ style
+    → Turn file style kind table old new row a b
+    → (KindOf file table.at kind → IsRowOf file table.at kind row → Stopped b c stop (row_items kind file (style_of now) table.at row.index))
+    → Stopped a c stop (each (row_items kind file (style_of style) table.at) 0 (rows_listed kind file table))
+turn_stopped file style now kind table old new row a b c stop same this shown =
+    rows_stopped (row_items kind file (style_of style) table.at) (reading old).index _ a b c stop this.below this.before (rw (this.index, same) at (shown this.of_kind this.is_row))

@@ -1,5 +1,5 @@
 -- The notes of a table, by what is left of them.
-use Rattle.std.proofs.Common.{◌≡◌, ℕ, ◌+◌, zero, suc, List, [], ◌∷◌, ◌++◌, inl, inr, length, drop, refl, sym, ap, ◌∙◌, arith, append_assoc, append-nil, add-zero, zero-add}
+use Rattle.std.proofs.Common.{◌≡◌, ℕ, ◌+◌, zero, suc, Bool, true, Option, None, Some, Ok, List, [], ◌∷◌, ◌++◌, inl, inr, length, drop, refl, sym, ap, ◌∙◌, arith, append_assoc, append-nil, add-zero, zero-add}
 use Rattle.elf_model.specs.Bytes.{slice}
 use Rattle.elf_model.specs.LineFronts.{note_front}
 use Rattle.elf_model.specs.Lines.{note_line}
@@ -11,11 +11,12 @@ use Rattle.elf_model.specs.declared.causes.Cause.TheVariants.{NoteCut}
 use Rattle.elf_model.proofs.NoteLaws.{walked-is}
 use Rattle.elf_record.specs.declared.note_head.NoteHead.{NoteHead}
 use Rattle.elf_lines.specs.Pieces.{shown_as}
-use Rattle.elf_note.specs.NoteCursors.{NoteReading, IsFound, NameIs, ShowsNote, StopsNote, notes_from, notes_left, no_notes, cut_at, note_cut}
+use Rattle.elf_note.specs.NoteCursors.{AdvancesNote, NoteReading, IsFound, NameIs, ShowsNote, StopsNote, notes_from, notes_left, no_notes, cut_at, note_cut}
 use Rattle.elf_note.specs.declared.row.NoteRow.{NoteRow}
 use Rattle.elf_source.specs.Output.{Written}
 use Rattle.elf_headers.specs.Faults.{IsOfRead}
-use Rattle.elf_table.specs.Windows.{Ahead}
+use Rattle.elf_table.specs.Windows.{Ahead, HoldsBytes, StillHolds}
+use Rattle.elf_headers.specs.declared.caps.Style.{Style as Shape}
 use Rattle.elf_headers.specs.declared.fault.Fault.{Fault}
 use Rattle.elf_headers.specs.declared.fault.Fault.TheVariants.{Refused, Source as Unread}
 use Rattle.elf_table.specs.declared.names.NameEnd.{NameEnd}
@@ -91,6 +92,38 @@ note_of align cap at note c row name lends found = record {
   descsz = ap (λ (x : NoteHead). x.descsz) lends.its_head ∙ found.descsz;
   first_bytes = lends.its_bytes ∙ found.first_bytes;
 }
+
+-- a step of a cursor that gave a note: in a known file the note that was next
+pub record NoteGiven (file : Option (List ℕ)) (align cap : ℕ) (old new : NoteReading) (name : List ℕ) (row : NoteRow) : Type 0 where
+  pub going : new.failed ≡ None
+  pub agrees : StillHolds file old.ahead new.ahead
+  pub gives : (bytes : List ℕ) → file ≡ Some bytes → HoldsBytes bytes old.ahead
+      → (note : Note) × (notes_left align bytes old.ahead ≡ with_note note (notes_left align bytes new.ahead)) × IsNote cap note row name
+
+pub note_given : (file : Option (List ℕ)) (align : ℕ) (style now : Shape) (old new : NoteReading) (name : List ℕ) (row : NoteRow) (answer : Bool) → answer ≡ true → old.align ≡ align
+    → now ≡ style → AdvancesNote file now.cap.bytes old new name (Ok answer) → ShowsNote new row → NoteGiven file align style.cap.bytes old new name row
+note_given file align style now old new name row answer is same shape steps lends =
+    let step = rw is at steps in
+    record {
+      going = step.leaves.1;
+      agrees = step.agrees;
+      gives = λ bytes held agrees.
+          let tells = rw (same, shape) at (step.tells bytes held agrees) in
+          (tells.0, tells.1, note_of align style.cap.bytes old.ahead.at tells.0 new row name lends tells.2);
+    }
+
+-- the note that was next was shown, and then what is left behind it
+pub note_more : (a b c : Written) (cap index : ℕ) (all : List Item) (old new : Walk) (row : NoteRow) (name : List ℕ) → (note : Note) × (old ≡ with_note note new) × IsNote cap note row name
+    → WrittenBefore a b all (note_items cap index old) → ((note : Note) → IsNote cap note row name → WroteItems b c (note_row cap index note ∷ []))
+    → WrittenBefore a c all (note_items cap index new)
+note_more a b c cap index all old new row name gives before shown =
+    before_more _ _ _ _ (ap (note_items cap index) gives.1 ∙ note_left cap index gives.0 new) before (shown gives.0 gives.2)
+
+-- or its row stopped
+pub note_stopped : (a b c : Written) (stop : Stop) (cap index : ℕ) (all : List Item) (old new : Walk) (row : NoteRow) (name : List ℕ) → (note : Note) × (old ≡ with_note note new) × IsNote cap note row name
+    → WrittenBefore a b all (note_items cap index old) → ((note : Note) → IsNote cap note row name → Stopped b c stop (note_row cap index note ∷ [])) → Stopped a c stop all
+note_stopped a b c stop cap index all old new row name gives before shown =
+    before_stopped _ _ _ _ _ _ _ _ (ap (note_items cap index) gives.1 ∙ note_left cap index gives.0 new) before (shown gives.0 gives.2)
 
 -- a note's name as it is shown
 pub named_as : (end : NameEnd) (name : List ℕ) (shown : Shown) → NameIs end name shown → shown ≡ shown_as (cut_of end) name

@@ -1,15 +1,18 @@
-use Rattle.std.proofs.Common.{rules, sym, ap, ◌∙◌}
+use Rattle.std.proofs.Common.{refl, sym, ap, ◌∙◌, arith}
 use Rattle.std.proofs.lemmas.Result.{err_from_is_err_and}
 use Rattle.elf_lines.specs.Pieces.{shown_as}
 use Rattle.elf_listing.proofs.NotesShown.{named_as, note_is}
 use Rattle.elf_listing.proofs.RowLaws.{Whole-line, Stopped-line}
+use Rattle.elf_names.proofs.SpendsLaws.{Spends-none}
 use Rattle.elf_listing.proofs.listing.Listing.note_row.Goals as goal
 
 pub returns-in_err-show_note : goal.returns-in_err-show_note
 returns-in_err-show_note g c = record {
   grows = c.in_err-show_note.ensures.grows;
-  keeps = search rules;
-  spent = search rules;
+  keeps = record { same_src = refl; same_out = refl; same_file = refl; same_style = refl };
+  spent =
+      let p = err_from_is_err_and c.from_residual.result c.from_residual.ensures.1 in
+      rw (p.1, p.2) (Spends-none _ _ _ _ (omega arith), c.in_err-show_note.ensures.fails);
   shows = λ cap note is.
       let p = err_from_is_err_and c.from_residual.result c.from_residual.ensures.1 in
       let shown = named_as _ _ _ is.named ∙ ap (λ b. shown_as b c.args.self.now.name) (sym c.is_cut-is_cut.ensures)
@@ -21,8 +24,8 @@ returns-in_err-show_note g c = record {
 pub returns : goal.returns
 returns g c = record {
   grows = c.in_ok-show_note.ensures.grows;
-  keeps = search rules;
-  spent = search rules;
+  keeps = record { same_src = refl; same_out = refl; same_file = refl; same_style = refl };
+  spent = (Spends-none _ _ _ _ (omega arith), tt);
   shows = λ cap note is.
       let shown = named_as _ _ _ is.named ∙ ap (λ b. shown_as b c.args.self.now.name) (sym c.is_cut-is_cut.ensures)
       ∙ ap (shown_as c.is_cut-is_cut.result) (sym c.bytes-name.ensures.value) in

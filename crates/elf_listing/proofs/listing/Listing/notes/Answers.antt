@@ -1,15 +1,16 @@
 -- Each note that the cursor gives is the file's, and is shown behind those before it.
-use Rattle.std.proofs.Common.{rules, refl, ap, sym, ◌∙◌, arith}
+use Rattle.std.proofs.Common.{◌+◌, refl, ap, sym, ◌∙◌, arith}
 use Rattle.std.proofs.lemmas.Result.{err_from_is_err_and}
 use Rattle.elf_model.specs.Bytes.{slice}
 use Rattle.elf_model.specs.Notes.{note_align}
 use Rattle.elf_names.proofs.HeldLaws.{still_held}
-use Rattle.elf_names.proofs.SpendsLaws.{Spends-none, Spends-reads, Spends-then, Spends-to}
+use Rattle.elf_names.proofs.SpendsLaws.{Spends-none}
 use Rattle.elf_headers.proofs.OpenLaws.{still_open}
-use Rattle.elf_listing.proofs.LoopLaws.{spent_stopped, spent_unread}
+use Rattle.elf_listing.proofs.LoopLaws.{account_kept, at_most, spent_unread, step_last, step_more, step_stopped}
 use Rattle.elf_listing.proofs.ViewedLaws.{still_viewed}
+use Rattle.elf_note.specs.NoteCursors.{notes_left}
 use Rattle.elf_listing.specs.Notes.{note_items}
-use Rattle.elf_listing.proofs.NotesShown.{all_left, before_all, before_more, before_stopped, before_fault, before_none, note_left, note_of, table_rows}
+use Rattle.elf_listing.proofs.NotesShown.{all_left, before_all, before_fault, before_none, note_given, note_more, note_stopped, table_rows}
 use Rattle.elf_source.proofs.GrowthLaws.{grows_not, grows_then}
 use Rattle.elf_listing.proofs.listing.Listing.notes.Goals as goal
 
@@ -57,79 +58,84 @@ returns-in_err-advance g c = record {
 }
 
 pub returns-in_err-note_row : goal.returns-in_err-note_row
-returns-in_err-note_row g c = record {
-  grows = grows_then c.notes.invariant.grows c.in_err-note_row.ensures.grows;
-  keeps =
-      let known = c.notes.invariant.keeps in
-      let lists = c.in_err-note_row.ensures.keeps in
-      record {
-        same_src = lists.same_src ∙ known.same_src;
-        same_out = lists.same_out ∙ known.same_out;
-        same_file = lists.same_file ∙ known.same_file;
-        same_style = lists.same_style ∙ known.same_style;
-      };
-  spent =
-      let p = err_from_is_err_and c.from_residual-in_err-note_row.result c.from_residual-in_err-note_row.ensures.1 in
-      let known = c.notes.invariant in
-      let account = c.in_ok-advance.ensures.keeps.moves.account in
-      let before = Spends-then known.spends (Spends-reads c.notes.self.ahead.credit c.in_ok-advance.ensures.asks.reads) in
-      rw (p.1, p.2) (spent_stopped _ _ _ _ _ _ _ _ _ _ _ (omega (arith, known.asked, account)) before c.in_err-note_row.ensures.spent);
-  shows = λ file held.
-      let p = err_from_is_err_and c.from_residual-in_err-note_row.result c.from_residual-in_err-note_row.ensures.1 in
-      let known = c.notes.invariant in
-      let now = known.spends.reads.keeps.same_file ∙ held in
-      let step = rw c.if-branch.true at c.in_ok-advance.ensures.steps in
-      let tells = rw (known.same_align, known.keeps.same_style) at (step.tells file now (known.agrees file held)) in
-      let note = note_of _ _ _ tells.0 _ c.row.result _ c.row.ensures.shows tells.2 in
-      let next = ap (note_items c.args.self.now.style.cap.bytes c.args.index) tells.1 ∙ note_left c.args.self.now.style.cap.bytes c.args.index tells.0 _ in
-      rw (p.1, p.2) (before_stopped _ _ _ _ _ _ _ _ next (known.text file held) (c.in_err-note_row.ensures.shows c.args.self.now.style.cap.bytes tells.0 note));
-}
-
-pub notes-preserved : goal.notes-preserved
-notes-preserved g c =
+returns-in_err-note_row g c =
     let known = c.notes.invariant in
-    let step = rw c.if-branch.true at c.in_ok-advance.ensures.steps in
-    let lists = c.in_ok-note_row.ensures.keeps in
-    let asks = c.in_ok-note_row.ensures.spent.0 in
-    let reads = c.in_ok-advance.ensures.asks.reads in
-    let keeps = c.in_ok-advance.ensures.keeps in
-    let account = keeps.moves.account in
-    let credit = c.notes.self.ahead.credit in
-    let most = asks.account in
+    let p = err_from_is_err_and c.from_residual-in_err-note_row.result c.from_residual-in_err-note_row.ensures.1 in
+    let a = c.in_ok-advance.ensures in
+    let old = c.notes.cursor in
+    let new = c.advance.new.self in
+    let row = c.in_err-note_row.ensures in
+    let lists = row.keeps in
     record {
-      same_table = keeps.same_table ∙ known.same_table;
-      same_align = keeps.same_align ∙ known.same_align;
-      not_failed = step.leaves.1;
+      grows = grows_then known.grows row.grows;
       keeps = record {
         same_src = lists.same_src ∙ known.keeps.same_src;
         same_out = lists.same_out ∙ known.keeps.same_out;
         same_file = lists.same_file ∙ known.keeps.same_file;
         same_style = lists.same_style ∙ known.keeps.same_style;
       };
-      spends = Spends-to (Spends-then known.spends (Spends-then (Spends-reads credit reads) asks)) (omega (arith, known.asked, account, most));
-      asked = omega (arith, known.asked, account, most);
+      spent =
+          let credit = c.notes.self.ahead.credit in
+          let within = account_kept old.ahead.unread new.ahead.unread c.notes.self.src.now.asked c.advance.new.src.asked credit (c.advance.new.src.asked + (credit + 0)) _ a.keeps.moves.account (omega arith) known.asked in
+          rw (p.1, p.2) (step_stopped _ _ _ _ _ _ _ _ _ _ _ _ 0 _ refl (omega (arith, within)) known.spends a.asks.reads row.spent);
+      shows = λ file held.
+          let now = known.spends.reads.keeps.same_file ∙ held in
+          let align = note_align c.args.align in
+          let step = note_given _ align c.args.self.now.style c.notes.self.style old new _ c.row.result _ c.if-branch.true known.same_align known.keeps.same_style a.steps c.row.ensures.shows in
+          rw (p.1, p.2)
+          (note_stopped _ _ _ _ c.args.self.now.style.cap.bytes c.args.index _ (notes_left align file old.ahead) (notes_left align file new.ahead) c.row.result _
+          (step.gives file now (known.agrees file held)) (known.text file held) (row.shows c.args.self.now.style.cap.bytes));
+    }
+
+pub notes-preserved : goal.notes-preserved
+notes-preserved g c =
+    let known = c.notes.invariant in
+    let a = c.in_ok-advance.ensures in
+    let old = c.notes.cursor in
+    let new = c.advance.new.self in
+    let align = note_align c.args.align in
+    let step = note_given _ align c.args.self.now.style c.notes.self.style old new _ c.row.result _ c.if-branch.true known.same_align known.keeps.same_style a.steps c.row.ensures.shows in
+    let row = c.in_ok-note_row.ensures in
+    let lists = row.keeps in
+    let asks = row.spent.0 in
+    let later = c.note_row.new.self.src.now.asked + c.note_row.new.self.ahead.credit in
+    let bound = c.args.self.now.src.now.asked + (c.args.self.now.ahead.credit + c.args.table.count) in
+    let asked = account_kept old.ahead.unread new.ahead.unread c.notes.self.src.now.asked c.advance.new.src.asked c.notes.self.ahead.credit later bound a.keeps.moves.account asks.account known.asked in
+    record {
+      same_table = a.keeps.same_table ∙ known.same_table;
+      same_align = a.keeps.same_align ∙ known.same_align;
+      not_failed = step.going;
+      keeps = record {
+        same_src = lists.same_src ∙ known.keeps.same_src;
+        same_out = lists.same_out ∙ known.keeps.same_out;
+        same_file = lists.same_file ∙ known.keeps.same_file;
+        same_style = lists.same_style ∙ known.keeps.same_style;
+      };
+      spends = step_more known.spends a.asks.reads asks (at_most _ _ _ asked);
+      asked = asked;
       agrees = λ file held. step.agrees file (known.spends.reads.keeps.same_file ∙ held) (known.agrees file held);
-      grows = grows_then known.grows c.in_ok-note_row.ensures.grows;
+      grows = grows_then known.grows row.grows;
       text = λ file held.
           let now = known.spends.reads.keeps.same_file ∙ held in
-          let tells = rw (known.same_align, known.keeps.same_style) at (step.tells file now (known.agrees file held)) in
-          let note = note_of _ _ _ tells.0 _ c.row.result _ c.row.ensures.shows tells.2 in
-          let next = ap (note_items c.args.self.now.style.cap.bytes c.args.index) tells.1 ∙ note_left c.args.self.now.style.cap.bytes c.args.index tells.0 _ in
-          before_more _ _ _ _ next (known.text file held) (c.in_ok-note_row.ensures.shows c.args.self.now.style.cap.bytes tells.0 note);
+          note_more _ _ _ c.args.self.now.style.cap.bytes c.args.index _ (notes_left align file old.ahead) (notes_left align file new.ahead) c.row.result _
+          (step.gives file now (known.agrees file held)) (known.text file held) (row.shows c.args.self.now.style.cap.bytes);
     }
 
 pub returns : goal.returns
-returns g c = record {
-  grows = c.notes.invariant.grows;
-  keeps = search rules;
-  spent = search rules;
-  shows = λ file held.
-      let known = c.notes.invariant in
-      let now = known.spends.reads.keeps.same_file ∙ held in
-      let step = rw c.if-branch.false at c.in_ok-advance.ensures.steps in
-      let tells = rw known.same_align at (step.tells file now (known.agrees file held)) in
-      before_none c.args.self.now.style.cap.bytes c.args.index _ _ tells (known.text file held);
-}
+returns g c =
+    let known = c.notes.invariant in
+    let a = c.in_ok-advance.ensures in
+    let account = a.keeps.moves.account in
+    record {
+      grows = known.grows;
+      keeps = record { same_src = known.keeps.same_src; same_out = known.keeps.same_out; same_file = known.keeps.same_file; same_style = known.keeps.same_style };
+      spent = (step_last known.spends a.asks.reads (omega (arith, known.asked, account)), tt);
+      shows = λ file held.
+          let now = known.spends.reads.keeps.same_file ∙ held in
+          let step = rw c.if-branch.false at a.steps in
+          let tells = rw known.same_align at (step.tells file now (known.agrees file held)) in
+          before_none c.args.self.now.style.cap.bytes c.args.index _ _ tells (known.text file held);
+    }
 
 pub invariant_of-self : goal.invariant_of-self
 invariant_of-self g c = record {

@@ -1,14 +1,15 @@
 -- Each row that the cursor gives is the file's, and is shown behind those before it.
 use Rattle.elf_headers.specs.Permitted.{style_of}
-use Rattle.std.proofs.Common.{rules, ◌≡◌, ◌+◌, ◌<◌, refl, ◌∙◌, arith}
+use Rattle.std.proofs.Common.{◌≡◌, ◌+◌, refl, ap, ◌∙◌, arith}
 use Rattle.std.proofs.lemmas.Result.{err_from_is_err_and}
 use Rattle.elf_names.proofs.HeldLaws.{still_held}
-use Rattle.elf_names.proofs.SpendsLaws.{Spends-none, Spends-reads, Spends-then, Spends-to}
+use Rattle.elf_names.proofs.SpendsLaws.{Spends-none}
 use Rattle.elf_headers.proofs.OpenLaws.{still_open}
 use Rattle.elf_listing.proofs.ViewedLaws.{still_viewed}
-use Rattle.elf_listing.specs.Kinds.{own_cost, row_items}
+use Rattle.elf_table.specs.Cursors.{unread_bytes}
+use Rattle.elf_listing.specs.Kinds.{own_cost, row_items, rows_cost}
 use Rattle.elf_listing.specs.RowCursors.{reading, rows_listed}
-use Rattle.elf_listing.proofs.LoopLaws.{rows_none, rows_more, rows_unread, rows_stopped, account_begins, account_step, account_row, agrees_none, given_index, given_row, spent_stopped, spent_unread}
+use Rattle.elf_listing.proofs.LoopLaws.{rows_none, rows_unread, account_begins, account_step, account_row, agrees_none, at_most, spent_unread, step_ends, step_gives, step_last, step_more, step_stopped, turn, turn_more, turn_stopped, with_credit}
 use Rattle.elf_source.proofs.GrowthLaws.{grows_not, grows_then}
 use Rattle.elf_listing.proofs.listing.Listing.rows.Goals as goal
 
@@ -49,53 +50,57 @@ returns-in_err-advance g c = record {
 }
 
 pub returns-in_err-row : goal.returns-in_err-row
-returns-in_err-row g c = record {
-  grows = grows_then c.rows.invariant.grows c.in_err-row.ensures.grows;
-  keeps = record {
-    same_src = c.in_err-row.ensures.keeps.same_src ∙ c.rows.invariant.keeps.same_src;
-    same_out = c.in_err-row.ensures.keeps.same_out ∙ c.rows.invariant.keeps.same_out;
-    same_file = c.in_err-row.ensures.keeps.same_file ∙ c.rows.invariant.keeps.same_file;
-    same_style = c.in_err-row.ensures.keeps.same_style ∙ c.rows.invariant.keeps.same_style;
-  };
-  spent =
-      let p = err_from_is_err_and c.from_residual-in_err-row.result c.from_residual-in_err-row.ensures.1 in
-      let known = c.rows.invariant in
-      let step = rw c.if-branch.true at c.in_ok-advance.ensures.steps in
-      let gives = step.gives in
-      let account = c.in_ok-advance.ensures.account in
-      let reads = c.in_ok-advance.ensures.reads in
-      let own = own_cost c.args.kind.now c.args.self.now.style.cap.bytes in
-      let credit = c.rows.self.ahead.credit in
-      let within = account_row (reading c.rows.cursor) (reading c.advance.new.self) _ (c.advance.new.src.asked + credit) own _ gives.one_less (omega (arith, account)) known.asked in
-      let before = Spends-then known.spends (Spends-reads credit reads) in
-      rw (p.1, p.2) (spent_stopped _ _ _ _ _ _ _ _ _ _ _ within before (rw known.keeps.same_style at c.in_err-row.ensures.spent));
-  shows = λ file held of_kind.
-      let p = err_from_is_err_and c.from_residual-in_err-row.result c.from_residual-in_err-row.ensures.1 in
-      let known = c.rows.invariant in
-      let step = rw c.if-branch.true at c.in_ok-advance.ensures.steps in
-      let gives = step.gives in
-      let now = known.spends.reads.keeps.same_file ∙ held in
-      let less = step.one_less file now (known.agrees file held) in
-      let below : (reading c.rows.cursor).index < rows_listed c.args.kind.now file c.args.table = omega (arith, known.listed file held, less) in
-      let some : 0 < c.args.table.count = omega (arith, known.counted, gives.one_less) in
-      let row = given_row file c.args.kind.now c.args.table gives c.row.ensures now (known.agrees file held) known.same_table c.requires.entry in
-      let shown = rw (given_index gives c.row.ensures, known.keeps.same_style) at (c.in_err-row.ensures.shows file (c.in_ok-advance.ensures.reads.keeps.same_file ∙ now) c.args.table.at (of_kind some) row) in
-      rw (p.1, p.2) (rows_stopped (row_items c.args.kind.now file (style_of c.args.self.now.style) c.args.table.at) (reading c.rows.cursor).index _ _ _ _ _ below (known.text file held of_kind) shown);
-}
+returns-in_err-row g c =
+    let known = c.rows.invariant in
+    let p = err_from_is_err_and c.from_residual-in_err-row.result c.from_residual-in_err-row.ensures.1 in
+    let a = c.in_ok-advance.ensures in
+    let old = c.rows.cursor in
+    let new = c.advance.new.self in
+    let step = step_gives {old = old} {new = new} _ c.if-branch.true a.steps in
+    let kind = c.args.kind.now in
+    let row = c.in_err-row.ensures in
+    let lists = row.keeps in
+    record {
+      grows = grows_then known.grows row.grows;
+      keeps = record {
+        same_src = lists.same_src ∙ known.keeps.same_src;
+        same_out = lists.same_out ∙ known.keeps.same_out;
+        same_file = lists.same_file ∙ known.keeps.same_file;
+        same_style = lists.same_style ∙ known.keeps.same_style;
+      };
+      spent =
+          let own = own_cost kind c.args.self.now.style.cap.bytes in
+          let credit = c.rows.self.ahead.credit in
+          let account = with_credit (unread_bytes (reading old)) (unread_bytes (reading new)) c.rows.self.src.now.asked c.advance.new.src.asked credit a.account in
+          let within = account_row (reading old) (reading new) _ (c.advance.new.src.asked + credit) own _ step.gives.one_less account known.asked in
+          rw (p.1, p.2) (step_stopped _ _ _ _ _ _ _ _ _ _ _ _ own _ (ap (λ s. own_cost kind s.cap.bytes) known.keeps.same_style) within known.spends a.reads row.spent);
+      shows = λ file held of_kind.
+          let now = known.spends.reads.keeps.same_file ∙ held in
+          let style = c.args.self.now.style in
+          let this = turn file style kind c.args.table old new c.row.result _ _ step c.row.ensures now (known.agrees file held) known.same_table c.requires.entry known.counted (known.listed file held) of_kind (known.text file held of_kind) in
+          rw (p.1, p.2)
+          (turn_stopped file style c.rows.self.style kind c.args.table old new c.row.result _ _ _ _ known.keeps.same_style this (row.shows file (a.reads.keeps.same_file ∙ now) c.args.table.at));
+    }
 
 pub rows-preserved : goal.rows-preserved
 rows-preserved g c =
     let known = c.rows.invariant in
-    let step = rw c.if-branch.true at c.in_ok-advance.ensures.steps in
+    let a = c.in_ok-advance.ensures in
+    let old = c.rows.cursor in
+    let new = c.advance.new.self in
+    let step = step_gives {old = old} {new = new} _ c.if-branch.true a.steps in
     let gives = step.gives in
-    let account = c.in_ok-advance.ensures.account in
-    let lists = c.in_ok-row.ensures.keeps in
-    let asks = c.in_ok-row.ensures.spent.0 in
-    let reads = c.in_ok-advance.ensures.reads in
-    let own = own_cost c.args.kind.now c.args.self.now.style.cap.bytes in
+    let kind = c.args.kind.now in
+    let row = c.in_ok-row.ensures in
+    let lists = row.keeps in
+    let asks = row.spent.0 in
+    let own = own_cost kind c.args.self.now.style.cap.bytes in
     let credit = c.rows.self.ahead.credit in
+    let later = c.row-in-rows.new.self.src.now.asked + c.row-in-rows.new.self.ahead.credit in
+    let bound = c.args.self.now.src.now.asked + (c.args.self.now.ahead.credit + rows_cost kind c.args.table c.args.self.now.style.cap.bytes) in
     let most = rw known.keeps.same_style at asks.account in
-    let asked = account_step (reading c.rows.cursor) (reading c.advance.new.self) _ (c.advance.new.src.asked + credit) _ own _ gives.one_less (omega (arith, account)) (omega (arith, most)) known.asked in
+    let account = with_credit (unread_bytes (reading old)) (unread_bytes (reading new)) c.rows.self.src.now.asked c.advance.new.src.asked credit a.account in
+    let asked = account_step (reading old) (reading new) _ (c.advance.new.src.asked + credit) later own bound gives.one_less account (omega (arith, most)) known.asked in
     record {
       same_table = gives.same_table ∙ known.same_table;
       not_failed = gives.still_not_failed;
@@ -106,32 +111,33 @@ rows-preserved g c =
         same_file = lists.same_file ∙ known.keeps.same_file;
         same_style = lists.same_style ∙ known.keeps.same_style;
       };
-      spends = Spends-to (Spends-then known.spends (Spends-then (Spends-reads credit reads) asks)) (omega (arith, asked));
+      spends = step_more known.spends a.reads asks (at_most _ _ _ asked);
       asked = asked;
       agrees = λ file held. gives.agrees file (known.spends.reads.keeps.same_file ∙ held) (known.agrees file held);
       listed = λ file held.
           let less = step.one_less file (known.spends.reads.keeps.same_file ∙ held) (known.agrees file held) in
           omega (arith, known.listed file held, less, gives.next_index);
-      grows = grows_then known.grows c.in_ok-row.ensures.grows;
+      grows = grows_then known.grows row.grows;
       text = λ file held of_kind.
           let now = known.spends.reads.keeps.same_file ∙ held in
-          let some : 0 < c.args.table.count = omega (arith, known.counted, gives.one_less) in
-          let row = given_row file c.args.kind.now c.args.table gives c.row.ensures now (known.agrees file held) known.same_table c.requires.entry in
-          let shown = rw (given_index gives c.row.ensures, known.keeps.same_style) at (c.in_ok-row.ensures.shows file (reads.keeps.same_file ∙ now) c.args.table.at (of_kind some) row) in
-          rows_more (row_items c.args.kind.now file (style_of c.args.self.now.style) c.args.table.at) (reading c.rows.cursor).index _ gives.next_index (known.text file held of_kind) shown;
+          let style = c.args.self.now.style in
+          let this = turn file style kind c.args.table old new c.row.result _ _ step c.row.ensures now (known.agrees file held) known.same_table c.requires.entry known.counted (known.listed file held) of_kind (known.text file held of_kind) in
+          turn_more file style c.rows.self.style kind c.args.table old new c.row.result _ _ _ known.keeps.same_style this (row.shows file (a.reads.keeps.same_file ∙ now) c.args.table.at);
     }
 
 pub returns : goal.returns
-returns g c = record {
-  grows = c.rows.invariant.grows;
-  keeps = search rules;
-  spent = search rules;
-  shows = λ file held of_kind.
-      let known = c.rows.invariant in
-      let ends = rw c.if-branch.false at c.in_ok-advance.ensures.steps in
-      let all : (reading c.rows.cursor).index ≡ rows_listed c.args.kind.now file c.args.table = omega (arith, known.listed file held, ends.none_left file) in
-      rw (← all) (known.text file held of_kind);
-}
+returns g c =
+    let known = c.rows.invariant in
+    let a = c.in_ok-advance.ensures in
+    record {
+      grows = known.grows;
+      keeps = record { same_src = known.keeps.same_src; same_out = known.keeps.same_out; same_file = known.keeps.same_file; same_style = known.keeps.same_style };
+      spent = let account = a.account in (step_last known.spends a.reads (omega (arith, known.asked, account)), tt);
+      shows = λ file held of_kind.
+          let ends = step_ends _ {old = c.rows.cursor} _ c.if-branch.false a.steps in
+          let all : (reading c.rows.cursor).index ≡ rows_listed c.args.kind.now file c.args.table = omega (arith, known.listed file held, ends.none_left file) in
+          rw (← all) (known.text file held of_kind);
+    }
 
 pub invariant_of-self : goal.invariant_of-self
 invariant_of-self g c = record {

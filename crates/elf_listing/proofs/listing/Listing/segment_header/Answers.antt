@@ -1,17 +1,21 @@
 -- The program header in the store is the file's.
-use Rattle.std.proofs.Common.{rules, ◌∙◌, arith}
+use Rattle.std.proofs.Common.{refl, ◌∙◌, arith}
 use Rattle.std.proofs.lemmas.Result.{err_from_is_err_and}
 use Rattle.elf_headers.specs.Permitted.{style_of}
 use Rattle.elf_model.specs.Records.{segment_at}
 use Rattle.elf_listing.proofs.RowLaws.{Whole-line, Stopped-line}
 use Rattle.elf_listing.proofs.SegmentShown.{segment_line_is, views}
+use Rattle.elf_names.proofs.SpendsLaws.{Spends-none}
+use Rattle.elf_source.proofs.GrowthLaws.{grows_front}
 use Rattle.elf_listing.proofs.listing.Listing.segment_header.Goals as goal
 
 pub returns-in_err-put : goal.returns-in_err-put
 returns-in_err-put g c = record {
-  grows = search rules;
-  keeps = search rules;
-  spent = search rules;
+  grows = grows_front c.in_err-put.ensures.puts.0;
+  keeps = record { same_src = refl; same_out = refl; same_file = refl; same_style = refl };
+  spent =
+      let p = err_from_is_err_and c.from_residual.result c.from_residual.ensures.1 in
+      rw (p.1, p.2) (Spends-none _ _ _ _ (omega arith), c.in_err-put.ensures.puts.1);
   shows = λ file held.
       let p = err_from_is_err_and c.from_residual.result c.from_residual.ensures.1 in
       let viewed = views file _ _ _ (c.args.self.now.loaded.belongs file held) c.args.self.now.viewed held (omega (arith, c.requires)) in
@@ -22,9 +26,9 @@ returns-in_err-put g c = record {
 
 pub returns : goal.returns
 returns g c = record {
-  grows = search rules;
-  keeps = search rules;
-  spent = search rules;
+  grows = record { bytes = _; takes = c.in_ok-put.ensures.puts.0 };
+  keeps = record { same_src = refl; same_out = refl; same_file = refl; same_style = refl };
+  spent = (Spends-none _ _ _ _ (omega arith), tt);
   shows = λ file held.
       let viewed = views file _ _ _ (c.args.self.now.loaded.belongs file held) c.args.self.now.viewed held (omega (arith, c.requires)) in
       let stands = c.segment-header.ensures.stands file (rw (c.view.ensures.loaded, c.view.ensures.store) viewed) in
