@@ -1,6 +1,6 @@
 -- What the tables of a loaded file ask for, by the section headers in the store.
 use Rattle.elf_model.specs.Style.{Style, viewed as view_of}
-use Rattle.std.proofs.Common.{◌≡◌, ℕ, ◌+◌, ◌*◌, ◌/◌, ◌%◌, ◌<◌, ◌≤◌, ◌==◌, ◌&&◌, ◌||◌, ◌⊎◌, inl, inr, not, if◌then◌else◌, Bool, true, false, List, [], ◌∷◌, length, Option, None, Some, Result, Ok, refl, sym, ap, ◌∙◌, arith}
+use Rattle.std.proofs.Common.{◌≡◌, ℕ, ◌+◌, ◌-◌, ◌*◌, ◌/◌, ◌%◌, ◌<◌, ◌≤◌, ◌==◌, ◌&&◌, ◌||◌, ◌⊎◌, inl, inr, not, if◌then◌else◌, Bool, true, false, List, [], ◌∷◌, length, Option, None, Some, Result, Ok, refl, sym, ap, ◌∙◌, arith}
 use Rattle.std.proofs.lemmas.Bool.{cases_Bool, eqb-true}
 use Rattle.std.specs.Prelude.{is_none}
 use Rattle.elf_model.specs.Checks.{Check, first_refusal, pass, refuse, is_outside, header_checks, early_checks, section_name_checks, range_checks_of, table_checks_of, whole_checks_of}
@@ -274,6 +274,17 @@ view_below loaded size slots cap parts few some =
     let store : Stored = record { slots = slots; loaded = loaded.header.e_shnum; rows = []; segments = viewed parts loaded; segment_rows = [] } in
     let below = loaded_below (record { size = size; header = loaded.header }) store size slots cap parts refl refl refl few some refl in
     omega (arith, below)
+
+-- what is asked for behind a load, and behind the program headers that it reads too, is paid where all of it is
+pub load_pays : (before m : ℕ) {after load shnum n k : ℕ} → after ≤ before + load → load ≤ 64 * shnum → n ≡ shnum → 64 * n + m ≤ k → after + m ≤ before + k
+load_pays before m read most same within = omega arith
+
+pub view_pays : (before view m : ℕ) {after load shnum n k : ℕ} → after ≤ before + (load + view) → load ≤ 64 * shnum → n ≡ shnum → 64 * n + (view + m) ≤ k → after + m ≤ before + k
+view_pays before view m read most same within = omega arith
+
+-- of a bound with the file header's bytes the rest is left
+pub rest_pays : {n k : ℕ} → 64 + n ≤ k → n ≤ k - 64
+rest_pays within = omega arith
 
 -- a load leaves no more headers than slots
 pub few_headers : (loaded : Opened) (header : Ehdr) (size : ℕ) (store : Stored) {slots : ℕ} → IsOpened loaded size header store → store.slots ≡ slots

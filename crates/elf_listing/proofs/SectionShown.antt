@@ -1,6 +1,6 @@
 -- The items of one header, by what the store and the checks of a loaded file answer.
 use Rattle.elf_model.specs.Style.{Style}
-use Rattle.std.proofs.Common.{◌≡◌, ℕ, ◌/◌, ◌<◌, ◌==◌, ◌&&◌, not, Bool, true, false, inl, inr, if◌then◌else◌, List, [], ◌∷◌, ◌++◌, length, Option, None, Some, Result, Ok, Err, refl, sym, ap, ◌∙◌, subst, arith}
+use Rattle.std.proofs.Common.{◌≡◌, ℕ, ◌+◌, ◌*◌, ◌/◌, ◌<◌, ◌==◌, ◌&&◌, not, Bool, true, false, inl, inr, if◌then◌else◌, List, [], ◌∷◌, ◌++◌, length, Option, None, Some, Result, Ok, Err, refl, sym, ap, ◌∙◌, subst, arith}
 use Rattle.std.proofs.lemmas.Bool.{cases_Bool, eqb-true}
 use Rattle.elf_model.specs.Bytes.{slice}
 use Rattle.elf_model.specs.Checks.{Check, first_refusal, table_checks, strings_checks, range_checks_of, unless_empty}
@@ -8,7 +8,7 @@ use Rattle.elf_model.specs.LineFronts.{section_front}
 use Rattle.elf_model.specs.Listing.{Item, each, guarded}
 use Rattle.elf_model.specs.Names.{shown}
 use Rattle.elf_model.specs.Numbers.{DT_STRSZ}
-use Rattle.elf_model.specs.Records.{e_machine, e_shnum, e_shstrndx, sh_name, sh_offset, sh_size, sh_link, p_offset, p_filesz, section_at}
+use Rattle.elf_model.specs.Records.{e_machine, e_shnum, e_shoff, e_shstrndx, sh_name, sh_offset, sh_size, sh_link, p_offset, p_filesz, section_at}
 use Rattle.elf_model.specs.Report.{table_rows}
 use Rattle.elf_model.specs.HeaderTables.{TableKind}
 use Rattle.elf_model.specs.TableKinds.{section_dynamic}
@@ -78,6 +78,15 @@ section_is file front names off at index style same some place is before =
     rw (before, place, is, same)
     (ap (named_row (section_front style.gnu (e_machine file) file (section_at file index) index) (section_at file index))
     (sym (name_by_cases file (e_shnum file == 0) (e_shstrndx file == 0) (names_at file (section_at file (e_shstrndx file))) _ style.cap (some_sections (e_shnum file) some))))
+
+-- a range that a header tells of is the file's, as a load knows the file's size and the header's place
+pub range_of_file : {size offset n place all from_ count at : ℕ} {result : Result Rows Fault} → size ≡ all → offset ≡ from_ → n ≡ count → place ≡ at
+    → result ≡ bytes_of size offset n place → bytes_of all from_ count at ≡ result
+range_of_file sized from_is counted placed is = rw (← sized, ← from_is, ← counted, ← placed) (sym is)
+
+-- the place of a section header, as a load knows where the section headers begin
+pub section_placed : {place begin : ℕ} (file : List ℕ) (i : ℕ) → place ≡ begin + 64 * i → begin ≡ e_shoff file → place ≡ section_at file i
+section_placed file i is begins = omega arith
 
 -- the bytes of a range that is answered
 pub range_passes : (file : List ℕ) (offset size place : ℕ) (table : Rows) → bytes_of (length file) offset size place ≡ Ok table

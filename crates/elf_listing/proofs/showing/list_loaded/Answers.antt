@@ -9,7 +9,7 @@ use Rattle.elf_source.proofs.ReadsLaws.{Reads-then}
 use Rattle.elf_listing.specs.Viewed.{view_cost}
 use Rattle.elf_listing.proofs.FileShown.{load_alone, load_passed}
 use Rattle.elf_listing.proofs.RowLaws.{Stopped-first, Stopped-unread-first, Writes-as}
-use Rattle.elf_listing.proofs.SectionCosts.{load_below, load_within, loaded_within, loaded_below, view_within, view_below, few_headers, viewed_all}
+use Rattle.elf_listing.proofs.SectionCosts.{load_below, load_pays, load_within, loaded_within, loaded_below, rest_pays, view_pays, view_within, view_below, few_headers, viewed_all}
 use Rattle.elf_listing.proofs.ShowLaws.{Whole-none, Costs-then, Costs-fault, Costs-later}
 use Rattle.elf_source.proofs.GrowthLaws.{grows_not}
 use Rattle.elf_headers.proofs.LoadLaws.{load_most}
@@ -24,7 +24,7 @@ pub returns-in_err-loaded-clause-below : goal.returns-in_err-loaded-clause-below
 returns-in_err-loaded-clause-below g c =
     let p = err_from_is_err_and c.from_residual.result c.from_residual.ensures.1 in
     let below = load_below c.args.header.now c.args.src.now.seen.size c.args.store.now.slots c.args.style.cap.bytes in
-    rw (p.1, p.2) (Costs-fault _ _ _ _ _ _ (omega (arith, below)) c.load.ensures.reads c.in_err-loaded.ensures.says)
+    rw (p.1, p.2) (Costs-fault _ _ _ _ _ _ (rest_pays below) c.load.ensures.reads c.in_err-loaded.ensures.says)
 
 pub returns-in_err-loaded-clause-cost : goal.returns-in_err-loaded-clause-cost
 returns-in_err-loaded-clause-cost g c = λ file held.
@@ -60,7 +60,7 @@ returns-in_err-load_view-clause-below g c =
     let most = load_most c.args.header.now size c.args.store.now.slots in
     let same = ap (λ (header : Ehdr). header.e_shnum) opens.same_header in
     let asked = view_cost c.args.parts.0 c.in_ok-loaded.loaded in
-    rw (p.1, p.2) (Costs-later _ _ _ c.args.out.now _ _ asked _ (omega (arith, below, most, same, c.load.ensures.reads.at_most)) c.load.ensures.reads c.load_view.ensures.reads c.in_err-load_view.ensures.says)
+    rw (p.1, p.2) (Costs-later _ _ _ c.args.out.now _ _ asked _ (load_pays _ _ c.load.ensures.reads.at_most most same (rest_pays below)) c.load.ensures.reads c.load_view.ensures.reads c.in_err-load_view.ensures.says)
 
 pub returns-in_err-load_view-clause-cost : goal.returns-in_err-load_view-clause-cost
 returns-in_err-load_view-clause-cost g c = λ file held.
@@ -72,7 +72,7 @@ returns-in_err-load_view-clause-cost g c = λ file held.
     let most = load_most c.args.header.now c.args.src.now.seen.size c.args.store.now.slots in
     let same = ap (λ (header : Ehdr). header.e_shnum) c.in_ok-loaded.ensures.opens.same_header in
     let asked = view_cost c.args.parts.0 c.in_ok-loaded.loaded in
-    rw (p.1, p.2) (Costs-later _ _ _ c.args.out.now _ _ asked _ (omega (arith, within, most, same, c.load.ensures.reads.at_most)) c.load.ensures.reads c.load_view.ensures.reads c.in_err-load_view.ensures.says)
+    rw (p.1, p.2) (Costs-later _ _ _ c.args.out.now _ _ asked _ (load_pays _ _ c.load.ensures.reads.at_most most same within) c.load.ensures.reads c.load_view.ensures.reads c.in_err-load_view.ensures.says)
 
 pub returns-in_err-load_view-clause-text : goal.returns-in_err-load_view-clause-text
 returns-in_err-load_view-clause-text g c = λ file held.
@@ -113,7 +113,7 @@ returns-clause-below g c =
     (c.load_view.ensures.slots ∙ c.load.ensures.slots) count few.0 few.1 c.in_ok-load_view.ensures.segments in
     let most = load_most c.args.header.now size c.args.store.now.slots in
     let reads = Reads-then c.load.ensures.reads c.load_view.ensures.reads in
-    Costs-then _ _ _ _ _ _ _ _ (omega (arith, below, most, same, reads.at_most)) reads c.list_tables.ensures.costs
+    Costs-then _ _ _ _ _ _ _ _ (view_pays _ _ _ reads.at_most most same (rest_pays below)) reads c.list_tables.ensures.costs
 
 pub returns-clause-cost : goal.returns-clause-cost
 returns-clause-cost g c = λ file held.
@@ -127,7 +127,7 @@ returns-clause-cost g c = λ file held.
     let most = load_most c.args.header.now c.args.src.now.seen.size c.args.store.now.slots in
     let same = ap (λ (header : Ehdr). header.e_shnum) opens.same_header in
     let reads = Reads-then c.load.ensures.reads c.load_view.ensures.reads in
-    Costs-then _ _ _ _ _ _ _ _ (omega (arith, within, most, same, reads.at_most)) reads c.list_tables.ensures.costs
+    Costs-then _ _ _ _ _ _ _ _ (view_pays _ _ _ reads.at_most most same within) reads c.list_tables.ensures.costs
 
 pub returns-clause-text : goal.returns-clause-text
 returns-clause-text g c = λ file held.

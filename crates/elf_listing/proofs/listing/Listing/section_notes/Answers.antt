@@ -13,7 +13,7 @@ use Rattle.elf_table.specs.Tables.{Rows}
 use Rattle.elf_listing.specs.Parts.{store_sections}
 use Rattle.elf_listing.proofs.RowLaws.{Writes-as}
 use Rattle.elf_listing.proofs.SectionCosts.{range_within}
-use Rattle.elf_listing.proofs.SectionShown.{empty_fails, no_table, range_passes, table_fails, table_passes}
+use Rattle.elf_listing.proofs.SectionShown.{empty_fails, no_table, range_of_file, range_passes, section_placed, table_fails, table_passes}
 use Rattle.elf_listing.proofs.ListsLaws.{Lists-nothing, Lists-refused, Lists-within}
 use Rattle.elf_listing.proofs.listing.Listing.section_notes.Goals as goal
 
@@ -32,9 +32,9 @@ returns-in_err-table g c =
     let stands = c.section-header.ensures.stands file belongs in
     let at = section_at file c.args.section in
     let kind = sym stands.sh_type ∙ c.if-header-ne-SHT_NOTE.false in
-    let place : c.place-at.result ≡ at = omega (arith, c.place-at.ensures.value, belongs.header.e_shoff) in
-    let value = rw (belongs.size, stands.sh_offset, stands.sh_size, place) at c.in_err-table.ensures.value in
-    table_fails section_notes file _ _ at (eq-eqb _ _ kind) _ _ (empty_fails (sh_size file at) _ _ _ _ (sym value))))
+    let place = section_placed file c.args.section c.place-at.ensures.value belongs.header.e_shoff in
+    let value = range_of_file belongs.size stands.sh_offset stands.sh_size place c.in_err-table.ensures.value in
+    table_fails section_notes file _ _ at (eq-eqb _ _ kind) _ _ (empty_fails (sh_size file at) _ _ _ _ value)))
 
 pub returns : goal.returns
 unfolding section_notes
@@ -50,9 +50,9 @@ returns g c =
     let stands = c.section-header.ensures.stands file belongs in
     let at = section_at file c.args.section in
     let kind = sym stands.sh_type ∙ c.if-header-ne-SHT_NOTE.false in
-    let place : c.place-at.result ≡ at = omega (arith, c.place-at.ensures.value, belongs.header.e_shoff) in
-    let value = rw (belongs.size, stands.sh_offset, stands.sh_size, place) at c.in_ok-table.ensures.value in
-    let found = range_passes file _ (sh_size file at) at _ (sym value) in
+    let place = section_placed file c.args.section c.place-at.ensures.value belongs.header.e_shoff in
+    let value = range_of_file belongs.size stands.sh_offset stands.sh_size place c.in_ok-table.ensures.value in
+    let found = range_passes file _ (sh_size file at) at _ value in
     Writes-as _ _ _ (table_passes section_notes file style c.args.section at (eq-eqb _ _ kind) found.0
     ∙ ap (λ (t : Rows). walk_rows cap c.args.section t.at (walked (note_align (sh_addralign file at)) (slice file t.at t.count))) found.1)
     (rw stands.sh_addralign at (c.notes.ensures.shows file held)))

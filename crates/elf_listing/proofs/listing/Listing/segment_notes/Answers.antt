@@ -13,7 +13,7 @@ use Rattle.elf_table.specs.Tables.{Rows}
 use Rattle.elf_listing.specs.Parts.{store_segments}
 use Rattle.elf_listing.proofs.RowLaws.{Writes-as}
 use Rattle.elf_listing.proofs.SectionCosts.{range_within}
-use Rattle.elf_listing.proofs.SectionShown.{empty_fails, no_table, range_passes, table_fails, table_passes}
+use Rattle.elf_listing.proofs.SectionShown.{empty_fails, no_table, range_of_file, range_passes, table_fails, table_passes}
 use Rattle.elf_listing.proofs.SegmentShown.{views}
 use Rattle.elf_listing.proofs.ListsLaws.{Lists-nothing, Lists-refused, Lists-within}
 use Rattle.elf_listing.proofs.listing.Listing.segment_notes.Goals as goal
@@ -37,8 +37,8 @@ returns-in_err-table g c =
     let kind = sym stands.p_type ∙ c.if-header-ne-PT_NOTE.false in
     let told = rw c.view-2.ensures.loaded at c.place-place.ensures.value in
     let place : c.place-place.result ≡ at = omega (arith, told, belongs.header.e_phoff) in
-    let value = rw (belongs.size, stands.p_offset, stands.p_filesz, place) at c.in_err-table.ensures.value in
-    table_fails segment_notes file _ _ at (eq-eqb _ _ kind) _ _ (empty_fails (p_filesz file at) _ _ _ _ (sym value))))
+    let value = range_of_file belongs.size stands.p_offset stands.p_filesz place c.in_err-table.ensures.value in
+    table_fails segment_notes file _ _ at (eq-eqb _ _ kind) _ _ (empty_fails (p_filesz file at) _ _ _ _ value)))
 
 pub returns : goal.returns
 unfolding segment_notes
@@ -57,8 +57,8 @@ returns g c =
     let kind = sym stands.p_type ∙ c.if-header-ne-PT_NOTE.false in
     let told = rw c.view-2.ensures.loaded at c.place-place.ensures.value in
     let place : c.place-place.result ≡ at = omega (arith, told, belongs.header.e_phoff) in
-    let value = rw (belongs.size, stands.p_offset, stands.p_filesz, place) at c.in_ok-table.ensures.value in
-    let found = range_passes file _ (p_filesz file at) at _ (sym value) in
+    let value = range_of_file belongs.size stands.p_offset stands.p_filesz place c.in_ok-table.ensures.value in
+    let found = range_passes file _ (p_filesz file at) at _ value in
     Writes-as _ _ _ (table_passes segment_notes file style c.args.segment at (eq-eqb _ _ kind) found.0
     ∙ ap (λ (t : Rows). walk_rows cap c.args.segment t.at (walked (note_align (p_align file at)) (slice file t.at t.count))) found.1)
     (rw stands.p_align at (c.notes.ensures.shows file held)))

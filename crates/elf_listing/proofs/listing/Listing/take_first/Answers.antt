@@ -16,6 +16,7 @@ use Rattle.elf_table.specs.Tables.{Strings, StringsWithin}
 use Rattle.elf_versions.proofs.WordLaws.{none-of}
 use Rattle.elf_listing.specs.Versions.{kind_type}
 use Rattle.elf_listing.proofs.FirstTaken.{check-says, empty-section, no-section, not-cut, not-refused, of-read, taken-all, taken-none}
+use Rattle.elf_listing.proofs.SectionShown.{range_of_file, section_placed}
 use Rattle.elf_listing.proofs.VersionSections.{found, outside, unnamed}
 use Rattle.elf_listing.proofs.VersionedCosts.{Says-account, walk-cost}
 use Rattle.elf_listing.proofs.ViewedLaws.{still_viewed}
@@ -66,9 +67,9 @@ returns-in_err-table g c =
           let first : first_of_type file (kind_type c.args.kind) ≡ Some c.in-Some.section =
           ap (first_typed (file_sections file)) (sym c.section_type.ensures) ∙ sym (c.first.ensures.held file belongs) ∙ c.in-Some.is in
           let some : (sh_size file at == 0) ≡ false = ne_eqb _ 0 (λ e. c.if-header-eq0.false (stands.sh_size ∙ e)) in
-          let place : c.place-at.result ≡ at = omega (arith, c.place-at.ensures.value, belongs.header.e_shoff) in
-          let value = rw (belongs.size, stands.sh_offset, stands.sh_size, place) at c.in_err-table.ensures.value in
-          not-refused (all_checks version_table file at) _ (whole c.in-Some.section first).0 (outside file at some _ (sym value));
+          let place = section_placed file c.in-Some.section c.place-at.ensures.value belongs.header.e_shoff in
+          let value = range_of_file belongs.size stands.sh_offset stands.sh_size place c.in_err-table.ensures.value in
+          not-refused (all_checks version_table file at) _ (whole c.in-Some.section first).0 (outside file at some _ value);
     })
 
 pub returns-in_err-strings : goal.returns-in_err-strings
@@ -85,9 +86,9 @@ returns-in_err-strings g c =
           let first : first_of_type file (kind_type c.args.kind) ≡ Some c.in-Some.section =
           ap (first_typed (file_sections file)) (sym c.section_type.ensures) ∙ sym (c.first.ensures.held file belongs) ∙ c.in-Some.is in
           let some : (sh_size file at == 0) ≡ false = ne_eqb _ 0 (λ e. c.if-header-eq0.false (stands.sh_size ∙ e)) in
-          let place : c.place-at.result ≡ at = omega (arith, c.place-at.ensures.value, belongs.header.e_shoff) in
-          let value = rw (belongs.size, stands.sh_offset, stands.sh_size, place) at c.in_ok-table.ensures.value in
-          not-refused (all_checks version_table file at) _ (whole c.in-Some.section first).0 (unnamed file at some _ (sym value) _ (sym (c.in_err-strings.ensures.held file belongs)));
+          let place = section_placed file c.in-Some.section c.place-at.ensures.value belongs.header.e_shoff in
+          let value = range_of_file belongs.size stands.sh_offset stands.sh_size place c.in_ok-table.ensures.value in
+          not-refused (all_checks version_table file at) _ (whole c.in-Some.section first).0 (unnamed file at some _ value _ (sym (c.in_err-strings.ensures.held file belongs)));
     })
 
 pub invariant_of-self : goal.invariant_of-self
@@ -146,9 +147,9 @@ returns-in_err-take_all g c =
           let first : first_of_type file (kind_type c.args.kind) ≡ Some c.in-Some.section =
           ap (first_typed (file_sections file)) (sym c.section_type.ensures) ∙ sym (c.first.ensures.held file belongs) ∙ c.in-Some.is in
           let some : (sh_size file at == 0) ≡ false = ne_eqb _ 0 (λ e. c.if-header-eq0.false (stands.sh_size ∙ e)) in
-          let place : c.place-at.result ≡ at = omega (arith, c.place-at.ensures.value, belongs.header.e_shoff) in
-          let value = rw (belongs.size, stands.sh_offset, stands.sh_size, place) at c.in_ok-table.ensures.value in
-          let all = found file at some _ (sym value) _ (sym (c.in_ok-strings.ensures.held file belongs)) in
+          let place = section_placed file c.in-Some.section c.place-at.ensures.value belongs.header.e_shoff in
+          let value = range_of_file belongs.size stands.sh_offset stands.sh_size place c.in_ok-table.ensures.value in
+          let all = found file at some _ value _ (sym (c.in_ok-strings.ensures.held file belongs)) in
           let told = did.known file (first_reads.keeps.same_file ∙ held) (made.did.known file held) records names in
           not-cut file c.args.kind c.in-Some.section records c.take_all.new.self _ _ _ first whole all.2 (rw place at made.starts) told;
     })
@@ -179,9 +180,9 @@ returns g c =
           let first : first_of_type file (kind_type c.args.kind) ≡ Some c.in-Some.section =
           ap (first_typed (file_sections file)) (sym c.section_type.ensures) ∙ sym (c.first.ensures.held file belongs) ∙ c.in-Some.is in
           let some : (sh_size file at == 0) ≡ false = ne_eqb _ 0 (λ e. c.if-header-eq0.false (stands.sh_size ∙ e)) in
-          let place : c.place-at.result ≡ at = omega (arith, c.place-at.ensures.value, belongs.header.e_shoff) in
-          let value = rw (belongs.size, stands.sh_offset, stands.sh_size, place) at c.in_ok-table.ensures.value in
-          let all = found file at some _ (sym value) _ (sym (c.in_ok-strings.ensures.held file belongs)) in
+          let place = section_placed file c.in-Some.section c.place-at.ensures.value belongs.header.e_shoff in
+          let value = range_of_file belongs.size stands.sh_offset stands.sh_size place c.in_ok-table.ensures.value in
+          let all = found file at some _ value _ (sym (c.in_ok-strings.ensures.held file belongs)) in
           let told = did.known file (first_reads.keeps.same_file ∙ held) (made.did.known file held) records names in
           taken-all file c.args.kind c.in-Some.section records _ _ _ _ first all.2 (rw place at made.starts) told.1 all.1;
     }
@@ -195,3 +196,14 @@ invariant_of-self-2 g c =
       viewed = still_viewed _ _ taken (still_viewed _ _ made c.args.self.now.viewed);
       held = still_held _ taken (still_held _ made c.args.self.now.held);
     }
+
+pub new-requires-2-clause-within : goal.new-requires-2-clause-within
+new-requires-2-clause-within g c = rw c.args.self.now.loaded.size at c.in_ok-table.ensures.within
+
+pub take_all-requires-clause-going : goal.take_all-requires-clause-going
+take_all-requires-clause-going g c = c.in_ok-cursor.ensures.starts.not_failed
+
+pub take_all-requires-clause-within : goal.take_all-requires-clause-within
+take_all-requires-clause-within g c =
+    let made = c.in_ok-cursor.ensures in
+    rw (made.starts.its_table, made.did.costs.reads.keeps.same_size) (rw c.args.self.now.loaded.size at c.in_ok-table.ensures.within)

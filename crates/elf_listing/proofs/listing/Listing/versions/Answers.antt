@@ -15,7 +15,7 @@ use Rattle.elf_listing.specs.Versions.{records_kind}
 use Rattle.elf_listing.proofs.ListsLaws.{Lists-nothing, Lists-refused}
 use Rattle.elf_listing.proofs.RowLaws.{Stopped-unread-first, Writes-as}
 use Rattle.elf_listing.proofs.SectionCosts.{range_within}
-use Rattle.elf_listing.proofs.SectionShown.{no_table, table_fails}
+use Rattle.elf_listing.proofs.SectionShown.{no_table, range_of_file, section_placed, table_fails}
 use Rattle.elf_listing.proofs.ShowLaws.{Spent-fault}
 use Rattle.elf_listing.proofs.VersionSections.{Spent-account, found, none_are, none_asked, outside, reads_pay, same_le, section_is, unnamed, walk_pays}
 use Rattle.elf_listing.proofs.ViewedLaws.{still_viewed}
@@ -41,9 +41,9 @@ returns-in_err-table g c =
     let at = section_at file c.args.section in
     let kind = sym stands.sh_type ∙ (c.if-header-section_type.false ∙ c.section_type.ensures) in
     let some : (sh_size file at == 0) ≡ false = ne_eqb _ 0 (λ e. c.if-header-eq0.false (stands.sh_size ∙ e)) in
-    let place : c.place-at.result ≡ at = omega (arith, c.place-at.ensures.value, belongs.header.e_shoff) in
-    let value = rw (belongs.size, stands.sh_offset, stands.sh_size, place) at c.in_err-table.ensures.value in
-    table_fails (records_kind c.args.kind) file _ _ at (eq-eqb _ _ kind) _ _ (outside file at some _ (sym value))))
+    let place = section_placed file c.args.section c.place-at.ensures.value belongs.header.e_shoff in
+    let value = range_of_file belongs.size stands.sh_offset stands.sh_size place c.in_err-table.ensures.value in
+    table_fails (records_kind c.args.kind) file _ _ at (eq-eqb _ _ kind) _ _ (outside file at some _ value)))
 
 pub returns-in_err-names : goal.returns-in_err-names
 returns-in_err-names g c =
@@ -54,10 +54,10 @@ returns-in_err-names g c =
     let at = section_at file c.args.section in
     let kind = sym stands.sh_type ∙ (c.if-header-section_type.false ∙ c.section_type.ensures) in
     let some : (sh_size file at == 0) ≡ false = ne_eqb _ 0 (λ e. c.if-header-eq0.false (stands.sh_size ∙ e)) in
-    let place : c.place-at.result ≡ at = omega (arith, c.place-at.ensures.value, belongs.header.e_shoff) in
-    let value = rw (belongs.size, stands.sh_offset, stands.sh_size, place) at c.in_ok-table.ensures.value in
+    let place = section_placed file c.args.section c.place-at.ensures.value belongs.header.e_shoff in
+    let value = range_of_file belongs.size stands.sh_offset stands.sh_size place c.in_ok-table.ensures.value in
     table_fails (records_kind c.args.kind) file _ _ at (eq-eqb _ _ kind) _ _
-    (unnamed file at some _ (sym value) _ (sym (c.in_err-names.ensures.held file belongs)))))
+    (unnamed file at some _ value _ (sym (c.in_err-names.ensures.held file belongs)))))
 
 pub invariant_of-self : goal.invariant_of-self
 invariant_of-self g c = record {
@@ -111,10 +111,25 @@ returns g c =
           let stands = c.section-header.ensures.stands file belongs in
           let at = section_at file c.args.section in
           let some : (sh_size file at == 0) ≡ false = ne_eqb _ 0 (λ e. c.if-header-eq0.false (stands.sh_size ∙ e)) in
-          let place : c.place-at.result ≡ at = omega (arith, c.place-at.ensures.value, belongs.header.e_shoff) in
-          let stood = rw (belongs.size, stands.sh_offset, stands.sh_size, place) at c.in_ok-table.ensures.value in
+          let place = section_placed file c.args.section c.place-at.ensures.value belongs.header.e_shoff in
+          let stood = range_of_file belongs.size stands.sh_offset stands.sh_size place c.in_ok-table.ensures.value in
           let typed = sym stands.sh_type ∙ (c.if-header-section_type.false ∙ c.section_type.ensures) in
-          let all = found file at some _ (sym stood) _ (sym (c.in_ok-names.ensures.held file belongs)) in
+          let all = found file at some _ stood _ (sym (c.in_ok-names.ensures.held file belongs)) in
           Writes-as _ _ _ (section_is k file style c.args.section at _ _ _ (eq-eqb _ _ typed) all.0 all.1 all.2 (rw place at made.starts))
           (c.version_rows.ensures.shows file (made.did.costs.reads.keeps.same_file ∙ held) (made.did.known file held));
     }
+
+pub new-requires-clause-within : goal.new-requires-clause-within
+new-requires-clause-within g c = rw c.args.self.now.loaded.size at c.in_ok-table.ensures.within
+
+pub version_rows-requires-clause-going : goal.version_rows-requires-clause-going
+version_rows-requires-clause-going g c = c.in_ok-cursor.ensures.starts.not_failed
+
+pub version_rows-requires-clause-within : goal.version_rows-requires-clause-within
+version_rows-requires-clause-within g c =
+    let made = c.in_ok-cursor.ensures in
+    rw (made.starts.its_table, made.did.costs.reads.keeps.same_size) (rw c.args.self.now.loaded.size at c.in_ok-table.ensures.within)
+
+pub version_rows-requires-clause-strings : goal.version_rows-requires-clause-strings
+version_rows-requires-clause-strings g c =
+    rw c.in_ok-cursor.ensures.did.costs.reads.keeps.same_size (rw c.args.self.now.loaded.size at c.in_ok-names.ensures.within)
