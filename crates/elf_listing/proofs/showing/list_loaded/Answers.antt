@@ -1,6 +1,7 @@
 -- The load's checks stand before the tables, and what is asked for is added up.
 use Rattle.elf_headers.specs.Permitted.{style_of}
 use Rattle.std.proofs.Common.{◌≡◌, true, false, sym, ap, arith, ◌∙◌}
+use Rattle.std.proofs.lemmas.Bool.{false≢true}
 use Rattle.std.proofs.lemmas.Result.{err_from_is_err_and}
 use Rattle.elf_model.specs.Listing.{has_tables}
 use Rattle.elf_model.proofs.ListingLemmas.{load_none}
@@ -139,3 +140,27 @@ returns-clause-text g c = λ file held.
 
 pub returns-in_err-load_view-clause-grows : goal.returns-in_err-load_view-clause-grows
 returns-in_err-load_view-clause-grows g c = grows_not _
+
+pub returns-in_err-loaded-clause-slots : goal.returns-in_err-loaded-clause-slots
+returns-in_err-loaded-clause-slots g c = c.load.ensures.slots
+
+pub returns-in_err-load_view-clause-slots : goal.returns-in_err-load_view-clause-slots
+returns-in_err-load_view-clause-slots g c = c.load_view.ensures.slots ∙ c.load.ensures.slots
+
+pub returns-clause-slots : goal.returns-clause-slots
+returns-clause-slots g c = c.load_view.ensures.slots ∙ c.load.ensures.slots
+
+pub returns-in_err-loaded-clause-grows : goal.returns-in_err-loaded-clause-grows
+returns-in_err-loaded-clause-grows g c = grows_not _
+
+pub returns-clause-grows : goal.returns-clause-grows
+returns-clause-grows g c = c.list_tables.ensures.grows
+
+pub returns-in_err-loaded-clause-alone : goal.returns-in_err-loaded-clause-alone
+returns-in_err-loaded-clause-alone g c = λ none. absurd (false≢true (sym none ∙ (sym (c.intersects.ensures tt) ∙ c.if-not-intersects.false)))
+
+pub returns-in_err-load_view-clause-alone : goal.returns-in_err-load_view-clause-alone
+returns-in_err-load_view-clause-alone g c = λ none. absurd (false≢true (sym none ∙ (sym (c.intersects.ensures tt) ∙ c.if-not-intersects.false)))
+
+pub returns-clause-alone : goal.returns-clause-alone
+returns-clause-alone g c = λ none. absurd (false≢true (sym none ∙ (sym (c.intersects.ensures tt) ∙ c.if-not-intersects.false)))

@@ -1,6 +1,6 @@
 -- Each row that the cursor gives is the file's, and is shown behind those before it.
 use Rattle.elf_headers.specs.Permitted.{style_of}
-use Rattle.std.proofs.Common.{◌≡◌, ◌+◌, refl, ap, ◌∙◌, arith}
+use Rattle.std.proofs.Common.{◌≡◌, ◌+◌, length, refl, ap, ◌∙◌, arith}
 use Rattle.std.proofs.lemmas.Result.{err_from_is_err_and}
 use Rattle.elf_names.proofs.HeldLaws.{still_held}
 use Rattle.elf_names.proofs.SpendsLaws.{Spends-none}
@@ -145,3 +145,28 @@ invariant_of-self g c = record {
   viewed = still_viewed _ _ c.advance.ensures.reads c.rows.self.viewed;
   held = still_held _ c.advance.ensures.reads c.rows.self.held;
 }
+
+pub advance-requires : goal.advance-requires
+advance-requires g c = let known = c.rows.invariant in rw (known.same_table, known.spends.reads.keeps.same_size) c.requires.rows
+
+pub row-requires : goal.row-requires
+row-requires g c =
+    let step = step_gives {old = c.rows.cursor} {new = c.advance.new.self} _ c.if-branch.true c.in_ok-advance.ensures.steps in
+    let next = step.gives.next_index in omega (arith, next)
+
+pub row-requires-in-rows : goal.row-requires-in-rows
+row-requires-in-rows g c =
+    let known = c.rows.invariant in
+    let a = c.in_ok-advance.ensures in
+    let gives = (step_gives {old = c.rows.cursor} {new = c.advance.new.self} _ c.if-branch.true a.steps).gives in
+    let lends = c.row.ensures in
+    record {
+      whole = ap length lends.its_bytes ∙ (gives.whole ∙ (ap (λ t. t.entry) known.same_table ∙ c.requires.entry));
+      within = rw (a.reads.keeps.same_size, known.spends.reads.keeps.same_size) c.requires.names;
+      fits = c.requires.fits _ (omega (arith, lends.its_index, gives.next_index, gives.one_less, known.counted));
+    }
+
+pub rows-smaller : goal.rows-smaller
+rows-smaller g c =
+    let step = step_gives {old = c.rows.cursor} {new = c.advance.new.self} _ c.if-branch.true c.in_ok-advance.ensures.steps in
+    let less = step.gives.one_less in omega (arith, less)

@@ -79,3 +79,13 @@ returns g c =
     rw (← fetches.1)
     (Writes-as _ _ _ (table_passes symbol_versions file style c.args.section at kind found.pass ∙ rows)
     (rw (same, fetches.0.same_file, place) at (c.versioned.ensures.shows file (fetches.2.reads.keeps.same_file ∙ held)))))
+
+pub versioned-requires-clause-below : goal.versioned-requires-clause-below
+versioned-requires-clause-below g c = rw c.in_ok-numbered.ensures.fetches.0.same_file c.requires.below
+
+pub versioned-requires-clause-rows : goal.versioned-requires-clause-rows
+versioned-requires-clause-rows g c =
+    rw c.in_ok-numbered.ensures.fetches.2.reads.keeps.same_size (rw c.args.self.now.loaded.size at c.in_ok-found.ensures.within)
+
+pub versioned-requires-clause-within : goal.versioned-requires-clause-within
+versioned-requires-clause-within g c = rw c.in_ok-numbered.ensures.fetches.2.reads.keeps.same_size c.in_ok-numbered.ensures.within
