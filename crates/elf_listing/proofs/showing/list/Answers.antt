@@ -1,7 +1,7 @@
 -- The file header's checks stand before all, and its line before what is loaded.
 use Rattle.elf_headers.specs.Permitted.{style_of}
 use Rattle.elf_model.specs.Style.{viewed as view_of}
-use Rattle.std.proofs.Common.{◌≡◌, ℕ, Ok, Err, ap, arith, ◌∙◌}
+use Rattle.std.proofs.Common.{◌≡◌, ℕ, Ok, Err, sym, ap, arith, ◌∙◌}
 use Rattle.std.proofs.lemmas.Result.{err_from_is_err_and}
 use Rattle.elf_model.specs.Cost.{ceiling}
 use Rattle.elf_model.specs.Listing.{known_parts}
@@ -10,7 +10,7 @@ use Rattle.elf_listing.proofs.FileShown.{header_part, items_are, header_alone}
 use Rattle.elf_listing.proofs.RowLaws.{Stopped-first, Writes-as}
 use Rattle.elf_listing.proofs.SectionCosts.{slots_below, cost_is}
 use Rattle.elf_listing.proofs.ShowLaws.{Writes-then, Stopped-more, Costs-then, Costs-fault, Costs-out}
-use Rattle.elf_source.proofs.GrowthLaws.{grows_then}
+use Rattle.elf_source.proofs.GrowthLaws.{grows_not, grows_then}
 use Rattle.elf_headers.proofs.LoadLaws.{header_most}
 use Rattle.elf_listing.proofs.showing.list.Goals as goal
 
@@ -107,3 +107,15 @@ returns-clause-alone g c = λ none.
     let most = header_most c.args.src.now.seen.size in
     let same = c.list_viewed.ensures.alone (rw c.known.ensures none) in
     omega (arith, most, same, c.header.ensures.reads.at_most)
+
+pub list_viewed-requires : goal.list_viewed-requires
+list_viewed-requires g c = record { header = λ file held. c.in_ok-header.ensures.read file (sym c.header.ensures.reads.keeps.same_file ∙ held) }
+
+pub returns-in_err-header-clause-grows : goal.returns-in_err-header-clause-grows
+returns-in_err-header-clause-grows g c = grows_not _
+
+pub returns-in_err-list_header-clause-grows : goal.returns-in_err-list_header-clause-grows
+returns-in_err-list_header-clause-grows g c = c.in_err-list_header.ensures.grows
+
+pub returns-clause-slots : goal.returns-clause-slots
+returns-clause-slots g c = c.list_viewed.ensures.slots

@@ -33,3 +33,15 @@ pub returns-clause-text : goal.returns-clause-text
 returns-clause-text g c = λ file held.
     rw (viewed_hidden (style_of c.args.style) file c.if-not-style.false)
     (c.list_loaded-listed.ensures.text (without_sections file) (c.hide_sections.ensures.shows refl file held))
+
+pub list_loaded-requires : goal.list_loaded-requires
+list_loaded-requires g c = record { header = c.requires.header }
+
+pub returns-then-not-style-clause-below : goal.returns-then-not-style-clause-below
+returns-then-not-style-clause-below g c = c.list_loaded.ensures.below
+
+pub returns-then-not-style-clause-grows : goal.returns-then-not-style-clause-grows
+returns-then-not-style-clause-grows g c = c.list_loaded.ensures.grows
+
+pub returns-clause-grows : goal.returns-clause-grows
+returns-clause-grows g c = c.list_loaded-listed.ensures.grows
