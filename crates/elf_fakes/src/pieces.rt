@@ -48,6 +48,9 @@ impl<'a> Reader for Pieces<'a> {
 
     ghost interrupted = { λ r. r.interrupted };
 
+    /// Its bytes stay, wherever a turn reads.
+    ghost one_turn = { λ before _ _ after. after.bytes ≡ before.bytes };
+
     fn end(&mut self) -> Result<u64, ReaderFault> {
         self.turn()?;
         Ok(self.bytes.len() as u64)

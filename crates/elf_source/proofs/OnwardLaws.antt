@@ -12,9 +12,10 @@ pub onward_one : (one_read : Seen → ℕ → ℕ → Seen → Type 0) (old new 
     → ReadsOnward one_read old new low high
 onward_one one_read old new at n low high read from to = record { reads = (at, n) ∷ []; made = (new, read, refl); onward = (from, to) }
 
-made_then : (one_read : Seen → ℕ → ℕ → Seen → Type 0) (first second : List (ℕ × ℕ)) (a b c : Seen) → AreMade one_read first a b → AreMade one_read second b c
+-- reads, and then others
+pub made_then : {A : Type 0} → (one_read : A → ℕ → ℕ → A → Type 0) (first second : List (ℕ × ℕ)) (a b c : A) → AreMade one_read first a b → AreMade one_read second b c
     → AreMade one_read (first ++ second) a c
-made_then one_read [] second a b c made later = let P : Seen → Type 0 = λ s. AreMade one_read second s c in subst P made later
+made_then {A} one_read [] second a b c made later = let P : A → Type 0 = λ s. AreMade one_read second s c in subst P made later
 made_then one_read (read ∷ first) second a b c made later = (made.0, made.1, made_then one_read first second made.0 b c made.2 later)
 
 onward_lower : (low next high : ℕ) (reads : List (ℕ × ℕ)) → low ≤ next → AreOnward next high reads → AreOnward low high reads

@@ -1,7 +1,9 @@
 -- What reads in turns come to.
-use Rattle.std.proofs.Common.{◌≡◌, ℕ, ◌+◌, ◌-◌, ◌≤◌, List, ◌++◌, length, take, drop, sym, ap, ◌∙◌, Result, Ok, Err, IfErr, refl, arith, length-drop, length-take-le}
+use Rattle.std.proofs.Common.{◌≡◌, ℕ, ◌+◌, ◌-◌, ◌≤◌, ◌<◌, List, [], ◌∷◌, ◌++◌, length, take, drop, sym, ap, ◌∙◌, Result, Ok, Err, IfErr, refl, arith, length-append, length-drop, length-take-le}
 use Rattle.std.proofs.Math.Seq.{take-add, take-append-add, take-length}
 use Rattle.std.proofs.lemmas.List.{drop-drop, take-append-le}
+use Rattle.elf_source.proofs.OnwardLaws.{made_then}
+use Rattle.elf_source.specs.Reader.{AreRests, Turns, TurnsWithin}
 use Rattle.elf_source.specs.Source.{Seen, IsHonest, Faults}
 use Rattle.elf_source.specs.declared.faults.SourceFault.{SourceFault}
 use Rattle.elf_source.specs.declared.faults.SourceFault.TheVariants.{Device, Ended}
@@ -49,3 +51,57 @@ filled_all got at n out file within most same filled =
     ∙ ap (λ (k : ℕ). take k out) (sym is)
     ∙ filled
     ∙ ap (λ (k : ℕ). take k (drop at file)) is
+
+-- no turn was taken
+pub turns_none : {R : Type 0} → (one_turn : R → ℕ → ℕ → R → Type 0) (old new : R) (low high end most : ℕ) → new ≡ old → low ≤ high
+    → Turns one_turn old new low high end most
+turns_none one_turn old new low high end most same within = record { turns = []; made = same; rests = within; few = omega arith }
+
+-- turns, and one more behind them
+rests_then : (low here high end n : ℕ) (turns : List (ℕ × ℕ)) → AreRests low here end turns → here ≤ high → here + n ≡ end
+    → AreRests low high end (turns ++ (here, n) ∷ [])
+rests_then low here high end n [] within less is = (within, is, less)
+rests_then low here high end n (turn ∷ turns) rests less is = (rests.0, rests.1, rests_then turn.0 here high end n turns rests.2 less is)
+
+pub turns_then : {R : Type 0} → (one_turn : R → ℕ → ℕ → R → Type 0) (a b c : R) (low here high end most n : ℕ)
+    → Turns one_turn a b low here end most → one_turn b here n c → here ≤ high → here + n ≡ end
+    → Turns one_turn a c low high end (most + 1)
+turns_then one_turn a b c low here high end most n before turn less is = record {
+  turns = before.turns ++ (here, n) ∷ [];
+  made = made_then one_turn before.turns ((here, n) ∷ []) a b c before.made (c, turn, refl);
+  rests = rests_then low here high end n before.turns before.rests less is;
+  few = omega (arith, before.few, length-append before.turns ((here, n) ∷ []));
+}
+
+-- turns, in looser bounds
+rests_more : (low here high end : ℕ) (turns : List (ℕ × ℕ)) → AreRests low here end turns → here ≤ high → AreRests low high end turns
+rests_more low here high end [] within less = omega (arith, within, less)
+rests_more low here high end (turn ∷ turns) rests less = (rests.0, rests.1, rests_more turn.0 here high end turns rests.2 less)
+
+pub turns_more : {R : Type 0} → (one_turn : R → ℕ → ℕ → R → Type 0) (a b : R) (low here high end some most : ℕ)
+    → Turns one_turn a b low here end some → here ≤ high → some ≤ most → Turns one_turn a b low high end most
+turns_more one_turn a b low here high end some most before less more = record {
+  turns = before.turns;
+  made = before.made;
+  rests = rests_more low here high end before.turns before.rests less;
+  few = omega (arith, before.few, more);
+}
+
+-- turns, and one more into what is left of a buffer of n bytes
+pub turn_behind : {R : Type 0} → (one_turn : R → ℕ → ℕ → R → Type 0) (a b c : R) (at got n most high : ℕ) (out : List ℕ)
+    → got ≤ length out → length out ≡ n → at + got ≤ high
+    → Turns one_turn a b at (at + got) (at + n) most → one_turn b (at + got) (length (mid_of got (length out - got) out)) c
+    → Turns one_turn a c at high (at + n) (most + 1)
+turn_behind one_turn a b c at got n most high out within same less before turn =
+    let room : length (mid_of got (length out - got) out) ≡ length out - got = length-take-le (length out - got) (drop got out) (omega (arith, length-drop got out)) in
+    turns_then one_turn a b c at (at + got) high (at + n) most (length (mid_of got (length out - got) out)) before turn less (omega (arith, room, within, same))
+
+-- turns of a read, and its last one
+pub turned_at : {R : Type 0} → (one_turn : R → ℕ → ℕ → R → Type 0) (a b c : R) (at got n interrupted : ℕ) (out : List ℕ)
+    → got ≤ length out → length out ≡ n → interrupted < 64
+    → Turns one_turn a b at (at + got) (at + n) (got + interrupted) → one_turn b (at + got) (length (mid_of got (length out - got) out)) c
+    → got < n → TurnsWithin one_turn a c at n
+turned_at one_turn a b c at got n interrupted out within same few before turn more =
+    turns_more one_turn a c at (at + n) (at + n) (at + n) (got + interrupted + 1) (n + 64)
+    (turn_behind one_turn a b c at got n (got + interrupted) (at + n) out within same (omega (arith, within, same)) before turn)
+    (omega arith) (omega (arith, few, more))

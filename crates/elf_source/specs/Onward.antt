@@ -2,10 +2,10 @@
 use Rattle.std.specs.Prelude.{ℕ, ◌≡◌, ◌+◌, ◌≤◌, List, [], ◌∷◌}
 use Rattle.elf_source.specs.Source.{Seen}
 
--- reads, each at an offset and of so many bytes, lead from what was seen to what is seen
-abbrev pub AreMade : (Seen → ℕ → ℕ → Seen → Type 0) → List (ℕ × ℕ) → Seen → Seen → Type 0
+-- reads, each at an offset and of so many bytes, lead from how something stood, or was seen, to how it does
+abbrev pub AreMade : {A : Type 0} → (A → ℕ → ℕ → A → Type 0) → List (ℕ × ℕ) → A → A → Type 0
 AreMade one_read [] old new = new ≡ old
-AreMade one_read (read ∷ reads) old new = (next : Seen) × one_read old read.0 read.1 next × AreMade one_read reads next new
+AreMade {A} one_read (read ∷ reads) old new = (next : A) × one_read old read.0 read.1 next × AreMade one_read reads next new
 
 -- reads between two offsets, none of them of a byte that stands before the end of the one before
 abbrev pub AreOnward : ℕ → ℕ → List (ℕ × ℕ) → Type 0

@@ -1,7 +1,8 @@
 -- What a reader below a stream gives.
-use Rattle.std.specs.Prelude.{◌≡◌, ℕ, ◌+◌, ◌≤◌, ◌<◌, List, length, take, drop, Option, None, Some, IfSome, Result, Ok, Err, IfErr}
+use Rattle.std.specs.Prelude.{◌≡◌, ℕ, ◌+◌, ◌≤◌, ◌<◌, List, [], ◌∷◌, length, take, drop, Option, None, Some, IfSome, Result, Ok, Err, IfErr}
 use Rattle.std.specs.Io.KnownBytes.{ReadConsumes}
 use Rattle.std.specs.Io.Seek.{MovesTo}
+use Rattle.elf_source.specs.Onward.{AreMade}
 use Rattle.elf_source.specs.declared.faults.ReaderFault.{ReaderFault}
 use Rattle.elf_source.specs.declared.faults.ReaderFault.TheVariants.{Interrupted, Failed}
 
@@ -16,9 +17,27 @@ pub record Gives (file : List ℕ) (at : ℕ) (out : List ℕ) (count : ℕ) : T
   pub bytes : take count out ≡ take count (drop at file)
   pub ends : count ≡ 0 → 0 < length out → length file ≤ at
 
--- a source over a reader: what is seen of it, and how many turns of the reader were interrupted
-pub record Stream (Seen : Type 0) : Type 0 where
+-- turns that read on within a range, each at an offset and into room for so many bytes: each wants what is left of the range
+-- from where it begins, which is at or behind the one before it; they begin between two offsets
+abbrev pub AreRests : (low high end : ℕ) → List (ℕ × ℕ) → Type 0
+AreRests low high end [] = low ≤ high
+AreRests low high end (turn ∷ turns) = (low ≤ turn.0) × (turn.0 + turn.1 ≡ end) × AreRests turn.0 high end turns
+
+-- WHAT A READER WAS ASKED FOR, in turns that begin between two offsets and end at a third, so many of them at most
+pub record Turns {R : Type 0} (one_turn : R → ℕ → ℕ → R → Type 0) (old new : R) (low high end most : ℕ) : Type 0 where
+  pub turns : List (ℕ × ℕ)
+  pub made : AreMade one_turn turns old new
+  pub rests : AreRests low high end turns
+  pub few : length turns ≤ most
+
+-- a read of n bytes at an offset asks its reader for no byte outside them, and takes no more than n + 64 turns
+abbrev pub TurnsWithin : {R : Type 0} → (R → ℕ → ℕ → R → Type 0) → (old new : R) → (at n : ℕ) → Type 0
+TurnsWithin one_turn old new at n = Turns one_turn old new at (at + n) (at + n) (n + 64)
+
+-- a source over a reader: what is seen of it, the reader, and how many of its turns were interrupted
+pub record Stream (Seen R : Type 0) : Type 0 where
   pub seen : Seen
+  pub reader : R
   pub interrupted : ℕ
 
 -- where what reads and seeks stands after a read at an offset, as far as it is known: behind what it gave, or at the

@@ -29,7 +29,12 @@ impl<F: FileExt + Seek> Reader for OffsetReader<F> {
 
     ghost file = { λ _. None };
 
+    /// Nothing is known of which turns the system interrupts.
     ghost interrupted = { λ _. 0 };
+
+    /// Nothing of it changes at a turn, wherever that reads: what the system's call is handed stands in
+    /// the body alone.
+    ghost one_turn = { λ before _ _ after. after ≡ before };
 
     /// Seeks to the end, as what is below tells its position.
     fn end(&mut self) -> Result<u64, ReaderFault>

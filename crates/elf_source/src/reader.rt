@@ -16,6 +16,9 @@ pub trait Reader {
     /// How many of its turns were interrupted.
     ghost interrupted: { Self → ℕ };
 
+    /// One turn at an offset, with room for so many bytes, leads from how it stood to how it stands.
+    ghost one_turn: { Self → ℕ → ℕ → Self → Type 0 };
+
     /// The length in bytes.
     ///
     /// # Errors
@@ -34,6 +37,7 @@ pub trait Reader {
     fn read_at(&mut self, at: u64, out: &mut [u8]) -> Result<usize, ReaderFault>
         ensures same { file self.new ≡ file self.old }
         ensures turn { IsTurn (interrupted self.old) (interrupted self.new) result }
+        ensures once { one_turn self.old at (length out.old) self.new }
         ensures within { IfOk result (λ count. count ≤ length out.old) }
         ensures gives { (bytes : List ℕ) → file self.old ≡ Some bytes → IfOk result
             (Gives bytes at out.new) };

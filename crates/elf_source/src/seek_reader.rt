@@ -1,5 +1,5 @@
 //! A reader over what reads and seeks.
-ghost use Rattle.std.specs.Prelude.{◌≡◌, ◌≤◌, ◌↔◌, pos, length, None, Some, Ok, IfOk, IfErr};
+ghost use Rattle.std.specs.Prelude.{◌≡◌, ◌≤◌, ◌↔◌, ⊤, pos, length, None, Some, Ok, IfOk, IfErr};
 ghost use Rattle.std.specs.IoError.{error_kind};
 ghost use Rattle.std.specs.Io.Seek.{MovesTo, SeekMoves};
 ghost use Rattle.elf_source.specs.Reader.{Stands, SeeksAndReads};
@@ -50,7 +50,11 @@ impl<R: Seek> SeekReader<R> {
 impl<R: Read + Seek> Reader for SeekReader<R> {
     ghost file = { λ _. None };
 
+    /// Nothing is known of which turns of what is below are interrupted.
     ghost interrupted = { λ _. 0 };
+
+    /// What a turn leaves is said of `read_at`; here, nothing.
+    ghost one_turn = { λ _ _ _ _. ⊤ };
 
     /// Seeks to the end, as what is below tells its position.
     fn end(&mut self) -> Result<u64, ReaderFault>

@@ -1,5 +1,6 @@
 //! A source over a reader.
 ghost use Rattle.std.specs.Prelude.{◌≡◌, ◌+◌, ◌-◌, ◌^◌, ◌<◌, ◌≤◌, ℕ, List, Some, length, take, drop, IfOk, IfErr, OnOk, Err};
+ghost use Rattle.elf_source.specs.Reader.{TurnsWithin};
 ghost use Rattle.elf_source.specs.Source.{Keeps, Faults};
 
 use crate::faults::{INTERRUPTED_TURNS, ReaderFault, SourceFault};
@@ -25,7 +26,7 @@ impl<R: Reader> Model for StreamSource<R> {
     ghost use Rattle.elf_source.specs.Source.{Seen};
     ghost use Rattle.elf_source.specs.Reader.{Stream};
 
-    ghost Value = { Stream Seen };
+    ghost Value = { Stream Seen R };
 
     ghost view = { λ s. record {
       seen = record {
@@ -35,6 +36,7 @@ impl<R: Reader> Model for StreamSource<R> {
         sized = s.sized;
         whole = None;
       };
+      reader = s.reader;
       interrupted = R.interrupted s.reader;
     } };
 }
@@ -98,6 +100,8 @@ impl<R: Reader> Source for StreamSource<R> {
         ensures once { self.new.seen.failures ≤ self.old.seen.failures + 1 }
         // No more than 64 turns are interrupted.
         ensures few { self.new.interrupted ≤ self.old.interrupted + 64 }
+        // The reader is asked for no byte outside what is to be filled.
+        ensures turns { TurnsWithin R.one_turn self.old.reader self.new.reader at (length out.old) }
         ensures worn { self.old.seen.failures ≡ 2 ^ 64 - 1 → (result ≡ Err SourceFault.Ended)
             × (self.new ≡ self.old) }
     {
@@ -133,6 +137,7 @@ fn find_end<R: Reader>(reader: &mut R) -> Result<u64, SourceFault>
 // Fills `out` from the offset `at` on. Each turn gets a byte, ends, or is interrupted.
 fn read_all<R: Reader>(reader: &mut R, at: u64, out: &mut [u8]) -> Result<(), SourceFault>
     requires { at + length out.old < 2 ^ 64 }
+    ensures turns { TurnsWithin R.one_turn reader.old reader.new at (length out.old) }
     ensures same { R.file reader.new ≡ R.file reader.old }
     ensures few { R.interrupted reader.new ≤ R.interrupted reader.old + 64 }
     ensures slice { (file : List ℕ) → R.file reader.old ≡ Some file → OnOk result

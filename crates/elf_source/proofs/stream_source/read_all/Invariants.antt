@@ -1,5 +1,6 @@
 -- What was read so far is the file's.
 use Rattle.std.proofs.Common.{◌≡◌, ◌+◌, ◌-◌, ◌≤◌, ◌<◌, ℕ, List, Some, length, take, drop}
+use Rattle.elf_source.specs.Reader.{Turns}
 use Rattle.elf_source.proofs.stream_source.read_all.Given as goal
 
 abbrev pub invariant-loop-got : goal.invariant-loop-got
@@ -8,6 +9,7 @@ invariant-loop-got g l = record {
   few : l.interrupted < 64;
   same : g.R.Reader.file l.reader ≡ g.R.Reader.file l.fn.reader;
   counted : g.R.Reader.interrupted l.reader ≤ g.R.Reader.interrupted l.fn.reader + l.interrupted;
+  turned : Turns g.R.Reader.one_turn l.fn.reader l.reader l.at (l.at + l.got) (l.at + length l.fn.out) (l.got + l.interrupted);
   filled : (file : List ℕ) → g.R.Reader.file l.fn.reader ≡ Some file → take l.got l.out ≡ take l.got (drop l.at file);
 }
 

@@ -1,4 +1,4 @@
-use Rattle.std.proofs.Common.{ap, sym, ◌∙◌, length}
+use Rattle.std.proofs.Common.{ap, ◌∙◌, length}
 use Rattle.elf_source.specs.Source.{Counting}
 use Rattle.elf_source.proofs.HidingLaws.{read_shown, read_hidden}
 use Rattle.elf_source.proofs.counted.Counted.read.Goals as goal
