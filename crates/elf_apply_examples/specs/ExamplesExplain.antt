@@ -1,7 +1,7 @@
 -- Worked examples of what a layout lacks where the entry of a call, at 0x48, is refused.
-use Rattle.std.specs.Prelude.{◌≡◌, ◌+◌, ℕ, List, [], ◌∷◌, Option, None, Some, codes}
+use Rattle.std.specs.Prelude.{◌≡◌, ◌+◌, ℕ, List, [], ◌∷◌, ◌++◌, Option, None, Some, Ok, codes, replicate}
 use Rattle.elf_model.specs.Bytes.{little}
-use Rattle.elf_model.specs.Explain.{missing, refused_in, explained}
+use Rattle.elf_model.specs.Explain.{missing, refused_in, explained, told_name}
 use Rattle.elf_model.specs.ExplainLine.{explanation, lack_line}
 use Rattle.elf_model.specs.Fixtures.{with_bytes}
 use Rattle.elf_model.specs.FixturesApply.{one_call, two_relocation_sections, with_symbol, empty_layout, placed_layout}
@@ -70,6 +70,18 @@ TellsOfCall =
     × Tells (with_symbol 0 (little 4 0)) empty_layout Unplaced (codes "elfsee: PLT32: at:1=ADDR would help\n")
     × Tells (with_symbol 0 (little 4 9)) placed_layout Undefined []
     × Tells one_call placed_layout Overflow []
+
+-- an entry of the offset from the thread pointer has an item of its own
+abbrev pub ThreadItemHelps : Type 0
+ThreadItemHelps =
+    lack_line (record { missing = record { kind = 22; name = 1; wanted = Named Thread }; name = Whole (codes "f") })
+    ≡ codes "elfsee: GOTTPOFF to f: tpgot:f=ADDR would help\n"
+
+-- a name of 255 bytes is told whole, as an item may have it, and one more is cut
+abbrev pub NamesAreToldAsItemsHaveThem : Type 0
+NamesAreToldAsItemsHaveThem =
+    (told_name (0 ∷ replicate 255 97 ++ 0 ∷ []) 1 ≡ Ok (Whole (replicate 255 97)))
+    × (told_name (0 ∷ replicate 256 97 ++ 0 ∷ []) 1 ≡ Ok (Cut (replicate 255 97)))
 
 -- no item has a name that is cut, or is empty
 abbrev pub NoItemNames : Type 0

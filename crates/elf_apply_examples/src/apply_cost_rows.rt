@@ -1,5 +1,5 @@
 //! Worked costs of applying, each a theorem about the definitions that the prover computes.
-ghost use Rattle.elf_apply_examples.specs.ExamplesApplyCost.{CostsOfWindows, CostsOfLastWindows, CostsByOrder, EntriesThatCount, OrderLeavesOutNone, CostsOfRefusals, CostsWithoutBytes};
+ghost use Rattle.elf_apply_examples.specs.ExamplesApplyCost.{CostsOfNames, CostsOfWindows, CostsOfLastWindows, CostsByOrder, EntriesThatCount, OrderLeavesOutNone, CostsOfRefusals, CostsWithoutBytes};
 
 /// What windows of 64 bytes cost.
 #[tactic(auto, unfolding(elf_model::proofs::OnLiterals::on_literals, crate::proofs::OnExamples::on_examples))]
@@ -41,4 +41,10 @@ pub fn costs_of_refusals()
 #[tactic(auto, unfolding(elf_model::proofs::OnLiterals::on_literals, crate::proofs::OnExamples::on_examples))]
 pub fn costs_without_bytes()
     ensures { CostsWithoutBytes }
+{}
+
+/// The names of a layout, searched for and compared.
+#[tactic(auto, unfolding(elf_model::proofs::OnLiterals::on_literals, crate::proofs::OnExamples::on_examples))]
+pub fn costs_of_names()
+    ensures { CostsOfNames }
 {}

@@ -1,6 +1,6 @@
 //! What a layout lacks at an entry, computed by the prover.
 ghost use Rattle.elf_apply_examples.specs.ExamplesExplain.{NamesAreMissing, SectionsAreMissing, NothingIsMissing};
-ghost use Rattle.elf_apply_examples.specs.ExamplesExplain.{NoItemNames, SectionsOfEntries, TellsOfCall};
+ghost use Rattle.elf_apply_examples.specs.ExamplesExplain.{NamesAreToldAsItemsHaveThem, NoItemNames, SectionsOfEntries, TellsOfCall, ThreadItemHelps};
 
 /// Definitions and entries of tables.
 #[tactic(auto, unfolding(elf_model::proofs::OnLiterals::on_literals, crate::proofs::OnExamples::on_examples))]
@@ -36,4 +36,16 @@ pub fn tells_of_call()
 #[tactic(auto, unfolding(elf_model::proofs::OnLiterals::on_literals, crate::proofs::OnExamples::on_examples))]
 pub fn no_item_names()
     ensures { NoItemNames }
+{}
+
+/// The item of an offset from the thread pointer.
+#[tactic(auto, unfolding(elf_model::proofs::OnLiterals::on_literals, crate::proofs::OnExamples::on_examples))]
+pub fn thread_item_helps()
+    ensures { ThreadItemHelps }
+{}
+
+/// Names as long as an item's, and one byte longer.
+#[tactic(auto, unfolding(elf_model::proofs::OnLiterals::on_literals, crate::proofs::OnExamples::on_examples))]
+pub fn names_are_told_as_items_have_them()
+    ensures { NamesAreToldAsItemsHaveThem }
 {}

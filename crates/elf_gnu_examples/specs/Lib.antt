@@ -7,3 +7,4 @@ pub mod ExamplesRests
 pub mod ExamplesBefore
 pub mod ExamplesGnuHash
 pub mod ExamplesWanted
+pub mod ExamplesRecords

@@ -8,5 +8,6 @@ mod hash_rows;
 mod library_rows;
 mod number_rows;
 mod offered_rows;
+mod record_rows;
 mod rest_rows;
 mod wanted_rows;

@@ -35,6 +35,29 @@ NumbersAreRefused =
     × EndsIn (with_bytes 0x1c0 (little 4 0) versioned_library) 7 (codes "! 00000000000001a6 version-index\n")
     × EndsIn (with_bytes 0x1ce (little 2 1) versioned_library) 9 (codes "! 00000000000001a6 version-index\n")
 
+-- a definition that names the file itself, with another flag too, names no version; with another flag alone it does
+abbrev pub FlagsNameVersions : Type 0
+FlagsNameVersions =
+    EndsIn (with_bytes 0x1ce (little 2 3) versioned_library) 9 (codes "! 00000000000001a6 version-index\n")
+    × EndsIn (with_bytes 0x1ce (little 2 2) versioned_library) 11 (codes "X     4          5     3 - V2\n")
+
+-- the strings of the needs are those that their section links to: here they begin one byte later than those of the definitions
+abbrev pub NeedsHaveTheirStrings : Type 0
+NeedsHaveTheirStrings =
+    versions_listed
+    (with_bytes 0x498 (little 4 7) (with_bytes 0x4b4 (little 4 3) (with_bytes 0x4c8 (little 8 0x171 ++ little 8 0x2f) versioned_library)))
+    ≡ codes "V     5 DEF      1 0001 02f895ef libf.so\n"
+    ++ codes "V     5 DEF      2 0000 00000591 V1\n"
+    ++ codes "V     5 DEF      3 0000 00000592 V2\n"
+    ++ codes "V     6 FILE     0 0000 00000000 ibc.so.6\n"
+    ++ codes "V     6 NEED     4 0000 09691a75 LIBC_2.2.5\n"
+    ++ codes "X     4          0     0 - \n"
+    ++ codes "X     4          1     4 - LIBC_2.2.5\n"
+    ++ codes "X     4          2     1 - \n"
+    ++ codes "X     4          3     2 H V1\n"
+    ++ codes "X     4          4     3 - V2\n"
+    ++ codes "X     4          5     3 - V2\n"
+
 -- the section of version numbers: fewer entries than symbols, half of one, their size, no symbol table, no such section
 abbrev pub NumberTablesAreRefused : Type 0
 NumberTablesAreRefused =
@@ -190,5 +213,6 @@ VersionsCost =
     × (parts_cost GNU_ALL versioned_without_sections ≡ 1328)
     × (parts_cost VERSIONS versioned_without_sections ≡ 64)
     × (parts_cost VERSIONS (with_bytes 0x410 (little 8 8) versioned_library) ≡ 576 + 936)
+    × (parts_cost VERSIONS (with_bytes 0x410 (little 8 16) versioned_library) ≡ 1644)
     × (parts_cost VERSIONS (with_bytes 0x418 (little 4 3) versioned_library) ≡ 576 + 528)
     × (parts_cost VERSIONS (with_bytes 0x450 (little 8 0x1000) versioned_library) ≡ 576 + 588)

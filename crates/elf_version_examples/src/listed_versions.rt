@@ -1,11 +1,23 @@
 //! Worked rows of symbol versions, each computed by the prover.
-ghost use Rattle.elf_version_examples.specs.ListedVersions.{NumbersAreRefused, NumberTablesAreRefused, NumberTablesEnd, DefinitionsAreRefused, DefinitionsLeadOn, DefinitionsAreNamed, NeedsAreRefused, NeedsLeadOn, DefinitionsComeFirst, LibraryLists, LibraryListsWhole, StandardHasNone, HostileLists, NoneWithoutSections, OverlappingAreCut, VersionsCost};
+ghost use Rattle.elf_version_examples.specs.ListedVersions.{NumbersAreRefused, FlagsNameVersions, NeedsHaveTheirStrings, NumberTablesAreRefused, NumberTablesEnd, DefinitionsAreRefused, DefinitionsLeadOn, DefinitionsAreNamed, NeedsAreRefused, NeedsLeadOn, DefinitionsComeFirst, LibraryLists, LibraryListsWhole, StandardHasNone, HostileLists, NoneWithoutSections, OverlappingAreCut, VersionsCost};
 
 /// A number that no record names: of a symbol, of definitions that are none, and of one that names
 /// the file itself.
 #[tactic(auto, unfolding(elf_model::proofs::OnLiterals::on_literals, crate::proofs::OnVersionExamples::on_version_examples))]
 pub fn numbers_are_refused()
     ensures { NumbersAreRefused }
+{}
+
+/// The flags of a definition.
+#[tactic(auto, unfolding(elf_model::proofs::OnLiterals::on_literals, crate::proofs::OnVersionExamples::on_version_examples))]
+pub fn flags_name_versions()
+    ensures { FlagsNameVersions }
+{}
+
+/// Needs with other strings than the definitions.
+#[tactic(auto, unfolding(elf_model::proofs::OnLiterals::on_literals, crate::proofs::OnVersionExamples::on_version_examples))]
+pub fn needs_have_their_strings()
+    ensures { NeedsHaveTheirStrings }
 {}
 
 /// The section of version numbers: fewer entries than symbols, half of one, their size, no symbol

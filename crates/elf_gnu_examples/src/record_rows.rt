@@ -1,0 +1,32 @@
+//! Worked lookups by the records of versions, and in small tables, each computed by the prover.
+ghost use Rattle.elf_gnu_examples.specs.ExamplesRecords.{FlagsDecide, NothingIsCheckedOfNone, StringsAreTheirOwn, SmallTablesBySegments, MachinesName};
+
+/// The flags of a definition.
+#[tactic(auto, unfolding(elf_model::proofs::OnLiterals::on_literals, elf_model::proofs::OnLoader::on_loader))]
+pub fn flags_decide()
+    ensures { FlagsDecide }
+{}
+
+/// Tables of words and of definitions that have no bytes.
+#[tactic(auto, unfolding(elf_model::proofs::OnLiterals::on_literals, elf_model::proofs::OnLoader::on_loader))]
+pub fn nothing_is_checked_of_none()
+    ensures { NothingIsCheckedOfNone }
+{}
+
+/// Needs with other strings than the definitions.
+#[tactic(auto, unfolding(elf_model::proofs::OnLiterals::on_literals, elf_model::proofs::OnLoader::on_loader))]
+pub fn strings_are_their_own()
+    ensures { StringsAreTheirOwn }
+{}
+
+/// A hash table of the gABI whose segment has few bytes from it on.
+#[tactic(auto, unfolding(elf_model::proofs::OnLiterals::on_literals, elf_model::proofs::OnLoader::on_loader))]
+pub fn small_tables_by_segments()
+    ensures { SmallTablesBySegments }
+{}
+
+/// Files of other machines.
+#[tactic(auto, unfolding(elf_model::proofs::OnLiterals::on_literals, elf_model::proofs::OnLoader::on_loader))]
+pub fn machines_name()
+    ensures { MachinesName }
+{}
