@@ -1,5 +1,5 @@
 -- How a listing is made, beside how many headers are permitted and which parts it has.
-use Rattle.std.specs.Prelude.{ℕ, suc, ◌+◌, ◌&&◌, ◌||◌, nat_le, nat_lt, if◌then◌else◌, Bool, true, false, List, [], ◌∷◌}
+use Rattle.std.specs.Prelude.{ℕ, suc, ◌&&◌, ◌||◌, nat_le, nat_lt, if◌then◌else◌, Bool, true, false, List, [], ◌∷◌}
 
 -- HOW ROWS ARE SHOWN: how many bytes of a name, whether numbers of the GNU system have names too, and whether tables are found
 -- by the program headers also where there are section headers
