@@ -34,7 +34,7 @@ INSTALL = install
 INSTALL_PROGRAM = $(INSTALL) -m 755
 INSTALL_DATA = $(INSTALL) -m 644
 
-# What pkg-config tells; elfsee_version answers the same.
+# What pkg-config tells; elfsee_version and `elfsee version` tell the same. tests/one_truth compares them.
 library_version = 0.1.0
 
 .PHONY: all library check install install-program install-library install-strip uninstall

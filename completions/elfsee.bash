@@ -91,8 +91,8 @@ _elfsee() {
         esac
     fi
     case $command in
-    '') mapfile -t COMPREPLY < <(compgen -W 'show sample find apply check archive help' -- "$current") ;;
-    help) [[ $files != 0 ]] || mapfile -t COMPREPLY < <(compgen -W 'show sample find apply check archive' -- "$current") ;;
+    '') mapfile -t COMPREPLY < <(compgen -W 'show sample find apply check archive version help' -- "$current") ;;
+    help) [[ $files != 0 ]] || mapfile -t COMPREPLY < <(compgen -W 'show sample find apply check archive version' -- "$current") ;;
     show | find | archive) [[ $files != 0 ]] || _elfsee_files ;;
     check) _elfsee_files ;;
     apply)

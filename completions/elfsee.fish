@@ -1,6 +1,6 @@
 # Completion of elfsee for fish.
 
-set -l commands show sample find apply check archive help
+set -l commands show sample find apply check archive version help
 set -l listing '__fish_seen_subcommand_from show sample check archive'
 set -l parts 'header\t"the file header"
 sections\t"the section headers"
@@ -63,8 +63,9 @@ complete -c elfsee -n "not __fish_seen_subcommand_from $commands" -a find -d 'lo
 complete -c elfsee -n "not __fish_seen_subcommand_from $commands" -a apply -d 'write a section with its relocations applied'
 complete -c elfsee -n "not __fish_seen_subcommand_from $commands" -a check -d 'check many files: which are at fault, where and why'
 complete -c elfsee -n "not __fish_seen_subcommand_from $commands" -a archive -d 'list the members of an archive, and what is in each'
+complete -c elfsee -n "not __fish_seen_subcommand_from $commands" -a version -d 'tell the version of the program'
 complete -c elfsee -n "not __fish_seen_subcommand_from $commands" -a help -d 'tell of the commands and options'
-complete -c elfsee -n '__fish_seen_subcommand_from help; and test (count (commandline -opc)) -eq 2' -a 'show sample find apply check archive'
+complete -c elfsee -n '__fish_seen_subcommand_from help; and test (count (commandline -opc)) -eq 2' -a 'show sample find apply check archive version'
 complete -c elfsee -n __elfsee_wants_file -F
 complete -c elfsee -n __elfsee_wants_item -a at: -d 'the address of a section, at:INDEX=ADDR'
 complete -c elfsee -n __elfsee_wants_item -a def: -d 'the address of an undefined or common symbol, def:NAME=ADDR'

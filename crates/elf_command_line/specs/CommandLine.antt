@@ -117,5 +117,13 @@ pub record PartWords : Type 0 where
 abbrev pub archive_command : Words → App
 archive_command parts = with_rule (with_listing_options parts (new_app (codes "archive"))) file_argument
 
+-- the program, with the commands that read files
+abbrev pub with_files : PartWords → App
+with_files parts = with_subcommand (with_checks parts.listed) (archive_command parts.archived).top
+
+-- what tells the program's version, and takes no word
+abbrev pub version_command : App
+version_command = new_app (codes "version")
+
 abbrev pub program : PartWords → App
-program parts = with_subcommand (with_checks parts.listed) (archive_command parts.archived).top
+program parts = with_subcommand (with_files parts) version_command.top

@@ -7,7 +7,7 @@ ghost use Rattle.elf_command_line.specs.CommandLine.{Words};
 ghost use Rattle.elf_command_line.specs.Described.{with_commands};
 ghost use Rattle.elf_command_line.specs.CommandLine.{archive_command, check_command, program};
 ghost use Rattle.elf_command_line.specs.CommandLine.{sample_command, show_command};
-ghost use Rattle.elf_command_line.specs.CommandLine.{with_checks, without_command};
+ghost use Rattle.elf_command_line.specs.CommandLine.{with_checks, with_files, without_command};
 
 use crate::adding::{Described, command_of, new_command, with_command, with_commands};
 use crate::texts::{ABOUT, CHECKED, FOUND, ITEMS, MEMBERS, MORE};
@@ -149,6 +149,13 @@ const ARCHIVE: Described = Described {
     words: &[HEADERS, NAMES, MAX_READ, ONLY, GNU, BY_SEGMENTS, FILE],
 };
 
+const VERSION: Described = Described {
+    name: "version",
+    about: "Tell the version of this program",
+    more: "Example: elfsee version",
+    words: &[],
+};
+
 static COMMANDS: [Described; 5] = [SHOW, SAMPLE, FIND, APPLY, CHECK];
 
 /// The command line, with the names of the parts of a listing, and of those of an archive's: all
@@ -163,6 +170,21 @@ pub fn command_line<'a>(
 ) -> Result<Command<'a>, AllocError>
     ensures { IfOk result (λ command. app_of command
         ≡ program (record { listed = parts.entry; archived = member_parts.entry })) }
+{
+    match files(alloc, parts, member_parts) {
+        Ok(command) => with_command(alloc, command, &VERSION, ValueParser::Names(parts)),
+        Err(error) => Err(error),
+    }
+}
+
+/// The program, with the commands that read files.
+fn files<'a>(
+    alloc: Global,
+    parts: &'a [&'a str],
+    member_parts: &'a [&'a str],
+) -> Result<Command<'a>, AllocError>
+    ensures { IfOk result (λ command. app_of command
+        ≡ with_files (record { listed = parts.entry; archived = member_parts.entry })) }
 {
     match checks(alloc, parts) {
         Ok(command) => with_command(alloc, command, &ARCHIVE, ValueParser::Names(member_parts)),
@@ -193,7 +215,7 @@ fn program<'a>(alloc: Global) -> Result<Command<'a>, AllocError>
     ensures { IfOk result (λ command. app_of command ≡ without_command) }
 {
     let program = new_command(alloc, "elfsee", ABOUT, MORE)
-        .subcommand_value_name("show|sample|find|apply|check|archive")
+        .subcommand_value_name("show|sample|find|apply|check|archive|version")
         .no_binary_name(true)
         .subcommand_required(true)
         .arg_required_else_help(true);

@@ -14,6 +14,7 @@ Examples:
   elfsee apply example.o 1 at:1=0x401000 def:main=0x401200
   elfsee check /usr/lib
   elfsee archive --only symbols /usr/lib/x86_64-linux-gnu/libc.a
+  elfsee version
 
 Options, before or behind FILE; find and apply have only --headers, --max-read and --, find
 also --gnu, and apply --layout and --explain:

@@ -1,4 +1,4 @@
--- The listings of one file that words ask for.
+-- The listings of one file that words ask for, and the version of the program.
 use Rattle.std.specs.Prelude.{◌≡◌, ◌⊎◌, List, codes, Option, None, Some}
 use Rattle.std.specs.Borrow.{Bor}
 use Rattle.clap.specs.Walk.{Row, Text, first_of}
@@ -7,6 +7,8 @@ use Rattle.elf_listing_words.specs.Options.{AreLimits, AreParts, IsStyle}
 use Rattle.elf_listing_words.specs.Reading.{AreRead, AreRefused}
 use Rattle.elf_listing_words.specs.declared.faults.WordsFault.{WordsFault}
 use Rattle.elf_listing_words.specs.declared.listings.Listing.{Listing}
+use Rattle.elf_listing_words.specs.declared.listings.Shown.{Shown}
+use Rattle.elf_listing_words.specs.declared.listings.Shown.TheVariants.{Listed, Version}
 
 -- the file whose path stands among the values, or for `sample` none
 abbrev pub IsOfFile : Text → List Row → Option (Bor Text) → Type 0
@@ -24,15 +26,25 @@ abbrev pub ListsBy : Option (Text × List Row) → Listing → Type 0
 ListsBy None asked = ⊥
 ListsBy (Some (command, rows)) asked = IsListing command rows asked
 
--- no listing of one file is asked for
-abbrev pub NothingListed : Option (Text × List Row) → Type 0
-NothingListed matches = (asked : Listing) → ListsBy matches asked → ⊥
+-- the version of the program is asked for
+abbrev pub AsksVersion : Option (Text × List Row) → Type 0
+AsksVersion None = ⊥
+AsksVersion (Some (command, rows)) = command ≡ codes "version"
 
--- WHAT LISTING IS ASKED FOR: the command line takes the words, and what it makes of them asks for this listing
-abbrev pub ListingAsked : List Text → Listing → Type 0
-ListingAsked words asked = (matches : Option (Text × List Row)) × AreRead words matches × ListsBy matches asked
+-- a command with the values of its arguments asks for just this
+abbrev pub ShowsBy : Option (Text × List Row) → Shown → Type 0
+ShowsBy matches (Listed listing) = ListsBy matches listing
+ShowsBy matches Version = AsksVersion matches
 
--- WHY NONE IS: the command line refuses the words, or makes of them what asks for no listing of one file
-abbrev pub ListingRefused : List Text → WordsFault → Type 0
-ListingRefused words fault =
-    AreRefused words fault ⊎ ((matches : Option (Text × List Row)) × AreRead words matches × NothingListed matches × IsUnasked fault)
+-- neither a listing of one file is asked for nor the version
+abbrev pub NothingShown : Option (Text × List Row) → Type 0
+NothingShown matches = (asked : Shown) → ShowsBy matches asked → ⊥
+
+-- WHAT IS TO BE SHOWN: the command line takes the words, and what it makes of them asks for this listing, or for the version
+abbrev pub WordsShow : List Text → Shown → Type 0
+WordsShow words asked = (matches : Option (Text × List Row)) × AreRead words matches × ShowsBy matches asked
+
+-- WHY NOTHING IS: the command line refuses the words, or makes of them what asks for no listing of one file and for no version
+abbrev pub ShowsNothing : List Text → WordsFault → Type 0
+ShowsNothing words fault =
+    AreRefused words fault ⊎ ((matches : Option (Text × List Row)) × AreRead words matches × NothingShown matches × IsUnasked fault)

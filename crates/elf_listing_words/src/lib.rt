@@ -1,4 +1,4 @@
-//! Words, as the command line reads them, and the listings of one file that they ask for.
+//! Words, as the command line reads them, and what of them a program takes that only lists one file.
 #![tactic(auto)]
 
 mod faults;
@@ -8,7 +8,7 @@ mod options;
 mod reading;
 
 pub use faults::WordsFault;
-pub use listings::{Listing, listing_asked, listing_of};
+pub use listings::{Listing, Shown, listing_of, shown_asked};
 pub use nothing::unasked;
 pub use options::{
     asks_gnu, is_set, limits_of, parts_of, small_number_of, style_of, text_of, whole,

@@ -1,12 +1,12 @@
-//! The words that ask for a listing of one file.
-ghost use Rattle.std.specs.Prelude.{◌≡◌, IfErr, IfOk, IfSome, None, map};
+//! The words that ask for a listing of one file, or for the version.
+ghost use Rattle.std.specs.Prelude.{◌≡◌, IfErr, IfOk, IfSome, None, Option, Some, map};
 ghost use Rattle.clap.specs.Walk.{rows_of};
 ghost use Rattle.clap.specs.Words.{found_of, subcommand_rows_of};
 ghost use Rattle.elf_headers.specs.declared.caps.Limits.{Limits};
 ghost use Rattle.elf_headers.specs.declared.caps.Style.{Style};
-ghost use Rattle.elf_listing_words.specs.Listings.{IsListing, ListingAsked, ListingRefused, ListsBy};
 ghost use Rattle.elf_listing_words.specs.Faults.{IsUnasked};
-ghost use Rattle.elf_listing_words.specs.Listings.{NothingListed};
+ghost use Rattle.elf_listing_words.specs.Listings.{IsListing, NothingShown, ShowsBy};
+ghost use Rattle.elf_listing_words.specs.Listings.{ShowsNothing, WordsShow};
 ghost use Rattle.elf_listing_words.specs.declared.listings.Listing.{Listing};
 ghost use Rattle.elf_listing_words.specs.Options.{AreLimits, AreParts, IsStyle};
 ghost use Rattle.elf_record.specs.declared.parts.Parts.{Parts};
@@ -35,36 +35,62 @@ pub struct Listing<'a> {
     pub style: Style,
 }
 
-/// The listing that words ask for, which are those of the whole command line, without the program's
-/// name.
+/// What a program that only lists one file can be asked for.
+#[derive(Drop)]
+pub enum Shown<'a> {
+    /// A file is listed.
+    Listed(Listing<'a>),
+    /// The version of the program is told.
+    Version,
+}
+
+/// What words ask for, which are those of the whole command line, without the program's name: a listing
+/// of one file, or the version.
 ///
 /// # Errors
-/// `Told` for words that ask for no listing of one file, or for help; `Memory` where there is none for
-/// reading them.
-pub fn listing_asked<'a, S: AsStr>(alloc: Global, words: &'a [S]) -> Result<Listing<'a>, WordsFault>
-    ensures asked { IfOk result (ListingAsked (map S.text words.entry.now)) }
-    ensures refused { IfErr result (ListingRefused (map S.text words.entry.now)) }
+/// `Told` for words that ask for neither, or for help; `Memory` where there is none for reading them.
+pub fn shown_asked<'a, S: AsStr>(alloc: Global, words: &'a [S]) -> Result<Shown<'a>, WordsFault>
+    ensures asked { IfOk result (WordsShow (map S.text words.entry.now)) }
+    ensures refused { IfErr result (ShowsNothing (map S.text words.entry.now)) }
 {
     match matches_of(alloc, words) {
-        Ok(matches) => listing_by(alloc, &matches),
+        Ok(matches) => shown_by(alloc, &matches),
         Err(fault) => Err(fault),
     }
 }
 
-/// The listing that words ask for which the command line let through.
+/// What words ask for which the command line let through.
 ///
 /// # Errors
-/// They ask for none.
-fn listing_by<'a>(alloc: Global, matches: &ArgMatches<'a>) -> Result<Listing<'a>, WordsFault>
-    ensures asked { IfOk result (ListsBy (subcommand_rows_of matches.now)) }
-    ensures refused { IfErr result (λ fault. IsUnasked fault × NothingListed (subcommand_rows_of matches.now)) }
+/// They ask for no listing of one file, and not for the version.
+fn shown_by<'a>(alloc: Global, matches: &ArgMatches<'a>) -> Result<Shown<'a>, WordsFault>
+    ensures asked { IfOk result (ShowsBy (subcommand_rows_of matches.now)) }
+    ensures refused { IfErr result (λ fault.
+        IsUnasked fault × NothingShown (subcommand_rows_of matches.now)) }
 {
-    match matches.subcommand() {
-        Some((command, options)) => match listing_of(command, options) {
-            Some(listing) => Ok(listing),
-            None => Err(unasked(alloc, matches)),
-        },
+    let shown = match matches.subcommand() {
+        Some((command, options)) => shown_of(command, options),
+        None => None,
+    };
+    match shown {
+        Some(shown) => Ok(shown),
         None => Err(unasked(alloc, matches)),
+    }
+}
+
+/// What a command with these arguments asks for, or None where it asks neither for a listing of one
+/// file nor for the version.
+fn shown_of<'a>(command: &str, options: &ArgMatches<'a>) -> Option<Shown<'a>>
+    ensures some { IfSome result (ShowsBy (Some (command.now, rows_of (found_of options.now)))) }
+    ensures none { result ≡ None →
+        NothingShown (Some (command.now, rows_of (found_of options.now))) }
+{
+    match command {
+        "version" => Some(Shown::Version),
+        _ => match listing_of(command, options) {
+            Some(listing) => Some(Shown::Listed(listing)),
+            None => None,
+        },
     }
 }
 

@@ -20,7 +20,8 @@ const NO_PATH: &str = "the following required arguments were not provided:\n  <P
 const NO_GNU: &str = "the following required arguments were not provided:\n  --gnu";
 
 /// What other commands are told where only listings of one file are read.
-const NO_LISTING: &str = "of this program there are as yet only the commands show and sample";
+const NO_LISTING: &str =
+    "of this program there are as yet only the commands show, sample and version";
 
 /// The answer to words that the command line lets through though they ask for nothing: to the
 /// symbol versions alone where the listing is not of the GNU system, to `check` where it has

@@ -4,6 +4,7 @@
 mod endings;
 mod files;
 mod outputs;
+mod version;
 mod words;
 
 pub use endings::{
@@ -11,4 +12,5 @@ pub use endings::{
 };
 pub use files::open;
 pub use outputs::{OUTPUT_BYTES, TOLD_BYTES, end_answer, write_rest};
+pub use version::{tell_version, write_version};
 pub use words::{read_words, tell_words};

@@ -53,19 +53,28 @@ no_archive_fault rows (Told told) has = let e = has.0 in cc
 check_is_not_archive : codes "check" ≡ codes "archive" → ⊥
 check_is_not_archive same = cc
 
+check_is_not_version : codes "check" ≡ codes "version" → ⊥
+check_is_not_version same = cc
+
+archive_is_not_version : codes "archive" ≡ codes "version" → ⊥
+archive_is_not_version same = other_first (get_or (codes "archive") 0 0) (get_or (codes "version") 0 0) refl refl (ap (λ (text : List ℕ). get_or text 0 0) same)
+  where
+    other_first : (a b : ℕ) → a ≡ 97 → b ≡ 118 → a ≡ b → ⊥
+    other_first a b is_a is_v same = absurd (omega arith)
+
 -- where no check is asked for by `check`, nothing is
 pub nothing_by_check : (rows : List Row) → NothingChecked (Some (codes "check", rows)) → NothingAsked (Some (codes "check", rows))
 nothing_by_check rows none =
-    (record { nothing = λ request asks. no_task rows request.file request.task asks.1; faultless = no_fault rows }, none, λ asked is. check_is_not_archive is.archive)
+    (record { nothing = λ request asks. no_task rows request.file request.task asks.1; faultless = no_fault rows }, none, (λ asked is. check_is_not_archive is.archive), check_is_not_version)
 
 -- where no archive is asked for by `archive`, nothing is
 pub nothing_by_archive : (rows : List Row) → NothingArchived (Some (codes "archive", rows)) → NothingAsked (Some (codes "archive", rows))
 nothing_by_archive rows none =
-    (record { nothing = λ request asks. no_archive_task rows request.file request.task asks.1; faultless = no_archive_fault rows }, (λ asked is. check_is_not_archive (sym is.check)), none)
+    (record { nothing = λ request asks. no_archive_task rows request.file request.task asks.1; faultless = no_archive_fault rows }, (λ asked is. check_is_not_archive (sym is.check)), none, archive_is_not_version)
 
 -- where another command asks for nothing of one file, nothing is asked for
-pub nothing_by_other : (command : Text) (rows : List Row) → command ≢ codes "check" → command ≢ codes "archive" → AsksNothing (Some (command, rows)) → NothingAsked (Some (command, rows))
-nothing_by_other command rows other another nothing = (nothing, (λ asked is. other is.check), λ asked is. another is.archive)
+pub nothing_by_other : (command : Text) (rows : List Row) → command ≢ codes "check" → command ≢ codes "archive" → command ≢ codes "version" → AsksNothing (Some (command, rows)) → NothingAsked (Some (command, rows))
+nothing_by_other command rows other another third nothing = (nothing, (λ asked is. other is.check), (λ asked is. another is.archive), third)
 
 -- a fault of the words for one file is one
 pub fault_becomes : (matches : Option (Text × List Row)) (fault : RequestFault) → HasFault matches fault → Becomes matches (Err fault)
@@ -78,7 +87,10 @@ fault_becomes matches (Told told) has = has
 
 -- where a section is not applied by `apply`, nothing is asked for
 pub nothing_by_apply : (rows : List Row) → AsksNothing (Some (codes "apply", rows)) → NothingAsked (Some (codes "apply", rows))
-nothing_by_apply rows nothing = nothing_by_other (codes "apply") rows (λ same. check_is_not_apply (sym same)) apply_is_not_archive nothing
+nothing_by_apply rows nothing = nothing_by_other (codes "apply") rows (λ same. check_is_not_apply (sym same)) apply_is_not_archive apply_is_not_version nothing
   where
     apply_is_not_archive : codes "apply" ≢ codes "archive"
     apply_is_not_archive same = cc
+
+    apply_is_not_version : codes "apply" ≢ codes "version"
+    apply_is_not_version same = cc

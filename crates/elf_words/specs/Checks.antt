@@ -1,10 +1,11 @@
--- What the words of a command line ask for, of one file, of many or of an archive.
+-- What the words of a command line ask for, of one file, of many or of an archive; and the version of the program.
 use Rattle.std.specs.Prelude.{⊤, ◌≡◌, List, [], Result, Ok, Err, codes, Option, None, Some, option_map, unwrap_or}
 use Rattle.clap.specs.Walk.{Row, Text, all_of, first_of, texts}
+use Rattle.elf_listing_words.specs.Listings.{AsksVersion}
 use Rattle.elf_listing_words.specs.Options.{AreLimits, AreParts, IsStyle}
 use Rattle.elf_words.specs.Asked.{AsksBy, AsksNothing, HasFault}
 use Rattle.elf_words.specs.declared.checks.Asked.{Asked}
-use Rattle.elf_words.specs.declared.checks.Asked.TheVariants.{File, Laid, Check, Archive}
+use Rattle.elf_words.specs.declared.checks.Asked.TheVariants.{File, Laid, Check, Archive, Version}
 use Rattle.elf_words.specs.Archives.{ArchivesBy, NothingArchived}
 use Rattle.elf_words.specs.declared.checks.Checking.{Checking}
 use Rattle.elf_words.specs.declared.requests.RequestFault.{RequestFault}
@@ -46,6 +47,7 @@ IsAsked matches (File request) = AsksBy matches request × LacksList matches
 IsAsked matches (Laid laying) = AsksBy matches laying.request × HasList matches laying.list.now
 IsAsked matches (Check asked) = ChecksBy matches asked
 IsAsked matches (Archive asked) = ArchivesBy matches asked
+IsAsked matches Version = AsksVersion matches
 
 -- no check is asked for
 abbrev pub NothingChecked : Option (Text × List Row) → Type 0
@@ -53,7 +55,7 @@ NothingChecked matches = (asked : Checking) → ChecksBy matches asked → ⊥
 
 -- nothing is asked for
 abbrev pub NothingAsked : Option (Text × List Row) → Type 0
-NothingAsked matches = AsksNothing matches × NothingChecked matches × NothingArchived matches
+NothingAsked matches = AsksNothing matches × NothingChecked matches × NothingArchived matches × (AsksVersion matches → ⊥)
 
 -- what a command with the values of its arguments comes to: what is asked for, nothing, or a fault
 abbrev pub Becomes : Option (Text × List Row) → Result (Option Asked) RequestFault → Type 0

@@ -1,4 +1,4 @@
-//! What can be asked for: of one file, of many, or of an archive.
+//! What can be asked for: of one file, of many, of an archive, or the version.
 ghost use Rattle.std.specs.Prelude.{◌≡◌, ◌≤◌};
 
 use crate::requests::Request;
@@ -16,6 +16,8 @@ pub enum Asked<'a> {
     Check(Checking<'a>),
     /// The members of an archive are listed.
     Archive(Archiving<'a>),
+    /// The version of the program is told.
+    Version,
 }
 
 /// A section that is applied, with the items of a file behind those of its layout.

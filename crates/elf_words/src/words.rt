@@ -100,6 +100,7 @@ fn asked_by<'a>(
         "check" => check_asked(alloc, options),
         "archive" => Ok(archive_asked(options)),
         "apply" => apply_asked(options, layout),
+        "version" => Ok(Some(Asked::Version)),
         _ => file_asked(command, options),
     }
 }
@@ -129,13 +130,13 @@ fn with_list<'a>(options: &ArgMatches<'a>, request: Request<'a>) -> Asked<'a>
     }
 }
 
-/// What another command than `check`, `archive` and `apply` with these arguments asks for.
+/// What another command than `check`, `archive`, `version` and `apply` with these arguments asks for.
 fn file_asked<'a>(
     command: &str,
     options: &ArgMatches<'a>,
 ) -> Result<Option<Asked<'a>>, RequestFault>
     requires { (command.now ≢ codes "check") × (command.now ≢ codes "archive")
-        × (command.now ≢ codes "apply") }
+        × (command.now ≢ codes "version") × (command.now ≢ codes "apply") }
     ensures { Becomes (Some (command.now, rows_of (found_of options.now))) result }
 {
     match of_file(command, options) {

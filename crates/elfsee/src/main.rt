@@ -14,7 +14,8 @@ use archives::list_archive;
 use elf_fixtures::sample;
 use elf_layout::Layout;
 use elf_program::{
-    Ending, OUT_OF_MEMORY, OUTPUT_BYTES, end_answer, exit, open, read_words, tell_words,
+    Ending, OUT_OF_MEMORY, OUTPUT_BYTES, end_answer, exit, open, read_words, tell_version,
+    tell_words,
 };
 use elf_run::{refused, run};
 use elf_source::{Counted, MemorySource, Out, Source, WriteSink};
@@ -79,6 +80,7 @@ where
         Asked::Laid(laying) => apply_laid(rt, laying, errors),
         Asked::Check(checking) => check_many(rt, checking, terminal),
         Asked::Archive(archiving) => list_archive(rt, archiving),
+        Asked::Version => tell_version(rt),
     }
 }
 

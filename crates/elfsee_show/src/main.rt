@@ -1,14 +1,15 @@
-//! The listings of elfsee alone, which are proved and built long before all of it: the commands `show` and
-//! `sample`, of the same command line and with the same output.
+//! The listings of elfsee alone, which are proved and built long before all of it: the commands `show`,
+//! `sample` and `version`, of the same command line and with the same output.
 #![tactic(auto)]
 
 ghost use Rattle.std.specs.Prelude.{◌≡◌};
 
 use elf_fixtures::sample;
 use elf_listing::show;
-use elf_listing_words::{Listing, WordsFault, listing_asked};
+use elf_listing_words::{Listing, Shown, WordsFault, shown_asked};
 use elf_program::{
-    Ending, OUT_OF_MEMORY, OUTPUT_BYTES, end_answer, exit, open, read_words, tell_words,
+    Ending, OUT_OF_MEMORY, OUTPUT_BYTES, end_answer, exit, open, read_words, tell_version,
+    tell_words,
 };
 use elf_source::{Counted, MemorySource, Out, Source, WriteSink};
 use elf_table::{Caps, HeaderRoom, HeaderStore};
@@ -23,8 +24,8 @@ fn main(rt: HostRuntime) -> ExitCode {
     exit(&rt, answer(&rt, errors))
 }
 
-/// Reads the words, and lists what they ask for. What is wrong with words, and help, is written to
-/// `errors`.
+/// Reads the words, and lists what they ask for, or tells the version. What is wrong with words, and
+/// help, is written to `errors`.
 fn answer<R: Env + Files + Print + AllocGlobal>(rt: &R, errors: Stderr) -> Result<Ending, Ending>
 where
     R::File: FileExt,
@@ -33,8 +34,9 @@ where
         Ok(words) => words,
         Err(ending) => return Err(ending),
     };
-    match listing_asked(rt.alloc(), words.as_slice()) {
-        Ok(listing) => list(rt, &listing),
+    match shown_asked(rt.alloc(), words.as_slice()) {
+        Ok(Shown::Listed(listing)) => list(rt, &listing),
+        Ok(Shown::Version) => tell_version(rt),
         Err(WordsFault::Told(told)) => Err(tell_words(rt.alloc(), &told, errors)),
         Err(WordsFault::Memory) => Err(OUT_OF_MEMORY),
     }

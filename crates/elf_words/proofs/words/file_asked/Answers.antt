@@ -1,4 +1,4 @@
--- What another command than `check` and `archive` asks for is of one file.
+-- What another command than `check`, `archive` and `version` asks for is of one file.
 use Rattle.std.proofs.Common.{Some, Ok, subst}
 use Rattle.clap.specs.Walk.{rows_of}
 use Rattle.clap.specs.Words.{found_of}
@@ -9,7 +9,7 @@ use Rattle.elf_words.proofs.words.file_asked.Goals as goal
 pub returns-in-Ok-None : goal.returns-in-Ok-None
 returns-in-Ok-None c =
     let rows = rows_of (found_of c.args.options.now) in
-    nothing_by_other c.args.command.now rows c.requires.0 c.requires.1
+    nothing_by_other c.args.command.now rows c.requires.0 c.requires.1 c.requires.2
     (subst (λ asked. ComesTo (Some (c.args.command.now, rows)) (Ok asked)) c.in-Ok-None.field-0-is c.in-Ok-None.ensures)
 
 pub returns-in-Err : goal.returns-in-Err
