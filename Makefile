@@ -34,6 +34,11 @@ INSTALL = install
 INSTALL_PROGRAM = $(INSTALL) -m 755
 INSTALL_DATA = $(INSTALL) -m 644
 
+# The loader finds the shared library by a list of its own. Root has that made anew, where the library goes into
+# the system itself; others and packages have to see to it.
+LDCONFIG = ldconfig
+LOADER_LEARNS = if [ -z '$(DESTDIR)' ] && [ "$$(id -u)" = 0 ]; then $(LDCONFIG) || true; fi
+
 # What pkg-config tells; elfsee_version and `elfsee version` tell the same. tests/one_truth compares them.
 library_version = 0.1.0
 
@@ -72,6 +77,7 @@ install-library: library
 	    library/elfsee.pc.in >'$(DESTDIR)$(pkgconfigdir)/elfsee.pc'
 	chmod 644 '$(DESTDIR)$(pkgconfigdir)/elfsee.pc'
 	$(INSTALL_DATA) man/elfsee.3 '$(DESTDIR)$(man3dir)/elfsee.3'
+	$(LOADER_LEARNS)
 
 install-strip:
 	$(MAKE) INSTALL_PROGRAM='$(INSTALL_PROGRAM) -s' install
@@ -83,3 +89,4 @@ uninstall:
 	    '$(DESTDIR)$(libdir)/libelfsee.a' '$(DESTDIR)$(libdir)/libelfsee.so.0' \
 	    '$(DESTDIR)$(libdir)/libelfsee.so' '$(DESTDIR)$(pkgconfigdir)/elfsee.pc' \
 	    '$(DESTDIR)$(man3dir)/elfsee.3'
+	$(LOADER_LEARNS)

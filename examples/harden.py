@@ -7,8 +7,10 @@
 
 `relro` is full where the loader makes the whole of the linkage table read-only; `stack executable`
 and `text written` (relocations in code) are what one does not want; `missing` names the libraries that
-are needed and that stand in no folder where the loader looks. A file that is at fault is told with the
-cause, and the others go on. The exit status is 1 where any is at fault or misses a library.
+are needed and that stand in no folder where the loader looks. Paths and names are spelt as elfsee spells
+names, so that none of them acts on a terminal. A file that is at fault, that cannot be read, or that has a name
+of more than 4,096 bytes is told with the cause, and the others go on. The exit status is 1 where there is such
+a file, or one that misses a library.
 """
 
 import functools
@@ -24,8 +26,8 @@ DT_TEXTREL, DT_BIND_NOW, DT_FLAGS, DT_FLAGS_1 = 22, 24, 30, 0x6ffffffb
 DF_TEXTREL, DF_BIND_NOW, DF_1_NOW = 4, 8, 1
 EXEC, SHARED = 2, 3
 FOLDERS = ("/lib64", "/usr/lib64", "/lib", "/usr/lib", "/usr/local/lib")
-# How many bytes of one file may be read: the files are not trusted.
-BUDGET = 100000000
+# How many bytes of one file may be read, and of one name: the files are not trusted.
+BUDGET, LONGEST_NAME = 100000000, 4096
 
 
 @functools.lru_cache(maxsize=None)
@@ -69,26 +71,41 @@ def told_of(path, file):
     relro = "none" if PT_GNU_RELRO not in segments else "full" if now else "partial"
     return "relro %s, bind %s, stack %s, paths %s, text %s, missing %s" % (
         relro, "now" if now else "lazy", "executable" if not stack or stack.flags & EXECUTE else "plain",
-        ":".join(paths) or "none", "written" if written else "fixed", " ".join(missing) or "none"), missing
+        elfsee.spelt(":".join(paths)) or "none", "written" if written else "fixed",
+        " ".join(map(elfsee.spelt, missing)) or "none"), missing
+
+
+def checked(path):
+    """What is told of a path, if it is a program or a library, and whether that is a fault."""
+    try:
+        if os.path.islink(path) or not os.path.isfile(path):
+            return None, False
+        with open(path, "rb") as file:
+            if file.read(4) != b"\x7fELF":
+                return None, False
+        with elfsee.File(path, budget=BUDGET, longest_name=LONGEST_NAME) as file:
+            if file.header.type not in (EXEC, SHARED):
+                return None, False
+            told, missing = told_of(path, file)
+            return told, bool(missing)
+    except elfsee.Refused as refused:
+        return "refused: %s" % refused, True
+    except elfsee.Full as full:
+        return "refused: %s" % full, True
+    except OSError as error:
+        return "cannot be read: %s" % error.strerror, True
+    except MemoryError:
+        return "cannot be read: there is no memory for it", True
 
 
 def main(top):
     faults = 0
     for folder, _, names in sorted(os.walk(top)):
         for path in (os.path.join(folder, name) for name in sorted(names)):
-            try:
-                if os.path.islink(path) or not os.path.isfile(path):
-                    continue
-                with elfsee.File(path, budget=BUDGET) as file:
-                    if file.data[:4] == b"\x7fELF" and file.header.type in (EXEC, SHARED):
-                        told, missing = told_of(path, file)
-                        print("%s: %s" % (path, told))
-                        faults += bool(missing)
-            except elfsee.Refused as refused:
-                print("%s: refused: %s" % (path, refused))
-                faults += 1
-            except OSError as error:
-                print("%s: %s" % (path, error.strerror))
+            told, is_fault = checked(path)
+            if told:
+                print("%s: %s" % (elfsee.spelt(path), told))
+            faults += is_fault
     return 1 if faults else 0
 
 

@@ -1,9 +1,12 @@
-/* Looks a name up in a shared library, as a loader does that has the library's first page at BASE, and
- * prints the address of the definition:
+/* Looks a name up in a shared library, by its SysV hash table, and prints the address of the definition where
+ * the library's first page is at BASE:
  *
  *     lookup LIBRARY NAME [BASE]
  *
  *     cc lookup.c $(pkg-config --cflags --libs elfsee) -o lookup
+ *
+ * A library that has only a GNU hash table is refused. Of a name with versions the first is found that stands
+ * in its chain.
  *
  * Status 0: found; 1: there is no such definition; 2: the library cannot be used, or the words are wrong. */
 #include <elfsee.h>

@@ -1,5 +1,5 @@
 # Prints the names of a listing's lines of one kind, one a line, as the bytes that the file has: of symbols, or of
-# what `kind` says.
+# what `kind` says, which is A, D, R, S, V, X or Y.
 #
 #     elfsee show FILE | LC_ALL=C awk -f examples/names.awk
 #     elfsee show --gnu FILE | LC_ALL=C awk -v kind=V -f examples/names.awk
@@ -33,6 +33,7 @@ function bytes_of(text,    bytes, at, kind) {
 }
 # Where the name of a line begins.
 function name_at() {
+    if (kind == "A") return 43 + grown($2, 5)
     if (kind == "S") return 105
     if (kind == "R") return 64 + grown($4, 10)
     if (kind == "D") return 43 + grown($2, 5)

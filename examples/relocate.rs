@@ -20,6 +20,16 @@ fn text(error: impl Display) -> String {
     error.to_string()
 }
 
+/// A name as elfsee spells it: nothing of it acts on a terminal.
+fn spelt(name: &[u8]) -> String {
+    let spell = |&byte: &u8| match byte {
+        b'\\' => "\\\\".into(),
+        b' '..=b'~' => char::from(byte).to_string(),
+        _ => format!("\\x{byte:02x}"),
+    };
+    name.iter().map(spell).collect()
+}
+
 /// The number that a word spells, hexadecimal behind `0x`.
 fn number(word: &str) -> Result<u64, String> {
     match word.strip_prefix("0x") {
@@ -48,7 +58,7 @@ fn placed(file: &File, wanted: &[u8], mut address: u64) -> Result<(u16, Vec<Item
         }
         if section.flags & ALLOCATED != 0 {
             let start = aligned(address, &section).ok_or("the addresses are used up")?;
-            println!("{start:016x} {}", String::from_utf8_lossy(name));
+            println!("{start:016x} {}", spelt(name));
             layout.push(Item::section(index, start));
             address = start.checked_add(section.size).ok_or("the addresses are used up")?;
         }

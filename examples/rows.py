@@ -1,5 +1,7 @@
 """Reads a listing, as bytes, into rows: a letter and fields, numbers as numbers, texts as texts, names as
-bytes with whether they are whole. docs/FORMAT.md has the columns; tests/format runs this module."""
+bytes with whether they are whole. A line of `check` is its state, its place and its cause, which are None where
+the file is not refused, and its path; the last one may be the word `unnamed` and a number. docs/FORMAT.md has
+the columns; tests/format runs this module."""
 
 import re
 
@@ -14,6 +16,7 @@ FORMS = {"H": "t4 d5 x16 x16 x16 x8 d5 d5 d5",
          "D": "d5, t16 x16 n",
          "V": "d5 t4 d5 x4 x8 n",
          "X": "d5 d10, d5 t1 n",
+         "A": "d5, x16 x16 n",
          "F": "t6 d10",
          "!": "x16 t1,"}
 BYTES = {"d": "[ 0-9]{%s}", "x": "[0-9a-f]{%s}", "a": "[+-][0-9a-f]{16}", "t": "[ -~]{%s}",
@@ -26,6 +29,8 @@ def line_of(letter, form):
 
 
 LINES = {letter: line_of(letter, form) for letter, form in FORMS.items()}
+CHECKED = re.compile(f"C ([ -~]{{12}}) (?:-|([0-9a-f]{{16}}) ([a-z-]+)) ({BYTES['n']})".encode())
+UNNAMED = re.compile(b"C (unnamed) {6}([ 0-9]{10,})")
 ESCAPE = re.compile(rb"\\(\\|\+|x..)")
 
 
@@ -55,13 +60,28 @@ def field_of(form, text):
     return text.decode().strip()
 
 
+def checked_of(line):
+    """The fields of a line of `check`."""
+    found = UNNAMED.fullmatch(line)
+    if found:
+        return "unnamed", int(found[2])
+    found = CHECKED.fullmatch(line)
+    if found is None:
+        raise ValueError(line)
+    state, place, cause, path = found.groups()
+    return (state.decode().strip(), int(place, 16) if place else None, cause.decode() if cause else None,
+            name_of(path))
+
+
 def rows(lines):
-    """The rows of a listing: of each line its letter and its fields. Lines of an unknown letter
-    are passed over, as a later version may have them."""
+    """The rows of a listing, or of `check`: of each line its letter and its fields. Lines of an unknown
+    letter are passed over, as a later version may have them."""
     for line in lines:
-        letter = line[:1].decode()
-        if letter in FORMS:
-            found = LINES[letter].fullmatch(line.removesuffix(b"\n"))
+        letter, line = line[:1].decode(), line.removesuffix(b"\n")
+        if letter == "C":
+            yield letter, *checked_of(line)
+        elif letter in FORMS:
+            found = LINES[letter].fullmatch(line)
             if found is None:
                 raise ValueError(line)
             yield letter, *map(field_of, FORMS[letter].split(), found.groups())

@@ -13,7 +13,8 @@ the exceptions below.
 
 NAMES ARE BYTES, as the file has them: ELF says nothing of an encoding. Where a text is wanted,
 `name.decode("utf-8", "surrogateescape")` never fails, and the same arguments encode it back. Where a
-name is an argument it may be bytes or str; a str is encoded so.
+name is an argument it may be bytes or str; a str is encoded so. A name may hold bytes that act on a
+terminal: print `spelt(name)`.
 
 MEMORY. A path is read into memory, and bytes are taken as they are; any other buffer (bytearray,
 memoryview, mmap) is copied. So nobody can change a file while a call runs.
@@ -38,7 +39,7 @@ from typing import Any, Callable, Iterator, List, Mapping, NamedTuple, Optional,
 __all__ = [
     "ALL", "DYNAMIC", "HEADER", "NOTES", "RELOCS", "SECTIONS", "SEGMENTS", "SYMBOLS",
     "Absent", "Cause", "Dynamic", "File", "Full", "Header", "Layout", "Listing", "Lookup", "Member",
-    "Note", "Refused", "Relocation", "Section", "Segment", "Symbol", "VERSION",
+    "Note", "Refused", "Relocation", "Section", "Segment", "Symbol", "VERSION", "spelt",
 ]
 
 # The parts of a listing.
@@ -222,6 +223,16 @@ _library = _loaded()
 VERSION = tuple(_library.elfsee_version() >> bits & 255 for bits in (16, 8, 0))
 if VERSION[0] != 0:
     raise ImportError("the library elfsee has version %d.%d.%d, this module is for 0" % VERSION)
+
+
+# ---------------------------------------------------------------------------
+# How a name is told.
+
+def spelt(name: Name) -> str:
+    """A name as a listing spells it: a backslash doubled, and what is no printing ASCII character as \\x
+    and two hexadecimal digits. So nothing of it acts on a terminal."""
+    text = name.encode("utf-8", "surrogateescape") if isinstance(name, str) else bytes(name)
+    return "".join("\\\\" if byte == 92 else chr(byte) if 32 <= byte < 127 else "\\x%02x" % byte for byte in text)
 
 
 # ---------------------------------------------------------------------------
@@ -475,7 +486,8 @@ class File:
     Every call but `close` raises Refused where the file is at fault or the budget is used up, and
     ValueError where an argument is outside its range or the file is closed. Rows come up to the
     fault, and then it is raised: at the same place and for the same cause as in a listing of that
-    part.
+    part that shows all names whole. A listing that cuts a name looks no further: where such a name
+    does not end in its string table, it goes on, and here the fault is raised.
     """
 
     def __init__(self, source: Union[str, bytes, "os.PathLike[str]", Any], *,
