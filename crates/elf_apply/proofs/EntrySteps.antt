@@ -1,7 +1,7 @@
 -- What an entry gives.
 use Rattle.std.proofs.Common.{◌≡◌, ℕ, ◌+◌, nat_lt, false, List, Some, Ok, Err, arith}
 use Rattle.elf_model.specs.Apply.{Target, Fails, change_of, entry_checks, named_value}
-use Rattle.elf_model.specs.Placing.{Layout, symbol_value, linkage_value, entry_value, base_value, unnamed_value}
+use Rattle.elf_model.specs.Placing.{Layout, system_value, located_value, symbol_value, linkage_value, entry_value, base_value, unnamed_value}
 use Rattle.elf_model.specs.Records.{r_offset, r_sym}
 use Rattle.elf_model.specs.declared.relocation_types.Base.{Base}
 use Rattle.elf_model.specs.declared.relocation_types.Base.TheVariants.{Symbol, Linkage, Table, Thread}
@@ -15,7 +15,7 @@ use Rattle.elf_apply.specs.Entries.{Does, term_of}
 -- a value that is there for one entry is there for each that names the symbol
 module _ (rela rela' v : ℕ) where
   value_again : (file strings : List ℕ) (layout : Layout) (at : ℕ) → symbol_value file strings layout rela at ≡ Ok v → symbol_value file strings layout rela' at ≡ Ok v
-  unfolding symbol_value
+  unfolding symbol_value system_value located_value entry_value
   value_again file strings layout at h = grind arith
 
   linkage_again : (file strings : List ℕ) (layout : Layout) (at : ℕ) → linkage_value file strings layout rela at ≡ Ok v → linkage_value file strings layout rela' at ≡ Ok v

@@ -2,6 +2,7 @@ pub mod ApplySteps
 pub mod BudgetSteps
 pub mod CostSteps
 pub mod EntrySteps
+pub mod HeldSteps
 pub mod InOrderSteps
 pub mod NameSteps
 pub mod Opened

@@ -1,7 +1,7 @@
 //! Relocations applied to a section.
 ghost use Rattle.std.specs.Prelude.{◌≡◌, ◌+◌, ◌*◌, ◌≤◌, ◌==◌, ◌||◌, nat_lt, not, true, ℕ};
 ghost use Rattle.std.specs.Prelude.{List, length, None, Some, IfOk, IfErr};
-ghost use Rattle.elf_model.specs.Apply.{applied, has_no_bytes};
+ghost use Rattle.elf_model.specs.Apply.{applied, has_no_bytes, is_compressed};
 ghost use Rattle.elf_model.specs.ApplyCost.{apply_cost_by_order, entries_for};
 ghost use Rattle.elf_record.specs.Shdr.{IsShdr};
 ghost use Rattle.elf_source.specs.Growth.{Grows};
@@ -24,7 +24,7 @@ use crate::windows::write_windows;
 use elf_headers::{ends_outside, refused};
 use elf_layout::{Addresses, Layout};
 use elf_record::numbers::{EM_X86_64, ET_REL, SHT_NOBITS, SHT_NULL};
-use elf_record::{Cause, Refusal, Shdr};
+use elf_record::{Cause, Refusal, SectionFlags, Shdr};
 use elf_source::{Counted, Out, Sink, Source};
 use elf_table::{Fault, File, HeaderStore, Loaded, Stop, header, load};
 
@@ -57,6 +57,9 @@ fn held(file: &File<'_>, section: u16) -> Result<(u64, u64), Fault>
         return refused(0x3c, Cause::BadLink);
     }
     let found = file.section(section);
+    if is_compressed(&found) {
+        return refused(file.place(section), Cause::Unsupported);
+    }
     if has_no_bytes(&found) {
         return Ok((0, 0));
     }
@@ -80,6 +83,15 @@ fn has_no_bytes(header: &Shdr) -> bool
         result ≡ has_no_bytes bytes at }
 {
     header.sh_type == SHT_NOBITS || header.sh_type == SHT_NULL
+}
+
+/// Whether a section is compressed, so that relocation entries speak of other bytes than those that
+/// stand in the file (gABI 4, Section Compression).
+fn is_compressed(header: &Shdr) -> bool
+    ensures { (bytes : List ℕ) (at : ℕ) → IsShdr bytes at header.now →
+        result ≡ is_compressed bytes at }
+{
+    header.sh_flags & SectionFlags::COMPRESSED.0 == SectionFlags::COMPRESSED.0
 }
 
 /// Writes the section, whose bytes stand at the file offset `at`: in one pass where the offsets of
@@ -212,14 +224,15 @@ fn apply_loaded<S: Source, W: Sink>(
 /// # Errors
 /// The first refusal, with nothing written where the file is known: the header's and the load's;
 /// `NotRel` at 0x10 for a file that is not relocatable, at 0x12 for another machine; `BadLink` at
-/// 0x3c for section 0 or an index that no section has; `TableOutside` at the section's header;
-/// then, section by section of entries, its table's checks, and for each entry, at its offset,
-/// `Unsupported`, `PlaceOutside`, `BadLink`, `SymbolIndex`, `Undefined`, `Unplaced`, `Overflow`;
-/// the fault of a name that is compared is at its symbol's offset. A fault of the source or of the
-/// output: what went out is a front of the section. `Budget`, with nothing written, only where a
-/// limit is set that the cost would pass: at the offset of the read that it has no room for, or at
-/// the section's own offset in the file where what is left of it is less than what the passes that
-/// write may ask for. Then more of the limit may be left unused.
+/// 0x3c for section 0 or an index that no section has; at the section's header `Unsupported` where
+/// it is compressed, then `TableOutside`; then, section by section of entries, its table's checks,
+/// and for each entry, at its offset, `Unsupported`, `PlaceOutside`, `BadLink`, `SymbolIndex`,
+/// `Undefined` or `Unsupported` for a symbol whose value or entry is not known, `Unplaced`,
+/// `Overflow`; the fault of a name that is compared is at its symbol's offset. A fault of the source
+/// or of the output: what went out is a front of the section. `Budget`, with nothing written, only
+/// where a limit is set that the cost would pass: at the offset of the read that it has no room for,
+/// or at the section's own offset in the file where what is left of it is less than what the passes
+/// that write may ask for. Then more of the limit may be left unused.
 pub fn apply<S: Source, W: Sink>(
     src: &mut Counted<S>,
     store: &mut HeaderStore,

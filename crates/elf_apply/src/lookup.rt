@@ -3,8 +3,9 @@ ghost use Rattle.std.specs.Prelude.{◌≡◌, ◌+◌, ◌-◌, ◌<◌, ◌≤
 ghost use Rattle.std.specs.Prelude.{Some, Err, IfErr};
 ghost use Rattle.elf_model.specs.ApplyCost.{layout_names_cost, longest, lookup_cost};
 ghost use Rattle.elf_model.specs.Placing.{Searched, address_named, base_value, entry_value};
-ghost use Rattle.elf_model.specs.Placing.{linkage_value, named_or};
-ghost use Rattle.elf_model.specs.Placing.{placed_at, symbol_value, undefined_value};
+ghost use Rattle.elf_model.specs.Placing.{is_system_specific, linkage_value, located_value};
+ghost use Rattle.elf_model.specs.Placing.{named_or, placed_at, symbol_value, system_value};
+ghost use Rattle.elf_model.specs.Placing.{undefined_value};
 ghost use Rattle.elf_model.specs.Records.{st_name};
 ghost use Rattle.elf_record.specs.Sym.{IsSym};
 ghost use Rattle.elf_source.specs.Source.{Reads};
@@ -15,7 +16,8 @@ ghost use Rattle.elf_apply.specs.Costs.{ValueOrCause, ValueOrRefusal};
 
 use elf_headers::{fill, refused};
 use elf_layout::{Addresses, Among, Named, SortedNames};
-use elf_record::numbers::{SHN_UNDEF, STB_WEAK};
+use elf_record::gnu_numbers::STT_GNU_IFUNC;
+use elf_record::numbers::{SHN_UNDEF, STB_WEAK, STT_LOOS};
 use elf_record::{Cause, Place, Sym};
 use elf_reloc::Base;
 use elf_source::{Counted, Source};
@@ -194,10 +196,44 @@ fn defined_value<S: Source>(
     }
 }
 
-/// S, the value of a symbol (gABI 4, Symbol Values). Refusals that are none of its name are at the
+/// Whether a symbol is defined in the file, and what its value means is specific to the operating
+/// system or the processor (gABI 4, Symbol Types).
+#[tactic(auto, unfolding(elf_model::specs::Placing::is_system_specific))]
+fn is_system_specific(symbol: &Sym) -> bool
+    ensures { (file : List ℕ) (at : ℕ) → IsSym file at symbol.now →
+        result ≡ is_system_specific file at }
+{
+    let is_defined = matches!(symbol.place(), Place::Absolute | Place::Section(_));
+    is_defined && symbol.kind() >= STT_LOOS
+}
+
+/// S of such a symbol: of an indirect function the address of its procedure linkage table entry,
+/// where the layout has one; else the entry that names it is refused as one of a type that is not
+/// applied.
+#[tactic(auto, unfolding(elf_model::specs::Placing::system_value, elf_layout::specs::Layouts::names_for))]
+fn system_value<S: Source>(
+    src: &mut Counted<S>,
+    layout: &Addresses<'_>,
+    symbol: &Symbol,
+    entry: u64,
+) -> Result<u64, Fault>
+    requires within { StringsWithin src.old.seen.size symbol.now.names }
+    ensures reads { Reads src.old src.new (lookup_cost layout.now.lookup layout.now.linkage) }
+    ensures says { IfErr result (Says src.old src.new (lookup_cost layout.now.lookup layout.now.linkage)) }
+    ensures told { (file : List ℕ) → src.old.seen.file ≡ Some file →
+        IsSym file symbol.now.at symbol.now.fields → ValueOrRefusal result
+        (system_value file (strings_in file symbol.now.names) layout.now entry symbol.now.at) }
+{
+    if symbol.fields.kind() == STT_GNU_IFUNC {
+        return entry_value(src, layout, symbol, entry, Base::Linkage);
+    }
+    refused(entry, Cause::Unsupported)
+}
+
+/// S of any other symbol (gABI 4, Symbol Values). Refusals that are none of its name are at the
 /// entry that names it.
-#[tactic(auto, unfolding(elf_model::specs::Placing::symbol_value))]
-fn symbol_value<S: Source>(
+#[tactic(auto, unfolding(elf_model::specs::Placing::located_value))]
+fn located_value<S: Source>(
     src: &mut Counted<S>,
     layout: &Addresses<'_>,
     symbol: &Symbol,
@@ -208,7 +244,7 @@ fn symbol_value<S: Source>(
     ensures says { IfErr result (Says src.old src.new (lookup_cost layout.now.lookup layout.now.definitions)) }
     ensures told { (file : List ℕ) → src.old.seen.file ≡ Some file →
         IsSym file symbol.now.at symbol.now.fields → ValueOrRefusal result
-        (symbol_value file (strings_in file symbol.now.names) layout.now entry symbol.now.at) }
+        (located_value file (strings_in file symbol.now.names) layout.now entry symbol.now.at) }
 {
     match symbol.fields.place() {
         Place::Absolute => Ok(symbol.fields.st_value),
@@ -223,7 +259,29 @@ fn symbol_value<S: Source>(
     }
 }
 
-/// L, the address of a symbol's procedure linkage table entry, where the layout has one; else S.
+/// S, the value of a symbol.
+#[tactic(auto, unfolding(crate::proofs::Words::value))]
+fn symbol_value<S: Source>(
+    src: &mut Counted<S>,
+    layout: &Addresses<'_>,
+    symbol: &Symbol,
+    entry: u64,
+) -> Result<u64, Fault>
+    requires within { StringsWithin src.old.seen.size symbol.now.names }
+    ensures reads { Reads src.old src.new (layout_names_cost layout.now) }
+    ensures says { IfErr result (Says src.old src.new (layout_names_cost layout.now)) }
+    ensures told { (file : List ℕ) → src.old.seen.file ≡ Some file →
+        IsSym file symbol.now.at symbol.now.fields → ValueOrRefusal result
+        (symbol_value file (strings_in file symbol.now.names) layout.now entry symbol.now.at) }
+{
+    if is_system_specific(&symbol.fields) {
+        return system_value(src, layout, symbol, entry);
+    }
+    located_value(src, layout, symbol, entry)
+}
+
+/// L, the address of a symbol's procedure linkage table entry, where the layout has one; else S. An
+/// indirect function has none then, and is not looked for again.
 #[tactic(auto, unfolding(crate::proofs::Words::linkage))]
 fn linkage_value<S: Source>(
     src: &mut Counted<S>,
@@ -240,7 +298,8 @@ fn linkage_value<S: Source>(
 {
     match address_named(src, symbol, layout, Base::Linkage) {
         Ok(Some(address)) => Ok(address),
-        Ok(None) => symbol_value(src, layout, symbol, entry),
+        Ok(None) if is_system_specific(&symbol.fields) => refused(entry, Cause::Unsupported),
+        Ok(None) => located_value(src, layout, symbol, entry),
         Err(fault) => Err(fault),
     }
 }

@@ -2,6 +2,7 @@ pub mod ExamplesApply
 pub mod ExamplesApplyCost
 pub mod ExamplesApplyOrder
 pub mod ExamplesExplain
+pub mod ExamplesFunctions
 pub mod ExamplesLayouts
 pub mod ExamplesPlaces
 pub mod ExamplesTables

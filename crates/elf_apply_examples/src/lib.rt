@@ -7,6 +7,7 @@ mod apply_cost_rows;
 mod apply_order_rows;
 mod apply_rows;
 mod explain_rows;
+mod function_rows;
 mod layout_rows;
 mod listed_relocations;
 mod place_rows;

@@ -26,12 +26,12 @@ use Rattle.elf_explain.specs.declared.lacking.Lacking.{Lacking}
 use Rattle.elf_explain.proofs.NamingLaws.{unnamed}
 
 -- nothing is wanted for other causes
-wants_none : (cause : Cause) (type : RelocationType) (layout : Layout) (section : ℕ) (index : Option ℕ) → may_lack cause ≡ false → wanted cause type layout section index ≡ None
+wants_none : (cause : Cause) (type : RelocationType) (layout : Layout) (section : ℕ) (symbol : Option (ℕ × ℕ)) → may_lack cause ≡ false → wanted cause type layout section symbol ≡ None
 unfolding wanted may_lack
-wants_none Unplaced type layout section index h = absurd (cc)
-wants_none Undefined type layout section index h = absurd (cc)
-wants_none Unsupported type layout section index h = absurd (cc)
-wants_none _ type layout section index h = refl
+wants_none Unplaced type layout section symbol h = absurd (cc)
+wants_none Undefined type layout section symbol h = absurd (cc)
+wants_none Unsupported type layout section symbol h = absurd (cc)
+wants_none _ type layout section symbol h = refl
 
 misses_none : (file : List ℕ) (header : ℕ) (layout : Layout) (section : ℕ) (refusal : Refusal) → may_lack refusal.cause ≡ false
     → missing file header layout section refusal ≡ None

@@ -31,7 +31,7 @@ module _ (file : List ℕ) (header : ℕ) (layout : Layout) (section : ℕ) (ref
 
   -- the symbol is known
   pub missing_by : (named : Named) (type : RelocationType) → IsNamed file header refusal.at named → kind_of (r_type file refusal.at) ≡ Some type
-      → missing file header layout section refusal ≡ missing_of (r_type file refusal.at) named.name (wanted refusal.cause type layout section named.index)
+      → missing file header layout section refusal ≡ missing_of (r_type file refusal.at) named.name (wanted refusal.cause type layout section named.symbol)
   unfolding missing
   missing_by named type is kind = grind (arith, nat_tests, is.passed, is.zero, is.fields)
 

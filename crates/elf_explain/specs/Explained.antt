@@ -7,7 +7,7 @@ use Rattle.elf_model.specs.Explain.{Lack, missing_of, refused_in, relocates_at}
 use Rattle.elf_model.specs.Hash.{symbol_at}
 use Rattle.elf_model.specs.Names.{Shown, pad64}
 use Rattle.elf_model.specs.Names.Shown.{Whole as ShownWhole, Cut as ShownCut}
-use Rattle.elf_model.specs.Records.{r_sym, section_at, st_name, st_shndx}
+use Rattle.elf_model.specs.Records.{r_sym, section_at, st_name, st_shndx, st_type}
 use Rattle.elf_model.specs.Tables.{linked_at, strings_of}
 use Rattle.elf_model.specs.declared.causes.Cause.{Cause}
 use Rattle.elf_model.specs.declared.causes.Cause.TheVariants.{Unplaced, Undefined, Unsupported}
@@ -89,10 +89,11 @@ EntryRead file at (Err fault) = IsOfRead fault
 -- the symbol that an entry names is symbol 0, or one of the linked table's, whose names are those of its string table
 pub record IsNamed (file : List ℕ) (header rela : ℕ) (named : Named) : Type 0 where
   pub passed : first_refusal (symbol_checks file header rela) ≡ None
-  pub zero : r_sym file rela ≡ 0 → (named.name ≡ 0) × (named.index ≡ None)
+  pub zero : r_sym file rela ≡ 0 → (named.name ≡ 0) × (named.symbol ≡ None)
   pub fields : r_sym file rela ≢ 0
       → (named.name ≡ st_name file (symbol_at file (linked_at file header) (r_sym file rela)))
-      × (named.index ≡ Some (st_shndx file (symbol_at file (linked_at file header) (r_sym file rela))))
+      × (named.symbol
+      ≡ Some (st_shndx file (symbol_at file (linked_at file header) (r_sym file rela)), st_type file (symbol_at file (linked_at file header) (r_sym file rela))))
       × (strings_in file named.names ≡ strings_of file (linked_at file header))
 
 -- it was read, or is none

@@ -1,6 +1,7 @@
 //! What an entry lacks in a layout.
 ghost use Rattle.std.specs.Prelude.{◌≡◌, ◌+◌, ◌≤◌, ℕ, List, IfOk, IfSome};
-ghost use Rattle.elf_model.specs.Explain.{missing, name_wanted, place_wanted, wanted};
+ghost use Rattle.elf_model.specs.Explain.{entry_wanted, missing, name_wanted, place_wanted};
+ghost use Rattle.elf_model.specs.Explain.{system_wanted, wanted};
 ghost use Rattle.elf_model.specs.Records.{r_sym};
 ghost use Rattle.elf_headers.specs.Ledger.{Did, why_stopped};
 ghost use Rattle.elf_table.specs.Relocations.{RefersTo};
@@ -12,18 +13,19 @@ use crate::entries::Linked;
 use elf_headers::{Fault, fill};
 use elf_layout::Addresses;
 use elf_model::{Missing, Wanted};
+use elf_record::gnu_numbers::STT_GNU_IFUNC;
 use elf_record::numbers::{SHN_LORESERVE, SHN_UNDEF};
 use elf_record::{Cause, Refusal, Rela};
 use elf_reloc::{Base, Formula, RelocationType, relocation_type, takes_place};
 use elf_source::{Counted, Source};
 use elf_table::Names;
 
-/// The symbol that an entry names: where its name begins, its section index, which symbol 0 does not
-/// have, the string table of its name, and the file offset at which it stands.
+/// The symbol that an entry names: where its name begins, its section index and its type, which
+/// symbol 0 does not have, the string table of its name, and the file offset at which it stands.
 #[derive(Clone, Copy)]
 pub(crate) struct Named {
     pub(crate) name: u32,
-    pub(crate) index: Option<u16>,
+    pub(crate) symbol: Option<(u16, u8)>,
     pub(crate) names: Names,
     pub(crate) at: u64,
 }
@@ -63,7 +65,7 @@ pub(crate) fn lacking_at<S: Source>(
     let Some(named) = read_symbol(src, linked, entry.symbol())? else {
         return Ok(None);
     };
-    let wanted = wanted(refusal.cause, found, layout, section, named.index);
+    let wanted = wanted(refusal.cause, found, layout, section, named.symbol);
     Ok(lacking_of(kind, &named, wanted))
 }
 
@@ -100,7 +102,7 @@ fn read_symbol<S: Source>(
     if symbol == 0 {
         return Ok(Some(Named {
             name: 0,
-            index: None,
+            symbol: None,
             names: Names::new(0, 0),
             at: 0,
         }));
@@ -116,7 +118,7 @@ fn read_symbol<S: Source>(
     let fields = symbols.symbol(src, index)?;
     Ok(Some(Named {
         name: fields.st_name,
-        index: Some(fields.st_shndx),
+        symbol: Some((fields.st_shndx, fields.kind())),
         names,
         at,
     }))
@@ -140,22 +142,23 @@ fn lacking_of(kind: u32, named: &Named, wanted: Option<Wanted>) -> Option<Lackin
 }
 
 /// What is wanted where an entry of a type was refused for a cause, by the section index of its
-/// symbol. For want of a section's address: that of the section that is relocated where the formula
-/// takes P and it has none, else that of the symbol's section. For want of a name's: what the type's
-/// base tells of it.
+/// symbol and the symbol's type. For want of a section's address: that of the section that is
+/// relocated where the formula takes P and it has none, else that of the symbol's section. For want
+/// of a name's: what the type's base tells of it; for want of an entry: that.
 #[tactic(auto, unfolding(elf_model::specs::Explain::wanted))]
 fn wanted(
     cause: Cause,
     found: RelocationType,
     layout: &Addresses<'_>,
     section: u16,
-    index: Option<u16>,
+    symbol: Option<(u16, u8)>,
 ) -> Option<Wanted>
-    ensures { result ≡ wanted cause found layout.now section index }
+    ensures { result ≡ wanted cause found layout.now section symbol }
 {
     match cause {
-        Cause::Unplaced => place_wanted(found.formula, layout, section, index),
-        Cause::Undefined | Cause::Unsupported => name_wanted(found.base, index),
+        Cause::Unplaced => place_wanted(found.formula, layout, section, symbol),
+        Cause::Undefined => name_wanted(found.base, symbol),
+        Cause::Unsupported => entry_wanted(found.base, symbol),
         _ => None,
     }
 }
@@ -167,14 +170,14 @@ fn place_wanted(
     formula: Formula,
     layout: &Addresses<'_>,
     section: u16,
-    index: Option<u16>,
+    symbol: Option<(u16, u8)>,
 ) -> Option<Wanted>
-    ensures { result ≡ place_wanted formula layout.now section index }
+    ensures { result ≡ place_wanted formula layout.now section symbol }
 {
     if takes_place(formula) && layout.section_address(section).is_none() {
         return Some(Wanted::Place(section));
     }
-    let index = index?;
+    let (index, _) = symbol?;
     if index != SHN_UNDEF && index < SHN_LORESERVE && layout.section_address(index).is_none() {
         return Some(Wanted::Place(index));
     }
@@ -183,11 +186,37 @@ fn place_wanted(
 
 /// What a base tells of a symbol's name is wanted; nothing where the entry names symbol 0.
 #[tactic(auto, unfolding(elf_model::specs::Explain::name_wanted))]
-fn name_wanted(base: Base, index: Option<u16>) -> Option<Wanted>
-    ensures { result ≡ name_wanted base index }
+fn name_wanted(base: Base, symbol: Option<(u16, u8)>) -> Option<Wanted>
+    ensures { result ≡ name_wanted base symbol }
 {
-    match index {
+    match symbol {
         Some(_) => Some(Wanted::Named(base)),
         None => None,
     }
+}
+
+/// The entry that is wanted of a symbol where the relocation entry is not applied without: that
+/// which the base tells, where S has none; nothing where the entry names symbol 0.
+#[tactic(auto, unfolding(elf_model::specs::Explain::entry_wanted))]
+fn entry_wanted(base: Base, symbol: Option<(u16, u8)>) -> Option<Wanted>
+    ensures { result ≡ entry_wanted base symbol }
+{
+    let (_, kind) = symbol?;
+    match base {
+        Base::Symbol => system_wanted(kind),
+        Base::Linkage => Some(Wanted::Entry),
+        Base::Table | Base::Thread => Some(Wanted::Named(base)),
+    }
+}
+
+/// What S of a type that is specific to the system wants: of an indirect function its procedure
+/// linkage table entry; nothing helps with another.
+#[tactic(auto, unfolding(elf_model::specs::Explain::system_wanted))]
+fn system_wanted(kind: u8) -> Option<Wanted>
+    ensures { result ≡ system_wanted kind }
+{
+    if kind == STT_GNU_IFUNC {
+        return Some(Wanted::Entry);
+    }
+    None
 }

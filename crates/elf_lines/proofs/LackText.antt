@@ -1,8 +1,8 @@
 -- The line of what a layout lacks, by its pieces.
 use Rattle.std.proofs.Common.{◌≡◌, ℕ, ◌==◌, Bool, true, false, List, ◌++◌, length, codes, refl}
-use Rattle.elf_model.specs.ExplainLine.{entry_text, help_text, items_text, type_front}
+use Rattle.elf_model.specs.ExplainLine.{entry_item_text, entry_text, help_text, items_text, type_front, where_named}
 use Rattle.elf_model.specs.Lines.{cut_mark, escaped, name_text}
-use Rattle.elf_model.specs.declared.missing.Wanted.TheVariants.{Named}
+use Rattle.elf_model.specs.declared.missing.Wanted.TheVariants.{Entry, Named}
 use Rattle.elf_model.specs.declared.relocation_types.Base.{Base}
 use Rattle.elf_lines.specs.Pieces.{shown_as}
 use Rattle.elf_lines.proofs.NameText.{name_text-pieces}
@@ -33,18 +33,11 @@ pub help_named : (base : Base) (name : List ℕ) (is_cut : Bool) → is_cut ≡ 
     → help_text (Named base) (shown_as is_cut name) ≡ items_text base (escaped name)
 unfolding help_text name_text
 help_named base name true whole some = absurd (cc)
-help_named base name false whole some = rw (some, help_text) refl
+help_named base name false whole some = rw (some, help_text, where_named) refl
 
--- no item has the front of a name
-pub help_cut : (base : Base) (name : List ℕ) (is_cut : Bool) → is_cut ≡ true
-    → help_text (Named base) (shown_as is_cut name) ≡ codes "no item can name it\n"
-unfolding help_text
-help_cut base name true cut = refl
-help_cut base name false cut = absurd (cc)
-
--- nor an empty one
-pub help_unnamed : (base : Base) (name : List ℕ) (is_cut : Bool) → is_cut ≡ false → (length name == 0) ≡ true
-    → help_text (Named base) (shown_as is_cut name) ≡ codes "no item can name it\n"
-unfolding help_text
-help_unnamed base name true whole none = absurd (cc)
-help_unnamed base name false whole none = rw (none, help_text) refl
+-- the item of its procedure linkage table entry
+pub help_entry : (name : List ℕ) (is_cut : Bool) → is_cut ≡ false → (length name == 0) ≡ false
+    → help_text Entry (shown_as is_cut name) ≡ entry_item_text (escaped name)
+unfolding help_text name_text
+help_entry name true whole some = absurd (cc)
+help_entry name false whole some = rw (some, help_text, where_named) refl

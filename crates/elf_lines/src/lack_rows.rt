@@ -1,5 +1,5 @@
 //! The line of what a layout lacks.
-ghost use Rattle.std.specs.Prelude.{◌≡◌, ◌+◌, ◌≤◌, ◌++◌, true, decimal, length};
+ghost use Rattle.std.specs.Prelude.{◌≡◌, ◌+◌, ◌≤◌, ◌++◌, true, codes, decimal, length};
 ghost use Rattle.arrayvec.specs.ArrayVec.{array_vec_len};
 ghost use Rattle.elf_model.specs.ExplainLine.{entry_text, help_text, item_text, items_text};
 ghost use Rattle.elf_model.specs.ExplainLine.{lack_line, place_text, type_front};
@@ -89,11 +89,27 @@ fn show_help<W: Sink>(
         Wanted::Place(section) => out.put(&place_row(section)),
         Wanted::Named(base) => {
             if is_cut || name.is_empty() {
-                return out.put(b"no item can name it\n");
+                return show_no_item(out);
             }
             show_items(base, name, out)
         }
+        Wanted::Entry => {
+            if is_cut || name.is_empty() {
+                return show_no_item(out);
+            }
+            show_item(b"plt:", name, b"=ADDR would help\n", out)
+        }
     }
+}
+
+/// Writes that no item has the name, which is empty or cut.
+///
+/// # Errors
+/// A fault of the output, with a front of the text written.
+fn show_no_item<W: Sink>(out: &mut Out<W>) -> Result<(), OutFault>
+    ensures puts { Puts out.old out.new result (codes "no item can name it\n") }
+{
+    out.put(b"no item can name it\n")
 }
 
 /// The item of a section.

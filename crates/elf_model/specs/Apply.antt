@@ -1,11 +1,12 @@
 -- Relocations applied to a section of a relocatable file (gABI 4, Relocation). The header of a section stands at an
 -- offset `at` of the file, a relocation entry at an offset `rela`.
 use Rattle.std.specs.Prelude.{ℕ, zero, suc, ◌+◌, ◌==◌, ◌&&◌, ◌||◌, nat_lt, not, Bool, true, false, if◌then◌else◌, List, [], ◌∷◌, ◌++◌, length, take, drop, flat_map, Option, None, Some, Result, Ok, Err}
+use Rattle.std.specs.Int.RustNames.{bit_and}
 use Rattle.elf_model.specs.Checks.{Check, refuse, first_refusal, header_checks, load_checks, range_checks}
 use Rattle.elf_model.specs.Hash.{symbol_at}
-use Rattle.elf_model.specs.Numbers.{ET_REL, EM_X86_64, SHT_NULL, SHT_NOBITS, SHT_RELA, R_X86_64_NONE}
+use Rattle.elf_model.specs.Numbers.{ET_REL, EM_X86_64, SHT_NULL, SHT_NOBITS, SHT_RELA, SHF_COMPRESSED, R_X86_64_NONE}
 use Rattle.elf_model.specs.Placing.{Layout, base_value, unnamed_value, has_base, place_value}
-use Rattle.elf_model.specs.Records.{e_type, e_machine, e_shnum, sh_type, sh_info, r_offset, r_sym, r_type, r_addend, twos_complement, section_at}
+use Rattle.elf_model.specs.Records.{e_type, e_machine, e_shnum, sh_type, sh_flags, sh_info, r_offset, r_sym, r_type, r_addend, twos_complement, section_at}
 use Rattle.elf_model.specs.Tables.{RELA_SIZE, section_bytes, linked_at, strings_of, entry_count, entry_at, relocation_table_checks, symbol_checks_of}
 use Rattle.elf_model.specs.Values.{Terms, takes_place, kind_of, overflows, low_bytes}
 use Rattle.elf_model.specs.declared.relocation_types.Base.{Base}
@@ -16,6 +17,11 @@ use Rattle.elf_model.specs.declared.causes.Refusal.{Refusal}
 -- a section holds no bytes in the file (gABI 4, Section Types)
 abbrev pub has_no_bytes : List ℕ → ℕ → Bool
 has_no_bytes file at = sh_type file at == SHT_NOBITS || sh_type file at == SHT_NULL
+
+-- a section is compressed: relocation entries speak of other bytes than those that stand in the file (gABI 4, Section
+-- Compression)
+abbrev pub is_compressed : List ℕ → ℕ → Bool
+is_compressed file at = bit_and (sh_flags file at) SHF_COMPRESSED == SHF_COMPRESSED
 
 -- the bytes that a section holds in the file
 unfoldable pub held_bytes : List ℕ → ℕ → List ℕ
@@ -163,6 +169,7 @@ apply_checks file section =
     refuse (not (e_type file == ET_REL)) 0x10 NotRel
     ∷ refuse (not (e_machine file == EM_X86_64)) 0x12 NotRel
     ∷ refuse (section == 0 || not (nat_lt section (e_shnum file))) 0x3c BadLink
+    ∷ refuse (is_compressed file (section_at file section)) (section_at file section) Unsupported
     ∷ (if has_no_bytes file (section_at file section) then [] else range_checks file (section_at file section))
 
 -- all checks before the relocation entries, with so many headers permitted

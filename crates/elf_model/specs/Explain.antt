@@ -1,14 +1,14 @@
 -- What a layout lacks where a relocation entry was refused: the address of a section, or one that is told of a name.
-use Rattle.std.specs.Prelude.{ℕ, ◌-◌, ◌/◌, ◌==◌, ◌&&◌, ◌||◌, nat_lt, not, is_none, Bool, true, false, if◌then◌else◌, List, [], Option, None, Some, Result, Ok, Err}
+use Rattle.std.specs.Prelude.{ℕ, ◌-◌, ◌/◌, ◌==◌, ◌&&◌, nat_lt, not, is_none, Bool, true, false, if◌then◌else◌, List, [], Option, None, Some, Result, Ok, Err}
 use Rattle.elf_model.specs.Apply.{applies_to, symbol_checks}
 use Rattle.elf_model.specs.Checks.{first_refusal, pass}
 use Rattle.elf_model.specs.Find.{first_that}
 use Rattle.elf_model.specs.Hash.{symbol_at}
 use Rattle.elf_model.specs.Names.{Shown, shown}
 use Rattle.elf_model.specs.Names.Shown.{Whole}
-use Rattle.elf_model.specs.Numbers.{SHN_UNDEF, SHN_LORESERVE}
+use Rattle.elf_model.specs.Numbers.{SHN_UNDEF, SHN_LORESERVE, STT_GNU_IFUNC}
 use Rattle.elf_model.specs.Placing.{Layout, address_in}
-use Rattle.elf_model.specs.Records.{e_shnum, sh_offset, st_name, st_shndx, r_sym, r_type, section_at}
+use Rattle.elf_model.specs.Records.{e_shnum, sh_offset, st_name, st_shndx, st_type, r_sym, r_type, section_at}
 use Rattle.elf_model.specs.Tables.{RELA_SIZE, entry_at, entry_count, linked_at, relocation_table_checks, strings_of}
 use Rattle.elf_model.specs.Values.{takes_place, kind_of}
 use Rattle.elf_model.specs.declared.causes.Cause.{Cause}
@@ -16,8 +16,9 @@ use Rattle.elf_model.specs.declared.causes.Cause.TheVariants.{Unplaced, Undefine
 use Rattle.elf_model.specs.declared.causes.Refusal.{Refusal}
 use Rattle.elf_model.specs.declared.missing.Missing.{Missing}
 use Rattle.elf_model.specs.declared.missing.Wanted.{Wanted}
-use Rattle.elf_model.specs.declared.missing.Wanted.TheVariants.{Place, Named}
+use Rattle.elf_model.specs.declared.missing.Wanted.TheVariants.{Place, Named, Entry}
 use Rattle.elf_model.specs.declared.relocation_types.Base.{Base}
+use Rattle.elf_model.specs.declared.relocation_types.Base.TheVariants.{Symbol, Linkage, Table, Thread}
 use Rattle.elf_model.specs.declared.relocation_types.Formula.{Formula}
 use Rattle.elf_model.specs.declared.relocation_types.RelocationType.{RelocationType}
 
@@ -26,29 +27,42 @@ abbrev pub is_unplaced : Layout → ℕ → Bool
 is_unplaced layout section = is_none (address_in layout.sections section)
 
 -- the symbol's section, where its index is one of a section, and it has no address
-unfoldable pub symbol_place : Layout → Option ℕ → Option Wanted
+unfoldable pub symbol_place : Layout → Option (ℕ × ℕ) → Option Wanted
 symbol_place layout None = None
-symbol_place layout (Some index) =
-    if not (index == SHN_UNDEF) && nat_lt index SHN_LORESERVE && is_unplaced layout index then Some (Place index) else None
+symbol_place layout (Some symbol) =
+    if not (symbol.0 == SHN_UNDEF) && nat_lt symbol.0 SHN_LORESERVE && is_unplaced layout symbol.0 then Some (Place symbol.0) else None
 
 -- what a symbol's name wants: nothing where the entry names symbol 0
-unfoldable pub name_wanted : Base → Option ℕ → Option Wanted
+unfoldable pub name_wanted : Base → Option (ℕ × ℕ) → Option Wanted
 name_wanted base None = None
-name_wanted base (Some index) = Some (Named base)
+name_wanted base (Some symbol) = Some (Named base)
+
+-- what S of a system-specific type wants: of an indirect function its procedure linkage table entry; nothing helps with another
+unfoldable pub system_wanted : ℕ → Option Wanted
+system_wanted type = if type == STT_GNU_IFUNC then Some Entry else None
+
+-- the entry of a symbol that is wanted where the relocation entry is not applied without: that of the base, where S has none
+unfoldable pub entry_wanted : Base → Option (ℕ × ℕ) → Option Wanted
+entry_wanted base None = None
+entry_wanted Symbol (Some symbol) = system_wanted symbol.1
+entry_wanted Linkage (Some symbol) = Some Entry
+entry_wanted Table (Some symbol) = Some (Named Table)
+entry_wanted Thread (Some symbol) = Some (Named Thread)
 
 -- the section without an address: that which is relocated where the formula takes P, else the symbol's
-unfoldable pub place_wanted : Formula → Layout → ℕ → Option ℕ → Option Wanted
-place_wanted formula layout section index =
-    elim (takes_place formula && is_unplaced layout section) [ true ↦ Some (Place section) | false ↦ symbol_place layout index ]
+unfoldable pub place_wanted : Formula → Layout → ℕ → Option (ℕ × ℕ) → Option Wanted
+place_wanted formula layout section symbol =
+    elim (takes_place formula && is_unplaced layout section) [ true ↦ Some (Place section) | false ↦ symbol_place layout symbol ]
 
--- What is wanted where an entry of a type was refused for a cause, by the section index of its symbol, or none for symbol
--- 0. For want of a section's address: that of the section that is relocated where the formula takes P and it has none, else
--- that of the symbol's section. For want of a name's: what the type's base tells of it.
-unfoldable pub wanted : Cause → RelocationType → Layout → ℕ → Option ℕ → Option Wanted
-wanted Unplaced type layout section index = place_wanted type.formula layout section index
-wanted Undefined type layout section index = name_wanted type.base index
-wanted Unsupported type layout section index = name_wanted type.base index
-wanted _ type layout section index = None
+-- What is wanted where an entry of a type was refused for a cause, by the section index of its symbol and the symbol's type,
+-- or none for symbol 0. For want of a section's address: that of the section that is relocated where the formula takes P and
+-- it has none, else that of the symbol's section. For want of a name's: what the type's base tells of it; for want of an
+-- entry: that.
+unfoldable pub wanted : Cause → RelocationType → Layout → ℕ → Option (ℕ × ℕ) → Option Wanted
+wanted Unplaced type layout section symbol = place_wanted type.formula layout section symbol
+wanted Undefined type layout section symbol = name_wanted type.base symbol
+wanted Unsupported type layout section symbol = entry_wanted type.base symbol
+wanted _ type layout section symbol = None
 
 -- that, with the number of the type and the symbol's name
 unfoldable pub missing_of : ℕ → ℕ → Option Wanted → Option Missing
@@ -67,7 +81,7 @@ missing file header layout section refusal =
             let symbol = symbol_at file (linked_at file header) (r_sym file refusal.at) in
             elim (r_sym file refusal.at == 0) [
               | true ↦ missing_of (r_type file refusal.at) 0 (wanted refusal.cause type layout section None)
-              | false ↦ missing_of (r_type file refusal.at) (st_name file symbol) (wanted refusal.cause type layout section (Some (st_shndx file symbol)))
+              | false ↦ missing_of (r_type file refusal.at) (st_name file symbol) (wanted refusal.cause type layout section (Some (st_shndx file symbol, st_type file symbol)))
             ]
       ]
     ]

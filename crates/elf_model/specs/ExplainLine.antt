@@ -7,7 +7,7 @@ use Rattle.elf_model.specs.Names.{Shown}
 use Rattle.elf_model.specs.Names.Shown.{Whole, Cut}
 use Rattle.elf_model.specs.Numbers.{EM_X86_64}
 use Rattle.elf_model.specs.declared.missing.Wanted.{Wanted}
-use Rattle.elf_model.specs.declared.missing.Wanted.TheVariants.{Place, Named}
+use Rattle.elf_model.specs.declared.missing.Wanted.TheVariants.{Place, Named, Entry}
 use Rattle.elf_model.specs.declared.relocation_types.Base.{Base}
 use Rattle.elf_model.specs.declared.relocation_types.Base.TheVariants.{Symbol, Linkage, Table, Thread}
 
@@ -52,10 +52,19 @@ items_text Linkage name = item_text (codes "plt:") name (codes "=ADDR or ") ++ d
 items_text Table name = item_text (codes "got:") name (codes "=ADDR would help\n")
 items_text Thread name = item_text (codes "tpgot:") name (codes "=ADDR would help\n")
 
+-- the item of a name that gives its procedure linkage table entry, where no definition would do
+unfoldable pub entry_item_text : List ℕ → List ℕ
+entry_item_text name = item_text (codes "plt:") name (codes "=ADDR would help\n")
+
+-- some items of a name, where an item can have it
+abbrev pub where_named : Shown → List ℕ → List ℕ
+where_named name items = elim (has_no_item name) [ true ↦ codes "no item can name it\n" | false ↦ items ]
+
 -- the item that would help
 unfoldable pub help_text : Wanted → Shown → List ℕ
 help_text (Place section) name = place_text section
-help_text (Named base) name = elim (has_no_item name) [ true ↦ codes "no item can name it\n" | false ↦ items_text base (name_text name) ]
+help_text (Named base) name = where_named name (items_text base (name_text name))
+help_text Entry name = where_named name (entry_item_text (name_text name))
 
 -- the line
 unfoldable pub lack_line : Lack → List ℕ

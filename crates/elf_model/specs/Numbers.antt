@@ -103,6 +103,10 @@ DT_VERDEF = 0x6ffffffc
 abbrev pub DT_VERNEED : ℕ
 DT_VERNEED = 0x6ffffffe
 
+-- the section flag of bytes that are compressed (gABI 4, Section Attribute Flags)
+abbrev pub SHF_COMPRESSED : ℕ
+SHF_COMPRESSED = 0x800
+
 -- special section indices (gABI 4, Special Section Indexes)
 abbrev pub SHN_UNDEF : ℕ
 SHN_UNDEF = 0
@@ -144,6 +148,10 @@ STT_TLS = 6
 
 abbrev pub STT_GNU_IFUNC : ℕ
 STT_GNU_IFUNC = 10
+
+-- the first of the types whose meaning the operating system or the processor defines
+abbrev pub STT_LOOS : ℕ
+STT_LOOS = 10
 
 -- symbol visibilities (gABI 4, Symbol Visibility)
 abbrev pub STV_DEFAULT : ℕ

@@ -2,8 +2,8 @@
 -- the global offset table; and what B and P are in it (psABI 4.4, Relocation). A relocation entry stands at an offset `rela` of the file, and its symbol at another.
 use Rattle.std.specs.Prelude.{ℕ, ◌+◌, ◌%◌, ◌^◌, ◌==◌, ◌&&◌, ◌||◌, nat_lt, not, if◌then◌else◌, Bool, true, false, List, [], ◌∷◌, length, Option, None, Some, Result, Ok, Err}
 use Rattle.elf_model.specs.Names.{same}
-use Rattle.elf_model.specs.Numbers.{SHN_UNDEF, SHN_LORESERVE, SHN_ABS, SHN_COMMON, STB_WEAK}
-use Rattle.elf_model.specs.Records.{st_name, st_shndx, st_value, st_bind, r_offset}
+use Rattle.elf_model.specs.Numbers.{SHN_UNDEF, SHN_LORESERVE, SHN_ABS, SHN_COMMON, STB_WEAK, STT_GNU_IFUNC, STT_LOOS}
+use Rattle.elf_model.specs.Records.{st_name, st_shndx, st_value, st_bind, st_type, r_offset}
 use Rattle.elf_model.specs.declared.causes.Cause.{Cause}
 use Rattle.elf_model.specs.declared.causes.Cause.TheVariants.{Unplaced, Undefined, Unsupported}
 use Rattle.elf_model.specs.declared.causes.Refusal.{Refusal}
@@ -63,27 +63,51 @@ abbrev pub undefined_value : List ℕ → ℕ → ℕ → Result ℕ Refusal
 undefined_value file rela symbol =
     if st_shndx file symbol == SHN_UNDEF && st_bind file symbol == STB_WEAK then Ok 0 else refusal_at rela Undefined
 
--- S, the value of a symbol (gABI 4, Symbol Values), by its section index: its own where it is absolute; the layout's
+-- the address of a symbol's entry, where it is among some items; else the relocation entry is refused as one of a type that
+-- is not applied
+unfoldable pub entry_value : List (List ℕ × ℕ) → List ℕ → List ℕ → ℕ → ℕ → Result ℕ Refusal
+entry_value items file strings rela symbol =
+    named_or symbol (address_named strings (st_name file symbol) items) (refusal_at rela Unsupported)
+
+-- a symbol with this section index is defined in the file: in one of its sections, or as absolute (gABI 4, Special Section
+-- Indexes)
+abbrev pub is_defined : ℕ → Bool
+is_defined index = index == SHN_ABS || (not (index == SHN_UNDEF) && nat_lt index SHN_LORESERVE)
+
+-- the symbol is defined in the file, and what its value means is specific to the operating system or the processor: its type
+-- is one from STT_LOOS to STT_HIPROC (gABI 4, Symbol Types)
+unfoldable pub is_system_specific : List ℕ → ℕ → Bool
+is_system_specific file symbol = is_defined (st_shndx file symbol) && not (nat_lt (st_type file symbol) STT_LOOS)
+
+-- S of such a symbol. At the value of an indirect function stands the function that tells the address to use: calls and
+-- pointers go to its procedure linkage table entry, where the layout has one. Without one, and for any other type, the
+-- relocation entry is refused
+unfoldable pub system_value : List ℕ → List ℕ → Layout → ℕ → ℕ → Result ℕ Refusal
+system_value file strings layout rela symbol =
+    if st_type file symbol == STT_GNU_IFUNC then entry_value layout.linkage file strings rela symbol
+    else refusal_at rela Unsupported
+
+-- S of any other symbol (gABI 4, Symbol Values), by its section index: its own value where it is absolute; the layout's
 -- definition, else `undefined_value`, where it is undefined or common; else its offset from its section's address, and
 -- reserved indices have no address
-unfoldable pub symbol_value : List ℕ → List ℕ → Layout → ℕ → ℕ → Result ℕ Refusal
-symbol_value file strings layout rela symbol =
+unfoldable pub located_value : List ℕ → List ℕ → Layout → ℕ → ℕ → Result ℕ Refusal
+located_value file strings layout rela symbol =
     let index = st_shndx file symbol in
     if index == SHN_ABS then Ok (st_value file symbol)
     else if index == SHN_UNDEF || index == SHN_COMMON then
     named_or symbol (address_named strings (st_name file symbol) layout.definitions) (undefined_value file rela symbol)
     else placed_at rela (if nat_lt index SHN_LORESERVE then address_in layout.sections index else None) (st_value file symbol)
 
+-- S, the value of a symbol
+unfoldable pub symbol_value : List ℕ → List ℕ → Layout → ℕ → ℕ → Result ℕ Refusal
+symbol_value file strings layout rela symbol =
+    if is_system_specific file symbol then system_value file strings layout rela symbol
+    else located_value file strings layout rela symbol
+
 -- L, the address of a symbol's procedure linkage table entry, where the layout has one; else S
 unfoldable pub linkage_value : List ℕ → List ℕ → Layout → ℕ → ℕ → Result ℕ Refusal
 linkage_value file strings layout rela symbol =
     named_or symbol (address_named strings (st_name file symbol) layout.linkage) (symbol_value file strings layout rela symbol)
-
--- the address of a symbol's entry, where it is among some items; else the entry is refused as one of a type that is not
--- applied
-unfoldable pub entry_value : List (List ℕ × ℕ) → List ℕ → List ℕ → ℕ → ℕ → Result ℕ Refusal
-entry_value items file strings rela symbol =
-    named_or symbol (address_named strings (st_name file symbol) items) (refusal_at rela Unsupported)
 
 -- B, the address of a symbol that a base tells
 unfoldable pub base_value : Base → List ℕ → List ℕ → Layout → ℕ → ℕ → Result ℕ Refusal

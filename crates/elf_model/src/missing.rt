@@ -8,6 +8,8 @@ pub enum Wanted {
     Place(u16),
     /// That which a base tells of a symbol's name.
     Named(Base),
+    /// That of the procedure linkage table entry of a symbol's name, where no definition would do.
+    Entry,
 }
 
 /// What a relocation entry was refused for want of.

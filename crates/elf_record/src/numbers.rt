@@ -97,6 +97,8 @@ pub const STT_FILE: u8 = 4;
 pub const STT_COMMON: u8 = 5;
 /// The symbol type of thread-local data.
 pub const STT_TLS: u8 = 6;
+/// The first of the symbol types whose meaning is specific to the operating system or the processor.
+pub const STT_LOOS: u8 = 10;
 
 /// The visibility that the binding gives (gABI 4, Symbol Visibility).
 pub const STV_DEFAULT: u8 = 0;
