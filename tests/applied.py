@@ -3,7 +3,9 @@ module. It is written for plainness alone, and reads whole files. looked_up.py h
 
 import struct
 
-SYMBOL_TABLES, STRTAB, RELA, NO_BYTES = (2, 11), 3, 4, (0, 8)
+SYMBOL_TABLES, STRTAB, RELA, NO_BYTES, COMPRESSED = (2, 11), 3, 4, (0, 8), 0x800
+# The types of symbols from the first on that is specific to a system, and the one of those that names an indirect function.
+OF_SYSTEM, INDIRECT = 10, 10
 # Of each type that is applied: its bytes, what stands in its formula, and between what bounds a value fits. G is the
 # address of the symbol's entry in the global offset table, T that of the entry of its offset from the thread pointer.
 SIGNED = (-2 ** 31, 2 ** 31)
@@ -40,7 +42,7 @@ class Header:
 
     def __init__(self, content, at):
         self.at, self.length = at, len(content)
-        (_, self.type, _, _, self.offset, self.size, self.link, self.info, _,
+        (_, self.type, self.flags, _, self.offset, self.size, self.link, self.info, _,
          self.entry) = struct.unpack_from("<IIQQQQIIQQ", content, at)
 
     def check_inside(self):
@@ -136,6 +138,10 @@ class Section:
 
     def symbol_value(self, strings, at, entry):
         _, info, _, place, value, _ = struct.unpack_from("<IBBHQQ", self.content, at)
+        if info % 16 >= OF_SYSTEM and (place == 0xfff1 or 0 < place < 0xff00):
+            found = self.named(strings, at, self.layout.named["plt"]) if info % 16 == INDIRECT else None
+            refuse_where(found is None, entry, "unsupported")
+            return found
         if place == 0xfff1:
             return value
         if place in (0, 0xfff2):
@@ -196,6 +202,7 @@ def applied(content, index, layout, most):
     refuse_where(machine != 62, 0x12, "not-rel")
     refuse_where(index == 0 or index >= len(headers), 0x3c, "bad-link")
     header, text = headers[index], bytearray()
+    refuse_where(header.flags & COMPRESSED, header.at, "unsupported")
     if header.type not in NO_BYTES:
         header.check_inside()
         text = bytearray(content[header.offset:header.offset + header.size])

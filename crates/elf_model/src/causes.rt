@@ -43,7 +43,8 @@ pub enum Cause {
     HashIndex,
     /// A chain of a hash table comes back to itself.
     HashCycle,
-    /// A relocation type that is not applied.
+    /// A relocation entry that is not applied: for its type, for its symbol's type, or for want of an
+    /// entry of its symbol; or a section that is compressed.
     Unsupported,
     /// A value that does not fit the bytes that it is to be stored in.
     Overflow,
