@@ -110,7 +110,8 @@ name_field file at = slice file at 16
 -- how many bytes at the front of a member's data are its name, where the name's field tells it as BSD's `ar` does: `#1/` and a
 -- decimal number (FreeBSD's ar(5))
 unfoldable pub bsd_name_size : List ℕ → Option ℕ
-bsd_name_size bytes = if field bytes 0 3 == 0x2f3123 then padded_decimal (slice bytes 3 13) else None
+bsd_name_size bytes =
+    if slice_index bytes 0 == 35 && slice_index bytes 1 == 49 && slice_index bytes 2 == 47 then padded_decimal (slice bytes 3 13) else None
 
 -- how many bytes of a member's data its name takes
 unfoldable pub name_in_data : List ℕ → ℕ
