@@ -1,14 +1,12 @@
 -- What the calls did that list the members of an archive.
-use Rattle.std.specs.Prelude.{ℕ, ◌≡◌, ◌<◌, ◌≤◌, ◌+◌, ◌-◌, ◌*◌, ◌/◌, ◌^◌, min, is_some, Bool, true, false, List, [], ◌∷◌, Option, None, Some, Result, Ok, Err, IfErr, IfOk, IfSome}
+use Rattle.std.specs.Prelude.{ℕ, ◌≡◌, ◌<◌, ◌≤◌, ◌+◌, ◌-◌, ◌^◌, min, is_some, Bool, true, false, List, [], ◌∷◌, Option, None, Some, Result, Ok, Err, IfErr, IfOk, IfSome}
 use Rattle.std.specs.List.{list_any}
 use Rattle.elf_model.specs.Archive.{Member, Next, Ends, Broken, OneMember, Progress, archive_length_checks, behind, is_refused, member_items, members_from, next_member, told, walk_items}
-use Rattle.elf_model.specs.ArchiveCost.{IsArchiveBudgeted, allowance, any_refused, archive_ceiling, header_cost, long_name_bytes, member_cost, members_cost}
+use Rattle.elf_model.specs.ArchiveCost.{IsArchiveBudgeted, allowance, any_refused, archive_ceiling, header_cost, member_cost, members_cost}
 use Rattle.elf_model.specs.Budget.{IsBudget}
 use Rattle.elf_model.specs.Checks.{first_refusal}
-use Rattle.elf_model.specs.Cost.{ceiling}
 use Rattle.elf_model.specs.Lines.{refusal_line}
 use Rattle.elf_model.specs.Listing.{Item, Fault, fault_of}
-use Rattle.elf_model.specs.Names.{name_bytes}
 use Rattle.elf_model.specs.Style.{Style}
 use Rattle.elf_model.specs.declared.causes.Refusal.{Refusal}
 use Rattle.elf_source.specs.Source.{Counting, Faults, OverLimit, Reads}
