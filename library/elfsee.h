@@ -307,7 +307,8 @@ struct elfsee_members {
 };
 
 /* A member of an archive. Its bytes lie in the file: `content` is its data, which may be passed to
- * each call as a file of its own; and `name` its name, or the first 4,096 bytes of it. */
+ * each call as a file of its own; and `name` its name, or the first 4,096 bytes of it. Where the name
+ * stands at the front of the data, as BSD's `ar` writes it, `content` begins behind it. */
 struct elfsee_member {
     uint64_t at; /* the file offset of its header */
     struct elfsee_range content, name;

@@ -387,8 +387,8 @@ class Dynamic(NamedTuple):
 
 class Member(NamedTuple):
     """A member of an archive. `at` is the offset of its header, `offset` that of its data, and `content`
-    are these bytes of the archive, not copied: `File(member.content)` is the file that they are.
-    `is_cut` tells that its name has more bytes than the 4,096 of `name`."""
+    are these bytes of the archive, not copied: `File(member.content)` is the file that they are. Where the
+    name stands at the front of the data, as BSD's `ar` writes it, they begin behind it. `is_cut` tells that its name has more bytes than the 4,096 of `name`."""
 
     name: bytes
     at: int

@@ -1,8 +1,8 @@
 -- What reads one after another ask for.
-use Rattle.std.proofs.Common.{ℕ, ◌+◌, ◌≤◌, ◌≡◌, nat_le, Bool, true, false, Result, Ok, Err, List, take, length, is_some, refl, sym, ap, arith}
+use Rattle.std.proofs.Common.{ℕ, ◌+◌, ◌≤◌, ◌≡◌, nat_le, Bool, true, false, Result, Ok, Err, List, take, length, refl, sym, ap, arith}
 use Rattle.std.proofs.lemmas.Bool.Decides.{nat_tests}
-use Rattle.elf_model.specs.Archive.{Progress, long_offset, name_field}
-use Rattle.elf_model.specs.ArchiveCost.{header_cost, long_name_bytes}
+use Rattle.elf_model.specs.Archive.{Progress, name_field}
+use Rattle.elf_model.specs.ArchiveCost.{header_cost, is_elsewhere, long_name_bytes}
 use Rattle.elf_model.specs.Bytes.{slice}
 use Rattle.elf_model.specs.Cost.{cost_where}
 use Rattle.elf_source.specs.Source.{Counting, Reads}
@@ -40,14 +40,14 @@ where_most false n = omega arith
 
 -- what a header costs at most
 pub name_most : (header : List ℕ) (cap : ℕ) → name_cost header cap ≤ long_name_bytes cap
-name_most header cap = where_most (is_some (long_offset (take 16 header))) (long_name_bytes cap)
+name_most header cap = where_most (is_elsewhere (take 16 header)) (long_name_bytes cap)
 
 pub header_some : (file header : List ℕ) (cap at : ℕ) (p : Progress) → p.at ≡ at → header ≡ slice file at 60 → at + 60 ≤ length file → header_cost file cap p ≡ 60 + name_cost header cap
 unfolding header_cost
 header_some file header cap at p is read room =
-    let same : name_cost header cap ≡ cost_where (is_some (long_offset (name_field file at))) (long_name_bytes cap) =
-    ap (λ field. cost_where (is_some (long_offset field)) (long_name_bytes cap)) (name-of file header at read) in
-    rw (is, where_room at (length file) (60 + cost_where (is_some (long_offset (name_field file at))) (long_name_bytes cap)) room, same) refl
+    let same : name_cost header cap ≡ cost_where (is_elsewhere (name_field file at)) (long_name_bytes cap) =
+    ap (λ field. cost_where (is_elsewhere field) (long_name_bytes cap)) (name-of file header at read) in
+    rw (is, where_room at (length file) (60 + cost_where (is_elsewhere (name_field file at)) (long_name_bytes cap)) room, same) refl
 
 pub header_least : (file : List ℕ) (cap : ℕ) (p : Progress) → cost_where (nat_le (p.at + 60) (length file)) 60 ≤ header_cost file cap p
 unfolding header_cost

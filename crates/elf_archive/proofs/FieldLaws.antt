@@ -8,33 +8,33 @@ use Rattle.std.proofs.Math.Nat.{pow-le-pow_right, pow-succ'}
 use Rattle.std.proofs.Math.Seq.{drop-cons, take-suc}
 use Rattle.std.proofs.lemmas.Bool.Decides.{nat_tests}
 use Rattle.memchr.specs.Find.{IsFirstByte, is_byte}
-use Rattle.elf_model.specs.Archive.{are_spaces, digits_then_spaces, is_decimal, trimmed}
+use Rattle.elf_model.specs.Archive.{are_all, digits_then_spaces, is_decimal, trimmed}
 
 and-false : (t : Bool) → (t && false) ≡ false
 and-false true = refl
 and-false false = refl
 
--- a space more at the end changes nothing of spaces
-spaces-more : (xs : List ℕ) → are_spaces (xs ++ 32 ∷ []) ≡ are_spaces xs
-spaces-more [] = refl
-spaces-more (x ∷ xs) = ap (λ (b : Bool). (x == 32) && b) (spaces-more xs)
+-- a byte more at the end changes nothing of bytes that are all this one
+all-more : (byte : ℕ) (xs : List ℕ) → are_all byte (xs ++ byte ∷ []) ≡ are_all byte xs
+all-more byte [] = let same : (byte == byte) ≡ true = grind (arith, nat_tests) in ap (λ (t : Bool). t && true) same
+all-more byte (x ∷ xs) = ap (λ (b : Bool). (x == byte) && b) (all-more byte xs)
 
--- and another byte at the end makes them other bytes
-spaces-end : (xs : List ℕ) (b : ℕ) → (b == 32) ≡ false → are_spaces (xs ++ b ∷ []) ≡ false
-spaces-end [] b other = ap (λ (t : Bool). t && true) other
-spaces-end (x ∷ xs) b other = ap (λ (t : Bool). (x == 32) && t) (spaces-end xs b other) ∙ and-false (x == 32)
+-- and another one at the end makes them other bytes
+all-end : (byte : ℕ) (xs : List ℕ) (b : ℕ) → (b == byte) ≡ false → are_all byte (xs ++ b ∷ []) ≡ false
+all-end byte [] b other = ap (λ (t : Bool). t && true) other
+all-end byte (x ∷ xs) b other = ap (λ (t : Bool). (x == byte) && t) (all-end byte xs b other) ∙ and-false (x == byte)
 
--- a space at the end is dropped
-pub trimmed-more : (xs : List ℕ) → trimmed (xs ++ 32 ∷ []) ≡ trimmed xs
+-- such a byte at the end is dropped
+pub trimmed-more : (byte : ℕ) (xs : List ℕ) → trimmed byte (xs ++ byte ∷ []) ≡ trimmed byte xs
 unfolding trimmed
-trimmed-more [] = refl
-trimmed-more (x ∷ xs) = rw (spaces-more (x ∷ xs), trimmed-more xs) refl
+trimmed-more byte [] = rw (all-more byte []) refl
+trimmed-more byte (x ∷ xs) = rw (all-more byte (x ∷ xs), trimmed-more byte xs) refl
 
 -- bytes that end in another byte stay
-pub trimmed-ends : (xs : List ℕ) (b : ℕ) → (b == 32) ≡ false → trimmed (xs ++ b ∷ []) ≡ xs ++ b ∷ []
+pub trimmed-ends : (byte : ℕ) (xs : List ℕ) (b : ℕ) → (b == byte) ≡ false → trimmed byte (xs ++ b ∷ []) ≡ xs ++ b ∷ []
 unfolding trimmed
-trimmed-ends [] b other = rw other refl
-trimmed-ends (x ∷ xs) b other = rw (spaces-end (x ∷ xs) b other, trimmed-ends xs b other) refl
+trimmed-ends byte [] b other = rw other refl
+trimmed-ends byte (x ∷ xs) b other = rw (all-end byte (x ∷ xs) b other, trimmed-ends byte xs b other) refl
 
 -- a digit more keeps a number of so many digits small
 pub digit_more : (number digit place : ℕ) → number < 10 ^ place → digit ≤ 9 → 10 * number + digit < 10 ^ (place + 1)
@@ -54,7 +54,7 @@ digits-more number field place within is =
 
 -- another byte, and what stands behind it
 pub digits-stop : (number : ℕ) (field : List ℕ) (place : ℕ) → place < length field → is_decimal (get_or field place 0) ≡ false
-    → digits_then_spaces number (drop place field) ≡ (if are_spaces (drop place field) then Some number else None)
+    → digits_then_spaces number (drop place field) ≡ (if are_all 32 (drop place field) then Some number else None)
 unfolding digits_then_spaces
 digits-stop number field place within is =
     rw (drop-cons field place 0 within, is) refl
@@ -91,19 +91,20 @@ front_more bytes end some within =
     let e : end ≡ suc (end - 1) = omega arith in
     ap (λ n. take n bytes) e ∙ take-suc bytes (end - 1) 0 (omega arith)
 
-pub trimmed-at : (bytes : List ℕ) (end : ℕ) → 0 < end → end ≤ length bytes → get_or bytes (end - 1) 0 ≡ 32 → trimmed (take (end - 1) bytes) ≡ trimmed (take end bytes)
-trimmed-at bytes end some within is =
-    sym (ap trimmed (front_more bytes end some within ∙ ap (λ b. take (end - 1) bytes ++ b ∷ []) is) ∙ trimmed-more (take (end - 1) bytes))
+pub trimmed-at : (byte : ℕ) (bytes : List ℕ) (end : ℕ) → 0 < end → end ≤ length bytes → get_or bytes (end - 1) 0 ≡ byte
+    → trimmed byte (take (end - 1) bytes) ≡ trimmed byte (take end bytes)
+trimmed-at byte bytes end some within is =
+    sym (ap (trimmed byte) (front_more bytes end some within ∙ ap (λ b. take (end - 1) bytes ++ b ∷ []) is) ∙ trimmed-more byte (take (end - 1) bytes))
 
-pub trimmed-whole : (bytes : List ℕ) (end : ℕ) → 0 < end → end ≤ length bytes → get_or bytes (end - 1) 0 ≢ 32 → take end bytes ≡ trimmed (take end bytes)
-trimmed-whole bytes end some within other =
-    let no : (get_or bytes (end - 1) 0 == 32) ≡ false = grind (arith, nat_tests) in
+pub trimmed-whole : (byte : ℕ) (bytes : List ℕ) (end : ℕ) → 0 < end → end ≤ length bytes → get_or bytes (end - 1) 0 ≢ byte → take end bytes ≡ trimmed byte (take end bytes)
+trimmed-whole byte bytes end some within other =
+    let no : (get_or bytes (end - 1) 0 == byte) ≡ false = grind (arith, nat_tests) in
     let front = front_more bytes end some within in
-    front ∙ sym (ap trimmed front ∙ trimmed-ends (take (end - 1) bytes) (get_or bytes (end - 1) 0) no)
+    front ∙ sym (ap (trimmed byte) front ∙ trimmed-ends byte (take (end - 1) bytes) (get_or bytes (end - 1) 0) no)
 
-pub trimmed-none : (bytes : List ℕ) (end : ℕ) → end ≡ 0 → take end bytes ≡ trimmed (take end bytes)
+pub trimmed-none : (byte : ℕ) (bytes : List ℕ) (end : ℕ) → end ≡ 0 → take end bytes ≡ trimmed byte (take end bytes)
 unfolding trimmed
-trimmed-none bytes end none = rw none refl
+trimmed-none byte bytes end none = rw none refl
 
 pub digit_nine : (byte : ℕ) → is_decimal byte ≡ true → byte - 48 ≤ 9
 digit_nine byte is = grind (arith, nat_tests)

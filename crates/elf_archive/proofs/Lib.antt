@@ -7,7 +7,6 @@ mod AskLaws
 mod ConsumeLaws
 mod NarrowLaws
 mod ToldLaws
-mod AllowanceLaws
 mod WalkLaws
 mod ListingLaws
 mod ArchiveLaws

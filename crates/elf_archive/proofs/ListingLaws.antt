@@ -2,7 +2,7 @@
 use Rattle.std.proofs.Common.{◌≡◌, ℕ, ◌+◌, ◌-◌, ◌≤◌, nat_le, Bool, true, false, List, [], ◌∷◌, Err, refl, ap, ◌∙◌, subst, arith}
 use Rattle.std.proofs.lemmas.Bool.Decides.{nat_tests}
 use Rattle.elf_model.specs.Archive.{Extent, Member, Next, Ends, Broken, OneMember, Progress, bytes_in, is_elf, lists_members, next_member}
-use Rattle.elf_model.specs.ArchiveCost.{header_cost, long_name_bytes, member_cost}
+use Rattle.elf_model.specs.ArchiveCost.{allowance, header_cost, long_name_bytes, member_cost}
 use Rattle.elf_model.specs.Budget.{IsBudget}
 use Rattle.elf_model.specs.Cost.{ceiling, cost_where, listing_cost}
 use Rattle.elf_model.specs.Listing.{Fault as FaultItem}
@@ -10,9 +10,9 @@ use Rattle.elf_model.specs.Style.{Style}
 use Rattle.elf_model.specs.declared.causes.Refusal.{Refusal}
 use Rattle.elf_headers.specs.declared.fault.Fault.{Fault}
 use Rattle.elf_headers.specs.declared.fault.Fault.TheVariants.{Refused, Source}
-use Rattle.elf_archive.specs.Listed.{allowance, next_cost, next_items}
+use Rattle.elf_archive.specs.Listed.{next_cost, next_items}
 use Rattle.elf_archive.specs.Members.{TellsMember, step_cost}
-use Rattle.elf_archive.proofs.AllowanceLaws.{allowed, header_allowed}
+use Rattle.elf_model.proofs.AllowanceLaws.{allowed, header_allowed}
 use Rattle.elf_archive.proofs.AskLaws.{where_room}
 
 -- what a member costs where listings are asked for

@@ -1,11 +1,13 @@
 -- The names of members, by what was read of them.
-use Rattle.std.proofs.Common.{◌≡◌, ℕ, Bool, ◌+◌, ◌-◌, ◌<◌, ◌≤◌, ◌++◌, List, length, take, drop, take-take, true, false, nat_lt, length-take, length-take-le, Option, None, Some, Result, Ok, Err, refl, sym, ap, ◌∙◌, drop-drop, arith}
-use Rattle.std.specs.Prelude.{OnOk}
+use Rattle.std.proofs.Common.{◌≡◌, ℕ, Bool, ◌+◌, ◌-◌, ◌<◌, ◌≤◌, ◌++◌, List, length, take, drop, take-take, true, false, nat_lt, min, is_some, length-take, length-take-le, Option, None, Some, Result, Ok, Err, refl, sym, ap, ◌∙◌, drop-drop, arith}
+use Rattle.std.specs.Prelude.{IfErr, IfOk, OnOk}
 use Rattle.std.proofs.Math.Seq.{take-add}
 use Rattle.std.proofs.lemmas.Bool.Decides.{nat_tests}
 use Rattle.std.proofs.lemmas.List.{take_all}
 use Rattle.elf_model.specs.Bytes.{slice}
-use Rattle.elf_model.specs.Archive.{Extent, long_name, long_of, long_offset, member_name, newline_in, short_name, without_slash}
+use Rattle.elf_model.specs.Archive.{Extent, bsd_name, bsd_name_size, long_name, long_of, long_offset, member_name, name_in_data, newline_in, short_name, told_name, trimmed, without_slash}
+use Rattle.elf_model.specs.ArchiveCost.{is_elsewhere, long_name_bytes}
+use Rattle.elf_model.specs.Cost.{cost_where}
 use Rattle.elf_model.specs.Notes.{capped}
 use Rattle.elf_model.specs.declared.causes.Cause.{Cause}
 use Rattle.elf_model.specs.declared.causes.Cause.TheVariants.{NameOutside, NameUnended}
@@ -13,7 +15,9 @@ use Rattle.elf_model.proofs.Slices.{slice-rest}
 use Rattle.elf_headers.specs.Faults.{IsOfRead}
 use Rattle.elf_headers.specs.declared.fault.Fault.{Fault}
 use Rattle.elf_headers.specs.declared.fault.Fault.TheVariants.{Refused, Source}
+use Rattle.elf_lines.specs.Pieces.{shown_as}
 use Rattle.elf_table.specs.NamesRead.{Refuses}
+use Rattle.elf_archive.specs.Members.{NameShown, name_cost, told_cost}
 use Rattle.elf_archive.proofs.MemberLaws.{name-of}
 
 -- two slices, one behind the other
@@ -82,18 +86,51 @@ long-cut cap front none long =
     let more : nat_lt cap (length front) ≡ true = grind (arith, nat_tests) in rw (none, yes, more) refl
 
 -- a member's name, by the field of its name
-pub name-long : (file header : List ℕ) (cap at offset : ℕ) (names : Option Extent) → header ≡ slice file at 60 → long_offset (take 16 header) ≡ Some offset
-    → member_name file cap names at ≡ long_name file cap names offset
+pub name-bsd : (file header : List ℕ) (cap at size : ℕ) (names : Option Extent) → header ≡ slice file at 60 → bsd_name_size (take 16 header) ≡ Some size
+    → member_name file cap names at ≡ Ok (bsd_name file cap (at + 60) size)
 unfolding member_name
-name-long file header cap at offset names is told =
-    let e : long_offset (slice file at 16) ≡ Some offset = ap long_offset (sym (name-of file header at is)) ∙ told in rw (e, member_name) refl
+name-bsd file header cap at size names is told =
+    let e : bsd_name_size (slice file at 16) ≡ Some size = ap bsd_name_size (sym (name-of file header at is)) ∙ told in rw (e, member_name) refl
 
-pub name-short : (file header : List ℕ) (cap at : ℕ) (names : Option Extent) → header ≡ slice file at 60 → long_offset (take 16 header) ≡ None
-    → member_name file cap names at ≡ Ok (capped cap (short_name (take 16 header)))
+pub name-told : (file header : List ℕ) (cap at : ℕ) (names : Option Extent) → header ≡ slice file at 60 → bsd_name_size (take 16 header) ≡ None
+    → member_name file cap names at ≡ told_name file cap names (take 16 header)
 unfolding member_name
-name-short file header cap at names is told =
-    let e : long_offset (slice file at 16) ≡ None = ap long_offset (sym (name-of file header at is)) ∙ told in
-    rw (e, member_name) (ap (λ field. Ok (capped cap (short_name field))) (sym (name-of file header at is)))
+name-told file header cap at names is told =
+    let e : bsd_name_size (slice file at 16) ≡ None = ap bsd_name_size (sym (name-of file header at is)) ∙ told in
+    rw (e, member_name) (ap (told_name file cap names) (sym (name-of file header at is)))
+
+pub told-long : (file field : List ℕ) (cap offset : ℕ) (names : Option Extent) → long_offset field ≡ Some offset → told_name file cap names field ≡ long_name file cap names offset
+unfolding told_name
+told-long file field cap offset names told = rw (told, told_name) refl
+
+pub told-short : (file field : List ℕ) (cap : ℕ) (names : Option Extent) → long_offset field ≡ None → told_name file cap names field ≡ Ok (capped cap (short_name field))
+unfolding told_name
+told-short file field cap names told = rw (told, told_name) refl
+
+-- how many bytes of the data it takes, and whether it stands elsewhere
+pub in-data : (field : List ℕ) (size : ℕ) → bsd_name_size field ≡ Some size → name_in_data field ≡ size
+unfolding name_in_data
+in-data field size told = rw (told, name_in_data) refl
+
+pub elsewhere-bsd : (field : List ℕ) (size : ℕ) → bsd_name_size field ≡ Some size → is_elsewhere field ≡ true
+unfolding is_elsewhere
+elsewhere-bsd field size told = rw told refl
+
+pub elsewhere-long : (field : List ℕ) → bsd_name_size field ≡ None → is_elsewhere field ≡ is_some (long_offset field)
+unfolding is_elsewhere
+elsewhere-long field told = rw told refl
+
+-- what it costs by the header
+pub cost-bsd : (header : List ℕ) (cap size : ℕ) → bsd_name_size (take 16 header) ≡ Some size → name_cost header cap ≡ long_name_bytes cap
+cost-bsd header cap size told = ap (λ t. cost_where t (long_name_bytes cap)) (elsewhere-bsd (take 16 header) size told)
+
+pub cost-told : (header : List ℕ) (cap : ℕ) → bsd_name_size (take 16 header) ≡ None → name_cost header cap ≡ told_cost (take 16 header) cap
+cost-told header cap told = ap (λ t. cost_where t (long_name_bytes cap)) (elsewhere-long (take 16 header) told)
+
+-- a name at the front of the data, by the bytes that are looked at
+pub bsd_looked : (file : List ℕ) (cap start size want : ℕ) → want ≡ min size (cap + 2) → bsd_name file cap start size ≡ capped cap (trimmed 0 (slice file start want))
+unfolding bsd_name
+bsd_looked file cap start size want is = rw is refl
 
 -- a long name, by the bytes at its offset
 pub long_front : (file : List ℕ) (table : Extent) (offset cap n : ℕ) → offset < table.size → n ≤ cap + 2 → offset + n ≤ table.size → (n < cap + 2 → offset + n ≡ table.size)
@@ -113,3 +150,19 @@ long_buffer file buffer table offset cap want room inside few within whole =
 pub unread-refuses : {X : Type 0} (at : ℕ) (fault : Fault) (answer : Result X Cause) → IsOfRead fault → Refuses at fault answer
 unread-refuses at (Refused refusal) answer read = λ other. absurd (other read)
 unread-refuses at (Source fault offset) answer read = tt
+
+-- and by those that were read into the front of a buffer
+pub bsd-buffer : (file buffer : List ℕ) (cap start size want : ℕ) → want ≡ min size (cap + 2) → want ≤ length buffer → (result : Result Bool Fault) (name : List ℕ)
+    → IfOk result (λ cut. capped cap (trimmed 0 (slice file start (length (take want buffer)))) ≡ shown_as cut name)
+    → IfOk result (λ cut. bsd_name file cap start size ≡ shown_as cut name)
+bsd-buffer file buffer cap start size want is room (Ok cut) name read =
+    let sized : length (take want buffer) ≡ want = length-take-le want buffer room in
+    bsd_looked file cap start size want is ∙ ap (λ n. capped cap (trimmed 0 (slice file start n))) (sym sized) ∙ read
+bsd-buffer file buffer cap start size want is room (Err fault) name read = tt
+
+-- what was read of a name at the front of the data is the member's name
+pub bsd-shown : (file header : List ℕ) (cap at size : ℕ) (names : Option Extent) (result : Result Bool Fault) (name : List ℕ) → header ≡ slice file at 60
+    → bsd_name_size (take 16 header) ≡ Some size → IfErr result IsOfRead → IfOk result (λ cut. bsd_name file cap (at + 60) size ≡ shown_as cut name)
+    → NameShown at result name (member_name file cap names at)
+bsd-shown file header cap at size names (Ok cut) name is told fault read = name-bsd file header cap at size names is told ∙ ap Ok read
+bsd-shown file header cap at size names (Err stop) name is told fault read = unread-refuses at stop (member_name file cap names at) fault

@@ -2,7 +2,7 @@
 use Rattle.std.proofs.Common.{◌≡◌, ℕ, ◌+◌, ◌<◌, ◌≤◌, ◌==◌, if◌then◌else◌, min, nat_lt, not, Bool, true, false, List, length, take, drop, take-take, length-take, length-drop, Option, None, Some, Result, Ok, Err, refl, sym, ap, ◌∙◌, arith}
 use Rattle.std.specs.Prelude.{IfErr}
 use Rattle.std.proofs.lemmas.Bool.Decides.{nat_tests}
-use Rattle.elf_model.specs.Archive.{Extent, archive_checks, long_name, long_of, long_offset, member_name, newline_in, short_name}
+use Rattle.elf_model.specs.Archive.{Extent, archive_checks, bsd_name, long_name, long_of, long_offset, newline_in, short_name, told_name, trimmed}
 use Rattle.elf_model.specs.Budget.{IsBudget}
 use Rattle.elf_model.specs.Bytes.{slice}
 use Rattle.elf_model.specs.Checks.{first_refusal}
@@ -16,8 +16,7 @@ use Rattle.elf_headers.specs.declared.fault.Fault.{Fault}
 use Rattle.elf_headers.specs.declared.fault.Fault.TheVariants.{Refused}
 use Rattle.elf_lines.specs.Pieces.{shown_as}
 use Rattle.elf_archive.specs.Archives.{MagicRead}
-use Rattle.elf_archive.proofs.MemberLaws.{name-of}
-use Rattle.elf_archive.proofs.NameLaws.{name-short}
+use Rattle.elf_archive.proofs.NameLaws.{bsd_looked, told-short}
 
 -- what is shown of a name with at most 4,096 bytes
 pub shown_at : (file : List ℕ) (at size few : ℕ) (cut : Bool) → at + size ≤ length file → few ≡ min size 4096 → cut ≡ nat_lt 4096 size
@@ -38,12 +37,20 @@ shown_at file at size few cut lies is more = by_size (nat_lt 4096 size) refl
         rw (sized, e, more, e, all) refl
 
 -- a name in its field
-pub short_at : (file header : List ℕ) (at size : ℕ) (names : Option Extent) → header ≡ slice file at 60 → long_offset (take 16 header) ≡ None
-    → take size (take 16 header) ≡ short_name (take 16 header) → size ≤ length (take 16 header) → member_name file 4096 names at ≡ Ok (capped 4096 (slice file at size))
-short_at file header at size names is told named within =
-    let few : size ≤ 16 = omega (arith, length-take 16 header, within) in
-    name-short file header 4096 at names is told
-    ∙ ap (λ (n : List ℕ). Ok (capped 4096 n)) (sym named ∙ ap (take size) (name-of file header at is) ∙ take-take size 16 (drop at file) few)
+pub short_at : (file field : List ℕ) (at size : ℕ) (names : Option Extent) → field ≡ slice file at 16 → long_offset field ≡ None
+    → take size field ≡ short_name field → size ≤ length field → told_name file 4096 names field ≡ Ok (capped 4096 (slice file at size))
+short_at file field at size names is told named within =
+    let sixteen : length field ≤ 16 = rw is (omega (arith, length-take 16 (drop at file))) in
+    told-short file field 4096 names told
+    ∙ ap (λ (n : List ℕ). Ok (capped 4096 n)) (sym named ∙ ap (take size) is ∙ take-take size 16 (drop at file) (omega (arith, within, sixteen)))
+
+-- a name at the front of the data, by the bytes that are looked at
+pub bsd_at : (file front : List ℕ) (start size want few : ℕ) → want ≡ min size 4098 → front ≡ slice file start want → take few front ≡ trimmed 0 front → few ≤ length front
+    → bsd_name file 4096 start size ≡ capped 4096 (slice file start few)
+bsd_at file front start size want few is read named within =
+    let most : length front ≤ want = rw read (omega (arith, length-take want (drop start file))) in
+    bsd_looked file 4096 start size want is
+    ∙ ap (capped 4096) (ap (trimmed 0) (sym read) ∙ sym named ∙ ap (take few) read ∙ take-take few want (drop start file) (omega (arith, most, within)))
 
 -- a name in the table of names, by the bytes that are looked at
 pub long_looked : (file front : List ℕ) (table : Extent) (offset : ℕ) → offset < table.size → front ≡ slice (slice file table.at table.size) offset 4098

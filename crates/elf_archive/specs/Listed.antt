@@ -1,14 +1,12 @@
 -- What the calls did that list the members of an archive.
-use Rattle.std.specs.Prelude.{ℕ, ◌≡◌, ◌<◌, ◌≤◌, ◌+◌, ◌-◌, ◌*◌, ◌/◌, ◌^◌, min, is_some, Bool, true, false, List, [], ◌∷◌, Option, None, Some, Result, Ok, Err, IfErr, IfOk, IfSome}
+use Rattle.std.specs.Prelude.{ℕ, ◌≡◌, ◌<◌, ◌≤◌, ◌+◌, ◌-◌, ◌^◌, min, is_some, Bool, true, false, List, [], ◌∷◌, Option, None, Some, Result, Ok, Err, IfErr, IfOk, IfSome}
 use Rattle.std.specs.List.{list_any}
 use Rattle.elf_model.specs.Archive.{Member, Next, Ends, Broken, OneMember, Progress, archive_length_checks, behind, is_refused, member_items, members_from, next_member, told, walk_items}
-use Rattle.elf_model.specs.ArchiveCost.{IsArchiveBudgeted, any_refused, archive_ceiling, header_cost, long_name_bytes, member_cost, members_cost}
+use Rattle.elf_model.specs.ArchiveCost.{IsArchiveBudgeted, allowance, any_refused, archive_ceiling, header_cost, member_cost, members_cost}
 use Rattle.elf_model.specs.Budget.{IsBudget}
 use Rattle.elf_model.specs.Checks.{first_refusal}
-use Rattle.elf_model.specs.Cost.{ceiling}
 use Rattle.elf_model.specs.Lines.{refusal_line}
 use Rattle.elf_model.specs.Listing.{Item, Fault, fault_of}
-use Rattle.elf_model.specs.Names.{name_bytes}
 use Rattle.elf_model.specs.Style.{Style}
 use Rattle.elf_model.specs.declared.causes.Refusal.{Refusal}
 use Rattle.elf_source.specs.Source.{Counting, Faults, OverLimit, Reads}
@@ -92,13 +90,7 @@ pub record Walks (file : List ℕ) (headers : ℕ) (style : Style) (parts most :
   pub text : Writes old new result (walk_items file headers style parts (members_from most file style.cap p))
   pub refused : IfOk result (λ any. any ≡ list_any (is_refused file headers style parts) (members_from most file style.cap p).members)
 
--- what members in so many bytes may cost: for each 60 bytes a header, a long name, the four bytes that tell an ELF file and what
--- an empty file may cost, and what the data may
-abbrev pub allowance : ℕ → ℕ → ℕ → ℕ
-allowance room headers cap =
-    room / 60 * (64 + long_name_bytes cap + ceiling 0 headers cap) + headers * (room + room / 16 * (32 + name_bytes cap))
-
--- what is kept of that for the members behind a step
+-- what is kept of an allowance for the members behind a step
 abbrev pub kept_for : ℕ → ℕ → ℕ → Progress → Result (Option Bool) Stop → ℕ
 kept_for size headers cap new (Ok None) = 0
 kept_for size headers cap new (Ok (Some refused)) = allowance (size - new.at) headers cap

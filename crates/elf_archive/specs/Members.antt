@@ -3,7 +3,7 @@ use Rattle.std.specs.Prelude.{ℕ, ◌≡◌, ◌+◌, ◌*◌, ◌<◌, ◌≤�
 use Rattle.elf_source.specs.Source.{Counting, Reads}
 use Rattle.elf_headers.specs.Faults.{Says}
 use Rattle.elf_model.specs.Archive.{Extent, Member, Ends, Broken, OneMember, Progress, behind, is_name_table, long_of, long_offset, newline_in, next_member}
-use Rattle.elf_model.specs.ArchiveCost.{long_name_bytes}
+use Rattle.elf_model.specs.ArchiveCost.{is_elsewhere, long_name_bytes}
 use Rattle.elf_model.specs.Budget.{IsBudget}
 use Rattle.elf_model.specs.Cost.{cost_where}
 use Rattle.elf_model.specs.Names.{Shown}
@@ -39,12 +39,17 @@ pub record StandsIn (size : ℕ) (p : Progress) : Type 0 where
   pub passed : 8 + 60 * p.index ≤ p.at
   pub names : IfSome p.names (LiesIn size)
 
--- a read of the size of a member's data at an offset answers it, or refuses for its cause
-abbrev pub SizeRead : ℕ → Result ℕ Fault → Result ℕ Cause → Type 0
-SizeRead at (Ok size) answer = answer ≡ Ok size
-SizeRead at (Err fault) answer = Refuses at fault answer
+-- a read of a member's data at an offset answers their extent, or refuses for its cause
+abbrev pub DataRead : ℕ → Result Place Fault → Result Extent Cause → Type 0
+DataRead at (Ok place) answer = answer ≡ Ok (extent_of place)
+DataRead at (Err fault) answer = Refuses at fault answer
 
--- a size that a header tells is that of its member's data, or there is no member
+-- the extent that a header tells is that of its member's data, or there is no member
+abbrev pub DataTold : Option Place → Result Extent Cause → Type 0
+DataTold (Some place) answer = answer ≡ Ok (extent_of place)
+DataTold None answer = answer ≡ Err MemberCut
+
+-- a size that a header tells is that of all its member's data, or there is no member
 abbrev pub SizeTold : Option ℕ → Result ℕ Cause → Type 0
 SizeTold (Some size) answer = answer ≡ Ok size
 SizeTold None answer = answer ≡ Err MemberCut
@@ -78,7 +83,7 @@ TellsMember file cap old new name (Err (Source fault at)) = Unit {0}
 -- what a step passes over: a member that it gives lies within the source, behind its header, and the walk stands behind it
 pub record PassesMember (size : ℕ) (old new : Progress) (given : Given) : Type 0 where
   pub index : given.index ≡ old.index
-  pub begins : given.extent.at ≡ old.at + 60
+  pub begins : old.at + 60 ≤ given.extent.at
   pub lies : LiesIn size (extent_of given.extent)
   pub stands : StandsIn size new
   pub counts : new.index ≡ old.index + 1
@@ -97,7 +102,11 @@ names_passed None header extent = if is_name_table header 0 then Some extent els
 
 -- what a name costs by the header
 abbrev pub name_cost : List ℕ → ℕ → ℕ
-name_cost header cap = cost_where (is_some (long_offset (take 16 header))) (long_name_bytes cap)
+name_cost header cap = cost_where (is_elsewhere (take 16 header)) (long_name_bytes cap)
+
+-- what a name costs that its field alone tells
+abbrev pub told_cost : List ℕ → ℕ → ℕ
+told_cost bytes cap = cost_where (is_some (long_offset bytes)) (long_name_bytes cap)
 
 -- what a step over the next member asks for at most, whatever stands there: nothing where no header has room
 abbrev pub step_cost : ℕ → ℕ → Progress → ℕ

@@ -1,13 +1,13 @@
 //! A cursor over the members of an archive.
-ghost use Rattle.std.specs.Prelude.{◌≡◌, ℕ, ◌+◌, ◌%◌, ◌^◌, ◌<◌, ◌≤◌, nat_le, List, Some, IfOk, OnOk};
-ghost use Rattle.elf_model.specs.Archive.{before_members, member_size};
+ghost use Rattle.std.specs.Prelude.{◌≡◌, ℕ, ◌+◌, ◌^◌, ◌<◌, ◌≤◌, nat_le, take, List, Some, IfOk, OnOk};
+ghost use Rattle.elf_model.specs.Archive.{before_members, member_data, name_in_data, padded_end};
 ghost use Rattle.elf_model.specs.ArchiveCost.{header_cost};
 ghost use Rattle.elf_model.specs.Bytes.{slice};
 ghost use Rattle.elf_model.specs.Cost.{cost_where};
-ghost use Rattle.elf_archive.specs.Members.{Asks, SizeRead, StandsIn, StepsOver, TellsMember, extent_of};
+ghost use Rattle.elf_archive.specs.Members.{Asks, DataRead, LiesIn, StandsIn, StepsOver, TellsMember, extent_of};
 ghost use Rattle.elf_archive.specs.Members.{names_of, names_passed, step_cost};
 
-use crate::fields::{HEADER_BYTES, is_name_table, size_within};
+use crate::fields::{HEADER_BYTES, data_within, is_name_table, padded_end};
 use crate::member::{Extent, Member};
 use crate::names::read_name;
 use elf_headers::{Cap, Fault, fill, refused};
@@ -49,16 +49,18 @@ impl MemberCursor {
     }
 
     /// Goes over the next member, of which the header is read, and the name where it stands in the
-    /// table of names. Its data are passed over, with the byte behind them where their size is odd.
+    /// table of names or at the front of the data: the member's data begin behind it then. They are
+    /// passed over, with the byte behind them where all data are odd in number.
     /// At most `cap` bytes of its name are then in `name`. None at the file's end, which is below
     /// 2^63.
     ///
     /// # Errors
     /// Refused at the offset of the member's header: `MemberCut` where no header stands there, or
-    /// it or the data end past the end of the file; `NameOutside` where the name begins past the
-    /// table of names, or there is none, and `NameUnended` where the table ends before the name
-    /// does. A fault of a read, or a refusal for want of budget, names the offset that was asked
-    /// for. The cursor then stands where it stood.
+    /// it or the data end past the end of the file, or the name past the end of the data at whose
+    /// front it is said to be; `NameOutside` where the name begins past the table of names, or there
+    /// is none, and `NameUnended` where the table ends before the name does. A fault of a read, or a
+    /// refusal for want of budget, names the offset that was asked for. The cursor then stands where
+    /// it stood.
     pub fn advance<S: Source>(
         &mut self,
         src: &mut Counted<S>,
@@ -80,12 +82,8 @@ impl MemberCursor {
         }
         let at = self.at;
         let mut header = [0; HEADER_BYTES];
-        let size = read_header(src, at, &mut header)?;
+        let extent = read_header(src, at, &mut header)?;
         let is_cut = read_name(src, self.names, &header, at, cap, name)?;
-        let extent = Extent {
-            at: at + HEADER_BYTES as u64,
-            size,
-        };
         let index = self.index;
         self.pass(&header, extent);
         Ok(Some(Member {
@@ -97,47 +95,50 @@ impl MemberCursor {
 
     /// Goes behind the member with this header and these data.
     fn pass(&mut self, header: &[u8; HEADER_BYTES], extent: Extent)
+        requires begins { self.old.at + 60 ≤ extent.at }
         requires ends { extent.at + extent.size < 2 ^ 63 }
         requires count { self.old.index < 2 ^ 63 }
-        ensures at { self.new.at ≡ extent.at + extent.size + extent.size % 2 }
+        ensures at { self.new.at ≡ padded_end self.old.at (extent.at + extent.size) }
         ensures index { self.new.index ≡ self.old.index + 1 }
         ensures names { self.new.names ≡ names_passed self.old.names header.now (extent_of extent) }
     {
         if self.names.is_none() && is_name_table(header) {
             self.names = Some(extent);
         }
-        self.at = extent.at + extent.size + extent.size % 2;
+        self.at = padded_end(self.at, extent.at + extent.size);
         self.index += 1;
     }
 }
 
-/// Reads the header of the member at an offset below the source's length, and answers the size of
-/// its data, which end at or below that length.
+/// Reads the header of the member at an offset below the source's length, and answers its data, behind
+/// the name where that stands at their front. They end at or below that length.
 ///
 /// # Errors
 /// Refused at `at` with `MemberCut` where no header stands there, or it or the data end past the
-/// end of the file. Else a fault of the read, at its offset.
+/// end of the file, or the name past that of the data. Else a fault of the read, at its offset.
 fn read_header<S: Source>(
     src: &mut Counted<S>,
     at: u64,
     header: &mut [u8; HEADER_BYTES],
-) -> Result<u64, Fault>
+) -> Result<Extent, Fault>
     requires { (src.old.seen.size < 2 ^ 63) × (at < src.old.seen.size) }
     ensures asks { Asks src.old src.new result
         (cost_where (nat_le (at + 60) src.old.seen.size) 60) }
-    ensures lies { IfOk result (λ size. at + 60 + size ≤ src.old.seen.size) }
+    ensures begins { IfOk result (λ extent.
+        extent.at ≡ at + 60 + name_in_data (take 16 header.new)) }
+    ensures lies { IfOk result (λ extent. LiesIn src.old.seen.size (extent_of extent)) }
     ensures header { (file : List ℕ) → src.old.seen.file ≡ Some file →
         OnOk result (header.new ≡ slice file at 60) }
-    ensures size { (file : List ℕ) → src.old.seen.file ≡ Some file →
-        SizeRead at result (member_size file at) }
+    ensures extent { (file : List ℕ) → src.old.seen.file ≡ Some file →
+        DataRead at result (member_data file at) }
 {
     let left = src.length() - at;
     if left < HEADER_BYTES as u64 {
         return refused(at, Cause::MemberCut);
     }
     fill(src, at, header)?;
-    match size_within(header, left) {
-        Some(size) => Ok(size),
+    match data_within(header, at, left) {
+        Some(extent) => Ok(extent),
         None => refused(at, Cause::MemberCut),
     }
 }

@@ -1,11 +1,13 @@
 //! The fields of a member's header: text in columns, each filled up with spaces.
 ghost use Rattle.std.specs.Prelude.{◌≡◌, ◌==◌, ◌+◌, ◌^◌, ◌<◌, ◌≤◌, List, ℕ, length, position, take, if◌then◌else◌, Some, None, IfSome};
-ghost use Rattle.elf_model.specs.Archive.{are_spaces, digits_then_spaces, is_decimal};
-ghost use Rattle.elf_model.specs.Archive.{is_name_table, long_offset, padded_decimal, short_name};
-ghost use Rattle.elf_model.specs.Archive.{member_size, told_size, trimmed, without_slash};
+ghost use Rattle.elf_model.specs.Archive.{are_all, bsd_name_size, digits_then_spaces, is_decimal};
+ghost use Rattle.elf_model.specs.Archive.{is_name_table, long_offset, name_in_data, padded_decimal};
+ghost use Rattle.elf_model.specs.Archive.{member_data, member_size, padded_end, short_name, told_size};
+ghost use Rattle.elf_model.specs.Archive.{trimmed, without_slash};
 ghost use Rattle.elf_model.specs.Bytes.{slice};
-ghost use Rattle.elf_archive.specs.Members.{SizeTold};
+ghost use Rattle.elf_archive.specs.Members.{DataTold, SizeTold};
 
+use crate::member::Extent;
 use elf_record::{u16_at, u64_at};
 use memchr::memchr;
 
@@ -14,6 +16,12 @@ pub(crate) const HEADER_BYTES: usize = 60;
 
 /// The size of the field of the name in bytes.
 pub(crate) const NAME_BYTES: usize = 16;
+
+/// The byte that fills up a field.
+const SPACE: u8 = b' ';
+
+/// The byte that fills up a name at the front of a member's data.
+pub(crate) const NUL: u8 = 0;
 
 /// The two bytes that end a header, a grave accent and a newline.
 const HEADER_MARK: u16 = 0x0a60;
@@ -31,7 +39,7 @@ pub(crate) fn told_size(header: &[u8; HEADER_BYTES]) -> Option<u64>
     padded_decimal(&header[48..58])
 }
 
-/// The size of the data that a header tells, where the header and they have room in `left` bytes, of
+/// The size of all data that a header tells, where the header and they have room in `left` bytes, of
 /// which the header has 60; None where no such size is told.
 pub(crate) fn size_within(header: &[u8; HEADER_BYTES], left: u64) -> Option<u64>
     requires { 60 ≤ left }
@@ -46,6 +54,41 @@ pub(crate) fn size_within(header: &[u8; HEADER_BYTES], left: u64) -> Option<u64>
         return None;
     }
     Some(size)
+}
+
+/// The data that the header at the file offset `at` tells, behind the name where that stands at their
+/// front, where the header and all data have room in `left` bytes, of which the header has 60; None
+/// where no size is told, or one that has no room there, or the name has no room in the data.
+pub(crate) fn data_within(header: &[u8; HEADER_BYTES], at: u64, left: u64) -> Option<Extent>
+    requires header { 60 ≤ left }
+    requires small { at + left < 2 ^ 63 }
+    ensures begins { IfSome result (λ extent.
+        extent.at ≡ at + 60 + name_in_data (take 16 header.now)) }
+    ensures lies { IfSome result (λ extent. extent.at + extent.size ≤ at + left) }
+    ensures extent { (file : List ℕ) → header.now ≡ slice file at 60 →
+        length file ≡ at + left → DataTold result (member_data file at) }
+{
+    let Some(size) = size_within(header, left) else {
+        return None;
+    };
+    let name = name_in_data(&header[..NAME_BYTES]);
+    if size < name {
+        return None;
+    }
+    Some(Extent {
+        at: at + HEADER_BYTES as u64 + name,
+        size: size - name,
+    })
+}
+
+/// The offset behind data that end at the offset `end`, of the member whose header stands at `header`,
+/// and behind the byte of padding, which stands where all its data are odd in number.
+pub(crate) fn padded_end(header: u64, end: u64) -> u64
+    requires order { header + 60 ≤ end }
+    requires small { end < 2 ^ 63 }
+    ensures { result ≡ padded_end header end }
+{
+    end + (end - (header + HEADER_BYTES as u64)) % 2
 }
 
 /// Whether a header is that of the table of names: its name is two slashes.
@@ -68,6 +111,33 @@ pub(crate) fn long_offset(field: &[u8]) -> Option<u64>
     padded_decimal(&field[1..16])
 }
 
+/// How many bytes at the front of a member's data are its name, where the field of its name tells it:
+/// `#1/` and a decimal number, as BSD's `ar` writes it (FreeBSD's ar(5)).
+#[tactic(auto, unfolding(elf_model::specs::Archive::bsd_name_size))]
+pub(crate) fn bsd_name_size(field: &[u8]) -> Option<u64>
+    requires { length field.now ≡ 16 }
+    ensures value { result ≡ bsd_name_size field.now }
+    ensures small { IfSome result (λ size. size < 2 ^ 62) }
+{
+    if field[0] != b'#' || field[1] != b'1' || field[2] != b'/' {
+        return None;
+    }
+    padded_decimal(&field[3..16])
+}
+
+/// How many bytes of a member's data its name takes, by the field of its name.
+#[tactic(auto, unfolding(elf_model::specs::Archive::name_in_data))]
+fn name_in_data(field: &[u8]) -> u64
+    requires { length field.now ≡ 16 }
+    ensures value { result ≡ name_in_data field.now }
+    ensures small { result < 2 ^ 62 }
+{
+    match bsd_name_size(field) {
+        Some(size) => size,
+        None => 0,
+    }
+}
+
 /// How many bytes the name has that stands in its field itself, at the front of it.
 #[tactic(auto, unfolding(elf_model::specs::Archive::short_name))]
 pub(crate) fn short_length(field: &[u8]) -> usize
@@ -75,7 +145,7 @@ pub(crate) fn short_length(field: &[u8]) -> usize
     ensures within { result ≤ length field.now }
 {
     match find_byte(b'/', field) {
-        None | Some(0) => trimmed_length(field),
+        None | Some(0) => trimmed_length(SPACE, field),
         Some(place) => place,
     }
 }
@@ -132,7 +202,7 @@ fn digits_then_spaces(field: &[u8]) -> Option<u64>
 
 /// A number behind which spaces alone stand.
 fn spaced(number: u64, rest: &[u8]) -> Option<u64>
-    ensures { result ≡ (if are_spaces rest.now then Some number else None) }
+    ensures { result ≡ (if are_all 32 rest.now then Some number else None) }
 {
     if are_spaces(rest) { Some(number) } else { None }
 }
@@ -146,18 +216,18 @@ fn is_decimal(byte: u8) -> bool
 
 /// Whether all bytes are spaces.
 fn are_spaces(bytes: &[u8]) -> bool
-    ensures { result ≡ are_spaces bytes.now }
+    ensures { result ≡ are_all 32 bytes.now }
 {
-    bytes.iter().all(|byte| *byte == b' ')
+    bytes.iter().all(|byte| *byte == SPACE)
 }
 
-/// How many bytes there are without the spaces at their end.
-fn trimmed_length(bytes: &[u8]) -> usize
-    ensures name { take result bytes.now ≡ trimmed bytes.now }
+/// How many bytes there are without those at their end that are `byte`.
+pub(crate) fn trimmed_length(byte: u8, bytes: &[u8]) -> usize
+    ensures name { take result bytes.now ≡ trimmed byte bytes.now }
     ensures within { result ≤ length bytes.now }
 {
     let mut end = bytes.len();
-    while end > 0 && bytes[end - 1] == b' ' {
+    while end > 0 && bytes[end - 1] == byte {
         end -= 1;
     }
     end

@@ -2,7 +2,7 @@
 ghost use Rattle.std.specs.Prelude.{◌≡◌, ℕ, ◌+◌, ◌-◌, ◌^◌, ◌<◌, ◌≤◌, List, length, Some, Err, IfErr, IfOk};
 ghost use Rattle.elf_model.specs.Archive.{Extent as Bytes, Member as Listed, archive_items, archive_length_checks, before_members};
 ghost use Rattle.elf_model.specs.Archive.{bytes_in, is_elf, lists_members, member_line, member_listing, members_from, next_member, told, walk_items};
-ghost use Rattle.elf_model.specs.ArchiveCost.{any_refused, archive_ceiling, archive_cost, member_cost, members_cost};
+ghost use Rattle.elf_model.specs.ArchiveCost.{allowance, any_refused, archive_ceiling, archive_cost, member_cost, members_cost};
 ghost use Rattle.elf_model.specs.Checks.{first_refusal};
 ghost use Rattle.elf_model.specs.Cost.{ceiling, cost_where, listing_cost};
 ghost use Rattle.elf_model.specs.Listing.{fault_of};
@@ -14,7 +14,7 @@ ghost use Rattle.elf_listing.specs.Shows.{Writes};
 ghost use Rattle.elf_source.specs.Growth.{Grows};
 ghost use Rattle.elf_source.specs.Output.{Puts};
 ghost use Rattle.elf_archive.specs.Listed.{ArchiveSays, AsksInArchive, Consumes, IsAll, ReportsArchive, Steps};
-ghost use Rattle.elf_archive.specs.Listed.{ListsTold, StandsBehind, StepsWithin, TellsEnd, Walks, allowance, next_cost, next_items};
+ghost use Rattle.elf_archive.specs.Listed.{ListsTold, StandsBehind, StepsWithin, TellsEnd, Walks, next_cost, next_items};
 ghost use Rattle.elf_archive.specs.Members.{LiesIn, StandsIn, extent_of, member_of};
 
 use crate::cursor::MemberCursor;

@@ -1,6 +1,6 @@
 //! The names of members.
-ghost use Rattle.std.specs.Prelude.{◌≡◌, ◌+◌, ℕ, ◌^◌, ◌<◌, ◌≤◌, List, length, Some, IfErr, IfSome, OnOk};
-ghost use Rattle.elf_model.specs.Archive.{long_name, member_name};
+ghost use Rattle.std.specs.Prelude.{◌≡◌, ◌+◌, ℕ, ◌^◌, ◌<◌, ◌≤◌, List, length, take, Some, IfErr, IfOk, IfSome, OnOk};
+ghost use Rattle.elf_model.specs.Archive.{bsd_name, long_name, member_name, name_in_data, told_name, trimmed};
 ghost use Rattle.elf_model.specs.ArchiveCost.{long_name_bytes};
 ghost use Rattle.elf_model.specs.Bytes.{slice};
 ghost use Rattle.elf_model.specs.Notes.{capped};
@@ -8,9 +8,11 @@ ghost use Rattle.elf_headers.specs.Faults.{IsOfRead, Says};
 ghost use Rattle.elf_lines.specs.Pieces.{shown_as};
 ghost use Rattle.elf_source.specs.Source.{Reads};
 ghost use Rattle.elf_archive.specs.Members.{FrontRead, LengthTold, LiesIn, NameShown, name_cost, names_of};
+ghost use Rattle.elf_archive.specs.Members.{told_cost};
 
 use crate::fields::{
-    HEADER_BYTES, NAME_BYTES, find_byte, long_offset, short_length, slashless_length,
+    HEADER_BYTES, NAME_BYTES, NUL, bsd_name_size, find_byte, long_offset, short_length,
+    slashless_length, trimmed_length,
 };
 use crate::member::Extent;
 use elf_headers::{Cap, Fault, fill, refused};
@@ -18,13 +20,14 @@ use elf_record::Cause;
 use elf_source::{Counted, READ_BYTES, Source};
 use elf_table::NameBuf;
 
-/// The most bytes of a long name that are looked at: a slash and a newline more than are shown.
+/// The most bytes of a name outside its field that are looked at: a slash and a newline more than are
+/// shown.
 pub(crate) const LONG_NAME_BYTES: usize = 4098;
 
 /// Leaves in `name` what is shown of a member's name with at most `cap` bytes, and answers whether
 /// that is cut. `header` is the member's header, which stands at `at`, and `names` is the table of
-/// names, which lies within the source. A long name is read: at most `cap + 2` bytes, never past
-/// the table's end.
+/// names, which lies within the source. A name in the table of names or at the front of the data is
+/// read: at most `cap + 2` bytes, never past the table's end or its own.
 ///
 /// # Errors
 /// Refused at `at`: `NameOutside` where there is no table of names or the name begins past its end,
@@ -39,6 +42,7 @@ pub(crate) fn read_name<S: Source>(
 ) -> Result<bool, Fault>
     requires size { src.old.seen.size < 2 ^ 63 }
     requires lies { IfSome (names_of names) (LiesIn src.old.seen.size) }
+    requires front { at + 60 + name_in_data (take 16 header.now) ≤ src.old.seen.size }
     ensures reads { Reads src.old src.new (name_cost header.now cap.bytes) }
     ensures says { IfErr result (Says src.old src.new (name_cost header.now cap.bytes)) }
     ensures read { (file : List ℕ) → src.old.seen.file ≡ Some file →
@@ -46,6 +50,86 @@ pub(crate) fn read_name<S: Source>(
         NameShown at result name.new (member_name file cap.bytes (names_of names) at) }
 {
     let field = &header[..NAME_BYTES];
+    match bsd_name_size(field) {
+        Some(size) => read_bsd(src, at + HEADER_BYTES as u64, size, cap, name),
+        None => read_told(src, names, field, at, cap, name),
+    }
+}
+
+/// Reads the name in the first `size` bytes of a member's data, which begin at the offset `start`: at
+/// most `cap + 2` of them, and the NULs at the end of these are no part of it. Answers whether what is
+/// shown is cut.
+///
+/// # Errors
+/// A fault of a read, at its offset.
+fn read_bsd<S: Source>(
+    src: &mut Counted<S>,
+    start: u64,
+    size: u64,
+    cap: Cap,
+    name: &mut NameBuf,
+) -> Result<bool, Fault>
+    requires length { src.old.seen.size < 2 ^ 63 }
+    requires within { start + size ≤ src.old.seen.size }
+    ensures reads { Reads src.old src.new (long_name_bytes cap.bytes) }
+    ensures says { IfErr result (Says src.old src.new (long_name_bytes cap.bytes)) }
+    ensures fault { IfErr result IsOfRead }
+    ensures read { (file : List ℕ) → src.old.seen.file ≡ Some file →
+        IfOk result (λ cut. bsd_name file cap.bytes start size ≡ shown_as cut name.new) }
+{
+    let want = (u64::from(cap.bytes) + 2).min(size);
+    let mut buffer = [0; LONG_NAME_BYTES];
+    read_trimmed(src, start, &mut buffer[..want as usize], cap, name)
+}
+
+/// Reads the bytes from the offset `at` on into `front`, at most 4,098, and leaves in `name` what is
+/// shown of them without the NULs at their end. Answers whether that is cut.
+///
+/// # Errors
+/// A fault of a read, at its offset.
+fn read_trimmed<S: Source>(
+    src: &mut Counted<S>,
+    at: u64,
+    front: &mut [u8],
+    cap: Cap,
+    name: &mut NameBuf,
+) -> Result<bool, Fault>
+    requires size { src.old.seen.size < 2 ^ 63 }
+    requires within { at + length front.old ≤ src.old.seen.size }
+    requires few { length front.old ≤ 4098 }
+    ensures reads { Reads src.old src.new (length front.old) }
+    ensures says { IfErr result (Says src.old src.new (length front.old)) }
+    ensures fault { IfErr result IsOfRead }
+    ensures read { (file : List ℕ) → src.old.seen.file ≡ Some file →
+        IfOk result (λ cut. capped cap.bytes (trimmed 0 (slice file at (length front.old)))
+        ≡ shown_as cut name.new) }
+{
+    read_front(src, at, front)?;
+    let length = trimmed_length(NUL, front);
+    Ok(put_name(&front[..length], cap, name))
+}
+
+/// Reads a name that the field of the name alone tells: that in the table of names, or the one in the
+/// field itself, which asks for nothing.
+///
+/// # Errors
+/// As [`read_name`].
+fn read_told<S: Source>(
+    src: &mut Counted<S>,
+    names: Option<Extent>,
+    field: &[u8],
+    at: u64,
+    cap: Cap,
+    name: &mut NameBuf,
+) -> Result<bool, Fault>
+    requires field { length field.now ≡ 16 }
+    requires size { src.old.seen.size < 2 ^ 63 }
+    requires lies { IfSome (names_of names) (LiesIn src.old.seen.size) }
+    ensures reads { Reads src.old src.new (told_cost field.now cap.bytes) }
+    ensures says { IfErr result (Says src.old src.new (told_cost field.now cap.bytes)) }
+    ensures read { (file : List ℕ) → src.old.seen.file ≡ Some file →
+        NameShown at result name.new (told_name file cap.bytes (names_of names) field.now) }
+{
     match long_offset(field) {
         Some(offset) => read_long(src, names, offset, at, cap, name),
         None => Ok(put_name(&field[..short_length(field)], cap, name)),

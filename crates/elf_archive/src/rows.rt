@@ -1,8 +1,8 @@
 //! The members of an archive in memory, as a caller goes over them: each is told by where its header,
 //! its data and its name lie, so that nothing is copied. A place is plain numbers, and no number that
 //! a caller sets is a wrong one: each step tests them.
-ghost use Rattle.std.specs.Prelude.{◌≡◌, ◌+◌, ◌%◌, ◌^◌, ◌<◌, ◌≤◌, if◌then◌else◌, length};
-ghost use Rattle.elf_model.specs.Archive.{long_name, member_name};
+ghost use Rattle.std.specs.Prelude.{◌≡◌, ◌+◌, ◌^◌, ◌<◌, ◌≤◌, if◌then◌else◌, length, take, Ok};
+ghost use Rattle.elf_model.specs.Archive.{bsd_name, long_name, member_name, name_in_data, padded_end, told_name};
 ghost use Rattle.elf_model.specs.Bytes.{slice};
 ghost use Rattle.elf_model.specs.declared.causes.Cause.TheVariants.{MemberCut};
 ghost use Rattle.elf_archive.specs.MemberRows.{IsNamed, Names, OpensMembers, StepsMember};
@@ -11,7 +11,8 @@ ghost use Rattle.elf_archive.specs.Members.{extent_of, names_of, names_passed};
 
 use crate::cursor::MAGIC_BYTES;
 use crate::fields::{
-    HEADER_BYTES, NAME_BYTES, is_name_table, long_offset, short_length, size_within,
+    HEADER_BYTES, NAME_BYTES, NUL, bsd_name_size, data_within, is_name_table, long_offset,
+    padded_end, short_length, trimmed_length,
 };
 use crate::magic_strings::magic;
 use crate::member::Extent;
@@ -44,7 +45,7 @@ pub struct Members {
 pub struct MemberRow {
     /// The file offset of its header.
     pub at: u64,
-    /// Its data.
+    /// Its data, behind the name where that stands at their front.
     pub content: Range,
     /// Its name, or the first 4,096 bytes of it.
     pub name: Range,
@@ -84,14 +85,15 @@ pub fn open_members(file: &[u8]) -> Result<Option<Members>, Refusal>
     }
 }
 
-/// The next member, and steps over it, with the byte behind its data where their size is odd; None at
-/// or behind the file's end.
+/// The next member, and steps over it, with the byte behind its data where all of them, a name at their
+/// front too, are odd in number; None at or behind the file's end.
 ///
 /// # Errors
 /// Refused at the offset of the member's header: `MemberCut` where no header stands there, or it or
-/// the data end past the end of the file; `NameOutside` where the name begins past the table of names,
-/// or there is none, and `NameUnended` where the table, as far as it lies in the file, ends before the
-/// name does. Then the place is as it was.
+/// the data end past the end of the file, or the name past the end of the data at whose front it is said
+/// to be; `NameOutside` where the name begins past the table of names, or there is none, and
+/// `NameUnended` where the table, as far as it lies in the file, ends before the name does. Then the
+/// place is as it was.
 pub fn next_member(file: &[u8], members: &mut Members) -> Result<Option<MemberRow>, Refusal>
     ensures { StepsMember file.now members.old members.new result }
 {
@@ -105,7 +107,7 @@ pub fn next_member(file: &[u8], members: &mut Members) -> Result<Option<MemberRo
         return Err(cut(at));
     }
     let header = chunk_at(file, at as usize);
-    let Some(size) = size_within(header, left) else {
+    let Some(extent) = data_within(header, at, left) else {
         return Err(cut(at));
     };
     let name = match find_name(file, table_in(members), header, at) {
@@ -113,8 +115,8 @@ pub fn next_member(file: &[u8], members: &mut Members) -> Result<Option<MemberRo
         Err(cause) => return Err(Refusal { at, cause }),
     };
     let content = Range {
-        at: at + HEADER_BYTES as u64,
-        len: size,
+        at: extent.at,
+        len: extent.size,
     };
     pass(members, header, content);
     Ok(Some(MemberRow {
@@ -158,8 +160,9 @@ fn table_in(members: &Members) -> Option<Extent>
 
 /// Goes behind the member with this header and these data.
 fn pass(members: &mut Members, header: &[u8; HEADER_BYTES], content: Range)
-    requires { content.at + content.len < 2 ^ 63 }
-    ensures at { members.new.at ≡ content.at + content.len + content.len % 2 }
+    requires begins { members.old.at + 60 ≤ content.at }
+    requires ends { content.at + content.len < 2 ^ 63 }
+    ensures at { members.new.at ≡ padded_end members.old.at (content.at + content.len) }
     ensures names { names_in members.new
         ≡ names_passed (names_in members.old) header.now (extent_in content) }
     ensures none { members.new.none ≡ members.old.none }
@@ -168,7 +171,7 @@ fn pass(members: &mut Members, header: &[u8; HEADER_BYTES], content: Range)
         members.has_names = 1;
         members.names = content;
     }
-    members.at = content.at + content.len + content.len % 2;
+    members.at = padded_end(members.at, content.at + content.len);
 }
 
 /// Where the name of the member with this header lies, which stands at `at`.
@@ -181,11 +184,40 @@ fn find_name(
     header: &[u8; HEADER_BYTES],
     at: u64,
 ) -> Result<Named, Cause>
-    requires within { at + 60 ≤ length file.now }
+    requires within { at + 60 + name_in_data (take 16 header.now) ≤ length file.now }
     requires header { header.now ≡ slice file.now at 60 }
     ensures { IsNamed file.now result (member_name file.now 4096 (names_of names) at) }
 {
     let field = &header[..NAME_BYTES];
+    match bsd_name_size(field) {
+        Some(size) => Ok(find_bsd(file, at + HEADER_BYTES as u64, size)),
+        None => find_told(file, names, field, at),
+    }
+}
+
+/// Where the name in the first `size` bytes of a member's data lies, which begin at the offset `start`,
+/// without the NULs at the end of what is looked at.
+fn find_bsd(file: &[u8], start: u64, size: u64) -> Named
+    requires { start + size ≤ length file.now }
+    ensures { IsNamed file.now (Ok result) (Ok (bsd_name file.now 4096 start size)) }
+{
+    let looked_at = Range {
+        at: start,
+        len: size.min(LONG_NAME_BYTES as u64),
+    };
+    let front = bytes_of(file, looked_at);
+    shortened(file, start, trimmed_length(NUL, front))
+}
+
+/// Where the name lies that the field of the name, at the offset `at`, alone tells.
+///
+/// # Errors
+/// As [`next_member`].
+fn find_told(file: &[u8], names: Option<Extent>, field: &[u8], at: u64) -> Result<Named, Cause>
+    requires within { at + 16 ≤ length file.now }
+    requires field { field.now ≡ slice file.now at 16 }
+    ensures { IsNamed file.now result (told_name file.now 4096 (names_of names) field.now) }
+{
     match long_offset(field) {
         Some(offset) => find_long(file, names, offset),
         None => Ok(shortened(file, at, short_length(field))),

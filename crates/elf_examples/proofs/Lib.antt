@@ -1,3 +1,4 @@
+pub mod ArchiveBudgets
 pub mod Budgets
 pub mod OnExamples
 pub mod OtherAnswers

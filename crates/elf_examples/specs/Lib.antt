@@ -1,9 +1,11 @@
 pub mod Examples
 pub mod ListedArchives
+pub mod ListedBsdNames
 pub mod ListedBudgets
 pub mod ListedChecks
 pub mod ListedCosts
 pub mod ListedHeaders
+pub mod ListedMembers
 pub mod ListedOrder
 pub mod ListedParts
 pub mod ListedSections

@@ -1,12 +1,12 @@
 -- Listings of archives.
 use Rattle.std.specs.Prelude.{◌≡◌, ◌+◌, ◌*◌, [], ◌∷◌, ◌++◌, codes, true, false, None}
-use Rattle.elf_model.specs.Archive.{archive, archive_items, members_of, padded_decimal, short_name}
-use Rattle.elf_model.specs.ArchiveCost.{any_refused, archive_ceiling, archive_cost}
-use Rattle.elf_model.specs.Listing.{fault_of, HEADER, SYMBOLS, ALL}
+use Rattle.elf_model.specs.Archive.{archive, archive_items, short_name}
+use Rattle.elf_model.specs.ArchiveCost.{any_refused, archive_cost}
+use Rattle.elf_model.specs.Listing.{fault_of, HEADER, ALL}
 use Rattle.elf_model.specs.Report.{report}
 use Rattle.elf_model.specs.Style.{standard}
-use Rattle.elf_model.specs.Fixtures.{one_symbol_table, bare_header, with_bytes}
-use Rattle.elf_model.specs.FixturesArchive.{archive_of, library, long_names, member, member_header}
+use Rattle.elf_model.specs.Fixtures.{one_symbol_table, bare_header}
+use Rattle.elf_model.specs.FixturesArchive.{archive_of, library, member, member_header}
 
 -- the members alone: an index of symbols, a table of names, an odd size with its padding, a long name
 abbrev pub MembersList : Type 0

@@ -5,10 +5,12 @@
 
 mod examples;
 mod listed_archives;
+mod listed_bsd_names;
 mod listed_budgets;
 mod listed_checks;
 mod listed_costs;
 mod listed_headers;
+mod listed_members;
 mod listed_order;
 mod listed_parts;
 mod listed_sections;

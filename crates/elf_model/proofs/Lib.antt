@@ -1,5 +1,7 @@
 pub mod AppliedLaws
+pub mod AllowanceLaws
 pub mod ApplySteps
+pub mod ArchiveCosts
 pub mod BudgetLaws
 pub mod ChangeLaws
 pub mod ChangeSteps

@@ -1,6 +1,6 @@
 -- Archives, as `ar` writes static libraries: the magic string and members one behind the other. A member is a header of 60
 -- bytes of text, its data, and where its size is odd one byte of padding, which may be missing at the file's end.
-use Rattle.std.specs.Prelude.{ℕ, zero, suc, ◌+◌, ◌-◌, ◌*◌, ◌%◌, ◌^◌, ◌==◌, ◌&&◌, min, nat_le, nat_lt, not, Bool, true, false, if◌then◌else◌, List, [], ◌∷◌, ◌++◌, length, take, position, slice_index, is_some, Option, None, Some, Result, Ok, Err, codes}
+use Rattle.std.specs.Prelude.{ℕ, zero, suc, ◌+◌, ◌-◌, ◌*◌, ◌%◌, ◌^◌, ◌==◌, ◌&&◌, min, nat_le, nat_lt, not, Bool, if◌then◌else◌, List, [], ◌∷◌, ◌++◌, length, take, position, slice_index, is_some, Option, None, Some, Result, Ok, Err, codes}
 use Rattle.std.specs.List.{list_all}
 use Rattle.elf_model.specs.Bytes.{slice, field}
 use Rattle.elf_model.specs.Checks.{Check, refuse}
@@ -53,26 +53,33 @@ archive_checks file = archive_length_checks (length file) ++ magic_checks file
 abbrev pub is_decimal : ℕ → Bool
 is_decimal byte = nat_le 48 byte && nat_le byte 57
 
--- all bytes are spaces
-abbrev pub are_spaces : List ℕ → Bool
-are_spaces bytes = list_all (λ b. b == 32) bytes
+-- all bytes are this one
+abbrev pub are_all : ℕ → List ℕ → Bool
+are_all byte bytes = list_all (λ b. b == byte) bytes
+
+-- the bytes of text that fill a field, and of a name that fill its room in a member's data
+abbrev pub SPACE : ℕ
+SPACE = 32
+
+abbrev pub NUL : ℕ
+NUL = 0
 
 -- the number that digits spell behind a number so far, where spaces alone stand behind them
 unfoldable pub digits_then_spaces : ℕ → List ℕ → Option ℕ
 digits_then_spaces so_far [] = Some so_far
 digits_then_spaces so_far (b ∷ bs) =
     if is_decimal b then digits_then_spaces (10 * so_far + (b - 48)) bs
-    else if are_spaces (b ∷ bs) then Some so_far
+    else if are_all SPACE (b ∷ bs) then Some so_far
     else None
 
 -- the decimal number in a field: a digit or more, then spaces up to the end
 unfoldable pub padded_decimal : List ℕ → Option ℕ
 padded_decimal bytes = if is_decimal (slice_index bytes 0) then digits_then_spaces 0 bytes else None
 
--- bytes without the spaces at their end
-unfoldable pub trimmed : List ℕ → List ℕ
-trimmed [] = []
-trimmed (b ∷ bs) = if are_spaces (b ∷ bs) then [] else b ∷ trimmed bs
+-- bytes without those at their end that are this one
+unfoldable pub trimmed : ℕ → List ℕ → List ℕ
+trimmed byte [] = []
+trimmed byte (b ∷ bs) = if are_all byte (b ∷ bs) then [] else b ∷ trimmed byte bs
 
 -- some bytes of a file, by their offset and their number
 pub record Extent : Type 0 where
@@ -87,7 +94,7 @@ bytes_in file extent = slice file extent.at extent.size
 unfoldable pub told_size : List ℕ → ℕ → Option ℕ
 told_size bytes at = if field bytes (at + 58) 2 == HEADER_MARK then padded_decimal (slice bytes (at + 48) 10) else None
 
--- the size of the data of the member whose header stands at an offset, where header and data lie within the file
+-- the size of all data of the member whose header stands at an offset, where header and data lie within the file
 unfoldable pub member_size : List ℕ → ℕ → Result ℕ Cause
 member_size file at =
     if nat_lt (length file) (at + MEMBER_HEADER_SIZE) then Err MemberCut
@@ -99,6 +106,28 @@ member_size file at =
 -- the field of the name, 16 bytes
 abbrev pub name_field : List ℕ → ℕ → List ℕ
 name_field file at = slice file at 16
+
+-- how many bytes at the front of a member's data are its name, where the name's field tells it as BSD's `ar` does: `#1/` and a
+-- decimal number (FreeBSD's ar(5))
+unfoldable pub bsd_name_size : List ℕ → Option ℕ
+bsd_name_size bytes =
+    if slice_index bytes 0 == 35 && slice_index bytes 1 == 49 && slice_index bytes 2 == 47 then padded_decimal (slice bytes 3 13) else None
+
+-- how many bytes of a member's data its name takes
+unfoldable pub name_in_data : List ℕ → ℕ
+name_in_data bytes = elim (bsd_name_size bytes) [ None ↦ 0 | Some size ↦ size ]
+
+-- what a member's data of so many bytes are behind the name at their front, where it has room in them
+unfoldable pub data_behind : (at size name : ℕ) → Result Extent Cause
+data_behind at size name = if nat_lt size name then Err MemberCut else Ok (record { at = at + name; size = size - name })
+
+-- the extent of the data of the member whose header stands at an offset
+unfoldable pub member_data : List ℕ → ℕ → Result Extent Cause
+member_data file at =
+    elim (member_size file at) [
+      | Err cause ↦ Err cause
+      | Ok size ↦ data_behind (at + MEMBER_HEADER_SIZE) size (name_in_data (name_field file at))
+    ]
 
 -- the place of the first slash
 abbrev pub slash_in : List ℕ → Option ℕ
@@ -113,8 +142,8 @@ newline_in bytes = position (λ b. b == 10) bytes
 unfoldable pub short_name : List ℕ → List ℕ
 short_name bytes =
     elim (slash_in bytes) [
-      | None ↦ trimmed bytes
-      | Some place ↦ if place == 0 then trimmed bytes else take place bytes
+      | None ↦ trimmed SPACE bytes
+      | Some place ↦ if place == 0 then trimmed SPACE bytes else take place bytes
     ]
 
 -- the offset in the table of names that a name's field tells: a slash, and a decimal number
@@ -138,15 +167,28 @@ long_name file cap (Some table) offset =
     let front = slice (bytes_in file table) offset (cap + 2) in
     if nat_lt offset table.size then long_of cap front (newline_in front) else Err NameOutside
 
+-- the name in the first bytes at an offset, as it is shown: no more than cap + 2 of them are looked at, and the NULs at the end
+-- of these are no part of it
+unfoldable pub bsd_name : List ℕ → (cap at size : ℕ) → Shown
+bsd_name file cap at size = capped cap (trimmed NUL (slice file at (min size (cap + 2))))
+
+-- a name that is told by its field alone: that in the table of names, or that in the field itself
+unfoldable pub told_name : List ℕ → ℕ → Option Extent → List ℕ → Result Shown Cause
+told_name file cap names bytes =
+    elim (long_offset bytes) [
+      | Some offset ↦ long_name file cap names offset
+      | None ↦ Ok (capped cap (short_name bytes))
+    ]
+
 -- the name of the member whose header stands at an offset, as it is shown
 unfoldable pub member_name : List ℕ → ℕ → Option Extent → ℕ → Result Shown Cause
 member_name file cap names at =
-    elim (long_offset (name_field file at)) [
-      | Some offset ↦ long_name file cap names offset
-      | None ↦ Ok (capped cap (short_name (name_field file at)))
+    elim (bsd_name_size (name_field file at)) [
+      | Some size ↦ Ok (bsd_name file cap (at + MEMBER_HEADER_SIZE) size)
+      | None ↦ told_name file cap names (name_field file at)
     ]
 
--- a member: its index, the extent of its data, and its name as it is shown
+-- a member: its index, the extent of its data, behind the name where that stands at their front, and its name as it is shown
 pub record Member : Type 0 where
   pub index : ℕ
   pub extent : Extent
@@ -164,18 +206,17 @@ pub data Next : Type 0 where
   Broken : Refusal → Next
   OneMember : Member → Next
 
--- a member whose size and name are known
-abbrev pub member_named : Progress → ℕ → Result Shown Cause → Next
-member_named p size (Ok name) =
-    OneMember (record { index = p.index; extent = record { at = p.at + MEMBER_HEADER_SIZE; size = size }; name = name })
-member_named p size (Err cause) = Broken (record { at = p.at; cause = cause })
+-- a member whose data and name are known
+abbrev pub member_named : Progress → Extent → Result Shown Cause → Next
+member_named p extent (Ok name) = OneMember (record { index = p.index; extent = extent; name = name })
+member_named p extent (Err cause) = Broken (record { at = p.at; cause = cause })
 
 unfoldable pub next_member : List ℕ → ℕ → Progress → Next
 next_member file cap p =
     if nat_lt p.at (length file) then
-    elim (member_size file p.at) [
+    elim (member_data file p.at) [
       | Err cause ↦ Broken (record { at = p.at; cause = cause })
-      | Ok size ↦ member_named p size (member_name file cap p.names p.at)
+      | Ok extent ↦ member_named p extent (member_name file cap p.names p.at)
     ] else Ends
 
 -- the member whose header stands at an offset is the table of names: its name is two slashes
@@ -187,10 +228,15 @@ abbrev pub names_behind : List ℕ → Progress → Extent → Option Extent
 names_behind file p extent =
     elim p.names [ Some table ↦ Some table | None ↦ if is_name_table file p.at then Some extent else None ]
 
+-- the place behind data that end at an offset, where the header stands at another: behind the byte of padding, where all
+-- bytes behind the header, a name at their front too, are odd in number
+abbrev pub padded_end : (header end : ℕ) → ℕ
+padded_end header end = end + (end - (header + MEMBER_HEADER_SIZE)) % 2
+
 -- the walk behind a member
 abbrev pub behind : List ℕ → Progress → Member → Progress
 behind file p m = record {
-  at = m.extent.at + m.extent.size + m.extent.size % 2;
+  at = padded_end p.at (m.extent.at + m.extent.size);
   index = p.index + 1;
   names = names_behind file p m.extent;
 }

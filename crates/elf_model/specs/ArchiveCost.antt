@@ -1,23 +1,27 @@
 -- How many bytes the listing of an archive asks for at most, and what it never passes.
-use Rattle.std.specs.Prelude.{ℕ, zero, suc, ◌≡◌, ◌<◌, ◌+◌, ◌*◌, ◌/◌, ◌&&◌, nat_le, nat_lt, is_some, Bool, true, false, if◌then◌else◌, List, [], ◌∷◌, length, Option, None, Some, ◌⊎◌}
+use Rattle.std.specs.Prelude.{ℕ, zero, suc, ◌<◌, ◌+◌, ◌*◌, ◌/◌, ◌||◌, nat_le, is_some, Bool, List, length, Option, None, Some, ◌⊎◌}
 use Rattle.std.specs.List.{list_any}
-use Rattle.elf_model.specs.Archive.{Member, Members, Next, Ends, Broken, OneMember, Progress, MAGIC_SIZE, MEMBER_HEADER_SIZE, archive_checks, archive_items, before_members, behind, bytes_in, is_elf, is_refused, lists_members, long_offset, members_of, name_field, next_member}
+use Rattle.elf_model.specs.Archive.{Member, Ends, Broken, OneMember, Progress, MAGIC_SIZE, MEMBER_HEADER_SIZE, archive_checks, archive_items, before_members, behind, bsd_name_size, bytes_in, is_elf, is_refused, lists_members, long_offset, members_of, name_field, next_member}
 use Rattle.elf_model.specs.Budget.{IsCut, IsReport}
-use Rattle.elf_model.specs.Checks.{first_refusal, pass}
+use Rattle.elf_model.specs.Checks.{pass}
 use Rattle.elf_model.specs.Cost.{ceiling, cost_where, listing_cost}
-use Rattle.elf_model.specs.Names.{pad64}
+use Rattle.elf_model.specs.Names.{name_bytes, pad64}
 use Rattle.elf_model.specs.Style.{Style}
 use Rattle.elf_model.specs.declared.causes.Refusal.{Refusal}
 
--- the bytes that a long name costs at most: cap + 2 in whole pieces of 64
+-- the bytes that a name costs at most that does not stand in its field: cap + 2 in whole pieces of 64
 abbrev pub long_name_bytes : ℕ → ℕ
 long_name_bytes cap = pad64 (cap + 2)
 
--- the next member costs its header, where that is within the file, and its name where that is a long one
+-- a name does not stand in its field, but in the table of names or at the front of the member's data
+unfoldable pub is_elsewhere : List ℕ → Bool
+is_elsewhere bytes = is_some (bsd_name_size bytes) || is_some (long_offset bytes)
+
+-- the next member costs its header, where that is within the file, and its name where that stands elsewhere
 unfoldable pub header_cost : List ℕ → ℕ → Progress → ℕ
 header_cost file cap p =
     cost_where (nat_le (p.at + MEMBER_HEADER_SIZE) (length file))
-    (MEMBER_HEADER_SIZE + cost_where (is_some (long_offset (name_field file p.at))) (long_name_bytes cap))
+    (MEMBER_HEADER_SIZE + cost_where (is_elsewhere (name_field file p.at)) (long_name_bytes cap))
 
 -- a member's listing costs the four bytes that tell whether it is an ELF file, and what that file's listing does
 unfoldable pub member_cost : List ℕ → ℕ → Style → ℕ → Member → ℕ
@@ -43,7 +47,14 @@ archive_cost file headers style parts =
     MAGIC_SIZE
     + cost_where (pass (archive_checks file)) (members_cost (length file) file headers style parts before_members)
 
--- what no listing of an archive of so many bytes passes: for each 60 bytes a member's header, a long name, the four bytes
+-- what members in so many bytes may cost: for each 60 bytes a header, a name elsewhere, the four bytes that tell an ELF file and
+-- what an empty file may cost, and what the data may
+abbrev pub allowance : ℕ → ℕ → ℕ → ℕ
+allowance room headers cap =
+    room / MEMBER_HEADER_SIZE * (64 + long_name_bytes cap + ceiling 0 headers cap)
+    + headers * (room + room / 16 * (32 + name_bytes cap))
+
+-- what no listing of an archive of so many bytes passes: for each 60 bytes a member's header, a name elsewhere, the four bytes
 -- that tell an ELF file, and what an empty file may cost; and once what a file of all bytes may
 unfoldable pub archive_ceiling : ℕ → ℕ → ℕ → ℕ
 archive_ceiling size headers cap =

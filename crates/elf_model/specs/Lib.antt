@@ -27,6 +27,7 @@ pub mod Cost
 pub mod Budget
 pub mod Archive
 pub mod ArchiveCost
+pub mod ArchiveLaws
 pub mod CostLaws
 pub mod RecordLaws
 pub mod Answer

@@ -5,6 +5,7 @@
 #![tactic(auto)]
 
 mod apply_laws;
+mod archive_laws;
 mod causes;
 mod cost_laws;
 mod dynamic;

@@ -12,7 +12,8 @@ pub struct Member<'a> {
     pub name: &'a [u8],
     /// Whether its name has more bytes.
     pub is_cut: bool,
-    /// Its data, which may be a [`File`](crate::File) of its own.
+    /// Its data, which may be a [`File`](crate::File) of its own, behind the name where that stands at
+    /// their front.
     pub content: &'a [u8],
     /// The offset in the archive of its header.
     pub at: u64,

@@ -5,7 +5,7 @@ use Rattle.elf_archive.proofs.fields.trimmed_length.Given as goal
 abbrev pub invariant-loop-end : goal.invariant-loop-end
 invariant-loop-end l = record {
   within : l.end ≤ length l.bytes;
-  same : trimmed (take l.end l.bytes) ≡ trimmed l.bytes;
+  same : trimmed l.fn.byte (take l.end l.bytes) ≡ trimmed l.fn.byte l.bytes;
 }
 
 abbrev pub decreases-loop-end : goal.decreases-loop-end

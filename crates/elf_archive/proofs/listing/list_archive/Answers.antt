@@ -5,8 +5,8 @@ use Rattle.elf_model.specs.Archive.{before_members}
 use Rattle.elf_model.specs.ArchiveCost.{members_cost}
 use Rattle.elf_headers.specs.Permitted.{style_of}
 use Rattle.elf_listing.proofs.RowLaws.{Stopped-first, Writes-as}
-use Rattle.elf_archive.specs.Listed.{allowance}
-use Rattle.elf_archive.proofs.AllowanceLaws.{allowance_within}
+use Rattle.elf_model.specs.ArchiveCost.{allowance}
+use Rattle.elf_model.proofs.AllowanceLaws.{allowance_within}
 use Rattle.elf_archive.proofs.ArchiveLaws.{magic_within, magic_cost, magic_alone, passed_cost, passed_items, all_refused}
 use Rattle.elf_archive.proofs.ConsumeLaws.{Consumes-fault, Consumes-then}
 use Rattle.elf_archive.proofs.listing.list_archive.Goals as goal

@@ -4,7 +4,7 @@ use Rattle.elf_model.specs.Archive.{before_members}
 use Rattle.elf_source.specs.Growth.{Grows}
 use Rattle.elf_source.specs.Source.{Reads}
 use Rattle.elf_headers.specs.Permitted.{style_of}
-use Rattle.elf_archive.specs.Listed.{allowance}
+use Rattle.elf_model.specs.ArchiveCost.{allowance}
 use Rattle.elf_archive.specs.Members.{StandsIn}
 use Rattle.elf_archive.proofs.WalkLaws.{WalkSoFar}
 use Rattle.elf_archive.proofs.listing.list_members.Given as goal

@@ -1,16 +1,22 @@
-use Rattle.std.proofs.Common.{Ok, sym, ap, ◌∙◌}
-use Rattle.elf_archive.proofs.NameLaws.{name-long}
-use Rattle.elf_archive.proofs.RowLaws.{short_at}
+use Rattle.std.proofs.Common.{sym, take, ◌∙◌, arith}
+use Rattle.elf_archive.proofs.MemberLaws.{name-of}
+use Rattle.elf_archive.proofs.NameLaws.{in-data, name-bsd, name-told}
 use Rattle.elf_archive.proofs.rows.find_name.Goals as goal
+
+pub find_bsd-requires : goal.find_bsd-requires
+find_bsd-requires c =
+    let size = in-data (take 16 c.args.header.now) c.in-Some.size (sym c.bsd_name_size.ensures.value ∙ c.in-Some.is) in
+    omega (arith, size, c.requires.within)
+
+pub find_told-requires-clause-field : goal.find_told-requires-clause-field
+find_told-requires-clause-field c = name-of c.args.file.now c.args.header.now c.args.at c.requires.header
 
 pub returns-in-Some : goal.returns-in-Some
 returns-in-Some c =
-    let told = sym c.long_offset.ensures.value ∙ c.in-Some.is in
-    rw (name-long c.args.file.now c.args.header.now 4096 c.args.at c.in-Some.offset _ c.requires.header told) c.find_long.ensures
+    let told = sym c.bsd_name_size.ensures.value ∙ c.in-Some.is in
+    rw (name-bsd c.args.file.now c.args.header.now 4096 c.args.at c.in-Some.size _ c.requires.header told) c.find_bsd.ensures
 
 pub returns-in-None : goal.returns-in-None
 returns-in-None c =
-    let told = sym c.long_offset.ensures.value ∙ c.in-None.is in (
-      short_at c.args.file.now c.args.header.now c.args.at c.short_length.result _ c.requires.header told c.short_length.ensures.name c.short_length.ensures.within ∙ ap Ok c.shortened.ensures.0,
-      c.shortened.ensures.1,
-    )
+    let told = sym c.bsd_name_size.ensures.value ∙ c.in-None.is in
+    rw (name-told c.args.file.now c.args.header.now 4096 c.args.at _ c.requires.header told) c.find_told.ensures

@@ -1,10 +1,9 @@
 -- What is left for the members behind a member is less by what that may cost.
 use Rattle.std.proofs.Common.{◌≡◌, ℕ, ◌+◌, ◌-◌, ◌*◌, ◌/◌, ◌≤◌, ap, arith}
 use Rattle.std.proofs.Math.Nat.{mul-le-mul_left, mul-le-mul_right, mul-add, add-mul}
-use Rattle.elf_model.specs.ArchiveCost.{archive_ceiling, long_name_bytes}
+use Rattle.elf_model.specs.ArchiveCost.{allowance, archive_ceiling, long_name_bytes}
 use Rattle.elf_model.specs.Cost.{ceiling}
 use Rattle.elf_model.specs.Names.{name_bytes}
-use Rattle.elf_archive.specs.Listed.{allowance}
 
 -- what the data of a file may cost
 data_bytes : ℕ → ℕ → ℕ

@@ -1,0 +1,18 @@
+-- Laws of archives.
+use Rattle.std.specs.Prelude.{ℕ, ◌≡◌, ◌+◌, ◌≤◌, List, length}
+use Rattle.elf_model.specs.Archive.{Member, OneMember, Progress, MEMBER_HEADER_SIZE, next_member}
+use Rattle.elf_model.specs.ArchiveCost.{archive_ceiling, archive_cost}
+use Rattle.elf_model.specs.Style.{Style}
+
+-- a member's data stand behind its header and end within the file
+abbrev pub DataLieInTheFile : Type 0
+DataLieInTheFile =
+    (file : List ℕ) (cap : ℕ) (p : Progress) (m : Member)
+    → next_member file cap p ≡ OneMember m
+    → (p.at + MEMBER_HEADER_SIZE ≤ m.extent.at) × (m.extent.at + m.extent.size ≤ length file)
+
+-- THE BOUND: no listing of an archive costs more than the ceiling of its length, whatever its bytes are
+abbrev pub ArchiveCostIsWithinCeiling : Type 0
+ArchiveCostIsWithinCeiling =
+    (file : List ℕ) (headers : ℕ) (style : Style) (parts : ℕ)
+    → archive_cost file headers style parts ≤ archive_ceiling (length file) headers style.cap
