@@ -1,6 +1,7 @@
 //! Each call of the crate from a command line.
 //!
-//!     calls show FILE             the listing
+//!     calls show FILE [PART]      the listing, or one part of it
+//!     calls asked FILE            how many bytes of the file the listing asks for
 //!     calls find FILE NAME        the symbol and the steps
 //!     calls rows FILE..           all rows, as numbers; names in hexadecimal digits
 //!     calls members ARCHIVE       the members of an archive, so, with the listing of each ELF file
@@ -12,13 +13,31 @@ fn hex(bytes: &[u8]) -> String {
     bytes.iter().map(|byte| format!("{byte:02x}")).collect()
 }
 
-/// A listing; the memory for it is doubled until it fits.
-fn show(file: &File) -> Result<(), Error> {
+/// The part of a listing that has this name; all of them without one.
+fn part(name: Option<&String>) -> u16 {
+    match name.map(|name| &name[..]) {
+        Some("header") => elfsee::HEADER,
+        Some("sections") => elfsee::SECTIONS,
+        Some("segments") => elfsee::SEGMENTS,
+        Some("symbols") => elfsee::SYMBOLS,
+        Some("relocs") => elfsee::RELOCS,
+        Some("notes") => elfsee::NOTES,
+        Some("dynamic") => elfsee::DYNAMIC,
+        _ => elfsee::ALL,
+    }
+}
+
+/// A listing, or how many bytes it asks for; the memory for it is doubled until it fits.
+fn show(file: &File, parts: u16, is_counted: bool) -> Result<(), Error> {
     let (mut room, mut out) = (vec![0; file.room()], vec![0; 4096]);
     loop {
-        match file.show(elfsee::ALL, &mut room, &mut out) {
+        match file.show(parts, &mut room, &mut out) {
             Err(Error::Full) => out = vec![0; 2 * out.len()],
             Err(error) => return Err(error),
+            Ok(listing) if is_counted => {
+                println!("{}", listing.asked);
+                return Ok(());
+            }
             Ok(listing) => {
                 print!("{}", listing.text);
                 return listing.refused.map_or(Ok(()), |refused| Err(refused.into()));
@@ -44,11 +63,13 @@ fn symbols(file: &File, section: u16, room: &mut [u8]) -> Result<(), Error> {
     while let Some(row) = rows.next() {
         let name = rows.name(row.name.into())?;
         println!(
-            "Y {section} {} {} {} {} {} {}",
+            "Y {section} {} {} {} {} {} {} {} {}",
             row.value,
             row.size,
             row.section,
             row.info,
+            row.kind(),
+            row.binding(),
             row.other,
             hex(name)
         );
@@ -131,7 +152,8 @@ fn main() {
         let bytes = std::fs::read(path).expect("a file");
         let file = File::new(&bytes);
         let done = match &words[0][..] {
-            "show" => show(&file),
+            "show" => show(&file, part(words.get(2)), false),
+            "asked" => show(&file, elfsee::ALL, true),
             "find" => find(&file, words[2].as_bytes()),
             "members" => members(&file),
             _ => rows(&file),

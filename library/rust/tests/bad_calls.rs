@@ -77,6 +77,12 @@ fn limits_have_ranges() {
     let file = File::with_limits(&bytes, Limits { budget: Some(63), ..Limits::default() });
     let listing = file.show(elfsee::ALL, &mut [0; 64], &mut [0; 100]).unwrap().refused;
     assert_eq!(listing, Some(Refused { cause: Cause::Budget, at: 0 }));
+    let mut out = [0; 100];
+    let nothing = File::with_limits(&bytes, Limits { budget: Some(0), ..Limits::default() });
+    let listing = nothing.show(elfsee::ALL, &mut [0; 64], &mut out).unwrap();
+    assert_eq!((listing.refused, listing.asked), (Some(Refused { cause: Cause::Budget, at: 0 }), 0));
+    let listing = File::new(&bytes).show(elfsee::HEADER, &mut [0; 64], &mut out).unwrap();
+    assert_eq!((listing.refused, listing.asked), (None, 64));
 }
 
 #[test]
@@ -220,12 +226,33 @@ fn names_lie_in_any_bytes() {
     assert!(file.name(&beyond, u64::MAX).is_err());
 }
 
+/// The word that a cause has by its name: its parts in small letters, joined by hyphens.
+fn word_of_name(cause: Cause) -> String {
+    let mut word = String::new();
+    for letter in format!("{cause:?}").chars() {
+        if letter.is_uppercase() && !word.is_empty() {
+            word.push('-');
+        }
+        word.extend(letter.to_lowercase());
+    }
+    match &word[..] {
+        "bad-class" | "bad-data" | "bad-version" => word[4..].to_string(),
+        _ => word,
+    }
+}
+
 #[test]
 fn causes_have_words_and_numbers() {
-    for number in 1..30 {
-        let cause = Cause::of_number(number);
-        assert_eq!(cause.number(), number);
-        assert!(!cause.to_string().is_empty());
+    for number in 1..64 {
+        let (cause, mut out) = (Cause::of_number(number), [0; 32]);
+        // SAFETY: `out` is as long as is said.
+        let length = unsafe { elfsee::raw::elfsee_cause_word(number, out.as_mut_ptr(), out.len()) };
+        assert_eq!(cause == Cause::Unknown, length == 0, "{number}");
+        if cause != Cause::Unknown {
+            assert_eq!(cause.number(), number);
+            assert_eq!(cause.to_string().as_bytes(), &out[..length]);
+            assert_eq!(cause.to_string(), word_of_name(cause));
+        }
     }
     assert_eq!(Cause::of_number(30), Cause::Unknown);
     assert_eq!(Cause::Unknown.to_string(), "");
