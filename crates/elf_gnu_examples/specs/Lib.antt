@@ -7,3 +7,5 @@ pub mod ExamplesRests
 pub mod ExamplesBefore
 pub mod ExamplesGnuHash
 pub mod ExamplesWanted
+pub mod ExamplesWords
+pub mod ExamplesViews

@@ -9,4 +9,6 @@ mod library_rows;
 mod number_rows;
 mod offered_rows;
 mod rest_rows;
+mod view_rows;
 mod wanted_rows;
+mod word_rows;
