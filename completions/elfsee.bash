@@ -6,7 +6,7 @@ _elfsee_options() {
     case $1 in
     show | sample | archive) set -- --headers --names --max-read --only --gnu --by-segments ;;
     check) set -- --headers --names --max-read --only --gnu --by-segments --files0-from ;;
-    find) set -- --headers --max-read --gnu ;;
+    find) set -- --headers --max-read --gnu --by-segments ;;
     apply) set -- --headers --max-read --layout --explain ;;
     *) set -- ;;
     esac

@@ -12,7 +12,7 @@ GNU_HASH, HASH, VERSYM, VERDEF, VERNEED = 0x6FFFFFF6, 5, 0x6FFFFFFF, 0x6FFFFFFD,
 T_HASH, T_STRTAB, T_SYMTAB, T_STRSZ = 4, 5, 6, 10
 T_GNU_HASH, T_VERSYM, T_VERDEF, T_VERNEED = 0x6FFFFEF5, 0x6FFFFFF0, 0x6FFFFFFC, 0x6FFFFFFE
 LOAD, DYNAMIC = 1, 2
-UNDEF, ABS, X86_64 = 0, 0xFFF1, 62
+UNDEF, ABS, X86_64, ALPHA = 0, 0xFFF1, 62, 0x9026
 TLS = 6
 OFFERED_TYPES, OFFERED_BINDINGS, OFFERED_VISIBILITIES = (0, 1, 2, 5, 6, 10), (1, 2, 10), (0, 3)
 TYPES = {**listed_rows.NAMES["type of a Y line"], 10: "IFUNC"}
@@ -110,13 +110,16 @@ class Scope:
         refuse_where(table is None, 0x28, "no-hash")
         self.table, self.is_gnu = table, table.type == GNU_HASH
         table.check_inside()
-        refuse_where(table.size < (16 if self.is_gnu else 8), table.at, "hash-shape")
+        # In files of Alpha the words of a hash table of the gABI have the size that its header tells, 8 bytes.
+        is_wide = self.machine == ALPHA and not self.is_gnu and table.entry == 8
+        refuse_where(table.size < (16 if self.is_gnu else 8) or is_wide, table.at, "hash-shape")
         linked = symbols_of(headers, table) if table.link else None
         refuse_where(linked is None, table.at, "bad-link")
         self.symbols, self.strings = linked
         self.count, self.index = self.symbols.size // 24, table.link
         self.words_index, words = first(VERSYM)
-        if words is None:
+        has_records = any(header and header.size for _, header in map(first, (VERDEF, VERNEED)))
+        if words is None or not has_records:
             return
         if words.size:
             words.check_rows(2)
@@ -144,13 +147,14 @@ class Scope:
         refuse_where(row is None, 0x20, "no-hash")
         self.is_gnu = T_GNU_HASH in rows
         self.table = self.rest(row)
-        refuse_where(self.table.size < (16 if self.is_gnu else 8), row[0], "hash-shape")
+        is_wide = self.machine == ALPHA and not self.is_gnu
+        refuse_where(self.table.size < (16 if self.is_gnu else 8) or is_wide, row[0], "hash-shape")
         refuse_where(not {T_SYMTAB, T_STRTAB, T_STRSZ} <= rows.keys(), row[0], "unmapped")
         self.symbols = self.rest(rows[T_SYMTAB])
         self.count = self.symbols.size // 24
         self.strings = self.exact(rows[T_STRTAB], rows[T_STRSZ][1])
         self.words_index = self.index
-        if T_VERSYM not in rows:
+        if T_VERSYM not in rows or not {T_VERDEF, T_VERNEED} & rows.keys():
             return
         self.words = self.rest(rows[T_VERSYM])
         self.words_count = self.words.size // 2

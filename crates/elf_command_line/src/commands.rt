@@ -5,7 +5,7 @@ ghost use Rattle.clap.specs.declared.builder.value_parser.ValueParser.TheVariant
 ghost use Rattle.elf_command_line.specs.Building.{IsBuilt};
 ghost use Rattle.elf_command_line.specs.CommandLine.{Words};
 ghost use Rattle.elf_command_line.specs.Described.{with_commands};
-ghost use Rattle.elf_command_line.specs.CommandLine.{archive_command, check_command, program};
+ghost use Rattle.elf_command_line.specs.CommandLine.{archive_command, check_command, find_command, program};
 ghost use Rattle.elf_command_line.specs.CommandLine.{sample_command, show_command};
 ghost use Rattle.elf_command_line.specs.CommandLine.{with_checks, with_files, without_command};
 
@@ -63,6 +63,13 @@ const AS_LOADER: Word = Word {
     name: "gnu",
     kind: Kind::Flag,
     help: "Take the symbol that a loader of the GNU system takes, by its version too",
+};
+
+// Whether that loader's way to the tables is gone also where there are section headers.
+const AS_LOADED: Word = Word {
+    name: "by-segments",
+    kind: Kind::Flag,
+    help: "With --gnu: find the tables by the program headers, as the loader does",
 };
 
 const NAME: Word = Word {
@@ -125,7 +132,7 @@ const FIND: Described = Described {
     name: "find",
     about: "Look a name up by the file's own hash table",
     more: FOUND,
-    words: &[HEADERS, MAX_READ, AS_LOADER, FILE, NAME],
+    words: &[HEADERS, MAX_READ, AS_LOADER, AS_LOADED, FILE, NAME],
 };
 
 const APPLY: Described = Described {
@@ -240,6 +247,16 @@ pub fn sample<'a>(alloc: Global, parts: &'a [&'a str]) -> Result<Command<'a>, Al
     ensures { IfOk result (IsBuilt (sample_command parts.entry)) }
 {
     command_of(alloc, &SAMPLE, ValueParser::Names(parts))
+}
+
+/// The command that looks a name up.
+///
+/// # Errors
+/// There is no memory for it; nothing of it is left then.
+pub fn find<'a>(alloc: Global) -> Result<Command<'a>, AllocError>
+    ensures { IfOk result (IsBuilt find_command) }
+{
+    command_of(alloc, &FIND, ValueParser::Names(&[]))
 }
 
 /// The command that checks many files, with the names of the parts that it can go by.

@@ -17,7 +17,7 @@ Examples:
   elfsee version
 
 Options, before or behind FILE; find and apply have only --headers, --max-read and --, find
-also --gnu, and apply --layout and --explain:
+also --gnu, with it --by-segments, and apply --layout and --explain:
   --headers N   permit N section headers, and as many program headers:
                 1 to 65279 [default: 4096]
   --names N     show N bytes of a name: 1 to 4096 [default: 256]
@@ -28,8 +28,8 @@ also --gnu, and apply --layout and --explain:
   --gnu         name the numbers of the GNU system too, and list symbol versions; of find: take
                 the symbol that a loader of the GNU system takes for NAME, NAME@VERSION or
                 NAME@@VERSION
-  --by-segments find tables by the program headers, as a loader does, and list the file as if it
-                had no section headers
+  --by-segments find tables by the program headers, as a loader does, and list the file, or with
+                find --gnu look NAME up in it, as if it had no section headers
   --layout LIST for apply only: take the items in the file LIST too, one a line, as many as
                 there are
   --explain     for apply only: where an address is missing, tell on standard error the type of
@@ -76,7 +76,8 @@ whatever its version and place; a loader may take another.
 
 With --gnu it is the symbol that a loader of the GNU system takes, of the GNU hash table or,
 where there is none, of the SysV one. NAME may then ask for a version: NAME@VERSION, or
-NAME@@VERSION where it is to be the default one.
+NAME@@VERSION where it is to be the default one. With --by-segments too the tables are found
+by the program headers, whatever the section headers tell.
 
 Examples:
   elfsee find /lib/libexample.so printf

@@ -8,3 +8,5 @@ pub mod ExamplesBefore
 pub mod ExamplesGnuHash
 pub mod ExamplesWanted
 pub mod ExamplesRecords
+pub mod ExamplesWords
+pub mod ExamplesViews

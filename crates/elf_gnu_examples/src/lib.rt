@@ -10,4 +10,6 @@ mod number_rows;
 mod offered_rows;
 mod record_rows;
 mod rest_rows;
+mod view_rows;
 mod wanted_rows;
+mod word_rows;

@@ -1,5 +1,5 @@
 -- The values of options, and the parts of a listing.
-use Rattle.std.specs.Prelude.{Bool, false, if◌then◌else◌, bytes_eq, ℕ, ◌≡◌, ◌<◌, ◌^◌, List, [], ◌∷◌, codes, Option, None, Some}
+use Rattle.std.specs.Prelude.{Bool, false, if◌then◌else◌, bytes_eq, ◌&&◌, not, ℕ, ◌≡◌, ◌<◌, ◌^◌, List, [], ◌∷◌, codes, Option, None, Some}
 use Rattle.std.specs.List.{list_any}
 use Rattle.std.specs.Str.Parse.{IsNumeral, digits_value, without_leading_plus}
 use Rattle.clap.specs.Walk.{Row, Text, first_of, one_of}
@@ -50,6 +50,10 @@ is_set (Some text) = bytes_eq text (codes "true")
 -- whether listings of the GNU system are asked for
 abbrev pub asks_gnu : List Row → Bool
 asks_gnu rows = is_set (first_of (codes "gnu") rows)
+
+-- whether the program headers alone are to be gone by, where only a loader's lookup does that and none is asked for
+abbrev pub lacks_gnu : List Row → Bool
+lacks_gnu rows = is_set (first_of (codes "by-segments") rows) && not (asks_gnu rows)
 
 -- how rows are shown, by the values of the options
 pub record IsStyle (rows : List Row) (style : Style) : Type 0 where

@@ -5,18 +5,19 @@ ghost use Rattle.clap.specs.declared.error.kind.ErrorKind.TheVariants.{Format};
 ghost use Rattle.elf_listing_words.specs.Faults.{IsUnasked};
 
 use crate::faults::WordsFault;
-use crate::options::{asks_gnu, text_of};
+use crate::options::{asks_gnu, find_lacks_gnu, text_of};
 use crate::reading::{MEMBER_PARTS, PARTS};
 use clap::error::ErrorKind;
 use clap::{ArgMatches, Command, Error};
-use elf_command_line::{archive, check, sample, show};
+use elf_command_line::{archive, check, find, sample, show};
 use std::alloc::{AllocError, Global};
 
 /// What `check` without a path is told, as other commands are of their FILE.
 const NO_PATH: &str = "the following required arguments were not provided:\n  <PATH>";
 
 /// What a command is told that lists the symbol versions alone, which only listings of the GNU
-/// system have.
+/// system have, and `find` where tables are to be found by the program headers, which only a lookup
+/// as a loader's goes by.
 const NO_GNU: &str = "the following required arguments were not provided:\n  --gnu";
 
 /// What other commands are told where only listings of one file are read.
@@ -25,7 +26,8 @@ const NO_LISTING: &str =
 
 /// The answer to words that the command line lets through though they ask for nothing: to the
 /// symbol versions alone where the listing is not of the GNU system, to `check` where it has
-/// neither a path nor a file with paths, and to other commands where only listings are read.
+/// neither a path nor a file with paths, to `find` by the program headers that is no loader's lookup,
+/// and to other commands where only listings are read.
 pub fn unasked(alloc: Global, matches: &ArgMatches<'_>) -> WordsFault
     ensures { IsUnasked result }
 {
@@ -50,6 +52,7 @@ fn missing(alloc: Global, matches: &ArgMatches<'_>) -> Result<Error, AllocError>
 fn lacking<'m>(matches: &'m ArgMatches<'_>) -> (&'m str, &'static str) {
     match matches.subcommand() {
         Some((command, options)) if lacks_gnu(options) => (command, NO_GNU),
+        Some(("find", options)) if find_lacks_gnu(options) => ("find", NO_GNU),
         Some(("check", _)) => ("check", NO_PATH),
         _ => ("show", NO_LISTING),
     }
@@ -63,10 +66,11 @@ fn lacks_gnu(options: &ArgMatches<'_>) -> bool {
     }
 }
 
-/// The command of this name that lists or checks, with the name that it is told of by.
+/// The command of this name that lists, checks or looks up, with the name that it is told of by.
 fn named<'a>(alloc: Global, command: &str) -> Result<Command<'a>, AllocError> {
     let parts = PARTS.as_slice();
     match command {
+        "find" => called(find(alloc), "elfsee find"),
         "sample" => called(sample(alloc, parts), "elfsee sample"),
         "check" => called(check(alloc, parts), "elfsee check"),
         "archive" => called(archive(alloc, MEMBER_PARTS.as_slice()), "elfsee archive"),

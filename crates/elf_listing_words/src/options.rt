@@ -5,7 +5,7 @@ ghost use Rattle.clap.specs.Words.{found_of};
 ghost use Rattle.elf_model.specs.Listing.{all_parts};
 ghost use Rattle.elf_model.specs.Text.{name_of};
 ghost use Rattle.elf_listing_words.specs.Options.{AreLimits, AreParts, HasNumber, IsStyle};
-ghost use Rattle.elf_listing_words.specs.Options.{asks_gnu, is_part, is_set, part_names};
+ghost use Rattle.elf_listing_words.specs.Options.{asks_gnu, is_part, is_set, lacks_gnu, part_names};
 ghost use Rattle.elf_record.specs.declared.parts.Parts.{Parts};
 ghost use Rattle.elf_headers.specs.declared.caps.Limits.{Limits};
 ghost use Rattle.elf_headers.specs.declared.caps.Style.{Style};
@@ -56,6 +56,13 @@ pub fn asks_gnu(options: &ArgMatches<'_>) -> bool
     ensures { result ≡ asks_gnu (rows_of (found_of options.now)) }
 {
     is_set(options, "gnu")
+}
+
+/// Whether a lookup by the program headers is asked for that is none as a loader does it.
+pub fn find_lacks_gnu(options: &ArgMatches<'_>) -> bool
+    ensures { result ≡ lacks_gnu (rows_of (found_of options.now)) }
+{
+    is_set(options, "by-segments") && !asks_gnu(options)
 }
 
 /// The parts that the options ask for.

@@ -10,3 +10,4 @@ pub mod TellingLaws
 pub mod FoundLaws
 pub mod ReadLaws
 pub mod LookLaws
+pub mod HiddenLaws

@@ -12,6 +12,7 @@ ghost use Rattle.elf_model.specs.Chains.{Walked as Walk};
 ghost use Rattle.elf_model.specs.Loader.{asked_name};
 ghost use Rattle.elf_model.specs.LoaderFind.{loaded_in, loader_ceiling, looked_by, record_cost, walk_in, wanted_numbers};
 ghost use Rattle.elf_model.specs.LoaderScope.{Scope as IsScopeOf};
+ghost use Rattle.elf_model.specs.Style.{looked_at};
 ghost use Rattle.elf_scope.specs.Scopes.{IsScope, ScopeLies};
 ghost use Rattle.elf_wanted.specs.Wants.{asked_of, the_wanted};
 
@@ -31,7 +32,9 @@ use elf_wanted::Wanted;
 /// Dynamic Linking; Linux Standard Base Core, Symbol Versioning): by the file's hash table, of the
 /// GNU system or else of the gABI, the first symbol of the name's chain that has the name, is offered
 /// to others ([`crate::is_offered`]) and whose version fits. What the lookup is made in is found as
-/// by [`find_scope`], and the headers are loaded into the store. The name and the version that is
+/// by [`find_scope`], and the headers are loaded into the store. With `by_segments` it is found by the
+/// program headers also where there are section headers, in a file that is read with zeros for what
+/// its header tells of them (e_shoff, e_shnum and e_shstrndx). The name and the version that is
 /// asked for have at most 4,096 bytes each. Where the name of the symbol's version is told, `name`
 /// holds it, or its first 256 bytes; else `name` holds any bytes.
 ///
@@ -50,6 +53,34 @@ use elf_wanted::Wanted;
 /// name, and `VersionIndex` at the symbol's word where no record has the number. Else a fault of the
 /// source, or `Budget` where a limit has no room for a read, at the offset that was asked for.
 pub fn look_up<S: Source>(
+    src: &mut Counted<S>,
+    store: &mut HeaderStore,
+    wanted: &Wanted<'_>,
+    by_segments: bool,
+    name: &mut NameBuf,
+) -> Result<Lookup, Fault>
+    requires { AreShort (the_wanted wanted.now) }
+    ensures did { Did src.old src.new (why_stopped result)
+        (loader_ceiling src.old.seen.size store.old.slots (the_wanted wanted.now))
+        (λ file. LooksUp (looked_at by_segments file) store.old.slots (the_wanted wanted.now)
+        name.new src.old src.new result) }
+    ensures slots { store.new.slots ≡ store.old.slots }
+{
+    if !by_segments {
+        return look_up_shown(src, store, wanted, name);
+    }
+    let hides = src.hides();
+    src.hide_sections(true);
+    let found = look_up_shown(src, store, wanted, name);
+    src.hide_sections(hides);
+    found
+}
+
+/// Looks up in the file that the source shows.
+///
+/// # Errors
+/// Those of [`find_scope`], and of [`look_in`].
+fn look_up_shown<S: Source>(
     src: &mut Counted<S>,
     store: &mut HeaderStore,
     wanted: &Wanted<'_>,

@@ -7,9 +7,9 @@ use Rattle.std.specs.Prelude.{is_none}
 use Rattle.elf_model.specs.Checks.{Check, refuse, first_refusal, unless_empty, table_checks, is_outside, header_checks, load_checks}
 use Rattle.elf_model.specs.Find.{hash_checks_from}
 use Rattle.elf_model.specs.Loader.{RecordTable}
-use Rattle.elf_model.specs.LoaderScope.{HashKind, least_size, Scope, hash_section, checks_of_type, version_checks, section_checks, records_of_type, section_words, records_with, section_scope, dynamic_segment_index, tagged_row, rest_checks, rest_place, rest_size, hash_row, checks_of_row, rows_checks, segment_checks, segment_strings, segment_words, records_of_tag, segment_scope, scope_by_sections, scope_in_segment, scope_by_segments, scope_of}
+use Rattle.elf_model.specs.LoaderScope.{HashKind, least_size, Scope, hash_section, checks_of_type, words_section, version_checks, section_checks, records_of_type, section_words, records_with, section_scope, dynamic_segment_index, tagged_row, rest_checks, rest_place, rest_size, hash_row, words_row, checks_of_row, rows_checks, has_wide_kind, segment_checks, segment_strings, segment_words, records_of_tag, segment_scope, scope_by_sections, scope_in_segment, scope_by_segments, scope_of}
 use Rattle.elf_model.specs.Mapped.{mapped_at, mapped_checks}
-use Rattle.elf_model.specs.Numbers.{SHT_GNU_VERSYM, SHT_GNU_VERDEF, SHT_GNU_VERNEED, DT_SYMTAB, DT_STRTAB, DT_STRSZ, DT_VERSYM, DT_VERDEF, DT_VERNEED}
+use Rattle.elf_model.specs.Numbers.{SHT_GNU_VERDEF, SHT_GNU_VERNEED, DT_SYMTAB, DT_STRTAB, DT_STRSZ, DT_VERDEF, DT_VERNEED}
 use Rattle.elf_model.specs.Records.{e_shnum, sh_offset, sh_size, sh_link, section_at, segment_at, p_offset, p_filesz, d_un}
 use Rattle.elf_model.specs.Tables.{all_checks, strings_of, segment_dynamic_checks}
 use Rattle.elf_model.specs.VersionRows.{first_of_type, version_table}
@@ -90,12 +90,12 @@ module _ (file : List ℕ) where
   needs_checks : List Check
   needs_checks = checks_of_type file SHT_GNU_VERNEED (all_checks version_table file)
 
-  words_then : (at i : ℕ) → first_of_type file SHT_GNU_VERSYM ≡ Some i
+  words_then : (at i : ℕ) → words_section file ≡ Some i
       → version_checks file at ≡ words_front at i ++ definitions_checks ++ needs_checks
   unfolding version_checks words_front definitions_checks needs_checks
-  words_then at i f = rw (f, version_checks, checks_of_type) refl
+  words_then at i f = rw (f, version_checks) refl
 
-  words_inside : (at : ℕ) (found : Option ℕ) → first_of_type file SHT_GNU_VERSYM ≡ found → first_refusal (version_checks file at) ≡ None
+  words_inside : (at : ℕ) (found : Option ℕ) → words_section file ≡ found → first_refusal (version_checks file at) ≡ None
       → most_of
       (records_with (section_words file) (records_of_type file SHT_GNU_VERDEF Definition (records_of_type file SHT_GNU_VERNEED File [])))
       ≤ length file / 8
@@ -167,7 +167,7 @@ module _ (file : List ℕ) where
   later_rows at =
       checks_of_row (tagged_row file at DT_SYMTAB) (rest_checks file)
       ++ strings_row at
-      ++ checks_of_row (tagged_row file at DT_VERSYM) (version_rows at)
+      ++ checks_of_row (words_row file at) (version_rows at)
 
   missing : (at : ℕ) → Bool
   missing at = is_none (tagged_row file at DT_SYMTAB) || is_none (tagged_row file at DT_STRTAB) || is_none (tagged_row file at DT_STRSZ)
@@ -180,15 +180,15 @@ module _ (file : List ℕ) where
   rows_later at table_row true m e = let a = ap first_refusal (sym (rows_are at table_row)) ∙ e in absurd (let b = rw m at a in cc)
   rows_later at table_row false m e = let a = ap first_refusal (sym (rows_are at table_row)) ∙ e in rw m at a
 
-  rows_then : (at row : ℕ) → tagged_row file at DT_VERSYM ≡ Some row → first_refusal (later_rows at) ≡ None
+  rows_then : (at row : ℕ) → words_row file at ≡ Some row → first_refusal (later_rows at) ≡ None
       → (first_refusal (checks_of_row (tagged_row file at DT_VERDEF) (rest_checks file)) ≡ None)
       × (first_refusal (checks_of_row (tagged_row file at DT_VERNEED) (rest_checks file)) ≡ None)
   unfolding later_rows version_rows
   rows_then at row f e =
-      let words : first_refusal (checks_of_row (tagged_row file at DT_VERSYM) (version_rows at)) ≡ None
+      let words : first_refusal (checks_of_row (words_row file at) (version_rows at)) ≡ None
       = first_refusal-back (checks_of_row (tagged_row file at DT_SYMTAB) (rest_checks file) ++ strings_row at)
-      (checks_of_row (tagged_row file at DT_VERSYM) (version_rows at)) e in
-      let same : checks_of_row (tagged_row file at DT_VERSYM) (version_rows at) ≡ version_rows at row
+      (checks_of_row (words_row file at) (version_rows at)) e in
+      let same : checks_of_row (words_row file at) (version_rows at) ≡ version_rows at row
       = ap (λ (found : Option ℕ). checks_of_row found (version_rows at)) f in
       let rows = ap first_refusal (sym same) ∙ words in
       let needs = checks_of_row (tagged_row file at DT_VERNEED) (rest_checks file) in
@@ -197,7 +197,7 @@ module _ (file : List ℕ) where
         first_refusal-back front needs rows,
       )
 
-  rows_inside : (index at table_row : ℕ) (found : Option ℕ) → tagged_row file at DT_VERSYM ≡ found → first_refusal (rows_checks file at table_row) ≡ None
+  rows_inside : (index at table_row : ℕ) (found : Option ℕ) → words_row file at ≡ found → first_refusal (rows_checks file at table_row) ≡ None
       → most_of
       (records_with (segment_words file index at)
       (records_of_tag file at DT_VERDEF Definition (records_of_tag file at DT_VERNEED File [])))
@@ -213,7 +213,7 @@ module _ (file : List ℕ) where
 
   sized_rest : (kind : HashKind) (table_row : ℕ) → List Check
   sized_rest kind table_row =
-      rest_checks file table_row ++ (refuse (nat_lt (rest_size file table_row) (least_size kind)) table_row HashShape ∷ [])
+      rest_checks file table_row ++ (refuse (nat_lt (rest_size file table_row) (least_size kind) || has_wide_kind file kind) table_row HashShape ∷ [])
 
   segment_inside : (kind : HashKind) (index at table_row : ℕ) → first_refusal (segment_checks file kind at table_row) ≡ None
       → IsInside (length file) (segment_scope file kind index at table_row)

@@ -1,9 +1,9 @@
 -- The lookup of a name in a file: the checks before it, its answer, and how many bytes it may ask for.
-use Rattle.std.specs.Prelude.{ℕ, zero, suc, ◌+◌, ◌*◌, ◌==◌, ◌||◌, nat_lt, not, Bool, true, false, List, [], ◌∷◌, ◌++◌, length, Option, None, Some}
+use Rattle.std.specs.Prelude.{ℕ, zero, suc, ◌+◌, ◌*◌, ◌==◌, ◌&&◌, ◌||◌, nat_lt, not, Bool, true, false, List, [], ◌∷◌, ◌++◌, length, Option, None, Some}
 use Rattle.elf_model.specs.Checks.{Check, refuse, first_refusal, header_checks, before_headers, load_checks, range_checks}
 use Rattle.elf_model.specs.Hash.{nbucket, nchain, Lookup, refused_after, looked_up}
-use Rattle.elf_model.specs.Numbers.{SHT_HASH}
-use Rattle.elf_model.specs.Records.{FILE_HEADER_SIZE, SECTION_HEADER_SIZE, e_shnum, sh_type, sh_size, sh_link, section_at}
+use Rattle.elf_model.specs.Numbers.{EM_ALPHA, SHT_HASH}
+use Rattle.elf_model.specs.Records.{FILE_HEADER_SIZE, SECTION_HEADER_SIZE, e_machine, e_shnum, sh_type, sh_size, sh_link, sh_entsize, section_at}
 use Rattle.elf_model.specs.Names.{pad64}
 use Rattle.elf_model.specs.Tables.{SYMBOL_SIZE, linked_at, has_symbols, symbol_table_checks}
 use Rattle.elf_model.specs.declared.causes.Cause.TheVariants.{BadLink, NoHash, HashShape}
@@ -17,11 +17,15 @@ first_that test first (suc n) = elim (test first) [ true ↦ Some first | false 
 unfoldable pub first_hash : List ℕ → Option ℕ
 first_hash file = first_that (λ i. sh_type file (section_at file i) == SHT_HASH) 0 (e_shnum file)
 
+-- a section's hash table of the gABI has words of 8 bytes, as Alpha's files have them and their entry size says, not of 4
+abbrev pub has_wide_words : List ℕ → ℕ → Bool
+has_wide_words file at = e_machine file == EM_ALPHA && (sh_type file at == SHT_HASH && sh_entsize file at == 8)
+
 -- the checks of a section that is a hash table, of so many bytes at least, before its words are read
 abbrev pub hash_checks_from : ℕ → List ℕ → ℕ → List Check
 hash_checks_from least file at =
     range_checks file at
-    ++ (refuse (nat_lt (sh_size file at) least) at HashShape ∷ refuse (sh_link file at == 0 || not (has_symbols file at)) at BadLink ∷ [])
+    ++ (refuse (nat_lt (sh_size file at) least || has_wide_words file at) at HashShape ∷ refuse (sh_link file at == 0 || not (has_symbols file at)) at BadLink ∷ [])
     ++ symbol_table_checks file (linked_at file at)
 
 -- those of a HASH section

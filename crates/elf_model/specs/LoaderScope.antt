@@ -1,14 +1,14 @@
 -- What a loader of the GNU system looks a name up in, in one file: the hash table, of which of two kinds, the symbols and their
 -- versions, found by the section headers, or where a file has none by the program headers; and the checks before they are read.
-use Rattle.std.specs.Prelude.{ℕ, ◌-◌, ◌/◌, ◌==◌, ◌||◌, nat_lt, not, is_none, true, false, List, [], ◌∷◌, ◌++◌, length, Option, None, Some, Result, Ok, Err}
+use Rattle.std.specs.Prelude.{ℕ, ◌-◌, ◌/◌, ◌==◌, ◌&&◌, ◌||◌, nat_lt, not, is_none, Bool, true, false, List, [], ◌∷◌, ◌++◌, length, Option, None, Some, Result, Ok, Err}
 use Rattle.elf_model.specs.Chains.{HashTable}
 use Rattle.elf_model.specs.Checks.{Check, refuse, first_refusal, unless_empty, header_checks, load_checks, table_checks, is_outside}
 use Rattle.elf_model.specs.Dynamic.{dynamic_count, dynamic_at}
 use Rattle.elf_model.specs.Find.{first_that, hash_checks_from}
 use Rattle.elf_model.specs.Loader.{VersionWords, RecordTable, Symbols}
 use Rattle.elf_model.specs.Mapped.{mapped_at, mapped_place, mapped_checks, mapped_bytes}
-use Rattle.elf_model.specs.Numbers.{SHT_HASH, SHT_GNU_HASH, SHT_GNU_VERSYM, SHT_GNU_VERDEF, SHT_GNU_VERNEED, PT_DYNAMIC, DT_HASH, DT_GNU_HASH, DT_SYMTAB, DT_STRTAB, DT_STRSZ, DT_VERSYM, DT_VERDEF, DT_VERNEED}
-use Rattle.elf_model.specs.Records.{e_shnum, e_phnum, sh_offset, sh_size, sh_link, section_at, p_type, p_offset, p_vaddr, p_filesz, segment_at, d_tag, d_un}
+use Rattle.elf_model.specs.Numbers.{EM_ALPHA, SHT_HASH, SHT_GNU_HASH, SHT_GNU_VERSYM, SHT_GNU_VERDEF, SHT_GNU_VERNEED, PT_DYNAMIC, DT_HASH, DT_GNU_HASH, DT_SYMTAB, DT_STRTAB, DT_STRSZ, DT_VERSYM, DT_VERDEF, DT_VERNEED}
+use Rattle.elf_model.specs.Records.{e_machine, e_shnum, e_phnum, sh_offset, sh_size, sh_link, section_at, p_type, p_offset, p_vaddr, p_filesz, segment_at, d_tag, d_un}
 use Rattle.elf_model.specs.SysvWalk.{section_table_of}
 use Rattle.elf_model.specs.Tables.{SYMBOL_SIZE, DYNAMIC_SIZE, all_checks, linked_at, strings_of, entry_count, segment_dynamic_checks}
 use Rattle.elf_model.specs.VersionRows.{first_of_type, version_table}
@@ -42,15 +42,31 @@ hash_section file = elim (first_of_type file SHT_GNU_HASH) [
   | None ↦ elim (first_of_type file SHT_HASH) [ Some i ↦ Some (SysvTable, section_at file i) | None ↦ None ]
 ]
 
--- the checks of the first section of a type, if there is one
+-- the checks of a section, if there is one
+abbrev pub checks_of_section : List ℕ → Option ℕ → (ℕ → List Check) → List Check
+checks_of_section file section checks = elim section [ None ↦ [] | Some i ↦ checks (section_at file i) ]
+
+-- the checks of the first section of a type
 abbrev pub checks_of_type : List ℕ → ℕ → (ℕ → List Check) → List Check
-checks_of_type file type checks = elim (first_of_type file type) [ None ↦ [] | Some i ↦ checks (section_at file i) ]
+checks_of_type file type checks = checks_of_section file (first_of_type file type) checks
+
+-- the first section of a type has a byte
+abbrev pub has_bytes : List ℕ → ℕ → Bool
+has_bytes file type = elim (first_of_type file type) [ None ↦ false | Some i ↦ not (sh_size file (section_at file i) == 0) ]
+
+-- the first section of the words of symbols' versions, where there are definitions or needs: without them the words name
+-- nothing, and a loader does not look at them
+unfoldable pub words_section : List ℕ → Option ℕ
+words_section file = elim (has_bytes file SHT_GNU_VERDEF || has_bytes file SHT_GNU_VERNEED) [
+  | true ↦ first_of_type file SHT_GNU_VERSYM
+  | false ↦ None
+]
 
 -- the checks of the words of symbols' versions, which are those of the symbols that the hash table is of; then, where there are
 -- such words alone, those of the definitions and of the needs
 unfoldable pub version_checks : List ℕ → ℕ → List Check
 version_checks file at =
-    checks_of_type file SHT_GNU_VERSYM (λ words_at.
+    checks_of_section file (words_section file) (λ words_at.
     unless_empty (sh_size file words_at) (table_checks file words_at VERSYM_SIZE)
     ++ (refuse (not (sh_link file words_at == sh_link file at)) words_at BadLink ∷ [])
     ++ checks_of_type file SHT_GNU_VERDEF (all_checks version_table file)
@@ -69,9 +85,9 @@ records_of_type file type kind others = elim (first_of_type file type) [
       record { kind = kind; head = at; place = sh_offset file at; size = sh_size file at; strings = strings_of file at } ∷ others
 ]
 
--- the words of symbols' versions, of the first section of them
+-- the words of symbols' versions
 unfoldable pub section_words : List ℕ → Option VersionWords
-section_words file = elim (first_of_type file SHT_GNU_VERSYM) [
+section_words file = elim (words_section file) [
   | None ↦ None
   | Some i ↦
       let at = section_at file i in
@@ -137,6 +153,13 @@ hash_row file at = elim (tagged_row file at DT_GNU_HASH) [
   | None ↦ elim (tagged_row file at DT_HASH) [ Some row ↦ Some (SysvTable, row) | None ↦ None ]
 ]
 
+-- the entry of the words of symbols' versions, where there is one of definitions or of needs
+unfoldable pub words_row : List ℕ → ℕ → Option ℕ
+words_row file at = elim (is_none (tagged_row file at DT_VERDEF) && is_none (tagged_row file at DT_VERNEED)) [
+  | true ↦ None
+  | false ↦ tagged_row file at DT_VERSYM
+]
+
 -- the checks of an entry, where there is one
 abbrev pub checks_of_row : Option ℕ → (ℕ → List Check) → List Check
 checks_of_row None checks = []
@@ -152,16 +175,21 @@ rows_checks file at hash_row =
     refuse (is_none symtab || is_none strtab || is_none strsz) hash_row Unmapped
     ∷ checks_of_row symtab (rest_checks file)
     ++ checks_of_row strtab (λ row. checks_of_row strsz (λ size_row. mapped_checks file (d_un file row) (d_un file size_row) row))
-    ++ checks_of_row (tagged_row file at DT_VERSYM) (λ row.
+    ++ checks_of_row (words_row file at) (λ row.
     rest_checks file row
     ++ checks_of_row (tagged_row file at DT_VERDEF) (rest_checks file)
     ++ checks_of_row (tagged_row file at DT_VERNEED) (rest_checks file))
+
+-- a hash table of a kind has words of 8 bytes: Alpha's of the gABI have, and no entry tells of another size
+abbrev pub has_wide_kind : List ℕ → HashKind → Bool
+has_wide_kind file GnuTable = false
+has_wide_kind file SysvTable = e_machine file == EM_ALPHA
 
 -- all checks before the table's counts
 unfoldable pub segment_checks : List ℕ → HashKind → (at hash_row : ℕ) → List Check
 segment_checks file kind at hash_row =
     rest_checks file hash_row
-    ++ (refuse (nat_lt (rest_size file hash_row) (least_size kind)) hash_row HashShape ∷ [])
+    ++ (refuse (nat_lt (rest_size file hash_row) (least_size kind) || has_wide_kind file kind) hash_row HashShape ∷ [])
     ++ rows_checks file at hash_row
 
 -- the strings of the symbols
@@ -176,7 +204,7 @@ segment_strings file at = elim (tagged_row file at DT_STRTAB) [
 
 -- the words of symbols' versions, which the entry of an index of program headers tells of
 unfoldable pub segment_words : List ℕ → (index at : ℕ) → Option VersionWords
-segment_words file index at = elim (tagged_row file at DT_VERSYM) [
+segment_words file index at = elim (words_row file at) [
   | None ↦ None
   | Some row ↦ Some (record { place = rest_place file row; count = rest_size file row / VERSYM_SIZE; head = row; index = index })
 ]

@@ -9,6 +9,10 @@ ET_REL = 1
 abbrev pub EM_X86_64 : ℕ
 EM_X86_64 = 62
 
+-- the machine number of Alpha, as the GNU system's files have it
+abbrev pub EM_ALPHA : ℕ
+EM_ALPHA = 0x9026
+
 -- section types (gABI 4, Section Types)
 abbrev pub SHT_NULL : ℕ
 SHT_NULL = 0

@@ -26,6 +26,10 @@ without_sections_from place (byte ∷ bytes) =
 abbrev pub without_sections : List ℕ → List ℕ
 without_sections file = without_sections_from 0 file
 
+-- a file as it is, or where tables are found by the program headers alone as one whose header tells of no section headers
+abbrev pub looked_at : Bool → List ℕ → List ℕ
+looked_at by_segments file = elim by_segments [ true ↦ without_sections file | false ↦ file ]
+
 -- the file whose tables a style lists
 abbrev pub viewed : Style → List ℕ → List ℕ
-viewed style file = elim style.by_segments [ true ↦ without_sections file | false ↦ file ]
+viewed style file = looked_at style.by_segments file

@@ -174,6 +174,8 @@ pub const DT_FLAGS: u64 = 30;
 
 /// The machine of x86-64 (psABI, Machine Information).
 pub const EM_X86_64: u16 = 62;
+/// The machine of Alpha, as files of the GNU system have it.
+pub const EM_ALPHA: u16 = 0x9026;
 
 /// Nothing is stored (psABI, Relocation Types).
 pub const R_X86_64_NONE: u32 = 0;

@@ -1,5 +1,5 @@
 -- What a request does: what it gives of a file, what it costs, and what it asks for.
-use Rattle.std.specs.Prelude.{ℕ, ◌≡◌, ◌≤◌, ◌+◌, ⊤, List, length, Option, Some, Result, IfErr, IfSome}
+use Rattle.std.specs.Prelude.{ℕ, ◌≡◌, ◌≤◌, ◌+◌, ⊤, Bool, List, length, Option, Some, Result, IfErr, IfSome}
 use Rattle.elf_model.specs.Answer.{IsShown, show_answer_by}
 use Rattle.elf_model.specs.ApplyCost.{apply_cost_by_order}
 use Rattle.elf_model.specs.Cost.{listing_cost}
@@ -9,6 +9,7 @@ use Rattle.elf_model.specs.Loader.{wanted_of}
 use Rattle.elf_model.specs.LoaderAnswer.{loader_answer}
 use Rattle.elf_model.specs.LoaderFind.{loader_ceiling, loader_cost}
 use Rattle.elf_model.specs.Placing.{Layout}
+use Rattle.elf_model.specs.Style.{looked_at}
 use Rattle.elf_source.specs.Growth.{Grows}
 use Rattle.elf_source.specs.Source.{Counting}
 use Rattle.elf_source.specs.Output.{Written}
@@ -54,14 +55,15 @@ RunsFind limits wanted old new before after result =
     (IsAnswered limits.budget (length file) (find_cost file limits.headers wanted) (find_answer file limits.headers wanted))
     (WholeOrUsedUp limits.budget old new result (find_answer file limits.headers wanted)))
 
--- a lookup as a loader does it, of a name alone or with a version
-abbrev pub RunsResolve : Limits → List ℕ → Counting → Counting → Written → Written → Result ℕ Stop → Type 0
-RunsResolve limits text old new before after result =
+-- a lookup as a loader does it, of a name alone or with a version, by the program headers alone or not
+abbrev pub RunsResolve : Limits → List ℕ → Bool → Counting → Counting → Written → Written → Result ℕ Stop → Type 0
+RunsResolve limits text by_segments old new before after result =
     Runs old new before after result (AsksUpTo limits.budget old new (loader_ceiling old.seen.size limits.headers (wanted_of text)))
-    (λ file. loader_cost file limits.headers (wanted_of text))
+    (λ file. loader_cost (looked_at by_segments file) limits.headers (wanted_of text))
     (λ file. Answers before after result
-    (IsAnswered limits.budget (length file) (loader_cost file limits.headers (wanted_of text)) (loader_answer file limits.headers text))
-    (WholeOrUsedUp limits.budget old new result (loader_answer file limits.headers text)))
+    (IsAnswered limits.budget (length file) (loader_cost (looked_at by_segments file) limits.headers (wanted_of text))
+    (loader_answer (looked_at by_segments file) limits.headers text))
+    (WholeOrUsedUp limits.budget old new result (loader_answer (looked_at by_segments file) limits.headers text)))
 
 -- a section with its relocations applied
 abbrev pub RunsApply : Limits → ℕ → Layout → Counting → Counting → Written → Written → Result ℕ Stop → Type 0
@@ -76,6 +78,6 @@ RunsApply limits section layout old new before after result =
 abbrev pub RunsTask : Limits → Task → Counting → Counting → Written → Written → Result ℕ Stop → Type 0
 RunsTask limits (Show parts style) old new before after result = RunsShow (record { limits = limits; style = style }) parts.0 old new before after result
 RunsTask limits (Find wanted) old new before after result = RunsFind limits wanted.bytes.now old new before after result
-RunsTask limits (Resolve wanted) old new before after result = RunsResolve limits wanted.text.now old new before after result
+RunsTask limits (Resolve wanted by_segments) old new before after result = RunsResolve limits wanted.text.now by_segments old new before after result
 RunsTask limits (Apply section layout explain) old new before after result = RunsApply limits section layout.now old new before after result
 RunsTask limits (Place section addresses explain) old new before after result = RunsApply limits section addresses.now old new before after result

@@ -36,7 +36,10 @@ pub fn run<S: Source, W: Sink>(
     match request.task {
         Task::Show { parts, style } => list(src, store, Caps { limits, style }, parts, out),
         Task::Find(wanted) => look_up(src, store, limits, wanted.bytes, out),
-        Task::Resolve(wanted) => resolve(src, store, limits, wanted.text, out),
+        Task::Resolve {
+            wanted,
+            by_segments,
+        } => resolve(src, store, limits, wanted.text, by_segments, out),
         Task::Apply {
             section,
             layout,

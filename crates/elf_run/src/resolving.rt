@@ -27,7 +27,8 @@ use elf_table::{HeaderStore, Limits, NameBuf, NameEnd, Stop};
 use elf_wanted::{Asked, Wanted, wanted_of};
 
 /// Looks a name up in a file as a loader does, alone or with a version: `text` is NAME, NAME@VERSION
-/// or NAME@@VERSION. Writes the symbol's line, in the names of the GNU system, the line of its
+/// or NAME@@VERSION. With `by_segments` what it is looked up in is found by the program headers also
+/// where there are section headers. Writes the symbol's line, in the names of the GNU system, the line of its
 /// version, where the file has versions, and how many symbols were tried; or that number alone where
 /// no symbol answers, or the line of the refusal. Answers the status: 0 where a symbol was found, else
 /// 1. The text has at most 4,096 bytes. Where there is a budget no more is read; afterwards no limit
@@ -41,17 +42,18 @@ pub(crate) fn resolve<S: Source, W: Sink>(
     store: &mut HeaderStore,
     limits: Limits,
     text: &[u8],
+    by_segments: bool,
     out: &mut Out<W>,
 ) -> Result<u8, Stop>
     requires slots { (store.old.slots ≡ limits.headers) × (src.old.asked ≤ 2 ^ 127) }
     requires most { length text.now ≤ 4096 }
     ensures slots { store.new.slots ≡ store.old.slots }
-    ensures runs { RunsResolve limits text.now src.old src.new out.old out.new result }
+    ensures runs { RunsResolve limits text.now by_segments src.old src.new out.old out.new result }
 {
     let wanted = wanted_of(text);
     let mut name = NameBuf::new();
     src.limit(limits.budget);
-    let found = look_up(src, store, &wanted, &mut name);
+    let found = look_up(src, store, &wanted, by_segments, &mut name);
     src.limit(None);
     match found {
         Ok(lookup) => show_resolved(&lookup, &wanted, &name, out),

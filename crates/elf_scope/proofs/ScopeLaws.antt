@@ -1,9 +1,9 @@
 -- What a lookup is made in by the dynamic entries of a segment.
-use Rattle.std.proofs.Common.{◌≡◌, ℕ, ◌/◌, ◌<◌, ◌≤◌, ◌||◌, nat_lt, Bool, true, false, List, [], ◌∷◌, ◌++◌, Option, None, Some, Result, Ok, Err, refl, sym, ap, subst, ◌∙◌, arith}
+use Rattle.std.proofs.Common.{◌≡◌, ◌⊎◌, inl, inr, ℕ, ◌/◌, ◌<◌, ◌≤◌, ◌||◌, nat_lt, Bool, true, false, List, [], ◌∷◌, ◌++◌, Option, None, Some, Result, Ok, Err, refl, sym, ap, subst, ◌∙◌, arith}
 use Rattle.std.proofs.lemmas.Bool.Decides.{nat_tests}
 use Rattle.std.specs.Prelude.{is_none, option_map}
 use Rattle.elf_model.specs.Checks.{Check, refuse, first_refusal}
-use Rattle.elf_model.specs.LoaderScope.{HashKind as IsHashKind, checks_of_row, hash_row, least_size, rest_checks, rest_place, rest_size, rows_checks, segment_checks, segment_scope, segment_strings, segment_symbols, segment_words, tagged_row}
+use Rattle.elf_model.specs.LoaderScope.{HashKind as IsHashKind, checks_of_row, has_wide_kind, hash_row, least_size, rest_checks, rest_place, rest_size, rows_checks, segment_checks, segment_scope, segment_strings, segment_symbols, segment_words, tagged_row}
 use Rattle.elf_model.specs.Mapped.{mapped_bytes, mapped_checks, mapped_place}
 use Rattle.elf_model.specs.Numbers.{DT_SYMTAB, DT_STRTAB, DT_STRSZ}
 use Rattle.elf_model.specs.Records.{d_un, e_machine}
@@ -165,7 +165,7 @@ less_false a b h = grind (arith, nat_tests)
 
 module _ (file : List ℕ) (kind : IsHashKind) (index at : ℕ) (entry : Entry) (value : d_un file entry.at ≡ entry.value) where
   abbrev shape : List Check
-  shape = refuse (nat_lt (rest_size file entry.at) (least_size kind)) entry.at HashShape ∷ []
+  shape = refuse (nat_lt (rest_size file entry.at) (least_size kind) || has_wide_kind file kind) entry.at HashShape ∷ []
 
   all_are : segment_checks file kind at entry.at ≡ rest_checks file entry.at ++ shape ++ rows_checks file at entry.at
   unfolding segment_checks
@@ -179,18 +179,29 @@ module _ (file : List ℕ) (kind : IsHashKind) (index at : ℕ) (entry : Entry) 
     hash_is : (first_refusal (rest_checks file entry.at) ≡ None) × IsRest file entry.at table
     hash_is = entry_passes file entry table value h
 
-    pub shape_refuses : table.count < least_size kind → RefusedBy (segment_checks file kind at entry.at) (Refused (record { at = entry.at; cause = HashShape }))
-    shape_refuses small =
+    fails : (small wide : Bool) → nat_lt (rest_size file entry.at) (least_size kind) ≡ small → has_wide_kind file kind ≡ wide → (small ≡ true) ⊎ (wide ≡ true)
+        → first_refusal shape ≡ Some (record { at = entry.at; cause = HashShape })
+    fails true wide s w one = rw s refl
+    fails false true s w one = rw (s, w) refl
+    fails false false s w (inl e) = cc
+    fails false false s w (inr e) = cc
+
+    pub shape_refuses : (wide : Bool) → wide ≡ has_wide_kind file kind → (table.count < least_size kind) ⊎ (wide ≡ true) → RefusedBy (segment_checks file kind at entry.at) (Refused (record { at = entry.at; cause = HashShape }))
+    shape_refuses wide words small =
         let fault = Refused (record { at = entry.at; cause = HashShape }) in
-        let less : nat_lt (rest_size file entry.at) (least_size kind) ≡ true = rw (sym hash_is.1.size) (less_true table.count (least_size kind) small) in
-        let first : first_refusal shape ≡ Some (record { at = entry.at; cause = HashShape }) = rw less refl in
+        let one : (nat_lt (rest_size file entry.at) (least_size kind) ≡ true) ⊎ (wide ≡ true) = elim small [
+          | inl less ↦ inl (rw (sym hash_is.1.size) (less_true table.count (least_size kind) less))
+          | inr is ↦ inr is
+        ] in
+        let first = fails _ wide refl (sym words) one in
         rw all_are (refused_front (rest_checks file entry.at ++ shape) (rows_checks file at entry.at) fault (refused_back (rest_checks file entry.at) shape fault hash_is.0 first))
 
-    module _ (room : least_size kind ≤ table.count) where
+    module _ (wide : Bool) (words : wide ≡ has_wide_kind file kind) (narrow : wide ≡ false) (room : least_size kind ≤ table.count) where
       shape_passes : first_refusal (rest_checks file entry.at ++ shape) ≡ None
       shape_passes =
           let less : nat_lt (rest_size file entry.at) (least_size kind) ≡ false = rw (sym hash_is.1.size) (less_false table.count (least_size kind) room) in
-          let first : first_refusal shape ≡ None = rw less refl in
+          let other : has_wide_kind file kind ≡ false = sym words ∙ narrow in
+          let first : first_refusal shape ≡ None = rw (less, other) refl in
           passed_both (rest_checks file entry.at) shape hash_is.0 first
 
       pub rows_refuse : (fault : Fault) → RefusedBy (rows_checks file at entry.at) fault → RefusedBy (segment_checks file kind at entry.at) fault

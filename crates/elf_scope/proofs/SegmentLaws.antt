@@ -1,11 +1,11 @@
 -- What the dynamic entries of a segment tell of, one by one.
-use Rattle.std.proofs.Common.{◌≡◌, ℕ, ◌+◌, ◌-◌, ◌/◌, List, [], ◌∷◌, ◌++◌, length, Option, None, Some, Ok, Err, refl, sym, ap, subst, ◌∙◌}
-use Rattle.std.specs.Prelude.{option_map}
+use Rattle.std.proofs.Common.{◌≡◌, ℕ, ◌+◌, ◌-◌, ◌/◌, Bool, true, false, List, [], ◌∷◌, ◌++◌, length, Option, None, Some, Ok, Err, refl, sym, ap, subst, ◌∙◌}
+use Rattle.std.specs.Prelude.{◌&&◌, is_none, is_some, not, option_map}
 use Rattle.elf_model.specs.Checks.{Check, refuse, first_refusal, is_outside}
 use Rattle.elf_model.specs.Loader.{RecordTable as IsTableOf, VersionWords as IsWordsOf}
-use Rattle.elf_model.specs.LoaderScope.{GnuTable, SysvTable, checks_of_row, hash_row, records_of_tag, rest_checks, rest_place, rest_size, segment_strings, segment_words, tagged_row}
+use Rattle.elf_model.specs.LoaderScope.{GnuTable, SysvTable, checks_of_row, hash_row, records_of_tag, rest_checks, rest_place, rest_size, segment_strings, segment_words, tagged_row, words_row}
 use Rattle.elf_model.specs.Mapped.{mapped_at, mapped_place}
-use Rattle.elf_model.specs.Numbers.{DT_HASH, DT_GNU_HASH, DT_VERSYM, DT_VERDEF, DT_VERNEED}
+use Rattle.elf_model.specs.Numbers.{DT_HASH, DT_GNU_HASH, DT_VERDEF, DT_VERNEED}
 use Rattle.elf_model.specs.Records.{d_un, p_filesz, p_offset, p_vaddr}
 use Rattle.elf_model.specs.declared.causes.Cause.TheVariants.{TableOutside, Unmapped}
 use Rattle.elf_model.specs.declared.versions.VersionKind.{VersionKind}
@@ -136,6 +136,44 @@ module _ (file : List ℕ) (at tag : ℕ) (kind : VersionKind) where
         let is_table : IsRecordTable file told records = record { kind = same; head = head; place = p.1.place; size = p.1.size; names = λ some. names } in
         (ap (λ (r : Option ℕ). first_refusal (checks_of_row r (rest_checks file))) here.0 ∙ p.0, λ others tables h. rw (these others) (is_table, h))
 
+-- whether none is there
+pub none_is : (entry : Option Entry) (none : Bool) → is_some entry ≡ not none → is_none entry ≡ none
+none_is None true h = refl
+none_is None false h = cc
+none_is (Some entry) true h = cc
+none_is (Some entry) false h = refl
+
+-- the entry of the words of versions
+module _ (file : List ℕ) (at : ℕ) where
+  none_map : (row : Option ℕ) → is_none (option_map (entry_at file) row) ≡ is_none row
+  none_map None = refl
+  none_map (Some at) = refl
+
+  words_by : (found : Entries) (none : Bool) → AreEntries file at found → (is_none found.verdef && is_none found.verneed) ≡ none
+      → (elim none as (λ _. Option Entry) [ true ↦ None | false ↦ found.versym ]) ≡ option_map (entry_at file) (words_row file at)
+  unfolding words_row
+  words_by found none are n =
+      let d = ap is_none are.verdef ∙ none_map (tagged_row file at DT_VERDEF) in
+      let v = ap is_none are.verneed ∙ none_map (tagged_row file at DT_VERNEED) in
+      let rows : (is_none (tagged_row file at DT_VERDEF) && is_none (tagged_row file at DT_VERNEED)) ≡ none = rw (sym d, sym v) n in
+      go none rows
+    where
+      go : (b : Bool) → (is_none (tagged_row file at DT_VERDEF) && is_none (tagged_row file at DT_VERNEED)) ≡ b
+          → (elim b as (λ _. Option Entry) [ true ↦ None | false ↦ found.versym ]) ≡ option_map (entry_at file) (words_row file at)
+      go true e = rw (e, words_row) refl
+      go false e = rw (e, words_row) are.versym
+
+  pub words_missing : (found : Entries) → AreEntries file at found → is_none found.verdef ≡ true → is_none found.verneed ≡ true
+      → None ≡ option_map (entry_at file) (words_row file at)
+  words_missing found are d n = words_by found true are (rw (d, n) refl)
+
+  pub words_defined : (found : Entries) → AreEntries file at found → is_none found.verdef ≡ false → found.versym ≡ option_map (entry_at file) (words_row file at)
+  words_defined found are d = words_by found false are (rw d refl)
+
+  pub words_needed : (found : Entries) → AreEntries file at found → is_none found.verdef ≡ true → is_none found.verneed ≡ false
+      → found.versym ≡ option_map (entry_at file) (words_row file at)
+  words_needed found are d n = words_by found false are (rw (d, n) refl)
+
 -- the tables of versions
 module _ (file : List ℕ) (index at : ℕ) where
   abbrev definition_rows : List Check
@@ -144,19 +182,19 @@ module _ (file : List ℕ) (index at : ℕ) where
   abbrev need_rows : List Check
   need_rows = checks_of_row (tagged_row file at DT_VERNEED) (rest_checks file)
 
-  pub rows_none : (option : Option Entry) (versions : Versions) → option ≡ option_map (entry_at file) (tagged_row file at DT_VERSYM) → option ≡ None
+  pub rows_none : (option : Option Entry) (versions : Versions) → option ≡ option_map (entry_at file) (words_row file at) → option ≡ None
       → versions.words ≡ None → versions.definitions ≡ None → versions.needs ≡ None
       → Settles (version_rows file at) (AreVersions file (segment_words file index at) (rows_records file at)) (Ok versions)
   unfolding segment_words
   rows_none option versions is none w d n =
-      let e = row_none file (tagged_row file at DT_VERSYM) (sym none ∙ is) in
+      let e = row_none file (words_row file at) (sym none ∙ is) in
       let checks : version_rows file at ≡ [] = ap (λ (r : Option ℕ). checks_of_row r (λ (row : ℕ). rest_checks file row ++ definition_rows ++ need_rows)) e in
       let words : segment_words file index at ≡ None = rw (e, segment_words) refl in
       (ap first_refusal checks, record { words = rw (words, w) tt; records = rw (words, d, n) tt })
 
-  module _ (option : Option Entry) (entry : Entry) (is : option ≡ option_map (entry_at file) (tagged_row file at DT_VERSYM)) (some : option ≡ Some entry) where
-    words_here : (tagged_row file at DT_VERSYM ≡ Some entry.at) × (d_un file entry.at ≡ entry.value)
-    words_here = row_some file (tagged_row file at DT_VERSYM) entry (sym some ∙ is)
+  module _ (option : Option Entry) (entry : Entry) (is : option ≡ option_map (entry_at file) (words_row file at)) (some : option ≡ Some entry) where
+    words_here : (words_row file at ≡ Some entry.at) × (d_un file entry.at ≡ entry.value)
+    words_here = row_some file (words_row file at) entry (sym some ∙ is)
 
     rows_are : version_rows file at ≡ rest_checks file entry.at ++ definition_rows ++ need_rows
     rows_are = ap (λ (r : Option ℕ). checks_of_row r (λ (row : ℕ). rest_checks file row ++ definition_rows ++ need_rows)) words_here.0

@@ -1,9 +1,9 @@
 -- The tables of versions by the section headers.
-use Rattle.std.proofs.Common.{◌≡◌, ℕ, ◌/◌, ◌<◌, ◌==◌, not, true, inl, inr, List, [], ◌∷◌, ◌++◌, length, Option, None, Some, Ok, Err, refl, sym, ap, ◌∙◌, arith, eq-eqb}
+use Rattle.std.proofs.Common.{◌≡◌, ℕ, ◌/◌, ◌<◌, ◌==◌, not, true, false, inl, inr, List, [], ◌∷◌, ◌++◌, length, Option, None, Some, Ok, Err, refl, sym, ap, ◌∙◌, arith, eq-eqb}
 use Rattle.std.proofs.lemmas.Bool.{cases_Bool, eqb-true}
 use Rattle.elf_model.specs.Checks.{Check, refuse, first_refusal, unless_empty, range_checks_of, table_checks, strings_checks}
 use Rattle.elf_model.specs.Loader.{VersionWords as IsWordsOf, RecordTable as IsTableOf}
-use Rattle.elf_model.specs.LoaderScope.{checks_of_type, records_of_type, records_with, section_words, version_checks}
+use Rattle.elf_model.specs.LoaderScope.{checks_of_type, has_bytes, records_of_type, records_with, section_words, version_checks, words_section}
 use Rattle.elf_model.specs.Numbers.{SHT_GNU_VERSYM, SHT_GNU_VERDEF, SHT_GNU_VERNEED}
 use Rattle.elf_model.specs.Records.{section_at, sh_offset, sh_size, sh_link}
 use Rattle.elf_model.specs.Tables.{all_checks}
@@ -51,22 +51,36 @@ module _ (file : List ℕ) (at : ℕ) where
             (p.0, (sym (ap (λ (t : Rows). t.at) is), sym (ap (λ (t : Rows). t.count) is)))
       ]
 
+-- it is looked at where one of both kinds of records has a byte
+module _ (file : List ℕ) where
+  pub words_unread : has_bytes file SHT_GNU_VERDEF ≡ false → has_bytes file SHT_GNU_VERNEED ≡ false → None ≡ words_section file
+  unfolding words_section
+  words_unread d n = rw (d, n, words_section) refl
+
+  pub words_defined : has_bytes file SHT_GNU_VERDEF ≡ true → first_of_type file SHT_GNU_VERSYM ≡ words_section file
+  unfolding words_section
+  words_defined d = rw (d, words_section) refl
+
+  pub words_needed : has_bytes file SHT_GNU_VERDEF ≡ false → has_bytes file SHT_GNU_VERNEED ≡ true → first_of_type file SHT_GNU_VERSYM ≡ words_section file
+  unfolding words_section
+  words_needed d n = rw (d, n, words_section) refl
+
 -- the first section of words
 module _ (file : List ℕ) (at : ℕ) where
-  pub words_none : first_of_type file SHT_GNU_VERSYM ≡ None → Settles (words_checks file at) (AreWords (section_words file)) (Ok None)
+  pub words_none : words_section file ≡ None → Settles (words_checks file at) (AreWords (section_words file)) (Ok None)
   unfolding section_words
   words_none e =
-      let checks : words_checks file at ≡ [] = rw (e, checks_of_type) refl in
+      let checks : words_checks file at ≡ [] = rw e refl in
       let told : AreWords (section_words file) None = rw (e, section_words) tt in
       (ap first_refusal checks, told)
 
-  module _ (i : ℕ) (e : first_of_type file SHT_GNU_VERSYM ≡ Some i) where
+  module _ (i : ℕ) (e : words_section file ≡ Some i) where
     link : List Check
     link = refuse (not (sh_link file (section_at file i) == sh_link file at)) (section_at file i) BadLink ∷ []
 
     these : words_checks file at ≡ words_own file (section_at file i) ++ link
     unfolding link
-    these = rw (e, checks_of_type) refl
+    these = rw e refl
 
     pub words_refused : (fault : Fault) → Err fault ≡ table_at file (section_at file i) 2 → RefusedBy (words_checks file at) fault
     words_refused fault h = rw these (refused_front (words_own file (section_at file i)) link fault (own_refused file (section_at file i) fault h))
@@ -186,35 +200,35 @@ module _ (file : List ℕ) (at : ℕ) where
   abbrev told : List IsTableOf
   told = records_of_type file SHT_GNU_VERDEF Definition (records_of_type file SHT_GNU_VERNEED File [])
 
-  none_at_all : first_of_type file SHT_GNU_VERSYM ≡ None → version_checks file at ≡ []
+  none_at_all : words_section file ≡ None → version_checks file at ≡ []
   unfolding version_checks
-  none_at_all e = rw (e, version_checks, checks_of_type) refl
+  none_at_all e = rw (e, version_checks) refl
 
-  all_of_them : (i : ℕ) → first_of_type file SHT_GNU_VERSYM ≡ Some i → version_checks file at ≡ words_checks file at ++ definitions ++ needs
+  all_of_them : (i : ℕ) → words_section file ≡ Some i → version_checks file at ≡ words_checks file at ++ definitions ++ needs
   unfolding version_checks
-  all_of_them i e = rw (e, version_checks, checks_of_type) refl
+  all_of_them i e = rw (e, version_checks) refl
 
-  found_words : (found : Option ℕ) (words : VersionWords) → first_of_type file SHT_GNU_VERSYM ≡ found → AreWords (section_words file) (Some words)
+  found_words : (found : Option ℕ) (words : VersionWords) → words_section file ≡ found → AreWords (section_words file) (Some words)
       → version_checks file at ≡ words_checks file at ++ definitions ++ needs
   unfolding section_words
   found_words None words e h = absurd (rw (e, section_words) at h)
   found_words (Some i) words e h = all_of_them i e
 
   pub words_refuse : (fault : Fault) → RefusedBy (words_checks file at) fault → RefusedBy (version_checks file at) fault
-  words_refuse fault r = go (first_of_type file SHT_GNU_VERSYM) refl
+  words_refuse fault r = go (words_section file) refl
     where
-      go : (found : Option ℕ) → first_of_type file SHT_GNU_VERSYM ≡ found → RefusedBy (version_checks file at) fault
+      go : (found : Option ℕ) → words_section file ≡ found → RefusedBy (version_checks file at) fault
       go None e =
-          let none : words_checks file at ≡ [] = rw (e, checks_of_type) refl in
+          let none : words_checks file at ≡ [] = rw e refl in
           absurd (none_refused fault (rw none at r))
       go (Some i) e = rw (all_of_them i e) (refused_front (words_checks file at ++ definitions) needs fault (refused_front (words_checks file at) definitions fault r))
 
   pub no_versions : (versions : Versions) → AreWords (section_words file) None → versions.words ≡ None → versions.definitions ≡ None → versions.needs ≡ None
       → Settles (version_checks file at) (AreVersions file (section_words file) told) (Ok versions)
   unfolding section_words
-  no_versions versions h w d n = go (first_of_type file SHT_GNU_VERSYM) refl
+  no_versions versions h w d n = go (words_section file) refl
     where
-      go : (found : Option ℕ) → first_of_type file SHT_GNU_VERSYM ≡ found → Settles (version_checks file at) (AreVersions file (section_words file) told) (Ok versions)
+      go : (found : Option ℕ) → words_section file ≡ found → Settles (version_checks file at) (AreVersions file (section_words file) told) (Ok versions)
       go None e =
           let words : section_words file ≡ None = rw (e, section_words) refl in
           (ap first_refusal (none_at_all e), record { words = rw (words, w) tt; records = rw (words, d, n) tt })
@@ -223,18 +237,18 @@ module _ (file : List ℕ) (at : ℕ) where
   module _ (words : VersionWords) (w : Settles (words_checks file at) (AreWords (section_words file)) (Ok (Some words))) where
     pub definitions_refuse : (fault : Fault) → RefusedBy definitions fault → RefusedBy (version_checks file at) fault
     definitions_refuse fault r =
-        rw (found_words (first_of_type file SHT_GNU_VERSYM) words refl w.1) (refused_front (words_checks file at ++ definitions) needs fault (refused_back (words_checks file at) definitions fault w.0 r))
+        rw (found_words (words_section file) words refl w.1) (refused_front (words_checks file at ++ definitions) needs fault (refused_back (words_checks file at) definitions fault w.0 r))
 
     pub needs_refuse : (fault : Fault) → first_refusal definitions ≡ None → RefusedBy needs fault → RefusedBy (version_checks file at) fault
     needs_refuse fault d r =
-        rw (found_words (first_of_type file SHT_GNU_VERSYM) words refl w.1) (refused_back (words_checks file at ++ definitions) needs fault (passed_both (words_checks file at) definitions w.0 d) r)
+        rw (found_words (words_section file) words refl w.1) (refused_back (words_checks file at ++ definitions) needs fault (passed_both (words_checks file at) definitions w.0 d) r)
 
     pub versions_are : (versions : Versions) → versions.words ≡ Some words
         → Settles definitions (AreInFront file (records_of_type file SHT_GNU_VERDEF Definition)) (Ok versions.definitions)
         → Settles needs (AreInFront file (records_of_type file SHT_GNU_VERNEED File)) (Ok versions.needs)
         → Settles (version_checks file at) (AreVersions file (section_words file) told) (Ok versions)
     versions_are versions same d n =
-        let all = found_words (first_of_type file SHT_GNU_VERSYM) words refl w.1 in (
+        let all = found_words (words_section file) words refl w.1 in (
           ap first_refusal all ∙ passed_both (words_checks file at ++ definitions) needs (passed_both (words_checks file at) definitions w.0 d.0) n.0,
           record {
             words = rw same w.1;

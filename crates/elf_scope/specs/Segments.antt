@@ -3,8 +3,8 @@ use Rattle.std.specs.Prelude.{ℕ, ◌≡◌, ◌||◌, true, is_none, List, [],
 use Rattle.elf_model.specs.Checks.{Check, first_refusal, pass}
 use Rattle.elf_model.specs.Cost.{cost_where}
 use Rattle.elf_model.specs.Loader.{RecordTable as IsTableOf, Symbols as AreSymbolsOf}
-use Rattle.elf_model.specs.LoaderScope.{Scope as IsScopeOf, tagged_row, rest_checks, rest_place, rest_size, checks_of_row, hash_row, segment_checks, segment_scope, segment_strings, segment_symbols, segment_words, records_of_tag, records_with, dynamic_segment_index, scope_by_segments}
-use Rattle.elf_model.specs.Numbers.{DT_VERSYM, DT_VERDEF, DT_VERNEED}
+use Rattle.elf_model.specs.LoaderScope.{Scope as IsScopeOf, tagged_row, rest_checks, rest_place, rest_size, checks_of_row, hash_row, segment_checks, segment_scope, segment_strings, segment_symbols, segment_words, records_of_tag, records_with, dynamic_segment_index, scope_by_segments, words_row}
+use Rattle.elf_model.specs.Numbers.{DT_VERDEF, DT_VERNEED}
 use Rattle.elf_model.specs.Records.{d_un, p_filesz, segment_at}
 use Rattle.elf_model.specs.Tables.{segment_dynamic_checks}
 use Rattle.elf_model.specs.declared.causes.Cause.TheVariants.{NoHash}
@@ -41,7 +41,7 @@ TellSymbols found (Some told) = (found.symtab ≡ Some told.0) × (found.strtab 
 -- the checks of the entries that tell of versions
 abbrev pub version_rows : List ℕ → ℕ → List Check
 version_rows file at =
-    checks_of_row (tagged_row file at DT_VERSYM) (λ row.
+    checks_of_row (words_row file at) (λ row.
     rest_checks file row
     ++ checks_of_row (tagged_row file at DT_VERDEF) (rest_checks file)
     ++ checks_of_row (tagged_row file at DT_VERNEED) (rest_checks file))

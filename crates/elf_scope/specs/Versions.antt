@@ -2,8 +2,7 @@
 use Rattle.std.specs.Prelude.{ℕ, ◌==◌, not, List, [], ◌∷◌, ◌++◌, Option, IfSome}
 use Rattle.elf_model.specs.Checks.{Check, refuse, unless_empty, table_checks}
 use Rattle.elf_model.specs.Loader.{VersionWords as IsWordsOf, RecordTable as IsTableOf}
-use Rattle.elf_model.specs.LoaderScope.{checks_of_type, records_with}
-use Rattle.elf_model.specs.Numbers.{SHT_GNU_VERSYM}
+use Rattle.elf_model.specs.LoaderScope.{checks_of_section, records_with, words_section}
 use Rattle.elf_model.specs.Records.{sh_offset, sh_size, sh_link}
 use Rattle.elf_model.specs.Tables.{strings_of}
 use Rattle.elf_model.specs.Versions.{VERSYM_SIZE}
@@ -17,7 +16,7 @@ use Rattle.elf_scope.specs.declared.versions.Versions.{Versions}
 -- the checks of the words of symbols' versions, for the symbols of the hash table's section
 abbrev pub words_checks : List ℕ → ℕ → List Check
 words_checks file at =
-    checks_of_type file SHT_GNU_VERSYM (λ words_at.
+    checks_of_section file (words_section file) (λ words_at.
     unless_empty (sh_size file words_at) (table_checks file words_at VERSYM_SIZE)
     ++ (refuse (not (sh_link file words_at == sh_link file at)) words_at BadLink ∷ []))
 

@@ -1,6 +1,6 @@
 //! What a lookup is made in, by the program headers.
 ghost use Rattle.std.specs.Prelude.{◌≡◌, ◌<◌, ◌^◌, ℕ, List, IfOk, IfErr};
-ghost use Rattle.elf_model.specs.LoaderScope.{segment_checks, segment_scope};
+ghost use Rattle.elf_model.specs.LoaderScope.{has_wide_kind, segment_checks, segment_scope};
 ghost use Rattle.elf_model.specs.Records.{d_un, segment_at};
 ghost use Rattle.elf_headers.specs.Faults.{IsOfCheck};
 ghost use Rattle.elf_headers.specs.Ledger.{Did, why_stopped};
@@ -18,7 +18,7 @@ use crate::segment_symbols::segment_symbols;
 use elf_hash::{HashKind, HashPlace};
 use elf_headers::refused;
 use elf_record::Cause;
-use elf_record::numbers::PT_DYNAMIC;
+use elf_record::numbers::{EM_ALPHA, PT_DYNAMIC};
 use elf_source::{Counted, Source};
 use elf_table::{Fault, SegmentView};
 
@@ -82,7 +82,7 @@ fn hash_entry(found: &Entries) -> Option<(HashKind, Entry)>
 ///
 /// # Errors
 /// The first that fails: those of [`SegmentView::rest`] for the hash table; `HashShape` at its entry
-/// where it is too small for its counts; those of the symbols.
+/// where it is too small for its counts, and where its words have 8 bytes; those of the symbols.
 fn segment_scope(
     view: &SegmentView<'_>,
     segment: u16,
@@ -102,7 +102,8 @@ fn segment_scope(
     ensures refusal { IfErr result IsOfCheck }
 {
     let hash = view.rest(row.value, row.at)?;
-    if hash.len() < kind.least_bytes() {
+    let wide = has_wide_words(view, kind);
+    if hash.len() < kind.least_bytes() || wide {
         return refused(row.at, Cause::HashShape);
     }
     let symbols = segment_symbols(view, segment, found, row.at)?;
@@ -117,4 +118,16 @@ fn segment_scope(
         },
         symbols,
     })
+}
+
+/// Whether the words of a hash table have 8 bytes: in files of Alpha those of the gABI's have. No
+/// entry tells of another size.
+fn has_wide_words(view: &SegmentView<'_>, kind: HashKind) -> bool
+    ensures { (bytes : List ℕ) → Views bytes view.now.loaded view.now.store.now →
+        result ≡ has_wide_kind bytes (kind_of kind) }
+{
+    match kind {
+        HashKind::Gnu => false,
+        HashKind::Sysv => view.loaded.header().e_machine == EM_ALPHA,
+    }
 }

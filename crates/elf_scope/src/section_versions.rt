@@ -1,6 +1,6 @@
 //! The tables of versions by the section headers.
 ghost use Rattle.std.specs.Prelude.{◌≡◌, ◌<◌, ◌^◌, ℕ, List, [], IfOk, IfErr, IfSome};
-ghost use Rattle.elf_model.specs.LoaderScope.{checks_of_type, records_of_type, section_words, version_checks};
+ghost use Rattle.elf_model.specs.LoaderScope.{checks_of_type, has_bytes, records_of_type, section_words, version_checks, words_section};
 ghost use Rattle.elf_model.specs.Numbers.{SHT_GNU_VERDEF, SHT_GNU_VERNEED};
 ghost use Rattle.elf_model.specs.Records.{section_at, sh_link};
 ghost use Rattle.elf_model.specs.Tables.{all_checks};
@@ -22,7 +22,8 @@ use elf_record::{Cause, VersionKind};
 use elf_table::{Fault, File, Names, Table};
 
 /// The tables of versions of the symbols that the section of a hash table links to: of the first
-/// sections of their types, the words, and where there are such the definitions and the needs.
+/// sections of their types, the words, the definitions and the needs; nothing where there are no
+/// words, or where neither the definitions nor the needs have a byte.
 ///
 /// # Errors
 /// The first check that fails: those of the words, of the definitions, of the needs.
@@ -52,7 +53,8 @@ pub(crate) fn section_versions(file: &File<'_>, link: u32) -> Result<Versions, F
     })
 }
 
-/// The words of symbols' versions of the first section of such, if there is one.
+/// The words of symbols' versions of the first section of such, if there is one, and one of
+/// definitions or of needs.
 ///
 /// # Errors
 /// At its header: those of [`File::table`]; `BadLink` where its link is another than `link`.
@@ -64,7 +66,7 @@ fn section_words(file: &File<'_>, link: u32) -> Result<Option<VersionWords>, Fau
         IfSome found (λ words. RowsWithin file.now.loaded.size words.words)) }
     ensures refusal { IfErr result IsOfCheck }
 {
-    let Some(section) = file.first_section(SHT_GNU_VERSYM) else {
+    let Some(section) = words_section(file) else {
         return Ok(None);
     };
     let words = file.table(section, VERSION_WORD_BYTES)?;
@@ -77,6 +79,30 @@ fn section_words(file: &File<'_>, link: u32) -> Result<Option<VersionWords>, Fau
         head,
         index: section,
     }))
+}
+
+/// The first section of the words of symbols' versions, where there are definitions or needs. Without
+/// them no word names a version, and a loader does not look at the words.
+fn words_section(file: &File<'_>) -> Option<u16>
+    ensures below { IfSome result (λ section. section < file.now.store.now.loaded) }
+    ensures held { (bytes : List ℕ) → Belongs bytes file.now.loaded file.now.store.now →
+        result ≡ words_section bytes }
+{
+    if has_bytes(file, SHT_GNU_VERDEF) || has_bytes(file, SHT_GNU_VERNEED) {
+        return file.first_section(SHT_GNU_VERSYM);
+    }
+    None
+}
+
+/// Whether there is a section of a type, and the first of them has a byte.
+fn has_bytes(file: &File<'_>, sh_type: u32) -> bool
+    ensures { (bytes : List ℕ) → Belongs bytes file.now.loaded file.now.store.now →
+        result ≡ has_bytes bytes sh_type }
+{
+    let Some(section) = file.first_section(sh_type) else {
+        return false;
+    };
+    file.section(section).sh_size != 0
 }
 
 /// The definitions, or the needs, of the first section of a type, if there is one.

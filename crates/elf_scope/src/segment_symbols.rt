@@ -1,6 +1,6 @@
 //! The symbols and the tables of versions by the program headers.
 ghost use Rattle.std.specs.Prelude.{◌≡◌, ◌/◌, ◌<◌, ◌≤◌, ◌^◌, ℕ, List, IfOk, IfErr, IfSome, option_map};
-ghost use Rattle.elf_model.specs.LoaderScope.{checks_of_row, records_of_tag, rest_checks, rows_checks, segment_strings, segment_words, tagged_row};
+ghost use Rattle.elf_model.specs.LoaderScope.{checks_of_row, records_of_tag, rest_checks, rows_checks, segment_strings, segment_words, tagged_row, words_row};
 ghost use Rattle.elf_model.specs.Records.{segment_at};
 ghost use Rattle.elf_model.specs.declared.versions.VersionKind.TheVariants.{Need};
 ghost use Rattle.elf_headers.specs.Faults.{IsOfCheck};
@@ -84,7 +84,7 @@ fn rows_in(bytes: Table, entry: u64) -> Table
 }
 
 /// The tables of versions that the entries of a segment tell of, whose names are the symbols'
-/// strings.
+/// strings; nothing without an entry of the words, or without one of the definitions or the needs.
 ///
 /// # Errors
 /// Those of [`SegmentView::rest`] for the words, for the definitions and for the needs.
@@ -103,7 +103,7 @@ fn segment_versions(
     ensures within { IfOk result (VersionsLie view.now.loaded.size) }
     ensures refusal { IfErr result IsOfCheck }
 {
-    let Some(entry) = found.versym else {
+    let Some(entry) = words_entry(found) else {
         return Ok(Versions {
             words: None,
             definitions: None,
@@ -123,6 +123,18 @@ fn segment_versions(
         definitions,
         needs,
     })
+}
+
+/// The entry of the words of symbols' versions, where there is one of the definitions or of the needs.
+/// Without them no word names a version, and a loader does not look at the words.
+fn words_entry(found: &Entries) -> Option<Entry>
+    ensures { (bytes : List ℕ) (at : ℕ) → AreEntries bytes at found.now →
+        result ≡ option_map (entry_at bytes) (words_row bytes at) }
+{
+    if found.verdef.is_none() && found.verneed.is_none() {
+        return None;
+    }
+    found.versym
 }
 
 /// The definitions, or the needs, that an entry tells of, if there is one.

@@ -1,7 +1,7 @@
 -- What the checks of a section that is a hash table say, one by one, and what its symbols are.
 use Rattle.std.proofs.Common.{◌≡◌, ℕ, ◌+◌, ◌*◌, ◌==◌, ◌||◌, not, Bool, true, false, List, ◌++◌, length, Option, None, Some, Result, Ok, Err, refl, sym, ap, ◌∙◌}
 use Rattle.elf_model.specs.Checks.{Check, first_refusal}
-use Rattle.elf_model.specs.Find.{hash_checks_from}
+use Rattle.elf_model.specs.Find.{has_wide_words, hash_checks_from}
 use Rattle.elf_model.specs.Records.{sh_link, section_at}
 use Rattle.elf_model.specs.Tables.{has_symbols, linked_at, symbol_table_checks}
 use Rattle.elf_model.specs.declared.causes.Refusal.{Refusal}
@@ -27,19 +27,19 @@ pub place_is : (file : List ℕ) (section : ℕ) (loaded : Opened) (store : Stor
 place_is file section loaded store belongs = ap (λ (n : ℕ). n + 64 * section) belongs.header.e_shoff
 
 -- the checks of the section are those of its header, and then those of the symbols that it links to
-pub checks_are : (least : ℕ) (file : List ℕ) (at size : ℕ) (header : Shdr) (linked : Bool) → IsShdr file at header → size ≡ length file
-    → linked ≡ not (sh_link file at == 0 || not (has_symbols file at))
-    → hash_checks_from least file at ≡ front_checks least at size header linked ++ symbol_table_checks file (linked_at file at)
-checks_are least file at size header linked is same links = rw (same, links, is.sh_offset, is.sh_size, not_not (sh_link file at == 0 || not (has_symbols file at))) refl
+pub checks_are : (least : ℕ) (file : List ℕ) (at size : ℕ) (header : Shdr) (linked wide : Bool) → IsShdr file at header → size ≡ length file
+    → linked ≡ not (sh_link file at == 0 || not (has_symbols file at)) → wide ≡ has_wide_words file at
+    → hash_checks_from least file at ≡ front_checks least at size header linked wide ++ symbol_table_checks file (linked_at file at)
+checks_are least file at size header linked wide is same links words = rw (same, links, words, is.sh_offset, is.sh_size, not_not (sh_link file at == 0 || not (has_symbols file at))) refl
 
-module _ (least : ℕ) (file : List ℕ) (at size link : ℕ) (header : Shdr) (linked : Bool) (is : IsShdr file at header) (same : size ≡ length file)
-    (links : linked ≡ not (sh_link file at == 0 || not (has_symbols file at))) where
-  pub front_refused : (refusal : Refusal) → Some refusal ≡ first_refusal (front_checks least at size header linked) → RefusedBy (hash_checks_from least file at) (Refused refusal)
-  front_refused refusal fails = ap first_refusal (checks_are least file at size header linked is same links) ∙ first_refusal-some (front_checks least at size header linked) (symbol_table_checks file (linked_at file at)) refusal (sym fails)
+module _ (least : ℕ) (file : List ℕ) (at size link : ℕ) (header : Shdr) (linked wide : Bool) (is : IsShdr file at header) (same : size ≡ length file)
+    (links : linked ≡ not (sh_link file at == 0 || not (has_symbols file at))) (words : wide ≡ has_wide_words file at) where
+  pub front_refused : (refusal : Refusal) → Some refusal ≡ first_refusal (front_checks least at size header linked wide) → RefusedBy (hash_checks_from least file at) (Refused refusal)
+  front_refused refusal fails = ap first_refusal (checks_are least file at size header linked wide is same links words) ∙ first_refusal-some (front_checks least at size header linked wide) (symbol_table_checks file (linked_at file at)) refusal (sym fails)
 
-  module _ (passes : None ≡ first_refusal (front_checks least at size header linked)) (here : link ≡ linked_at file at) where
+  module _ (passes : None ≡ first_refusal (front_checks least at size header linked wide)) (here : link ≡ linked_at file at) where
     left : first_refusal (hash_checks_from least file at) ≡ first_refusal (symbol_table_checks file (linked_at file at))
-    left = ap first_refusal (checks_are least file at size header linked is same links) ∙ first_refusal-none (front_checks least at size header linked) (symbol_table_checks file (linked_at file at)) (sym passes)
+    left = ap first_refusal (checks_are least file at size header linked wide is same links words) ∙ first_refusal-none (front_checks least at size header linked wide) (symbol_table_checks file (linked_at file at)) (sym passes)
 
     pub symbols_refused : (fault : Fault) → Err fault ≡ symbols_at file link → RefusedBy (hash_checks_from least file at) fault
     symbols_refused (Refused refusal) symbols = left ∙ symbols-fail file _ (Refused refusal) (sym (symbols ∙ ap (symbols_at file) here))

@@ -1,5 +1,5 @@
 -- What a section that is a hash table refers to, once its checks pass.
-use Rattle.std.specs.Prelude.{ℕ, ◌≡◌, ◌+◌, ◌≤◌, nat_lt, not, Bool, true, List, [], ◌∷◌, None, Result, Ok, Err}
+use Rattle.std.specs.Prelude.{ℕ, ◌≡◌, ◌+◌, ◌≤◌, ◌||◌, nat_lt, not, Bool, true, List, [], ◌∷◌, None, Result, Ok, Err}
 use Rattle.elf_model.specs.Checks.{Check, refuse, first_refusal, is_outside}
 use Rattle.elf_model.specs.Records.{sh_link}
 use Rattle.elf_model.specs.Tables.{linked_at}
@@ -19,11 +19,12 @@ pub record AreHashed (file : List ℕ) (at : ℕ) (found : ℕ × (Rows × Strin
   pub link : found.0 ≡ sh_link file at
   pub symbols : AreSymbols file (linked_at file at) found.1
 
--- the checks of a hash table's own header, in a file of so many bytes, where it links to symbols or not
-abbrev pub front_checks : ℕ → ℕ → ℕ → Shdr → Bool → List Check
-front_checks least at size header linked =
+-- the checks of a hash table's own header, in a file of so many bytes, where it links to symbols or not, and where its words are
+-- wide or not
+abbrev pub front_checks : ℕ → ℕ → ℕ → Shdr → (linked wide : Bool) → List Check
+front_checks least at size header linked wide =
     refuse (is_outside size header.sh_offset header.sh_size) at TableOutside
-    ∷ refuse (nat_lt header.sh_size least) at HashShape
+    ∷ refuse (nat_lt header.sh_size least || wide) at HashShape
     ∷ refuse (not linked) at BadLink
     ∷ []
 

@@ -2,7 +2,7 @@
 ghost use Rattle.std.specs.Prelude.{◌≡◌, ◌+◌, ◌^◌, ◌<◌, ◌≤◌, ◌==◌, ◌||◌, not, ℕ, List};
 ghost use Rattle.std.specs.Prelude.{IfOk, IfErr, IfSome, IsTrue, MatchOption};
 ghost use Rattle.elf_model.specs.Checks.{first_refusal};
-ghost use Rattle.elf_model.specs.Find.{hash_checks_from};
+ghost use Rattle.elf_model.specs.Find.{has_wide_words, hash_checks_from};
 ghost use Rattle.elf_model.specs.Records.{section_at, sh_link, sh_offset, sh_size};
 ghost use Rattle.elf_model.specs.Tables.{has_symbols};
 ghost use Rattle.elf_model.specs.VersionRows.{first_of_type};
@@ -18,7 +18,11 @@ use crate::file::File;
 use crate::names::Names;
 use crate::table::Table;
 use elf_headers::{Fault, ends_outside};
+use elf_record::numbers::{EM_ALPHA, SHT_HASH};
 use elf_record::{Cause, Refusal, Shdr};
+
+/// The size of a wide word of a hash table in bytes, in place of 4.
+const WIDE_WORD_BYTES: u64 = 8;
 
 impl File<'_> {
     /// The index of the first section of a type, if there is one (gABI 4, Section Header).
@@ -37,13 +41,15 @@ impl File<'_> {
 
     /// The index of the section of symbols that a section with a hash table refers to, the symbols,
     /// rows of 24 bytes, and the string table with their names. The hash table's section has `least`
-    /// bytes at least; its type is not looked at. No bytes are read (gABI 5, Hash Table).
+    /// bytes at least; that it is of a type with hash tables is the caller's matter. No bytes are read
+    /// (gABI 5, Hash Table).
     ///
     /// # Errors
     /// The first check that fails, at the section's header: `TableOutside` where it ends past the
-    /// end of the file, at every size; `HashShape` where it has fewer bytes; `BadLink` where its
-    /// link is 0 or names no section of symbols. Then those of [`File::symbols`] at the linked
-    /// section.
+    /// end of the file, at every size; `HashShape` where it has fewer bytes, or where it is a HASH
+    /// section of a file of Alpha whose entries have 8 bytes: so have its table's words then;
+    /// `BadLink` where its link is 0 or names no section of symbols. Then those of [`File::symbols`]
+    /// at the linked section.
     pub fn hashed(&self, section: u16, least: u64) -> Result<(u16, (Table, Names)), Fault>
         requires { section < self.now.store.now.loaded }
         ensures held { (bytes : List ℕ) → Belongs bytes self.now.loaded self.now.store.now →
@@ -62,7 +68,9 @@ impl File<'_> {
         let header = self.section(section);
         let place = self.place(section);
         let linked = links_to_symbols(self, &header);
-        if let Some(refusal) = refused_front(&header, place, self.loaded.size(), linked, least) {
+        let size = self.loaded.size();
+        let wide = holds_wide_words(self, &header);
+        if let Some(refusal) = refused_front(&header, place, size, linked, least, wide) {
             return Err(Fault::Refused(refusal));
         }
         let link = header.sh_link as u16;
@@ -71,9 +79,16 @@ impl File<'_> {
     }
 }
 
-// The first check of the section's header that fails.
-fn refused_front(header: &Shdr, place: u64, size: u64, linked: bool, least: u64) -> Option<Refusal>
-    ensures refusal { result ≡ first_refusal (front_checks least place size header.now linked) }
+// The first check of the section's header that fails, where its words are wide or not.
+fn refused_front(
+    header: &Shdr,
+    place: u64,
+    size: u64,
+    linked: bool,
+    least: u64,
+    wide: bool,
+) -> Option<Refusal>
+    ensures refusal { result ≡ first_refusal (front_checks least place size header.now linked wide) }
     ensures passes { MatchOption result (PassesFront least size header.now linked)
         (λ _. Unit {0}) }
 {
@@ -83,7 +98,7 @@ fn refused_front(header: &Shdr, place: u64, size: u64, linked: bool, least: u64)
             cause: Cause::TableOutside,
         });
     }
-    if header.sh_size < least {
+    if header.sh_size < least || wide {
         return Some(Refusal {
             at: place,
             cause: Cause::HashShape,
@@ -96,6 +111,16 @@ fn refused_front(header: &Shdr, place: u64, size: u64, linked: bool, least: u64)
         });
     }
     None
+}
+
+// Whether a section is a hash table whose words have 8 bytes: a HASH section of a file of Alpha, whose
+// entry size says so.
+fn holds_wide_words(file: &File<'_>, header: &Shdr) -> bool
+    ensures { (bytes : List ℕ) (at : ℕ) → Belongs bytes file.now.loaded file.now.store.now →
+        IsShdr bytes at header.now → result ≡ has_wide_words bytes at }
+{
+    let machine = file.loaded.header().e_machine;
+    machine == EM_ALPHA && (header.sh_type == SHT_HASH && header.sh_entsize == WIDE_WORD_BYTES)
 }
 
 // Whether a section links to a section of symbols, which is not the first.

@@ -147,11 +147,22 @@ ThreeBuckets =
 abbrev pub HashLinkBeforeCounts : Type 0
 HashLinkBeforeCounts = RefusesLookup (with_hash_header 32 (little 8 8 ++ little 4 0)) (codes "a") 0xe8 BadLink
 
--- the size of an entry in a hash table's header is not checked, and bytes may stand behind its words
+-- the size of an entry in a hash table's header is not checked but in files of Alpha, and bytes may stand behind its words
 abbrev pub HashEntriesAreNotChecked : Type 0
 HashEntriesAreNotChecked =
     FindsSymbol (with_hash_header 56 (little 8 8)) (codes "a") 2 1 0x70 1
     × FindsSymbol (with_hash_header 32 (little 8 25)) (codes "a") 2 1 0x70 1
+
+-- in a file of Alpha a hash table with entries of 8 bytes is refused, behind its range and before its link; with entries of 4
+-- bytes it is one like any other
+abbrev pub WideWordsAreRefused : Type 0
+WideWordsAreRefused =
+    RefusesLookup (with_bytes 18 (little 2 0x9026) (with_hash_header 56 (little 8 8))) (codes "a") 0xe8 HashShape
+    × ComparesNames (with_bytes 18 (little 2 0x9026) (with_hash_header 56 (little 8 8))) (codes "a") 0
+    × (find_cost (with_bytes 18 (little 2 0x9026) (with_hash_header 56 (little 8 8))) 4 (codes "a") ≡ 76 + 256)
+    × FindsSymbol (with_bytes 18 (little 2 0x9026) hash_with_cycle) (codes "a") 2 1 0x70 1
+    × RefusesLookup (with_bytes 18 (little 2 0x9026) (with_hash_header 24 (little 8 0x1000 ++ little 8 0x18 ++ little 4 2 ++ zeros 12 ++ little 8 8))) (codes "a") 0xe8 TableOutside
+    × RefusesLookup (with_bytes 18 (little 2 0x9026) (with_hash_header 40 (zeros 16 ++ little 8 8))) (codes "a") 0xe8 HashShape
 
 -- the symbols are those of the linked table, also where an earlier section is one
 abbrev pub LinkedSymbolsCount : Type 0

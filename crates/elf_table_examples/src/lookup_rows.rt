@@ -1,5 +1,5 @@
 //! More worked lookups, each a theorem about the definitions that the prover computes.
-ghost use Rattle.elf_table_examples.specs.ExamplesLookups.{LongerHashes, LongChainsAreWalked, MoreChainsThanSymbols, CycleInTheSecondBucket, WordsHaveFourBytes, NoChains, EmptyHashIsChecked, LookupsCheckTheFile, RefusalsCompareNothing, WantedNameIsWritten, OtherHashIsNone, UndefinedIsFound, HashPastTheLastSection, ThreeBuckets, HashInTheLastSection, HashLinkBeforeCounts, HashEntriesAreNotChecked, LinkedSymbolsCount};
+ghost use Rattle.elf_table_examples.specs.ExamplesLookups.{LongerHashes, LongChainsAreWalked, MoreChainsThanSymbols, CycleInTheSecondBucket, WordsHaveFourBytes, NoChains, EmptyHashIsChecked, LookupsCheckTheFile, RefusalsCompareNothing, WantedNameIsWritten, OtherHashIsNone, UndefinedIsFound, HashPastTheLastSection, ThreeBuckets, HashInTheLastSection, HashLinkBeforeCounts, HashEntriesAreNotChecked, WideWordsAreRefused, LinkedSymbolsCount};
 
 /// The hashes of longer names.
 #[tactic(auto, unfolding(elf_model::proofs::OnLiterals::on_literals, crate::proofs::OnExamples::on_examples))]
@@ -101,6 +101,12 @@ pub fn hash_link_before_counts()
 #[tactic(auto, unfolding(elf_model::proofs::OnLiterals::on_literals, crate::proofs::OnExamples::on_examples))]
 pub fn hash_entries_are_not_checked()
     ensures { HashEntriesAreNotChecked }
+{}
+
+/// Hash tables with words of 8 bytes, in files of Alpha.
+#[tactic(auto, unfolding(elf_model::proofs::OnLiterals::on_literals, crate::proofs::OnExamples::on_examples))]
+pub fn wide_words_are_refused()
+    ensures { WideWordsAreRefused }
 {}
 
 /// Tables of symbols that are not linked.

@@ -6,7 +6,7 @@ use Rattle.elf_model.specs.Loader.{is_complete, wanted_of}
 use Rattle.elf_model.specs.NameLaws.{IsWanted}
 use Rattle.elf_model.specs.Placing.{Layout}
 use Rattle.elf_listing_words.specs.Listings.{IsOfFile}
-use Rattle.elf_listing_words.specs.Options.{AreLimits, AreParts, HasNumber, IsStyle, asks_gnu, is_set}
+use Rattle.elf_listing_words.specs.Options.{AreLimits, AreParts, HasNumber, IsStyle, asks_gnu, is_set, lacks_gnu}
 use Rattle.elf_words.specs.Layouts.{Lays, no_items}
 use Rattle.elf_words.specs.declared.requests.Request.{Request}
 use Rattle.elf_words.specs.declared.requests.RequestFault.{RequestFault}
@@ -29,10 +29,11 @@ pub record IsText (gnu : Bool) (text : Text) : Type 0 where
   pub complete : gnu ≡ true → is_complete (wanted_of text) ≡ true
 
 -- a lookup in the file whose path stands among the values, of the text that stands there too, and by whether it is one of a
--- loader of the GNU system
+-- loader of the GNU system, as it is where the program headers alone are to be gone by
 pub record IsLookup (command : Text) (rows : List Row) (file : Option (Bor Text)) (gnu : Bool) (text : Text) : Type 0 where
   pub find : command ≡ codes "find"
   pub by_gnu : asks_gnu rows ≡ gnu
+  pub allowed : lacks_gnu rows ≡ false
   pub path : IsFileNamed rows file
   pub word : first_of (codes "NAME") rows ≡ Some text
 
@@ -40,15 +41,17 @@ pub record IsLookup (command : Text) (rows : List Row) (file : Option (Bor Text)
 abbrev pub IsFinding : Text → List Row → Option (Bor Text) → Wanted → Type 0
 IsFinding command rows file wanted = IsLookup command rows file false wanted.bytes.now
 
--- a symbol is looked up as a loader of the GNU system does it
-abbrev pub IsResolving : Text → List Row → Option (Bor Text) → WantedSymbol → Type 0
-IsResolving command rows file wanted = IsLookup command rows file true wanted.text.now
+-- a symbol is looked up as a loader of the GNU system does it, by the program headers alone or not
+pub record IsResolving (command : Text) (rows : List Row) (file : Option (Bor Text)) (wanted : WantedSymbol) (by_segments : Bool) : Type 0 where
+  pub lookup : IsLookup command rows file true wanted.text.now
+  pub viewed : by_segments ≡ is_set (first_of (codes "by-segments") rows)
 
--- a task looks a text up, as a loader of the GNU system does it or in the file's own SysV hash table
-abbrev pub LooksUp : Bool → Text → Task → Type 0
-LooksUp gnu text (Find wanted) = (gnu ≡ false) × (wanted.bytes.now ≡ text)
-LooksUp gnu text (Resolve wanted) = (gnu ≡ true) × (wanted.text.now ≡ text)
-LooksUp gnu text _ = ⊥
+-- a task looks a text up, as a loader of the GNU system does it, by the program headers alone or not, or in the file's own SysV
+-- hash table
+abbrev pub LooksUp : (gnu by_segments : Bool) → Text → Task → Type 0
+LooksUp gnu by_segments text (Find wanted) = (gnu ≡ false) × (wanted.bytes.now ≡ text)
+LooksUp gnu by_segments text (Resolve wanted viewed) = (gnu ≡ true) × (wanted.text.now ≡ text) × (viewed ≡ by_segments)
+LooksUp gnu by_segments text _ = ⊥
 
 -- the words for the items of a layout
 abbrev pub item_words : List Row → List Text
@@ -69,7 +72,7 @@ abbrev pub IsTask : Text → List Row → Option (Bor Text) → Task → Type 0
 IsTask command rows file (Show parts style) =
     IsStyle rows style × AreParts rows parts × IsOfFile command rows file
 IsTask command rows file (Find wanted) = IsFinding command rows file wanted
-IsTask command rows file (Resolve wanted) = IsResolving command rows file wanted
+IsTask command rows file (Resolve wanted by_segments) = IsResolving command rows file wanted by_segments
 IsTask command rows file (Apply section layout explain) = IsApplying command rows file section layout.now explain
 IsTask command rows file (Place section addresses explain) = ⊥
 
@@ -81,7 +84,8 @@ AsksBy (Some (command, rows)) request = AreLimits rows request.limits × IsTask 
 -- a lookup of a text that can't be looked up
 abbrev pub NamesBadly : Text → List Row → Type 0
 NamesBadly command rows =
-    (command ≡ codes "find") × ((text : Text) × (first_of (codes "NAME") rows ≡ Some text) × (IsText (asks_gnu rows) text → ⊥))
+    (command ≡ codes "find")
+    × ((text : Text) × (lacks_gnu rows ≡ false) × (first_of (codes "NAME") rows ≡ Some text) × (IsText (asks_gnu rows) text → ⊥))
 
 -- a section to be written, in a layout of which the first word that is refused has this fault
 abbrev pub LaysBadly : Text → List Row → RequestFault → Type 0

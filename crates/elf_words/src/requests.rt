@@ -32,7 +32,12 @@ pub enum Task<'a> {
     /// A name is looked up in it.
     Find(Wanted<'a>),
     /// A symbol is looked up in it as a loader of the GNU system looks it up.
-    Resolve(WantedSymbol<'a>),
+    Resolve {
+        /// The symbol.
+        wanted: WantedSymbol<'a>,
+        /// Whether the tables are found by the program headers also where there are section headers.
+        by_segments: bool,
+    },
     /// One of its sections is written, with its relocations applied.
     Apply {
         /// The section's index.

@@ -20,8 +20,8 @@ use crate::requests::{Request, RequestFault, Task};
 use clap::ArgMatches;
 use elf_layout::Layout;
 use elf_listing_words::{
-    WordsFault, asks_gnu, is_set, limits_of, listing_of, matches_of, small_number_of, text_of,
-    unasked,
+    WordsFault, asks_gnu, find_lacks_gnu, is_set, limits_of, listing_of, matches_of,
+    small_number_of, text_of, unasked,
 };
 use std::alloc::Global;
 use std::convert::AsStr;
@@ -176,27 +176,35 @@ fn listing_asked<'a>(command: &str, options: &ArgMatches<'a>) -> Option<Request<
 }
 
 /// A lookup in a file, within the limits that are asked for, as a loader of the GNU system does it
-/// where that is asked for.
+/// where that is asked for. None where only such a lookup is what is asked for, and it is not.
 fn lookup<'a>(options: &ArgMatches<'a>) -> Result<Option<Request<'a>>, RequestFault>
     ensures { ComesTo (Some (codes "find", rows_of (found_of options.now))) result }
 {
+    if find_lacks_gnu(options) {
+        return Ok(None);
+    }
     let Some(word) = text_of(options, "NAME") else {
         return Ok(None);
     };
-    let Some(task) = lookup_of(word, asks_gnu(options)) else {
+    let by_segments = is_set(options, "by-segments");
+    let Some(task) = lookup_of(word, asks_gnu(options), by_segments) else {
         return Err(RequestFault::BadName);
     };
     Ok(in_file(options, task))
 }
 
-/// The lookup of a text, as a loader of the GNU system does it (`gnu`) or by the file's SysV hash
-/// table. None where the text is none that can be looked up so.
-fn lookup_of(text: &str, gnu: bool) -> Option<Task<'_>>
-    ensures some { IfSome result (LooksUp gnu text.now) }
+/// The lookup of a text, as a loader of the GNU system does it (`gnu`), by the program headers alone
+/// or not, or by the file's SysV hash table. None where the text is none that can be looked up so.
+fn lookup_of(text: &str, gnu: bool, by_segments: bool) -> Option<Task<'_>>
+    ensures some { IfSome result (LooksUp gnu by_segments text.now) }
     ensures none { result ≡ None → IsText gnu text.now → ⊥ }
 {
     if gnu {
-        return Some(Task::Resolve(checked_symbol(text)?));
+        let wanted = checked_symbol(text)?;
+        return Some(Task::Resolve {
+            wanted,
+            by_segments,
+        });
     }
     Some(Task::Find(checked_name(text)?))
 }
