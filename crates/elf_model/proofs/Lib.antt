@@ -22,6 +22,7 @@ pub mod NoteRowLaws
 pub mod Nuls
 pub mod OnLiterals
 pub mod OnLoader
+pub mod OverlapLemmas
 pub mod PatchLaws
 pub mod Pigeons
 pub mod RecordLemmas
