@@ -5,6 +5,7 @@ pub mod ListedChecks
 pub mod ListedCosts
 pub mod ListedHeaders
 pub mod ListedOrder
+pub mod ListedOverlaps
 pub mod ListedParts
 pub mod ListedSections
 pub mod ListedSegments
