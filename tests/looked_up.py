@@ -12,6 +12,7 @@ GNU_HASH, HASH, VERSYM, VERDEF, VERNEED = 0x6FFFFFF6, 5, 0x6FFFFFFF, 0x6FFFFFFD,
 T_HASH, T_STRTAB, T_SYMTAB, T_STRSZ = 4, 5, 6, 10
 T_GNU_HASH, T_VERSYM, T_VERDEF, T_VERNEED = 0x6FFFFEF5, 0x6FFFFFF0, 0x6FFFFFFC, 0x6FFFFFFE
 LOAD, DYNAMIC = 1, 2
+PAGE_BYTES = 4096
 UNDEF, ABS, X86_64, ALPHA = 0, 0xFFF1, 62, 0x9026
 TLS = 6
 OFFERED_TYPES, OFFERED_BINDINGS, OFFERED_VISIBILITIES = (0, 1, 2, 5, 6, 10), (1, 2, 10), (0, 3)
@@ -70,10 +71,18 @@ class Records:
 class Segment:
     def __init__(self, content, at):
         self.at = at
-        self.type, _, self.offset, self.vaddr, _, self.filesz = struct.unpack_from("<2I4Q", content, at)
+        self.type, _, self.offset, self.vaddr, _, self.filesz, self.memsz = struct.unpack_from("<2I5Q", content, at)
 
     def check_inside(self, length):
         refuse_where(self.offset + self.filesz > length, self.at, "table-outside")
+
+
+def check_overlaps(segments):
+    """A LOAD segment that takes up memory begins behind the pages of the one before it."""
+    taken = [segment for segment in segments if segment.type == LOAD and segment.memsz]
+    for before, segment in zip(taken, taken[1:]):
+        past = -(-(before.vaddr + before.memsz) // PAGE_BYTES)
+        refuse_where(segment.vaddr // PAGE_BYTES < past, segment.at, "load-overlap")
 
 
 class Scope:
@@ -139,6 +148,7 @@ class Scope:
         phnum, = struct.unpack_from("<H", self.content, 56)
         self.cost += 56 * phnum
         segments = [Segment(self.content, phoff + 56 * index) for index in range(phnum)]
+        check_overlaps(segments)
         self.loads = [segment for segment in segments if segment.type == LOAD]
         self.index = next((index for index, segment in enumerate(segments) if segment.type == DYNAMIC), None)
         refuse_where(self.index is None, 0x20, "no-hash")

@@ -96,6 +96,7 @@ class Cause(enum.IntEnum):
     THIN = 34
     NOT_ARCHIVE = 35
     MEMBER_CUT = 36
+    LOAD_OVERLAP = 37
 
 
 # ---------------------------------------------------------------------------

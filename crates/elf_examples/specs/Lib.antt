@@ -7,6 +7,7 @@ pub mod ListedCosts
 pub mod ListedHeaders
 pub mod ListedMembers
 pub mod ListedOrder
+pub mod ListedOverlaps
 pub mod ListedParts
 pub mod ListedSections
 pub mod ListedSegments

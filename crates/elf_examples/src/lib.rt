@@ -12,6 +12,7 @@ mod listed_costs;
 mod listed_headers;
 mod listed_members;
 mod listed_order;
+mod listed_overlaps;
 mod listed_parts;
 mod listed_sections;
 mod listed_segments;

@@ -70,7 +70,7 @@ pub fn cause_word(cause: Cause) -> &'static str
 }
 
 /// The words of the causes, in the order of `Cause`.
-const CAUSE_WORDS: [&str; 34] = [
+const CAUSE_WORDS: [&str; 35] = [
     "short",
     "not-elf",
     "class",
@@ -105,6 +105,7 @@ const CAUSE_WORDS: [&str; 34] = [
     "member-cut",
     "version-cut",
     "version-index",
+    "load-overlap",
 ];
 
 /// The name of an object file type.

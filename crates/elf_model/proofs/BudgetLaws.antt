@@ -1,7 +1,7 @@
 -- Which refusals are for want of budget.
 use Rattle.std.proofs.Common.{◌≡◌, inl, inr, ◌⊎◌, refl}
 use Rattle.elf_model.specs.declared.causes.Cause.{Cause}
-use Rattle.elf_model.specs.declared.causes.Cause.TheVariants.{Short, NotElf, BadClass, BadData, BadVersion, ExtendedNumbering, TooManyHeaders, EntrySize, TableOutside, BadLink, NotStrings, SizeNotWhole, NameOutside, NameUnended, NoteCut, NoHash, HashShape, HashIndex, HashCycle, Unsupported, Overflow, NotRel, Unplaced, Undefined, PlaceOutside, SymbolIndex, TooLong, Budget, Unmapped, Thin, NotArchive, MemberCut, VersionCut, VersionIndex}
+use Rattle.elf_model.specs.declared.causes.Cause.TheVariants.{Short, NotElf, BadClass, BadData, BadVersion, ExtendedNumbering, TooManyHeaders, EntrySize, TableOutside, BadLink, NotStrings, SizeNotWhole, NameOutside, NameUnended, NoteCut, NoHash, HashShape, HashIndex, HashCycle, Unsupported, Overflow, NotRel, Unplaced, Undefined, PlaceOutside, SymbolIndex, TooLong, Budget, Unmapped, Thin, NotArchive, MemberCut, VersionCut, VersionIndex, LoadOverlap}
 
 -- whether a refusal is for want of budget
 pub is_budget : (cause : Cause) → (cause ≡ Budget) ⊎ (cause ≡ Budget → ⊥)
@@ -39,3 +39,4 @@ is_budget NotArchive = inr (λ e. cc)
 is_budget MemberCut = inr (λ e. cc)
 is_budget VersionCut = inr (λ e. cc)
 is_budget VersionIndex = inr (λ e. cc)
+is_budget LoadOverlap = inr (λ e. cc)

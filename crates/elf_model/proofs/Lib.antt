@@ -25,6 +25,7 @@ pub mod Nuls
 pub mod OnLiterals
 pub mod OnLoader
 mod OneRule
+pub mod OverlapLemmas
 pub mod PatchLaws
 pub mod Pigeons
 pub mod RecordLemmas

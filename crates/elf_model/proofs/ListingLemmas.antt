@@ -8,7 +8,7 @@ use Rattle.elf_model.specs.Checks.{Check, first_refusal, header_checks, load_che
 use Rattle.elf_model.specs.Lines.{header_line, refusal_line}
 use Rattle.elf_model.specs.Listing.{Item, Line, Fault, lines_of, fault_of, report_of, guarded, where_asked, each, has, has_tables, all_parts, known_parts, file_header_items, HEADER}
 use Rattle.elf_model.specs.Style.{Style, viewed}
-use Rattle.elf_model.specs.Report.{listing, load_items, table_items}
+use Rattle.elf_model.specs.Report.{listing, load_items, loaded_items}
 use Rattle.elf_model.specs.declared.causes.Refusal.{Refusal}
 use Rattle.elf_model.specs.ListingLaws.{LastRowIsLast, RowsSplit, HeaderAloneIsListed, HeaderFaultIsListedAlone, LoadFaultIsListedSecond, NothingBehindTheFault, ListingsAppend, OtherBitsMeanNothing}
 
@@ -46,14 +46,14 @@ unfolding load_items
 load_none file headers style parts h = by_cases (has_tables parts) h
   where
     by_cases : (b : Bool) → b ≡ false
-        → elim b as (λ _. List Item) [ true ↦ guarded (load_checks file headers) (table_items file style parts) | false ↦ [] ] ≡ []
+        → elim b as (λ _. List Item) [ true ↦ guarded (load_checks file headers) (loaded_items file style parts) | false ↦ [] ] ≡ []
     by_cases false h = refl
     by_cases true h = cc
 
 pub load_some : (file : List ℕ) (headers : ℕ) (style : Style) (parts : ℕ) → has_tables parts ≡ true
-    → load_items file headers style parts ≡ guarded (load_checks file headers) (table_items file style parts)
+    → load_items file headers style parts ≡ guarded (load_checks file headers) (loaded_items file style parts)
 unfolding load_items
-load_some file headers style parts h = by_cases (has_tables parts) (guarded (load_checks file headers) (table_items file style parts)) h
+load_some file headers style parts h = by_cases (has_tables parts) (guarded (load_checks file headers) (loaded_items file style parts)) h
   where
     by_cases : (b : Bool) (members : List Item) → b ≡ true → elim b as (λ _. List Item) [ true ↦ members | false ↦ [] ] ≡ members
     by_cases false members h = cc
@@ -81,7 +81,7 @@ load_fault file headers style parts refusal h l p t =
     let passes : listing file headers style parts ≡ line ++ load_items view headers style known =
     guarded-passes (header_checks file) (line ++ load_items view headers style known) h in
     let fault : load_items view headers style known ≡ Fault refusal ∷ [] =
-    load_some view headers style known t ∙ guarded-fault (load_checks view headers) (table_items view style known) refusal l in
+    load_some view headers style known t ∙ guarded-fault (load_checks view headers) (loaded_items view style known) refusal l in
     let e : listing file headers style parts ≡ Line (header_line file) ∷ Fault refusal ∷ [] =
     passes ∙ ap (λ more. line ++ more) fault ∙ ap (λ first. first ++ Fault refusal ∷ []) (asked-true parts HEADER (Line (header_line file) ∷ []) p) in
     ap report_of e ∙ ap (λ text. text ++ refusal_line refusal) (append-nil (header_line file))

@@ -7,9 +7,10 @@ use Rattle.std.specs.Prelude.{is_none}
 use Rattle.elf_model.specs.Checks.{Check, refuse, first_refusal, unless_empty, table_checks, is_outside, header_checks, load_checks}
 use Rattle.elf_model.specs.Find.{hash_checks_from}
 use Rattle.elf_model.specs.Loader.{RecordTable}
-use Rattle.elf_model.specs.LoaderScope.{HashKind, least_size, Scope, hash_section, checks_of_type, words_section, version_checks, section_checks, records_of_type, section_words, records_with, section_scope, dynamic_segment_index, tagged_row, rest_checks, rest_place, rest_size, hash_row, words_row, checks_of_row, rows_checks, has_wide_kind, segment_checks, segment_strings, segment_words, records_of_tag, segment_scope, scope_by_sections, scope_in_segment, scope_by_segments, scope_of}
+use Rattle.elf_model.specs.LoaderScope.{HashKind, least_size, Scope, hash_section, checks_of_type, words_section, version_checks, section_checks, records_of_type, section_words, records_with, section_scope, dynamic_segment_index, tagged_row, rest_checks, rest_place, rest_size, hash_row, words_row, checks_of_row, rows_checks, has_wide_kind, segment_checks, segment_strings, segment_words, records_of_tag, segment_scope, scope_by_sections, scope_in_segment, scope_in_segments, scope_by_segments, scope_of}
 use Rattle.elf_model.specs.Mapped.{mapped_at, mapped_checks}
 use Rattle.elf_model.specs.Numbers.{SHT_GNU_VERDEF, SHT_GNU_VERNEED, DT_SYMTAB, DT_STRTAB, DT_STRSZ, DT_VERDEF, DT_VERNEED}
+use Rattle.elf_model.specs.Overlaps.{overlap_checks}
 use Rattle.elf_model.specs.Records.{e_shnum, sh_offset, sh_size, sh_link, section_at, segment_at, p_offset, p_filesz, d_un}
 use Rattle.elf_model.specs.Tables.{all_checks, strings_of, segment_dynamic_checks}
 use Rattle.elf_model.specs.VersionRows.{first_of_type, version_table}
@@ -253,18 +254,24 @@ module _ (file : List ℕ) where
           let is : segment_scope file found.0 index at found.1 ≡ scope = cc in
           rw (← is) (segment_inside file found.0 index at found.1 r)
 
-  segments_by : (found : Option ℕ) → dynamic_segment_index file ≡ found → (scope : Scope) → scope_by_segments file ≡ Ok scope
+  segments_by : (found : Option ℕ) → dynamic_segment_index file ≡ found → (scope : Scope) → scope_in_segments file ≡ Ok scope
+      → IsInside (length file) scope
+  unfolding scope_in_segments
+  segments_by None f scope e = absurd (let a = rw (f, scope_in_segments) at e in cc)
+  segments_by (Some index) f scope e =
+      segment_by index (segment_at file index) _ _ refl refl scope (rw (f, scope_in_segments) at e)
+
+  apart_by : (refusal : Option Refusal) → first_refusal (overlap_checks file) ≡ refusal → (scope : Scope) → scope_by_segments file ≡ Ok scope
       → IsInside (length file) scope
   unfolding scope_by_segments
-  segments_by None f scope e = absurd (let a = rw (f, scope_by_segments) at e in cc)
-  segments_by (Some index) f scope e =
-      segment_by index (segment_at file index) _ _ refl refl scope (rw (f, scope_by_segments) at e)
+  apart_by (Some refusal) r scope e = absurd (let a = rw (r, scope_by_segments) at e in cc)
+  apart_by None r scope e = segments_by _ refl scope (rw (r, scope_by_segments) at e)
 
   scopes_by : (headers : ℕ) (refusal : Option Refusal) (none : Bool) → first_refusal (header_checks file ++ load_checks file headers) ≡ refusal
       → (e_shnum file == 0) ≡ none → (scope : Scope) → scope_of file headers ≡ Ok scope → IsInside (length file) scope
   unfolding scope_of
   scopes_by headers (Some refusal) none r n scope e = absurd (let a = rw (r, scope_of) at e in cc)
-  scopes_by headers None true r n scope e = segments_by _ refl scope (rw (r, n, scope_of) at e)
+  scopes_by headers None true r n scope e = apart_by _ refl scope (rw (r, n, scope_of) at e)
   scopes_by headers None false r n scope e = sections_by _ refl scope (rw (r, n, scope_of) at e)
 
   pub scope_inside : (headers : ℕ) (scope : Scope) → scope_of file headers ≡ Ok scope → IsInside (length file) scope

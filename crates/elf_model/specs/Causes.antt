@@ -1,7 +1,7 @@
 -- The word of each cause in a listing.
 use Rattle.std.specs.Prelude.{ℕ, List, codes}
 use Rattle.elf_model.specs.declared.causes.Cause.{Cause}
-use Rattle.elf_model.specs.declared.causes.Cause.TheVariants.{Short, NotElf, BadClass, BadData, BadVersion, ExtendedNumbering, TooManyHeaders, EntrySize, TableOutside, BadLink, NotStrings, SizeNotWhole, NameOutside, NameUnended, NoteCut, NoHash, HashShape, HashIndex, HashCycle, Unsupported, Overflow, NotRel, Unplaced, Undefined, PlaceOutside, SymbolIndex, TooLong, Budget, Unmapped, Thin, NotArchive, MemberCut, VersionCut, VersionIndex}
+use Rattle.elf_model.specs.declared.causes.Cause.TheVariants.{Short, NotElf, BadClass, BadData, BadVersion, ExtendedNumbering, TooManyHeaders, EntrySize, TableOutside, BadLink, NotStrings, SizeNotWhole, NameOutside, NameUnended, NoteCut, NoHash, HashShape, HashIndex, HashCycle, Unsupported, Overflow, NotRel, Unplaced, Undefined, PlaceOutside, SymbolIndex, TooLong, Budget, Unmapped, Thin, NotArchive, MemberCut, VersionCut, VersionIndex, LoadOverlap}
 
 -- a cause's word
 unfoldable pub cause_word : Cause → List ℕ
@@ -39,3 +39,4 @@ cause_word NotArchive = codes "not-archive"
 cause_word MemberCut = codes "member-cut"
 cause_word VersionCut = codes "version-cut"
 cause_word VersionIndex = codes "version-index"
+cause_word LoadOverlap = codes "load-overlap"

@@ -15,6 +15,7 @@ pub mod Checks
 pub mod Tables
 pub mod Listing
 pub mod Mapped
+pub mod Overlaps
 pub mod Rows
 pub mod HeaderTables
 pub mod VersionCost
@@ -23,6 +24,7 @@ pub mod TableKinds
 pub mod Report
 pub mod ListingLaws
 pub mod StyleLaws
+pub mod OverlapLaws
 pub mod Cost
 pub mod Budget
 pub mod Archive

@@ -9,6 +9,7 @@ use Rattle.elf_model.specs.Loader.{VersionWords, RecordTable, Symbols}
 use Rattle.elf_model.specs.Mapped.{mapped_at, mapped_place, mapped_checks, mapped_bytes}
 use Rattle.elf_model.specs.Numbers.{EM_ALPHA, SHT_HASH, SHT_GNU_HASH, SHT_GNU_VERSYM, SHT_GNU_VERDEF, SHT_GNU_VERNEED, PT_DYNAMIC, DT_HASH, DT_GNU_HASH, DT_SYMTAB, DT_STRTAB, DT_STRSZ, DT_VERSYM, DT_VERDEF, DT_VERNEED}
 use Rattle.elf_model.specs.Records.{e_machine, e_shnum, e_phnum, sh_offset, sh_size, sh_link, section_at, p_type, p_offset, p_vaddr, p_filesz, segment_at, d_tag, d_un}
+use Rattle.elf_model.specs.Overlaps.{overlap_checks}
 use Rattle.elf_model.specs.SysvWalk.{section_table_of}
 use Rattle.elf_model.specs.Tables.{SYMBOL_SIZE, DYNAMIC_SIZE, all_checks, linked_at, strings_of, entry_count, segment_dynamic_checks}
 use Rattle.elf_model.specs.VersionRows.{first_of_type, version_table}
@@ -266,10 +267,17 @@ scope_in_segment file index at = elim (first_refusal (segment_dynamic_checks fil
   ]
 ]
 
-unfoldable pub scope_by_segments : List ℕ → Result Scope Refusal
-scope_by_segments file = elim (dynamic_segment_index file) [
+unfoldable pub scope_in_segments : List ℕ → Result Scope Refusal
+scope_in_segments file = elim (dynamic_segment_index file) [
   | None ↦ Err (record { at = 0x20; cause = NoHash })
   | Some index ↦ scope_in_segment file index (segment_at file index)
+]
+
+-- behind the check that no LOAD segment lies over another, since an address is looked for in the first that holds it
+unfoldable pub scope_by_segments : List ℕ → Result Scope Refusal
+scope_by_segments file = elim (first_refusal (overlap_checks file)) [
+  | Some refusal ↦ Err refusal
+  | None ↦ scope_in_segments file
 ]
 
 unfoldable pub scope_of : List ℕ → ℕ → Result Scope Refusal

@@ -1,10 +1,12 @@
 -- The listing of a file and its text, for so many headers permitted, a style, and some parts.
-use Rattle.std.specs.Prelude.{ℕ, true, false, List, [], ◌∷◌, ◌++◌, Option}
+use Rattle.std.specs.Prelude.{ℕ, ◌&&◌, true, false, List, [], ◌∷◌, ◌++◌, Option, if◌then◌else◌}
 use Rattle.elf_model.specs.Records.{e_shnum, e_phnum}
-use Rattle.elf_model.specs.Checks.{header_checks, load_checks}
+use Rattle.elf_model.specs.Checks.{Check, header_checks, load_checks}
+use Rattle.elf_model.specs.Cost.{needs_segments}
 use Rattle.elf_model.specs.HeaderTables.{HeaderTable, TableKind}
 use Rattle.elf_model.specs.Lines.{header_line}
 use Rattle.elf_model.specs.Listing.{Item, Line, guarded, each, where_asked, has_tables, known_parts, report_of, fault_of, HEADER, SECTIONS, SEGMENTS}
+use Rattle.elf_model.specs.Overlaps.{overlap_checks}
 use Rattle.elf_model.specs.Rows.{section_row, segment_row}
 use Rattle.elf_model.specs.Style.{Style, standard, viewed}
 use Rattle.elf_model.specs.Tables.{all_checks}
@@ -31,11 +33,19 @@ table_items file style parts =
     ++ where_asked parts SEGMENTS (each (segment_row file style) 0 (e_phnum file))
     ++ kinds_rows (table_headers file).kinds (table_headers file).headers file style parts
 
--- the load checks and the tables, where the parts have more than the file header
+-- where a style finds tables by the program headers and the parts need these, LOAD segments do not lie over each other
+unfoldable pub view_checks : List ℕ → Style → ℕ → List Check
+view_checks file style parts = if style.by_segments && needs_segments file parts then overlap_checks file else []
+
+-- the tables of a loaded file, behind the checks of its segments
+unfoldable pub loaded_items : List ℕ → Style → ℕ → List Item
+loaded_items file style parts = guarded (view_checks file style parts) (table_items file style parts)
+
+-- the load checks and what stands behind them, where the parts have more than the file header
 unfoldable pub load_items : List ℕ → ℕ → Style → ℕ → List Item
 load_items file headers style parts =
     elim (has_tables parts) [
-      | true ↦ guarded (load_checks file headers) (table_items file style parts)
+      | true ↦ guarded (load_checks file headers) (loaded_items file style parts)
       | false ↦ []
     ]
 

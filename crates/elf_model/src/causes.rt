@@ -74,6 +74,8 @@ pub enum Cause {
     VersionCut,
     /// The number of a symbol version is too large, or no record names it.
     VersionIndex,
+    /// A LOAD segment begins on a page of the one before it, or below (gABI 5, Program Loading).
+    LoadOverlap,
 }
 
 /// A refusal: its cause, and the file offset that it points to.

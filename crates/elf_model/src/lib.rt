@@ -16,6 +16,7 @@ mod loader_laws;
 mod missing;
 mod names;
 mod notes;
+mod overlap_laws;
 mod record_laws;
 mod relocation_types;
 mod states;

@@ -2,8 +2,9 @@
 use Rattle.std.proofs.Common.{◌≡◌, ℕ, zero, suc, ◌+◌, ◌*◌, ◌/◌, ◌<◌, ◌≤◌, List, None, Some, Result, Ok, Err, IfErr, refl, sym, ap, subst, ◌∙◌, arith}
 use Rattle.std.proofs.Math.Nat.{div-mul-le_self}
 use Rattle.elf_model.specs.Checks.{first_refusal}
-use Rattle.elf_model.specs.LoaderScope.{dynamic_segment_index, scope_by_segments, scope_in_segment}
+use Rattle.elf_model.specs.LoaderScope.{dynamic_segment_index, scope_by_segments, scope_in_segments, scope_in_segment}
 use Rattle.elf_model.specs.Numbers.{PT_DYNAMIC}
+use Rattle.elf_model.specs.Overlaps.{overlap_checks}
 use Rattle.elf_model.specs.Records.{p_offset, p_filesz, segment_at}
 use Rattle.elf_model.specs.Tables.{segment_dynamic_checks}
 use Rattle.elf_model.specs.declared.causes.Cause.TheVariants.{NoHash}
@@ -37,30 +38,43 @@ pub size_within : (table : Rows) (size : ℕ) → RowsWithin size table → size
 size_within table size h = fits_in table.count table.entry table.at size h
 
 module _ (file : List ℕ) where
+  -- a LOAD segment lies over another, or none does
+  pub overlap_refused : (fault : Fault) → RefusedBy (overlap_checks file) fault → Finds file (scope_by_segments file) (Err fault)
+  unfolding scope_by_segments
+  overlap_refused (Refused refusal) r = λ other. rw (r, scope_by_segments) refl
+  overlap_refused (Source fault at) r = tt
+
+  pub apart_finds : first_refusal (overlap_checks file) ≡ None → (result : Result Scope Fault)
+      → Finds file (scope_in_segments file) result → Finds file (scope_by_segments file) result
+  unfolding scope_by_segments
+  apart_finds none result f =
+      let is : scope_by_segments file ≡ scope_in_segments file = rw (none, scope_by_segments) refl in
+      subst (λ r. Finds file r result) (sym is) f
+
   pub index_is : dynamic_segment_index file ≡ first_of_kind file PT_DYNAMIC
   unfolding dynamic_segment_index
   index_is = refl
 
-  pub segments_none : dynamic_segment_index file ≡ None → scope_by_segments file ≡ Err (record { at = 0x20; cause = NoHash })
-  unfolding scope_by_segments
-  segments_none e = rw (e, scope_by_segments) refl
+  pub segments_none : dynamic_segment_index file ≡ None → scope_in_segments file ≡ Err (record { at = 0x20; cause = NoHash })
+  unfolding scope_in_segments
+  segments_none e = rw (e, scope_in_segments) refl
 
   -- a fault of a read tells nothing
-  pub read_finds : (fault : Fault) → IsOfRead fault → Finds file (scope_by_segments file) (Err fault)
+  pub read_finds : (fault : Fault) → IsOfRead fault → Finds file (scope_in_segments file) (Err fault)
   read_finds (Refused refusal) budget = λ other. absurd (other budget)
   read_finds (Source fault at) budget = tt
 
   module _ (index : ℕ) (e : dynamic_segment_index file ≡ Some index) where
-    segments_are : scope_by_segments file ≡ scope_in_segment file index (segment_at file index)
-    unfolding scope_by_segments
-    segments_are = rw (e, scope_by_segments) refl
+    segments_are : scope_in_segments file ≡ scope_in_segment file index (segment_at file index)
+    unfolding scope_in_segments
+    segments_are = rw (e, scope_in_segments) refl
 
     segment_fails : (fault : Fault) → RefusedBy (segment_dynamic_checks file (segment_at file index)) fault → Finds file (scope_in_segment file index (segment_at file index)) (Err fault)
     unfolding scope_in_segment
     segment_fails (Refused refusal) r = λ other. rw (r, scope_in_segment) refl
     segment_fails (Source fault at) r = tt
 
-    pub dynamic_refused : (fault : Fault) → Err fault ≡ dynamic_table_at file (segment_at file index) → Finds file (scope_by_segments file) (Err fault)
+    pub dynamic_refused : (fault : Fault) → Err fault ≡ dynamic_table_at file (segment_at file index) → Finds file (scope_in_segments file) (Err fault)
     dynamic_refused fault h =
         let at = segment_at file index in
         let refused = checked_fails (segment_dynamic_checks file at) (rows (p_offset file at) (p_filesz file at / 16) 16) fault h in
@@ -85,5 +99,5 @@ module _ (file : List ℕ) where
       unfolding scope_in_segment
       in_segment = rw (dynamic_is.0, scope_in_segment) refl
 
-      pub segment_finds : (result : Result Scope Fault) → Finds file (scope_by_entries file index (segment_at file index)) result → Finds file (scope_by_segments file) result
+      pub segment_finds : (result : Result Scope Fault) → Finds file (scope_by_entries file index (segment_at file index)) result → Finds file (scope_in_segments file) result
       segment_finds result f = subst (λ r. Finds file r result) (sym (segments_are ∙ in_segment)) f

@@ -3,7 +3,7 @@ use Rattle.std.specs.Prelude.{ℕ, ◌≡◌, ◌||◌, true, is_none, List, [],
 use Rattle.elf_model.specs.Checks.{Check, first_refusal, pass}
 use Rattle.elf_model.specs.Cost.{cost_where}
 use Rattle.elf_model.specs.Loader.{RecordTable as IsTableOf, Symbols as AreSymbolsOf}
-use Rattle.elf_model.specs.LoaderScope.{Scope as IsScopeOf, tagged_row, rest_checks, rest_place, rest_size, checks_of_row, hash_row, segment_checks, segment_scope, segment_strings, segment_symbols, segment_words, records_of_tag, records_with, dynamic_segment_index, scope_by_segments, words_row}
+use Rattle.elf_model.specs.LoaderScope.{Scope as IsScopeOf, tagged_row, rest_checks, rest_place, rest_size, checks_of_row, hash_row, segment_checks, segment_scope, segment_strings, segment_symbols, segment_words, records_of_tag, records_with, dynamic_segment_index, words_row}
 use Rattle.elf_model.specs.Numbers.{DT_VERDEF, DT_VERNEED}
 use Rattle.elf_model.specs.Records.{d_un, p_filesz, segment_at}
 use Rattle.elf_model.specs.Tables.{segment_dynamic_checks}
@@ -85,6 +85,6 @@ entries_asked file = elim (dynamic_segment_index file) [
 ]
 
 -- WHAT THE PROGRAM HEADERS TELL of a known file: within the bytes of the dynamic entries, what a lookup is made in
-pub record FindsSegments (file : List ℕ) (old new : Counting) (result : Result Scope Fault) : Type 0 where
+pub record FindsSegments (file : List ℕ) (told : Result IsScopeOf Refusal) (old new : Counting) (result : Result Scope Fault) : Type 0 where
   pub costs : Charges old new (why_stopped result) (entries_asked file)
-  pub finds : Finds file (scope_by_segments file) result
+  pub finds : Finds file told result

@@ -1,6 +1,6 @@
 //! What a lookup is made in, by the program headers.
 ghost use Rattle.std.specs.Prelude.{◌≡◌, ◌<◌, ◌^◌, ℕ, List, IfOk, IfErr};
-ghost use Rattle.elf_model.specs.LoaderScope.{has_wide_kind, segment_checks, segment_scope};
+ghost use Rattle.elf_model.specs.LoaderScope.{scope_by_segments, scope_in_segments, has_wide_kind, segment_checks, segment_scope};
 ghost use Rattle.elf_model.specs.Records.{d_un, segment_at};
 ghost use Rattle.elf_headers.specs.Faults.{IsOfCheck};
 ghost use Rattle.elf_headers.specs.Ledger.{Did, why_stopped};
@@ -26,9 +26,10 @@ use elf_table::{Fault, SegmentView};
 /// such, which are read, each byte at most once.
 ///
 /// # Errors
-/// The first that fails: `NoHash` at 0x20 where there is no such segment, and where none of its
-/// entries tells of a hash table; before the latter the checks of [`SegmentView::dynamic`]; then those
-/// of the entries. Else a fault of a read, or a refusal for want of budget, at an entry's offset.
+/// The first that fails: the check of [`SegmentView::check_overlaps`]; `NoHash` at 0x20 where there is
+/// no such segment, and where none of its entries tells of a hash table; before the latter the checks
+/// of [`SegmentView::dynamic`]; then those of the entries. Else a fault of a read, or a refusal for
+/// want of budget, at an entry's offset.
 pub(crate) fn by_segments<S: Source>(
     src: &mut Counted<S>,
     view: &SegmentView<'_>,
@@ -37,7 +38,20 @@ pub(crate) fn by_segments<S: Source>(
     requires small { view.now.loaded.size < 2 ^ 63 }
     ensures did { Did src.old src.new (why_stopped result) src.old.seen.size
         (λ bytes. Views bytes view.now.loaded view.now.store.now →
-        FindsSegments bytes src.old src.new result) }
+        FindsSegments bytes (scope_by_segments bytes) src.old src.new result) }
+    ensures within { IfOk result (ScopeLies view.now.loaded.size) }
+{
+    view.check_overlaps()?;
+    in_segments(src, view)
+}
+
+/// The same behind the check that no LOAD segment lies over another.
+fn in_segments<S: Source>(src: &mut Counted<S>, view: &SegmentView<'_>) -> Result<Scope, Fault>
+    requires size { view.now.loaded.size ≡ src.old.seen.size }
+    requires small { view.now.loaded.size < 2 ^ 63 }
+    ensures did { Did src.old src.new (why_stopped result) src.old.seen.size
+        (λ bytes. Views bytes view.now.loaded view.now.store.now →
+        FindsSegments bytes (scope_in_segments bytes) src.old src.new result) }
     ensures within { IfOk result (ScopeLies view.now.loaded.size) }
 {
     let Some(segment) = view.first_segment(PT_DYNAMIC) else {

@@ -22,8 +22,9 @@ use elf_table::{File, SegmentView};
 /// Where the source's file is known the answer is the file's own, and so is the refusal.
 ///
 /// # Errors
-/// The first that fails: the checks of [`header`] and of [`load`]; `NoHash` at 0x28, by segments at
-/// 0x20, where no table is found; those of the hash table, of the symbols and of their strings, and
+/// The first that fails: the checks of [`header`] and of [`load`]; by segments `LoadOverlap` at the
+/// program header of a LOAD segment that lies over another; `NoHash` at 0x28, by segments at 0x20,
+/// where no table is found; those of the hash table, of the symbols and of their strings, and
 /// where there are words of versions those of the words, of the definitions and of the needs, each
 /// at the section header or the dynamic entry that tells of it. Else a fault of the source, or
 /// `Budget` where a limit has no room for a read, at the offset that was asked for.

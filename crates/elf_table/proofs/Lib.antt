@@ -1,6 +1,7 @@
 pub mod HashSectionLaws
 pub mod MappedLaws
 pub mod NameWindows
+pub mod OverlapLaws
 pub mod Paging
 pub mod Pieces
 pub mod RelocationLaws

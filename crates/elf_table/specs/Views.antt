@@ -1,12 +1,13 @@
 -- What a loaded file in the segment view tells of its segments.
-use Rattle.std.specs.Prelude.{ℕ, ◌≡◌, ◌+◌, ◌-◌, ◌*◌, ◌==◌, List, [], ◌∷◌, length, Option, None, Some, Result, Err}
-use Rattle.elf_model.specs.Checks.{refuse, is_outside}
+use Rattle.std.specs.Prelude.{ℕ, ◌≡◌, ◌+◌, ◌-◌, ◌*◌, ◌==◌, List, [], ◌∷◌, length, Option, None, Some, Result, Ok, Err}
+use Rattle.elf_model.specs.Checks.{Check, refuse, first_refusal, is_outside}
 use Rattle.elf_model.specs.Find.{first_that}
 use Rattle.elf_model.specs.Records.{e_phnum, p_type, p_offset, p_vaddr, p_filesz, segment_at}
 use Rattle.elf_model.specs.Mapped.{mapped_at, mapped_checks, mapped_place}
 use Rattle.elf_model.specs.declared.causes.Cause.TheVariants.{TableOutside, Unmapped}
 use Rattle.elf_record.specs.declared.ehdr.Ehdr.{Ehdr}
 use Rattle.elf_headers.specs.Load.{Views}
+use Rattle.elf_table.specs.Relocations.{RefusedBy}
 use Rattle.elf_table.specs.Sections.{checked, rows, rows_of, strings}
 use Rattle.elf_headers.specs.Store.{segment_bytes}
 use Rattle.elf_table.specs.Tables.{Rows, Strings}
@@ -18,6 +19,11 @@ use Rattle.elf_table.specs.declared.segment_view.SegmentView.{SegmentView}
 abbrev pub TellsSegment : {A : Type 0} → SegmentView → ℕ → A → (List ℕ → ℕ → A) → Type 0
 TellsSegment v segment answer has =
     (file : List ℕ) → Views file v.loaded v.store.now → answer ≡ has file (segment_at file segment)
+
+-- CHECKS ALONE: all pass, or the fault is the first of them that fails
+abbrev pub Decides : List Check → Result (Unit {0}) Fault → Type 0
+Decides checks (Ok passed) = first_refusal checks ≡ None
+Decides checks (Err fault) = RefusedBy checks fault
 
 -- the file offset of the program header of an index
 abbrev pub segment_place : Ehdr → ℕ → ℕ

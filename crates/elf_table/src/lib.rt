@@ -11,6 +11,7 @@ mod hash_sections;
 mod name_buf;
 mod name_search;
 mod names;
+mod overlaps;
 mod row;
 mod sections;
 mod segment_checks;

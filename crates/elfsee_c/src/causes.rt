@@ -43,5 +43,6 @@ pub(crate) fn cause_number(cause: Cause) -> u32
         Cause::Thin => 34,
         Cause::NotArchive => 35,
         Cause::MemberCut => 36,
+        Cause::LoadOverlap => 37,
     }
 }

@@ -78,6 +78,7 @@ fn cause_of(number: u32) -> Option<Cause>
         34 => Some(Cause::Thin),
         35 => Some(Cause::NotArchive),
         36 => Some(Cause::MemberCut),
+        37 => Some(Cause::LoadOverlap),
         _ => None,
     }
 }

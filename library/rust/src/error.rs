@@ -78,12 +78,14 @@ pub enum Cause {
     NotArchive,
     /// No member of an archive stands where one should, or it ends past the end of the file.
     MemberCut,
+    /// A LOAD segment begins on a page of the one before it, or below.
+    LoadOverlap,
 }
 
 use Cause::*;
 
 /// The causes by their numbers.
-const CAUSES: [Cause; 37] = [
+const CAUSES: [Cause; 38] = [
     Unknown,
     Short,
     NotElf,
@@ -121,6 +123,7 @@ const CAUSES: [Cause; 37] = [
     Thin,
     NotArchive,
     MemberCut,
+    LoadOverlap,
 ];
 
 impl Cause {

@@ -1,0 +1,38 @@
+//! Listings by the program headers of files whose LOAD segments lie over each other, each computed by the prover.
+ghost use Rattle.elf_examples.specs.ListedOverlaps.{PagesAreShared, OthersTakeNoPages, AddressesRise, PagesDoNotWrap, OverlapsBySegmentsAlone, OverlapsBehindTheLoad};
+
+/// Two LOAD segments over one page, and two whose pages touch.
+#[tactic(auto, unfolding(elf_model::proofs::OnLiterals::on_literals))]
+pub fn pages_are_shared()
+    ensures { PagesAreShared }
+{}
+
+/// Segments that take up no memory, and those of other types, between them.
+#[tactic(auto, unfolding(elf_model::proofs::OnLiterals::on_literals))]
+pub fn others_take_no_pages()
+    ensures { OthersTakeNoPages }
+{}
+
+/// Segments that do not stand in the order of their addresses.
+#[tactic(auto, unfolding(elf_model::proofs::OnLiterals::on_literals))]
+pub fn addresses_rise()
+    ensures { AddressesRise }
+{}
+
+/// A segment that ends at 2^64 or behind.
+#[tactic(auto, unfolding(elf_model::proofs::OnLiterals::on_literals))]
+pub fn pages_do_not_wrap()
+    ensures { PagesDoNotWrap }
+{}
+
+/// The refusal in each part that needs the program headers, and in no listing but those by them.
+#[tactic(auto, unfolding(elf_model::proofs::OnLiterals::on_literals))]
+pub fn overlaps_by_segments_alone()
+    ensures { OverlapsBySegmentsAlone }
+{}
+
+/// Which refusals stand before it, and what it asks for.
+#[tactic(auto, unfolding(elf_model::proofs::OnLiterals::on_literals))]
+pub fn overlaps_behind_the_load()
+    ensures { OverlapsBehindTheLoad }
+{}
