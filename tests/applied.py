@@ -120,7 +120,7 @@ class Layout:
             if sort == "at":
                 self.sections[int(key)] = int(address, 16)
             else:
-                self.named[sort].append((key.encode(), int(address, 16)))
+                self.named[sort].append((key.encode("utf-8", "surrogateescape"), int(address, 16)))
 
 
 class Section:
