@@ -223,12 +223,11 @@ def compared_library(task):
             library.counted["lookups beside dlsym and dlvsym"] += 1
             wrong += [f"{text!r}: {said}"] if said else []
         if program:
-            by_segments = copy is not None and count % 2
-            if by_segments and count % 8 in (1, 7):
-                # The library itself, whose section headers are to count for nothing.
-                wrong += wrong_answer(program, library, (path, copy[1]), text, count % 4 < 2)
-                continue
-            wrong += wrong_answer(program, library, copy if by_segments else None, text, count % 4 < 2)
+            without = None
+            if copy is not None and count % 2:
+                # Half of these in the library itself, whose section headers are to count for nothing.
+                without = (path, copy[1]) if count % 8 in (1, 7) else copy
+            wrong += wrong_answer(program, library, without, text, count % 4 < 2)
     return path, library.counted, wrong
 
 
