@@ -8,5 +8,6 @@ mod hash_rows;
 mod library_rows;
 mod number_rows;
 mod offered_rows;
+mod overlap_rows;
 mod rest_rows;
 mod wanted_rows;
