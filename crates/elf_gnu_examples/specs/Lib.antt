@@ -4,6 +4,7 @@ pub mod ExamplesChains
 pub mod ExamplesOffered
 pub mod ExamplesNumbers
 pub mod ExamplesRests
+pub mod ExamplesOverlaps
 pub mod ExamplesBefore
 pub mod ExamplesGnuHash
 pub mod ExamplesWanted

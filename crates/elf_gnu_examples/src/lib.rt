@@ -8,6 +8,7 @@ mod hash_rows;
 mod library_rows;
 mod number_rows;
 mod offered_rows;
+mod overlap_rows;
 mod record_rows;
 mod rest_rows;
 mod view_rows;

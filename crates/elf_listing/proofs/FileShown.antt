@@ -7,7 +7,7 @@ use Rattle.elf_model.specs.Lines.{header_line}
 use Rattle.elf_model.specs.Listing.{Item, Line, Fault, fault_of, has, has_tables, known_parts, where_asked, each, HEADER, SEGMENTS, NOTES, DYNAMIC, VERSIONS}
 use Rattle.elf_model.specs.Records.{e_shnum, e_phnum}
 use Rattle.elf_model.specs.Style.{Style, viewed as view_of}
-use Rattle.elf_model.specs.Report.{listing, load_items, table_items, kinds_rows}
+use Rattle.elf_model.specs.Report.{listing, load_items, loaded_items, table_items, kinds_rows, view_checks}
 use Rattle.elf_model.specs.HeaderTables.{file_sections, file_segments}
 use Rattle.elf_model.specs.TableKinds.{TableHeaders, symbols, relocations, section_notes, section_dynamic, segment_notes, segment_dynamic, section_kinds, segment_kinds, table_headers}
 use Rattle.elf_model.specs.VersionLaws.{records_rows}
@@ -23,7 +23,7 @@ use Rattle.elf_headers.specs.Store.{Stored}
 use Rattle.elf_headers.specs.declared.fault.Fault.{Fault as TableFault}
 use Rattle.elf_headers.specs.declared.fault.Fault.TheVariants.{Refused}
 use Rattle.elf_listing.specs.Parts.{listed_by, part_items}
-use Rattle.elf_listing.specs.Viewed.{viewed}
+use Rattle.elf_listing.specs.Viewed.{ChecksView, viewed}
 use Rattle.elf_listing.specs.declared.parts.Part.{Part}
 use Rattle.elf_listing.specs.declared.parts.Part.TheVariants.{Headers, Symbols, Relocations, SectionNotes, SegmentNotes, SectionDynamic, SegmentDynamic, Definitions, Needs, SymbolVersions}
 
@@ -49,14 +49,32 @@ pub load_alone : (file : List ℕ) (headers : ℕ) (style : Style) (parts : ℕ)
 load_alone file headers style parts fault store read same tables refusal is other =
     let first = rw is at read in
     load_some file headers style parts tables
-    ∙ guarded-fault (load_checks file headers) (table_items file style parts) refusal (ap (λ n. first_refusal (load_checks file n)) (sym same) ∙ first other)
+    ∙ guarded-fault (load_checks file headers) (loaded_items file style parts) refusal (ap (λ n. first_refusal (load_checks file n)) (sym same) ∙ first other)
 
--- where the load passes, the tables are listed
-pub load_passed : (file : List ℕ) (headers slots : ℕ) (style : Style) (parts : ℕ) → first_refusal (load_checks file slots) ≡ None → slots ≡ headers → has_tables parts ≡ true
-    → load_items file headers style parts ≡ table_items file style parts
-load_passed file headers slots style parts passed same tables =
+-- where the load passes, what stands behind its checks is listed
+load_behind : (file : List ℕ) (headers slots : ℕ) (style : Style) (parts : ℕ) → first_refusal (load_checks file slots) ≡ None → slots ≡ headers → has_tables parts ≡ true
+    → load_items file headers style parts ≡ loaded_items file style parts
+load_behind file headers slots style parts passed same tables =
     load_some file headers style parts tables
-    ∙ guarded-passes (load_checks file headers) (table_items file style parts) (ap (λ n. first_refusal (load_checks file n)) (sym same) ∙ passed)
+    ∙ guarded-passes (load_checks file headers) (loaded_items file style parts) (ap (λ n. first_refusal (load_checks file n)) (sym same) ∙ passed)
+
+-- a refusal of the program headers is all of that
+pub view_alone : (file : List ℕ) (headers slots : ℕ) (style : Style) (parts : ℕ) → first_refusal (load_checks file slots) ≡ None → slots ≡ headers → has_tables parts ≡ true
+    → (fault : TableFault) → ChecksView (view_checks file style parts) (Err fault)
+    → (refusal : Refusal) → fault ≡ Refused refusal → (IsBudget refusal → ⊥) → load_items file headers style parts ≡ Fault refusal ∷ []
+unfolding loaded_items
+view_alone file headers slots style parts passed same tables fault checked refusal is other =
+    let first = rw is at checked in
+    load_behind file headers slots style parts passed same tables
+    ∙ guarded-fault (view_checks file style parts) (table_items file style parts) refusal (first other)
+
+-- where they pass too, the tables are listed
+pub load_passed : (file : List ℕ) (headers slots : ℕ) (style : Style) (parts : ℕ) → first_refusal (load_checks file slots) ≡ None → slots ≡ headers → has_tables parts ≡ true
+    → first_refusal (view_checks file style parts) ≡ None → load_items file headers style parts ≡ table_items file style parts
+unfolding loaded_items
+load_passed file headers slots style parts passed same tables checked =
+    load_behind file headers slots style parts passed same tables
+    ∙ guarded-passes (view_checks file style parts) (table_items file style parts) checked
 
 -- a part of so many headers
 abbrev pub of_headers : List ℕ → Style → ℕ → Part → ℕ → List Item

@@ -1,10 +1,14 @@
 -- The program headers that are loaded beside a file: where they describe its tables.
-use Rattle.std.specs.Prelude.{ℕ, ◌≡◌, ◌*◌, ◌<◌, ◌≤◌, ◌==◌, ◌&&◌, ◌||◌, Bool, List, Option, Some, if◌then◌else◌}
+use Rattle.std.specs.Prelude.{ℕ, ◌≡◌, ◌*◌, ◌<◌, ◌≤◌, ◌==◌, ◌&&◌, ◌||◌, Bool, List, Option, None, Some, Result, Ok, Err, if◌then◌else◌}
+use Rattle.elf_model.specs.Budget.{IsBudget}
+use Rattle.elf_model.specs.Checks.{Check, first_refusal}
 use Rattle.elf_model.specs.Cost.{cost_where}
 use Rattle.elf_model.specs.Listing.{has, SEGMENTS, NOTES, DYNAMIC}
 use Rattle.elf_source.specs.Source.{Counting}
 use Rattle.elf_headers.specs.Load.{IsOpen, Opened, SegmentsWithin}
 use Rattle.elf_headers.specs.Store.{Stored, HoldsSegments}
+use Rattle.elf_headers.specs.declared.fault.Fault.{Fault}
+use Rattle.elf_headers.specs.declared.fault.Fault.TheVariants.{Refused, Source}
 
 -- the parts of a file without sections need its program headers
 abbrev pub needs_view : ℕ → Opened → Bool
@@ -22,6 +26,12 @@ view_cost parts loaded = cost_where (needs_view parts loaded) (56 * loaded.heade
 pub record IsViewed (file : Option (List ℕ)) (loaded : Opened) (store : Stored) : Type 0 where
   pub all : 0 < store.segments → store.segments ≡ loaded.header.e_phnum
   pub held : (bytes : List ℕ) → file ≡ Some bytes → HoldsSegments bytes store
+
+-- THE PROGRAM HEADERS WERE READ AND CHECKED: all checks pass; or a read failed, or the refusal is the first of them that fails
+abbrev pub ChecksView : List Check → Result (Unit {0}) Fault → Type 0
+ChecksView checks (Ok passed) = first_refusal checks ≡ None
+ChecksView checks (Err (Refused refusal)) = (IsBudget refusal → ⊥) → first_refusal checks ≡ Some refusal
+ChecksView checks (Err (Source fault at)) = Unit {0}
 
 -- what is so before the program headers of a file are loaded: its section headers are in the store, which has room
 pub record AwaitsView (size : ℕ) (loaded : Opened) (store : Stored) : Type 0 where

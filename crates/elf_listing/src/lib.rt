@@ -19,6 +19,7 @@ mod showing;
 mod symbol_versions;
 mod telling;
 mod versions;
+mod viewing;
 
 pub use buffers::{FIXED_BYTES, VERSION_BYTES};
 pub use elf_lines::{

@@ -1,34 +1,32 @@
 //! The call that writes a listing.
 ghost use Rattle.elf_source.specs.Growth.{Grows};
-ghost use Rattle.std.specs.Prelude.{◌≡◌, ◌+◌, ◌-◌, ◌^◌, ◌≤◌, ◌||◌, [], ◌∷◌, false, ℕ, List};
-ghost use Rattle.std.specs.Prelude.{Some, None, Ok, IfErr, OnOk};
+ghost use Rattle.std.specs.Prelude.{◌≡◌, ◌+◌, ◌-◌, ◌^◌, ◌≤◌, [], ◌∷◌, true, false, ℕ, List};
+ghost use Rattle.std.specs.Prelude.{Some, None, Ok, IfErr};
 ghost use Rattle.elf_model.specs.Checks.{first_refusal, length_checks};
 ghost use Rattle.elf_model.specs.declared.causes.Refusal.{Refusal as Refuses};
 ghost use Rattle.elf_model.specs.Cost.{listing_cost, ceiling, behind_header};
 ghost use Rattle.elf_model.specs.Lines.{header_line};
 ghost use Rattle.elf_model.specs.Listing.{Line as LineItem, has, has_tables, known_parts, where_asked, HEADER};
-ghost use Rattle.elf_model.specs.Listing.{SEGMENTS, NOTES, DYNAMIC};
+ghost use Rattle.elf_model.specs.Records.{e_shnum};
 ghost use Rattle.elf_model.specs.Report.{listing as listed_items, load_items, table_items};
 ghost use Rattle.elf_model.specs.Style.{viewed as view_of};
 ghost use Rattle.elf_record.specs.Ehdr.{IsEhdr};
 ghost use Rattle.elf_listing.specs.Parts.{tables_listed};
-ghost use Rattle.elf_listing.specs.Viewed.{AwaitsView, IsReady, view_cost, viewed};
-ghost use Rattle.elf_source.specs.Source.{Reads};
-ghost use Rattle.elf_headers.specs.Faults.{HeaderRead, IsOfRead, Says};
-ghost use Rattle.elf_headers.specs.Load.{Belongs};
+ghost use Rattle.elf_listing.specs.Viewed.{IsReady};
+ghost use Rattle.elf_headers.specs.Faults.{HeaderRead};
 ghost use Rattle.elf_headers.specs.Permitted.{style_of};
-ghost use Rattle.elf_headers.specs.Store.{HoldsSegments};
 ghost use Rattle.elf_listing.specs.Reports.{Reports, FaultSays, AsksWithin, Leaves};
 ghost use Rattle.elf_listing.specs.Shows.{Costs, IsOfOutput, Writes};
 
 use crate::listing::Listing;
 use crate::telling::show_stop;
+use crate::viewing::load_view;
 use bitflags::Flags;
 use elf_lines::header_row;
 use elf_names::ReadAhead;
 use elf_record::{Ehdr, Parts};
 use elf_source::{Counted, Out, Sink, Source};
-use elf_table::{Caps, Fault, File, HeaderStore, Loaded, NameBuf, Stop, Style, header, load};
+use elf_table::{Caps, File, HeaderStore, Loaded, NameBuf, Stop, Style, header, load};
 
 /// All parts but the file header's.
 const TABLES: Parts = Parts(254);
@@ -161,7 +159,8 @@ fn list_viewed<S: Source, W: Sink>(
 }
 
 /// Loads the headers and lists the tables, where the parts have more than the file header.
-/// `header` is the file's header.
+/// `header` is the file's header, which tells of no sections where the style finds tables by the
+/// program headers.
 fn list_loaded<S: Source, W: Sink>(
     src: &mut Counted<S>,
     store: &mut HeaderStore,
@@ -172,6 +171,8 @@ fn list_loaded<S: Source, W: Sink>(
 ) -> Result<(), Stop>
     requires header { (file : List ℕ) → src.old.seen.file ≡ Some file →
         HeaderRead file (Ok header.now) }
+    requires hidden { (file : List ℕ) → src.old.seen.file ≡ Some file →
+        style.by_segments ≡ true → e_shnum file ≡ 0 }
     ensures slots { store.new.slots ≡ store.old.slots }
     ensures grows { Grows out.old out.new }
     ensures below { Costs src.old src.new out.new result
@@ -188,42 +189,8 @@ fn list_loaded<S: Source, W: Sink>(
         return Ok(());
     }
     let loaded = load(src, store, header)?;
-    load_view(src, store, &loaded, parts)?;
+    load_view(src, store, &loaded, style, parts)?;
     list_tables(src, out, loaded, store, style, parts)
-}
-
-/// Loads the program headers of a file without sections, where the parts need them: to be shown, or
-/// because they tell where its notes and its dynamic entries are.
-fn load_view<S: Source>(
-    src: &mut Counted<S>,
-    store: &mut HeaderStore,
-    loaded: &Loaded,
-    parts: Parts,
-) -> Result<(), Fault>
-    requires { AwaitsView src.old.seen.size loaded.now store.old }
-    ensures slots { store.new.slots ≡ store.old.slots }
-    ensures loaded { store.new.loaded ≡ store.old.loaded }
-    ensures segments { OnOk result (store.new.segments ≡ viewed parts.0 loaded.now) }
-    ensures reads { Reads src.old src.new (view_cost parts.0 loaded.now) }
-    ensures says { IfErr result (Says src.old src.new (view_cost parts.0 loaded.now)) }
-    ensures fault { IfErr result IsOfRead }
-    ensures held { (file : List ℕ) → src.old.seen.file ≡ Some file →
-        Belongs file loaded.now store.old → OnOk result
-        (Belongs file loaded.now store.new × HoldsSegments file store.new) }
-{
-    if loaded.header().e_shnum != 0 || !needs_view(parts) {
-        return Ok(());
-    }
-    loaded.load_segments(src, store)
-}
-
-/// Whether the parts of a file without sections need its program headers.
-fn needs_view(parts: Parts) -> bool
-    ensures { result ≡ (has parts.0 SEGMENTS || (has parts.0 NOTES || has parts.0 DYNAMIC)) }
-{
-    parts.contains(Parts::SEGMENTS)
-        || parts.contains(Parts::NOTES)
-        || parts.contains(Parts::DYNAMIC)
 }
 
 /// Lists the tables of a file whose headers are in the store.

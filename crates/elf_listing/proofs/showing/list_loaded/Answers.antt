@@ -8,8 +8,8 @@ use Rattle.elf_model.proofs.ListingLemmas.{load_none}
 use Rattle.elf_record.specs.declared.ehdr.Ehdr.{Ehdr}
 use Rattle.elf_source.proofs.ReadsLaws.{Reads-then}
 use Rattle.elf_listing.specs.Viewed.{view_cost}
-use Rattle.elf_listing.proofs.FileShown.{load_alone, load_passed}
-use Rattle.elf_listing.proofs.RowLaws.{Stopped-first, Stopped-unread-first, Writes-as}
+use Rattle.elf_listing.proofs.FileShown.{load_alone, load_passed, view_alone}
+use Rattle.elf_listing.proofs.RowLaws.{Stopped-first, Writes-as}
 use Rattle.elf_listing.proofs.SectionCosts.{load_below, load_pays, load_within, loaded_within, loaded_below, rest_pays, view_pays, view_within, view_below, few_headers, viewed_all}
 use Rattle.elf_listing.proofs.ShowLaws.{Whole-none, Costs-then, Costs-fault, Costs-later}
 use Rattle.elf_source.proofs.GrowthLaws.{grows_not}
@@ -78,7 +78,12 @@ returns-in_err-load_view-clause-cost g c = λ file held.
 pub returns-in_err-load_view-clause-text : goal.returns-in_err-load_view-clause-text
 returns-in_err-load_view-clause-text g c = λ file held.
     let p = err_from_is_err_and c.from_residual-in_err-load_view.result c.from_residual-in_err-load_view.ensures.1 in
-    rw (p.1, p.2) (Stopped-unread-first _ _ _ c.in_err-load_view.ensures.fault)
+    let tables : has_tables c.args.parts.0 ≡ true = sym (c.intersects.ensures tt) ∙ c.if-not-intersects.false in
+    let belongs = c.in_ok-loaded.ensures.held file held (c.requires.header file held).1 in
+    let loaded = c.load.ensures.reads.keeps.same_file ∙ held in
+    let checked = c.in_err-load_view.ensures.checked file loaded belongs (c.requires.hidden file held) in
+    rw (p.1, p.2)
+    (Stopped-first _ _ _ (view_alone file c.args.store.now.slots _ (style_of c.args.style) c.args.parts.0 belongs.passes c.load.ensures.slots tables _ checked))
 
 pub list_tables-requires : goal.list_tables-requires
 list_tables-requires g c =
@@ -135,7 +140,9 @@ returns-clause-text g c = λ file held.
     let tables : has_tables c.args.parts.0 ≡ true = sym (c.intersects.ensures tt) ∙ c.if-not-intersects.false in
     let belongs = c.in_ok-loaded.ensures.held file held (c.requires.header file held).1 in
     let reads = Reads-then c.load.ensures.reads c.load_view.ensures.reads in
-    Writes-as _ _ _ (load_passed file c.args.store.now.slots _ (style_of c.args.style) c.args.parts.0 belongs.passes c.load.ensures.slots tables)
+    let loaded = c.load.ensures.reads.keeps.same_file ∙ held in
+    let checked = c.in_ok-load_view.ensures.checked file loaded belongs (c.requires.hidden file held) in
+    Writes-as _ _ _ (load_passed file c.args.store.now.slots _ (style_of c.args.style) c.args.parts.0 belongs.passes c.load.ensures.slots tables checked)
     (c.list_tables.ensures.text file (reads.keeps.same_file ∙ held))
 
 pub returns-in_err-load_view-clause-grows : goal.returns-in_err-load_view-clause-grows

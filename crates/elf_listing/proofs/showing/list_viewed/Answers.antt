@@ -1,10 +1,12 @@
 -- The file as it is, or with what its header tells of section headers hidden meanwhile.
 use Rattle.std.proofs.Common.{List, ℕ, refl, sym}
 use Rattle.elf_model.specs.Style.{without_sections}
+use Rattle.elf_model.proofs.StyleLemmas.{view_tells_of_none}
 use Rattle.elf_headers.specs.Permitted.{style_of}
 use Rattle.elf_source.specs.Source.{Hides}
 use Rattle.elf_source.proofs.HidingLaws.{hidden_file}
 use Rattle.elf_listing.proofs.HiddenLaws.{viewed_all, viewed_hidden, header_hidden, Costs-hidden}
+use Rattle.elf_listing.proofs.ViewedLaws.{not_by}
 use Rattle.elf_listing.proofs.showing.list_viewed.Goals as goal
 
 pub returns-then-not-style-clause-cost : goal.returns-then-not-style-clause-cost
@@ -20,6 +22,7 @@ list_loaded-listed-requires g c = record {
   header = λ viewed held.
       let file = hidden_file c.hide_sections.ensures viewed held in
       rw file.2 (header_hidden file.0 c.args.header.now c.without_sections.result (c.requires.header file.0 file.1) (c.without_sections.ensures file.0));
+  hidden = λ viewed held by. let file = hidden_file c.hide_sections.ensures viewed held in rw file.2 (view_tells_of_none file.0).1.0;
 }
 
 pub returns-clause-cost : goal.returns-clause-cost
@@ -35,7 +38,10 @@ returns-clause-text g c = λ file held.
     (c.list_loaded-listed.ensures.text (without_sections file) (c.hide_sections.ensures.shows refl file held))
 
 pub list_loaded-requires : goal.list_loaded-requires
-list_loaded-requires g c = record { header = c.requires.header }
+list_loaded-requires g c = record {
+  header = c.requires.header;
+  hidden = λ file held by. absurd (not_by c.args.style.by_segments c.if-not-style.true by);
+}
 
 pub returns-then-not-style-clause-below : goal.returns-then-not-style-clause-below
 returns-then-not-style-clause-below g c = c.list_loaded.ensures.below

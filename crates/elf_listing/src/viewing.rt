@@ -1,0 +1,106 @@
+//! The program headers that describe the tables of a listing.
+ghost use Rattle.std.specs.Prelude.{◌≡◌, ◌&&◌, ◌||◌, true, ℕ, List, Some, IfErr, OnOk};
+ghost use Rattle.elf_model.specs.Listing.{has, SEGMENTS, NOTES, DYNAMIC};
+ghost use Rattle.elf_model.specs.Records.{e_shnum};
+ghost use Rattle.elf_model.specs.Report.{view_checks};
+ghost use Rattle.elf_source.specs.Source.{Reads};
+ghost use Rattle.elf_headers.specs.Faults.{IsOfCheck, IsOfRead, Says};
+ghost use Rattle.elf_headers.specs.Load.{Belongs};
+ghost use Rattle.elf_headers.specs.Permitted.{style_of};
+ghost use Rattle.elf_headers.specs.Store.{HoldsSegments};
+ghost use Rattle.elf_table.specs.Views.{Decides};
+ghost use Rattle.elf_listing.specs.Viewed.{AwaitsView, ChecksView, needs_view, view_cost, viewed};
+
+use bitflags::Flags;
+use elf_record::Parts;
+use elf_source::{Counted, Source};
+use elf_table::{Fault, HeaderStore, Loaded, SegmentView, Style};
+
+/// Loads the program headers of a file without sections, where the parts need them: to be shown, or
+/// because they tell where its notes and its dynamic entries are. Where the style finds tables by
+/// them, no LOAD segment lies over another.
+///
+/// # Errors
+/// A fault of a read, or a refusal for want of budget; behind that the check of
+/// [`SegmentView::check_overlaps`], where the style calls for it.
+pub(crate) fn load_view<S: Source>(
+    src: &mut Counted<S>,
+    store: &mut HeaderStore,
+    loaded: &Loaded,
+    style: Style,
+    parts: Parts,
+) -> Result<(), Fault>
+    requires { AwaitsView src.old.seen.size loaded.now store.old }
+    ensures slots { store.new.slots ≡ store.old.slots }
+    ensures loaded { store.new.loaded ≡ store.old.loaded }
+    ensures segments { OnOk result (store.new.segments ≡ viewed parts.0 loaded.now) }
+    ensures reads { Reads src.old src.new (view_cost parts.0 loaded.now) }
+    ensures says { IfErr result (Says src.old src.new (view_cost parts.0 loaded.now)) }
+    ensures held { (file : List ℕ) → src.old.seen.file ≡ Some file →
+        Belongs file loaded.now store.old → OnOk result
+        (Belongs file loaded.now store.new × HoldsSegments file store.new) }
+    ensures checked { (file : List ℕ) → src.old.seen.file ≡ Some file →
+        Belongs file loaded.now store.old → (style.by_segments ≡ true → e_shnum file ≡ 0) →
+        ChecksView (view_checks file (style_of style) parts.0) result }
+{
+    read_view(src, store, loaded, parts)?;
+    check_view(store, loaded, style, parts)
+}
+
+/// Checks the program headers in the store, where the style finds tables by them.
+///
+/// # Errors
+/// That of [`SegmentView::check_overlaps`].
+fn check_view(store: &HeaderStore, loaded: &Loaded, style: Style, parts: Parts) -> Result<(), Fault>
+    requires { store.now.segments ≡ viewed parts.0 loaded.now }
+    ensures checked { (file : List ℕ) → Belongs file loaded.now store.now →
+        HoldsSegments file store.now → (style.by_segments ≡ true → e_shnum file ≡ 0) →
+        Decides (view_checks file (style_of style) parts.0) result }
+    ensures refusal { IfErr result IsOfCheck }
+{
+    if !is_checked(loaded, style, parts) {
+        return Ok(());
+    }
+    let loaded = *loaded;
+    SegmentView { loaded, store }.check_overlaps()
+}
+
+/// Whether the style finds tables by the program headers, and the parts need these.
+fn is_checked(loaded: &Loaded, style: Style, parts: Parts) -> bool
+    ensures { result ≡ (style.by_segments && needs_view parts.0 loaded.now) }
+{
+    style.by_segments && loaded.header().e_shnum == 0 && needs_view(parts)
+}
+
+/// Loads the program headers of a file without sections, where the parts need them.
+fn read_view<S: Source>(
+    src: &mut Counted<S>,
+    store: &mut HeaderStore,
+    loaded: &Loaded,
+    parts: Parts,
+) -> Result<(), Fault>
+    requires { AwaitsView src.old.seen.size loaded.now store.old }
+    ensures slots { store.new.slots ≡ store.old.slots }
+    ensures loaded { store.new.loaded ≡ store.old.loaded }
+    ensures segments { OnOk result (store.new.segments ≡ viewed parts.0 loaded.now) }
+    ensures reads { Reads src.old src.new (view_cost parts.0 loaded.now) }
+    ensures says { IfErr result (Says src.old src.new (view_cost parts.0 loaded.now)) }
+    ensures fault { IfErr result IsOfRead }
+    ensures held { (file : List ℕ) → src.old.seen.file ≡ Some file →
+        Belongs file loaded.now store.old → OnOk result
+        (Belongs file loaded.now store.new × HoldsSegments file store.new) }
+{
+    if loaded.header().e_shnum != 0 || !needs_view(parts) {
+        return Ok(());
+    }
+    loaded.load_segments(src, store)
+}
+
+/// Whether the parts of a file without sections need its program headers.
+fn needs_view(parts: Parts) -> bool
+    ensures { result ≡ (has parts.0 SEGMENTS || (has parts.0 NOTES || has parts.0 DYNAMIC)) }
+{
+    parts.contains(Parts::SEGMENTS)
+        || parts.contains(Parts::NOTES)
+        || parts.contains(Parts::DYNAMIC)
+}
