@@ -35,7 +35,7 @@ where
     };
     match listing_asked(rt.alloc(), words.as_slice()) {
         Ok(listing) => list(rt, &listing),
-        Err(WordsFault::Told(told)) => Err(tell_words(rt.alloc(), &told, errors)),
+        Err(WordsFault::Told(told)) => Err(tell_words(rt.alloc(), &told, words.as_slice(), errors)),
         Err(WordsFault::Memory) => Err(OUT_OF_MEMORY),
     }
 }
