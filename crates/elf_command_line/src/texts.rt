@@ -52,7 +52,7 @@ Exit status:
        elfsee: layout-full    there are too many items of one sort
        elfsee: layout-repeat  two items of one sort have the same INDEX or NAME
      of LIST: 'in line N' stands behind bad item and layout-repeat; or
-       elfsee: cannot read layout
+       elfsee: cannot read layout, elfsee: layout too large
   3  check: some files could not be read or named; else, and for the list and the output of
      check, a read or write fault, a file that cannot be opened, or no memory: standard
      error has one of these lines:

@@ -6,8 +6,8 @@ use std::alloc::AllocError;
 use std::io::{ErrorKind, Read};
 use std::rt::Files;
 
-/// Goes once through the folder at a path, and puts its names into a batch. `room` is where they are
-/// read. Answers how many names there are that can't be named.
+/// Goes once through the folder at a path, and puts its names into a batch, which has them in order then.
+/// `room` is where they are read. Answers how many names there are that can't be named.
 ///
 /// # Errors
 /// The state of a folder that can't be opened or read.
@@ -24,7 +24,7 @@ pub(crate) fn gather<R: Files>(
     let mut unnamed: u64 = 0;
     for _turn in 0..u64::MAX {
         let count = match folder.read(room) {
-            Ok(0) => return Ok(unnamed),
+            Ok(0) => return ended(batch, unnamed),
             Ok(count) => count,
             Err(error) if error.kind() == ErrorKind::Interrupted => continue,
             Err(error) => return Err(unopened(&error)),
@@ -35,6 +35,17 @@ pub(crate) fn gather<R: Files>(
         }
     }
     Err(FileState::Unread)
+}
+
+/// Ends a pass, of which so many names can't be named.
+///
+/// # Errors
+/// The state of a folder for whose names there is no memory.
+fn ended(batch: &mut Batch, unnamed: u64) -> Result<u64, FileState> {
+    match batch.end() {
+        Ok(()) => Ok(unnamed),
+        Err(AllocError) => Err(FileState::Memory),
+    }
 }
 
 /// Puts names, each ended by NUL, into a batch, and answers how many can't be named.

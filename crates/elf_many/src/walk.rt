@@ -3,7 +3,7 @@ use crate::checks::Checks;
 use crate::folders::gather;
 use crate::opening::{check_file, unopened};
 use elf_model::FileState;
-use elf_paths::{Batch, PathText, join};
+use elf_paths::{Batch, Name, PathText, STACK_BYTES, Stack, count_within, join};
 use elf_source::{OutFault, Sink};
 use std::alloc::{AllocError, Global};
 use std::io::Write;
@@ -17,10 +17,16 @@ pub const DEPTH: usize = 64;
 /// How many bytes of names are read at once.
 const ROOM_BYTES: usize = 32_768;
 
-/// What a walk over folders needs, taken once: the names of each folder on the way, a path, and where
-/// names are read.
+/// How many bytes of names each folder on the way has room for, whatever those above it hold.
+const LEVEL_BYTES: usize = 4_096;
+
+/// What a walk over folders needs, taken once: where the names of a folder are put in order, where those
+/// of each folder on the way wait, a path, and where names are read.
 #[derive(Drop)]
 pub struct Walk {
+    batch: Batch,
+    /// The names that wait, those of the innermost folder last.
+    stack: Stack,
     levels: Vec<Level>,
     depth: usize,
     path: PathText,
@@ -32,10 +38,12 @@ pub struct Walk {
 /// A folder on the way.
 #[derive(Drop)]
 struct Level {
-    /// The names that are kept of it.
-    batch: Batch,
-    /// The index of the next of them.
-    next: usize,
+    /// The last of its names that a pass kept; before the first pass no name.
+    after: Name,
+    /// Whether it has names behind that one.
+    has_more: bool,
+    /// How many bytes the names of those above it take.
+    base: usize,
     /// How many bytes the folder's path has.
     end: usize,
 }
@@ -73,13 +81,16 @@ impl Walk {
         let mut levels = Vec::with_capacity(alloc, DEPTH)?;
         for _level in 0..DEPTH {
             levels.push(Level {
-                batch: Batch::new(alloc)?,
-                next: 0,
+                after: Name::new(),
+                has_more: false,
+                base: 0,
                 end: 0,
             })?;
         }
         let room = vec![in alloc; 0u8; ROOM_BYTES]?;
         Ok(Walk {
+            batch: Batch::new(alloc)?,
+            stack: Stack::new(alloc)?,
             levels,
             depth: 0,
             path: PathText::new(),
@@ -103,6 +114,7 @@ impl Walk {
         R::File: FileExt,
     {
         self.path.clear();
+        self.stack.clear();
         self.depth = 0;
         self.given = path.len();
         // The slash has a link at the path followed.
@@ -129,7 +141,7 @@ impl Walk {
         R::File: FileExt,
     {
         let innermost = self.depth.saturating_sub(1);
-        match next_name(&mut self.levels, innermost, &mut self.path) {
+        match next_name(&self.levels, innermost, &mut self.stack, &mut self.path) {
             Next::Named => self.visit(rt, checks),
             Next::TooLong => {
                 checks.count_unnamed(1);
@@ -174,8 +186,9 @@ impl Walk {
         let Some(level) = self.levels.get_mut(at) else {
             return checks.tell(FileState::Unread, &self.path);
         };
-        level.batch.begin();
-        level.next = 0;
+        level.after.clear();
+        level.has_more = false;
+        level.base = self.stack.len();
         level.end = self.path.len();
         self.depth = at.saturating_add(1);
         self.pass(rt, checks, at)
@@ -196,13 +209,14 @@ impl Walk {
         let Some(level) = self.levels.get_mut(at) else {
             return Ok(());
         };
-        let is_first = level.batch.is_first();
-        level.next = 0;
-        match gather(rt, text, &mut self.room, &mut level.batch) {
+        self.batch.begin(&level.after);
+        let answer = match gather(rt, text, &mut self.room, &mut self.batch) {
+            Ok(unnamed) => keep(level, &self.batch, &mut self.stack, at, unnamed),
+            Err(state) => Err(state),
+        };
+        match answer {
             Ok(unnamed) => {
-                if is_first {
-                    checks.count_unnamed(unnamed);
-                }
+                checks.count_unnamed(unnamed);
                 Ok(())
             }
             Err(state) => {
@@ -215,24 +229,57 @@ impl Walk {
     }
 }
 
+/// Has the first names of a folder wait that a pass kept, as many as there is room for. Answers how many
+/// names can't be named, of which so many were met: those of a first pass, since each pass meets them.
+///
+/// # Errors
+/// The state of a folder for whose names there is no memory.
+fn keep(
+    level: &mut Level,
+    batch: &Batch,
+    stack: &mut Stack,
+    at: usize,
+    unnamed: u64,
+) -> Result<u64, FileState> {
+    let is_first = level.after.is_empty();
+    let names = batch.names();
+    let count = count_within(names, share(stack.len(), at));
+    level.has_more = batch.has_more() || count < names.len();
+    if let Some(last) = names.get(count.saturating_sub(1)) {
+        level.after.clear();
+        let _ = level.after.try_extend_from_slice(last);
+    }
+    if stack.push_first(names, count).is_err() {
+        return Err(FileState::Memory);
+    }
+    if is_first { Ok(unnamed) } else { Ok(0) }
+}
+
+/// How many bytes of names the folder at a level has room for, where those above it take so many: its own
+/// part, and half of what neither they nor the parts of those below it take.
+fn share(taken: usize, at: usize) -> usize {
+    let parts = DEPTH.saturating_sub(at).saturating_mul(LEVEL_BYTES);
+    let free = STACK_BYTES.saturating_sub(taken).saturating_sub(parts);
+    LEVEL_BYTES + free / 2
+}
+
 /// Puts the next name of the innermost folder behind its path.
-fn next_name(levels: &mut [Level], innermost: usize, path: &mut PathText) -> Next {
-    let Some(level) = levels.get_mut(innermost) else {
+fn next_name(levels: &[Level], innermost: usize, stack: &mut Stack, path: &mut PathText) -> Next {
+    let Some(level) = levels.get(innermost) else {
         return Next::Nothing;
     };
     path.truncate(level.end);
-    if let Some(name) = level.batch.name(level.next) {
-        level.next = level.next.saturating_add(1);
-        if join(path, name) {
-            return Next::Named;
-        }
-        return Next::TooLong;
+    if stack.len() <= level.base {
+        return if level.has_more {
+            Next::Pass
+        } else {
+            Next::Nothing
+        };
     }
-    if level.batch.has_more() {
-        level.batch.begin_pass();
-        return Next::Pass;
+    match stack.pop() {
+        Some(name) if join(path, &name) => Next::Named,
+        _ => Next::TooLong,
     }
-    Next::Nothing
 }
 
 /// Looks at a path in a folder, and follows no link.

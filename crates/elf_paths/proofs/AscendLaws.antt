@@ -116,11 +116,11 @@ put_where first name (x ∷ xs) less are = by (order name x) (put_where first na
     by Equal ih = are
     by Greater ih = (are.0, ih)
 
-all_behind : (name first : List ℕ) (names : List (List ℕ)) → order name first ≡ Less → AreBehind first names → AreBehind name names
+pub all_behind : (name first : List ℕ) (names : List (List ℕ)) → order name first ≡ Less → AreBehind first names → AreBehind name names
 all_behind name first [] less are = tt
 all_behind name first (x ∷ xs) less are = (total.trans name first x less are.0, all_behind name first xs less are.1)
 
-put_ascends : (name : List ℕ) (names : List (List ℕ)) → Ascends names → Ascends (put_by (λ n. n) name names)
+pub put_ascends : (name : List ℕ) (names : List (List ℕ)) → Ascends names → Ascends (put_by (λ n. n) name names)
 unfolding put_by
 put_ascends name [] up = (tt, tt)
 put_ascends name (x ∷ xs) up = by (order name x) refl (put_ascends name xs up.1)

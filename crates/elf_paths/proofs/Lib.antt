@@ -1,5 +1,9 @@
 pub mod AllNamesLaws
 pub mod AscendLaws
-pub mod KeptLaws
 pub mod OrderLaws
 pub mod PassLaws
+pub mod MemberLaws
+pub mod FrontLaws
+pub mod HeldLaws
+pub mod SortedLaws
+pub mod StackedLaws

@@ -4,7 +4,7 @@ use Rattle.std.proofs.Common.{◌≡◌, ℕ, zero, suc, ◌+◌, ◌≤◌, ◌
 use Rattle.std.proofs.Math.Seq.{drop-cons, take-suc}
 use Rattle.std.specs.declared.cmp.Ordering.{Ordering}
 use Rattle.std.specs.declared.cmp.Ordering.TheVariants.{Less, Equal, Greater}
-use Rattle.elf_paths.specs.Order.{keep_all_by, order, put_by, put_all_by}
+use Rattle.elf_paths.specs.Order.{order, put_by}
 
 module _ {X : Type 0} (name : X → List ℕ) (x : X) where
   pub put_less : (first : X) (rest : List X) → order (name x) (name first) ≡ Less → put_by name x (first ∷ rest) ≡ x ∷ first ∷ rest
@@ -142,10 +142,3 @@ nothing_taken zero [] e = refl
 nothing_taken zero (x ∷ xs) e = cc
 nothing_taken (suc n) [] e = refl
 nothing_taken (suc n) (x ∷ xs) e = cc
-
-pub all_kept : {X : Type 0} (name : X → List ℕ) (most : ℕ) (xs kept : List X)
-    → keep_all_by name most xs (take most kept) ≡ take most (put_all_by name xs kept)
-unfolding keep_all_by put_all_by
-all_kept name most [] kept = refl
-all_kept name most (x ∷ xs) kept =
-    ap (λ l. keep_all_by name most xs l) (put_first name x most kept) ∙ all_kept name most xs (put_by name x kept)

@@ -1,5 +1,5 @@
--- Names in the order of their bytes, of which the first few are kept.
-use Rattle.std.specs.Prelude.{ℕ, ◌≡◌, List, [], ◌∷◌, take}
+-- Names in the order of their bytes.
+use Rattle.std.specs.Prelude.{ℕ, List, [], ◌∷◌}
 use Rattle.std.specs.Ordering.{nat_cmp}
 use Rattle.std.specs.Cmp.Lexicographic.{slice_cmp}
 use Rattle.std.specs.declared.cmp.Ordering.{Ordering}
@@ -23,14 +23,3 @@ put_by name x (first ∷ rest) = elim (order (name x) (name first)) [
 unfoldable pub put_all_by : {X : Type 0} → (X → List ℕ) → List X → List X → List X
 put_all_by name [] kept = kept
 put_all_by name (x ∷ xs) kept = put_all_by name xs (put_by name x kept)
-
--- members put one after another, of which the first few are kept at each step
-unfoldable pub keep_all_by : {X : Type 0} → (X → List ℕ) → ℕ → List X → List X → List X
-keep_all_by name most [] kept = kept
-keep_all_by name most (x ∷ xs) kept = keep_all_by name most xs (take most (put_by name x kept))
-
--- THE FIRST NAMES: what is kept at each step comes to the first names of all
-abbrev pub FirstAreKept : Type 0
-FirstAreKept =
-    (most : ℕ) (names : List (List ℕ))
-    → keep_all_by (λ name. name) most names [] ≡ take most (put_all_by (λ name. name) names [])

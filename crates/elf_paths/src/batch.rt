@@ -1,53 +1,52 @@
-//! The names in a folder, in order, a batch at a time.
-ghost use Rattle.std.specs.Prelude.{◌≤◌, ◌≡◌, ◌==◌, nat_lt, true, false, IfOk, IfSome, IsNone, MatchOption, OnOk, Ok, length, take, insert, slice_get, vec_len};
-ghost use Rattle.std.specs.Option.{option_map};
-ghost use Rattle.elf_paths.specs.Kept.{nothing_kept, next_pass, put_name, is_dots, IsNameable};
-ghost use Rattle.elf_paths.specs.Order.{put_by};
+//! The names in a folder, in order, a pass at a time.
+ghost use Rattle.std.specs.Prelude.{◌≡◌, ◌<◌, ◌++◌, ◌∷◌, List, ℕ, suc, slice_index_or, true, false, IfOk, IfSome, IsNone, OnOk, Ok, [], length, take};
+ghost use Rattle.std.specs.List.Sorted.{IsSorted};
+ghost use Rattle.elf_paths.specs.Kept.{IsFront, IsNameable, Keeps, is_dots, wants};
+ghost use Rattle.elf_paths.specs.Order.{order};
+ghost use Rattle.elf_paths.specs.Passes.{in_order};
 
+use crate::names::{NAME_BYTES, Names};
 use arrayvec::ArrayVec;
 use std::alloc::{AllocError, Global};
 use std::cmp::Ordering;
 use std::marker::Model;
 use std::str;
 
-/// The most bytes of a name in a folder.
-pub const NAME_BYTES: usize = 255;
-
-/// How many names are kept at once.
-pub const MOST_NAMES: usize = 256;
-
 /// A name in a folder.
 pub type Name = ArrayVec<u8, 255>;
 
-/// The smallest names of a folder behind the last one that was kept before, in the order of their
-/// bytes: at most 256 at once. A pass over the folder puts each name that it has; where there are
-/// more than are kept, another pass follows.
+/// The first names of a folder behind another one, in the order of their bytes, each once: as many as
+/// there is room for. A pass over the folder puts each name that it has; where there are more than are
+/// kept, another pass follows.
 #[derive(Drop)]
 pub struct Batch {
-    names: Vec<Name>,
+    kept: Names,
+    /// Where names are put in order.
+    spare: Names,
     after: Name,
+    limit: Name,
     more: bool,
 }
 
 impl Model for Batch {
-    ghost use Rattle.std.specs.Prelude.{◌≤◌, map, vec_len};
     ghost use Rattle.elf_paths.specs.Kept.{Kept};
+    ghost use Rattle.elf_paths.specs.Passes.{in_order};
 
     ghost Value = { Kept };
 
     ghost view = { λ b. record {
-      names = map (λ n. n.items) b.names.items;
+      names = in_order b.kept;
+      held = b.kept;
       after = b.after.items;
+      limit = b.limit.items;
       more = b.more;
     } };
-
-    ghost invariant = { λ b. vec_len b.names ≤ 256 };
 }
 
 /// What becomes of a name that is put.
 #[derive(Clone, Copy)]
 pub enum Put {
-    /// It has its place in this batch or another, or had it before, or it is `.` or `..`.
+    /// It has its place in this pass or another, or had it before, or it is `.` or `..`.
     Placed,
     /// It is not UTF-8, or longer than 255 bytes.
     Unnamed,
@@ -59,41 +58,27 @@ impl Batch {
     /// # Errors
     /// Where memory is refused.
     pub fn new(alloc: Global) -> Result<Batch, AllocError>
-        ensures { IfOk result (λ batch. batch ≡ nothing_kept) }
+        ensures { IfOk result (λ batch. Keeps [] batch) }
     {
-        let names = Vec::with_capacity(alloc, MOST_NAMES)?;
         Ok(Batch {
-            names,
+            kept: Names::new(alloc)?,
+            spare: Names::new(alloc)?,
             after: Name::new(),
+            limit: Name::new(),
             more: false,
         })
     }
 
-    /// Begins with the names of another folder.
-    pub fn begin(&mut self)
-        ensures { self.new ≡ nothing_kept }
+    /// Begins a pass that wants the names behind another one, which is empty in the first pass over a
+    /// folder.
+    pub fn begin(&mut self, after: &Name)
+        ensures keeps { Keeps [] self.new }
+        ensures after { self.new.after ≡ after.now.items }
+        ensures more { self.new.more ≡ false }
     {
-        self.names.clear();
-        self.after.clear();
+        self.kept.clear();
+        self.after = copied(after);
         self.more = false;
-    }
-
-    /// Begins another pass: forgets the names that are kept, and wants those behind the last of them.
-    pub fn begin_pass(&mut self)
-        ensures { self.new ≡ next_pass self.old }
-    {
-        if let Some(last) = self.names.last() {
-            self.after = copied(last);
-        }
-        self.names.clear();
-        self.more = false;
-    }
-
-    /// Whether this is the first pass over its folder.
-    pub fn is_first(&self) -> bool
-        ensures { result ≡ (length self.now.after == 0) }
-    {
-        self.after.is_empty()
     }
 
     /// Whether another pass is wanted.
@@ -101,13 +86,6 @@ impl Batch {
         ensures { result ≡ self.now.more }
     {
         self.more
-    }
-
-    /// The name at an index.
-    pub fn name(&self, index: usize) -> Option<&Name>
-        ensures { option_map (λ n. n.now.items) result ≡ slice_get self.now.names index }
-    {
-        self.names.get(index)
     }
 
     /// Puts a name of the folder.
@@ -120,18 +98,84 @@ impl Batch {
         ensures unnamed { is_dots name.now ≡ false → ¬ (IsNameable name.now) →
             (result ≡ Ok Put.Unnamed) × (self.new ≡ self.old) }
         ensures placed { is_dots name.now ≡ false → IsNameable name.now →
-            OnOk result ((result ≡ Ok Put.Placed) × (self.new ≡ put_name name.now self.old)) }
+            OnOk result (result ≡ Ok Put.Placed) }
+        ensures keeps { is_dots name.now ≡ false → IsNameable name.now →
+            OnOk result ((names : List (List ℕ)) → Keeps names self.old →
+            Keeps (names ++ name.now ∷ []) self.new) }
+        ensures after { self.new.after ≡ self.old.after }
     {
         if is_dots(name) {
             return Ok(Put::Placed);
         }
-        let Some(copy) = named(name) else {
+        if !is_nameable(name) {
             return Ok(Put::Unnamed);
-        };
-        if name.cmp(self.after.as_slice()) == Ordering::Greater {
-            self.more |= put_in_order(&mut self.names, copy)?;
         }
+        self.hold(name)?;
         Ok(Put::Placed)
+    }
+
+    /// Puts a name among those that are kept, if it has its place there.
+    ///
+    /// # Errors
+    /// Where memory is refused.
+    fn hold(&mut self, name: &[u8]) -> Result<(), AllocError>
+        ensures keeps { OnOk result ((names : List (List ℕ)) → Keeps names self.old →
+            Keeps (names ++ name.now ∷ []) self.new) }
+        ensures after { self.new.after ≡ self.old.after }
+    {
+        self.make_room()?;
+        if self.wants(name) {
+            self.kept.push(name)?;
+        }
+        Ok(())
+    }
+
+    /// Drops the last names where there is no room for one more.
+    ///
+    /// # Errors
+    /// Where memory is refused.
+    fn make_room(&mut self) -> Result<(), AllocError>
+        ensures keeps { OnOk result ((names : List (List ℕ)) → Keeps names self.old →
+            Keeps names self.new) }
+        ensures after { self.new.after ≡ self.old.after }
+    {
+        if self.kept.is_full() {
+            return self.end();
+        }
+        Ok(())
+    }
+
+    /// Whether a name has its place among those that are kept.
+    fn wants(&self, name: &[u8]) -> bool
+        ensures { result ≡ wants name.now self.now }
+    {
+        name.cmp(self.after.as_slice()) == Ordering::Greater
+            && (!self.more || name.cmp(self.limit.as_slice()) == Ordering::Less)
+    }
+
+    /// Ends a pass: puts the names that are kept in order.
+    ///
+    /// # Errors
+    /// Where memory is refused.
+    pub fn end(&mut self) -> Result<(), AllocError>
+        ensures names { OnOk result (self.new.held ≡ self.new.names) }
+        ensures keeps { OnOk result ((names : List (List ℕ)) → Keeps names self.old →
+            Keeps names self.new) }
+        ensures after { self.new.after ≡ self.old.after }
+    {
+        settle(
+            &mut self.kept,
+            &mut self.spare,
+            &mut self.limit,
+            &mut self.more,
+        )
+    }
+
+    /// The names that are kept, as they lie: in order once the pass has ended.
+    pub fn names(&self) -> &Names
+        ensures { result.now ≡ self.now.held }
+    {
+        &self.kept
     }
 }
 
@@ -142,63 +186,95 @@ fn is_dots(name: &[u8]) -> bool
     name == b".".as_slice() || name == b"..".as_slice()
 }
 
-/// A copy of a name; None where it can't be told.
-fn named(name: &[u8]) -> Option<Name>
-    ensures named { IfSome result (λ copy. IsNameable name.now × (copy.items ≡ name.now)) }
-    ensures unnamed { IsNone result → ¬ (IsNameable name.now) }
+/// Whether a name can be told.
+fn is_nameable(name: &[u8]) -> bool
+    ensures nameable { result ≡ true → IsNameable name.now }
+    ensures unnameable { result ≡ false → ¬ (IsNameable name.now) }
 {
-    if str::from_utf8(name).is_err() {
-        return None;
-    }
-    let mut copy = Name::new();
-    match copy.try_extend_from_slice(name) {
-        Ok(()) => Some(copy),
-        Err(_) => None,
-    }
+    str::from_utf8(name).is_ok() && name.len() <= NAME_BYTES
 }
 
-/// Puts a name among names in order, of which the first 256 are kept. Answers whether one was dropped
-/// then.
+/// Puts names in order, and drops the last ones where there are many: then the limit is the last that is
+/// kept.
 ///
 /// # Errors
-/// Where memory is refused; nothing changes then but that the last of 256 names may be dropped.
-fn put_in_order(names: &mut Vec<Name>, name: Name) -> Result<bool, AllocError>
-    requires { vec_len names.old ≤ 256 }
-    ensures kept { OnOk result (names.new.items
-        ≡ take 256 (put_by (λ n. n.items) name names.old.items)) }
-    ensures dropped { IfOk result (λ dropped.
-        dropped ≡ nat_lt 256 (length (put_by (λ n. n.items) name names.old.items))) }
-    ensures few { vec_len names.new ≤ 256 }
+/// Where memory is refused.
+fn settle(
+    kept: &mut Names,
+    spare: &mut Names,
+    limit: &mut Name,
+    more: &mut bool,
+) -> Result<(), AllocError>
+    ensures front { OnOk result ((all : List (List ℕ)) →
+        IsFront limit.old.items more.old (in_order kept.old) all →
+        IsFront limit.new.items more.new (in_order kept.new) all) }
+    ensures order { OnOk result (in_order kept.new ≡ kept.new) }
 {
-    let Some(at) = place(names, &name) else {
-        return Ok(false);
-    };
-    if at >= MOST_NAMES {
-        return Ok(true);
+    kept.sort();
+    spare.clear();
+    put_each_once(kept, spare)?;
+    kept.clear();
+    let is_whole = put_first(spare, kept)?;
+    if !is_whole {
+        *more = true;
+        *limit = last_of(kept);
     }
-    let is_full = names.len() >= MOST_NAMES;
-    names.truncate(MOST_NAMES - 1);
-    match names.insert(at, name) {
-        Ok(()) => Ok(is_full),
-        Err(_) => Err(AllocError),
-    }
+    Ok(())
 }
 
-/// Where a name belongs among names in order; None where it is there already.
-fn place(names: &[Name], name: &Name) -> Option<usize>
-    ensures within { IfSome result (λ at. at ≤ length names.now) }
-    ensures belongs { MatchOption result
-        (put_by (λ n. n.items) name.now names.now ≡ names.now)
-        (λ at. put_by (λ n. n.items) name.now names.now ≡ insert names.now at name.now) }
+/// Puts sorted names behind one another, each once.
+///
+/// # Errors
+/// Where memory is refused.
+fn put_each_once(from: &Names, to: &mut Names) -> Result<(), AllocError>
+    requires sorted { IsSorted order from.now }
+    requires empty { to.old ≡ [] }
+    ensures { OnOk result (to.new ≡ in_order from.now) }
 {
-    for (i, kept) in names.iter().enumerate() {
-        match name.as_slice().cmp(kept.as_slice()) {
-            Ordering::Less => return Some(i),
-            Ordering::Equal => return None,
-            Ordering::Greater => {}
+    for i in 0..from.len() {
+        if from.repeats(i) {
+            continue;
         }
+        let Some(name) = from.get(i) else {
+            return Err(AllocError);
+        };
+        to.push(name)?;
     }
-    Some(names.len())
+    Ok(())
+}
+
+/// Puts the first of some names behind one another, as many as are kept. Answers whether these are all.
+///
+/// # Errors
+/// Where memory is refused.
+fn put_first(from: &Names, to: &mut Names) -> Result<bool, AllocError>
+    requires empty { to.old ≡ [] }
+    ensures whole { result ≡ Ok true → to.new ≡ from.now }
+    ensures front { result ≡ Ok false → (to.new ≡ take (length to.new) from.now)
+        × (0 < length to.new) × (length to.new < length from.now) }
+{
+    for i in 0..from.len() {
+        if to.is_enough() {
+            return Ok(false);
+        }
+        let Some(name) = from.get(i) else {
+            return Err(AllocError);
+        };
+        to.push(name)?;
+    }
+    Ok(true)
+}
+
+/// The last of some names; where there are none the empty one.
+fn last_of(names: &Names) -> Name
+    ensures { (most : ℕ) → length names.now ≡ suc most →
+        result.items ≡ slice_index_or names.now most [] }
+{
+    let mut last = Name::new();
+    if let Some(name) = names.get(names.len().saturating_sub(1)) {
+        let _ = last.try_extend_from_slice(name);
+    }
+    last
 }
 
 /// The same name once more.

@@ -4,11 +4,15 @@ ghost use Rattle.std.specs.Prelude.{◌≡◌, ◌⊎◌, IfErr, [], codes};
 use crate::endings::{BAD_WORDS, Ending, NOT_UTF8, OUT_OF_MEMORY};
 use crate::outputs::{TOLD_BYTES, write_rest};
 use elf_lines::show_told;
-use elf_source::{Out, WriteSink};
+use elf_listing_words::{WordsFault, matches_of};
+use elf_source::{Out, OutFault, Sink, WriteSink};
 use std::alloc::{AllocError, Global};
 use std::env;
 use std::io::{BufWriter, ErrorKind, Stderr};
 use std::rt::Env;
+
+/// A newline of a word, as it is spelt.
+const NEWLINE: &str = "\\x0a";
 
 /// The words behind the program's name.
 ///
@@ -32,11 +36,11 @@ pub fn read_words<R: Env + AllocGlobal>(rt: &R) -> Result<Vec<String>, Ending>
 
 /// Writes what is wrong with words, or help, with each byte of a word spelt so that no terminal acts on
 /// it, and answers how the program ends. Where it can't be written, the status alone tells.
-pub fn tell_words(alloc: Global, told: &clap::Error, errors: Stderr) -> Ending
+pub fn tell_words(alloc: Global, told: &clap::Error, words: &[String], errors: Stderr) -> Ending
     ensures { ((result.0 ≡ 2) × (result.1.now ≡ []))
         ⊎ ((result.0 ≡ 3) × (result.1.now ≡ codes "elfsee: out of memory")) }
 {
-    match tell(alloc, told, errors) {
+    match tell(alloc, told, words, errors) {
         Ok(()) => BAD_WORDS,
         Err(AllocError) => OUT_OF_MEMORY,
     }
@@ -46,13 +50,73 @@ pub fn tell_words(alloc: Global, told: &clap::Error, errors: Stderr) -> Ending
 ///
 /// # Errors
 /// There is no memory for the text; nothing is written then.
-fn tell(alloc: Global, told: &clap::Error, errors: Stderr) -> Result<(), AllocError> {
+fn tell(
+    alloc: Global,
+    told: &clap::Error,
+    words: &[String],
+    errors: Stderr,
+) -> Result<(), AllocError> {
     let text = format!(in alloc; "{told}")?;
+    let marked = marked_text(alloc, words)?;
     let Ok(errors) = BufWriter::with_capacity(alloc, TOLD_BYTES, errors) else {
         return Err(AllocError);
     };
     let mut out = Out::new(WriteSink::new(errors));
-    let _ = show_told(text.as_bytes(), &mut out);
+    let _ = show_marked(text.as_bytes(), marked.as_bytes(), &mut out);
     let _ = write_rest(out.into_inner().into_inner(), true);
     Ok(())
+}
+
+/// What is wrong with the same words with a carriage return in the place of each newline: so the newlines
+/// of words are told from those between lines. Empty where no word has one, or nothing is wrong.
+///
+/// # Errors
+/// There is no memory for the text.
+fn marked_text(alloc: Global, words: &[String]) -> Result<String, AllocError> {
+    if !words.iter().any(|word| word.as_str().contains('\n')) {
+        return Ok(String::new(alloc));
+    }
+    let mut others: Vec<String> = Vec::new(alloc);
+    for word in words {
+        let other = marked_word(alloc, word.as_str())?;
+        if others.push(other).is_err() {
+            return Err(AllocError);
+        }
+    }
+    match matches_of(alloc, others.as_slice()) {
+        Ok(_) => Ok(String::new(alloc)),
+        Err(WordsFault::Told(told)) => format!(in alloc; "{told}"),
+        Err(WordsFault::Memory) => Err(AllocError),
+    }
+}
+
+/// A word with a carriage return in the place of each newline.
+///
+/// # Errors
+/// There is no memory for it.
+fn marked_word(alloc: Global, word: &str) -> Result<String, AllocError> {
+    let mut other = String::new(alloc);
+    for letter in word.chars() {
+        other.push(if letter == '\n' { '\r' } else { letter })?;
+    }
+    Ok(other)
+}
+
+/// Writes what is wrong with words, in which a newline stands as it is unless it is a word's.
+///
+/// # Errors
+/// A fault of the output.
+fn show_marked<W: Sink>(text: &[u8], marked: &[u8], out: &mut Out<W>) -> Result<(), OutFault> {
+    if text.len() != marked.len() {
+        return show_told(text, out);
+    }
+    let mut begin = 0;
+    for i in 0..text.len() {
+        if text[i] == b'\n' && marked[i] != b'\n' {
+            show_told(&text[begin..i], out)?;
+            out.put(NEWLINE.as_bytes())?;
+            begin = i + 1;
+        }
+    }
+    show_told(&text[begin..], out)
 }

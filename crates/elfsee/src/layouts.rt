@@ -1,15 +1,25 @@
 //! A section applied with the items of a file.
-ghost use Rattle.std.specs.Prelude.{◌≡◌};
+ghost use Rattle.std.specs.Prelude.{◌≡◌, ◌≤◌, vec_len};
 
 use crate::answer_request;
+use crate::texts::{TextEnd, TextFault, read_text};
 use elf_layout::{Addresses, Item, Layout, LentLayout, Named, SortedNames, SortedSections};
 use elf_program::{Ending, OUT_OF_MEMORY};
 use elf_words::{Laying, Request, Task, item};
 use std::alloc::{AllocError, Global};
-use std::fs;
 use std::io::{ErrorKind, Stderr, Write};
 use std::os::unix::fs::FileExt;
 use std::rt::Files;
+use std::{fs, str};
+
+/// How many bytes of a file of items are read at once.
+const PIECE_BYTES: usize = 65_536;
+
+/// The file of items can't be read, or is no text.
+const CANNOT_READ: Ending = (2, "elfsee: cannot read layout");
+
+/// The file of items has too many bytes.
+const TOO_LARGE: Ending = (2, "elfsee: layout too large");
 
 /// A name with its address.
 type Placed<'a> = (&'a [u8], u64);
@@ -67,8 +77,9 @@ impl<'a> Items<'a> {
         push_names(&mut self.thread, layout.thread())
     }
 
-    /// Puts the items of lines behind those that are there, one of each line.
-    fn push_lines(&mut self, text: &'a str) -> Result<(), LinesFault> {
+    /// Puts the items of lines behind those that are there, one of each line. Behind a text that was cut
+    /// stands a line that spells none.
+    fn push_lines(&mut self, text: &'a str, end: TextEnd) -> Result<(), LinesFault> {
         let mut number: u64 = 0;
         for line in text.lines() {
             number = number.saturating_add(1);
@@ -79,7 +90,10 @@ impl<'a> Items<'a> {
                 return Err(LinesFault::Memory);
             }
         }
-        Ok(())
+        match end {
+            TextEnd::Whole => Ok(()),
+            TextEnd::Cut => Err(LinesFault::Bad(number.saturating_add(1))),
+        }
     }
 
     /// Sorts them, sort by sort.
@@ -229,12 +243,15 @@ where
     else {
         return answer_request(rt, &asked.request, errors);
     };
-    let text = match fs::read_to_string(rt, asked.list) {
-        Ok(text) => text,
-        Err(fault) if fault.kind() == ErrorKind::OutOfMemory => return Err(OUT_OF_MEMORY),
-        Err(_) => return Err((2, "elfsee: cannot read layout")),
+    let mut bytes = Vec::new(rt.alloc());
+    let end = match read_list(rt, asked.list, &mut bytes) {
+        Ok(end) => end,
+        Err(ending) => return Err(ending),
     };
-    let mut items = match collect(rt.alloc(), layout, text.as_str()) {
+    let Ok(text) = str::from_utf8(&bytes) else {
+        return Err(CANNOT_READ);
+    };
+    let mut items = match collect(rt.alloc(), layout, text, end) {
         Ok(items) => items,
         Err(LinesFault::Memory) => return Err(OUT_OF_MEMORY),
         Err(LinesFault::Bad(line)) => return Err(told(rt.alloc(), errors, "bad item", line)),
@@ -243,19 +260,51 @@ where
     match lend(&items) {
         Ok(lent) => apply_lent(rt, &asked.request, section, explain, &lent, errors),
         Err(repeat) => {
-            let line = last_line(text.as_str(), &repeat);
+            let line = last_line(text, &repeat);
             Err(told(rt.alloc(), errors, "layout-repeat", line))
         }
     }
 }
 
+/// Reads the text of a file of items.
+///
+/// # Errors
+/// How the program ends where the file can't be read, is too large, or there is no memory for it.
+fn read_list<R: Files + AllocGlobal>(
+    rt: &R,
+    path: &str,
+    text: &mut Vec<u8>,
+) -> Result<TextEnd, Ending>
+    requires { vec_len text.old ≤ 67108864 }
+{
+    let mut file = match fs::open(rt, path) {
+        Ok(file) => file,
+        Err(fault) if fault.kind() == ErrorKind::OutOfMemory => return Err(OUT_OF_MEMORY),
+        Err(_) => return Err(CANNOT_READ),
+    };
+    let Ok(mut room) = vec![in rt.alloc(); 0u8; PIECE_BYTES] else {
+        return Err(OUT_OF_MEMORY);
+    };
+    match read_text(&mut file, &mut room, text) {
+        Ok(end) => Ok(end),
+        Err(TextFault::Read) => Err(CANNOT_READ),
+        Err(TextFault::TooLarge) => Err(TOO_LARGE),
+        Err(TextFault::Memory) => Err(OUT_OF_MEMORY),
+    }
+}
+
 /// The items of a layout, and of the lines of a text.
-fn collect<'a>(alloc: Global, layout: &'a Layout, text: &'a str) -> Result<Items<'a>, LinesFault> {
+fn collect<'a>(
+    alloc: Global,
+    layout: &'a Layout,
+    text: &'a str,
+    end: TextEnd,
+) -> Result<Items<'a>, LinesFault> {
     let mut items = Items::new(alloc);
     if items.push_layout(layout).is_err() {
         return Err(LinesFault::Memory);
     }
-    match items.push_lines(text) {
+    match items.push_lines(text, end) {
         Ok(()) => Ok(items),
         Err(fault) => Err(fault),
     }

@@ -5,6 +5,7 @@ mod archives;
 mod explaining;
 mod layouts;
 mod many;
+mod texts;
 
 ghost use Rattle.std.specs.Prelude.{◌≡◌, IfErr};
 ghost use Rattle.elf_run.specs.Answers.{refused_line, refused_status};
@@ -32,7 +33,8 @@ use std::rt::{Env, Files};
 
 fn main(rt: HostRuntime) -> ExitCode {
     let errors = rt.stderr();
-    let terminal = if errors.is_terminal() {
+    // Where the lines go to a terminal too, they tell how far the check is.
+    let terminal = if errors.is_terminal() && !rt.stdout().is_terminal() {
         Some(errors)
     } else {
         None
@@ -42,7 +44,7 @@ fn main(rt: HostRuntime) -> ExitCode {
 
 /// Reads the words, and carries out what they ask for. What is wrong with words, and help, is written
 /// to `errors`, and so is what is wrong with the lines of a file of items; a terminal, where there is
-/// one, is told how far a check of many files is.
+/// one that gets no lines, is told how far a check of many files is.
 fn answer<R: Env + Files + Print + Input + AllocGlobal>(
     rt: &R,
     errors: Stderr,
@@ -150,7 +152,7 @@ fn read_request<'a>(
         Err(fault) => fault,
     };
     if let RequestFault::Words(told) = &fault {
-        return Err(tell_words(alloc, told, errors));
+        return Err(tell_words(alloc, told, words, errors));
     }
     Err(refused(&fault))
 }

@@ -37,7 +37,7 @@ where
     match shown_asked(rt.alloc(), words.as_slice()) {
         Ok(Shown::Listed(listing)) => list(rt, &listing),
         Ok(Shown::Version) => tell_version(rt),
-        Err(WordsFault::Told(told)) => Err(tell_words(rt.alloc(), &told, errors)),
+        Err(WordsFault::Told(told)) => Err(tell_words(rt.alloc(), &told, words.as_slice(), errors)),
         Err(WordsFault::Memory) => Err(OUT_OF_MEMORY),
     }
 }

@@ -2,4 +2,4 @@ use Rattle.elf_paths.proofs.AllNamesLaws as law
 use Rattle.elf_paths.proofs.laws.all_names.Goals as goal
 
 pub returns : goal.returns
-returns c = λ turns names after few. law.all_names turns names after few
+returns c = λ mosts names after few. law.all_names mosts names after few

@@ -1,6 +1,5 @@
-use Rattle.std.proofs.Common.{[]}
 use Rattle.elf_paths.proofs.PassLaws as law
 use Rattle.elf_paths.proofs.laws.pass_keeps.Goals as goal
 
 pub returns : goal.returns
-returns c = λ names after. law.pass_keeps names after []
+returns c = λ names kept front. law.pass_keeps names kept front
