@@ -15,9 +15,10 @@ abbrev pub Finds : Caps → ℕ → List ℕ → FileState → Type 0
 Finds caps parts file state.Unread = ⊤
 Finds caps parts file found = IsStateOf caps.limits.budget file caps.limits.headers (style_of caps.style) parts found
 
--- a file that was not read: a read of it failed, or its source isn't honest
+-- a file that was not read: a read of it failed, or its source isn't honest; a check takes no memory, so none is wanted
 abbrev pub FailsRead : Counting → Counting → FileState → Type 0
 FailsRead old new state.Unread = IsHonest new.seen → old.seen.failures < new.seen.failures
+FailsRead old new state.Memory = ⊥
 FailsRead old new _ = ⊤
 
 -- what a file's check may ask for: of one that is too short for a file header its first bytes

@@ -1,6 +1,7 @@
 //! What is kept from one file to the next, and the lines.
-ghost use Rattle.std.specs.Prelude.{◌≡◌, ◌+◌, ◌-◌, ◌^◌, ◌<◌, ℕ, List, Some, max, min, OnOk, Ok};
-ghost use Rattle.elf_check.specs.Checked.{Finds};
+ghost use Rattle.std.specs.Prelude.{◌≡◌, ◌+◌, ◌-◌, ◌^◌, ◌<◌, ◌≤◌, ℕ, List, Some, max, min, OnOk, Ok};
+ghost use Rattle.elf_check.specs.Checked.{AsksFor, check_cost};
+ghost use Rattle.elf_headers.specs.Permitted.{style_of};
 ghost use Rattle.elf_check.specs.Statuses.{state_status};
 ghost use Rattle.elf_many.specs.Telling.{TellsOf};
 ghost use Rattle.elf_model.specs.Checking.{check_line, unnamed_line};
@@ -60,32 +61,29 @@ impl<'a, W: Sink, E: Write + Drop> Checks<'a, W, E> {
     }
 
     /// Checks a file, and writes its line: what its own listing ends with within what is asked for,
-    /// whatever files came before it.
+    /// whatever files came before it. At most 2^127 bytes were asked of the source; no more are asked
+    /// than the listing's cost, and than the budget of a file.
     ///
     /// # Errors
     /// A fault of the output, with a front of the line written.
-    pub fn check_source<S: Source + Drop>(&mut self, source: S, path: &[u8]) -> Result<(), OutFault>
-        ensures tells { (file : List ℕ) → (S.seen source).file ≡ Some file →
-            TellsOf self.old.caps self.old.parts.0 file path.now result
+    pub fn check_source<S: Source>(
+        &mut self,
+        src: &mut Counted<S>,
+        path: &[u8],
+    ) -> Result<(), OutFault>
+        requires { src.old.asked ≤ 2 ^ 127 }
+        ensures tells { TellsOf self.old.caps self.old.parts.0 path.now src.old src.new result
             self.old.out self.new.out self.old.status self.new.status }
+        ensures cost { (file : List ℕ) → src.old.seen.file ≡ Some file →
+            src.new.asked ≤ src.old.asked + check_cost file self.old.caps.limits.headers
+            (style_of self.old.caps.style) self.old.parts.0 }
+        // For every source.
+        ensures asks { AsksFor self.old.caps src.old src.new }
         ensures unnamed { self.new.unnamed ≡ self.old.unnamed }
         ensures asked { (self.new.caps ≡ self.old.caps) × (self.new.parts ≡ self.old.parts) }
     {
-        let state = self.state(source);
+        let state = check(src, &mut self.store, self.caps, self.parts);
         self.tell(state, path)
-    }
-
-    /// The state of a file, whatever files came before it.
-    fn state<S: Source + Drop>(&mut self, source: S) -> FileState
-        ensures state { (file : List ℕ) → (S.seen source).file ≡ Some file →
-            Finds self.old.caps self.old.parts.0 file result }
-        ensures asked { (self.new.caps ≡ self.old.caps) × (self.new.parts ≡ self.old.parts) }
-        ensures status { self.new.status ≡ self.old.status }
-        ensures unnamed { self.new.unnamed ≡ self.old.unnamed }
-        ensures out { self.new.out ≡ self.old.out }
-    {
-        let mut src = Counted::new(source);
-        check(&mut src, &mut self.store, self.caps, self.parts)
     }
 
     /// Writes the line of a file, and keeps the status that its state calls for.

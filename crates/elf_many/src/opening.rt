@@ -1,14 +1,21 @@
 //! One file, opened and checked.
+ghost use Rattle.std.specs.Prelude.{◌≡◌};
+ghost use Rattle.elf_model.specs.declared.states.FileState.TheVariants.{Memory, Unread};
+ghost use Rattle.std.specs.IoError.{error_kind};
+
 use crate::checks::Checks;
 use elf_model::FileState;
-use elf_source::{OffsetReader, OutFault, Sink, StreamSource};
+use elf_source::{Counted, OffsetReader, OutFault, Sink, StreamSource};
 use std::fs;
 use std::io::{Error, ErrorKind, Write};
 use std::os::unix::fs::FileExt;
 use std::rt::Files;
 
-/// The state of a path that can't be looked at or opened.
-pub(crate) fn unopened(error: &Error) -> FileState {
+/// The state of a path that can't be looked at or opened: want of memory is told as that.
+pub(crate) fn unopened(error: &Error) -> FileState
+    ensures memory { error_kind error.now ≡ ErrorKind.OutOfMemory → result ≡ Memory }
+    ensures unread { (error_kind error.now ≡ ErrorKind.OutOfMemory → ⊥) → result ≡ Unread }
+{
     if error.kind() == ErrorKind::OutOfMemory {
         return FileState::Memory;
     }
@@ -28,7 +35,7 @@ where
     R::File: FileExt,
 {
     match open(rt, path) {
-        Ok(source) => checks.check_source(source, path.as_bytes()),
+        Ok(source) => checks.check_source(&mut Counted::new(source), path.as_bytes()),
         Err(state) => checks.tell(state, path.as_bytes()),
     }
 }

@@ -31,7 +31,8 @@ fn version_into<W: Write + Drop>(output: BufWriter<W>) -> Ending
         Ok(()) => Ok(0),
         Err(fault) => Err(Stop::Out(fault)),
     };
-    end_answer(&answer, out.into_inner().into_inner())
+    let (ending, _output) = end_answer(&answer, out.into_inner().into_inner());
+    ending
 }
 
 /// Writes the line that tells the version.

@@ -91,4 +91,9 @@ fn records_over_each_other_are_read_alone_in_a_long_table(rt: HostRuntime) {
     assert!(rt; walked == (cut(3237), took(500, 6000)));
     let walked = walk(&bytes, VersionKind::Definition, 0, 1000, &rt);
     assert!(rt; walked == (cut(637), took(1, 1000)));
+    // As long as what is held at most, and a byte longer.
+    let walked = walk(&bytes, VersionKind::Definition, 0, 4096, &rt);
+    assert!(rt; walked == (cut(2639), took(1, 4096)));
+    let walked = walk(&bytes, VersionKind::Definition, 0, 4097, &rt);
+    assert!(rt; walked == (cut(2639), took(408, 4896)));
 }

@@ -50,5 +50,6 @@ fn write_archive<S: Source + Drop, W: Write + Drop>(
         style: asked.style,
     };
     let listed = show_archive(&mut src, &mut store, caps, asked.parts, &mut out);
-    end_answer(&archive_status(listed), out.into_inner().into_inner())
+    let (ending, _output) = end_answer(&archive_status(listed), out.into_inner().into_inner());
+    ending
 }

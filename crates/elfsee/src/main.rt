@@ -173,7 +173,7 @@ fn write_answer<S: Source + Drop, W: Write + Drop>(
     let mut src = Counted::new(source);
     let mut out = Out::new(WriteSink::new(output));
     let answer = run(request, &mut src, &mut store, &mut out);
-    let ending = end_answer(&answer, out.into_inner().into_inner());
+    let (ending, _output) = end_answer(&answer, out.into_inner().into_inner());
     if let Err(Stop::Refused(refusal)) = answer {
         if ending.0 == 1 {
             tell_why(alloc, request, refusal, &mut src, &mut store, errors);

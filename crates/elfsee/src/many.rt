@@ -2,9 +2,7 @@
 ghost use Rattle.std.specs.Prelude.{◌≡◌};
 
 use elf_many::{Checks, ListFault, Walk, check_list, check_path};
-use elf_program::{
-    CANNOT_OPEN, Ending, OUT_OF_MEMORY, OUTPUT_BYTES, READ_FAULT, WRITE_FAULT, write_rest,
-};
+use elf_program::{CANNOT_OPEN, Ended, Ending, OUT_OF_MEMORY, OUTPUT_BYTES, READ_FAULT, end_run};
 use elf_source::{Out, OutFault, Sink, WriteSink};
 use elf_table::{Caps, HeaderRoom, HeaderStore};
 use elf_words::Checking;
@@ -76,8 +74,12 @@ where
 {
     let out = Out::new(WriteSink::new(output));
     let mut checks = new_checks(asked, out, store, terminal);
-    let answer = check_all(rt, asked, &mut checks, walk, entries);
-    finish(checks.into_out().into_inner().into_inner(), answer)
+    let ended = match check_all(rt, asked, &mut checks, walk, entries) {
+        Ok(status) => Ended::Status(status),
+        Err(ended) => ended,
+    };
+    let (ending, _output) = end_run(ended, checks.into_out().into_inner().into_inner());
+    Ok(ending)
 }
 
 /// A check within what is asked for, with no file yet.
@@ -99,28 +101,28 @@ fn new_checks<'a, W: Sink>(
 /// Checks the paths that are asked for, then those of the list, and answers the exit status.
 ///
 /// # Errors
-/// How the program ends where the list or the output failed.
+/// How the run ended where the list or the output failed.
 fn check_all<R: Files + Input, W: Sink>(
     rt: &R,
     asked: &Checking<'_>,
     checks: &mut Checks<'_, W, Stderr>,
     walk: &mut Walk,
     entries: &mut [u8],
-) -> Result<u8, Ending>
+) -> Result<u8, Ended>
 where
     R::File: FileExt,
 {
-    if let Err(fault) = check_paths(rt, checks, walk, &asked.paths) {
-        return Err(unwritten(fault));
+    if let Err(OutFault { .. }) = check_paths(rt, checks, walk, &asked.paths) {
+        return Err(Ended::Unwritten);
     }
     if let Some(list) = asked.list {
-        if let Err(ending) = check_listed(rt, checks, walk, list, entries) {
-            return Err(ending);
+        if let Err(ended) = check_listed(rt, checks, walk, list, entries) {
+            return Err(ended);
         }
     }
     match checks.end() {
         Ok(status) => Ok(status),
-        Err(fault) => Err(unwritten(fault)),
+        Err(OutFault { .. }) => Err(Ended::Unwritten),
     }
 }
 
@@ -148,14 +150,14 @@ where
 /// Checks the paths of a list; `-` is standard input.
 ///
 /// # Errors
-/// How the program ends where the list or the output failed.
+/// How the run ended where the list or the output failed.
 fn check_listed<R: Files + Input, W: Sink>(
     rt: &R,
     checks: &mut Checks<'_, W, Stderr>,
     walk: &mut Walk,
     list: &str,
     entries: &mut [u8],
-) -> Result<(), Ending>
+) -> Result<(), Ended>
 where
     R::File: FileExt,
 {
@@ -164,40 +166,15 @@ where
     }
     match fs::open(rt, list) {
         Ok(mut file) => listed(check_list(rt, checks, walk, &mut file, entries)),
-        Err(_) => Err(CANNOT_OPEN),
+        Err(_) => Err(Ended::Told(CANNOT_OPEN)),
     }
 }
 
-/// What a list answers, or how the program ends where it came to no end.
-fn listed(answer: Result<(), ListFault>) -> Result<(), Ending> {
+/// What a list answers, or how the run ended where it came to no end.
+fn listed(answer: Result<(), ListFault>) -> Result<(), Ended> {
     match answer {
         Ok(()) => Ok(()),
-        Err(ListFault::Read) => Err(READ_FAULT),
-        Err(ListFault::Out(fault)) => Err(unwritten(fault)),
-    }
-}
-
-/// How the program ends where the output failed.
-fn unwritten(_fault: OutFault) -> Ending
-    ensures { result ≡ (3, result.1) }
-{
-    WRITE_FAULT
-}
-
-/// Writes what is left of the output, and answers how the program ends. After a fault of the output
-/// nothing more is written.
-///
-/// # Errors
-/// The output can't be written, or what failed before.
-fn finish<W: Write + Drop>(
-    output: BufWriter<W>,
-    answer: Result<u8, Ending>,
-) -> Result<Ending, Ending> {
-    if !write_rest(output, answer != Err(WRITE_FAULT)) {
-        return Err(WRITE_FAULT);
-    }
-    match answer {
-        Ok(status) => Ok((status, "")),
-        Err(ending) => Err(ending),
+        Err(ListFault::Read) => Err(Ended::Told(READ_FAULT)),
+        Err(ListFault::Out(_)) => Err(Ended::Unwritten),
     }
 }

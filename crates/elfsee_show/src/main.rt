@@ -86,5 +86,6 @@ fn write_listing<S: Source + Drop, W: Write + Drop>(
         Ok(()) => Ok(0),
         Err(stop) => Err(stop),
     };
-    end_answer(&answer, out.into_inner().into_inner())
+    let (ending, _output) = end_answer(&answer, out.into_inner().into_inner());
+    ending
 }
