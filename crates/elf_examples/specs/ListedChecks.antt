@@ -41,6 +41,7 @@ StatesOfFronts =
 abbrev pub StatesWithinBudgets : Type 0
 StatesWithinBudgets =
     (state_of (Some 4) (codes "text\n") (report_fault (codes "text\n") 3 63 ALL) ≡ state.NoElf)
+    × (state_of (Some 63) (codes "text\n") (report_fault (codes "text\n") 3 63 ALL) ≡ state.NoElf)
     × (state_of (Some 3) (codes "text\n") (report_fault (codes "text\n") 3 63 ALL)
     ≡ refused (record { at = 5; cause = Short }))
     × (state_of (Some 0) (codes "abc") (report_fault (codes "abc") 3 63 ALL) ≡ state.NoElf)

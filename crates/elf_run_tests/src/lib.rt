@@ -7,6 +7,8 @@ mod applied;
 #[cfg(test)]
 mod budgets;
 #[cfg(test)]
+mod endings;
+#[cfg(test)]
 mod listings;
 #[cfg(test)]
 mod lookups;

@@ -1,3 +1,4 @@
+pub mod ExamplesAllowed
 pub mod ExamplesAnswers
 pub mod ExamplesDynamic
 pub mod ExamplesFields

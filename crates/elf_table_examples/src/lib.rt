@@ -3,6 +3,7 @@
 //! and the prover computes it.
 #![tactic(auto)]
 
+mod allowed_rows;
 mod answer_rows;
 mod dynamic_rows;
 mod field_rows;

@@ -1,0 +1,51 @@
+-- What a budget allows of an answer, of a file's state, and of what a search for a NUL keeps.
+use Rattle.std.specs.Prelude.{◌≡◌, ◌<◌, ℕ, true, false, List, [], ◌∷◌, None, Some}
+use Rattle.elf_model.specs.Answer.{Answer}
+use Rattle.elf_model.specs.Bytes.{IsBytes}
+use Rattle.elf_model.specs.Checking.{IsStateOf, state_of}
+use Rattle.elf_model.specs.FindApplyAnswer.{IsAnswered}
+use Rattle.elf_model.specs.Lines.{refusal_line}
+use Rattle.elf_model.specs.Listing.{fault_of}
+use Rattle.elf_model.specs.Report.{listing}
+use Rattle.elf_model.specs.Searches.{NulFound}
+use Rattle.elf_model.specs.Style.{Style}
+use Rattle.elf_model.specs.declared.causes.Cause.TheVariants.{Budget}
+use Rattle.elf_model.specs.declared.states.FileState.{FileState}
+
+-- the line of a read at an offset that has no room in a budget, alone, with status 1
+abbrev pub budget_answer : ℕ → Answer
+budget_answer at = record { text = refusal_line (record { at = at; cause = Budget }); status = 1 }
+
+-- without a budget, and within one of the cost, the whole is answered
+abbrev pub TheCostSuffices : Type 0
+TheCostSuffices =
+    (size cost : ℕ) (whole answer : Answer)
+    → (IsAnswered None size cost whole answer → answer ≡ whole) × (IsAnswered (Some cost) size cost whole answer → answer ≡ whole)
+
+-- within less the whole or that line is answered, whose offset is below the file's length, and nothing else
+abbrev pub LessMayEndAnAnswer : Type 0
+LessMayEndAnAnswer =
+    (size cost budget : ℕ) (whole : Answer)
+    → budget < cost
+    → IsAnswered (Some budget) size cost whole whole
+    × ((at : ℕ) → at < size → IsAnswered (Some budget) size cost whole (budget_answer at))
+
+-- a file's state without a budget is that of its report's fault
+abbrev pub StatesOfReports : Type 0
+StatesOfReports =
+    (file : List ℕ) (headers : ℕ) (style : Style) (parts : ℕ) (found : FileState)
+    → IsStateOf None file headers style parts found → found ≡ state_of None file (fault_of (listing file headers style parts))
+
+-- of bytes with a NUL those before it are kept, as far as the cap; of others all, as far as the cap
+abbrev pub BytesBeforeANul : Type 0
+BytesBeforeANul =
+    (kept : List ℕ)
+    → (NulFound (97 ∷ 98 ∷ 0 ∷ 99 ∷ []) 5 true kept → kept ≡ 97 ∷ 98 ∷ [])
+    × (NulFound (97 ∷ 98 ∷ 0 ∷ 99 ∷ []) 1 true kept → kept ≡ 97 ∷ [])
+    × (NulFound (97 ∷ 98 ∷ []) 1 false kept → kept ≡ 97 ∷ [])
+    × (NulFound (97 ∷ 98 ∷ []) 5 true kept → ⊥)
+    × (NulFound (97 ∷ 0 ∷ []) 5 false kept → ⊥)
+
+-- a byte is below 256
+abbrev pub BytesAreSmall : Type 0
+BytesAreSmall = (IsBytes (256 ∷ []) → ⊥) × (IsBytes (0 ∷ 256 ∷ []) → ⊥) × IsBytes []
