@@ -22,7 +22,7 @@ list_loaded-listed-requires g c = record {
   header = λ viewed held.
       let file = hidden_file c.hide_sections.ensures viewed held in
       rw file.2 (header_hidden file.0 c.args.header.now c.without_sections.result (c.requires.header file.0 file.1) (c.without_sections.ensures file.0));
-  hidden = λ viewed held by. let file = hidden_file c.hide_sections.ensures viewed held in rw file.2 (view_tells_of_none file.0).1.0;
+  hidden = λ viewed held by. let file = hidden_file c.hide_sections.ensures viewed held in rw file.2 (view_tells_of_none file.0).1;
 }
 
 pub returns-clause-cost : goal.returns-clause-cost
