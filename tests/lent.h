@@ -52,4 +52,19 @@ static inline int take_back(struct lent *lent) {
     return whole;
 }
 
+/* How many bytes at the front of a member's data are its name, by the 16 bytes of its header that tell the name: `#1/`, one
+ * digit or more, and spaces. */
+static inline uint64_t name_in_data(const uint8_t *bytes, size_t len, uint64_t at) {
+    uint64_t size = 0, place = 3;
+    if (at > len || len - at < 16 || memcmp(bytes + at, "#1/", 3)) return 0;
+    for (; place < 16 && bytes[at + place] >= '0' && bytes[at + place] <= '9'; place += 1) {
+        size = 10 * size + (uint64_t)(bytes[at + place] - '0');
+    }
+    if (place == 3) return 0;
+    for (; place < 16; place += 1) {
+        if (bytes[at + place] != ' ') return 0;
+    }
+    return size;
+}
+
 #endif

@@ -250,14 +250,14 @@ static void small_out(void) {
 /* 30 and 31 are no causes. */
 static int is_cause(uint32_t cause) {
     return (cause >= ELFSEE_SHORT && cause <= ELFSEE_UNMAPPED) ||
-           (cause >= ELFSEE_VERSION_CUT && cause <= ELFSEE_MEMBER_CUT);
+           (cause >= ELFSEE_VERSION_CUT && cause <= ELFSEE_LOAD_OVERLAP);
 }
 
 static void cause_words(void) {
     uint8_t word[40];
     int all = 1, none = 1;
     uint32_t cause;
-    for (cause = 1; cause <= ELFSEE_MEMBER_CUT; cause += 1) {
+    for (cause = 1; cause <= ELFSEE_LOAD_OVERLAP; cause += 1) {
         if (!is_cause(cause)) continue;
         size_t len = elfsee_cause_word(cause, word, sizeof word), less;
         all &= len > 0 && len <= 32;
@@ -610,7 +610,8 @@ static int any_members(void) {
     old = members;
     memset(&member, 7, sizeof member);
     while ((status = elfsee_next_member(file->bytes, file->len, &members, &member, &end)) == ELFSEE_OK) {
-        if (member.at != old.at || member.content.at != old.at + 60 || members.at < old.at + 60) return 0;
+        uint64_t front = name_in_data(file->bytes, file->len, old.at);
+        if (member.at != old.at || member.content.at != old.at + 60 + front || members.at < old.at + 60) return 0;
         if (member.content.at > file->len || member.content.len > file->len - member.content.at) return 0;
         if (member.name.at > file->len || member.name.len > file->len - member.name.at) return 0;
         if (member.name.len > 4096 || member.is_cut > 1 || member.none != 0 || members.none != 7) return 0;

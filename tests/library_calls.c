@@ -498,8 +498,9 @@ static void members(const struct lent *file) {
         status = elfsee_next_member(file->bytes, file->len, &place, &member, &walk.end);
     }
     for (; status == ELFSEE_OK; index += 1) {
-        expect(member.at == before.at && member.content.at == before.at + 60, "a member of another place");
-        expect(place.at == member.content.at + member.content.len + member.content.len % 2, "a step over a member");
+        uint64_t front = name_in_data(file->bytes, file->len, member.at), size = front + member.content.len;
+        expect(member.at == before.at && member.content.at == before.at + 60 + front, "a member of another place");
+        expect(place.at == before.at + 60 + size + size % 2, "a step over a member");
         expect(member.content.at + member.content.len <= file->len && member.name.len <= 4096 &&
                    member.name.at + member.name.len <= file->len && member.is_cut <= 1 && member.none == 0,
                "a member outside the file");
