@@ -1,5 +1,5 @@
 //! Names that wait, the last one first.
-ghost use Rattle.std.specs.Prelude.{◌≡◌, ◌≤◌, List, ℕ, IfOk, IfSome, OnOk, [], take, length, true, false};
+ghost use Rattle.std.specs.Prelude.{◌≡◌, ◌≤◌, ◌<◌, List, ℕ, IfOk, IfSome, OnOk, [], take, length, true, false};
 ghost use Rattle.elf_paths.specs.Stacked.{pushed, stacked};
 
 use crate::batch::Name;
@@ -111,7 +111,7 @@ impl Stack {
 /// How many of the first of some names there is room for in so many bytes, one at least.
 pub fn count_within(names: &Names, room: usize) -> usize
     ensures within { result ≤ length names.now }
-    ensures some { names.now ≡ [] → result ≡ 0 }
+    ensures some { 0 < length names.now → 0 < result }
 {
     let mut taken: usize = 0;
     for i in 0..names.len() {
