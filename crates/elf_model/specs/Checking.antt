@@ -3,6 +3,7 @@ use Rattle.std.specs.Prelude.{ℕ, ◌≡◌, ◌==◌, ◌&&◌, ◌||◌, nat_
 use Rattle.elf_model.specs.Budget.{IsBudgeted}
 use Rattle.elf_model.specs.Bytes.{field}
 use Rattle.elf_model.specs.Causes.{cause_word}
+use Rattle.elf_model.specs.Fields.{Front}
 use Rattle.elf_model.specs.Lines.{named_line}
 use Rattle.elf_model.specs.Names.Shown.{Whole}
 use Rattle.elf_model.specs.Records.{FILE_HEADER_SIZE}
@@ -11,6 +12,7 @@ use Rattle.elf_model.specs.Text.{hex, left_in, right_decimal, space, newline}
 use Rattle.elf_model.specs.declared.causes.Cause.{Cause}
 use Rattle.elf_model.specs.declared.causes.Cause.TheVariants.{NotElf}
 use Rattle.elf_model.specs.declared.causes.Refusal.{Refusal}
+use Rattle.elf_model.specs.declared.formats.Format.TheVariants.{Columns}
 use Rattle.elf_model.specs.declared.states.FileState.{FileState}
 use Rattle.elf_model.specs.declared.states.FileState.TheVariants as state
 
@@ -65,8 +67,12 @@ place_text (state.Refused refusal) = hex 16 refusal.at ++ space ++ cause_word re
 place_text _ = codes "-"
 
 -- a file's line up to its path
-unfoldable pub check_front : FileState → List ℕ
-check_front found = codes "C " ++ left_in 12 (state_word found) ++ space ++ place_text found ++ space
+unfoldable pub check_front : FileState → Front
+check_front found = record {
+  format = Columns;
+  key = codes "path";
+  text = codes "C " ++ left_in 12 (state_word found) ++ space ++ place_text found ++ space;
+}
 
 -- the line of a file: its state, where it is at fault and why, and its path
 abbrev pub check_line : FileState → List ℕ → List ℕ
