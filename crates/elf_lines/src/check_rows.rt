@@ -4,23 +4,30 @@ ghost use Rattle.arrayvec.specs.ArrayVec.{array_vec_len};
 ghost use Rattle.elf_model.specs.Checking.{check_front, check_line, place_text, state_word};
 ghost use Rattle.elf_model.specs.Checking.{unnamed_line};
 ghost use Rattle.elf_source.specs.Output.{Puts};
+ghost use Rattle.elf_lines.specs.Fronts.{front_of};
 
-use crate::columns::{Line, line_of, put, put_decimal, put_left, put_xword};
+use crate::columns::{Line, line_of, put, put_digits, put_left, put_right};
+use crate::fields::Front;
 use crate::named::show_named;
 use crate::rows::cause_word;
-use elf_model::FileState;
+use elf_model::{FileState, Format};
 use elf_source::{Out, OutFault, Sink};
 
 /// The `C` line of a file up to its path: its state, and where it is at fault and why.
 #[tactic(auto, unfolding(elf_model::specs::Checking::check_front))]
-fn check_row(state: FileState) -> Line
-    ensures { result.items ≡ check_front state }
+fn check_row(state: FileState) -> Front
+    ensures front { front_of result ≡ check_front state }
+    ensures key { length result.key.now ≤ 16 }
 {
     let mut line = line_of(b"C ");
-    put_left(&mut line, 12, state_word(state).as_bytes());
+    put_left(&mut line, 12, state_word(state).as_bytes(), b' ');
     put_place(&mut line, state);
     put(&mut line, b" ");
-    line
+    Front {
+        line,
+        format: Format::Columns,
+        key: b"path",
+    }
 }
 
 /// Puts where a file is at fault and why; a hyphen for a file that is not at fault.
@@ -34,7 +41,7 @@ fn put_place(line: &mut Line, state: FileState)
         put(line, b"-");
         return;
     };
-    put_xword(line, refusal.at);
+    put_digits(line, 16, refusal.at, b' ');
     put(line, cause_word(refusal.cause).as_bytes());
 }
 
@@ -75,12 +82,12 @@ pub fn show_unnamed<W: Sink>(count: u64, out: &mut Out<W>) -> Result<(), OutFaul
 }
 
 /// The last line of a check.
-#[tactic(auto, unfolding(elf_model::specs::Checking::unnamed_line))]
+#[tactic(auto, unfolding(elf_model::specs::Checking::unnamed_line, elf_model::specs::Text::right_decimal))]
 fn unnamed_row(count: u64) -> Line
     ensures { result.items ≡ unnamed_line count }
 {
     let mut line = line_of(b"C ");
-    put_left(&mut line, 12, b"unnamed");
-    put_decimal(&mut line, 10, count, b'\n');
+    put_left(&mut line, 12, b"unnamed", b' ');
+    put_right(&mut line, 10, count, b'\n');
     line
 }

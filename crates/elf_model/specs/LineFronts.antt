@@ -71,7 +71,7 @@ abbrev pub note_fields : ℕ → ℕ → ℕ → ℕ → Fields
 note_fields index kind namesz descsz = record {
   letter = codes "N";
   fields =
-      Decimal (codes "table") 5 index
+      Decimal (codes "index") 5 index
       ∷ Hexadecimal (codes "type") 8 kind
       ∷ Hexadecimal (codes "namesz") 8 namesz
       ∷ Hexadecimal (codes "descsz") 8 descsz
