@@ -6,7 +6,7 @@ ghost use Rattle.elf_model.specs.LineFronts.{dynamic_front};
 ghost use Rattle.elf_record.specs.Dyn.{IsDyn};
 ghost use Rattle.elf_lines.specs.Fronts.{front_of};
 
-use crate::fields::{Front, NamedNumber, begin, put_decimal, put_name_or_hex, put_xword};
+use crate::fields::{LineFront, NamedNumber, begin, put_decimal, put_name_or_hex, put_xword};
 use crate::name_tables::name_of_either;
 use elf_model::Format;
 use elf_record::Dyn;
@@ -28,7 +28,7 @@ use elf_record::numbers::{
 /// The `D` line of a dynamic entry up to the name: its index in its table, tag and value (gABI 5,
 /// Dynamic Section); `gnu` says whether tags of the GNU system have names. The space before the name
 /// is the last byte.
-pub fn dynamic_front(index: u64, entry: &Dyn, gnu: bool, format: Format) -> Front
+pub fn dynamic_front(index: u64, entry: &Dyn, gnu: bool, format: Format) -> LineFront
     // A tag is read as a signed number, and shown as its bits.
     ensures front { (file : List ℕ) (at : ℕ) → IsDyn file at entry.now →
         front_of result ≡ dynamic_front format gnu file at index }
@@ -47,7 +47,7 @@ pub fn dynamic_front(index: u64, entry: &Dyn, gnu: bool, format: Format) -> Fron
         NamedNumber { name, number },
     );
     put_xword(&mut line, format, b"value", entry.d_un, b' ');
-    Front {
+    LineFront {
         line,
         format,
         key: b"string",

@@ -15,7 +15,7 @@ use crate::objects::{put_key, put_name_or_number, put_number, put_quoted};
 use elf_model::Format;
 
 /// What stands before a line's name, how the line is written, and the key of the name.
-pub struct Front {
+pub struct LineFront {
     /// The line up to its name.
     pub line: Line,
     /// How it is written.

@@ -27,7 +27,7 @@ pub use buffers::BUFFER_BYTES;
 pub use check_rows::{show_check, show_unnamed};
 pub use columns::Line;
 pub use dynamic_rows::dynamic_front;
-pub use fields::Front;
+pub use fields::LineFront;
 pub use lack_rows::show_lack;
 pub use lookup_rows::show_steps;
 pub use member_rows::member_front;

@@ -9,7 +9,7 @@ ghost use Rattle.elf_lines.specs.Pieces.{PutsBefore, byte_text, name_end, name_s
 ghost use Rattle.elf_lines.specs.Pieces.{spelt};
 
 use crate::columns::{LINE_BYTES, Line, put, put_hex};
-use crate::fields::Front;
+use crate::fields::LineFront;
 use crate::objects::{put_key, put_quoted_byte};
 use elf_model::Format;
 use elf_source::{Out, OutFault, Sink};
@@ -20,7 +20,7 @@ use elf_source::{Out, OutFault, Sink};
 /// # Errors
 /// A fault of the output, with a front of the line written.
 pub fn show_named<W: Sink>(
-    front: Front,
+    front: LineFront,
     name: &[u8],
     is_cut: bool,
     out: &mut Out<W>,
@@ -29,7 +29,7 @@ pub fn show_named<W: Sink>(
     ensures puts { Puts out.old out.new result
         (named_line (front_of front) (shown_as is_cut name.now)) }
 {
-    let Front { line, format, key } = front;
+    let LineFront { line, format, key } = front;
     let mut line = line;
     begin_name(&mut line, format, key, out)?;
     show_spelt(line, format, name, name_end(format, is_cut), out)

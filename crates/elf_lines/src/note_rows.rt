@@ -10,7 +10,7 @@ ghost use Rattle.elf_lines.specs.Notes.{IsDescriptor, described};
 ghost use Rattle.elf_lines.specs.Pieces.{shown_as};
 
 use crate::columns::{Line, put, put_where};
-use crate::fields::{Front, begin, put_half, put_word};
+use crate::fields::{LineFront, begin, put_half, put_word};
 use crate::named::{begin_name, show_spelt};
 use elf_model::Format;
 use elf_record::NoteHead;
@@ -24,7 +24,7 @@ const SHOWN_DESCRIPTOR: u32 = 32;
 /// sizes of its name and its descriptor in bytes (gABI 5, Note Section). The space before the name is
 /// the last byte.
 #[tactic(auto, unfolding(elf_model::specs::LineFronts::note_front))]
-pub fn note_front(index: u16, head: &NoteHead, format: Format) -> Front
+pub fn note_front(index: u16, head: &NoteHead, format: Format) -> LineFront
     ensures front { front_of result
         ≡ note_front format index head.now.kind head.now.namesz head.now.descsz }
     ensures key { length result.key.now ≤ 16 }
@@ -34,7 +34,7 @@ pub fn note_front(index: u16, head: &NoteHead, format: Format) -> Front
     put_word(&mut line, format, b"type", 8, head.kind);
     put_word(&mut line, format, b"namesz", 8, head.namesz);
     put_word(&mut line, format, b"descsz", 8, head.descsz);
-    Front {
+    LineFront {
         line,
         format,
         key: b"name",
@@ -48,7 +48,7 @@ pub fn note_front(index: u16, head: &NoteHead, format: Format) -> Front
 /// # Errors
 /// A fault of the output, with a front of the line written.
 pub fn show_note<W: Sink>(
-    front: Front,
+    front: LineFront,
     name: &[u8],
     is_cut: bool,
     first_bytes: &[u8],
@@ -63,7 +63,7 @@ pub fn show_note<W: Sink>(
         Puts out.old out.new result
         (note_line (front_of front) (shown_as is_cut name.now) descriptor) }
 {
-    let Front { line, format, key } = front;
+    let LineFront { line, format, key } = front;
     let tail = note_tail(format, is_cut, first_bytes, descsz);
     let mut line = line;
     begin_name(&mut line, format, key, out)?;

@@ -6,7 +6,9 @@ ghost use Rattle.elf_model.specs.LineFronts.{relocation_front};
 ghost use Rattle.elf_record.specs.Rela.{IsRela};
 ghost use Rattle.elf_lines.specs.Fronts.{front_of};
 
-use crate::fields::{Front, begin, put_half, put_name_or_sign, put_signed, put_word, put_xword};
+use crate::fields::{
+    LineFront, begin, put_half, put_name_or_sign, put_signed, put_word, put_xword,
+};
 use crate::name_tables::name_of_either;
 use crate::naming::Naming;
 use elf_record::Rela;
@@ -28,7 +30,7 @@ use elf_record::numbers::{
 /// The `R` line of a relocation entry up to the name: the index of its section, offset, type on this
 /// machine, symbol and addend (gABI 4, Relocation). The space before the name is the last byte.
 #[tactic(auto, unfolding(elf_model::specs::LineFronts::relocation_front))]
-pub fn relocation_front(section: u16, entry: &Rela, naming: Naming) -> Front
+pub fn relocation_front(section: u16, entry: &Rela, naming: Naming) -> LineFront
     ensures front { (file : List ℕ) (at : ℕ) → IsRela file at entry.now → front_of result
         ≡ relocation_front naming.format naming.gnu naming.machine file at section }
     ensures key { length result.key.now ≤ 16 }
@@ -42,7 +44,7 @@ pub fn relocation_front(section: u16, entry: &Rela, naming: Naming) -> Front
     put_name_or_sign(&mut line, format, b"type", name, kind);
     put_word(&mut line, format, b"symbol", 8, entry.symbol());
     put_signed(&mut line, format, b"addend", entry.r_addend);
-    Front {
+    LineFront {
         line,
         format,
         key: b"name",

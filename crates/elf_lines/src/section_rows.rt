@@ -11,7 +11,7 @@ ghost use Rattle.elf_lines.specs.Fronts.{front_of};
 
 use crate::columns::{Line, put_where};
 use crate::fields::{
-    Front, NamedNumber, begin, put_half, put_name_or_hex, put_text, put_word, put_xword,
+    LineFront, NamedNumber, begin, put_half, put_name_or_hex, put_text, put_word, put_xword,
 };
 use crate::name_tables::name_of_either;
 use crate::naming::Naming;
@@ -29,7 +29,7 @@ use elf_record::{SectionFlags, Shdr};
 /// The `S` line of a section header up to the name: its index, type, flags, address, file offset,
 /// size, link and info (gABI 4, Section Header). The space before the name is the last byte.
 #[tactic(auto, unfolding(elf_model::specs::LineFronts::section_front))]
-pub fn section_front(index: u16, header: &Shdr, naming: Naming) -> Front
+pub fn section_front(index: u16, header: &Shdr, naming: Naming) -> LineFront
     ensures front { (file : List ℕ) (at : ℕ) → IsShdr file at header.now →
         front_of result ≡ section_front naming.format naming.gnu naming.machine file at index }
     ensures key { length result.key.now ≤ 16 }
@@ -54,7 +54,7 @@ pub fn section_front(index: u16, header: &Shdr, naming: Naming) -> Front
     put_xword(&mut line, format, b"size", header.sh_size, b' ');
     put_word(&mut line, format, b"link", 8, header.sh_link);
     put_word(&mut line, format, b"info", 8, header.sh_info);
-    Front {
+    LineFront {
         line,
         format,
         key: b"name",

@@ -13,7 +13,7 @@ ghost use Rattle.elf_model.specs.declared.formats.Format.TheVariants.{Columns};
 ghost use Rattle.elf_source.specs.Output.{OutFails, Puts};
 
 use crate::fields::{
-    Front, NamedNumber, begin, put_decimal, put_half, put_name_or_decimal, put_xword,
+    LineFront, NamedNumber, begin, put_decimal, put_half, put_name_or_decimal, put_xword,
 };
 use crate::name_tables::{name_of, name_of_either};
 use crate::named::show_named;
@@ -31,7 +31,7 @@ use elf_source::{Out, OutFault, Sink};
 /// type, binding, visibility and place (gABI 4, Symbol Table). The space before the name is the last
 /// byte.
 #[tactic(auto, unfolding(elf_model::specs::LineFronts::symbol_front))]
-pub fn symbol_front(section: u16, index: u64, symbol: &Sym, naming: Naming) -> Front
+pub fn symbol_front(section: u16, index: u64, symbol: &Sym, naming: Naming) -> LineFront
     ensures front { (file : List ℕ) (at : ℕ) → IsSym file at symbol.now → front_of result
         ≡ symbol_front naming.format naming.gnu naming.machine file at section index }
     ensures key { length result.key.now ≤ 16 }
@@ -54,7 +54,7 @@ pub fn symbol_front(section: u16, index: u64, symbol: &Sym, naming: Naming) -> F
     put_name_or_decimal(&mut line, format, b"visibility", 9, named);
     let named = with_name(place_name(place, naming), place);
     put_name_or_decimal(&mut line, format, b"place", 5, named);
-    Front {
+    LineFront {
         line,
         format,
         key: b"name",

@@ -3,7 +3,7 @@ ghost use Rattle.std.specs.Prelude.{◌≡◌, ◌≤◌, if◌then◌else◌, c
 ghost use Rattle.elf_lines.specs.Fronts.{front_of};
 ghost use Rattle.elf_model.specs.VersionRows.{kind_text, version_front, symbol_version_front};
 
-use crate::fields::{Front, begin, put_decimal, put_half, put_text, put_word};
+use crate::fields::{LineFront, begin, put_decimal, put_half, put_text, put_word};
 use elf_model::Format;
 use elf_record::VersionKind;
 
@@ -18,7 +18,7 @@ pub fn version_front(
     flags: u16,
     hash: u32,
     format: Format,
-) -> Front
+) -> LineFront
     ensures front { front_of result ≡ version_front format kind section number flags hash }
     ensures key { length result.key.now ≤ 16 }
 {
@@ -35,7 +35,7 @@ pub fn version_front(
     put_half(&mut line, format, b"number", number, b' ');
     put_word(&mut line, format, b"flags", 4, u32::from(flags));
     put_word(&mut line, format, b"hash", 8, hash);
-    Front {
+    LineFront {
         line,
         format,
         key: b"name",
@@ -46,7 +46,7 @@ pub fn version_front(
 /// symbol's index, and the number with the mark of a hidden version, of the symbol's `word` (Linux
 /// Standard Base Core, Symbol Versioning). The space before the name is the last byte.
 #[tactic(auto, unfolding(elf_model::specs::VersionRows::symbol_version_front))]
-pub fn symbol_version_front(section: u16, index: u64, word: u16, format: Format) -> Front
+pub fn symbol_version_front(section: u16, index: u64, word: u16, format: Format) -> LineFront
     ensures front { front_of result ≡ symbol_version_front format section index word }
     ensures key { length result.key.now ≤ 16 }
 {
@@ -63,7 +63,7 @@ pub fn symbol_version_front(section: u16, index: u64, word: u16, format: Format)
         hidden_mark(word == number),
         b' ',
     );
-    Front {
+    LineFront {
         line,
         format,
         key: b"name",

@@ -4,7 +4,7 @@ use Rattle.std.specs.Prelude.{ℕ, zero, suc, ◌+◌, ◌-◌, ◌*◌, ◌%◌
 use Rattle.std.specs.List.{list_all}
 use Rattle.elf_model.specs.Bytes.{slice, field}
 use Rattle.elf_model.specs.Checks.{Check, refuse}
-use Rattle.elf_model.specs.Fields.{Fields, Front, front}
+use Rattle.elf_model.specs.Fields.{Fields, LineFront, front}
 use Rattle.elf_model.specs.Fields.Field.{Decimal, Hexadecimal}
 use Rattle.elf_model.specs.Lines.{named_line, refusal_line}
 use Rattle.elf_model.specs.Listing.{Item, Line, Fault, fault_of, guarded, report_of, known_parts}
@@ -278,7 +278,7 @@ member_fields index at size = record {
   fields = Decimal (codes "index") 5 index ∷ Hexadecimal (codes "offset") 16 at ∷ Hexadecimal (codes "size") 16 size ∷ [];
 }
 
-unfoldable pub member_front : Format → ℕ → ℕ → ℕ → Front
+unfoldable pub member_front : Format → ℕ → ℕ → ℕ → LineFront
 member_front format index at size = front format (codes "name") (member_fields index at size)
 
 -- the line of a member

@@ -9,7 +9,8 @@ use Rattle.elf_model.specs.declared.formats.Format.TheVariants.{Columns, Object}
 
 -- a field, by its key: a decimal number at the right of a column; a number in so many hexadecimal digits; a number with its
 -- sign; a text at the left of a column; a name at the left of a column, or where the number has none the number itself, in
--- decimal at the right, in hexadecimal digits at the left, or in decimal behind a sign of one at the left
+-- decimal at the right, in hexadecimal digits at the left, or in decimal behind a sign of one at the left; and a hyphen in the
+-- place of fields that a line has not
 pub data Field : Type 0 where
   Decimal : (key : List ℕ) (width n : ℕ) → Field
   Hexadecimal : (key : List ℕ) (digits n : ℕ) → Field
@@ -18,6 +19,7 @@ pub data Field : Type 0 where
   NameOrDecimal : (key : List ℕ) (width : ℕ) (name : Option (List ℕ)) (n : ℕ) → Field
   NameOrHexadecimal : (key : List ℕ) (width digits : ℕ) (name : Option (List ℕ)) (n : ℕ) → Field
   NameOrNumber : (key : List ℕ) (width : ℕ) (name : Option (List ℕ)) (n : ℕ) → Field
+  Hyphen : Field
 
 -- a line, or what stands before its name: its letter, and its fields
 pub record Fields : Type 0 where
@@ -32,6 +34,7 @@ key_of (Word key width text) = key
 key_of (NameOrDecimal key width name n) = key
 key_of (NameOrHexadecimal key width digits name n) = key
 key_of (NameOrNumber key width name n) = key
+key_of Hyphen = []
 
 -- a number with its sign, and its absolute value in sixteen digits
 unfoldable pub signed_text : ℤ → List ℕ
@@ -46,6 +49,7 @@ column (Word key width text) = left_in width text
 column (NameOrDecimal key width name n) = name_or_decimal width name n
 column (NameOrHexadecimal key width digits name n) = left_in width (unwrap_or name (hex digits n))
 column (NameOrNumber key width name n) = left_in width (unwrap_or name (number_sign n))
+column Hyphen = codes "-"
 
 -- a byte of a string: a quotation mark and a backslash have a backslash before them (RFC 8259, Strings)
 unfoldable pub string_byte : ℕ → List ℕ
@@ -77,6 +81,7 @@ member_value (Word key width text) = quoted text
 member_value (NameOrDecimal key width name n) = name_or_value name n
 member_value (NameOrHexadecimal key width digits name n) = name_or_value name n
 member_value (NameOrNumber key width name n) = name_or_value name n
+member_value Hyphen = []
 
 -- the key of a member, behind the members before it
 unfoldable pub member_key : List ℕ → List ℕ
@@ -90,6 +95,7 @@ begun Object letter = codes "{\"line\":\"" ++ letter ++ codes "\""
 -- a line with one field more, and what stands behind it in a column
 unfoldable pub with_field : Format → List ℕ → Field → List ℕ → List ℕ
 with_field Columns line field behind = line ++ column field ++ behind
+with_field Object line Hyphen behind = line
 with_field Object line field behind = line ++ member_key (key_of field) ++ member_value field
 
 -- a line with fields more
@@ -102,12 +108,12 @@ abbrev pub fields_text : Format → Fields → List ℕ
 fields_text format row = with_fields format (begun format row.letter) row.fields
 
 -- what stands before a line's name, how the line is written, and the key of the name
-pub record Front : Type 0 where
+pub record LineFront : Type 0 where
   pub format : Format
   pub key : List ℕ
   pub text : List ℕ
 
-abbrev pub front : Format → List ℕ → Fields → Front
+abbrev pub front : Format → List ℕ → Fields → LineFront
 front format key row = record { format = format; key = key; text = fields_text format row }
 
 -- what ends a line behind its last field

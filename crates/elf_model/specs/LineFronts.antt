@@ -1,7 +1,7 @@
 -- The lines with a name, up to the name: the fields of one record, which stands at an offset of some bytes. Whether numbers of
 -- the GNU system have names, and on which machine, it is told before.
 use Rattle.std.specs.Prelude.{ℕ, Bool, List, [], ◌∷◌, codes}
-use Rattle.elf_model.specs.Fields.{Field, Fields, Front, front}
+use Rattle.elf_model.specs.Fields.{Field, Fields, LineFront, front}
 use Rattle.elf_model.specs.Fields.Field.{Decimal, Hexadecimal, Signed, Word, NameOrDecimal, NameOrHexadecimal, NameOrNumber}
 use Rattle.elf_model.specs.Text.{name_of}
 use Rattle.elf_model.specs.Records.{sh_type, sh_flags, sh_addr, sh_offset, sh_size, sh_link, sh_info, st_value, st_size, st_type, st_bind, st_visibility, st_shndx, r_offset, r_type, r_sym, r_addend, twos_complement, d_tag, d_un}
@@ -24,7 +24,7 @@ section_fields gnu machine bytes at index = record {
       ∷ [];
 }
 
-unfoldable pub section_front : Format → Bool → ℕ → List ℕ → ℕ → ℕ → Front
+unfoldable pub section_front : Format → Bool → ℕ → List ℕ → ℕ → ℕ → LineFront
 section_front format gnu machine bytes at index = front format (codes "name") (section_fields gnu machine bytes at index)
 
 -- a number by its name in a table of names
@@ -47,7 +47,7 @@ symbol_fields gnu machine bytes at section index = record {
       ∷ [];
 }
 
-unfoldable pub symbol_front : Format → Bool → ℕ → List ℕ → ℕ → ℕ → ℕ → Front
+unfoldable pub symbol_front : Format → Bool → ℕ → List ℕ → ℕ → ℕ → ℕ → LineFront
 symbol_front format gnu machine bytes at section index = front format (codes "name") (symbol_fields gnu machine bytes at section index)
 
 -- a relocation entry: the index of its section, offset, type, symbol and addend
@@ -63,7 +63,7 @@ relocation_fields gnu machine bytes at section = record {
       ∷ [];
 }
 
-unfoldable pub relocation_front : Format → Bool → ℕ → List ℕ → ℕ → ℕ → Front
+unfoldable pub relocation_front : Format → Bool → ℕ → List ℕ → ℕ → ℕ → LineFront
 relocation_front format gnu machine bytes at section = front format (codes "name") (relocation_fields gnu machine bytes at section)
 
 -- a note: the index of its section or program header, type, and the sizes of its name and its descriptor
@@ -78,7 +78,7 @@ note_fields index kind namesz descsz = record {
       ∷ [];
 }
 
-unfoldable pub note_front : Format → ℕ → ℕ → ℕ → ℕ → Front
+unfoldable pub note_front : Format → ℕ → ℕ → ℕ → ℕ → LineFront
 note_front format index kind namesz descsz = front format (codes "name") (note_fields index kind namesz descsz)
 
 -- a dynamic entry: its index in its table, tag and value
@@ -92,5 +92,5 @@ dynamic_fields gnu bytes at index = record {
       ∷ [];
 }
 
-unfoldable pub dynamic_front : Format → Bool → List ℕ → ℕ → ℕ → Front
+unfoldable pub dynamic_front : Format → Bool → List ℕ → ℕ → ℕ → LineFront
 dynamic_front format gnu bytes at index = front format (codes "string") (dynamic_fields gnu bytes at index)

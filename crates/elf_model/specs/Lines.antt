@@ -1,6 +1,6 @@
 -- The lines of a listing. Each is its letter and its fields, and for most lines a name.
 use Rattle.std.specs.Prelude.{ℕ, ◌==◌, ◌&&◌, nat_le, nat_lt, if◌then◌else◌, Bool, List, [], ◌∷◌, ◌++◌, codes, take, length}
-use Rattle.elf_model.specs.Fields.{Fields, Front, member_key, quoted, closed_line, closing}
+use Rattle.elf_model.specs.Fields.{Fields, LineFront, member_key, quoted, closed_line, closing}
 use Rattle.elf_model.specs.Fields.Field.{Decimal, Hexadecimal, Word, NameOrHexadecimal}
 use Rattle.elf_model.specs.Text.{hex, space, newline, name_of}
 use Rattle.elf_model.specs.Records.{e_type, e_machine, e_entry, e_phoff, e_shoff, e_flags, e_phnum, e_shnum, e_shstrndx, p_type, p_flags, p_offset, p_vaddr, p_paddr, p_filesz, p_memsz, p_align}
@@ -99,7 +99,7 @@ unfoldable pub line_named : Format → (key text : List ℕ) → Shown → List 
 line_named Columns key text name = text ++ (name_text name ++ newline)
 line_named Object key text name = text ++ (name_member key name ++ closing Object)
 
-abbrev pub named_line : Front → Shown → List ℕ
+abbrev pub named_line : LineFront → Shown → List ℕ
 named_line front name = line_named front.format front.key front.text name
 
 -- bytes in hexadecimal, two digits each
@@ -129,5 +129,5 @@ line_described Object key text name descriptor =
     ++ (member_key (codes "descriptor") ++ quoted (hex_bytes (take SHOWN_DESCRIPTOR descriptor)) ++ closing Object))
 
 -- the line of a note
-abbrev pub note_line : Front → Shown → List ℕ → List ℕ
+abbrev pub note_line : LineFront → Shown → List ℕ → List ℕ
 note_line front name descriptor = line_described front.format front.key front.text name descriptor

@@ -8,7 +8,7 @@ use Rattle.elf_model.specs.Style.{Style}
 use Rattle.elf_model.specs.Notes.{Note, Walk, note_shown}
 use Rattle.elf_model.specs.Tables.{SYMBOL_SIZE, RELA_SIZE, section_bytes, strings_of, linked_at, entry_at, symbol_checks_of}
 use Rattle.elf_model.specs.Checks.{first_refusal}
-use Rattle.elf_model.specs.Fields.{Front}
+use Rattle.elf_model.specs.Fields.{LineFront}
 use Rattle.elf_model.specs.LineFronts.{section_front, symbol_front, relocation_front, note_front, dynamic_front}
 use Rattle.elf_model.specs.Lines.{named_line, note_line, segment_line}
 use Rattle.elf_model.specs.Listing.{Item, Line, Fault}
@@ -21,7 +21,7 @@ abbrev pub refused_row : ℕ → Cause → List Item
 refused_row at cause = Fault (record { at = at; cause = cause }) ∷ []
 
 -- a row that ends in a name: its line, or the name's fault, at the entry that holds the name's index
-abbrev pub named_row : Front → ℕ → Result Shown Cause → List Item
+abbrev pub named_row : LineFront → ℕ → Result Shown Cause → List Item
 named_row front at (Ok name) = Line (named_line front name) ∷ []
 named_row front at (Err cause) = refused_row at cause
 

@@ -1,7 +1,7 @@
 -- The rows of symbol versions: of the records of definitions and needs, and of the numbers that symbols have.
 use Rattle.std.specs.Prelude.{ℕ, ◌+◌, ◌/◌, ◌==◌, ◌||◌, min, nat_lt, not, if◌then◌else◌, List, [], ◌∷◌, ◌++◌, codes, Option, None, Some}
 use Rattle.elf_model.specs.Checks.{Check, refuse, range_checks_of, strings_checks}
-use Rattle.elf_model.specs.Fields.{Fields, Front, front}
+use Rattle.elf_model.specs.Fields.{Fields, LineFront, front}
 use Rattle.elf_model.specs.Fields.Field.{Decimal, Hexadecimal, Word}
 use Rattle.elf_model.specs.HeaderTables.{TableKind, each_entry, file_sections, first_typed}
 use Rattle.elf_model.specs.Listing.{Item, Fault, VERSIONS, each}
@@ -38,7 +38,7 @@ version_fields kind section number flags hash = record {
       ∷ [];
 }
 
-unfoldable pub version_front : Format → VersionKind → (section number flags hash : ℕ) → Front
+unfoldable pub version_front : Format → VersionKind → (section number flags hash : ℕ) → LineFront
 version_front format kind section number flags hash =
     front format (codes "name") (version_fields kind section number flags hash)
 
@@ -111,12 +111,12 @@ symbol_version_fields section index word = record {
       ∷ [];
 }
 
-unfoldable pub symbol_version_front : Format → (section index word : ℕ) → Front
+unfoldable pub symbol_version_front : Format → (section index word : ℕ) → LineFront
 symbol_version_front format section index word = front format (codes "name") (symbol_version_fields section index word)
 
 -- the row of a version of a number, which an entry at an offset holds: a number that a record names has its name, 0 and 1 have
 -- none, and any other is refused at the entry
-unfoldable pub numbered_row : List ℕ → Style → (front : Front) → (entry_at number : ℕ) → List Item
+unfoldable pub numbered_row : List ℕ → Style → (front : LineFront) → (entry_at number : ℕ) → List Item
 numbered_row file style front entry_at number =
     if nat_lt number 2 then named_row front entry_at no_name
     else elim (version_named file number) [
