@@ -4,8 +4,8 @@
 _elfsee_options() {
     local option given
     case $1 in
-    show | sample | archive) set -- --headers --names --max-read --only --gnu --by-segments ;;
-    check) set -- --headers --names --max-read --only --gnu --by-segments --files0-from ;;
+    show | sample | archive) set -- --headers --names --max-read --only --gnu --by-segments --json ;;
+    check) set -- --headers --names --max-read --only --gnu --by-segments --json --files0-from ;;
     find) set -- --headers --max-read --gnu --by-segments ;;
     apply) set -- --headers --max-read --layout --explain ;;
     *) set -- ;;

@@ -1,6 +1,7 @@
 -- The report of an archive, and of one that a budget cuts short.
 use Rattle.std.proofs.Common.{◌≡◌, ℕ, Bool, ◌+◌, ◌^◌, ◌≤◌, List, ◌∷◌, ◌++◌, length, None, Some, Result, Ok, Err, Option, option_map, refl, sym, ap, subst, ◌∙◌, inl, inr, ◌⊎◌, append-nil, arith}
 use Rattle.std.specs.Prelude.{IfSome}
+use Rattle.elf_model.specs.declared.formats.Format.{Format}
 use Rattle.elf_model.specs.Archive.{archive_items, archive_length_checks}
 use Rattle.elf_model.specs.ArchiveCost.{IsArchiveBudgeted, any_refused, archive_ceiling, archive_cost}
 use Rattle.elf_model.specs.Budget.{IsBudget, IsReport}
@@ -26,7 +27,7 @@ use Rattle.elf_listing.proofs.EachLaws.{lines_front}
 use Rattle.elf_archive.specs.Listed.{ArchiveSays, AsksInArchive, BudgetSays, Explains, ReportsArchive}
 
 -- a report is what is listed, within every budget
-report_listed : (budget : Option ℕ) (file : List ℕ) (headers : ℕ) (style : Style) (parts : ℕ) (text : List ℕ) (fault : Option Refusal) → IsReport (archive_items file headers style parts) text fault
+report_listed : (budget : Option ℕ) (file : List ℕ) (headers : ℕ) (style : Style) (parts : ℕ) (text : List ℕ) (fault : Option Refusal) → IsReport style.format (archive_items file headers style parts) text fault
     → IsArchiveBudgeted budget file headers style parts text fault
 report_listed None file headers style parts text fault is = is
 report_listed (Some budget) file headers style parts text fault is = inl is
@@ -40,7 +41,7 @@ pub whole_archive : {a b : Written} (file : List ℕ) (caps : Caps) (parts : ℕ
     → WroteItems a b (archive_items file caps.limits.headers (style_of caps.style) parts) → ReportsArchive file caps parts a b (Ok any)
 whole_archive file caps parts any is whole =
     let all : List Item = items_with file caps parts in
-    let text : lines_of all ≡ report_of all = sym (ap (λ end. lines_of all ++ end_text end) whole.no_fault ∙ append-nil (lines_of all)) in
+    let text : lines_of all ≡ report_of caps.style.format all = sym (ap (λ end. lines_of all ++ end_text caps.style.format end) whole.no_fault ∙ append-nil (lines_of all)) in
     record {
       text = lines_of all;
       fault = None;
@@ -65,10 +66,10 @@ front_report : {a b : Written} (file : List ℕ) (caps : Caps) (parts : ℕ) (st
 front_report file caps parts stop is front =
     let all : List Item = items_with file caps parts in
     record {
-      text = report_of all;
+      text = report_of caps.style.format all;
       fault = fault_of all;
-      listed = report_listed caps.limits.budget file caps.limits.headers (style_of caps.style) parts (report_of all) (fault_of all) (record { text_is = refl; fault_is = refl });
-      wrote = wrote_front stop (report_of all) (fault_of all) is (TakesFront-more (lines_of all) (end_text (fault_of all)) front);
+      listed = report_listed caps.limits.budget file caps.limits.headers (style_of caps.style) parts (report_of caps.style.format all) (fault_of all) (record { text_is = refl; fault_is = refl });
+      wrote = wrote_front stop (report_of caps.style.format all) (fault_of all) is (TakesFront-more (lines_of all) (end_text caps.style.format (fault_of all)) front);
       refused = λ any e. cc;
     }
 
@@ -92,10 +93,10 @@ ended refusal all ends next =
 ended_listed : {a b : Written} (file : List ℕ) (caps : Caps) (parts : ℕ) (refusal : Refusal) (before limited after : Counting) → before.asked ≤ 2 ^ 127
     → Limits before limited caps.limits.budget → before.seen.size ≡ length file → BudgetSays limited after (archive_cost file caps.limits.headers (style_of caps.style) parts) refusal
     → (ends : EndsRefused a b refusal (items_with file caps parts))
-    → IsArchiveBudgeted caps.limits.budget file caps.limits.headers (style_of caps.style) parts (lines_of ends.front.front ++ refusal_line refusal) (Some refusal)
+    → IsArchiveBudgeted caps.limits.budget file caps.limits.headers (style_of caps.style) parts (lines_of ends.front.front ++ refusal_line caps.style.format refusal) (Some refusal)
 ended_listed file caps parts refusal before limited after small limits sized says ends = by_cause (is_budget refusal.cause)
   where
-    cut : (budget : Option ℕ) → caps.limits.budget ≡ budget → IsBudget refusal → IsArchiveBudgeted budget file caps.limits.headers (style_of caps.style) parts (lines_of ends.front.front ++ refusal_line refusal) (Some refusal)
+    cut : (budget : Option ℕ) → caps.limits.budget ≡ budget → IsBudget refusal → IsArchiveBudgeted budget file caps.limits.headers (style_of caps.style) parts (lines_of ends.front.front ++ refusal_line caps.style.format refusal) (Some refusal)
     cut None none for_budget =
         let over = (says for_budget).1 in
         let most = limits.most ∙ ap (option_map (counted before.asked)) none in
@@ -125,35 +126,35 @@ ended_listed file caps parts refusal before limited after small limits sized say
         )
 
     by_cause : (refusal.cause ≡ Budget) ⊎ (refusal.cause ≡ Budget → ⊥)
-        → IsArchiveBudgeted caps.limits.budget file caps.limits.headers (style_of caps.style) parts (lines_of ends.front.front ++ refusal_line refusal) (Some refusal)
+        → IsArchiveBudgeted caps.limits.budget file caps.limits.headers (style_of caps.style) parts (lines_of ends.front.front ++ refusal_line caps.style.format refusal) (Some refusal)
     by_cause (inl for_budget) = cut caps.limits.budget refl for_budget
     by_cause (inr other) =
         let all : List Item = items_with file caps parts in
         let is = ended refusal all ends (ends.next other) in
         report_listed caps.limits.budget file caps.limits.headers (style_of caps.style) parts _ _
-        (record { text_is = sym (ap (λ lines. lines ++ end_text (fault_of all)) is.0 ∙ ap (λ end. lines_of ends.front.front ++ end_text end) is.1); fault_is = sym is.1 })
+        (record { text_is = sym (ap (λ lines. lines ++ end_text caps.style.format (fault_of all)) is.0 ∙ ap (λ end. lines_of ends.front.front ++ end_text caps.style.format end) is.1); fault_is = sym is.1 })
 
 -- a listing that ended in a refusal, whose line was told
 ended_report : {a b c : Written} (file : List ℕ) (caps : Caps) (parts : ℕ) (refusal : Refusal) (told : Stop) (before limited after : Counting) → before.asked ≤ 2 ^ 127
     → Limits before limited caps.limits.budget → before.seen.size ≡ length file → BudgetSays limited after (archive_cost file caps.limits.headers (style_of caps.style) parts) refusal
-    → EndsRefused a b refusal (items_with file caps parts) → WroteRefusal b c refusal told → ReportsArchive file caps parts a c (Err told)
+    → EndsRefused a b refusal (items_with file caps parts) → WroteRefusal caps.style.format b c refusal told → ReportsArchive file caps parts a c (Err told)
 ended_report {a} {b} {c} file caps parts refusal told before limited after small limits sized says ends line = record {
-  text = lines_of ends.front.front ++ refusal_line refusal;
+  text = lines_of ends.front.front ++ refusal_line caps.style.format refusal;
   fault = Some refusal;
   listed = ended_listed file caps parts refusal before limited after small limits sized says ends;
   wrote = wrote told line;
   refused = λ any e. cc;
 }
   where
-    wrote : (told : Stop) → WroteRefusal b c refusal told → Wrote {X = Bool} a c (Err told) (lines_of ends.front.front ++ refusal_line refusal) (Some refusal)
-    wrote (Refused same) line = (Takes-then (lines_of ends.front.front) (refusal_line refusal) ends.front.takes line.1, ap Some line.0)
+    wrote : (told : Stop) → WroteRefusal caps.style.format b c refusal told → Wrote {X = Bool} a c (Err told) (lines_of ends.front.front ++ refusal_line caps.style.format refusal) (Some refusal)
+    wrote (Refused same) line = (Takes-then (lines_of ends.front.front) (refusal_line caps.style.format refusal) ends.front.takes line.1, ap Some line.0)
     wrote (Source cause at) line = absurd line
-    wrote (Out cause) line = TakesFront-then (lines_of ends.front.front) (refusal_line refusal) ends.front.takes line.1
+    wrote (Out cause) line = TakesFront-then (lines_of ends.front.front) (refusal_line caps.style.format refusal) ends.front.takes line.1
 
 -- a listing that stopped, and what was told of that
 pub stopped_archive : {a c : Written} (b : Written) (file : List ℕ) (caps : Caps) (parts : ℕ) (stop told : Stop) (before limited after : Counting) (out : Written) → before.asked ≤ 2 ^ 127
     → Limits before limited caps.limits.budget → before.seen.size ≡ length file → Explains limited after out (archive_cost file caps.limits.headers (style_of caps.style) parts) stop
-    → Stopped a b stop (archive_items file caps.limits.headers (style_of caps.style) parts) → TellsStop b c stop told → ReportsArchive file caps parts a c (Err told)
+    → Stopped a b stop (archive_items file caps.limits.headers (style_of caps.style) parts) → TellsStop caps.style.format b c stop told → ReportsArchive file caps parts a c (Err told)
 stopped_archive b file caps parts (Refused refusal) told before limited after out small limits sized says ends tells =
     ended_report file caps parts refusal told before limited after small limits sized says ends tells
 stopped_archive b file caps parts (Source cause at) told before limited after out small limits sized says ends tells =
@@ -183,21 +184,21 @@ asks_in_archive caps s0 s1 s2 s3 n result small set reads unset unread late =
     }
 
 -- a refusal that was told is the one that stopped the listing
-pub told_late : (s1 s2 : Counting) (a b out : Written) (n : ℕ) (stop told : Stop) → TellsStop a b stop told → Explains s1 s2 out n stop
+pub told_late : (format : Format) (s1 s2 : Counting) (a b out : Written) (n : ℕ) (stop told : Stop) → TellsStop format a b stop told → Explains s1 s2 out n stop
     → (refusal : Refusal) → told ≡ Refused refusal → BudgetSays s1 s2 n refusal
-told_late s1 s2 a b out n (Refused first) (Refused same) tells says refusal is =
+told_late format s1 s2 a b out n (Refused first) (Refused same) tells says refusal is =
     let all : first ≡ refusal = cc in subst (λ (r : Refusal). BudgetSays s1 s2 n r) all says
-told_late s1 s2 a b out n (Refused first) (Source cause at) tells says refusal is = absurd tells
-told_late s1 s2 a b out n (Refused first) (Out cause) tells says refusal is = cc
-told_late s1 s2 a b out n (Source cause at) told tells says refusal is = let other = tells.1 in cc
-told_late s1 s2 a b out n (Out cause) told tells says refusal is = let other = tells.1 in cc
+told_late format s1 s2 a b out n (Refused first) (Source cause at) tells says refusal is = absurd tells
+told_late format s1 s2 a b out n (Refused first) (Out cause) tells says refusal is = cc
+told_late format s1 s2 a b out n (Source cause at) told tells says refusal is = let other = tells.1 in cc
+told_late format s1 s2 a b out n (Out cause) told tells says refusal is = let other = tells.1 in cc
 
 -- what was told of a stop says of the source and the output what the stop did
-pub told_says : (s0 s1 s2 s3 : Counting) (a b : Written) (n : ℕ) (budget : Option ℕ) (stop told : Stop) → Limits s0 s1 budget → Limits s2 s3 None
-    → TellsStop a b stop told → Explains s1 s2 a n stop → ArchiveSays s0 s3 b told
-told_says s0 s1 s2 s3 a b n budget (Refused first) (Refused same) set unset tells says = tt
-told_says s0 s1 s2 s3 a b n budget (Refused first) (Source cause at) set unset tells says = absurd tells
-told_says s0 s1 s2 s3 a b n budget (Refused first) (Out cause) set unset tells says = tells.0
-told_says s0 s1 s2 s3 a b n budget (Source cause at) told set unset tells says =
+pub told_says : (format : Format) (s0 s1 s2 s3 : Counting) (a b : Written) (n : ℕ) (budget : Option ℕ) (stop told : Stop) → Limits s0 s1 budget → Limits s2 s3 None
+    → TellsStop format a b stop told → Explains s1 s2 a n stop → ArchiveSays s0 s3 b told
+told_says format s0 s1 s2 s3 a b n budget (Refused first) (Refused same) set unset tells says = tt
+told_says format s0 s1 s2 s3 a b n budget (Refused first) (Source cause at) set unset tells says = absurd tells
+told_says format s0 s1 s2 s3 a b n budget (Refused first) (Out cause) set unset tells says = tells.0
+told_says format s0 s1 s2 s3 a b n budget (Source cause at) told set unset tells says =
     rw (tells.1, unset.seen, sym set.seen) says
-told_says s0 s1 s2 s3 a b n budget (Out cause) told set unset tells says = rw (tells.0, tells.1) says
+told_says format s0 s1 s2 s3 a b n budget (Out cause) told set unset tells says = rw (tells.0, tells.1) says

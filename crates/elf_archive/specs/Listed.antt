@@ -9,6 +9,7 @@ use Rattle.elf_model.specs.Lines.{refusal_line}
 use Rattle.elf_model.specs.Listing.{Item, Fault, fault_of}
 use Rattle.elf_model.specs.Style.{Style}
 use Rattle.elf_model.specs.declared.causes.Refusal.{Refusal}
+use Rattle.elf_model.specs.declared.formats.Format.{Format}
 use Rattle.elf_source.specs.Source.{Counting, Faults, OverLimit, Reads}
 use Rattle.elf_source.specs.Ranges.{IsWhole}
 use Rattle.elf_source.specs.Output.{Written, Takes, TakesFront, OutFails}
@@ -44,25 +45,25 @@ abbrev pub behind_start : ℕ → ℕ → ℕ
 behind_start start at = min (start + at) (2 ^ 64 - 1)
 
 -- the line of a member's refusal was written, and the answer is that there was one; or the output failed
-abbrev pub WroteEnd : Written → Written → Refusal → Result Bool Stop → Type 0
-WroteEnd old new refusal (Ok refused) = (refused ≡ true) × Takes old new (refusal_line refusal)
-WroteEnd old new refusal (Err (Refused other)) = ⊥
-WroteEnd old new refusal (Err (Source fault at)) = ⊥
-WroteEnd old new refusal (Err (Out fault)) = OutFails new fault × TakesFront old new (refusal_line refusal)
+abbrev pub WroteEnd : Format → Written → Written → Refusal → Result Bool Stop → Type 0
+WroteEnd format old new refusal (Ok refused) = (refused ≡ true) × Takes old new (refusal_line format refusal)
+WroteEnd format old new refusal (Err (Refused other)) = ⊥
+WroteEnd format old new refusal (Err (Source fault at)) = ⊥
+WroteEnd format old new refusal (Err (Out fault)) = OutFails new fault × TakesFront old new (refusal_line format refusal)
 
 -- how the listing of a member that begins at an offset of a file ended, as the archive's listing has it: a refusal of the member
 -- is a line; what else stopped it stops the archive's listing, with an offset of the file
-abbrev pub TellsEnd : {X : Type 0} → ℕ → Written → Written → Result X Stop → Result Bool Stop → Type 0
-TellsEnd start old new (Ok x) result = (result ≡ Ok false) × (new ≡ old)
-TellsEnd start old new (Err (Refused refusal)) result =
+abbrev pub TellsEnd : {X : Type 0} → Format → ℕ → Written → Written → Result X Stop → Result Bool Stop → Type 0
+TellsEnd format start old new (Ok x) result = (result ≡ Ok false) × (new ≡ old)
+TellsEnd format start old new (Err (Refused refusal)) result =
     (IsBudget refusal → (result ≡ Err (Refused (record { at = behind_start start refusal.at; cause = refusal.cause }))) × (new ≡ old))
-    × ((IsBudget refusal → ⊥) → WroteEnd old new refusal result)
-TellsEnd start old new (Err (Source fault at)) result = (result ≡ Err (Source fault (behind_start start at))) × (new ≡ old)
-TellsEnd start old new (Err (Out fault)) result = (result ≡ Err (Out fault)) × (new ≡ old)
+    × ((IsBudget refusal → ⊥) → WroteEnd format old new refusal result)
+TellsEnd format start old new (Err (Source fault at)) result = (result ≡ Err (Source fault (behind_start start at))) × (new ≡ old)
+TellsEnd format start old new (Err (Out fault)) result = (result ≡ Err (Out fault)) × (new ≡ old)
 
 -- the listing of a member was written, its refusal as a line, and the answer is whether there was one
-abbrev pub ListsTold : Written → Written → Result Bool Stop → List Item → Type 0
-ListsTold old new result items = Writes old new result (told items) × IfOk result (λ refused. refused ≡ is_some (fault_of items))
+abbrev pub ListsTold : Format → Written → Written → Result Bool Stop → List Item → Type 0
+ListsTold format old new result items = Writes old new result (told format items) × IfOk result (λ refused. refused ≡ is_some (fault_of items))
 
 -- what is listed at the next place of a walk
 abbrev pub next_items : List ℕ → ℕ → Style → ℕ → Next → List Item

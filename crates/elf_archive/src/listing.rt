@@ -23,6 +23,7 @@ use crate::member::{Extent, Member};
 use elf_headers::{Caps, HeaderStore, Stop, Style};
 use elf_lines::{member_front, show_named, show_refusal};
 use elf_listing::{list, show_stop};
+use elf_model::Format;
 use elf_record::{Cause, Parts, Refusal};
 use elf_source::{Counted, Out, OutFault, RangeSource, Sink, Source};
 use elf_table::NameBuf;
@@ -78,7 +79,7 @@ pub fn show_archive<S: Source, W: Sink>(
     src.limit(None);
     match listed {
         Ok(refused) => Ok(refused),
-        Err(stop) => Err(show_stop(stop, out)),
+        Err(stop) => Err(show_stop(stop, caps.style.format, out)),
     }
 }
 
@@ -190,7 +191,7 @@ fn list_next<S: Source, W: Sink>(
     let Some(member) = cursor.advance(src, choice.style.cap, name)? else {
         return Ok(None);
     };
-    show_member(&member, name, out)?;
+    show_member(&member, name, choice.style.format, out)?;
     let refused = list_member(src, store, choice, member.extent, out)?;
     Ok(Some(refused))
 }
@@ -218,7 +219,7 @@ fn list_member<S: Source, W: Sink>(
         member.extent ≡ extent_of extent → Consumes src.old src.new out.new result
         (member_cost file store.old.slots (style_of choice.style) choice.parts.0 member) }
     ensures text { (file : List ℕ) → src.old.seen.file ≡ Some file → (member : Listed) →
-        member.extent ≡ extent_of extent → ListsTold out.old out.new result
+        member.extent ≡ extent_of extent → ListsTold choice.style.format out.old out.new result
         (member_listing file store.old.slots (style_of choice.style) choice.parts.0 member) }
 {
     if choice.parts.known(choice.style.gnu).0 == 0 {
@@ -254,13 +255,14 @@ fn list_range<S: Source, W: Sink>(
         (listing_cost (bytes_in file (extent_of extent)) store.old.slots
         (style_of choice.style) choice.parts.0) }
     ensures text { (file : List ℕ) → src.old.seen.file ≡ Some file →
-        ListsTold out.old out.new result (listing (bytes_in file (extent_of extent))
+        ListsTold choice.style.format out.old out.new result
+        (listing (bytes_in file (extent_of extent))
         store.old.slots (style_of choice.style) choice.parts.0) }
 {
     src.narrow(extent.at, extent.size);
     let listed = list(src, store, choice.style, choice.parts, out);
     src.widen();
-    tell_end(listed, extent.at, out)
+    tell_end(listed, extent.at, choice.style.format, out)
 }
 
 /// How the listing of a member that begins at the file offset `start` ended, as the archive's
@@ -269,13 +271,18 @@ fn list_range<S: Source, W: Sink>(
 /// # Errors
 /// What stops the archive's listing too, with an offset of the file: a refusal for want of budget,
 /// a fault of the source or of the output.
-fn tell_end<W: Sink>(listed: Result<(), Stop>, start: u64, out: &mut Out<W>) -> Result<bool, Stop>
+fn tell_end<W: Sink>(
+    listed: Result<(), Stop>,
+    start: u64,
+    format: Format,
+    out: &mut Out<W>,
+) -> Result<bool, Stop>
     ensures grows { Grows out.old out.new }
-    ensures tells { TellsEnd start out.old out.new listed result }
+    ensures tells { TellsEnd format start out.old out.new listed result }
 {
     match listed {
         Ok(()) => Ok(false),
-        Err(Stop::Refused(refusal)) => tell_refusal(refusal, start, out),
+        Err(Stop::Refused(refusal)) => tell_refusal(refusal, start, format, out),
         Err(Stop::Source { fault, at }) => Err(Stop::Source {
             fault,
             at: start.saturating_add(at),
@@ -288,9 +295,15 @@ fn tell_end<W: Sink>(listed: Result<(), Stop>, start: u64, out: &mut Out<W>) -> 
 ///
 /// # Errors
 /// As [`tell_end`].
-fn tell_refusal<W: Sink>(refusal: Refusal, start: u64, out: &mut Out<W>) -> Result<bool, Stop>
+fn tell_refusal<W: Sink>(
+    refusal: Refusal,
+    start: u64,
+    format: Format,
+    out: &mut Out<W>,
+) -> Result<bool, Stop>
     ensures grows { Grows out.old out.new }
-    ensures tells { TellsEnd {X = Unit {0}} start out.old out.new (Err (Stop.Refused refusal)) result }
+    ensures tells { TellsEnd {X = Unit {0}} format start out.old out.new
+        (Err (Stop.Refused refusal)) result }
 {
     if refusal.cause == Cause::Budget {
         return Err(Stop::Refused(Refusal {
@@ -298,7 +311,7 @@ fn tell_refusal<W: Sink>(refusal: Refusal, start: u64, out: &mut Out<W>) -> Resu
             cause: refusal.cause,
         }));
     }
-    show_refusal(refusal, out)?;
+    show_refusal(refusal, format, out)?;
     Ok(true)
 }
 
@@ -306,9 +319,14 @@ fn tell_refusal<W: Sink>(refusal: Refusal, start: u64, out: &mut Out<W>) -> Resu
 ///
 /// # Errors
 /// A fault of the output, with a front of the line written.
-fn show_member<W: Sink>(member: &Member, name: &NameBuf, out: &mut Out<W>) -> Result<(), OutFault>
-    ensures puts { Puts out.old out.new result (member_line (member_of member.now name.now)) }
+fn show_member<W: Sink>(
+    member: &Member,
+    name: &NameBuf,
+    format: Format,
+    out: &mut Out<W>,
+) -> Result<(), OutFault>
+    ensures puts { Puts out.old out.new result (member_line format (member_of member.now name.now)) }
 {
-    let front = member_front(member.index, member.extent.at, member.extent.size);
+    let front = member_front(member.index, member.extent.at, member.extent.size, format);
     show_named(front, name.bytes(), member.is_cut, out)
 }

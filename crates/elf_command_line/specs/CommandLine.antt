@@ -38,13 +38,17 @@ gnu_option = flag (codes "gnu")
 abbrev pub by_segments_option : Rule
 by_segments_option = flag (codes "by-segments")
 
+abbrev pub json_option : Rule
+json_option = flag (codes "json")
+
 abbrev pub file_argument : Rule
 file_argument = record (new_rule (codes "FILE")) { required = true }
 
 -- a command with the options of a listing
 abbrev pub with_listing_options : Words → App → App
 with_listing_options parts command =
-    with_rule (with_rule (with_rule (with_rule (with_rule (with_rule command headers_option) names_option) max_read_option) (only_option parts)) gnu_option) by_segments_option
+    with_rule (with_rule (with_rule (with_rule (with_rule (with_rule (with_rule command headers_option) names_option) max_read_option)
+    (only_option parts)) gnu_option) by_segments_option) json_option
 
 abbrev pub show_command : Words → App
 show_command parts = with_rule (with_listing_options parts (new_app (codes "show"))) file_argument

@@ -52,6 +52,12 @@ const BY_SEGMENTS: Word = Word {
     help: "Find tables by the program headers, as a loader does",
 };
 
+const JSON: Word = Word {
+    name: "json",
+    kind: Kind::Flag,
+    help: "Write each line as a JSON object",
+};
+
 const FILE: Word = Word {
     name: "FILE",
     kind: Kind::Needed,
@@ -118,14 +124,14 @@ const SHOW: Described = Described {
     name: "show",
     about: "List a file, whole or one part of it",
     more: "Example: elfsee show --only symbols /bin/ls",
-    words: &[HEADERS, NAMES, MAX_READ, ONLY, GNU, BY_SEGMENTS, FILE],
+    words: &[HEADERS, NAMES, MAX_READ, ONLY, GNU, BY_SEGMENTS, JSON, FILE],
 };
 
 const SAMPLE: Described = Described {
     name: "sample",
     about: "List a small file that the program carries",
     more: "Example: elfsee sample --only header",
-    words: &[HEADERS, NAMES, MAX_READ, ONLY, GNU, BY_SEGMENTS],
+    words: &[HEADERS, NAMES, MAX_READ, ONLY, GNU, BY_SEGMENTS, JSON],
 };
 
 const FIND: Described = Described {
@@ -146,14 +152,24 @@ const CHECK: Described = Described {
     name: "check",
     about: "Check many files: which are at fault, where and why",
     more: CHECKED,
-    words: &[HEADERS, NAMES, MAX_READ, ONLY, GNU, BY_SEGMENTS, LIST, PATH],
+    words: &[
+        HEADERS,
+        NAMES,
+        MAX_READ,
+        ONLY,
+        GNU,
+        BY_SEGMENTS,
+        JSON,
+        LIST,
+        PATH,
+    ],
 };
 
 const ARCHIVE: Described = Described {
     name: "archive",
     about: "List the members of an archive, such as a static library, and what is in each",
     more: MEMBERS,
-    words: &[HEADERS, NAMES, MAX_READ, ONLY, GNU, BY_SEGMENTS, FILE],
+    words: &[HEADERS, NAMES, MAX_READ, ONLY, GNU, BY_SEGMENTS, JSON, FILE],
 };
 
 const VERSION: Described = Described {

@@ -30,6 +30,7 @@ also --gnu, with it --by-segments, and apply --layout and --explain:
                 NAME@@VERSION
   --by-segments find tables by the program headers, as a loader does, and list the file, or with
                 find --gnu look NAME up in it, as if it had no section headers
+  --json        write each line as a JSON object, in a line of its own
   --layout LIST for apply only: take the items in the file LIST too, one a line, as many as
                 there are
   --explain     for apply only: where an address is missing, tell on standard error the type of

@@ -1,4 +1,5 @@
 -- What a budget allows, by the number of lines and the offset of the read; and what is shown, by what a budget allows.
+use Rattle.elf_model.specs.declared.formats.Format.TheVariants.{Columns}
 use Rattle.elf_model.specs.Style.{standard}
 use Rattle.std.proofs.Common.{◌≡◌, ◌<◌, ◌⊎◌, ℕ, List, ◌++◌, length, take, drop, Option, None, Some, refl, ap, sym, ◌∙◌, inl, inr}
 use Rattle.std.proofs.Math.Seq.{take-append_seam}
@@ -15,7 +16,7 @@ use Rattle.elf_examples.specs.ListedBudgets.{spent_at, EndsBehind, BudgetMayEndA
 abbrev pub CutBehind : ℕ → List Item → List ℕ → Option Refusal → Type 0
 CutBehind size all text fault =
     (count : ℕ) × (at : ℕ) × (fault ≡ Some (spent_at at)) × (at < size) × (fault_of (take count all) ≡ None)
-    × (text ≡ lines_of (take count all) ++ refusal_line (spent_at at))
+    × (text ≡ lines_of (take count all) ++ refusal_line Columns (spent_at at))
 
 front_taken : (all front rest : List Item) → all ≡ front ++ rest → take (length front) all ≡ front
 front_taken all front rest split = ap (take (length front)) split ∙ take-append_seam front rest
@@ -23,12 +24,12 @@ front_taken all front rest split = ap (take (length front)) split ∙ take-appen
 budget_spent : (refusal : Refusal) → IsBudget refusal → refusal ≡ spent_at refusal.at
 budget_spent refusal budget = rw budget refl
 
-pub cut_behind : (size : ℕ) (all : List Item) (text : List ℕ) (fault : Option Refusal) → IsCut size all text fault → CutBehind size all text fault
+pub cut_behind : (size : ℕ) (all : List Item) (text : List ℕ) (fault : Option Refusal) → IsCut Columns size all text fault → CutBehind size all text fault
 cut_behind size all text fault cut =
     let taken = front_taken all cut.front cut.rest cut.split in
     let spent = budget_spent cut.refusal cut.for_budget in
-    let lines = ap (λ front. lines_of front ++ refusal_line cut.refusal) (sym taken) in
-    let line = ap (λ refusal. lines_of (take (length cut.front) all) ++ refusal_line refusal) spent in (
+    let lines = ap (λ front. lines_of front ++ refusal_line Columns cut.refusal) (sym taken) in
+    let line = ap (λ refusal. lines_of (take (length cut.front) all) ++ refusal_line Columns refusal) spent in (
       length cut.front,
       cut.refusal.at,
       cut.fault_is ∙ ap Some spent,

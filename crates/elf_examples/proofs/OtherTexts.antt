@@ -1,5 +1,6 @@
 -- Texts that no budget allows, one by one.
 use Rattle.std.proofs.Common.{◌≡◌, ◌<◌, ℕ, zero, suc, List, [], ◌∷◌, ◌++◌, take, Option, None, Some, refl, ap, sym, ◌∙◌, codes, slice_index, arith}
+use Rattle.elf_model.specs.declared.formats.Format.TheVariants.{Columns}
 use Rattle.elf_model.specs.Budget.{IsCut}
 use Rattle.elf_model.specs.Causes.{cause_word}
 use Rattle.elf_model.specs.Lines.{refusal_line}
@@ -45,28 +46,28 @@ other_offset : CutBehind 64 [] (codes "! 0000000000000001 budget\n") (Some (spen
 unfolding on_literals
 other_offset (count, at, is, inside, none, text) =
     let place : 0 ≡ at = ap at_of is in
-    let line : codes "! 0000000000000001 budget\n" ≡ refusal_line (spent_at 0) =
-    text ∙ ap (λ lines. lines ++ refusal_line (spent_at at)) (no_line count) ∙ ap (λ at. refusal_line (spent_at at)) (sym place) in
-    clash 48 49 (omega arith) (same_byte 17 (refusal_line (spent_at 0)) (codes "! 0000000000000001 budget\n") (sym line))
+    let line : codes "! 0000000000000001 budget\n" ≡ refusal_line Columns (spent_at 0) =
+    text ∙ ap (λ lines. lines ++ refusal_line Columns (spent_at at)) (no_line count) ∙ ap (λ at. refusal_line Columns (spent_at at)) (sym place) in
+    clash 48 49 (omega arith) (same_byte 17 (refusal_line Columns (spent_at 0)) (codes "! 0000000000000001 budget\n") (sym line))
 
 not_first : CutBehind 64 (Line (codes "a") ∷ []) (codes "b! 0000000000000000 budget\n") (Some (spent_at 0)) → ⊥
 unfolding on_literals
-not_first (zero, at, is, inside, none, text) = clash 33 98 (omega arith) (same_byte 0 (lines_of (take 0 (Line (codes "a") ∷ [])) ++ refusal_line (spent_at at)) (codes "b! 0000000000000000 budget\n") (sym text))
-not_first (suc count, at, is, inside, none, text) = clash 97 98 (omega arith) (same_byte 0 (lines_of (take (suc count) (Line (codes "a") ∷ [])) ++ refusal_line (spent_at at)) (codes "b! 0000000000000000 budget\n") (sym text))
+not_first (zero, at, is, inside, none, text) = clash 33 98 (omega arith) (same_byte 0 (lines_of (take 0 (Line (codes "a") ∷ [])) ++ refusal_line Columns (spent_at at)) (codes "b! 0000000000000000 budget\n") (sym text))
+not_first (suc count, at, is, inside, none, text) = clash 97 98 (omega arith) (same_byte 0 (lines_of (take (suc count) (Line (codes "a") ∷ [])) ++ refusal_line Columns (spent_at at)) (codes "b! 0000000000000000 budget\n") (sym text))
 
 second_alone : CutBehind 64 (Line (codes "a") ∷ Line (codes "b") ∷ []) (codes "b! 0000000000000000 budget\n") (Some (spent_at 0)) → ⊥
 unfolding on_literals
-second_alone (zero, at, is, inside, none, text) = clash 33 98 (omega arith) (same_byte 0 (lines_of (take 0 (Line (codes "a") ∷ Line (codes "b") ∷ [])) ++ refusal_line (spent_at at)) (codes "b! 0000000000000000 budget\n") (sym text))
-second_alone (suc count, at, is, inside, none, text) = clash 97 98 (omega arith) (same_byte 0 (lines_of (take (suc count) (Line (codes "a") ∷ Line (codes "b") ∷ [])) ++ refusal_line (spent_at at)) (codes "b! 0000000000000000 budget\n") (sym text))
+second_alone (zero, at, is, inside, none, text) = clash 33 98 (omega arith) (same_byte 0 (lines_of (take 0 (Line (codes "a") ∷ Line (codes "b") ∷ [])) ++ refusal_line Columns (spent_at at)) (codes "b! 0000000000000000 budget\n") (sym text))
+second_alone (suc count, at, is, inside, none, text) = clash 97 98 (omega arith) (same_byte 0 (lines_of (take (suc count) (Line (codes "a") ∷ Line (codes "b") ∷ [])) ++ refusal_line Columns (spent_at at)) (codes "b! 0000000000000000 budget\n") (sym text))
 
 fault_and_budget : CutBehind 64 (Fault (record { at = 0; cause = Short }) ∷ []) (codes "! 0000000000000000 short\n! 0000000000000000 budget\n") (Some (spent_at 0)) → ⊥
 unfolding on_literals
 fault_and_budget (zero, at, is, inside, none, text) =
     clash 98 115 (omega arith)
-    (same_byte 19 (refusal_line (spent_at at)) (codes "! 0000000000000000 short\n! 0000000000000000 budget\n") (sym text))
+    (same_byte 19 (refusal_line Columns (spent_at at)) (codes "! 0000000000000000 short\n! 0000000000000000 budget\n") (sym text))
 fault_and_budget (suc count, at, is, inside, none, text) = cc
 
-no_cut : {size : ℕ} {all : List Item} {text : List ℕ} {fault : Option Refusal} → (CutBehind size all text fault → ⊥) → IsCut size all text fault → ⊥
+no_cut : {size : ℕ} {all : List Item} {text : List ℕ} {fault : Option Refusal} → (CutBehind size all text fault → ⊥) → IsCut Columns size all text fault → ⊥
 no_cut {size} {all} {text} {fault} never is = never (cut_behind size all text fault is)
 
 pub no_cuts : OtherTextsAreNoCuts

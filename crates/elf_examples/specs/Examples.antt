@@ -1,15 +1,16 @@
 -- Worked examples: what the definitions give for files that are written out.
 use Rattle.std.specs.Prelude.{◌≡◌, codes}
+use Rattle.elf_model.specs.declared.formats.Format.TheVariants.{Columns}
 use Rattle.elf_model.specs.Listing.{file_header_items, report_of, HEADER}
 use Rattle.elf_model.specs.Fixtures.{bare_header, one_symbol_table}
 
 -- a bare file header is listed in one line
 abbrev pub BareHeaderLists : Type 0
 BareHeaderLists =
-    report_of (file_header_items bare_header HEADER)
+    report_of Columns (file_header_items Columns bare_header HEADER)
     ≡ codes "H REL     62 0000000000000000 0000000000000000 0000000000000000 00000000     0     0     0\n"
 
 abbrev pub OneSymbolTableHeaderLists : Type 0
 OneSymbolTableHeaderLists =
-    report_of (file_header_items one_symbol_table HEADER)
+    report_of Columns (file_header_items Columns one_symbol_table HEADER)
     ≡ codes "H REL     62 0000000000000000 0000000000000000 0000000000000078 00000000     0     3     0\n"

@@ -6,6 +6,7 @@ pub mod ListedChecks
 pub mod ListedCosts
 pub mod ListedHeaders
 pub mod ListedMembers
+pub mod ListedObjects
 pub mod ListedOrder
 pub mod ListedOverlaps
 pub mod ListedParts

@@ -1,4 +1,5 @@
 -- Where a read budget ends a listing.
+use Rattle.elf_model.specs.declared.formats.Format.TheVariants.{Columns}
 use Rattle.elf_model.specs.Style.{standard}
 use Rattle.std.specs.Prelude.{ℕ, ◌≡◌, ◌<◌, ◌⊎◌, ◌++◌, List, [], ◌∷◌, length, take, Option, None, Some, codes}
 use Rattle.elf_model.specs.Answer.{Answer, IsShown, show_answer}
@@ -21,7 +22,7 @@ EndsBehind file headers cap parts budget count at text =
     (budget < cost file headers cap parts)
     × (at < length file)
     × (fault_of (take count (items file headers cap parts)) ≡ None)
-    × (text ≡ lines_of (take count (items file headers cap parts)) ++ refusal_line (spent_at at))
+    × (text ≡ lines_of (take count (items file headers cap parts)) ++ refusal_line Columns (spent_at at))
 
 -- such a text is what a budget allows
 abbrev pub BudgetMayEndAListing : Type 0
@@ -45,13 +46,13 @@ NothingElseIsAllowed =
 -- is not the first, the fault's line before the budget's
 abbrev pub OtherTextsAreNoCuts : Type 0
 OtherTextsAreNoCuts =
-    (IsCut 64 [] (codes "! 0000000000000040 budget\n") (Some (spent_at 64)) → ⊥)
-    × (IsCut 64 [] (codes "! 0000000000000000 short\n") (Some (record { at = 0; cause = Short })) → ⊥)
-    × (IsCut 64 [] (codes "! 0000000000000000 budget\n") None → ⊥)
-    × (IsCut 64 [] (codes "! 0000000000000001 budget\n") (Some (spent_at 0)) → ⊥)
-    × (IsCut 64 (Line (codes "a") ∷ []) (codes "b! 0000000000000000 budget\n") (Some (spent_at 0)) → ⊥)
-    × (IsCut 64 (Line (codes "a") ∷ Line (codes "b") ∷ []) (codes "b! 0000000000000000 budget\n") (Some (spent_at 0)) → ⊥)
-    × (IsCut 64 (Fault (record { at = 0; cause = Short }) ∷ [])
+    (IsCut Columns 64 [] (codes "! 0000000000000040 budget\n") (Some (spent_at 64)) → ⊥)
+    × (IsCut Columns 64 [] (codes "! 0000000000000000 short\n") (Some (record { at = 0; cause = Short })) → ⊥)
+    × (IsCut Columns 64 [] (codes "! 0000000000000000 budget\n") None → ⊥)
+    × (IsCut Columns 64 [] (codes "! 0000000000000001 budget\n") (Some (spent_at 0)) → ⊥)
+    × (IsCut Columns 64 (Line (codes "a") ∷ []) (codes "b! 0000000000000000 budget\n") (Some (spent_at 0)) → ⊥)
+    × (IsCut Columns 64 (Line (codes "a") ∷ Line (codes "b") ∷ []) (codes "b! 0000000000000000 budget\n") (Some (spent_at 0)) → ⊥)
+    × (IsCut Columns 64 (Fault (record { at = 0; cause = Short }) ∷ [])
     (codes "! 0000000000000000 short\n! 0000000000000000 budget\n") (Some (spent_at 0))
     → ⊥)
 
@@ -87,7 +88,7 @@ BudgetsThatEnd =
     × EndsBehind one_symbol_table 3 63 ALL 63 0 0 (codes "! 0000000000000000 budget\n")
     × EndsBehind one_symbol_table 3 63 ALL 64 1 0x78 header_and_budget
     × EndsBehind one_symbol_table 3 63 ALL 431 5 0x71
-    (lines_of (take 5 (items one_symbol_table 3 63 ALL)) ++ refusal_line (spent_at 0x71))
+    (lines_of (take 5 (items one_symbol_table 3 63 ALL)) ++ refusal_line Columns (spent_at 0x71))
 
 -- a budget of the cost allows the report alone: of a whole listing, and of the file header's line
 abbrev pub BudgetsThatSuffice : Type 0

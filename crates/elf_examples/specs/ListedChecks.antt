@@ -1,5 +1,6 @@
 -- Files among many: their states and their lines.
 use Rattle.std.specs.Prelude.{ℕ, ◌≡◌, [], ◌∷◌, ◌++◌, List, codes, take, map, Option, Some, None}
+use Rattle.elf_model.specs.declared.formats.Format.TheVariants.{Columns}
 use Rattle.elf_model.specs.Bytes.{little}
 use Rattle.elf_model.specs.Checking.{state_of, check_line, unnamed_line}
 use Rattle.elf_model.specs.Fixtures.{with_bytes, bare_header, one_symbol_table}
@@ -51,17 +52,17 @@ StatesWithinBudgets =
 -- a line each: the states' words in their column, where and why, and the path as names are spelt
 abbrev pub LinesOfStates : Type 0
 LinesOfStates =
-    (check_line state.Ok (codes "/usr/bin/ls") ≡ codes "C ok           - /usr/bin/ls\n")
-    × (check_line (refused (record { at = 0x28; cause = TableOutside })) (codes "broken.so")
+    (check_line Columns state.Ok (codes "/usr/bin/ls") ≡ codes "C ok           - /usr/bin/ls\n")
+    × (check_line Columns (refused (record { at = 0x28; cause = TableOutside })) (codes "broken.so")
     ≡ codes "C refused      0000000000000028 table-outside broken.so\n")
-    × (check_line state.NoElf (codes "/etc/passwd") ≡ codes "C no-elf       - /etc/passwd\n")
-    × (check_line state.Unread (codes "secret") ≡ codes "C unread       - secret\n")
-    × (check_line state.Memory (codes "a b") ≡ codes "C memory       - a b\n")
-    × (check_line state.Ok [] ≡ codes "C ok           - \n")
-    × (check_line state.Ok (27 ∷ 91 ∷ 10 ∷ 92 ∷ 0xc3 ∷ 0xa9 ∷ []) ≡ codes "C ok           - \\x1b[\\x0a\\\\\\xc3\\xa9\n")
+    × (check_line Columns state.NoElf (codes "/etc/passwd") ≡ codes "C no-elf       - /etc/passwd\n")
+    × (check_line Columns state.Unread (codes "secret") ≡ codes "C unread       - secret\n")
+    × (check_line Columns state.Memory (codes "a b") ≡ codes "C memory       - a b\n")
+    × (check_line Columns state.Ok [] ≡ codes "C ok           - \n")
+    × (check_line Columns state.Ok (27 ∷ 91 ∷ 10 ∷ 92 ∷ 0xc3 ∷ 0xa9 ∷ []) ≡ codes "C ok           - \\x1b[\\x0a\\\\\\xc3\\xa9\n")
 
 -- the last line, where paths could not be named
 abbrev pub LinesOfTheUnnamed : Type 0
 LinesOfTheUnnamed =
-    (unnamed_line 3 ≡ codes "C unnamed               3\n")
-    × (unnamed_line 1234567890 ≡ codes "C unnamed      1234567890\n")
+    (unnamed_line Columns 3 ≡ codes "C unnamed               3\n")
+    × (unnamed_line Columns 1234567890 ≡ codes "C unnamed      1234567890\n")

@@ -1,5 +1,6 @@
 -- Listings that end at the file header or at the load checks.
 use Rattle.std.specs.Prelude.{◌≡◌, ◌-◌, ◌^◌, [], ◌++◌, codes, take, map, replicate, Some, None}
+use Rattle.elf_model.specs.declared.formats.Format.TheVariants.{Columns}
 use Rattle.elf_model.specs.Listing.{HEADER, ALL}
 use Rattle.elf_model.specs.Report.{report}
 use Rattle.elf_model.specs.Bytes.{little}
@@ -31,7 +32,7 @@ ShortFilesAreRefused =
 abbrev pub EveryShortLengthIsRefused : Type 0
 EveryShortLengthIsRefused =
     map (λ n. report (take n one_symbol_table) 3 63 ALL) (numbers_from 0 64)
-    ≡ map (λ n. refusal_line (record { at = n; cause = Short })) (numbers_from 0 64)
+    ≡ map (λ n. refusal_line Columns (record { at = n; cause = Short })) (numbers_from 0 64)
 
 -- the file with one symbol table, cut to each length before its section headers end
 abbrev pub EveryCutLengthIsRefused : Type 0
@@ -48,7 +49,7 @@ LongFilesAreRefused =
     (first_refusal (length_checks (2 ^ 63)) ≡ Some (record { at = 2 ^ 63; cause = TooLong }))
     × (first_refusal (length_checks (2 ^ 64 - 1)) ≡ Some (record { at = 2 ^ 64 - 1; cause = TooLong }))
     × (first_refusal (length_checks (2 ^ 63 - 1)) ≡ None)
-    × (refusal_line (record { at = 2 ^ 63; cause = TooLong }) ≡ codes "! 8000000000000000 too-long\n")
+    × (refusal_line Columns (record { at = 2 ^ 63; cause = TooLong }) ≡ codes "! 8000000000000000 too-long\n")
 
 -- magic number, class, data encoding and version; the bytes behind the version, and e_version and e_ehsize, may be any
 abbrev pub IdentChecksInOrder : Type 0

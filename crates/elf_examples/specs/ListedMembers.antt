@@ -1,5 +1,6 @@
 -- Members of archives: their headers, their names, and their listings.
 use Rattle.std.specs.Prelude.{ℕ, ◌≡◌, ◌+◌, ◌*◌, ◌<◌, List, [], ◌∷◌, ◌++◌, codes, true, false, Option, None, Some}
+use Rattle.elf_model.specs.declared.formats.Format.TheVariants.{Columns}
 use Rattle.elf_model.specs.Archive.{archive, archive_items, is_elf, is_name_table, padded_decimal, told_size}
 use Rattle.elf_model.specs.ArchiveCost.{IsArchiveBudgeted, any_refused, archive_ceiling, archive_cost}
 use Rattle.elf_model.specs.Bytes.{little}
@@ -70,13 +71,13 @@ of_one content = archive_of (member (codes "a.o/") content)
 -- a style is that of the members' listings: the GNU system's names, and tables by the program headers, of which there are none
 abbrev pub StylesAreTheMembers : Type 0
 StylesAreTheMembers =
-    (report_of
-    (archive_items (of_one (with_bytes 0xbc (little 4 0x6ffffff6) one_symbol_table)) 3 (record { cap = 63; gnu = true; by_segments = false }) SECTIONS)
+    (report_of Columns
+    (archive_items (of_one (with_bytes 0xbc (little 4 0x6ffffff6) one_symbol_table)) 3 (record { cap = 63; gnu = true; by_segments = false; format = Columns }) SECTIONS)
     ≡ codes "A     0 0000000000000044 0000000000000138 a.o\n"
     ++ codes "S     0 NULL                       0000000000000000 0000000000000000 0000000000000000 00000000 00000000 \n"
     ++ codes "S     1 GNU_HASH                   0000000000000000 0000000000000040 0000000000000030 00000002 00000001 \n"
     ++ codes "S     2 STRTAB                     0000000000000000 0000000000000070 0000000000000006 00000000 00000000 \n")
-    × (report_of (archive_items (of_one one_symbol_table) 3 (record { cap = 63; gnu = false; by_segments = true }) SYMBOLS)
+    × (report_of Columns (archive_items (of_one one_symbol_table) 3 (record { cap = 63; gnu = false; by_segments = true; format = Columns }) SYMBOLS)
     ≡ codes "A     0 0000000000000044 0000000000000138 a.o\n")
 
 -- as many headers as are permitted are a member's too
@@ -123,7 +124,7 @@ BudgetsThatCarryArchives =
 -- and every budget of less one that ends before the member's line for want of it too, at a read in the file
 abbrev pub BudgetsThatEndArchives : Type 0
 BudgetsThatEndArchives =
-    (budget at : ℕ) → budget < 68 → at < 68 → Allows (Some budget) (refusal_line (spent_at at)) (Some (spent_at at))
+    (budget at : ℕ) → budget < 68 → at < 68 → Allows (Some budget) (refusal_line Columns (spent_at at)) (Some (spent_at at))
 
 -- and nothing but its want ends it
 abbrev pub CutsOfArchivesAreForBudget : Type 0

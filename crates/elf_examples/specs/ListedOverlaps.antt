@@ -1,5 +1,6 @@
 -- Listings by the program headers of files whose LOAD segments lie over each other.
 use Rattle.std.specs.Prelude.{◌≡◌, ℕ, ◌+◌, ◌-◌, ◌^◌, true, false, List, [], ◌++◌, None, codes}
+use Rattle.elf_model.specs.declared.formats.Format.TheVariants.{Columns}
 use Rattle.elf_model.specs.Bytes.{little}
 use Rattle.elf_model.specs.Cost.{listing_cost}
 use Rattle.elf_model.specs.Listing.{report_of, fault_of, HEADER, SECTIONS, SEGMENTS, SYMBOLS, NOTES, DYNAMIC, ALL}
@@ -10,7 +11,7 @@ use Rattle.elf_model.specs.FixturesTables.{program_header}
 use Rattle.elf_model.specs.FixturesSegments.{object, object_with}
 
 abbrev by_segments : Style
-by_segments = record { cap = 63; gnu = false; by_segments = true }
+by_segments = record { cap = 63; gnu = false; by_segments = true; format = Columns }
 
 -- a segment that is loaded at an address, of so many bytes in memory, with none of them in the file
 abbrev load : (address size : ℕ) → List ℕ
@@ -18,7 +19,7 @@ load address size = with_bytes 0x20 (little 8 0) (program_header 1 6 0 address s
 
 -- the listing of the program headers ends at once, at one of them; or it has no fault
 abbrev Refused : ℕ → List ℕ → List ℕ → Type 0
-Refused count headers line = report_of (listing (object count headers) 8 by_segments SEGMENTS) ≡ line
+Refused count headers line = report_of Columns (listing (object count headers) 8 by_segments SEGMENTS) ≡ line
 
 abbrev Listed : ℕ → List ℕ → Type 0
 Listed count headers = fault_of (listing (object count headers) 8 by_segments SEGMENTS) ≡ None
@@ -75,13 +76,13 @@ covered_lines =
 -- with sections; and a listing that is not by the program headers has none
 abbrev pub OverlapsBySegmentsAlone : Type 0
 OverlapsBySegmentsAlone =
-    (report_of (listing covered 8 by_segments ALL)
+    (report_of Columns (listing covered 8 by_segments ALL)
     ≡ codes "H DYN     62 0000000000000000 0000000000000040 0000000000000000 00000000     2     0     0\n"
     ++ codes "! 0000000000000078 load-overlap\n")
-    × (report_of (listing covered 8 by_segments NOTES) ≡ codes "! 0000000000000078 load-overlap\n")
-    × (report_of (listing covered 8 by_segments DYNAMIC) ≡ codes "! 0000000000000078 load-overlap\n")
-    × (report_of (listing covered 8 by_segments (SECTIONS + SYMBOLS)) ≡ [])
-    × (report_of (listing (object_with 0xb0 1 2 (load 0x400000 0x1000 ++ load 0x400800 0x10 ++ section_header 0 0 0 0 0 0 0 0)) 8 by_segments SEGMENTS)
+    × (report_of Columns (listing covered 8 by_segments NOTES) ≡ codes "! 0000000000000078 load-overlap\n")
+    × (report_of Columns (listing covered 8 by_segments DYNAMIC) ≡ codes "! 0000000000000078 load-overlap\n")
+    × (report_of Columns (listing covered 8 by_segments (SECTIONS + SYMBOLS)) ≡ [])
+    × (report_of Columns (listing (object_with 0xb0 1 2 (load 0x400000 0x1000 ++ load 0x400800 0x10 ++ section_header 0 0 0 0 0 0 0 0)) 8 by_segments SEGMENTS)
     ≡ codes "! 0000000000000078 load-overlap\n")
     × (report covered 8 63 SEGMENTS ≡ covered_lines)
     × (report covered 8 63 NOTES ≡ [])
@@ -89,6 +90,6 @@ OverlapsBySegmentsAlone =
 -- the file's own checks stand before it, and it asks for nothing more
 abbrev pub OverlapsBehindTheLoad : Type 0
 OverlapsBehindTheLoad =
-    (report_of (listing covered 1 by_segments SEGMENTS) ≡ codes "! 0000000000000038 too-many-headers\n")
+    (report_of Columns (listing covered 1 by_segments SEGMENTS) ≡ codes "! 0000000000000038 too-many-headers\n")
     × (listing_cost covered 8 by_segments SEGMENTS ≡ 64 + 112)
     × (listing_cost covered 8 by_segments SYMBOLS ≡ 64)

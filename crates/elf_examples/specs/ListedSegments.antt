@@ -1,5 +1,6 @@
 -- Listings of notes and dynamic entries in files without sections: the program headers describe the tables.
 use Rattle.std.specs.Prelude.{◌≡◌, ℕ, ◌+◌, ◌-◌, ◌*◌, ◌^◌, true, false, List, [], ◌∷◌, ◌++◌, codes, take}
+use Rattle.elf_model.specs.declared.formats.Format.TheVariants.{Columns}
 use Rattle.elf_model.specs.Bytes.{little}
 use Rattle.elf_model.specs.Cost.{cost, listing_cost, ceiling}
 use Rattle.elf_model.specs.Listing.{report_of, SEGMENTS, SYMBOLS, NOTES, DYNAMIC, ALL}
@@ -332,17 +333,17 @@ abbrev hidden : List ℕ
 hidden = with_bytes 0x28 (little 8 0x1000) (with_bytes 0x3c (little 2 3 ++ little 2 7) library_without_sections)
 
 abbrev by_segments : Style
-by_segments = record { cap = 63; gnu = false; by_segments = true }
+by_segments = record { cap = 63; gnu = false; by_segments = true; format = Columns }
 
 abbrev pub SegmentsDespiteSections : Type 0
 SegmentsDespiteSections =
-    (report_of (listing hidden 2 by_segments ALL)
+    (report_of Columns (listing hidden 2 by_segments ALL)
     ≡ codes "H DYN     62 0000000000000000 0000000000000040 0000000000001000 00000000     2     3     7\n"
     ++ codes "P     0 LOAD     R-X 0000000000000000 0000000000400000 0000000000400000 00000000000000fb 00000000000000fb 0000000000001000\n"
     ++ codes "P     1 DYNAMIC  RW- 00000000000000b0 00000000004000b0 00000000004000b0 0000000000000040 0000000000000040 0000000000000008\n"
     ++ needed_lines)
     × (report hidden 3 63 DYNAMIC ≡ codes "! 000000000000003a entry-size\n")
-    × (report_of (listing hidden 1 by_segments DYNAMIC) ≡ codes "! 0000000000000038 too-many-headers\n")
+    × (report_of Columns (listing hidden 1 by_segments DYNAMIC) ≡ codes "! 0000000000000038 too-many-headers\n")
     × (listing_cost hidden 2 by_segments ALL ≡ 560)
-    × (report_of (listing library_without_sections 2 by_segments ALL) ≡ report library_without_sections 2 63 ALL)
-    × (report_of (listing one_symbol_table 3 by_segments (SYMBOLS + DYNAMIC)) ≡ [])
+    × (report_of Columns (listing library_without_sections 2 by_segments ALL) ≡ report library_without_sections 2 63 ALL)
+    × (report_of Columns (listing one_symbol_table 3 by_segments (SYMBOLS + DYNAMIC)) ≡ [])

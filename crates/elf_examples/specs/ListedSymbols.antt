@@ -1,5 +1,6 @@
 -- Listings of symbols.
 use Rattle.std.specs.Prelude.{◌≡◌, [], ◌++◌, codes, true, false}
+use Rattle.elf_model.specs.declared.formats.Format.TheVariants.{Columns}
 use Rattle.elf_model.specs.Listing.{SYMBOLS, ALL}
 use Rattle.elf_model.specs.Report.{report}
 use Rattle.elf_model.specs.Bytes.{little}
@@ -177,8 +178,8 @@ EmptySymbolTableIsNotChecked =
 -- the lines of a lookup: the symbol with the wanted name, whole, and the number of symbols compared
 abbrev pub LookupLinesList : Type 0
 LookupLinesList =
-    (named_line (symbol_front false 62 hash_with_cycle 0x88 2 2) (Whole (codes "b")) ++ steps_line true 2
+    (named_line (symbol_front Columns false 62 hash_with_cycle 0x88 2 2) (Whole (codes "b")) ++ steps_line Columns true 2
     ≡ codes "Y     2          2 0000000000000020 0000000000000000 FUNC    GLOBAL DEFAULT   ABS   b\n"
     ++ codes "F found           2\n")
-    × (steps_line false 2 ≡ codes "F absent          2\n")
-    × (steps_line false 0 ≡ codes "F absent          0\n")
+    × (steps_line Columns false 2 ≡ codes "F absent          2\n")
+    × (steps_line Columns false 0 ≡ codes "F absent          0\n")

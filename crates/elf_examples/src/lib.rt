@@ -11,6 +11,7 @@ mod listed_checks;
 mod listed_costs;
 mod listed_headers;
 mod listed_members;
+mod listed_objects;
 mod listed_order;
 mod listed_overlaps;
 mod listed_parts;

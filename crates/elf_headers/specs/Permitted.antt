@@ -8,7 +8,7 @@ use Rattle.elf_headers.specs.declared.caps.Style.{Style}
 
 -- a style as the definitions of listings have it
 abbrev pub style_of : Style → Styled
-style_of style = record { cap = style.cap.bytes; gnu = style.gnu; by_segments = style.by_segments }
+style_of style = record { cap = style.cap.bytes; gnu = style.gnu; by_segments = style.by_segments; format = style.format }
 
 -- how many headers may be permitted
 abbrev pub AreHeaders : ℕ → Type 0

@@ -1,6 +1,8 @@
 //! How much of a file may be read and shown.
 ghost use Rattle.std.specs.Prelude.{◌≤◌};
 
+use elf_model::Format;
+
 /// The most headers that may be permitted.
 const MOST_HEADERS: u16 = 65_279;
 /// The most bytes of a name that may be shown.
@@ -30,7 +32,7 @@ impl Cap {
 }
 
 /// How rows are shown: how many bytes of a name, whether numbers of the GNU system have names beside
-/// those of the standards, and by which headers tables are found.
+/// those of the standards, by which headers tables are found, and how a line is written.
 #[derive(Clone, Copy)]
 pub struct Style {
     /// How many bytes of a name are shown.
@@ -39,6 +41,8 @@ pub struct Style {
     pub gnu: bool,
     /// Whether tables are found by the program headers also where there are section headers.
     pub by_segments: bool,
+    /// How a line is written.
+    pub format: Format,
 }
 
 impl Style {
@@ -46,8 +50,8 @@ impl Style {
     ghost use Rattle.elf_model.specs.Style.{standard};
     ghost use Rattle.elf_headers.specs.Permitted.{style_of};
 
-    /// So many bytes of a name, the names of the standards alone, and tables found by the section
-    /// headers where there are some.
+    /// So many bytes of a name, the names of the standards alone, tables found by the section headers
+    /// where there are some, and lines in columns.
     pub fn standard(cap: Cap) -> Style
         ensures same { result.cap ≡ cap }
         ensures style { style_of result ≡ standard cap.bytes }
@@ -56,6 +60,7 @@ impl Style {
             cap,
             gnu: false,
             by_segments: false,
+            format: Format::Columns,
         }
     }
 }

@@ -1,5 +1,10 @@
 -- A text that is written in pieces, each put together in a line first.
-use Rattle.std.specs.Prelude.{ℕ, ◌≡◌, Bool, true, false, List, ◌++◌, Result, Ok, Err}
+use Rattle.std.specs.Prelude.{ℕ, ◌≡◌, if◌then◌else◌, Bool, true, false, List, [], ◌∷◌, ◌++◌, codes, Result, Ok, Err}
+use Rattle.elf_model.specs.Fields.{member_key, string_text}
+use Rattle.elf_model.specs.Lines.{name_byte_text, cut_mark}
+use Rattle.elf_model.specs.Text.{newline}
+use Rattle.elf_model.specs.declared.formats.Format.{Format}
+use Rattle.elf_model.specs.declared.formats.Format.TheVariants.{Columns, Object}
 use Rattle.elf_model.specs.Names.{Shown}
 use Rattle.elf_model.specs.Names.Shown.{Whole, Cut}
 use Rattle.elf_source.specs.declared.faults.OutFault.{OutFault}
@@ -21,3 +26,23 @@ PutsBefore old new (Err fault) text rest = TakesFront old new text × OutFails n
 abbrev pub shown_as : Bool → List ℕ → Shown
 shown_as true name = Cut name
 shown_as false name = Whole name
+
+-- what stands before a name of a key
+unfoldable pub name_start : Format → List ℕ → List ℕ
+name_start Columns key = []
+name_start Object key = member_key key ++ 34 ∷ []
+
+-- a byte of a name
+unfoldable pub byte_text : Format → ℕ → List ℕ
+byte_text Columns byte = name_byte_text byte
+byte_text Object byte = string_text (name_byte_text byte)
+
+-- the bytes of a name
+unfoldable pub spelt : Format → List ℕ → List ℕ
+spelt format [] = []
+spelt format (byte ∷ bytes) = byte_text format byte ++ spelt format bytes
+
+-- what stands behind a name, by whether it was cut
+unfoldable pub name_end : Format → Bool → List ℕ
+name_end Columns is_cut = (if is_cut then cut_mark else []) ++ newline
+name_end Object is_cut = codes "\"" ++ (if is_cut then codes ",\"cut\":true" else []) ++ codes "}\n"

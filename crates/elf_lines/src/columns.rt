@@ -2,11 +2,11 @@
 ghost use Rattle.std.specs.Prelude.{◌≡◌, ◌+◌, ◌<◌, ◌≤◌, ◌++◌, ◌∷◌, [], if◌then◌else◌, length, max};
 ghost use Rattle.std.specs.Prelude.{IfSome, unwrap_or, option_copied};
 ghost use Rattle.arrayvec.specs.ArrayVec.{array_vec_len};
-ghost use Rattle.elf_model.specs.Text.{digit, hex, space, spaces, left_in, right_in, right_decimal};
-ghost use Rattle.elf_model.specs.NameTables.{name_or_decimal};
+ghost use Rattle.elf_model.specs.Text.{digit, hex, space, spaces, left_in, right_in};
+ghost use Rattle.elf_model.specs.NameTables.{number_sign};
 
 use arrayvec::ArrayVec;
-use itoa::Buffer;
+use itoa::{Buffer, Integer};
 
 /// The bytes that a line may have, but for its name.
 pub const LINE_BYTES: usize = 256;
@@ -47,30 +47,31 @@ pub fn put_spaces(line: &mut Line, count: usize)
     }
 }
 
-/// Puts a text at the left of a column of this width, and a space. A longer text is not cut.
+/// Puts a text at the left of a column of this width, and the byte that ends the column. A longer
+/// text is not cut.
 #[tactic(auto, unfolding(elf_model::specs::Text::left_in))]
-pub fn put_left(line: &mut Line, width: usize, text: &[u8])
+pub(crate) fn put_left(line: &mut Line, width: usize, text: &[u8], end: u8)
     requires { array_vec_len line.old + (max width (length text.now) + 1) ≤ 256 }
-    ensures items { line.new.items ≡ line.old.items ++ left_in width text.now ++ space }
+    ensures items { line.new.items ≡ line.old.items ++ left_in width text.now ++ end ∷ [] }
     ensures len { array_vec_len line.new
         ≡ array_vec_len line.old + (max width (length text.now) + 1) }
 {
     put(line, text);
     put_spaces(line, width.saturating_sub(text.len()));
-    put(line, b" ");
+    line.push(end);
 }
 
 /// Puts a name at the left of a column of this width, or the last hexadecimal digits of a number
 /// that has none, and a space.
 #[tactic(auto, using(crate::proofs::Digits::length_hex), unfolding(elf_model::specs::Text::left_in))]
-pub fn put_name_or_hex(
+pub(crate) fn put_name_or_digits(
     line: &mut Line,
     width: usize,
-    name: Option<&'static str>,
     digits: u32,
+    name: Option<&'static str>,
     number: u64,
 )
-    requires room { array_vec_len line.old + 32 ≤ 256 }
+    requires room { array_vec_len line.old + (width + 1) ≤ 256 }
     requires width { width ≤ 16 }
     requires digits { digits ≤ width }
     requires short { IfSome name (λ name. length name.now ≤ width) }
@@ -79,7 +80,7 @@ pub fn put_name_or_hex(
     ensures len { array_vec_len line.new ≡ array_vec_len line.old + (width + 1) }
 {
     match name {
-        Some(name) => put_left(line, width, name.as_bytes()),
+        Some(name) => put_left(line, width, name.as_bytes(), b' '),
         None => {
             put_hex(line, digits, number);
             put_spaces(line, width - digits as usize);
@@ -88,13 +89,14 @@ pub fn put_name_or_hex(
     }
 }
 
-/// Puts a decimal number at the right of a column of this width, and the byte that ends it. A
-/// longer number is not cut.
-#[tactic(auto, unfolding(elf_model::specs::Text::right_decimal, elf_model::specs::Text::right_in))]
-pub fn put_decimal(line: &mut Line, width: usize, number: u64, end: u8)
-    requires { array_vec_len line.old + (max width 20 + 1) ≤ 256 }
-    ensures items { line.new.items ≡ line.old.items ++ right_decimal width number ++ end ∷ [] }
-    ensures len { array_vec_len line.new ≤ array_vec_len line.old + (max width 20 + 1) }
+/// Puts a decimal number at the right of a column of this width, and the byte that ends the column.
+/// A longer number is not cut.
+#[tactic(auto, unfolding(elf_model::specs::Text::right_in))]
+pub(crate) fn put_right<I: Integer>(line: &mut Line, width: usize, number: I, end: u8)
+    requires { array_vec_len line.old + (max width I.MAX_STR_LEN + 1) ≤ 256 }
+    ensures items { line.new.items ≡ line.old.items ++ right_in width (I.text number) ++ end ∷ [] }
+    ensures len { array_vec_len line.new
+        ≤ array_vec_len line.old + (max width I.MAX_STR_LEN + 1) }
 {
     let mut buffer = Buffer::new();
     let text = buffer.format(number).as_bytes();
@@ -103,19 +105,26 @@ pub fn put_decimal(line: &mut Line, width: usize, number: u64, end: u8)
     line.push(end);
 }
 
-/// Puts a name at the left of a column of this width, or a decimal number that has none at the
-/// right of it, and a space. A longer number is not cut.
-pub fn put_name_or_decimal(line: &mut Line, width: usize, name: Option<&'static str>, number: u64)
-    requires room { array_vec_len line.old + (max width 20 + 1) ≤ 256 }
-    requires short { IfSome name (λ name. length name.now ≤ width) }
-    ensures items { let text = name_or_decimal width (option_copied name.entry) number in
-        line.new.items ≡ line.old.items ++ text ++ space }
-    ensures len { array_vec_len line.new ≤ array_vec_len line.old + (max width 20 + 1) }
+/// Puts a number behind a sign of one at the left of a column of ten, and a space.
+#[tactic(auto, unfolding(elf_model::specs::NameTables::number_sign))]
+pub(crate) fn put_number_sign(line: &mut Line, number: u32)
+    requires { array_vec_len line.old + 12 ≤ 256 }
+    ensures items { line.new.items ≡ line.old.items ++ left_in 10 (number_sign number) ++ space }
+    ensures len { array_vec_len line.new ≤ array_vec_len line.old + 12 }
 {
-    match name {
-        Some(name) => put_left(line, width, name.as_bytes()),
-        None => put_decimal(line, width, number, b' '),
-    }
+    put_left(line, 10, &number_sign(number), b' ');
+}
+
+/// A number behind a sign of one.
+#[tactic(auto, unfolding(elf_model::specs::NameTables::number_sign))]
+pub(crate) fn number_sign(number: u32) -> Line
+    ensures text { result.items ≡ number_sign number }
+    ensures short { array_vec_len result ≤ 11 }
+{
+    let mut line = line_of(b"#");
+    let mut buffer = Buffer::new();
+    put(&mut line, buffer.format(number).as_bytes());
+    line
 }
 
 /// Puts a text at the end where a condition holds, else nothing.
@@ -143,33 +152,15 @@ pub fn put_hex(line: &mut Line, digits: u32, number: u64)
     }
 }
 
-/// Puts a number of 64 bits in its sixteen hexadecimal digits, and a space.
-pub fn put_xword(line: &mut Line, number: u64)
-    requires { array_vec_len line.old + 17 ≤ 256 }
-    ensures items { line.new.items ≡ line.old.items ++ hex 16 number ++ space }
-    ensures len { array_vec_len line.new ≡ array_vec_len line.old + 17 }
+/// Puts the last hexadecimal digits of a number, and the byte that ends the column.
+pub(crate) fn put_digits(line: &mut Line, digits: u32, number: u64, end: u8)
+    requires room { array_vec_len line.old + digits + 1 ≤ 256 }
+    requires digits { digits ≤ 16 }
+    ensures items { line.new.items ≡ line.old.items ++ hex digits number ++ end ∷ [] }
+    ensures len { array_vec_len line.new ≡ array_vec_len line.old + digits + 1 }
 {
-    put_hex(line, 16, number);
-    put(line, b" ");
-}
-
-/// Puts a number of 32 bits in its eight hexadecimal digits, and a space.
-pub fn put_word(line: &mut Line, number: u32)
-    requires { array_vec_len line.old + 9 ≤ 256 }
-    ensures items { line.new.items ≡ line.old.items ++ hex 8 number ++ space }
-    ensures len { array_vec_len line.new ≡ array_vec_len line.old + 9 }
-{
-    put_hex(line, 8, u64::from(number));
-    put(line, b" ");
-}
-
-/// Puts a number of 16 bits, in decimal at the right of five columns, and a space.
-pub fn put_half(line: &mut Line, number: u16)
-    requires { array_vec_len line.old + 21 ≤ 256 }
-    ensures items { line.new.items ≡ line.old.items ++ right_decimal 5 number ++ space }
-    ensures len { array_vec_len line.new ≤ array_vec_len line.old + 21 }
-{
-    put_decimal(line, 5, u64::from(number), b' ');
+    put_hex(line, digits, number);
+    line.push(end);
 }
 
 #[tactic(auto, unfolding(elf_model::specs::Text::digit))]

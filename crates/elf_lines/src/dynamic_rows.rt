@@ -4,9 +4,11 @@ ghost use Rattle.elf_model.specs.Text.{name_of};
 ghost use Rattle.elf_model.specs.NameTables.{dynamic_tags};
 ghost use Rattle.elf_model.specs.LineFronts.{dynamic_front};
 ghost use Rattle.elf_record.specs.Dyn.{IsDyn};
+ghost use Rattle.elf_lines.specs.Fronts.{front_of};
 
-use crate::columns::{Line, line_of, put_decimal, put_name_or_hex, put_xword};
+use crate::fields::{LineFront, NamedNumber, begin, put_decimal, put_name_or_hex, put_xword};
 use crate::name_tables::name_of_either;
+use elf_model::Format;
 use elf_record::Dyn;
 use elf_record::gnu_numbers::{
     DT_AUDIT, DT_AUXILIARY, DT_CHECKSUM, DT_CONFIG, DT_DEPAUDIT, DT_FEATURE, DT_FILTER, DT_FLAGS_1,
@@ -26,17 +28,30 @@ use elf_record::numbers::{
 /// The `D` line of a dynamic entry up to the name: its index in its table, tag and value (gABI 5,
 /// Dynamic Section); `gnu` says whether tags of the GNU system have names. The space before the name
 /// is the last byte.
-pub fn dynamic_front(index: u64, entry: &Dyn, gnu: bool) -> Line
+pub fn dynamic_front(index: u64, entry: &Dyn, gnu: bool, format: Format) -> LineFront
     // A tag is read as a signed number, and shown as its bits.
-    ensures { (file : List ℕ) (at : ℕ) → IsDyn file at entry.now →
-        result.items ≡ dynamic_front gnu file at index }
+    ensures front { (file : List ℕ) (at : ℕ) → IsDyn file at entry.now →
+        front_of result ≡ dynamic_front format gnu file at index }
+    ensures key { length result.key.now ≤ 16 }
 {
-    let tag = entry.d_tag.cast_unsigned();
-    let mut line = line_of(b"D ");
-    put_decimal(&mut line, 5, index, b' ');
-    put_name_or_hex(&mut line, 16, tag_name(tag, gnu), 16, tag);
-    put_xword(&mut line, entry.d_un);
-    line
+    let number = entry.d_tag.cast_unsigned();
+    let name = tag_name(number, gnu);
+    let mut line = begin(format, b"D");
+    put_decimal(&mut line, format, b"index", 5, index, b' ');
+    put_name_or_hex(
+        &mut line,
+        format,
+        b"tag",
+        16,
+        16,
+        NamedNumber { name, number },
+    );
+    put_xword(&mut line, format, b"value", entry.d_un, b' ');
+    LineFront {
+        line,
+        format,
+        key: b"string",
+    }
 }
 
 /// The name of a dynamic array tag.

@@ -8,10 +8,10 @@ ghost use Rattle.elf_model.specs.NameTables.{number_sign, relocation_types};
 ghost use Rattle.elf_source.specs.Output.{Puts};
 ghost use Rattle.elf_lines.specs.Pieces.{shown_as};
 
-use crate::columns::{Line, line_of, put};
-use crate::named::show_around;
-use crate::relocation_rows::{number_sign, relocation_type_name};
-use elf_model::{Base, Missing, Wanted};
+use crate::columns::{Line, line_of, number_sign, put};
+use crate::named::show_spelt;
+use crate::relocation_rows::relocation_type_name;
+use elf_model::{Base, Format, Missing, Wanted};
 use elf_source::{Out, OutFault, Sink};
 use itoa::Buffer;
 
@@ -159,4 +159,20 @@ fn show_item<W: Sink>(
     ensures puts { Puts out.old out.new result (item_text word.now (escaped name.now) tail.now) }
 {
     show_around(line_of(word), name, tail, out)
+}
+
+/// Writes what stands before a name, the name as it is spelt in columns, and what stands behind it.
+///
+/// # Errors
+/// A fault of the output, with a front of the text written.
+fn show_around<W: Sink>(
+    front: Line,
+    name: &[u8],
+    tail: &[u8],
+    out: &mut Out<W>,
+) -> Result<(), OutFault>
+    requires { length tail.now ≤ 256 }
+    ensures puts { Puts out.old out.new result ((front.items ++ escaped name.now) ++ tail.now) }
+{
+    show_spelt(front, Format::Columns, name, tail, out)
 }

@@ -1,65 +1,170 @@
 //! Lines with a name, which is of any length: a line is written in pieces.
-ghost use Rattle.std.specs.Prelude.{◌≡◌, ◌+◌, ◌≤◌, ◌++◌, length, IsOk};
+ghost use Rattle.std.specs.Prelude.{◌≡◌, ℕ, ◌+◌, ◌<◌, ◌≤◌, [], ◌∷◌, ◌++◌, length};
+ghost use Rattle.std.specs.Prelude.{slice_index, IsOk};
 ghost use Rattle.arrayvec.specs.ArrayVec.{array_vec_len};
-ghost use Rattle.elf_model.specs.Lines.{escaped, named_line, name_byte_text};
+ghost use Rattle.elf_model.specs.Lines.{named_line, name_byte_text};
 ghost use Rattle.elf_source.specs.Output.{Puts};
-ghost use Rattle.elf_lines.specs.Pieces.{PutsBefore, shown_as};
+ghost use Rattle.elf_lines.specs.Fronts.{front_of};
+ghost use Rattle.elf_lines.specs.Pieces.{PutsBefore, byte_text, name_end, name_start, shown_as};
+ghost use Rattle.elf_lines.specs.Pieces.{spelt};
 
 use crate::columns::{LINE_BYTES, Line, put, put_hex};
+use crate::fields::LineFront;
+use crate::objects::{put_key, put_quoted_byte};
+use elf_model::Format;
 use elf_source::{Out, OutFault, Sink};
 
-/// Writes a line that ends in a name: its front, the name as it is spelt in a listing, the mark
-/// `\+` where it was cut, and a newline.
+/// Writes a line that ends in a name: its front, the name as it is spelt in a listing, what tells
+/// that it was cut, and the line's end.
 ///
 /// # Errors
 /// A fault of the output, with a front of the line written.
 pub fn show_named<W: Sink>(
-    front: Line,
+    front: LineFront,
     name: &[u8],
     is_cut: bool,
     out: &mut Out<W>,
 ) -> Result<(), OutFault>
-    ensures puts { Puts out.old out.new result (named_line front.items (shown_as is_cut name.now)) }
+    requires { length front.key.now ≤ 16 }
+    ensures puts { Puts out.old out.new result
+        (named_line (front_of front) (shown_as is_cut name.now)) }
 {
-    let tail = if is_cut { "\\+\n" } else { "\n" };
-    show_around(front, name, tail.as_bytes(), out)
+    let LineFront { line, format, key } = front;
+    let mut line = line;
+    begin_name(&mut line, format, key, out)?;
+    show_spelt(line, format, name, name_end(format, is_cut), out)
 }
 
-/// Writes what stands before a name, the name as it is spelt in a listing, and what stands behind
-/// it, which is at most 256 bytes long.
+/// Puts what stands before a name of this key: nothing in columns. Where the line is full it is
+/// written, and begun anew.
+///
+/// # Errors
+/// A fault of the output, with a front of the line written.
+#[tactic(auto, unfolding(crate::specs::Pieces::name_start))]
+pub(crate) fn begin_name<W: Sink>(
+    line: &mut Line,
+    format: Format,
+    key: &[u8],
+    out: &mut Out<W>,
+) -> Result<(), OutFault>
+    requires { length key.now ≤ 16 }
+    ensures puts { let text = line.old.items ++ name_start format key.now in
+        PutsBefore out.old out.new result text line.new.items }
+{
+    match format {
+        Format::Columns => Ok(()),
+        Format::Object => {
+            make_room(line, 21, out)?;
+            put_key(line, key);
+            line.push(b'"');
+            Ok(())
+        }
+    }
+}
+
+/// What stands behind a name, by whether the name was cut.
+#[tactic(auto, unfolding(crate::specs::Pieces::name_end))]
+fn name_end(format: Format, is_cut: bool) -> &'static [u8]
+    ensures items { result.now ≡ name_end format is_cut }
+    ensures short { length result.now ≤ 14 }
+{
+    match (format, is_cut) {
+        (Format::Columns, false) => b"\n",
+        (Format::Columns, true) => b"\\+\n",
+        (Format::Object, false) => b"\"}\n",
+        (Format::Object, true) => b"\",\"cut\":true}\n",
+    }
+}
+
+/// Writes what stands before a name, the name as it is spelt, and what stands behind it, which is
+/// at most 256 bytes long.
 ///
 /// # Errors
 /// A fault of the output, with a front of these bytes written.
-pub fn show_around<W: Sink>(
+pub(crate) fn show_spelt<W: Sink>(
     front: Line,
+    format: Format,
     name: &[u8],
     tail: &[u8],
     out: &mut Out<W>,
 ) -> Result<(), OutFault>
     requires { length tail.now ≤ 256 }
-    ensures puts { Puts out.old out.new result ((front.items ++ escaped name.now) ++ tail.now) }
+    ensures puts { Puts out.old out.new result
+        ((front.items ++ spelt format name.now) ++ tail.now) }
 {
     let mut line = front;
-    put_escaped(&mut line, name, out)?;
+    put_name(&mut line, format, name, out)?;
     make_room(&mut line, tail.len(), out)?;
     put(&mut line, tail);
     out.put(&line)
 }
 
-/// Puts a name behind a line, each byte as it is spelt in a listing. Where the line is full it is
-/// written, and begun anew.
+/// Puts a name behind a line: the bytes at its front that stand as they are at once, as far as
+/// there is room for them, and the others byte by byte.
 ///
 /// # Errors
 /// A fault of the output, with a front of the line and the name written.
-fn put_escaped<W: Sink>(line: &mut Line, name: &[u8], out: &mut Out<W>) -> Result<(), OutFault>
-    ensures puts { let text = line.old.items ++ escaped name.now in
+fn put_name<W: Sink>(
+    line: &mut Line,
+    format: Format,
+    name: &[u8],
+    out: &mut Out<W>,
+) -> Result<(), OutFault>
+    ensures puts { let text = line.old.items ++ spelt format name.now in
+        PutsBefore out.old out.new result text line.new.items }
+{
+    let room = LINE_BYTES - line.len();
+    let plain = plain_bytes(format, name).min(room);
+    put(line, &name[..plain]);
+    put_spelt(line, format, &name[plain..], out)
+}
+
+/// How many bytes at the front of a name stand in a line as they are.
+fn plain_bytes(format: Format, name: &[u8]) -> usize
+    ensures within { result ≤ length name.now }
+    ensures stand { (k : ℕ) → k < result →
+        byte_text format (slice_index name.now k) ≡ slice_index name.now k ∷ [] }
+{
+    for (i, byte) in name.iter().enumerate() {
+        if *byte < b' ' || *byte > b'~' || *byte == b'"' || *byte == b'\\' {
+            return i;
+        }
+    }
+    name.len()
+}
+
+/// Puts a name behind a line, each byte as it is spelt. Where the line is full it is written, and
+/// begun anew.
+///
+/// # Errors
+/// A fault of the output, with a front of the line and the name written.
+fn put_spelt<W: Sink>(
+    line: &mut Line,
+    format: Format,
+    name: &[u8],
+    out: &mut Out<W>,
+) -> Result<(), OutFault>
+    ensures puts { let text = line.old.items ++ spelt format name.now in
         PutsBefore out.old out.new result text line.new.items }
 {
     for byte in name {
-        make_room(line, 4, out)?;
-        put_name_byte(line, *byte);
+        make_room(line, 5, out)?;
+        put_byte(line, format, *byte);
     }
     Ok(())
+}
+
+/// Puts a byte of a name as it is spelt.
+#[tactic(auto, unfolding(crate::specs::Pieces::byte_text))]
+fn put_byte(line: &mut Line, format: Format, byte: u8)
+    requires { array_vec_len line.old + 5 ≤ 256 }
+    ensures items { line.new.items ≡ line.old.items ++ byte_text format byte }
+    ensures len { array_vec_len line.new ≤ array_vec_len line.old + 5 }
+{
+    match format {
+        Format::Columns => put_name_byte(line, byte),
+        Format::Object => put_quoted_byte(line, byte),
+    }
 }
 
 /// Makes room for so many bytes in a line: where fewer are free, the line is written and begun

@@ -1,4 +1,5 @@
 //! How numbers are named.
+use elf_model::Format;
 use elf_record::numbers::EM_X86_64;
 
 /// How numbers are named in the lines of a file: by the names of the standards alone, or by those of
@@ -9,20 +10,25 @@ pub struct Naming {
     pub gnu: bool,
     /// The machine of the file (gABI 4, ELF Header).
     pub machine: u16,
+    /// How a line is written.
+    pub format: Format,
 }
 
 impl Naming {
     ghost use Rattle.std.specs.Prelude.{◌≡◌, ◌==◌, ◌&&◌, false};
     ghost use Rattle.elf_model.specs.Numbers.{EM_X86_64};
+    ghost use Rattle.elf_model.specs.declared.formats.Format.TheVariants.{Columns};
 
-    /// The names of the standards alone.
+    /// The names of the standards alone, in columns.
     pub fn standard(machine: u16) -> Naming
         ensures gnu { result.gnu ≡ false }
         ensures machine { result.machine ≡ machine }
+        ensures format { result.format ≡ Columns }
     {
         Naming {
             gnu: false,
             machine,
+            format: Format::Columns,
         }
     }
 

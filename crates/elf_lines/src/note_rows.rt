@@ -1,15 +1,18 @@
 //! The lines of notes.
 ghost use Rattle.elf_source.specs.Growth.{Grows};
-ghost use Rattle.std.specs.Prelude.{◌≡◌, ◌+◌, ◌*◌, ◌≤◌, ◌++◌, [], if◌then◌else◌, ℕ, List, length, IfErr};
+ghost use Rattle.std.specs.Prelude.{◌≡◌, ◌+◌, ◌*◌, ◌≤◌, ◌++◌, ℕ, List, length, IfErr};
 ghost use Rattle.arrayvec.specs.ArrayVec.{array_vec_len};
 ghost use Rattle.elf_model.specs.LineFronts.{note_front};
-ghost use Rattle.elf_model.specs.Lines.{cut_mark, hex_bytes, note_line, note_tail};
+ghost use Rattle.elf_model.specs.Lines.{hex_bytes, note_line};
 ghost use Rattle.elf_source.specs.Output.{OutFails, Puts};
-ghost use Rattle.elf_lines.specs.Notes.{IsDescriptor};
+ghost use Rattle.elf_lines.specs.Fronts.{front_of};
+ghost use Rattle.elf_lines.specs.Notes.{IsDescriptor, described};
 ghost use Rattle.elf_lines.specs.Pieces.{shown_as};
 
-use crate::columns::{Line, line_of, put, put_half, put_where, put_word};
-use crate::named::show_around;
+use crate::columns::{Line, put, put_where};
+use crate::fields::{LineFront, begin, put_half, put_word};
+use crate::named::{begin_name, show_spelt};
+use elf_model::Format;
 use elf_record::NoteHead;
 use elf_source::{Out, OutFault, Sink};
 use hex::encode_to_slice;
@@ -21,54 +24,77 @@ const SHOWN_DESCRIPTOR: u32 = 32;
 /// sizes of its name and its descriptor in bytes (gABI 5, Note Section). The space before the name is
 /// the last byte.
 #[tactic(auto, unfolding(elf_model::specs::LineFronts::note_front))]
-pub fn note_front(index: u16, head: &NoteHead) -> Line
-    ensures { result.items ≡ note_front index head.now.kind head.now.namesz head.now.descsz }
+pub fn note_front(index: u16, head: &NoteHead, format: Format) -> LineFront
+    ensures front { front_of result
+        ≡ note_front format index head.now.kind head.now.namesz head.now.descsz }
+    ensures key { length result.key.now ≤ 16 }
 {
-    let mut line = line_of(b"N ");
-    put_half(&mut line, index);
-    put_word(&mut line, head.kind);
-    put_word(&mut line, head.namesz);
-    put_word(&mut line, head.descsz);
-    line
+    let mut line = begin(format, b"N");
+    put_half(&mut line, format, b"index", index, b' ');
+    put_word(&mut line, format, b"type", 8, head.kind);
+    put_word(&mut line, format, b"namesz", 8, head.namesz);
+    put_word(&mut line, format, b"descsz", 8, head.descsz);
+    LineFront {
+        line,
+        format,
+        key: b"name",
+    }
 }
 
-/// Writes the `N` line of a note, with its name, which `is_cut` where it has more bytes than these,
-/// and the first bytes of its descriptor: 32 of them, or all where it has fewer.
+/// Writes the `N` line of a note behind its front, with its name, which `is_cut` where it has more
+/// bytes than these, and the first bytes of its descriptor, which has `descsz` bytes: 32 of them, or
+/// all where it has fewer.
 ///
 /// # Errors
 /// A fault of the output, with a front of the line written.
 pub fn show_note<W: Sink>(
-    index: u16,
-    head: &NoteHead,
+    front: LineFront,
     name: &[u8],
     is_cut: bool,
     first_bytes: &[u8],
+    descsz: u32,
     out: &mut Out<W>,
 ) -> Result<(), OutFault>
-    requires { length first_bytes.now ≤ 32 }
+    requires few { length first_bytes.now ≤ 32 }
+    requires key { length front.key.now ≤ 16 }
     ensures grows { Grows out.old out.new }
     ensures fails { IfErr result (OutFails out.new) }
-    ensures puts { (descriptor : List ℕ) → IsDescriptor first_bytes.now head.now.descsz descriptor →
-        let front = note_front index head.now.kind head.now.namesz head.now.descsz in
-        Puts out.old out.new result (note_line front (shown_as is_cut name.now) descriptor) }
+    ensures puts { (descriptor : List ℕ) → IsDescriptor first_bytes.now descsz descriptor →
+        Puts out.old out.new result
+        (note_line (front_of front) (shown_as is_cut name.now) descriptor) }
 {
-    let tail = note_tail(is_cut, first_bytes, head.descsz);
-    show_around(note_front(index, head), name, &tail, out)
+    let LineFront { line, format, key } = front;
+    let tail = note_tail(format, is_cut, first_bytes, descsz);
+    let mut line = line;
+    begin_name(&mut line, format, key, out)?;
+    show_spelt(line, format, name, &tail, out)
 }
 
-/// What stands behind a note's name: the mark of a cut, the first bytes of its descriptor, the mark
-/// where it has more than these, and a newline.
-fn note_tail(is_cut: bool, first_bytes: &[u8], descsz: u32) -> Line
+/// What stands behind a note's name: what tells that it was cut, the first bytes of its descriptor,
+/// in columns the mark where it has more than these, and the line's end.
+#[tactic(auto, unfolding(crate::specs::Notes::described))]
+fn note_tail(format: Format, is_cut: bool, first_bytes: &[u8], descsz: u32) -> Line
     requires { length first_bytes.now ≤ 32 }
     ensures { (descriptor : List ℕ) → IsDescriptor first_bytes.now descsz descriptor →
-        result.items ≡ (if is_cut then cut_mark else []) ++ note_tail descriptor }
+        result.items ≡ described format is_cut descriptor }
 {
     let mut line = Line::new();
-    put_where(&mut line, is_cut, b"\\+");
-    put(&mut line, b" ");
-    put_bytes(&mut line, first_bytes);
-    put_where(&mut line, descsz > SHOWN_DESCRIPTOR, b"\\+");
-    put(&mut line, b"\n");
+    match format {
+        Format::Columns => {
+            put_where(&mut line, is_cut, b"\\+");
+            put(&mut line, b" ");
+            put_bytes(&mut line, first_bytes);
+            put_where(&mut line, descsz > SHOWN_DESCRIPTOR, b"\\+");
+            put(&mut line, b"\n");
+        }
+        Format::Object => {
+            put(&mut line, b"\"");
+            put_where(&mut line, is_cut, b",\"cut\":true");
+            put(&mut line, b",\"descriptor\":\"");
+            put_bytes(&mut line, first_bytes);
+            put(&mut line, b"\"}\n");
+        }
+    }
     line
 }
 

@@ -1,12 +1,14 @@
 //! The lines of relocation entries.
-ghost use Rattle.std.specs.Prelude.{◌≡◌, ◌+◌, ◌≤◌, ◌++◌, ℕ, List, length, IfSome, option_copied};
-ghost use Rattle.arrayvec.specs.ArrayVec.{array_vec_len};
-ghost use Rattle.elf_model.specs.Text.{left_in, name_of, space};
-ghost use Rattle.elf_model.specs.NameTables.{number_sign, relocation_types, relocation_type_text};
-ghost use Rattle.elf_model.specs.LineFronts.{addend_text, relocation_front};
+ghost use Rattle.std.specs.Prelude.{◌≡◌, ◌≤◌, ℕ, List, length, IfSome, option_copied};
+ghost use Rattle.elf_model.specs.Text.{name_of};
+ghost use Rattle.elf_model.specs.NameTables.{relocation_names, relocation_types};
+ghost use Rattle.elf_model.specs.LineFronts.{relocation_front};
 ghost use Rattle.elf_record.specs.Rela.{IsRela};
+ghost use Rattle.elf_lines.specs.Fronts.{front_of};
 
-use crate::columns::{Line, line_of, put, put_half, put_hex, put_left, put_word, put_xword};
+use crate::fields::{
+    LineFront, begin, put_half, put_name_or_sign, put_signed, put_word, put_xword,
+};
 use crate::name_tables::name_of_either;
 use crate::naming::Naming;
 use elf_record::Rela;
@@ -24,65 +26,42 @@ use elf_record::numbers::{
     R_X86_64_GLOB_DAT, R_X86_64_JUMP_SLOT, R_X86_64_NONE, R_X86_64_PC32, R_X86_64_PC64,
     R_X86_64_PLT32, R_X86_64_RELATIVE,
 };
-use itoa::Buffer;
 
 /// The `R` line of a relocation entry up to the name: the index of its section, offset, type on this
 /// machine, symbol and addend (gABI 4, Relocation). The space before the name is the last byte.
 #[tactic(auto, unfolding(elf_model::specs::LineFronts::relocation_front))]
-pub fn relocation_front(section: u16, entry: &Rela, naming: Naming) -> Line
-    ensures { (file : List ℕ) (at : ℕ) → IsRela file at entry.now →
-        result.items ≡ relocation_front naming.gnu naming.machine file at section }
+pub fn relocation_front(section: u16, entry: &Rela, naming: Naming) -> LineFront
+    ensures front { (file : List ℕ) (at : ℕ) → IsRela file at entry.now → front_of result
+        ≡ relocation_front naming.format naming.gnu naming.machine file at section }
+    ensures key { length result.key.now ≤ 16 }
 {
-    let mut line = line_of(b"R ");
-    put_half(&mut line, section);
-    put_xword(&mut line, entry.r_offset);
-    put_relocation_type(&mut line, entry.kind(), naming);
-    put_word(&mut line, entry.symbol());
-    put_addend(&mut line, entry.r_addend);
-    put(&mut line, b" ");
-    line
+    let format = naming.format;
+    let kind = entry.kind();
+    let name = name_on_machine(kind, naming);
+    let mut line = begin(format, b"R");
+    put_half(&mut line, format, b"table", section, b' ');
+    put_xword(&mut line, format, b"offset", entry.r_offset, b' ');
+    put_name_or_sign(&mut line, format, b"type", name, kind);
+    put_word(&mut line, format, b"symbol", 8, entry.symbol());
+    put_signed(&mut line, format, b"addend", entry.r_addend);
+    LineFront {
+        line,
+        format,
+        key: b"name",
+    }
 }
 
-/// Puts a relocation type at the left of a column of ten, and a space: its name on the machine, or
-/// where it has none its number behind a `#`. Names are known for x86-64 alone.
-#[tactic(auto, unfolding(elf_model::specs::NameTables::relocation_type_text))]
-fn put_relocation_type(line: &mut Line, kind: u32, naming: Naming)
-    requires { array_vec_len line.old + 32 ≤ 256 }
-    ensures items { line.new.items
-        ≡ line.old.items
-        ++ left_in 10 (relocation_type_text naming.gnu naming.machine kind) ++ space }
-    ensures len { array_vec_len line.new ≤ array_vec_len line.old + 32 }
+/// The name of a relocation type on the machine. Names are known for x86-64 alone.
+#[tactic(auto, unfolding(elf_model::specs::Text::name_of))]
+fn name_on_machine(kind: u32, naming: Naming) -> Option<&'static str>
+    ensures name { option_copied result
+        ≡ name_of (relocation_names naming.gnu naming.machine) kind }
+    ensures short { IfSome result (λ name. length name.now ≤ 10) }
 {
     if naming.machine != EM_X86_64 {
-        return put_left(line, 10, &number_sign(kind));
+        return None;
     }
-    match relocation_type_name(kind, naming.gnu) {
-        Some(name) => put_left(line, 10, name.as_bytes()),
-        None => put_left(line, 10, &number_sign(kind)),
-    }
-}
-
-/// A number behind a `#`.
-#[tactic(auto, unfolding(elf_model::specs::NameTables::number_sign))]
-pub(crate) fn number_sign(number: u32) -> Line
-    ensures text { result.items ≡ number_sign number }
-    ensures short { array_vec_len result ≤ 21 }
-{
-    let mut line = line_of(b"#");
-    let mut buffer = Buffer::new();
-    put(&mut line, buffer.format(number).as_bytes());
-    line
-}
-
-/// Puts an addend: its sign, and its absolute value in sixteen digits.
-#[tactic(auto, unfolding(elf_model::specs::LineFronts::addend_text))]
-fn put_addend(line: &mut Line, addend: i64)
-    requires { array_vec_len line.old + 17 ≤ 256 }
-    ensures items { line.new.items ≡ line.old.items ++ addend_text addend }
-    ensures len { array_vec_len line.new ≡ array_vec_len line.old + 17 }
-{
-    line.push(if addend < 0 { b'-' } else { b'+' });
-    put_hex(line, 16, addend.unsigned_abs());
+    relocation_type_name(kind, naming.gnu)
 }
 
 /// The name of a relocation type of x86-64.

@@ -7,10 +7,12 @@ ghost use Rattle.elf_model.specs.NameTables.{file_types};
 ghost use Rattle.elf_record.specs.Ehdr.{IsEhdr};
 ghost use Rattle.elf_source.specs.Output.{Puts};
 
-use crate::columns::{
-    Line, line_of, put, put_decimal, put_half, put_hex, put_name_or_hex, put_word, put_xword,
+use crate::columns::Line;
+use crate::fields::{
+    NamedNumber, begin, put_closing, put_half, put_name_or_hex, put_text, put_word, put_xword,
 };
 use crate::name_tables::name_of;
+use elf_model::Format;
 use elf_record::numbers::{ET_CORE, ET_DYN, ET_EXEC, ET_NONE, ET_REL};
 use elf_record::{Cause, Ehdr, Refusal};
 use elf_source::{Out, OutFault, Sink};
@@ -18,46 +20,59 @@ use elf_source::{Out, OutFault, Sink};
 /// The `H` line of a file header: type, machine, entry point, the places of the program headers and the
 /// section headers, flags, their numbers, and the section of the section names (gABI 4, ELF
 /// Header).
-#[tactic(auto, unfolding(crate::specs::Rows::header_line, crate::specs::Rows::file_type_text))]
-pub fn header_row(header: &Ehdr) -> Line
-    ensures { (file : List ℕ) → IsEhdr file 0 header.now → result.items ≡ header_line file }
+#[tactic(auto, unfolding(elf_model::specs::Lines::header_line))]
+pub fn header_row(header: &Ehdr, format: Format) -> Line
+    ensures { (file : List ℕ) → IsEhdr file 0 header.now → result.items ≡ header_line format file }
 {
-    let mut line = line_of(b"H ");
-    let kind = u64::from(header.e_type);
-    put_name_or_hex(&mut line, 4, file_type_name(kind), 4, kind);
-    put_half(&mut line, header.e_machine);
-    put_xword(&mut line, header.e_entry);
-    put_xword(&mut line, header.e_phoff);
-    put_xword(&mut line, header.e_shoff);
-    put_word(&mut line, header.e_flags);
-    put_half(&mut line, header.e_phnum);
-    put_half(&mut line, header.e_shnum);
-    put_decimal(&mut line, 5, u64::from(header.e_shstrndx), b'\n');
+    let number = u64::from(header.e_type);
+    let name = file_type_name(number);
+    let mut line = begin(format, b"H");
+    put_name_or_hex(
+        &mut line,
+        format,
+        b"type",
+        4,
+        4,
+        NamedNumber { name, number },
+    );
+    put_half(&mut line, format, b"machine", header.e_machine, b' ');
+    put_xword(&mut line, format, b"entry", header.e_entry, b' ');
+    put_xword(&mut line, format, b"phoff", header.e_phoff, b' ');
+    put_xword(&mut line, format, b"shoff", header.e_shoff, b' ');
+    put_word(&mut line, format, b"flags", 8, header.e_flags);
+    put_half(&mut line, format, b"phnum", header.e_phnum, b' ');
+    put_half(&mut line, format, b"shnum", header.e_shnum, b' ');
+    put_half(&mut line, format, b"shstrndx", header.e_shstrndx, b'\n');
+    put_closing(&mut line, format);
     line
 }
 
 /// The `!` line of a refusal: the file offset that it points to, and its cause.
 #[tactic(auto, unfolding(elf_model::specs::Lines::refusal_line))]
-pub fn refusal_row(refusal: Refusal) -> Line
-    ensures { result.items ≡ refusal_line refusal }
+pub fn refusal_row(refusal: Refusal, format: Format) -> Line
+    ensures { result.items ≡ refusal_line format refusal }
 {
-    let mut line = line_of(b"! ");
-    put_hex(&mut line, 16, refusal.at);
-    put(&mut line, b" ");
-    put(&mut line, cause_word(refusal.cause).as_bytes());
-    put(&mut line, b"\n");
+    let mut line = begin(format, b"!");
+    put_xword(&mut line, format, b"place", refusal.at, b' ');
+    let word = cause_word(refusal.cause).as_bytes();
+    put_text(&mut line, format, b"cause", 0, word, b'\n');
+    put_closing(&mut line, format);
     line
 }
 
 /// Writes the line of a refusal: `!`, the file offset that it points to in 16 hexadecimal digits,
-/// and the word of its cause.
+/// and the word of its cause; or these as an object.
 ///
 /// # Errors
 /// A fault of the output, with a front of the line written.
-pub fn show_refusal<W: Sink>(refusal: Refusal, out: &mut Out<W>) -> Result<(), OutFault>
-    ensures puts { Puts out.old out.new result (refusal_line refusal) }
+pub fn show_refusal<W: Sink>(
+    refusal: Refusal,
+    format: Format,
+    out: &mut Out<W>,
+) -> Result<(), OutFault>
+    ensures puts { Puts out.old out.new result (refusal_line format refusal) }
 {
-    out.put(&refusal_row(refusal))
+    out.put(&refusal_row(refusal, format))
 }
 
 /// The word of a cause in a listing.

@@ -7,9 +7,11 @@ ghost use Rattle.elf_lines.specs.Tables.{letters};
 ghost use Rattle.elf_model.specs.NameTables.{section_flags, section_flags_text, section_types};
 ghost use Rattle.elf_model.specs.LineFronts.{section_front};
 ghost use Rattle.elf_record.specs.Shdr.{IsShdr};
+ghost use Rattle.elf_lines.specs.Fronts.{front_of};
 
-use crate::columns::{
-    Line, line_of, put_half, put_left, put_name_or_hex, put_where, put_word, put_xword,
+use crate::columns::{Line, put_where};
+use crate::fields::{
+    LineFront, NamedNumber, begin, put_half, put_name_or_hex, put_text, put_word, put_xword,
 };
 use crate::name_tables::name_of_either;
 use crate::naming::Naming;
@@ -26,22 +28,37 @@ use elf_record::{SectionFlags, Shdr};
 
 /// The `S` line of a section header up to the name: its index, type, flags, address, file offset,
 /// size, link and info (gABI 4, Section Header). The space before the name is the last byte.
-#[tactic(auto, unfolding(crate::specs::Rows::section_front, crate::specs::Rows::section_type_text))]
-pub fn section_front(index: u16, header: &Shdr, naming: Naming) -> Line
-    ensures { (file : List ℕ) (at : ℕ) → IsShdr file at header.now →
-        result.items ≡ section_front naming.gnu naming.machine file at index }
+#[tactic(auto, unfolding(elf_model::specs::LineFronts::section_front))]
+pub fn section_front(index: u16, header: &Shdr, naming: Naming) -> LineFront
+    ensures front { (file : List ℕ) (at : ℕ) → IsShdr file at header.now →
+        front_of result ≡ section_front naming.format naming.gnu naming.machine file at index }
+    ensures key { length result.key.now ≤ 16 }
 {
-    let mut line = line_of(b"S ");
-    put_half(&mut line, index);
-    let kind = u64::from(header.sh_type);
-    put_name_or_hex(&mut line, 13, section_type_name(kind, naming), 8, kind);
-    put_left(&mut line, 12, &section_letters(header.sh_flags, naming));
-    put_xword(&mut line, header.sh_addr);
-    put_xword(&mut line, header.sh_offset);
-    put_xword(&mut line, header.sh_size);
-    put_word(&mut line, header.sh_link);
-    put_word(&mut line, header.sh_info);
-    line
+    let format = naming.format;
+    let number = u64::from(header.sh_type);
+    let name = section_type_name(number, naming);
+    let letters = section_letters(header.sh_flags, naming);
+    let mut line = begin(format, b"S");
+    put_half(&mut line, format, b"index", index, b' ');
+    put_name_or_hex(
+        &mut line,
+        format,
+        b"type",
+        13,
+        8,
+        NamedNumber { name, number },
+    );
+    put_text(&mut line, format, b"flags", 12, &letters, b' ');
+    put_xword(&mut line, format, b"address", header.sh_addr, b' ');
+    put_xword(&mut line, format, b"offset", header.sh_offset, b' ');
+    put_xword(&mut line, format, b"size", header.sh_size, b' ');
+    put_word(&mut line, format, b"link", 8, header.sh_link);
+    put_word(&mut line, format, b"info", 8, header.sh_info);
+    LineFront {
+        line,
+        format,
+        key: b"name",
+    }
 }
 
 /// How many letters of flags are shown at most.

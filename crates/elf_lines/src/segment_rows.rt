@@ -7,9 +7,13 @@ ghost use Rattle.elf_model.specs.NameTables.{segment_flags_text, segment_types};
 ghost use Rattle.elf_model.specs.Lines.{segment_line};
 ghost use Rattle.elf_record.specs.Phdr.{IsPhdr};
 
-use crate::columns::{Line, line_of, put, put_half, put_hex, put_name_or_hex, put_xword};
+use crate::columns::Line;
+use crate::fields::{
+    NamedNumber, begin, put_closing, put_half, put_name_or_hex, put_text, put_xword,
+};
 use crate::name_tables::name_of_either;
 use bitflags::Flags;
+use elf_model::Format;
 use elf_record::gnu_numbers::{
     PT_GNU_EH_FRAME, PT_GNU_PROPERTY, PT_GNU_RELRO, PT_GNU_SFRAME, PT_GNU_STACK,
 };
@@ -21,24 +25,33 @@ use elf_record::{Phdr, SegmentFlags};
 /// The `P` line of a program header: its index, type, permissions, file offset, virtual and physical
 /// address, size in the file and in memory, and alignment (gABI 5, Program Header); `gnu` says
 /// whether types of the GNU system have names.
-#[tactic(auto, unfolding(crate::specs::Rows::segment_line, crate::specs::Rows::segment_type_text))]
-pub fn segment_row(index: u16, header: &Phdr, gnu: bool) -> Line
+#[tactic(auto, unfolding(elf_model::specs::Lines::segment_line))]
+pub fn segment_row(index: u16, header: &Phdr, gnu: bool, format: Format) -> Line
     ensures { (file : List ℕ) (at : ℕ) → IsPhdr file at header.now →
-        result.items ≡ segment_line gnu file at index }
+        result.items ≡ segment_line format gnu file at index }
 {
-    let mut line = line_of(b"P ");
-    put_half(&mut line, index);
-    let kind = u64::from(header.p_type);
-    put_name_or_hex(&mut line, 8, segment_type_name(kind, gnu), 8, kind);
-    put_permissions(&mut line, SegmentFlags(header.p_flags));
-    put(&mut line, b" ");
-    put_xword(&mut line, header.p_offset);
-    put_xword(&mut line, header.p_vaddr);
-    put_xword(&mut line, header.p_paddr);
-    put_xword(&mut line, header.p_filesz);
-    put_xword(&mut line, header.p_memsz);
-    put_hex(&mut line, 16, header.p_align);
-    put(&mut line, b"\n");
+    let number = u64::from(header.p_type);
+    let name = segment_type_name(number, gnu);
+    let mut letters = Line::new();
+    put_permissions(&mut letters, SegmentFlags(header.p_flags));
+    let mut line = begin(format, b"P");
+    put_half(&mut line, format, b"index", index, b' ');
+    put_name_or_hex(
+        &mut line,
+        format,
+        b"type",
+        8,
+        8,
+        NamedNumber { name, number },
+    );
+    put_text(&mut line, format, b"permissions", 3, &letters, b' ');
+    put_xword(&mut line, format, b"offset", header.p_offset, b' ');
+    put_xword(&mut line, format, b"vaddr", header.p_vaddr, b' ');
+    put_xword(&mut line, format, b"paddr", header.p_paddr, b' ');
+    put_xword(&mut line, format, b"filesz", header.p_filesz, b' ');
+    put_xword(&mut line, format, b"memsz", header.p_memsz, b' ');
+    put_xword(&mut line, format, b"align", header.p_align, b'\n');
+    put_closing(&mut line, format);
     line
 }
 

@@ -8,9 +8,13 @@ ghost use Rattle.elf_model.specs.LineFronts.{symbol_front};
 ghost use Rattle.elf_model.specs.Lines.{named_line};
 ghost use Rattle.elf_model.specs.Names.Shown.{Whole};
 ghost use Rattle.elf_record.specs.Sym.{IsSym};
+ghost use Rattle.elf_lines.specs.Fronts.{front_of};
+ghost use Rattle.elf_model.specs.declared.formats.Format.TheVariants.{Columns};
 ghost use Rattle.elf_source.specs.Output.{OutFails, Puts};
 
-use crate::columns::{Line, line_of, put_decimal, put_half, put_name_or_decimal, put_xword};
+use crate::fields::{
+    LineFront, NamedNumber, begin, put_decimal, put_half, put_name_or_decimal, put_xword,
+};
 use crate::name_tables::{name_of, name_of_either};
 use crate::named::show_named;
 use crate::naming::Naming;
@@ -27,24 +31,42 @@ use elf_source::{Out, OutFault, Sink};
 /// type, binding, visibility and place (gABI 4, Symbol Table). The space before the name is the last
 /// byte.
 #[tactic(auto, unfolding(elf_model::specs::LineFronts::symbol_front))]
-pub fn symbol_front(section: u16, index: u64, symbol: &Sym, naming: Naming) -> Line
-    ensures { (file : List ℕ) (at : ℕ) → IsSym file at symbol.now →
-        result.items ≡ symbol_front naming.gnu naming.machine file at section index }
+pub fn symbol_front(section: u16, index: u64, symbol: &Sym, naming: Naming) -> LineFront
+    ensures front { (file : List ℕ) (at : ℕ) → IsSym file at symbol.now → front_of result
+        ≡ symbol_front naming.format naming.gnu naming.machine file at section index }
+    ensures key { length result.key.now ≤ 16 }
 {
-    let mut line = line_of(b"Y ");
-    put_half(&mut line, section);
-    put_decimal(&mut line, 10, index, b' ');
-    put_xword(&mut line, symbol.st_value);
-    put_xword(&mut line, symbol.st_size);
+    let format = naming.format;
     let kind = u64::from(symbol.kind());
-    put_name_or_decimal(&mut line, 7, symbol_type_name(kind, naming.gnu), kind);
     let binding = u64::from(symbol.binding());
-    put_name_or_decimal(&mut line, 6, binding_name(binding, naming.gnu), binding);
     let visibility = u64::from(symbol.visibility());
-    put_name_or_decimal(&mut line, 9, visibility_name(visibility), visibility);
     let place = u64::from(symbol.st_shndx);
-    put_name_or_decimal(&mut line, 5, place_name(place, naming), place);
-    line
+    let mut line = begin(format, b"Y");
+    put_half(&mut line, format, b"table", section, b' ');
+    put_decimal(&mut line, format, b"index", 10, index, b' ');
+    put_xword(&mut line, format, b"value", symbol.st_value, b' ');
+    put_xword(&mut line, format, b"size", symbol.st_size, b' ');
+    let named = with_name(symbol_type_name(kind, naming.gnu), kind);
+    put_name_or_decimal(&mut line, format, b"type", 7, named);
+    let named = with_name(binding_name(binding, naming.gnu), binding);
+    put_name_or_decimal(&mut line, format, b"binding", 6, named);
+    let named = with_name(visibility_name(visibility), visibility);
+    put_name_or_decimal(&mut line, format, b"visibility", 9, named);
+    let named = with_name(place_name(place, naming), place);
+    put_name_or_decimal(&mut line, format, b"place", 5, named);
+    LineFront {
+        line,
+        format,
+        key: b"name",
+    }
+}
+
+/// A number with its name, where it has one.
+fn with_name(name: Option<&'static str>, number: u64) -> NamedNumber
+    ensures name { result.name ≡ name.entry }
+    ensures number { result.number ≡ number }
+{
+    NamedNumber { name, number }
 }
 
 /// Writes the `Y` line of a symbol with its name, whole, as it is given.
@@ -59,7 +81,7 @@ pub fn show_symbol<W: Sink>(
     out: &mut Out<W>,
 ) -> Result<(), OutFault>
     ensures puts { (file : List ℕ) (at : ℕ) → IsSym file at symbol.now →
-        let front = symbol_front false (e_machine file) file at section index in
+        let front = symbol_front Columns false (e_machine file) file at section index in
         Puts out.old out.new result (named_line front (Whole name.now)) }
     ensures fails { IfErr result (OutFails out.new) }
     ensures grows { Grows out.old out.new }

@@ -1,6 +1,7 @@
 -- What a listing asks for within its budget.
 use Rattle.std.proofs.Common.{subst, ◌≡◌, ℕ, ◌+◌, ◌^◌, ◌<◌, ◌≤◌, false, Option, None, Some, Result, Err, refl, sym, ap, ◌∙◌, arith}
 use Rattle.std.specs.Prelude.{IfSome}
+use Rattle.elf_model.specs.declared.formats.Format.{Format}
 use Rattle.elf_model.specs.Checks.{first_refusal, length_checks}
 use Rattle.elf_model.specs.Cost.{ceiling}
 use Rattle.elf_model.specs.Listing.{has_tables, known_parts}
@@ -37,21 +38,21 @@ asks_within caps parts s0 s1 s2 s3 n result small set reads unset unread alone l
     }
 
 -- a refusal that was told is the one that stopped the call
-pub told_late : (s1 s2 : Counting) (a b out : Written) (n : ℕ) (stop told : Stop) → TellsStop a b stop told → StopSays s1 s2 out n stop
+pub told_late : (format : Format) (s1 s2 : Counting) (a b out : Written) (n : ℕ) (stop told : Stop) → TellsStop format a b stop told → StopSays s1 s2 out n stop
     → (refusal : Refusal) → told ≡ Refused refusal → RefusalSays s1 s2 n refusal
-told_late s1 s2 a b out n (Refused first) (Refused same) tells says refusal is =
+told_late format s1 s2 a b out n (Refused first) (Refused same) tells says refusal is =
     let all : first ≡ refusal = cc in subst (λ (r : Refusal). RefusalSays s1 s2 n r) all says
-told_late s1 s2 a b out n (Refused first) (Source cause at) tells says refusal is = absurd tells
-told_late s1 s2 a b out n (Refused first) (Out cause) tells says refusal is = cc
-told_late s1 s2 a b out n (Source cause at) told tells says refusal is = let other = tells.1 in cc
-told_late s1 s2 a b out n (Out cause) told tells says refusal is = let other = tells.1 in cc
+told_late format s1 s2 a b out n (Refused first) (Source cause at) tells says refusal is = absurd tells
+told_late format s1 s2 a b out n (Refused first) (Out cause) tells says refusal is = cc
+told_late format s1 s2 a b out n (Source cause at) told tells says refusal is = let other = tells.1 in cc
+told_late format s1 s2 a b out n (Out cause) told tells says refusal is = let other = tells.1 in cc
 
 -- what was told of a stop says of the source and the output what the stop did
-pub told_says : (s0 s1 s2 s3 : Counting) (a b : Written) (n : ℕ) (budget : Option ℕ) (stop told : Stop) → Limits s0 s1 budget → Limits s2 s3 None
-    → TellsStop a b stop told → StopSays s1 s2 a n stop → FaultSays s0 s3 b told
-told_says s0 s1 s2 s3 a b n budget (Refused first) (Refused same) set unset tells says = tt
-told_says s0 s1 s2 s3 a b n budget (Refused first) (Source cause at) set unset tells says = absurd tells
-told_says s0 s1 s2 s3 a b n budget (Refused first) (Out cause) set unset tells says = tells.0
-told_says s0 s1 s2 s3 a b n budget (Source cause at) told set unset tells says =
+pub told_says : (format : Format) (s0 s1 s2 s3 : Counting) (a b : Written) (n : ℕ) (budget : Option ℕ) (stop told : Stop) → Limits s0 s1 budget → Limits s2 s3 None
+    → TellsStop format a b stop told → StopSays s1 s2 a n stop → FaultSays s0 s3 b told
+told_says format s0 s1 s2 s3 a b n budget (Refused first) (Refused same) set unset tells says = tt
+told_says format s0 s1 s2 s3 a b n budget (Refused first) (Source cause at) set unset tells says = absurd tells
+told_says format s0 s1 s2 s3 a b n budget (Refused first) (Out cause) set unset tells says = tells.0
+told_says format s0 s1 s2 s3 a b n budget (Source cause at) told set unset tells says =
     rw (tells.1, unset.seen, unset.stopped, sym set.seen) says
-told_says s0 s1 s2 s3 a b n budget (Out cause) told set unset tells says = rw (tells.0, tells.1) says
+told_says format s0 s1 s2 s3 a b n budget (Out cause) told set unset tells says = rw (tells.0, tells.1) says

@@ -16,6 +16,7 @@ use Rattle.elf_model.proofs.VersionNameLaws.{back-none, front-none, records-none
 use Rattle.elf_model.proofs.CostLemmas.{headers_none, headers_some}
 use Rattle.elf_model.specs.Rows.{segment_row}
 use Rattle.elf_model.specs.declared.causes.Refusal.{Refusal}
+use Rattle.elf_model.specs.declared.formats.Format.{Format}
 use Rattle.elf_model.proofs.ListingLemmas.{guarded-passes, guarded-fault, load_some}
 use Rattle.elf_headers.specs.Load.{Opened, Belongs, LoadedAs}
 use Rattle.elf_headers.specs.Faults.{HeaderRead}
@@ -28,12 +29,12 @@ use Rattle.elf_listing.specs.declared.parts.Part.{Part}
 use Rattle.elf_listing.specs.declared.parts.Part.TheVariants.{Headers, Symbols, Relocations, SectionNotes, SegmentNotes, SectionDynamic, SegmentDynamic, Definitions, Needs, SymbolVersions}
 
 -- the file header's part
-abbrev pub header_part : List ℕ → ℕ → List Item
-header_part file parts = where_asked parts HEADER (Line (header_line file) ∷ [])
+abbrev pub header_part : Format → List ℕ → ℕ → List Item
+header_part format file parts = where_asked parts HEADER (Line (header_line format file) ∷ [])
 
-pub items_are : (file : List ℕ) (headers : ℕ) (style : Style) (parts : ℕ) → first_refusal (header_checks file) ≡ None → listing file headers style parts ≡ header_part file parts ++ load_items (view_of style file) headers style (known_parts style parts)
+pub items_are : (file : List ℕ) (headers : ℕ) (style : Style) (parts : ℕ) → first_refusal (header_checks file) ≡ None → listing file headers style parts ≡ header_part style.format file parts ++ load_items (view_of style file) headers style (known_parts style parts)
 unfolding listing
-items_are file headers style parts passed = guarded-passes (header_checks file) (header_part file parts ++ load_items (view_of style file) headers style (known_parts style parts)) passed
+items_are file headers style parts passed = guarded-passes (header_checks file) (header_part style.format file parts ++ load_items (view_of style file) headers style (known_parts style parts)) passed
 
 -- a refusal of the file header is all that is listed
 pub header_alone : (file : List ℕ) (headers : ℕ) (style : Style) (parts : ℕ) (fault : TableFault) → HeaderRead file (Err fault) → (refusal : Refusal) → fault ≡ Refused refusal
@@ -41,7 +42,7 @@ pub header_alone : (file : List ℕ) (headers : ℕ) (style : Style) (parts : �
 unfolding listing
 header_alone file headers style parts fault read refusal is other =
     let first = rw is at read in
-    guarded-fault (header_checks file) (header_part file parts ++ load_items (view_of style file) headers style (known_parts style parts)) refusal (first other)
+    guarded-fault (header_checks file) (header_part style.format file parts ++ load_items (view_of style file) headers style (known_parts style parts)) refusal (first other)
 
 -- a refusal of the load is all that is listed behind the file header
 pub load_alone : (file : List ℕ) (headers : ℕ) (style : Style) (parts : ℕ) (fault : TableFault) (store : Stored) → LoadedAs file (Err fault) store → store.slots ≡ headers → has_tables parts ≡ true

@@ -7,6 +7,7 @@ use Rattle.elf_model.specs.Listing.{Item, Line, Fault as FaultItem}
 use Rattle.elf_model.specs.Names.{Shown}
 use Rattle.elf_model.specs.Notes.{Note, Walk, Next, Ends as EndsHere, Broken, OneNote, next_note, walk_from, walked, with_note, note_shown}
 use Rattle.elf_model.specs.Rows.{note_row, notes_rows, walk_rows}
+use Rattle.elf_model.specs.Style.{Style}
 use Rattle.elf_model.specs.declared.causes.Cause.TheVariants.{NoteCut}
 use Rattle.elf_model.proofs.NoteLaws.{walked-is}
 use Rattle.elf_record.specs.declared.note_head.NoteHead.{NoteHead}
@@ -28,18 +29,18 @@ use Rattle.elf_headers.specs.declared.stop.Stop.{Stop}
 use Rattle.elf_listing.proofs.ShowLaws.{Whole-none, Whole-then, Stopped-then, Stopped-more}
 
 -- what is left where no note is, and where no note stands
-none_left : (cap index : ℕ) → note_items cap index no_notes ≡ []
+none_left : (style : Style) (index : ℕ) → note_items style index no_notes ≡ []
 unfolding walk_rows notes_rows
-none_left cap index = refl
+none_left style index = refl
 
-cut_left : (cap index at : ℕ) → note_items cap index (cut_at at) ≡ FaultItem (record { at = at; cause = NoteCut }) ∷ []
+cut_left : (style : Style) (index at : ℕ) → note_items style index (cut_at at) ≡ FaultItem (record { at = at; cause = NoteCut }) ∷ []
 unfolding walk_rows notes_rows
-cut_left cap index at = ap (λ (x : ℕ). FaultItem (record { at = x; cause = NoteCut }) ∷ []) (zero-add at)
+cut_left style index at = ap (λ (x : ℕ). FaultItem (record { at = x; cause = NoteCut }) ∷ []) (zero-add at)
 
 -- a note, and what is left behind it
-pub note_left : (cap index : ℕ) (note : Note) (left : Walk) → note_items cap index (with_note note left) ≡ (note_row cap index note ∷ []) ++ note_items cap index left
+pub note_left : (style : Style) (index : ℕ) (note : Note) (left : Walk) → note_items style index (with_note note left) ≡ (note_row style index note ∷ []) ++ note_items style index left
 unfolding walk_rows notes_rows
-note_left cap index note left = refl
+note_left style index note left = refl
 
 -- nothing was written yet
 pub before_all : (a : Written) (all left : List Item) → all ≡ left → WrittenBefore a a all left
@@ -72,16 +73,16 @@ unfolding front_of
 cut_next a b at all left is before = record { front = front_of all left before; next = λ other. record { behind = []; is_next = is } }
 
 -- a step over the next note failed: at a read, or where no note stands
-pub before_fault : (a b : Written) (fault : Fault) (cap index at : ℕ) (all : List Item) (left : Walk) → StopsNote at fault → (fault ≡ note_cut at → left ≡ cut_at at)
-    → WrittenBefore a b all (note_items cap index left) → Stopped a b (stop_of fault) all
-before_fault a b fault cap index at all left (inl read) cut before = unread_next a b fault all (note_items cap index left) read before
-before_fault a b fault cap index at all left (inr is) cut before =
-    rw is (cut_next a b at all (note_items cap index left) (ap (note_items cap index) (cut is) ∙ cut_left cap index at) before)
+pub before_fault : (a b : Written) (fault : Fault) (style : Style) (index at : ℕ) (all : List Item) (left : Walk) → StopsNote at fault → (fault ≡ note_cut at → left ≡ cut_at at)
+    → WrittenBefore a b all (note_items style index left) → Stopped a b (stop_of fault) all
+before_fault a b fault style index at all left (inl read) cut before = unread_next a b fault all (note_items style index left) read before
+before_fault a b fault style index at all left (inr is) cut before =
+    rw is (cut_next a b at all (note_items style index left) (ap (note_items style index) (cut is) ∙ cut_left style index at) before)
 
 -- behind the last note
-pub before_none : {a b : Written} (cap index : ℕ) (all : List Item) (left : Walk) → left ≡ no_notes → WrittenBefore a b all (note_items cap index left) → WroteItems a b all
-before_none cap index all left none before =
-    rw (before.split ∙ ap (λ (x : List Item). before.done ++ x) (ap (note_items cap index) none ∙ none_left cap index) ∙ append-nil before.done) before.whole
+pub before_none : {a b : Written} (style : Style) (index : ℕ) (all : List Item) (left : Walk) → left ≡ no_notes → WrittenBefore a b all (note_items style index left) → WroteItems a b all
+before_none style index all left none before =
+    rw (before.split ∙ ap (λ (x : List Item). before.done ++ x) (ap (note_items style index) none ∙ none_left style index) ∙ append-nil before.done) before.whole
 
 -- a note as a row of a cursor shows it
 pub note_of : (align cap at : ℕ) (note : Note) (c : NoteReading) (row : NoteRow) (name : List ℕ) → ShowsNote c row → IsFound align cap at note c.found name c.descriptor → IsNote cap note row name
@@ -113,17 +114,17 @@ note_given file align style now old new name row answer is same shape steps lend
     }
 
 -- the note that was next was shown, and then what is left behind it
-pub note_more : (a b c : Written) (cap index : ℕ) (all : List Item) (old new : Walk) (row : NoteRow) (name : List ℕ) → (note : Note) × (old ≡ with_note note new) × IsNote cap note row name
-    → WrittenBefore a b all (note_items cap index old) → ((note : Note) → IsNote cap note row name → WroteItems b c (note_row cap index note ∷ []))
-    → WrittenBefore a c all (note_items cap index new)
-note_more a b c cap index all old new row name gives before shown =
-    before_more _ _ _ _ (ap (note_items cap index) gives.1 ∙ note_left cap index gives.0 new) before (shown gives.0 gives.2)
+pub note_more : (a b c : Written) (style : Style) (index : ℕ) (all : List Item) (old new : Walk) (row : NoteRow) (name : List ℕ) → (note : Note) × (old ≡ with_note note new) × IsNote style.cap note row name
+    → WrittenBefore a b all (note_items style index old) → ((note : Note) → IsNote style.cap note row name → WroteItems b c (note_row style index note ∷ []))
+    → WrittenBefore a c all (note_items style index new)
+note_more a b c style index all old new row name gives before shown =
+    before_more _ _ _ _ (ap (note_items style index) gives.1 ∙ note_left style index gives.0 new) before (shown gives.0 gives.2)
 
 -- or its row stopped
-pub note_stopped : (a b c : Written) (stop : Stop) (cap index : ℕ) (all : List Item) (old new : Walk) (row : NoteRow) (name : List ℕ) → (note : Note) × (old ≡ with_note note new) × IsNote cap note row name
-    → WrittenBefore a b all (note_items cap index old) → ((note : Note) → IsNote cap note row name → Stopped b c stop (note_row cap index note ∷ [])) → Stopped a c stop all
-note_stopped a b c stop cap index all old new row name gives before shown =
-    before_stopped _ _ _ _ _ _ _ _ (ap (note_items cap index) gives.1 ∙ note_left cap index gives.0 new) before (shown gives.0 gives.2)
+pub note_stopped : (a b c : Written) (stop : Stop) (style : Style) (index : ℕ) (all : List Item) (old new : Walk) (row : NoteRow) (name : List ℕ) → (note : Note) × (old ≡ with_note note new) × IsNote style.cap note row name
+    → WrittenBefore a b all (note_items style index old) → ((note : Note) → IsNote style.cap note row name → Stopped b c stop (note_row style index note ∷ [])) → Stopped a c stop all
+note_stopped a b c stop style index all old new row name gives before shown =
+    before_stopped _ _ _ _ _ _ _ _ (ap (note_items style index) gives.1 ∙ note_left style index gives.0 new) before (shown gives.0 gives.2)
 
 -- a note's name as it is shown
 pub named_as : (end : NameEnd) (name : List ℕ) (shown : Shown) → NameIs end name shown → shown ≡ shown_as (cut_of end) name
@@ -131,10 +132,10 @@ named_as NameWhole name shown is = is
 named_as NameCut name shown is = is
 
 -- the line of a note, by what it shows
-pub note_is : (cap index kind namesz descsz : ℕ) (shown : Shown) (note : Note) → kind ≡ note.kind → namesz ≡ length note.name → descsz ≡ length note.descriptor
-    → note_shown cap note ≡ shown → note_row cap index note ≡ Line (note_line (note_front index kind namesz descsz) shown note.descriptor)
+pub note_is : (style : Style) (index kind namesz descsz : ℕ) (shown : Shown) (note : Note) → kind ≡ note.kind → namesz ≡ length note.name → descsz ≡ length note.descriptor
+    → note_shown style.cap note ≡ shown → note_row style index note ≡ Line (note_line (note_front style.format index kind namesz descsz) shown note.descriptor)
 unfolding note_row
-note_is cap index kind namesz descsz shown note k n d s = rw (k, n, d, s) refl
+note_is style index kind namesz descsz shown note k n d s = rw (k, n, d, s) refl
 
 -- all notes of a table are left at first
 pub all_left : (a : ℕ) (file : List ℕ) (w : Ahead) (at count page : ℕ) → w ≡ record { at = at; held = []; unread = count; page = page }
@@ -145,24 +146,24 @@ plus : (x y z : ℕ) → x + y + z ≡ x + (y + z)
 plus x y z = omega arith
 
 -- the rows of notes from an offset on are those of the table, with the cut at its offset
-rows_shifted : (a cap index offset most place : ℕ) (rest : List ℕ) → note_items cap index (walk_from a most (offset + place) rest) ≡ walk_rows cap index offset (walk_from a most place rest)
+rows_shifted : (style : Style) (a index offset most place : ℕ) (rest : List ℕ) → note_items style index (walk_from a most (offset + place) rest) ≡ walk_rows style index offset (walk_from a most place rest)
 unfolding walk_from walk_rows notes_rows
-rows_shifted a cap index offset zero place rest = ap (λ (x : ℕ). FaultItem (record { at = x; cause = NoteCut }) ∷ []) (zero-add (offset + place))
-rows_shifted a cap index offset (suc most) place rest = step (λ n xs. rows_shifted a cap index offset most n xs)
+rows_shifted style a index offset zero place rest = ap (λ (x : ℕ). FaultItem (record { at = x; cause = NoteCut }) ∷ []) (zero-add (offset + place))
+rows_shifted style a index offset (suc most) place rest = step (λ n xs. rows_shifted style a index offset most n xs)
   where
-    step : ((n : ℕ) (xs : List ℕ) → note_items cap index (walk_from a most (offset + n) xs) ≡ walk_rows cap index offset (walk_from a most n xs))
-        → note_items cap index (walk_from a (suc most) (offset + place) rest) ≡ walk_rows cap index offset (walk_from a (suc most) place rest)
+    step : ((n : ℕ) (xs : List ℕ) → note_items style index (walk_from a most (offset + n) xs) ≡ walk_rows style index offset (walk_from a most n xs))
+        → note_items style index (walk_from a (suc most) (offset + place) rest) ≡ walk_rows style index offset (walk_from a (suc most) place rest)
     step more = go (next_note a rest) refl
       where
-        go : (next : Next) → next_note a rest ≡ next → note_items cap index (walk_from a (suc most) (offset + place) rest) ≡ walk_rows cap index offset (walk_from a (suc most) place rest)
+        go : (next : Next) → next_note a rest ≡ next → note_items style index (walk_from a (suc most) (offset + place) rest) ≡ walk_rows style index offset (walk_from a (suc most) place rest)
         go EndsHere e = rw (e, walk_from, walk_rows) refl
         go Broken e = rw (e, walk_from, walk_rows) (ap (λ (x : ℕ). FaultItem (record { at = x; cause = NoteCut }) ∷ []) (zero-add (offset + place)))
         go (OneNote note size) e =
             rw (e, walk_from, walk_rows)
-            (ap (λ (x : List Item). note_row cap index note ∷ x)
-            (ap (λ (x : ℕ). note_items cap index (walk_from a most x (drop size rest))) (plus offset place size) ∙ more (place + size) (drop size rest)))
+            (ap (λ (x : List Item). note_row style index note ∷ x)
+            (ap (λ (x : ℕ). note_items style index (walk_from a most x (drop size rest))) (plus offset place size) ∙ more (place + size) (drop size rest)))
 
-pub table_rows : (a cap index at : ℕ) (table : List ℕ) → note_items cap index (notes_from a at table) ≡ walk_rows cap index at (walked a table)
-table_rows a cap index at table =
-    ap (λ (x : ℕ). note_items cap index (notes_from a x table)) (sym (add-zero at)) ∙ rows_shifted a cap index at (suc (length table)) 0 table
-    ∙ ap (walk_rows cap index at) (sym (walked-is a table))
+pub table_rows : (style : Style) (a index at : ℕ) (table : List ℕ) → note_items style index (notes_from a at table) ≡ walk_rows style index at (walked a table)
+table_rows style a index at table =
+    ap (λ (x : ℕ). note_items style index (notes_from a x table)) (sym (add-zero at)) ∙ rows_shifted style a index at (suc (length table)) 0 table
+    ∙ ap (walk_rows style index at) (sym (walked-is a table))

@@ -1,6 +1,7 @@
 -- The rows of symbols' versions, by where the names of their numbers are told to be.
 use Rattle.std.proofs.Common.{◌≡◌, ℕ, ◌+◌, ◌*◌, List, [], ◌∷◌, refl, sym, ap, ◌∙◌, arith}
 use Rattle.elf_model.specs.Bytes.{field, slice}
+use Rattle.elf_model.specs.Fields.{LineFront}
 use Rattle.elf_model.specs.Listing.{Item}
 use Rattle.elf_model.specs.Records.{versym}
 use Rattle.elf_model.specs.Rows.{named_row}
@@ -16,8 +17,8 @@ pub word_is : (file bytes : List ℕ) (at word : ℕ) → bytes ≡ slice file a
 word_is file bytes at word is read = read ∙ ap (λ (b : List ℕ). field b 0 2) is ∙ field-slice file at 2 0 2 (omega arith) ∙ ap (λ (n : ℕ). field file n 2) (omega arith)
 
 -- the row of an entry
-pub told_is : (file : List ℕ) (style : Style) (numbered : Numbered) (section at index word : ℕ) (front : List ℕ) → word ≡ versym file at
-    → front ≡ symbol_version_front section index word
+pub told_is : (file : List ℕ) (style : Style) (numbered : Numbered) (section at index word : ℕ) (front : LineFront) → word ≡ versym file at
+    → front ≡ symbol_version_front style.format section index word
     → told_row file style numbered section at index ≡ named_row front at (version_told numbered file style.cap (number_in word))
 unfolding told_row
 told_is file style numbered section at index word front is same = rw (same, is) refl

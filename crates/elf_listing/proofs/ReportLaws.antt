@@ -24,7 +24,7 @@ use Rattle.elf_listing.specs.Shows.{WroteItems, Front, IsNext, EndsRefused, Stop
 use Rattle.elf_listing.proofs.EachLaws.{lines_front}
 
 -- a report is what is listed, within every budget
-report_listed : (budget : Option ℕ) (file : List ℕ) (headers : ℕ) (style : Style) (parts : ℕ) (text : List ℕ) (fault : Option Refusal) → IsReport (listing file headers style parts) text fault
+report_listed : (budget : Option ℕ) (file : List ℕ) (headers : ℕ) (style : Style) (parts : ℕ) (text : List ℕ) (fault : Option Refusal) → IsReport style.format (listing file headers style parts) text fault
     → IsBudgeted budget file headers style parts text fault
 report_listed None file headers style parts text fault is = is
 report_listed (Some budget) file headers style parts text fault is = inl is
@@ -33,7 +33,7 @@ report_listed (Some budget) file headers style parts text fault is = inl is
 pub whole_report : {a b : Written} (file : List ℕ) (caps : Caps) (parts : ℕ) → WroteItems a b (listing file caps.limits.headers (style_of caps.style) parts) → Reports {X = Unit {0}} file caps parts a b (Ok tt)
 whole_report file caps parts whole =
     let all : List Item = listing file caps.limits.headers (style_of caps.style) parts in
-    let text : lines_of all ≡ report_of all = sym (ap (λ end. lines_of all ++ end_text end) whole.no_fault ∙ append-nil (lines_of all)) in
+    let text : lines_of all ≡ report_of caps.style.format all = sym (ap (λ end. lines_of all ++ end_text caps.style.format end) whole.no_fault ∙ append-nil (lines_of all)) in
     record {
       text = lines_of all;
       fault = None;
@@ -58,10 +58,10 @@ front_report : {a b : Written} (file : List ℕ) (caps : Caps) (parts : ℕ) (st
 front_report file caps parts stop is front =
     let all : List Item = listing file caps.limits.headers (style_of caps.style) parts in
     record {
-      text = report_of all;
+      text = report_of caps.style.format all;
       fault = fault_of all;
-      listed = report_listed caps.limits.budget file caps.limits.headers (style_of caps.style) parts (report_of all) (fault_of all) (record { text_is = refl; fault_is = refl });
-      wrote = wrote_front stop (report_of all) (fault_of all) is (TakesFront-more (lines_of all) (end_text (fault_of all)) front);
+      listed = report_listed caps.limits.budget file caps.limits.headers (style_of caps.style) parts (report_of caps.style.format all) (fault_of all) (record { text_is = refl; fault_is = refl });
+      wrote = wrote_front stop (report_of caps.style.format all) (fault_of all) is (TakesFront-more (lines_of all) (end_text caps.style.format (fault_of all)) front);
     }
 
 -- whole lines of a listing are a front of its lines
@@ -84,10 +84,10 @@ ended refusal all ends next =
 ended_listed : {a b : Written} (file : List ℕ) (caps : Caps) (parts : ℕ) (refusal : Refusal) (before limited after : Counting) → before.asked ≤ 2 ^ 127
     → Limits before limited caps.limits.budget → before.seen.size ≡ length file → RefusalSays limited after (listing_cost file caps.limits.headers (style_of caps.style) parts) refusal
     → (ends : EndsRefused a b refusal (listing file caps.limits.headers (style_of caps.style) parts))
-    → IsBudgeted caps.limits.budget file caps.limits.headers (style_of caps.style) parts (lines_of ends.front.front ++ refusal_line refusal) (Some refusal)
+    → IsBudgeted caps.limits.budget file caps.limits.headers (style_of caps.style) parts (lines_of ends.front.front ++ refusal_line caps.style.format refusal) (Some refusal)
 ended_listed file caps parts refusal before limited after small limits sized says ends = by_cause (is_budget refusal.cause)
   where
-    cut : (budget : Option ℕ) → caps.limits.budget ≡ budget → IsBudget refusal → IsBudgeted budget file caps.limits.headers (style_of caps.style) parts (lines_of ends.front.front ++ refusal_line refusal) (Some refusal)
+    cut : (budget : Option ℕ) → caps.limits.budget ≡ budget → IsBudget refusal → IsBudgeted budget file caps.limits.headers (style_of caps.style) parts (lines_of ends.front.front ++ refusal_line caps.style.format refusal) (Some refusal)
     cut None none for_budget =
         let over = (says for_budget).1 in
         let most = limits.most ∙ ap (option_map (counted before.asked)) none in
@@ -117,34 +117,34 @@ ended_listed file caps parts refusal before limited after small limits sized say
         )
 
     by_cause : (refusal.cause ≡ Budget) ⊎ (refusal.cause ≡ Budget → ⊥)
-        → IsBudgeted caps.limits.budget file caps.limits.headers (style_of caps.style) parts (lines_of ends.front.front ++ refusal_line refusal) (Some refusal)
+        → IsBudgeted caps.limits.budget file caps.limits.headers (style_of caps.style) parts (lines_of ends.front.front ++ refusal_line caps.style.format refusal) (Some refusal)
     by_cause (inl for_budget) = cut caps.limits.budget refl for_budget
     by_cause (inr other) =
         let all : List Item = listing file caps.limits.headers (style_of caps.style) parts in
         let is = ended refusal all ends (ends.next other) in
         report_listed caps.limits.budget file caps.limits.headers (style_of caps.style) parts _ _
-        (record { text_is = sym (ap (λ lines. lines ++ end_text (fault_of all)) is.0 ∙ ap (λ end. lines_of ends.front.front ++ end_text end) is.1); fault_is = sym is.1 })
+        (record { text_is = sym (ap (λ lines. lines ++ end_text caps.style.format (fault_of all)) is.0 ∙ ap (λ end. lines_of ends.front.front ++ end_text caps.style.format end) is.1); fault_is = sym is.1 })
 
 -- a listing that ended in a refusal, whose line was told
 ended_report : {a b c : Written} (file : List ℕ) (caps : Caps) (parts : ℕ) (refusal : Refusal) (told : Stop) (before limited after : Counting) → before.asked ≤ 2 ^ 127
     → Limits before limited caps.limits.budget → before.seen.size ≡ length file → RefusalSays limited after (listing_cost file caps.limits.headers (style_of caps.style) parts) refusal
-    → EndsRefused a b refusal (listing file caps.limits.headers (style_of caps.style) parts) → WroteRefusal b c refusal told → Reports {X = Unit {0}} file caps parts a c (Err told)
+    → EndsRefused a b refusal (listing file caps.limits.headers (style_of caps.style) parts) → WroteRefusal caps.style.format b c refusal told → Reports {X = Unit {0}} file caps parts a c (Err told)
 ended_report {a} {b} {c} file caps parts refusal told before limited after small limits sized says ends line = record {
-  text = lines_of ends.front.front ++ refusal_line refusal;
+  text = lines_of ends.front.front ++ refusal_line caps.style.format refusal;
   fault = Some refusal;
   listed = ended_listed file caps parts refusal before limited after small limits sized says ends;
   wrote = wrote told line;
 }
   where
-    wrote : (told : Stop) → WroteRefusal b c refusal told → Wrote {X = Unit {0}} a c (Err told) (lines_of ends.front.front ++ refusal_line refusal) (Some refusal)
-    wrote (Refused same) line = (Takes-then (lines_of ends.front.front) (refusal_line refusal) ends.front.takes line.1, ap Some line.0)
+    wrote : (told : Stop) → WroteRefusal caps.style.format b c refusal told → Wrote {X = Unit {0}} a c (Err told) (lines_of ends.front.front ++ refusal_line caps.style.format refusal) (Some refusal)
+    wrote (Refused same) line = (Takes-then (lines_of ends.front.front) (refusal_line caps.style.format refusal) ends.front.takes line.1, ap Some line.0)
     wrote (Source cause at) line = absurd line
-    wrote (Out cause) line = TakesFront-then (lines_of ends.front.front) (refusal_line refusal) ends.front.takes line.1
+    wrote (Out cause) line = TakesFront-then (lines_of ends.front.front) (refusal_line caps.style.format refusal) ends.front.takes line.1
 
 -- a listing that stopped, and what was told of that
 pub stopped_report : {a c : Written} (b : Written) (file : List ℕ) (caps : Caps) (parts : ℕ) (stop told : Stop) (before limited after : Counting) (out : Written) → before.asked ≤ 2 ^ 127
     → Limits before limited caps.limits.budget → before.seen.size ≡ length file → StopSays limited after out (listing_cost file caps.limits.headers (style_of caps.style) parts) stop
-    → Stopped a b stop (listing file caps.limits.headers (style_of caps.style) parts) → TellsStop b c stop told → Reports {X = Unit {0}} file caps parts a c (Err told)
+    → Stopped a b stop (listing file caps.limits.headers (style_of caps.style) parts) → TellsStop caps.style.format b c stop told → Reports {X = Unit {0}} file caps parts a c (Err told)
 stopped_report b file caps parts (Refused refusal) told before limited after out small limits sized says ends tells =
     ended_report file caps parts refusal told before limited after small limits sized says ends tells
 stopped_report b file caps parts (Source cause at) told before limited after out small limits sized says ends tells =

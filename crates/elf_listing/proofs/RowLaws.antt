@@ -8,6 +8,7 @@ use Rattle.elf_model.specs.Tables.{strings_of, entry_at}
 use Rattle.elf_model.specs.LineFronts.{symbol_front, relocation_front}
 use Rattle.elf_model.specs.Lines.{segment_line, named_line}
 use Rattle.elf_model.specs.Listing.{Item, Line, Fault as FaultItem, lines_of}
+use Rattle.elf_model.specs.Fields.{LineFront}
 use Rattle.elf_model.specs.Rows.{segment_row, symbol_row, named_row, symbol_named, relocation_row}
 use Rattle.elf_model.specs.declared.causes.Refusal.{Refusal}
 use Rattle.elf_model.specs.declared.causes.Cause.{Cause}
@@ -55,7 +56,7 @@ Stopped-unread-first a (Refused refusal) all read = Ends-first a refusal all (λ
 Stopped-unread-first a (Source fault at) all read = Front-none a all
 
 -- a name that could not be read
-pub Stopped-name : (a : Written) (front : List ℕ) (at : ℕ) (fault : Fault) (name : List ℕ) (answer : Result Shown Cause) → NameRead at (Err fault) name answer
+pub Stopped-name : (a : Written) (front : LineFront) (at : ℕ) (fault : Fault) (name : List ℕ) (answer : Result Shown Cause) → NameRead at (Err fault) name answer
     → Stopped a a (stop_of fault) (named_row front at answer)
 Stopped-name a front at (Refused refusal) name answer read =
     Ends-first a refusal (named_row front at answer) (λ other.
@@ -64,32 +65,32 @@ Stopped-name a front at (Refused refusal) name answer read =
 Stopped-name a front at (Source fault offset) name answer read = Front-none a (named_row front at answer)
 
 -- a program header's line at its place
-pub segment_is : (file line : List ℕ) (style : Style) (at index : ℕ) → line ≡ segment_line style.gnu file at index → at ≡ e_phoff file + index * 56
+pub segment_is : (file line : List ℕ) (style : Style) (at index : ℕ) → line ≡ segment_line style.format style.gnu file at index → at ≡ e_phoff file + index * 56
     → segment_row file style index ≡ Line line ∷ []
 unfolding segment_row
 segment_is file line style at index same here =
     let place : at ≡ segment_at file index = omega arith in
-    sym (ap (λ text. Line text ∷ []) same ∙ ap (λ p. Line (segment_line style.gnu file p index) ∷ []) place)
+    sym (ap (λ text. Line text ∷ []) same ∙ ap (λ p. Line (segment_line style.format style.gnu file p index) ∷ []) place)
 
 -- a symbol's row at its place
-pub symbol_is : (file : List ℕ) (style : Style) (section index at : ℕ) (front table : List ℕ) (off : ℕ) → front ≡ symbol_front style.gnu (e_machine file) file at section index
+pub symbol_is : (file : List ℕ) (style : Style) (section index at : ℕ) (front : LineFront) (table : List ℕ) (off : ℕ) → front ≡ symbol_front style.format style.gnu (e_machine file) file at section index
     → table ≡ strings_of file (section_at file section) → off ≡ st_name file at → at ≡ sh_offset file (section_at file section) + index * 24
     → symbol_row file style section (section_at file section) index ≡ named_row front at (shown table off style.cap)
 unfolding symbol_row
 symbol_is file style section index at front table off same_front same_table same_name here =
     let place : at ≡ entry_at file (section_at file section) 24 index = omega arith in
     sym (ap (λ text. named_row text at (shown table off style.cap)) same_front
-    ∙ (ap (λ names. named_row (symbol_front style.gnu (e_machine file) file at section index) at (shown names off style.cap)) same_table
-    ∙ (ap (λ name. named_row (symbol_front style.gnu (e_machine file) file at section index) at (shown (strings_of file (section_at file section)) name style.cap)) same_name
-    ∙ ap (λ p. named_row (symbol_front style.gnu (e_machine file) file p section index) p (shown (strings_of file (section_at file section)) (st_name file p) style.cap)) place)))
+    ∙ (ap (λ names. named_row (symbol_front style.format style.gnu (e_machine file) file at section index) at (shown names off style.cap)) same_table
+    ∙ (ap (λ name. named_row (symbol_front style.format style.gnu (e_machine file) file at section index) at (shown (strings_of file (section_at file section)) name style.cap)) same_name
+    ∙ ap (λ p. named_row (symbol_front style.format style.gnu (e_machine file) file p section index) p (shown (strings_of file (section_at file section)) (st_name file p) style.cap)) place)))
 
 -- a relocation entry's row at its place
-pub relocation_is : (file front : List ℕ) (style : Style) (section at entry symbol index : ℕ) → entry ≡ sh_offset file at + index * 24
-    → front ≡ relocation_front style.gnu (e_machine file) file entry section → symbol ≡ r_sym file entry
+pub relocation_is : (file : List ℕ) (front : LineFront) (style : Style) (section at entry symbol index : ℕ) → entry ≡ sh_offset file at + index * 24
+    → front ≡ relocation_front style.format style.gnu (e_machine file) file entry section → symbol ≡ r_sym file entry
     → relocation_row file style section at index ≡ named_row front (symbol_named file style.cap at entry symbol).0 (symbol_named file style.cap at entry symbol).1
 unfolding relocation_row
 relocation_is file front style section at entry symbol index here same names =
     let place : entry ≡ entry_at file at 24 index = omega arith in
-    let row : List ℕ → ℕ → ℕ → List Item = λ text e k. named_row text (symbol_named file style.cap at e k).0 (symbol_named file style.cap at e k).1 in
-    sym (ap (λ text. row text entry symbol) same ∙ (ap (λ k. row (relocation_front style.gnu (e_machine file) file entry section) entry k) names
-    ∙ ap (λ e. row (relocation_front style.gnu (e_machine file) file e section) e (r_sym file e)) place))
+    let row : LineFront → ℕ → ℕ → List Item = λ text e k. named_row text (symbol_named file style.cap at e k).0 (symbol_named file style.cap at e k).1 in
+    sym (ap (λ text. row text entry symbol) same ∙ (ap (λ k. row (relocation_front style.format style.gnu (e_machine file) file entry section) entry k) names
+    ∙ ap (λ e. row (relocation_front style.format style.gnu (e_machine file) file e section) e (r_sym file e)) place))

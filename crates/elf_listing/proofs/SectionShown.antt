@@ -1,4 +1,5 @@
 -- The items of one header, by what the store and the checks of a loaded file answer.
+use Rattle.elf_model.specs.Fields.{LineFront}
 use Rattle.elf_model.specs.Style.{Style}
 use Rattle.std.proofs.Common.{◌≡◌, ℕ, ◌+◌, ◌*◌, ◌/◌, ◌<◌, ◌==◌, ◌&&◌, not, Bool, true, false, inl, inr, if◌then◌else◌, List, [], ◌∷◌, ◌++◌, length, Option, None, Some, Result, Ok, Err, refl, sym, ap, ◌∙◌, subst, arith}
 use Rattle.std.proofs.lemmas.Bool.{cases_Bool, eqb-true}
@@ -70,13 +71,13 @@ some_sections : (n : ℕ) → 0 < n → (n == 0) ≡ false
 some_sections n h = grind (arith)
 
 -- the row of a section header, by its front and its name
-pub section_is : (file front : List ℕ) (names : Option Strings) (off at index : ℕ) (style : Style) → names ≡ section_names file → 0 < e_shnum file → at ≡ section_at file index
-    → off ≡ sh_name file (section_at file index) → front ≡ section_front style.gnu (e_machine file) file (section_at file index) index
+pub section_is : (file : List ℕ) (front : LineFront) (names : Option Strings) (off at index : ℕ) (style : Style) → names ≡ section_names file → 0 < e_shnum file → at ≡ section_at file index
+    → off ≡ sh_name file (section_at file index) → front ≡ section_front style.format style.gnu (e_machine file) file (section_at file index) index
     → section_row file style index ≡ named_row front at (shown_in file names off style.cap)
 unfolding section_row section_name
 section_is file front names off at index style same some place is before =
     rw (before, place, is, same)
-    (ap (named_row (section_front style.gnu (e_machine file) file (section_at file index) index) (section_at file index))
+    (ap (named_row (section_front style.format style.gnu (e_machine file) file (section_at file index) index) (section_at file index))
     (sym (name_by_cases file (e_shnum file == 0) (e_shstrndx file == 0) (names_at file (section_at file (e_shstrndx file))) _ style.cap (some_sections (e_shnum file) some))))
 
 -- a range that a header tells of is the file's, as a load knows the file's size and the header's place

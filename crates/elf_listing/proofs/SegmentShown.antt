@@ -15,6 +15,6 @@ pub views : (file : List ℕ) (loaded : Opened) (store : Stored) (known : Option
 views file loaded store known belongs viewed held some = record { belongs = belongs; count = viewed.all some; rows = viewed.held file held }
 
 -- a program header's line
-pub segment_line_is : (file line : List ℕ) (style : Style) (index : ℕ) → line ≡ segment_line style.gnu file (segment_at file index) index → segment_row file style index ≡ Line line ∷ []
+pub segment_line_is : (file line : List ℕ) (style : Style) (index : ℕ) → line ≡ segment_line style.format style.gnu file (segment_at file index) index → segment_row file style index ≡ Line line ∷ []
 unfolding segment_row
 segment_line_is file line style index same = sym (ap (λ text. Line text ∷ []) same)

@@ -2,6 +2,7 @@
 use Rattle.elf_model.specs.Style.{Style}
 use Rattle.std.proofs.Common.{◌≡◌, ℕ, Bool, true, false, List, [], ◌∷◌, Option, None, Some, Result, Ok, Err, refl, sym, ap, ◌∙◌, subst}
 use Rattle.elf_model.specs.Checks.{first_refusal}
+use Rattle.elf_model.specs.Fields.{LineFront}
 use Rattle.elf_model.specs.LineFronts.{dynamic_front}
 use Rattle.elf_model.specs.Listing.{Item, Fault as FaultItem}
 use Rattle.elf_model.specs.Mapped.{mapped_checks, mapped_place, strings_at}
@@ -25,11 +26,11 @@ use Rattle.elf_listing.specs.Strings.{FoundAs, ToldRead, told_by, told_name}
 use Rattle.elf_listing.proofs.RowLaws.{Ends-first, Stopped-name}
 
 -- the row of an entry by its bytes before the name, and its string
-abbrev pub told_row : List ℕ → ℕ → Result (Result Shown Cause) Refusal → List Item
+abbrev pub told_row : LineFront → ℕ → Result (Result Shown Cause) Refusal → List Item
 told_row front at (Ok answer) = named_row front at answer
 told_row front at (Err refusal) = FaultItem refusal ∷ []
 
-row_by_cases : (tells : Bool) (table : Result (List ℕ) Refusal) (front : List ℕ) (at : ℕ) (name : List ℕ → Result Shown Cause)
+row_by_cases : (tells : Bool) (table : Result (List ℕ) Refusal) (front : LineFront) (at : ℕ) (name : List ℕ → Result Shown Cause)
     → (elim tells as (λ _. List Item) [
       | false ↦ named_row front at no_name
       | true ↦ elim table as (λ _. List Item) [ Err refusal ↦ FaultItem refusal ∷ [] | Ok strings ↦ named_row front at (name strings) ]
@@ -40,19 +41,19 @@ row_by_cases true (Ok strings) front at name = refl
 row_by_cases true (Err refusal) front at name = refl
 
 pub row_told : (file : List ℕ) (style : Style) (strings : ℕ → Result (List ℕ) Refusal) (at index : ℕ)
-    → dynamic_row file style strings at index ≡ told_row (dynamic_front style.gnu file at index) at (told_name strings file style.cap at)
+    → dynamic_row file style strings at index ≡ told_row (dynamic_front style.format style.gnu file at index) at (told_name strings file style.cap at)
 unfolding dynamic_row
 row_told file style strings at index =
-    row_by_cases (is_string_tag (d_tag file at)) (strings at) (dynamic_front style.gnu file at index) at (λ table. shown table (d_un file at) style.cap)
+    row_by_cases (is_string_tag (d_tag file at)) (strings at) (dynamic_front style.format style.gnu file at index) at (λ table. shown table (d_un file at) style.cap)
 
 -- the row of an entry at its place, by its front
-pub entry_is : (file front : List ℕ) (style : Style) (at index place : ℕ) (strings : ℕ → Result (List ℕ) Refusal) → front ≡ dynamic_front style.gnu file at index → at ≡ place
+pub entry_is : (file : List ℕ) (front : LineFront) (style : Style) (at index place : ℕ) (strings : ℕ → Result (List ℕ) Refusal) → front ≡ dynamic_front style.format style.gnu file at index → at ≡ place
     → dynamic_row file style strings place index ≡ told_row front at (told_name strings file style.cap at)
 entry_is file front style at index place strings same here =
     ap (λ p. dynamic_row file style strings p index) (sym here) ∙ (row_told file style strings at index ∙ ap (λ text. told_row text at (told_name strings file style.cap at)) (sym same))
 
 -- a string that could not be read
-pub Stopped-told : (a : Written) (front : List ℕ) (at : ℕ) (fault : Fault) (name : List ℕ) (told : Result (Result Shown Cause) Refusal) → ToldRead at (Err fault) name told
+pub Stopped-told : (a : Written) (front : LineFront) (at : ℕ) (fault : Fault) (name : List ℕ) (told : Result (Result Shown Cause) Refusal) → ToldRead at (Err fault) name told
     → Stopped a a (stop_of fault) (told_row front at told)
 Stopped-told a front at fault name (Ok answer) read = Stopped-name a front at fault name answer read
 Stopped-told a front at fault name (Err refusal) read =

@@ -13,6 +13,7 @@ use Rattle.elf_model.specs.Names.{Shown, name_bytes, shown}
 use Rattle.elf_model.specs.Numbers.{SHT_GNU_VERDEF, SHT_GNU_VERNEED}
 use Rattle.elf_model.specs.Records.{e_shnum, sh_offset, sh_size, sh_type, section_at, versym}
 use Rattle.elf_model.specs.Report.{kinds_rows, table_rows}
+use Rattle.elf_model.specs.Fields.{LineFront}
 use Rattle.elf_model.specs.Rows.{named_row, refused_row}
 use Rattle.elf_model.specs.Style.{Style}
 use Rattle.elf_model.specs.Tables.{all_checks, entry_count, strings_of}
@@ -88,7 +89,7 @@ needs-whole file style h = λ i first.
     section-whole File version_needs file style i (section_at file i) there.0 refl row
 
 -- a name that is shown makes one row, wherever its fault would be
-shown-anywhere : (front : List ℕ) (at other : ℕ) (name : Result Shown Cause) → is_ok name ≡ true → named_row front at name ≡ named_row front other name
+shown-anywhere : (front : LineFront) (at other : ℕ) (name : Result Shown Cause) → is_ok name ≡ true → named_row front at name ≡ named_row front other name
 shown-anywhere front at other (Ok name) h = refl
 shown-anywhere front at other (Err cause) h = cc
 
@@ -126,7 +127,7 @@ strings-needed : (file : List ℕ) (kind : VersionKind) → kind ≡ Need → ve
 unfolding version_strings
 strings-needed file kind is = rw is refl
 
-module _ (file : List ℕ) (style : Style) (numbered : Numbered) (are : AreNumbered file numbered) (no_fault : fault_of (records_rows file style) ≡ None) (front : List ℕ) (entry number : ℕ) where
+module _ (file : List ℕ) (style : Style) (numbered : Numbered) (are : AreNumbered file numbered) (no_fault : fault_of (records_rows file style) ≡ None) (front : LineFront) (entry number : ℕ) where
   all : List Met
   all = first_versions Definition SHT_GNU_VERDEF file ++ first_versions File SHT_GNU_VERNEED file
 
@@ -174,7 +175,7 @@ unfolding told_row symbol_version_row
 entry-is file style numbered are no_fault section at index =
     let place : sh_offset file at + index * 2 ≡ sh_offset file at + 2 * index = omega arith in
     rw place
-    (number-is file style numbered are no_fault (symbol_version_front section index (versym file (sh_offset file at + 2 * index))) (sh_offset file at + 2 * index)
+    (number-is file style numbered are no_fault (symbol_version_front style.format section index (versym file (sh_offset file at + 2 * index))) (sh_offset file at + 2 * index)
     (number_in (versym file (sh_offset file at + 2 * index))))
 
 each-equal : (row other : ℕ → List Item) (first count : ℕ) → ((i : ℕ) → row i ≡ other i) → each row first count ≡ each other first count

@@ -27,7 +27,7 @@ use Rattle.elf_listing.proofs.NotesShown.{before_more, before_stopped}
 -- the row of a record as it is given
 pub record_is : (file : List ℕ) (style : Style) (section : ℕ) (strings : List ℕ) (met : Met) (given : VersionRecord) → IsVersion file met given
     → version_row file style section strings met
-    ≡ named_row (version_front given.kind section given.number given.flags given.hash) given.named_at (shown strings given.name style.cap)
+    ≡ named_row (version_front style.format given.kind section given.number given.flags given.hash) given.named_at (shown strings given.name style.cap)
 unfolding version_row
 record_is file style section strings met given is =
     let kind = is.kind in

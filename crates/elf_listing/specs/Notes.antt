@@ -5,6 +5,8 @@ use Rattle.elf_model.specs.Listing.{Item}
 use Rattle.elf_model.specs.Bytes.{slice}
 use Rattle.elf_model.specs.Notes.{Note, Walk, note_align, note_shown, walked}
 use Rattle.elf_model.specs.Rows.{note_row, walk_rows}
+use Rattle.elf_model.specs.Style.{Style}
+use Rattle.elf_headers.specs.Permitted.{style_of}
 use Rattle.elf_note.specs.NoteCursors.{NameIs}
 use Rattle.elf_note.specs.declared.row.NoteRow.{NoteRow}
 use Rattle.elf_source.specs.Output.{Written}
@@ -26,17 +28,18 @@ pub record IsNote (cap : ℕ) (note : Note) (row : NoteRow) (name : List ℕ) : 
 -- what a call did that shows a note, whose header has an index: its row
 abbrev pub ListsNote : {S W X : Type 0} {s : Sources S} {w : Sinks W} → Listing S W s w → Listing S W s w → Result X Stop → NoteRow → ℕ → Type 0
 ListsNote old new result row index =
-    Lists old new result 0 ((cap : ℕ) (note : Note) → IsNote cap note row old.name → Writes old.out.now new.out.now result (note_row cap index note ∷ []))
+    Lists old new result 0
+    ((note : Note) → IsNote old.style.cap.bytes note row old.name → Writes old.out.now new.out.now result (note_row (style_of old.style) index note ∷ []))
 
 -- what a call did that shows the notes of a table: the rows of all, up to the place where no note stands
 abbrev pub ListsNotes : {S W X : Type 0} {s : Sources S} {w : Sinks W} → Listing S W s w → Listing S W s w → Result X Stop → Rows → ℕ → ℕ → Type 0
 ListsNotes old new result table align index =
     Lists old new result table.count
-    (Shows old new result (λ file. walk_rows old.style.cap.bytes index table.at (walked (note_align align) (slice file table.at table.count))))
+    (Shows old new result (λ file. walk_rows (style_of old.style) index table.at (walked (note_align align) (slice file table.at table.count))))
 
 -- the rows of notes whose places are file offsets
-abbrev pub note_items : ℕ → ℕ → Walk → List Item
-note_items cap index walk = walk_rows cap index 0 walk
+abbrev pub note_items : Style → ℕ → Walk → List Item
+note_items style index walk = walk_rows style index 0 walk
 
 -- all items are those that were written, without a fault, and those that are left
 pub record WrittenBefore (old new : Written) (all left : List Item) : Type 0 where

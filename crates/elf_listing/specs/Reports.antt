@@ -6,6 +6,7 @@ use Rattle.elf_model.specs.Cost.{ceiling}
 use Rattle.elf_model.specs.Lines.{refusal_line}
 use Rattle.elf_model.specs.Listing.{has_tables, known_parts}
 use Rattle.elf_model.specs.declared.causes.Refusal.{Refusal}
+use Rattle.elf_model.specs.declared.formats.Format.{Format}
 use Rattle.elf_source.specs.Source.{Counting, Keeps, Faults}
 use Rattle.elf_source.specs.Output.{Written, Takes, TakesFront, OutFails}
 use Rattle.elf_headers.specs.Permitted.{style_of}
@@ -52,13 +53,13 @@ pub record Leaves (old new : Counting) : Type 0 where
   pub free : new.most ≡ None
 
 -- the line of a refusal was written, and this is the answer: the refusal, or the output's fault, at which a front of it was written
-abbrev pub WroteRefusal : Written → Written → Refusal → Stop → Type 0
-WroteRefusal old new refusal (Refused same) = (same ≡ refusal) × Takes old new (refusal_line refusal)
-WroteRefusal old new refusal (Source fault at) = ⊥
-WroteRefusal old new refusal (Out fault) = OutFails new fault × TakesFront old new (refusal_line refusal)
+abbrev pub WroteRefusal : Format → Written → Written → Refusal → Stop → Type 0
+WroteRefusal format old new refusal (Refused same) = (same ≡ refusal) × Takes old new (refusal_line format refusal)
+WroteRefusal format old new refusal (Source fault at) = ⊥
+WroteRefusal format old new refusal (Out fault) = OutFails new fault × TakesFront old new (refusal_line format refusal)
 
 -- what stopped a call was told, and this is the answer: of a refusal its line was written, of any other stop nothing
-abbrev pub TellsStop : Written → Written → Stop → Stop → Type 0
-TellsStop old new (Refused refusal) told = WroteRefusal old new refusal told
-TellsStop old new (Source fault at) told = (new ≡ old) × (told ≡ Source fault at)
-TellsStop old new (Out fault) told = (new ≡ old) × (told ≡ Out fault)
+abbrev pub TellsStop : Format → Written → Written → Stop → Stop → Type 0
+TellsStop format old new (Refused refusal) told = WroteRefusal format old new refusal told
+TellsStop format old new (Source fault at) told = (new ≡ old) × (told ≡ Source fault at)
+TellsStop format old new (Out fault) told = (new ≡ old) × (told ≡ Out fault)

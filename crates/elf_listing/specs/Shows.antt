@@ -1,6 +1,7 @@
 -- What a call that writes a part of a listing did.
 use Rattle.std.specs.Prelude.{ℕ, ◌≡◌, ◌+◌, Bool, true, false, List, ◌∷◌, ◌++◌, None, Some, Result, Ok, Err, IfErr}
 use Rattle.elf_model.specs.Budget.{IsBudget}
+use Rattle.elf_model.specs.Fields.{LineFront}
 use Rattle.elf_model.specs.Listing.{Item, Fault, lines_of, fault_of}
 use Rattle.elf_model.specs.Names.{Shown}
 use Rattle.elf_model.specs.Rows.{named_row}
@@ -108,6 +109,6 @@ cut_of NameWhole = false
 cut_of NameCut = true
 
 -- what a call did that writes a line that ends in the name that was read: the line with what is shown of the name
-abbrev pub ListsLine : {S W X : Type 0} {s : Sources S} {w : Sinks W} → Listing S W s w → Listing S W s w → Result X Stop → List ℕ → NameEnd → Type 0
+abbrev pub ListsLine : {S W X : Type 0} {s : Sources S} {w : Sinks W} → Listing S W s w → Listing S W s w → Result X Stop → LineFront → NameEnd → Type 0
 ListsLine old new result front end =
     Lists old new result 0 ((at : ℕ) (answer : Result Shown Cause) → NameRead at (Ok end) old.name answer → Writes old.out.now new.out.now result (named_row front at answer))

@@ -18,7 +18,7 @@ use elf_note::DynStrings;
 use elf_record::numbers::{DT_NEEDED, DT_RPATH, DT_RUNPATH, DT_SONAME};
 use elf_record::{Cause, Dyn};
 use elf_source::{Sink, Source};
-use elf_table::{Fault, NameEnd, Names, Row, SegmentView, Stop};
+use elf_table::{Fault, NameEnd, Names, Row, SegmentView, Stop, Style};
 
 /// Where the strings of dynamic entries are looked for.
 #[derive(Clone, Copy)]
@@ -45,10 +45,10 @@ impl<S: Source, W: Sink> Listing<'_, '_, '_, S, W> {
         requires { RowFits self.old.src.now.seen.size (Dynamic strings.now) row.now }
         ensures { ListsRow self.old self.new result (Dynamic strings.now) row.now }
     {
-        let gnu = self.style.gnu;
+        let Style { gnu, format, .. } = self.style;
         let entry = Dyn::decode(whole_row(row));
         let end = self.read_string(&entry, strings, row.at)?;
-        self.named_line(dynamic_front(row.index, &entry, gnu), end)
+        self.named_line(dynamic_front(row.index, &entry, gnu, format), end)
     }
 
     /// Reads the string that an entry at the file offset `at` tells of, which is empty where it

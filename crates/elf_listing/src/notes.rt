@@ -5,7 +5,7 @@ ghost use Rattle.elf_listing.specs.Notes.{ListsNote, ListsNotes};
 
 use crate::listing::Listing;
 use crate::row::is_cut;
-use elf_lines::show_note;
+use elf_lines::{note_front, show_note};
 use elf_note::{NoteCursor, NoteRow};
 use elf_source::{Sink, Source};
 use elf_table::{Stop, Table};
@@ -33,7 +33,8 @@ impl<S: Source, W: Sink> Listing<'_, '_, '_, S, W> {
     {
         let is_cut = is_cut(row.name_end);
         let name = self.name.bytes();
-        show_note(index, &row.head, name, is_cut, row.desc, self.out)?;
+        let front = note_front(index, &row.head, self.style.format);
+        show_note(front, name, is_cut, row.desc, row.head.descsz, self.out)?;
         Ok(())
     }
 }

@@ -35,9 +35,10 @@ impl<S: Source, W: Sink> Listing<'_, '_, '_, S, W> {
         requires { RowFits self.old.src.now.seen.size (Versions section numbered) row.now }
         ensures { ListsRow self.old self.new result (Versions section numbered.entry) row.now }
     {
+        let format = self.style.format;
         let word = u16_at(row.bytes, 0);
         let end = self.read_version(numbered, word % (1 << 15), row.at)?;
-        self.named_line(symbol_version_front(section, row.index, word), end)
+        self.named_line(symbol_version_front(section, row.index, word, format), end)
     }
 
     /// Reads the name of a number, which is empty for 0 and 1. A refusal names `at`.

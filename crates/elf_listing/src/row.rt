@@ -1,11 +1,12 @@
 //! The row of a table, shown.
-ghost use Rattle.std.specs.Prelude.{◌≡◌, length};
+ghost use Rattle.std.specs.Prelude.{◌≡◌, ◌≤◌, length};
+ghost use Rattle.elf_lines.specs.Fronts.{front_of};
 ghost use Rattle.elf_listing.specs.Kinds.{ListsRow, RowFits};
 ghost use Rattle.elf_listing.specs.Shows.{ListsLine, cut_of};
 ghost use Rattle.elf_listing.specs.declared.rows.Kind.TheVariants.{Segments, Symbols};
 
 use crate::listing::Listing;
-use elf_lines::{Line, segment_row, show_named, symbol_front};
+use elf_lines::{LineFront, segment_row, show_named, symbol_front};
 use elf_names::NameIndex;
 use elf_record::{Phdr, Sym};
 use elf_source::{Sink, Source};
@@ -18,8 +19,7 @@ impl<S: Source, W: Sink> Listing<'_, '_, '_, S, W> {
         ensures { ListsRow self.old self.new result Segments row.now }
     {
         let header = Phdr::decode(whole_row(row));
-        self.out
-            .put(&segment_row(row.index as u16, &header, self.style.gnu))?;
+        self.out.put(&segment_row(row.index as u16, &header, self.style.gnu, self.style.format))?;
         Ok(())
     }
 
@@ -46,8 +46,9 @@ impl<S: Source, W: Sink> Listing<'_, '_, '_, S, W> {
     }
 
     /// Writes a line that ends in the name that was read.
-    pub(crate) fn named_line(&mut self, front: Line, end: NameEnd) -> Result<(), Stop>
-        ensures { ListsLine self.old self.new result front.items end }
+    pub(crate) fn named_line(&mut self, front: LineFront, end: NameEnd) -> Result<(), Stop>
+        requires { length front.key.now ≤ 16 }
+        ensures { ListsLine self.old self.new result (front_of front) end }
     {
         show_named(front, self.name.bytes(), is_cut(end), self.out)?;
         Ok(())

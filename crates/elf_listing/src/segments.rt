@@ -33,8 +33,7 @@ impl<'f, S: Source, W: Sink> Listing<'_, '_, 'f, S, W> {
         ensures { ListsHeader Segments self.old self.new result segment }
     {
         let header = self.view().segment(segment);
-        self.out
-            .put(&segment_row(segment, &header, self.style.gnu))?;
+        self.out.put(&segment_row(segment, &header, self.style.gnu, self.style.format))?;
         Ok(())
     }
 

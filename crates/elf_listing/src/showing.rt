@@ -23,6 +23,7 @@ use crate::telling::show_stop;
 use crate::viewing::load_view;
 use bitflags::Flags;
 use elf_lines::header_row;
+use elf_model::Format;
 use elf_names::ReadAhead;
 use elf_record::{Ehdr, Parts};
 use elf_source::{Counted, Out, Sink, Source};
@@ -71,7 +72,7 @@ pub fn show<S: Source, W: Sink>(
     src.limit(None);
     match listed {
         Ok(()) => Ok(()),
-        Err(stop) => Err(show_stop(stop, out)),
+        Err(stop) => Err(show_stop(stop, caps.style.format, out)),
     }
 }
 
@@ -105,21 +106,26 @@ pub fn list<S: Source, W: Sink>(
         (listed_items file store.old.slots (style_of style) parts.0) }
 {
     let header = header(src)?;
-    list_header(&header, parts, out)?;
+    list_header(&header, style.format, parts, out)?;
     list_viewed(src, store, &header, style, parts.known(style.gnu), out)
 }
 
 /// Lists the file header, where the parts have it: its `H` line (gABI 4, ELF Header).
-fn list_header<W: Sink>(header: &Ehdr, parts: Parts, out: &mut Out<W>) -> Result<(), Stop>
+fn list_header<W: Sink>(
+    header: &Ehdr,
+    format: Format,
+    parts: Parts,
+    out: &mut Out<W>,
+) -> Result<(), Stop>
     ensures grows { Grows out.old out.new }
     ensures fails { IfErr result (IsOfOutput out.new) }
     ensures text { (file : List ℕ) → IsEhdr file 0 header.now → Writes out.old out.new result
-        (where_asked parts.0 HEADER (LineItem (header_line file) ∷ [])) }
+        (where_asked parts.0 HEADER (LineItem (header_line format file) ∷ [])) }
 {
     if !parts.contains(Parts::HEADER) {
         return Ok(());
     }
-    out.put(&header_row(header))?;
+    out.put(&header_row(header, format))?;
     Ok(())
 }
 

@@ -82,15 +82,21 @@ impl<S: Source, W: Sink> Listing<'_, '_, '_, S, W> {
         requires { StringsWithin self.old.src.now.seen.size names }
         ensures { ListsRecord self.old self.new result given.now section names }
     {
+        let format = self.style.format;
         let end = self.read_name(NameIndex {
             names,
             off: u64::from(given.name),
             at: given.named_at,
         })?;
-        self.named_line(
-            version_front(section, given.kind, given.number, given.flags, given.hash),
-            end,
-        )
+        let front = version_front(
+            section,
+            given.kind,
+            given.number,
+            given.flags,
+            given.hash,
+            format,
+        );
+        self.named_line(front, end)
     }
 }
 

@@ -1,5 +1,7 @@
 //! The options of commands, and the parts of a listing.
-ghost use Rattle.std.specs.Prelude.{◌≡◌, ◌<◌, ◌^◌, ℕ, IfSome, None, Option, Some, false, option_map};
+ghost use Rattle.std.specs.Prelude.{◌≡◌, ◌<◌, ◌^◌, ℕ, IfSome, None, Option, Some, false};
+ghost use Rattle.std.specs.Prelude.{codes, if◌then◌else◌, option_map};
+ghost use Rattle.elf_model.specs.declared.formats.Format.TheVariants.{Columns, Object};
 ghost use Rattle.clap.specs.Walk.{first_of, one_of, rows_of};
 ghost use Rattle.clap.specs.Words.{found_of};
 ghost use Rattle.elf_model.specs.Listing.{all_parts};
@@ -12,6 +14,7 @@ ghost use Rattle.elf_headers.specs.declared.caps.Style.{Style};
 
 use clap::ArgMatches;
 use elf_headers::{Cap, Limits, Style};
+use elf_model::Format;
 use elf_record::Parts;
 
 /// The limits that the options ask for.
@@ -38,7 +41,20 @@ pub fn style_of(options: &ArgMatches<'_>) -> Option<Style>
         cap,
         gnu,
         by_segments,
+        format: format_of(options),
     })
+}
+
+/// How a line is written, by the options.
+fn format_of(options: &ArgMatches<'_>) -> Format
+    ensures { result ≡ (if is_set (first_of (codes "json") (rows_of (found_of options.now)))
+        then Object else Columns) }
+{
+    if is_set(options, "json") {
+        Format::Object
+    } else {
+        Format::Columns
+    }
 }
 
 /// Whether an option without a value is set.

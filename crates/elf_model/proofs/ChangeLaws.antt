@@ -1,5 +1,5 @@
 -- What relocation entries store is their value, and lies in the section.
-use Rattle.std.proofs.Common.{◌≡◌, ℕ, zero, suc, ◌+◌, ◌/◌, ◌≤◌, ◌==◌, inl, inr, true, false, not, nat_lt, List, [], ◌∷◌, ◌++◌, length, flat_map, All, Option, None, Some, Result, Ok, Err, refl, sym, ap, ◌∙◌, arith}
+use Rattle.std.proofs.Common.{◌≡◌, ℕ, zero, suc, ◌+◌, ◌/◌, ◌≤◌, ◌==◌, inl, inr, true, false, nat_lt, List, [], ◌∷◌, ◌++◌, length, flat_map, All, Option, None, Some, Result, Ok, Err, refl, sym, ap, ◌∙◌, arith}
 use Rattle.std.proofs.lemmas.Bool.{cases_Bool, ltb-false}
 use Rattle.std.proofs.lemmas.List.Elements.{All-nil, All-cons, All-append, All-head, All-tail}
 use Rattle.elf_model.specs.Bytes.{little}

@@ -62,29 +62,29 @@ load_some file headers style parts h = by_cases (has_tables parts) (guarded (loa
 pub header_alone : HeaderAloneIsListed
 unfolding listing file_header_items
 header_alone file headers style parts h =
-    let line : List Item = where_asked parts HEADER (Line (header_line file) ∷ []) in
+    let line : List Item = where_asked parts HEADER (Line (header_line style.format file) ∷ []) in
     ap (guarded (header_checks file)) (ap (λ more. line ++ more) (load_none (viewed style file) headers style (known_parts style parts) h) ∙ append-nil line)
 
 pub header_fault : HeaderFaultIsListedAlone
 unfolding listing
 header_fault file headers style parts refusal h =
     let e : listing file headers style parts ≡ Fault refusal ∷ [] =
-    guarded-fault (header_checks file) (where_asked parts HEADER (Line (header_line file) ∷ []) ++ load_items (viewed style file) headers style (known_parts style parts)) refusal h in
-    (ap report_of e, ap fault_of e)
+    guarded-fault (header_checks file) (where_asked parts HEADER (Line (header_line style.format file) ∷ []) ++ load_items (viewed style file) headers style (known_parts style parts)) refusal h in
+    (ap (report_of style.format) e, ap fault_of e)
 
 pub load_fault : LoadFaultIsListedSecond
 unfolding listing
 load_fault file headers style parts refusal h l p t =
     let view : List ℕ = viewed style file in
     let known : ℕ = known_parts style parts in
-    let line : List Item = where_asked parts HEADER (Line (header_line file) ∷ []) in
+    let line : List Item = where_asked parts HEADER (Line (header_line style.format file) ∷ []) in
     let passes : listing file headers style parts ≡ line ++ load_items view headers style known =
     guarded-passes (header_checks file) (line ++ load_items view headers style known) h in
     let fault : load_items view headers style known ≡ Fault refusal ∷ [] =
     load_some view headers style known t ∙ guarded-fault (load_checks view headers) (loaded_items view style known) refusal l in
-    let e : listing file headers style parts ≡ Line (header_line file) ∷ Fault refusal ∷ [] =
-    passes ∙ ap (λ more. line ++ more) fault ∙ ap (λ first. first ++ Fault refusal ∷ []) (asked-true parts HEADER (Line (header_line file) ∷ []) p) in
-    ap report_of e ∙ ap (λ text. text ++ refusal_line refusal) (append-nil (header_line file))
+    let e : listing file headers style parts ≡ Line (header_line style.format file) ∷ Fault refusal ∷ [] =
+    passes ∙ ap (λ more. line ++ more) fault ∙ ap (λ first. first ++ Fault refusal ∷ []) (asked-true parts HEADER (Line (header_line style.format file) ∷ []) p) in
+    ap (report_of style.format) e ∙ ap (λ text. text ++ refusal_line style.format refusal) (append-nil (header_line style.format file))
 
 pub nothing_behind : NothingBehindTheFault
 nothing_behind [] back refusal h = cc
@@ -122,7 +122,7 @@ listing_known : (file : List ℕ) (headers : ℕ) (style : Style) (parts : ℕ)
 unfolding listing
 listing_known file headers style parts =
     let view : List ℕ = viewed style file in
-    let line : List Item = Line (header_line file) ∷ [] in
+    let line : List Item = Line (header_line style.format file) ∷ [] in
     ap (λ asked. guarded (header_checks file) ((elim asked as (λ _. List Item) [ true ↦ line | false ↦ [] ]) ++ load_items view headers style (known_parts style (known_parts style parts))))
     (header_known style parts)
     ∙ ap (λ known. guarded (header_checks file) (where_asked parts HEADER line ++ load_items view headers style known)) (known_once style parts)

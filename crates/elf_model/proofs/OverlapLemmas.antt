@@ -141,13 +141,13 @@ unfolding listing loaded_items
 overlap_second file headers style parts refusal h l b n o p t =
     let view : List ℕ = viewed style file in
     let known : ℕ = known_parts style parts in
-    let line : List Item = where_asked parts HEADER (Line (header_line file) ∷ []) in
+    let line : List Item = where_asked parts HEADER (Line (header_line style.format file) ∷ []) in
     let passes : listing file headers style parts ≡ line ++ load_items view headers style known =
     guarded-passes (header_checks file) (line ++ load_items view headers style known) h in
     let loaded : loaded_items view style known ≡ Fault refusal ∷ [] =
     guarded-fault (view_checks view style known) (table_items view style known) refusal (ap first_refusal (view_asked view style known b n) ∙ o) in
     let fault : load_items view headers style known ≡ Fault refusal ∷ [] =
     load_some view headers style known t ∙ guarded-passes (load_checks view headers) (loaded_items view style known) l ∙ loaded in
-    let e : listing file headers style parts ≡ Line (header_line file) ∷ Fault refusal ∷ [] =
-    passes ∙ ap (λ more. line ++ more) fault ∙ ap (λ first. first ++ Fault refusal ∷ []) (asked-true parts HEADER (Line (header_line file) ∷ []) p) in
-    ap report_of e ∙ ap (λ text. text ++ refusal_line refusal) (append-nil (header_line file))
+    let e : listing file headers style parts ≡ Line (header_line style.format file) ∷ Fault refusal ∷ [] =
+    passes ∙ ap (λ more. line ++ more) fault ∙ ap (λ first. first ++ Fault refusal ∷ []) (asked-true parts HEADER (Line (header_line style.format file) ∷ []) p) in
+    ap (report_of style.format) e ∙ ap (λ text. text ++ refusal_line style.format refusal) (append-nil (header_line style.format file))

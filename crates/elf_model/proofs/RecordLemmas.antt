@@ -3,6 +3,7 @@ use Rattle.std.proofs.Common.{◌≡◌, ℕ, ◌+◌, ◌≤◌, Bool, List, ap
 use Rattle.elf_model.specs.Bytes.{slice, field}
 use Rattle.elf_model.specs.LineFronts.{section_front, symbol_front, relocation_front, dynamic_front}
 use Rattle.elf_model.specs.Lines.{header_line, segment_line}
+use Rattle.elf_model.specs.declared.formats.Format.{Format}
 use Rattle.elf_model.specs.RecordLaws.{FieldsOfSlices, LinesOfSlices}
 use Rattle.elf_model.proofs.Slices.{field-slice}
 
@@ -10,51 +11,51 @@ pub fields_of_slices : FieldsOfSlices
 fields_of_slices = field-slice
 
 -- the file header at its own bytes
-pub header_line_of_slice : (file : List ℕ) → header_line (slice file 0 64) ≡ header_line file
+pub header_line_of_slice : (format : Format) (file : List ℕ) → header_line format (slice file 0 64) ≡ header_line format file
 unfolding header_line
-header_line_of_slice file =
+header_line_of_slice format file =
     let f : (place width : ℕ) → place + width ≤ 64 → field (slice file 0 64) place width ≡ field file place width =
     λ place width h. field-slice file 0 64 place width h ∙ ap (λ n. field file n width) (omega arith) in
     rw (f 16 2 (omega arith), f 18 2 (omega arith), f 24 8 (omega arith), f 32 8 (omega arith), f 40 8 (omega arith), f 48 4 (omega arith), f 56 2 (omega arith), f 60 2 (omega arith), f 62 2 (omega arith))
 
-pub section_front_of_slice : (file : List ℕ) (gnu : Bool) (machine : ℕ) (at index : ℕ) → section_front gnu machine (slice file at 64) 0 index ≡ section_front gnu machine file at index
+pub section_front_of_slice : (format : Format) (file : List ℕ) (gnu : Bool) (machine : ℕ) (at index : ℕ) → section_front format gnu machine (slice file at 64) 0 index ≡ section_front format gnu machine file at index
 unfolding section_front
-section_front_of_slice file gnu machine at index =
+section_front_of_slice format file gnu machine at index =
     let f = field-slice file at 64 in
     rw (f 4 4 (omega arith), f 8 8 (omega arith), f 16 8 (omega arith), f 24 8 (omega arith), f 32 8 (omega arith), f 40 4 (omega arith), f 44 4 (omega arith))
 
-pub segment_line_of_slice : (file : List ℕ) (gnu : Bool) (at index : ℕ) → segment_line gnu (slice file at 56) 0 index ≡ segment_line gnu file at index
+pub segment_line_of_slice : (format : Format) (file : List ℕ) (gnu : Bool) (at index : ℕ) → segment_line format gnu (slice file at 56) 0 index ≡ segment_line format gnu file at index
 unfolding segment_line
-segment_line_of_slice file gnu at index =
+segment_line_of_slice format file gnu at index =
     let f = field-slice file at 56 in
     rw (f 0 4 (omega arith), f 4 4 (omega arith), f 8 8 (omega arith), f 16 8 (omega arith), f 24 8 (omega arith), f 32 8 (omega arith), f 40 8 (omega arith), f 48 8 (omega arith), add-zero at)
 
-pub symbol_front_of_slice : (file : List ℕ) (gnu : Bool) (machine : ℕ) (at section index : ℕ)
-    → symbol_front gnu machine (slice file at 24) 0 section index ≡ symbol_front gnu machine file at section index
+pub symbol_front_of_slice : (format : Format) (file : List ℕ) (gnu : Bool) (machine : ℕ) (at section index : ℕ)
+    → symbol_front format gnu machine (slice file at 24) 0 section index ≡ symbol_front format gnu machine file at section index
 unfolding symbol_front
-symbol_front_of_slice file gnu machine at section index =
+symbol_front_of_slice format file gnu machine at section index =
     let f = field-slice file at 24 in
     rw (f 4 1 (omega arith), f 5 1 (omega arith), f 6 2 (omega arith), f 8 8 (omega arith), f 16 8 (omega arith))
 
-pub relocation_front_of_slice : (file : List ℕ) (gnu : Bool) (machine at section : ℕ)
-    → relocation_front gnu machine (slice file at 24) 0 section ≡ relocation_front gnu machine file at section
+pub relocation_front_of_slice : (format : Format) (file : List ℕ) (gnu : Bool) (machine at section : ℕ)
+    → relocation_front format gnu machine (slice file at 24) 0 section ≡ relocation_front format gnu machine file at section
 unfolding relocation_front
-relocation_front_of_slice file gnu machine at section =
+relocation_front_of_slice format file gnu machine at section =
     let f = field-slice file at 24 in
     rw (f 0 8 (omega arith), f 8 8 (omega arith), f 16 8 (omega arith), add-zero at)
 
-pub dynamic_front_of_slice : (file : List ℕ) (gnu : Bool) (at index : ℕ) → dynamic_front gnu (slice file at 16) 0 index ≡ dynamic_front gnu file at index
+pub dynamic_front_of_slice : (format : Format) (file : List ℕ) (gnu : Bool) (at index : ℕ) → dynamic_front format gnu (slice file at 16) 0 index ≡ dynamic_front format gnu file at index
 unfolding dynamic_front
-dynamic_front_of_slice file gnu at index =
+dynamic_front_of_slice format file gnu at index =
     let f = field-slice file at 16 in
     rw (f 0 8 (omega arith), f 8 8 (omega arith), add-zero at)
 
 pub lines_of_slices : LinesOfSlices
-lines_of_slices file gnu machine at index section = (
-  header_line_of_slice file,
-  section_front_of_slice file gnu machine at index,
-  segment_line_of_slice file gnu at index,
-  symbol_front_of_slice file gnu machine at section index,
-  relocation_front_of_slice file gnu machine at section,
-  dynamic_front_of_slice file gnu at index,
+lines_of_slices format file gnu machine at index section = (
+  header_line_of_slice format file,
+  section_front_of_slice format file gnu machine at index,
+  segment_line_of_slice format file gnu at index,
+  symbol_front_of_slice format file gnu machine at section index,
+  relocation_front_of_slice format file gnu machine at section,
+  dynamic_front_of_slice format file gnu at index,
 )

@@ -1,5 +1,5 @@
 -- A file whose header tells of no section headers, byte by byte.
-use Rattle.std.proofs.Common.{◌≡◌, ℕ, suc, zero, ◌+◌, ◌*◌, ◌≤◌, ◌<◌, ◌&&◌, ◌||◌, nat_le, nat_lt, if◌then◌else◌, Bool, true, false, List, [], ◌∷◌, length, take, drop, refl, ap, sym, ◌∙◌, arith, add-zero, zero-add, length-take, ◌⊎◌, inl, inr}
+use Rattle.std.proofs.Common.{◌≡◌, ℕ, suc, zero, ◌+◌, ◌*◌, ◌≤◌, ◌<◌, if◌then◌else◌, Bool, true, false, List, [], ◌∷◌, length, take, drop, refl, ap, sym, ◌∙◌, arith, add-zero, zero-add, length-take, inl, inr}
 use Rattle.elf_model.specs.Bytes.{number, slice, field}
 use Rattle.elf_model.specs.Style.{Style, tells_of_sections, without_sections, without_sections_from, viewed}
 use Rattle.elf_model.specs.StyleLaws.{ViewIsAsLong, ViewIsSeenInSlices, ViewIsTheFileBehindTheHeader, ViewIsTheFileElsewhere, ViewTellsOfNone, ViewIsCheckedAlike, ViewIsItsOwnView}

@@ -10,6 +10,7 @@ use Rattle.elf_model.specs.Names.{Shown, shown}
 use Rattle.elf_model.specs.Numbers.{SHT_GNU_VERDEF, SHT_GNU_VERNEED}
 use Rattle.elf_model.specs.Records.{e_shnum, sh_type, sh_offset, sh_size, section_at, vn_aux, vn_next}
 use Rattle.elf_model.specs.Report.{table_rows, kinds_rows}
+use Rattle.elf_model.specs.Fields.{LineFront}
 use Rattle.elf_model.specs.Rows.{named_row}
 use Rattle.elf_model.specs.Style.{Style}
 use Rattle.elf_model.specs.Tables.{all_checks, strings_of}
@@ -59,7 +60,7 @@ table-none kind file style index at has h =
     guarded-none (all_checks kind.checks file at) (kind.rows file style index at) (rw (has, table_rows) at h)
 
 -- the name of a row without a fault is shown
-row-shown : (front : List ℕ) (at : ℕ) (name : Result Shown Cause) → fault_of (named_row front at name) ≡ None → is_ok name ≡ true
+row-shown : (front : LineFront) (at : ℕ) (name : Result Shown Cause) → fault_of (named_row front at name) ≡ None → is_ok name ≡ true
 row-shown front at (Ok name) h = refl
 row-shown front at (Err cause) h = cc
 

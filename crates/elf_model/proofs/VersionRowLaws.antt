@@ -4,6 +4,7 @@ use Rattle.std.proofs.lemmas.Bool.{cases_Bool}
 use Rattle.std.proofs.lemmas.Bool.Decides.{nat_tests}
 use Rattle.elf_model.specs.Listing.{Item, each}
 use Rattle.elf_model.specs.Names.{Shown}
+use Rattle.elf_model.specs.Fields.{LineFront}
 use Rattle.elf_model.specs.Rows.{named_row, refused_row}
 use Rattle.elf_model.specs.Style.{Style}
 use Rattle.elf_model.specs.Tables.{entry_count}
@@ -14,13 +15,13 @@ use Rattle.elf_model.specs.declared.causes.Cause.TheVariants.{VersionCut}
 use Rattle.elf_model.specs.VersionLaws.{RowsAreSymbols}
 
 -- a row with a name is one member
-named-one : (front : List ℕ) (at : ℕ) (name : Result Shown Cause) → length (named_row front at name) ≡ 1
+named-one : (front : LineFront) (at : ℕ) (name : Result Shown Cause) → length (named_row front at name) ≡ 1
 named-one front at (Ok name) = refl
 named-one front at (Err cause) = refl
 
 -- and so is the row of a number
 numbered-one :
-    (file : List ℕ) (style : Style) (front : List ℕ) (entry number : ℕ) → length (numbered_row file style front entry number) ≡ 1
+    (file : List ℕ) (style : Style) (front : LineFront) (entry number : ℕ) → length (numbered_row file style front entry number) ≡ 1
 unfolding numbered_row
 numbered-one file style front entry number =
     elim (cases_Bool (nat_lt number 2)) [

@@ -20,7 +20,7 @@ status_of (Some refusal) = 1
 abbrev pub show_answer_by : List ℕ → ℕ → Style → ℕ → Answer
 show_answer_by file headers style parts =
     let all = listing file headers style parts in
-    record { text = report_of all; status = status_of (fault_of all) }
+    record { text = report_of style.format all; status = status_of (fault_of all) }
 
 -- with so many bytes of a name, in the standards' names, by the section headers where there are some
 abbrev pub show_answer : List ℕ → ℕ → ℕ → ℕ → Answer

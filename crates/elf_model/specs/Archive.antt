@@ -4,6 +4,8 @@ use Rattle.std.specs.Prelude.{ℕ, zero, suc, ◌+◌, ◌-◌, ◌*◌, ◌%◌
 use Rattle.std.specs.List.{list_all}
 use Rattle.elf_model.specs.Bytes.{slice, field}
 use Rattle.elf_model.specs.Checks.{Check, refuse}
+use Rattle.elf_model.specs.Fields.{Fields, LineFront, front}
+use Rattle.elf_model.specs.Fields.Field.{Decimal, Hexadecimal}
 use Rattle.elf_model.specs.Lines.{named_line, refusal_line}
 use Rattle.elf_model.specs.Listing.{Item, Line, Fault, fault_of, guarded, report_of, known_parts}
 use Rattle.elf_model.specs.Names.{Shown}
@@ -11,8 +13,9 @@ use Rattle.elf_model.specs.Names.Shown.{Cut}
 use Rattle.elf_model.specs.Notes.{capped}
 use Rattle.elf_model.specs.Report.{listing}
 use Rattle.elf_model.specs.Style.{Style, standard}
-use Rattle.elf_model.specs.Text.{hex, right_decimal, space}
 use Rattle.elf_model.specs.declared.causes.Refusal.{Refusal}
+use Rattle.elf_model.specs.declared.formats.Format.{Format}
+use Rattle.elf_model.specs.declared.formats.Format.TheVariants.{Columns}
 use Rattle.elf_model.specs.declared.causes.Cause.{Cause}
 use Rattle.elf_model.specs.declared.causes.Cause.TheVariants.{Short, TooLong, Thin, NotArchive, MemberCut, NameOutside, NameUnended}
 
@@ -269,13 +272,18 @@ unfoldable pub members_of : List ℕ → ℕ → Members
 members_of file cap = members_from (length file) file cap before_members
 
 -- the line of a member up to its name: its index, the offset and the size of its data
-unfoldable pub member_front : ℕ → ℕ → ℕ → List ℕ
-member_front index at size =
-    codes "A " ++ right_decimal 5 index ++ space ++ hex 16 at ++ space ++ hex 16 size ++ space
+abbrev pub member_fields : ℕ → ℕ → ℕ → Fields
+member_fields index at size = record {
+  letter = codes "A";
+  fields = Decimal (codes "index") 5 index ∷ Hexadecimal (codes "offset") 16 at ∷ Hexadecimal (codes "size") 16 size ∷ [];
+}
+
+unfoldable pub member_front : Format → ℕ → ℕ → ℕ → LineFront
+member_front format index at size = front format (codes "name") (member_fields index at size)
 
 -- the line of a member
-abbrev pub member_line : Member → List ℕ
-member_line m = named_line (member_front m.index m.extent.at m.extent.size) m.name
+abbrev pub member_line : Format → Member → List ℕ
+member_line format m = named_line (member_front format m.index m.extent.at m.extent.size) m.name
 
 -- a set of parts has one that a style knows: without one the members' lines stand alone
 abbrev pub lists_members : Style → ℕ → Bool
@@ -293,14 +301,14 @@ member_listing file headers style parts m =
 
 -- items with the line of their first fault in the place of it and of all behind it: the fault of a member's listing ends that
 -- listing alone
-abbrev pub told : List Item → List Item
-told [] = []
-told (Line text ∷ rest) = Line text ∷ told rest
-told (Fault refusal ∷ rest) = Line (refusal_line refusal) ∷ []
+abbrev pub told : Format → List Item → List Item
+told format [] = []
+told format (Line text ∷ rest) = Line text ∷ told format rest
+told format (Fault refusal ∷ rest) = Line (refusal_line format refusal) ∷ []
 
 -- what is listed of a member: its line, and behind it its listing
 abbrev pub member_items : List ℕ → ℕ → Style → ℕ → Member → List Item
-member_items file headers style parts m = Line (member_line m) ∷ told (member_listing file headers style parts m)
+member_items file headers style parts m = Line (member_line style.format m) ∷ told style.format (member_listing file headers style parts m)
 
 -- what is listed of members
 unfoldable pub members_items : List ℕ → ℕ → Style → ℕ → List Member → List Item
@@ -324,7 +332,7 @@ archive_items file headers style parts =
 
 -- the text of an archive's listing, with so many bytes of a name, in the standards' names
 abbrev pub archive : List ℕ → (headers cap parts : ℕ) → List ℕ
-archive file headers cap parts = report_of (archive_items file headers (standard cap) parts)
+archive file headers cap parts = report_of Columns (archive_items file headers (standard cap) parts)
 
 -- the listing of a member is refused
 abbrev pub is_refused : List ℕ → ℕ → Style → ℕ → Member → Bool

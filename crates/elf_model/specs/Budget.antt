@@ -6,6 +6,7 @@ use Rattle.elf_model.specs.Listing.{Item, lines_of, fault_of, report_of}
 use Rattle.elf_model.specs.Report.{listing}
 use Rattle.elf_model.specs.Style.{Style}
 use Rattle.elf_model.specs.declared.causes.Refusal.{Refusal}
+use Rattle.elf_model.specs.declared.formats.Format.{Format}
 use Rattle.elf_model.specs.declared.causes.Cause.TheVariants.{Budget}
 
 -- a refusal is for want of budget
@@ -13,13 +14,13 @@ abbrev pub IsBudget : Refusal → Type 0
 IsBudget refusal = refusal.cause ≡ Budget
 
 -- a text is the whole report of the items, and a fault is their first
-pub record IsReport (items : List Item) (text : List ℕ) (fault : Option Refusal) : Type 0 where
-  pub text_is : text ≡ report_of items
+pub record IsReport (format : Format) (items : List Item) (text : List ℕ) (fault : Option Refusal) : Type 0 where
+  pub text_is : text ≡ report_of format items
   pub fault_is : fault ≡ fault_of items
 
 -- a text is a front of the items, each a line and whole, and then the line of a refusal for want of budget, whose offset is
 -- below the file's length
-pub record IsCut (size : ℕ) (items : List Item) (text : List ℕ) (fault : Option Refusal) : Type 0 where
+pub record IsCut (format : Format) (size : ℕ) (items : List Item) (text : List ℕ) (fault : Option Refusal) : Type 0 where
   pub front : List Item
   pub rest : List Item
   pub split : items ≡ front ++ rest
@@ -27,13 +28,13 @@ pub record IsCut (size : ℕ) (items : List Item) (text : List ℕ) (fault : Opt
   pub refusal : Refusal
   pub for_budget : IsBudget refusal
   pub inside : refusal.at < size
-  pub text_is : text ≡ lines_of front ++ refusal_line refusal
+  pub text_is : text ≡ lines_of front ++ refusal_line format refusal
   pub fault_is : fault ≡ Some refusal
 
 -- what a listing within a budget writes, and the fault that it answers: its report, or a front of it where it costs more
 -- than the budget. Without a budget it is the report
 abbrev pub IsBudgeted : Option ℕ → List ℕ → ℕ → Style → ℕ → List ℕ → Option Refusal → Type 0
-IsBudgeted None file headers style parts text fault = IsReport (listing file headers style parts) text fault
+IsBudgeted None file headers style parts text fault = IsReport style.format (listing file headers style parts) text fault
 IsBudgeted (Some budget) file headers style parts text fault =
-    IsReport (listing file headers style parts) text fault
-    ⊎ ((budget < listing_cost file headers style parts) × IsCut (length file) (listing file headers style parts) text fault)
+    IsReport style.format (listing file headers style parts) text fault
+    ⊎ ((budget < listing_cost file headers style parts) × IsCut style.format (length file) (listing file headers style parts) text fault)

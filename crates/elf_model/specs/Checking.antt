@@ -1,8 +1,10 @@
 -- What is told of a file among many: its state, and its line.
-use Rattle.std.specs.Prelude.{ℕ, ◌≡◌, ◌==◌, ◌&&◌, ◌||◌, nat_lt, not, Bool, true, false, if◌then◌else◌, List, ◌++◌, length, codes, Option, None, Some}
+use Rattle.std.specs.Prelude.{[], ◌∷◌, ℕ, ◌≡◌, ◌==◌, ◌&&◌, ◌||◌, nat_lt, not, Bool, true, false, if◌then◌else◌, List, ◌++◌, length, codes, Option, None, Some}
 use Rattle.elf_model.specs.Budget.{IsBudgeted}
 use Rattle.elf_model.specs.Bytes.{field}
 use Rattle.elf_model.specs.Causes.{cause_word}
+use Rattle.elf_model.specs.Fields.{Field, Fields, LineFront, closed_line, front}
+use Rattle.elf_model.specs.Fields.Field.{Decimal, Hexadecimal, Hyphen, Word}
 use Rattle.elf_model.specs.Lines.{named_line}
 use Rattle.elf_model.specs.Names.Shown.{Whole}
 use Rattle.elf_model.specs.Records.{FILE_HEADER_SIZE}
@@ -11,6 +13,7 @@ use Rattle.elf_model.specs.Text.{hex, left_in, right_decimal, space, newline}
 use Rattle.elf_model.specs.declared.causes.Cause.{Cause}
 use Rattle.elf_model.specs.declared.causes.Cause.TheVariants.{NotElf}
 use Rattle.elf_model.specs.declared.causes.Refusal.{Refusal}
+use Rattle.elf_model.specs.declared.formats.Format.{Format}
 use Rattle.elf_model.specs.declared.states.FileState.{FileState}
 use Rattle.elf_model.specs.declared.states.FileState.TheVariants as state
 
@@ -60,18 +63,25 @@ state_word state.Unread = codes "unread"
 state_word state.Memory = codes "memory"
 
 -- where a file is at fault and why, or a hyphen
-unfoldable pub place_text : FileState → List ℕ
-place_text (state.Refused refusal) = hex 16 refusal.at ++ space ++ cause_word refusal.cause
-place_text _ = codes "-"
+abbrev pub fault_fields : FileState → List Field
+fault_fields (state.Refused refusal) =
+    Hexadecimal (codes "place") 16 refusal.at ∷ Word (codes "cause") 0 (cause_word refusal.cause) ∷ []
+fault_fields _ = Hyphen ∷ []
+
+-- a file's state, and its fault
+abbrev pub check_fields : FileState → Fields
+check_fields found = record { letter = codes "C"; fields = Word (codes "state") 12 (state_word found) ∷ fault_fields found }
 
 -- a file's line up to its path
-unfoldable pub check_front : FileState → List ℕ
-check_front found = codes "C " ++ left_in 12 (state_word found) ++ space ++ place_text found ++ space
+unfoldable pub check_front : Format → FileState → LineFront
+check_front format found = front format (codes "path") (check_fields found)
 
 -- the line of a file: its state, where it is at fault and why, and its path
-abbrev pub check_line : FileState → List ℕ → List ℕ
-check_line found path = named_line (check_front found) (Whole path)
+abbrev pub check_line : Format → FileState → List ℕ → List ℕ
+check_line format found path = named_line (check_front format found) (Whole path)
 
 -- the last line of a check, where paths could not be named: how many
-unfoldable pub unnamed_line : ℕ → List ℕ
-unnamed_line count = codes "C " ++ left_in 12 (codes "unnamed") ++ space ++ right_decimal 10 count ++ newline
+unfoldable pub unnamed_line : Format → ℕ → List ℕ
+unnamed_line format count =
+    let word = Word (codes "state") 12 (codes "unnamed") in
+    closed_line format (record { letter = codes "C"; fields = word ∷ [] }) (Decimal (codes "count") 10 count)

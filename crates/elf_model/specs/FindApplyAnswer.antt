@@ -7,6 +7,7 @@ use Rattle.elf_model.specs.Find.{looked}
 use Rattle.elf_model.specs.Hash.{Outcome, Found, Absent, Refused}
 use Rattle.elf_model.specs.LineFronts.{symbol_front}
 use Rattle.elf_model.specs.Lines.{named_line, steps_line, refusal_line}
+use Rattle.elf_model.specs.declared.formats.Format.TheVariants.{Columns}
 use Rattle.elf_model.specs.Names.Shown.{Whole}
 use Rattle.elf_model.specs.Placing.{Layout}
 use Rattle.elf_model.specs.Records.{e_machine}
@@ -16,9 +17,9 @@ use Rattle.elf_model.specs.declared.causes.Refusal.{Refusal}
 -- number; the number alone; the refusal
 abbrev pub lookup_text : List ℕ → List ℕ → Outcome → ℕ → List ℕ
 lookup_text file wanted (Found section index symbol) compared =
-    named_line (symbol_front false (e_machine file) file symbol section index) (Whole wanted) ++ steps_line true compared
-lookup_text file wanted Absent compared = steps_line false compared
-lookup_text file wanted (Refused refusal) compared = refusal_line refusal
+    named_line (symbol_front Columns false (e_machine file) file symbol section index) (Whole wanted) ++ steps_line Columns true compared
+lookup_text file wanted Absent compared = steps_line Columns false compared
+lookup_text file wanted (Refused refusal) compared = refusal_line Columns refusal
 
 -- 0 where the name is found
 abbrev pub lookup_status : Outcome → ℕ
@@ -35,7 +36,7 @@ find_answer file headers wanted =
 -- the section's bytes as they are, or the refusal's line
 abbrev pub applied_text : Result (List ℕ) Refusal → List ℕ
 applied_text (Ok bytes) = bytes
-applied_text (Err refusal) = refusal_line refusal
+applied_text (Err refusal) = refusal_line Columns refusal
 
 -- 0 where the relocations are applied
 abbrev pub applied_status : Result (List ℕ) Refusal → ℕ
@@ -53,7 +54,7 @@ pub record IsOutOfBudget (size : ℕ) (answer : Answer) : Type 0 where
   pub refusal : Refusal
   pub for_budget : IsBudget refusal
   pub inside : refusal.at < size
-  pub answer_is : answer ≡ record { text = refusal_line refusal; status = 1 }
+  pub answer_is : answer ≡ record { text = refusal_line Columns refusal; status = 1 }
 
 -- what is answered within a budget: all of it; or, where it costs more than the budget, that refusal
 abbrev pub IsAnswered : Option ℕ → (size cost : ℕ) → (whole answer : Answer) → Type 0

@@ -9,6 +9,7 @@ pub mod Dynamic
 pub mod Text
 pub mod Causes
 pub mod NameTables
+pub mod Fields
 pub mod LineFronts
 pub mod Lines
 pub mod Checks

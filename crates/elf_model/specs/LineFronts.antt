@@ -1,46 +1,96 @@
--- The lines with a name, up to the name: a front reads one record, which stands at an offset of some bytes. Whether numbers of
+-- The lines with a name, up to the name: the fields of one record, which stands at an offset of some bytes. Whether numbers of
 -- the GNU system have names, and on which machine, it is told before.
-use Rattle.std.specs.Prelude.{ℕ, ℤ, Bool, pos, int_lt, nat_abs, if◌then◌else◌, List, ◌++◌, codes}
-use Rattle.elf_model.specs.Text.{hex, left_in, right_decimal, space}
+use Rattle.std.specs.Prelude.{ℕ, Bool, List, [], ◌∷◌, codes}
+use Rattle.elf_model.specs.Fields.{Field, Fields, LineFront, front}
+use Rattle.elf_model.specs.Fields.Field.{Decimal, Hexadecimal, Signed, Word, NameOrDecimal, NameOrHexadecimal, NameOrNumber}
+use Rattle.elf_model.specs.Text.{name_of}
 use Rattle.elf_model.specs.Records.{sh_type, sh_flags, sh_addr, sh_offset, sh_size, sh_link, sh_info, st_value, st_size, st_type, st_bind, st_visibility, st_shndx, r_offset, r_type, r_sym, r_addend, twos_complement, d_tag, d_un}
-use Rattle.elf_model.specs.NameTables.{name_or_number, section_type_text, section_flags_text, symbol_types, bindings, visibilities, places, relocation_type_text, dynamic_tag_text}
+use Rattle.elf_model.specs.NameTables.{section_types, section_flags_text, symbol_types, bindings, visibilities, places, relocation_names, dynamic_tags}
+use Rattle.elf_model.specs.declared.formats.Format.{Format}
 
 -- a section: its index, type, flags, address, offset in the file, size, link and info
-unfoldable pub section_front : Bool → ℕ → List ℕ → ℕ → ℕ → List ℕ
-section_front gnu machine bytes at index =
-    codes "S " ++ right_decimal 5 index ++ space ++ left_in 13 (section_type_text gnu machine (sh_type bytes at))
-    ++ space ++ left_in 12 (section_flags_text gnu machine (sh_flags bytes at)) ++ space ++ hex 16 (sh_addr bytes at)
-    ++ space ++ hex 16 (sh_offset bytes at) ++ space ++ hex 16 (sh_size bytes at)
-    ++ space ++ hex 8 (sh_link bytes at) ++ space ++ hex 8 (sh_info bytes at) ++ space
+abbrev pub section_fields : Bool → ℕ → List ℕ → ℕ → ℕ → Fields
+section_fields gnu machine bytes at index = record {
+  letter = codes "S";
+  fields =
+      Decimal (codes "index") 5 index
+      ∷ NameOrHexadecimal (codes "type") 13 8 (name_of (section_types gnu machine) (sh_type bytes at)) (sh_type bytes at)
+      ∷ Word (codes "flags") 12 (section_flags_text gnu machine (sh_flags bytes at))
+      ∷ Hexadecimal (codes "address") 16 (sh_addr bytes at)
+      ∷ Hexadecimal (codes "offset") 16 (sh_offset bytes at)
+      ∷ Hexadecimal (codes "size") 16 (sh_size bytes at)
+      ∷ Hexadecimal (codes "link") 8 (sh_link bytes at)
+      ∷ Hexadecimal (codes "info") 8 (sh_info bytes at)
+      ∷ [];
+}
+
+unfoldable pub section_front : Format → Bool → ℕ → List ℕ → ℕ → ℕ → LineFront
+section_front format gnu machine bytes at index = front format (codes "name") (section_fields gnu machine bytes at index)
+
+-- a number by its name in a table of names
+abbrev pub named_number : List ℕ → ℕ → List (ℕ × List ℕ) → ℕ → Field
+named_number key width names n = NameOrDecimal key width (name_of names n) n
 
 -- a symbol: the index of its section and its own, value, size, type, binding, visibility and place
-unfoldable pub symbol_front : Bool → ℕ → List ℕ → ℕ → ℕ → ℕ → List ℕ
-symbol_front gnu machine bytes at section index =
-    codes "Y " ++ right_decimal 5 section ++ space ++ right_decimal 10 index
-    ++ space ++ hex 16 (st_value bytes at) ++ space ++ hex 16 (st_size bytes at)
-    ++ space ++ name_or_number (symbol_types gnu) 7 (st_type bytes at)
-    ++ space ++ name_or_number (bindings gnu) 6 (st_bind bytes at)
-    ++ space ++ name_or_number visibilities 9 (st_visibility bytes at)
-    ++ space ++ name_or_number (places gnu machine) 5 (st_shndx bytes at) ++ space
+abbrev pub symbol_fields : Bool → ℕ → List ℕ → ℕ → ℕ → ℕ → Fields
+symbol_fields gnu machine bytes at section index = record {
+  letter = codes "Y";
+  fields =
+      Decimal (codes "table") 5 section
+      ∷ Decimal (codes "index") 10 index
+      ∷ Hexadecimal (codes "value") 16 (st_value bytes at)
+      ∷ Hexadecimal (codes "size") 16 (st_size bytes at)
+      ∷ named_number (codes "type") 7 (symbol_types gnu) (st_type bytes at)
+      ∷ named_number (codes "binding") 6 (bindings gnu) (st_bind bytes at)
+      ∷ named_number (codes "visibility") 9 visibilities (st_visibility bytes at)
+      ∷ named_number (codes "place") 5 (places gnu machine) (st_shndx bytes at)
+      ∷ [];
+}
 
--- an addend: its sign, and its absolute value in sixteen digits
-unfoldable pub addend_text : ℤ → List ℕ
-addend_text addend = (if int_lt addend (pos 0) then codes "-" else codes "+") ++ hex 16 (nat_abs addend)
+unfoldable pub symbol_front : Format → Bool → ℕ → List ℕ → ℕ → ℕ → ℕ → LineFront
+symbol_front format gnu machine bytes at section index = front format (codes "name") (symbol_fields gnu machine bytes at section index)
 
 -- a relocation entry: the index of its section, offset, type, symbol and addend
-unfoldable pub relocation_front : Bool → ℕ → List ℕ → ℕ → ℕ → List ℕ
-relocation_front gnu machine bytes at section =
-    codes "R " ++ right_decimal 5 section ++ space ++ hex 16 (r_offset bytes at)
-    ++ space ++ left_in 10 (relocation_type_text gnu machine (r_type bytes at)) ++ space ++ hex 8 (r_sym bytes at)
-    ++ space ++ addend_text (twos_complement (r_addend bytes at)) ++ space
+abbrev pub relocation_fields : Bool → ℕ → List ℕ → ℕ → ℕ → Fields
+relocation_fields gnu machine bytes at section = record {
+  letter = codes "R";
+  fields =
+      Decimal (codes "table") 5 section
+      ∷ Hexadecimal (codes "offset") 16 (r_offset bytes at)
+      ∷ NameOrNumber (codes "type") 10 (name_of (relocation_names gnu machine) (r_type bytes at)) (r_type bytes at)
+      ∷ Hexadecimal (codes "symbol") 8 (r_sym bytes at)
+      ∷ Signed (codes "addend") (twos_complement (r_addend bytes at))
+      ∷ [];
+}
+
+unfoldable pub relocation_front : Format → Bool → ℕ → List ℕ → ℕ → ℕ → LineFront
+relocation_front format gnu machine bytes at section = front format (codes "name") (relocation_fields gnu machine bytes at section)
 
 -- a note: the index of its section or program header, type, and the sizes of its name and its descriptor
-unfoldable pub note_front : ℕ → ℕ → ℕ → ℕ → List ℕ
-note_front index kind namesz descsz =
-    codes "N " ++ right_decimal 5 index ++ space ++ hex 8 kind ++ space ++ hex 8 namesz ++ space ++ hex 8 descsz ++ space
+abbrev pub note_fields : ℕ → ℕ → ℕ → ℕ → Fields
+note_fields index kind namesz descsz = record {
+  letter = codes "N";
+  fields =
+      Decimal (codes "index") 5 index
+      ∷ Hexadecimal (codes "type") 8 kind
+      ∷ Hexadecimal (codes "namesz") 8 namesz
+      ∷ Hexadecimal (codes "descsz") 8 descsz
+      ∷ [];
+}
+
+unfoldable pub note_front : Format → ℕ → ℕ → ℕ → ℕ → LineFront
+note_front format index kind namesz descsz = front format (codes "name") (note_fields index kind namesz descsz)
 
 -- a dynamic entry: its index in its table, tag and value
-unfoldable pub dynamic_front : Bool → List ℕ → ℕ → ℕ → List ℕ
-dynamic_front gnu bytes at index =
-    codes "D " ++ right_decimal 5 index ++ space ++ left_in 16 (dynamic_tag_text gnu (d_tag bytes at))
-    ++ space ++ hex 16 (d_un bytes at) ++ space
+abbrev pub dynamic_fields : Bool → List ℕ → ℕ → ℕ → Fields
+dynamic_fields gnu bytes at index = record {
+  letter = codes "D";
+  fields =
+      Decimal (codes "index") 5 index
+      ∷ NameOrHexadecimal (codes "tag") 16 16 (name_of (dynamic_tags gnu) (d_tag bytes at)) (d_tag bytes at)
+      ∷ Hexadecimal (codes "value") 16 (d_un bytes at)
+      ∷ [];
+}
+
+unfoldable pub dynamic_front : Format → Bool → List ℕ → ℕ → ℕ → LineFront
+dynamic_front format gnu bytes at index = front format (codes "string") (dynamic_fields gnu bytes at index)

@@ -1,39 +1,71 @@
--- The lines of a listing. Each is its letter and its fields, one space between two, and a newline.
+-- The lines of a listing. Each is its letter and its fields, and for most lines a name.
 use Rattle.std.specs.Prelude.{ℕ, ◌==◌, ◌&&◌, nat_le, nat_lt, if◌then◌else◌, Bool, List, [], ◌∷◌, ◌++◌, codes, take, length}
-use Rattle.elf_model.specs.Text.{hex, left_in, right_decimal, space, newline}
+use Rattle.elf_model.specs.Fields.{Fields, LineFront, member_key, quoted, closed_line, closing}
+use Rattle.elf_model.specs.Fields.Field.{Decimal, Hexadecimal, Word, NameOrHexadecimal}
+use Rattle.elf_model.specs.Text.{hex, space, newline, name_of}
 use Rattle.elf_model.specs.Records.{e_type, e_machine, e_entry, e_phoff, e_shoff, e_flags, e_phnum, e_shnum, e_shstrndx, p_type, p_flags, p_offset, p_vaddr, p_paddr, p_filesz, p_memsz, p_align}
-use Rattle.elf_model.specs.NameTables.{file_type_text, segment_type_text, segment_flags_text}
+use Rattle.elf_model.specs.NameTables.{file_types, segment_types, segment_flags_text}
 use Rattle.elf_model.specs.Names.{Shown}
 use Rattle.elf_model.specs.Names.Shown.{Whole, Cut}
 use Rattle.elf_model.specs.Causes.{cause_word}
 use Rattle.elf_model.specs.declared.causes.Refusal.{Refusal}
+use Rattle.elf_model.specs.declared.formats.Format.{Format}
+use Rattle.elf_model.specs.declared.formats.Format.TheVariants.{Columns, Object}
 
--- the line of the file header: type, machine, entry point, where the program headers and the section
--- headers are, flags, how many of them there are, and the section of the section names
-unfoldable pub header_line : List ℕ → List ℕ
-header_line file =
-    codes "H " ++ left_in 4 (file_type_text (e_type file)) ++ space ++ right_decimal 5 (e_machine file)
-    ++ space ++ hex 16 (e_entry file) ++ space ++ hex 16 (e_phoff file) ++ space ++ hex 16 (e_shoff file)
-    ++ space ++ hex 8 (e_flags file) ++ space ++ right_decimal 5 (e_phnum file)
-    ++ space ++ right_decimal 5 (e_shnum file) ++ space ++ right_decimal 5 (e_shstrndx file) ++ newline
+-- the file header: type, machine, entry point, where the program headers and the section headers are, flags, how many of them
+-- there are
+abbrev pub header_fields : List ℕ → Fields
+header_fields file = record {
+  letter = codes "H";
+  fields =
+      NameOrHexadecimal (codes "type") 4 4 (name_of file_types (e_type file)) (e_type file)
+      ∷ Decimal (codes "machine") 5 (e_machine file)
+      ∷ Hexadecimal (codes "entry") 16 (e_entry file)
+      ∷ Hexadecimal (codes "phoff") 16 (e_phoff file)
+      ∷ Hexadecimal (codes "shoff") 16 (e_shoff file)
+      ∷ Hexadecimal (codes "flags") 8 (e_flags file)
+      ∷ Decimal (codes "phnum") 5 (e_phnum file)
+      ∷ Decimal (codes "shnum") 5 (e_shnum file)
+      ∷ [];
+}
 
--- the line of a program header: its index, type, permissions, offset in the file, virtual and physical
--- address, size in the file and in memory, alignment; with the names of the GNU system's types, where it is told so
-unfoldable pub segment_line : Bool → List ℕ → ℕ → ℕ → List ℕ
-segment_line gnu bytes at index =
-    codes "P " ++ right_decimal 5 index ++ space ++ left_in 8 (segment_type_text gnu (p_type bytes at))
-    ++ space ++ segment_flags_text (p_flags bytes at) ++ space ++ hex 16 (p_offset bytes at)
-    ++ space ++ hex 16 (p_vaddr bytes at) ++ space ++ hex 16 (p_paddr bytes at) ++ space ++ hex 16 (p_filesz bytes at)
-    ++ space ++ hex 16 (p_memsz bytes at) ++ space ++ hex 16 (p_align bytes at) ++ newline
+-- its line, which ends with the section of the section names
+unfoldable pub header_line : Format → List ℕ → List ℕ
+header_line format file = closed_line format (header_fields file) (Decimal (codes "shstrndx") 5 (e_shstrndx file))
+
+-- a program header: its index, type, permissions, offset in the file, virtual and physical address, size in the file and in
+-- memory; with the names of the GNU system's types, where it is told so
+abbrev pub segment_fields : Bool → List ℕ → ℕ → ℕ → Fields
+segment_fields gnu bytes at index = record {
+  letter = codes "P";
+  fields =
+      Decimal (codes "index") 5 index
+      ∷ NameOrHexadecimal (codes "type") 8 8 (name_of (segment_types gnu) (p_type bytes at)) (p_type bytes at)
+      ∷ Word (codes "permissions") 3 (segment_flags_text (p_flags bytes at))
+      ∷ Hexadecimal (codes "offset") 16 (p_offset bytes at)
+      ∷ Hexadecimal (codes "vaddr") 16 (p_vaddr bytes at)
+      ∷ Hexadecimal (codes "paddr") 16 (p_paddr bytes at)
+      ∷ Hexadecimal (codes "filesz") 16 (p_filesz bytes at)
+      ∷ Hexadecimal (codes "memsz") 16 (p_memsz bytes at)
+      ∷ [];
+}
+
+-- its line, which ends with its alignment
+unfoldable pub segment_line : Format → Bool → List ℕ → ℕ → ℕ → List ℕ
+segment_line format gnu bytes at index =
+    closed_line format (segment_fields gnu bytes at index) (Hexadecimal (codes "align") 16 (p_align bytes at))
 
 -- the line that ends a lookup: whether the name was found, and how many symbols were compared
-unfoldable pub steps_line : Bool → ℕ → List ℕ
-steps_line found steps =
-    codes "F " ++ left_in 6 (if found then codes "found" else codes "absent") ++ space ++ right_decimal 10 steps ++ newline
+unfoldable pub steps_line : Format → Bool → ℕ → List ℕ
+steps_line format found steps =
+    let answer = Word (codes "answer") 6 (if found then codes "found" else codes "absent") in
+    closed_line format (record { letter = codes "F"; fields = answer ∷ [] }) (Decimal (codes "steps") 10 steps)
 
 -- the line of a refusal: the file offset that it points to, and the word of its cause
-unfoldable pub refusal_line : Refusal → List ℕ
-refusal_line r = codes "! " ++ hex 16 r.at ++ space ++ cause_word r.cause ++ newline
+unfoldable pub refusal_line : Format → Refusal → List ℕ
+refusal_line format r =
+    let place = Hexadecimal (codes "place") 16 r.at in
+    closed_line format (record { letter = codes "!"; fields = place ∷ [] }) (Word (codes "cause") 0 (cause_word r.cause))
 
 -- a byte of a name: a backslash is doubled, any other printing ASCII character stands as it is, any other byte
 -- is spelt in two digits
@@ -57,9 +89,18 @@ unfoldable pub name_text : Shown → List ℕ
 name_text (Whole name) = escaped name
 name_text (Cut front) = escaped front ++ cut_mark
 
--- a line that ends in a name, by its bytes before the name
-abbrev pub named_line : List ℕ → Shown → List ℕ
-named_line front name = front ++ (name_text name ++ newline)
+-- a name as a member of an object, with its key, and behind it where it is cut that it is
+abbrev pub name_member : List ℕ → Shown → List ℕ
+name_member key (Whole name) = member_key key ++ quoted (escaped name)
+name_member key (Cut front) = member_key key ++ quoted (escaped front) ++ (member_key (codes "cut") ++ codes "true")
+
+-- a line that ends in a name
+unfoldable pub line_named : Format → (key text : List ℕ) → Shown → List ℕ
+line_named Columns key text name = text ++ (name_text name ++ newline)
+line_named Object key text name = text ++ (name_member key name ++ closing Object)
+
+abbrev pub named_line : LineFront → Shown → List ℕ
+named_line front name = line_named front.format front.key front.text name
 
 -- bytes in hexadecimal, two digits each
 unfoldable pub hex_bytes : List ℕ → List ℕ
@@ -80,6 +121,13 @@ descriptor_text descriptor =
 unfoldable pub note_tail : List ℕ → List ℕ
 note_tail descriptor = space ++ descriptor_text descriptor ++ newline
 
--- the line of a note, by its bytes before the name
-abbrev pub note_line : List ℕ → Shown → List ℕ → List ℕ
-note_line front name descriptor = front ++ (name_text name ++ note_tail descriptor)
+-- a line that ends in a name and a descriptor: in an object the descriptor has the bytes that are shown
+unfoldable pub line_described : Format → (key text : List ℕ) → Shown → List ℕ → List ℕ
+line_described Columns key text name descriptor = text ++ (name_text name ++ note_tail descriptor)
+line_described Object key text name descriptor =
+    text ++ (name_member key name
+    ++ (member_key (codes "descriptor") ++ quoted (hex_bytes (take SHOWN_DESCRIPTOR descriptor)) ++ closing Object))
+
+-- the line of a note
+abbrev pub note_line : LineFront → Shown → List ℕ → List ℕ
+note_line front name descriptor = line_described front.format front.key front.text name descriptor

@@ -5,6 +5,7 @@ use Rattle.elf_model.specs.Checks.{Check, first_refusal, header_checks}
 use Rattle.elf_model.specs.Lines.{header_line, refusal_line}
 use Rattle.elf_model.specs.Style.{Style}
 use Rattle.elf_model.specs.declared.causes.Refusal.{Refusal}
+use Rattle.elf_model.specs.declared.formats.Format.{Format}
 
 -- a member of a listing: a line, or a fault
 pub data Item : Type 0 where
@@ -24,13 +25,13 @@ fault_of (Line text ∷ items) = fault_of items
 fault_of (Fault refusal ∷ items) = Some refusal
 
 -- the line of a fault, if there is one
-abbrev pub end_text : Option Refusal → List ℕ
-end_text None = []
-end_text (Some refusal) = refusal_line refusal
+abbrev pub end_text : Format → Option Refusal → List ℕ
+end_text format None = []
+end_text format (Some refusal) = refusal_line format refusal
 
 -- the text of a listing: the lines before the first fault, and the fault's line
-abbrev pub report_of : List Item → List ℕ
-report_of items = lines_of items ++ end_text (fault_of items)
+abbrev pub report_of : Format → List Item → List ℕ
+report_of format items = lines_of items ++ end_text format (fault_of items)
 
 -- the first check that fails is a fault in the place of the items, which mean nothing then
 abbrev pub guarded : List Check → List Item → List Item
@@ -99,5 +100,6 @@ abbrev pub where_asked : ℕ → ℕ → List Item → List Item
 where_asked parts part items = elim (has parts part) [ true ↦ items | false ↦ [] ]
 
 -- the file header's part: the first of its checks that fails, else its line where the parts have it
-unfoldable pub file_header_items : List ℕ → ℕ → List Item
-file_header_items file parts = guarded (header_checks file) (where_asked parts HEADER (Line (header_line file) ∷ []))
+unfoldable pub file_header_items : Format → List ℕ → ℕ → List Item
+file_header_items format file parts =
+    guarded (header_checks file) (where_asked parts HEADER (Line (header_line format file) ∷ []))

@@ -25,14 +25,14 @@ abbrev pub HeaderAloneIsListed : Type 0
 HeaderAloneIsListed =
     (file : List ℕ) → (headers : ℕ) → (style : Style) → (parts : ℕ)
     → has_tables (known_parts style parts) ≡ false
-    → listing file headers style parts ≡ file_header_items file parts
+    → listing file headers style parts ≡ file_header_items style.format file parts
 
 -- where a check of the file header fails, the listing is that fault's line alone, under any parts
 abbrev pub HeaderFaultIsListedAlone : Type 0
 HeaderFaultIsListedAlone =
     (file : List ℕ) → (headers : ℕ) → (style : Style) → (parts : ℕ) → (refusal : Refusal)
     → first_refusal (header_checks file) ≡ Some refusal
-    → (report_of (listing file headers style parts) ≡ refusal_line refusal)
+    → (report_of style.format (listing file headers style parts) ≡ refusal_line style.format refusal)
     × (fault_of (listing file headers style parts) ≡ Some refusal)
 
 -- where a load check of the file that the style looks at fails, the listing is the file header's line and that fault's line,
@@ -42,7 +42,7 @@ LoadFaultIsListedSecond =
     (file : List ℕ) → (headers : ℕ) → (style : Style) → (parts : ℕ) → (refusal : Refusal)
     → first_refusal (header_checks file) ≡ None → first_refusal (load_checks (viewed style file) headers) ≡ Some refusal
     → has parts HEADER ≡ true → has_tables (known_parts style parts) ≡ true
-    → report_of (listing file headers style parts) ≡ header_line file ++ refusal_line refusal
+    → report_of style.format (listing file headers style parts) ≡ header_line style.format file ++ refusal_line style.format refusal
 
 -- what stands behind the first fault of a listing is not shown
 abbrev pub NothingBehindTheFault : Type 0
@@ -68,4 +68,4 @@ abbrev pub AmpleBudgetIsReport : Type 0
 AmpleBudgetIsReport =
     (budget : ℕ) → (file : List ℕ) → (headers : ℕ) → (style : Style) → (parts : ℕ) → (text : List ℕ) → (fault : Option Refusal)
     → listing_cost file headers style parts ≤ budget → IsBudgeted (Some budget) file headers style parts text fault
-    → IsReport (listing file headers style parts) text fault
+    → IsReport style.format (listing file headers style parts) text fault

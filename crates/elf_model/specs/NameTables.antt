@@ -214,10 +214,13 @@ relocation_types gnu = standard_relocation_types ++ names_where gnu further_relo
 unfoldable pub number_sign : ℕ → List ℕ
 number_sign n = codes "#" ++ decimal n
 
--- a relocation type's name on a machine, or its number: names are known for x86-64 alone
+-- the relocation types of a machine that have names: they are known for x86-64 alone
+abbrev pub relocation_names : Bool → ℕ → List (ℕ × List ℕ)
+relocation_names gnu machine = names_where (machine == EM_X86_64) (relocation_types gnu)
+
+-- a relocation type's name on a machine, or its number
 unfoldable pub relocation_type_text : Bool → ℕ → ℕ → List ℕ
-relocation_type_text gnu machine n =
-    if machine == EM_X86_64 then name_in (relocation_types gnu) n (number_sign n) else number_sign n
+relocation_type_text gnu machine n = name_in (relocation_names gnu machine) n (number_sign n)
 
 -- the dynamic array tags (gABI 5, Dynamic Section)
 unfoldable pub standard_dynamic_tags : List (ℕ × List ℕ)

@@ -27,7 +27,7 @@ OverlapIsListedSecond =
     → style.by_segments ≡ true → needs_segments (viewed style file) (known_parts style parts) ≡ true
     → first_refusal (overlap_checks (viewed style file)) ≡ Some refusal
     → has parts HEADER ≡ true → has_tables (known_parts style parts) ≡ true
-    → report_of (listing file headers style parts) ≡ header_line file ++ refusal_line refusal
+    → report_of style.format (listing file headers style parts) ≡ header_line style.format file ++ refusal_line style.format refusal
 
 -- any other style lists such a file as it lists others
 abbrev pub OverlapIsListedElsewhere : Type 0

@@ -4,6 +4,7 @@ use Rattle.elf_model.specs.Bytes.{slice, field}
 use Rattle.elf_model.specs.LineFronts.{section_front, symbol_front, relocation_front, dynamic_front}
 use Rattle.elf_model.specs.Lines.{header_line, segment_line}
 use Rattle.elf_model.specs.Records.{FILE_HEADER_SIZE, SECTION_HEADER_SIZE, PROGRAM_HEADER_SIZE}
+use Rattle.elf_model.specs.declared.formats.Format.{Format}
 use Rattle.elf_model.specs.Tables.{SYMBOL_SIZE, RELA_SIZE, DYNAMIC_SIZE}
 
 -- a field of a slice is the file's field
@@ -15,10 +16,10 @@ FieldsOfSlices =
 -- a record's line, or its front, is the same at the record's own bytes
 abbrev pub LinesOfSlices : Type 0
 LinesOfSlices =
-    (file : List ℕ) → (gnu : Bool) → (machine at index section : ℕ)
-    → (header_line (slice file 0 FILE_HEADER_SIZE) ≡ header_line file)
-    × (section_front gnu machine (slice file at SECTION_HEADER_SIZE) 0 index ≡ section_front gnu machine file at index)
-    × (segment_line gnu (slice file at PROGRAM_HEADER_SIZE) 0 index ≡ segment_line gnu file at index)
-    × (symbol_front gnu machine (slice file at SYMBOL_SIZE) 0 section index ≡ symbol_front gnu machine file at section index)
-    × (relocation_front gnu machine (slice file at RELA_SIZE) 0 section ≡ relocation_front gnu machine file at section)
-    × (dynamic_front gnu (slice file at DYNAMIC_SIZE) 0 index ≡ dynamic_front gnu file at index)
+    (format : Format) → (file : List ℕ) → (gnu : Bool) → (machine at index section : ℕ)
+    → (header_line format (slice file 0 FILE_HEADER_SIZE) ≡ header_line format file)
+    × (section_front format gnu machine (slice file at SECTION_HEADER_SIZE) 0 index ≡ section_front format gnu machine file at index)
+    × (segment_line format gnu (slice file at PROGRAM_HEADER_SIZE) 0 index ≡ segment_line format gnu file at index)
+    × (symbol_front format gnu machine (slice file at SYMBOL_SIZE) 0 section index ≡ symbol_front format gnu machine file at section index)
+    × (relocation_front format gnu machine (slice file at RELA_SIZE) 0 section ≡ relocation_front format gnu machine file at section)
+    × (dynamic_front format gnu (slice file at DYNAMIC_SIZE) 0 index ≡ dynamic_front format gnu file at index)

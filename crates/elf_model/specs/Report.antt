@@ -12,6 +12,7 @@ use Rattle.elf_model.specs.Style.{Style, standard, viewed}
 use Rattle.elf_model.specs.Tables.{all_checks}
 use Rattle.elf_model.specs.TableKinds.{table_headers}
 use Rattle.elf_model.specs.declared.causes.Refusal.{Refusal}
+use Rattle.elf_model.specs.declared.formats.Format.TheVariants.{Columns}
 
 -- the rows of the table of a kind whose header has an index and stands at an offset, behind its checks; none where the
 -- header describes no such table
@@ -55,15 +56,15 @@ load_items file headers style parts =
 unfoldable pub listing : List ℕ → ℕ → Style → ℕ → List Item
 listing file headers style parts =
     guarded (header_checks file)
-    (where_asked parts HEADER (Line (header_line file) ∷ []) ++ load_items (viewed style file) headers style (known_parts style parts))
+    (where_asked parts HEADER (Line (header_line style.format file) ∷ []) ++ load_items (viewed style file) headers style (known_parts style parts))
 
--- the listing with so many bytes of a name, in the standards' names, by the section headers where there are some
+-- the listing with so many bytes of a name, in the standards' names, by the section headers where there are some, in columns
 abbrev pub items : List ℕ → ℕ → ℕ → ℕ → List Item
 items file headers cap parts = listing file headers (standard cap) parts
 
 -- its text
 abbrev pub report : List ℕ → ℕ → ℕ → ℕ → List ℕ
-report file headers cap parts = report_of (items file headers cap parts)
+report file headers cap parts = report_of Columns (items file headers cap parts)
 
 -- its first fault
 abbrev pub report_fault : List ℕ → ℕ → ℕ → ℕ → Option Refusal

@@ -8,6 +8,7 @@ use Rattle.elf_model.specs.Style.{Style}
 use Rattle.elf_model.specs.Notes.{Note, Walk, note_shown}
 use Rattle.elf_model.specs.Tables.{SYMBOL_SIZE, RELA_SIZE, section_bytes, strings_of, linked_at, entry_at, symbol_checks_of}
 use Rattle.elf_model.specs.Checks.{first_refusal}
+use Rattle.elf_model.specs.Fields.{LineFront}
 use Rattle.elf_model.specs.LineFronts.{section_front, symbol_front, relocation_front, note_front, dynamic_front}
 use Rattle.elf_model.specs.Lines.{named_line, note_line, segment_line}
 use Rattle.elf_model.specs.Listing.{Item, Line, Fault}
@@ -20,7 +21,7 @@ abbrev pub refused_row : ℕ → Cause → List Item
 refused_row at cause = Fault (record { at = at; cause = cause }) ∷ []
 
 -- a row that ends in a name: its line, or the name's fault, at the entry that holds the name's index
-abbrev pub named_row : List ℕ → ℕ → Result Shown Cause → List Item
+abbrev pub named_row : LineFront → ℕ → Result Shown Cause → List Item
 named_row front at (Ok name) = Line (named_line front name) ∷ []
 named_row front at (Err cause) = refused_row at cause
 
@@ -38,17 +39,17 @@ section_name file at cap =
 unfoldable pub section_row : List ℕ → Style → ℕ → List Item
 section_row file style index =
     let at = section_at file index in
-    named_row (section_front style.gnu (e_machine file) file at index) at (section_name file at style.cap)
+    named_row (section_front style.format style.gnu (e_machine file) file at index) at (section_name file at style.cap)
 
 -- the row of a program header
 unfoldable pub segment_row : List ℕ → Style → ℕ → List Item
-segment_row file style index = Line (segment_line style.gnu file (segment_at file index) index) ∷ []
+segment_row file style index = Line (segment_line style.format style.gnu file (segment_at file index) index) ∷ []
 
 -- the row of a symbol of the symbol table that a section header describes
 unfoldable pub symbol_row : List ℕ → Style → ℕ → ℕ → ℕ → List Item
 symbol_row file style section at index =
     let symbol_at = entry_at file at SYMBOL_SIZE index in
-    let front = symbol_front style.gnu (e_machine file) file symbol_at section index in
+    let front = symbol_front style.format style.gnu (e_machine file) file symbol_at section index in
     named_row front symbol_at (shown (strings_of file at) (st_name file symbol_at) style.cap)
 
 -- the offset that a fault names and the name that is shown, for the symbol of an index that a relocation entry names, whose
@@ -69,18 +70,18 @@ unfoldable pub relocation_row : List ℕ → Style → ℕ → ℕ → ℕ → L
 relocation_row file style section at index =
     let rela_at = entry_at file at RELA_SIZE index in
     let symbol = symbol_named file style.cap at rela_at (r_sym file rela_at) in
-    named_row (relocation_front style.gnu (e_machine file) file rela_at section) symbol.0 symbol.1
+    named_row (relocation_front style.format style.gnu (e_machine file) file rela_at section) symbol.0 symbol.1
 
 -- the row of a note
-unfoldable pub note_row : ℕ → ℕ → Note → Item
-note_row cap index note =
-    let front = note_front index note.kind (length note.name) (length note.descriptor) in
-    Line (note_line front (note_shown cap note) note.descriptor)
+unfoldable pub note_row : Style → ℕ → Note → Item
+note_row style index note =
+    let front = note_front style.format index note.kind (length note.name) (length note.descriptor) in
+    Line (note_line front (note_shown style.cap note) note.descriptor)
 
 -- the rows of notes
-unfoldable pub notes_rows : ℕ → ℕ → List Note → List Item
-notes_rows cap index [] = []
-notes_rows cap index (note ∷ notes) = note_row cap index note ∷ notes_rows cap index notes
+unfoldable pub notes_rows : Style → ℕ → List Note → List Item
+notes_rows style index [] = []
+notes_rows style index (note ∷ notes) = note_row style index note ∷ notes_rows style index notes
 
 -- the end of a table of notes at an offset: a fault at the place where it is cut
 abbrev pub cut_rows : ℕ → Option ℕ → List Item
@@ -88,8 +89,8 @@ cut_rows table_at None = []
 cut_rows table_at (Some place) = refused_row (table_at + place) NoteCut
 
 -- the rows of a table of notes at an offset, up to the place where it is cut, if it is
-unfoldable pub walk_rows : ℕ → ℕ → ℕ → Walk → List Item
-walk_rows cap index table_at walk = notes_rows cap index walk.notes ++ cut_rows table_at walk.cut
+unfoldable pub walk_rows : Style → ℕ → ℕ → Walk → List Item
+walk_rows style index table_at walk = notes_rows style index walk.notes ++ cut_rows table_at walk.cut
 
 -- the value of an entry with this tag is a string table index (gABI 5, Dynamic Section)
 abbrev pub is_string_tag : ℕ → Bool
@@ -99,7 +100,7 @@ is_string_tag tag = tag == DT_NEEDED || tag == DT_SONAME || tag == DT_RPATH || t
 -- there the string table is looked for, which may be refused
 unfoldable pub dynamic_row : List ℕ → Style → (ℕ → Result (List ℕ) Refusal) → ℕ → ℕ → List Item
 dynamic_row file style strings dynamic_at index =
-    let front = dynamic_front style.gnu file dynamic_at index in
+    let front = dynamic_front style.format style.gnu file dynamic_at index in
     elim (is_string_tag (d_tag file dynamic_at)) [
       | false ↦ named_row front dynamic_at no_name
       | true ↦ elim (strings dynamic_at) [

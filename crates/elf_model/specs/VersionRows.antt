@@ -1,6 +1,8 @@
 -- The rows of symbol versions: of the records of definitions and needs, and of the numbers that symbols have.
 use Rattle.std.specs.Prelude.{ℕ, ◌+◌, ◌/◌, ◌==◌, ◌||◌, min, nat_lt, not, if◌then◌else◌, List, [], ◌∷◌, ◌++◌, codes, Option, None, Some}
 use Rattle.elf_model.specs.Checks.{Check, refuse, range_checks_of, strings_checks}
+use Rattle.elf_model.specs.Fields.{Fields, LineFront, front}
+use Rattle.elf_model.specs.Fields.Field.{Decimal, Hexadecimal, Word}
 use Rattle.elf_model.specs.HeaderTables.{TableKind, each_entry, file_sections, first_typed}
 use Rattle.elf_model.specs.Listing.{Item, Fault, VERSIONS, each}
 use Rattle.elf_model.specs.Names.{shown, name_bytes}
@@ -9,11 +11,11 @@ use Rattle.elf_model.specs.Records.{sh_type, sh_offset, sh_size, sh_link, sectio
 use Rattle.elf_model.specs.Rows.{named_row, no_name, refused_row}
 use Rattle.elf_model.specs.Style.{Style}
 use Rattle.elf_model.specs.Tables.{SYMBOL_SIZE, TableChecks, section_table, linked_at, strings_of, entry_count, entry_at, has_symbols, symbol_table_checks}
-use Rattle.elf_model.specs.Text.{hex, left_in, right_decimal, space}
 use Rattle.elf_model.specs.VersionCost.{versioned_cost}
 use Rattle.elf_model.specs.Versions.{VERSYM_SIZE, DEFINITION_SIZE, DEFINED_NAME_SIZE, NEED_SIZE, Met, Versions, number_in, number_word, flags_word, hash_word, named_at, name_index, versions_in, version_of}
 use Rattle.elf_model.specs.declared.causes.Cause.TheVariants.{BadLink, VersionCut, VersionIndex}
 use Rattle.elf_model.specs.declared.causes.Refusal.{Refusal}
+use Rattle.elf_model.specs.declared.formats.Format.{Format}
 use Rattle.elf_model.specs.declared.versions.VersionKind.{VersionKind}
 use Rattle.elf_model.specs.declared.versions.VersionKind.TheVariants.{Definition, File, Need}
 
@@ -24,15 +26,26 @@ kind_text File = codes "FILE"
 kind_text Need = codes "NEED"
 
 -- a record of definitions or needs up to its name: the index of its section, its kind, number, flags and hash
-unfoldable pub version_front : VersionKind → (section number flags hash : ℕ) → List ℕ
-version_front kind section number flags hash =
-    codes "V " ++ right_decimal 5 section ++ space ++ left_in 4 (kind_text kind) ++ space ++ right_decimal 5 number
-    ++ space ++ hex 4 flags ++ space ++ hex 8 hash ++ space
+abbrev pub version_fields : VersionKind → (section number flags hash : ℕ) → Fields
+version_fields kind section number flags hash = record {
+  letter = codes "V";
+  fields =
+      Decimal (codes "index") 5 section
+      ∷ Word (codes "kind") 4 (kind_text kind)
+      ∷ Decimal (codes "number") 5 number
+      ∷ Hexadecimal (codes "flags") 4 flags
+      ∷ Hexadecimal (codes "hash") 8 hash
+      ∷ [];
+}
+
+unfoldable pub version_front : Format → VersionKind → (section number flags hash : ℕ) → LineFront
+version_front format kind section number flags hash =
+    front format (codes "name") (version_fields kind section number flags hash)
 
 -- the row of a met record, with its name in a string table
 unfoldable pub version_row : List ℕ → Style → (section : ℕ) → (strings : List ℕ) → Met → List Item
 version_row file style section strings met =
-    named_row (version_front met.kind section (number_word file met) (flags_word file met) (hash_word file met))
+    named_row (version_front style.format met.kind section (number_word file met) (flags_word file met) (hash_word file met))
     (named_at file met) (shown strings (name_index file met) style.cap)
 
 -- the rows of met records
@@ -87,14 +100,23 @@ version_strings file kind =
 
 -- the version of a symbol up to its name: the indexes of the section of version numbers and of the symbol, the number, and
 -- whether the version is hidden
-unfoldable pub symbol_version_front : (section index word : ℕ) → List ℕ
-symbol_version_front section index word =
-    codes "X " ++ right_decimal 5 section ++ space ++ right_decimal 10 index ++ space ++ right_decimal 5 (number_in word)
-    ++ space ++ (if word == number_in word then codes "-" else codes "H") ++ space
+abbrev pub symbol_version_fields : (section index word : ℕ) → Fields
+symbol_version_fields section index word = record {
+  letter = codes "X";
+  fields =
+      Decimal (codes "table") 5 section
+      ∷ Decimal (codes "index") 10 index
+      ∷ Decimal (codes "number") 5 (number_in word)
+      ∷ Word (codes "hidden") 1 (if word == number_in word then codes "-" else codes "H")
+      ∷ [];
+}
+
+unfoldable pub symbol_version_front : Format → (section index word : ℕ) → LineFront
+symbol_version_front format section index word = front format (codes "name") (symbol_version_fields section index word)
 
 -- the row of a version of a number, which an entry at an offset holds: a number that a record names has its name, 0 and 1 have
 -- none, and any other is refused at the entry
-unfoldable pub numbered_row : List ℕ → Style → (front : List ℕ) → (entry_at number : ℕ) → List Item
+unfoldable pub numbered_row : List ℕ → Style → (front : LineFront) → (entry_at number : ℕ) → List Item
 numbered_row file style front entry_at number =
     if nat_lt number 2 then named_row front entry_at no_name
     else elim (version_named file number) [
@@ -107,7 +129,7 @@ unfoldable pub symbol_version_row : List ℕ → Style → (section at : ℕ) �
 symbol_version_row file style section at index =
     let entry_at = entry_at file at VERSYM_SIZE index in
     let word = versym file entry_at in
-    numbered_row file style (symbol_version_front section index word) entry_at (number_in word)
+    numbered_row file style (symbol_version_front style.format section index word) entry_at (number_in word)
 
 -- how many symbols the table has to which a section of version numbers links
 abbrev pub versioned_symbols : List ℕ → ℕ → ℕ

@@ -1,6 +1,6 @@
 //! What the words of elfsee mean: the fields of an ELF64 file, the checks, the lines of a listing
 //! and the report, as definitions in `specs/`. As code there are only the causes of a refusal, the
-//! states of a file, what a relocation type is, and functions with no body whose contracts are laws
+//! states of a file, how a line is written, what a relocation type is, and functions with no body whose contracts are laws
 //! about the definitions.
 #![tactic(auto)]
 
@@ -9,6 +9,7 @@ mod archive_laws;
 mod causes;
 mod cost_laws;
 mod dynamic;
+mod formats;
 mod gnu_hash_laws;
 mod hash_laws;
 mod listing_laws;
@@ -27,6 +28,7 @@ mod version_laws;
 mod versions;
 
 pub use causes::{Cause, Refusal};
+pub use formats::Format;
 pub use missing::{Missing, Wanted};
 pub use relocation_types::{Base, Formula, Range, RelocationType};
 pub use states::FileState;

@@ -8,6 +8,7 @@ use Rattle.elf_model.specs.Listing.{Item, end_text, lines_of, report_of}
 use Rattle.elf_model.specs.Report.{listing}
 use Rattle.elf_model.specs.Style.{Style}
 use Rattle.elf_headers.specs.Permitted.{style_of}
+use Rattle.elf_model.specs.declared.formats.Format.{Format}
 use Rattle.elf_model.specs.declared.causes.Refusal.{Refusal}
 use Rattle.elf_source.specs.Growth.{Grows}
 use Rattle.elf_source.specs.Source.{Counting}
@@ -22,10 +23,10 @@ use Rattle.elf_run.specs.Requests.{RunsShow}
 abbrev answer_of : List ℕ → Option Refusal → Answer
 answer_of text fault = record { text = text; status = status_of fault }
 
-report_shown : (file : List ℕ) (headers : ℕ) (style : Style) (parts : ℕ) (text : List ℕ) (fault : Option Refusal) → IsReport (listing file headers style parts) text fault
+report_shown : (file : List ℕ) (headers : ℕ) (style : Style) (parts : ℕ) (text : List ℕ) (fault : Option Refusal) → IsReport style.format (listing file headers style parts) text fault
     → answer_of text fault ≡ show_answer_by file headers style parts
 report_shown file headers style parts text fault is =
-    ap (λ t. answer_of t fault) is.text_is ∙ ap (λ f. answer_of (report_of (listing file headers style parts)) f) is.fault_is
+    ap (λ t. answer_of t fault) is.text_is ∙ ap (λ f. answer_of (report_of style.format (listing file headers style parts)) f) is.fault_is
 
 -- a report whose fault is not for want of budget is the whole answer
 whole_report : (budget : Option ℕ) (file : List ℕ) (headers : ℕ) (style : Style) (parts : ℕ) (text : List ℕ) (fault : Option Refusal) → IsBudgeted budget file headers style parts text fault
@@ -35,15 +36,16 @@ whole_report (Some budget) file headers style parts text fault (inl is) other = 
 whole_report (Some budget) file headers style parts text fault (inr is) other = absurd (other is.1.refusal is.1.fault_is is.1.for_budget)
 
 -- the line of its fault ends a report
-report_ends : (all : List Item) (text : List ℕ) (fault : Option Refusal) (refusal : Refusal) → Some refusal ≡ fault → IsReport all text fault → EndsIn refusal text
-report_ends all text fault refusal some is = (lines_of all, is.text_is ∙ ap (λ end. lines_of all ++ end_text end) (sym (some ∙ is.fault_is)))
+report_ends : (format : Format) (all : List Item) (text : List ℕ) (fault : Option Refusal) (refusal : Refusal) → Some refusal ≡ fault → IsReport format all text fault → EndsIn refusal text
+report_ends format all text fault refusal some is =
+    (format, lines_of all, is.text_is ∙ ap (λ end. lines_of all ++ end_text format end) (sym (some ∙ is.fault_is)))
 
 ends_in : (budget : Option ℕ) (file : List ℕ) (headers : ℕ) (style : Style) (parts : ℕ) (text : List ℕ) (fault : Option Refusal) (refusal : Refusal) → Some refusal ≡ fault
     → IsBudgeted budget file headers style parts text fault → EndsIn refusal text
-ends_in None file headers style parts text fault refusal some is = report_ends (listing file headers style parts) text fault refusal some is
-ends_in (Some budget) file headers style parts text fault refusal some (inl is) = report_ends (listing file headers style parts) text fault refusal some is
+ends_in None file headers style parts text fault refusal some is = report_ends style.format (listing file headers style parts) text fault refusal some is
+ends_in (Some budget) file headers style parts text fault refusal some (inl is) = report_ends style.format (listing file headers style parts) text fault refusal some is
 ends_in (Some budget) file headers style parts text fault refusal some (inr is) =
-    let same : is.1.refusal ≡ refusal = let two = some ∙ is.1.fault_is in cc in (lines_of is.1.front, rw same at is.1.text_is)
+    let same : is.1.refusal ≡ refusal = let two = some ∙ is.1.fault_is in cc in (style.format, lines_of is.1.front, rw same at is.1.text_is)
 
 -- what a task answers that lists
 abbrev pub listed_status : Result (Unit {0}) Stop → Result ℕ Stop

@@ -3,6 +3,7 @@ use Rattle.std.proofs.Common.{◌≡◌, ℕ, suc, ◌^◌, ◌≤◌, ◌==◌,
 use Rattle.std.proofs.lemmas.Bool.{cases_Bool}
 use Rattle.std.proofs.lemmas.List.{length-drop, length-take}
 use Rattle.std.specs.Prelude.{IfErr, IfSome}
+use Rattle.elf_model.specs.declared.formats.Format.TheVariants.{Columns}
 use Rattle.elf_model.specs.Answer.{Answer}
 use Rattle.elf_model.specs.Find.{looked}
 use Rattle.elf_model.specs.FindApplyAnswer.{IsAnswered, find_answer}
@@ -58,7 +59,7 @@ module _ {a b : Written} (budget : Option ℕ) (s0 s1 s2 s3 : Counting) (most : 
       (omega (arith, costs, asked), answered_whole budget (length file) (cost file) (whole file) result told.1 (alone.1 (whole file))))
 
   -- it stopped, and that was told
-  pub lookup_stopped : (fault : Fault) (told : Stop) → s0.asked ≤ 2 ^ 127 → Charges s1 s2 (Some fault) (most s1.seen.size) → Grows a b → TellsStop a b (stop_of fault) told
+  pub lookup_stopped : (fault : Fault) (told : Stop) → s0.asked ≤ 2 ^ 127 → Charges s1 s2 (Some fault) (most s1.seen.size) → Grows a b → TellsStop Columns a b (stop_of fault) told
       → ((file : List ℕ) → s1.seen.file ≡ Some file → Charges s1 s2 (Some fault) (cost file) × RefusesAs (whole file) fault)
       → Runs s0 s3 a b (Err told) (AsksUpTo budget s0 s3 (most s0.seen.size)) cost (GivesAnswer budget s0 s3 cost whole a b (Err told))
   lookup_stopped fault told small charges grows tells known =
@@ -69,7 +70,7 @@ module _ {a b : Written} (budget : Option ℕ) (s0 s1 s2 s3 : Counting) (most : 
       let size = ap (λ (seen : Seen). most seen.size) set.seen in
       runs budget s0 s1 s3 (most s0.seen.size) cost set grows (rw (unset.seen) reads.keeps) unset.most (omega (arith, at_most, asked, size))
       (rw asked (within_budget budget s0 s1 s2 set reads.same_limit))
-      (told_says s0 s1 s2 s3 a b n budget (stop_of fault) told set unset tells (StopSays-fault s1 s2 a fault n n (omega arith) charges.says))
+      (told_says Columns s0 s1 s2 s3 a b n budget (stop_of fault) told set unset tells (StopSays-fault s1 s2 a fault n n (omega arith) charges.says))
       (λ file held.
       let it = known file held in
       let costs = it.0.reads.at_most in
@@ -94,7 +95,7 @@ pub no_version_line : (index : ℕ) (xs : List ℕ) → xs ++ found_version_line
 unfolding found_version_line
 no_version_line index xs = append-nil xs
 
-pub version_line : (index : ℕ) (version : FoundVersion) → found_version_line index (Some version) ≡ named_line (symbol_version_front version.index index version.word) version.name
+pub version_line : (index : ℕ) (version : FoundVersion) → found_version_line index (Some version) ≡ named_line (symbol_version_front Columns version.index index version.word) version.name
 unfolding found_version_line
 version_line index version = refl
 

@@ -1,6 +1,7 @@
 -- What a task did that is no listing, between the call that sets its limit and the one that takes it away.
 use Rattle.std.proofs.Common.{◌≡◌, ◌⊎◌, ℕ, ◌+◌, ◌^◌, ◌<◌, ◌≤◌, List, [], ◌++◌, Option, None, Some, Result, Ok, Err, ap, sym, ◌∙◌, inl, inr, refl, subst, arith}
 use Rattle.std.specs.Prelude.{IfErr, IfSome}
+use Rattle.elf_model.specs.declared.formats.Format.TheVariants.{Columns}
 use Rattle.elf_model.specs.Answer.{Answer}
 use Rattle.elf_model.specs.Apply.{applied}
 use Rattle.elf_model.specs.Budget.{IsBudget}
@@ -35,7 +36,7 @@ front_then xs ys first next = TakesFront-then xs ys first next
 -- a front of a section is one of the answer's text: of a section that is refused nothing was written
 pub front_of_answer : {old new : Written} (answer : Result (List ℕ) Refusal) → TakesFront old new (text_of answer) → TakesFront old new (applied_text answer)
 front_of_answer (Ok text) front = front
-front_of_answer (Err refusal) front = TakesFront-more [] (refusal_line refusal) front
+front_of_answer (Err refusal) front = TakesFront-more [] (refusal_line Columns refusal) front
 
 -- a refusal for want of budget is inside the source, and so many bytes more would pass the limit that is set
 abbrev pub IsOver : Counting → ℕ → Refusal → Type 0
@@ -43,7 +44,7 @@ IsOver src n refusal = IsBudget refusal → (refusal.at < src.seen.size) × ((mo
 
 -- the answer of a refusal
 abbrev pub refused_answer : Refusal → Answer
-refused_answer refusal = record { text = refusal_line refusal; status = 1 }
+refused_answer refusal = record { text = refusal_line Columns refusal; status = 1 }
 
 -- what was written where a task stopped, whose whole answer this is: nothing before the line of a refusal, else a front
 abbrev pub StopsIn : Counting → ℕ → Written → Written → Answer → Stop → Type 0
@@ -80,14 +81,14 @@ over_answered (Some bytes) size cost whole refusal s0 s1 small set sized over is
     )
 
 -- what was told of a refusal is its line, or a front of that
-told_refusal : (a b : Written) (refusal : Refusal) (told : Stop) → TellsStop a b (Refused refusal) told → WroteAnswer a b (Err told) (refused_answer refusal)
-told_refusal a b refusal (Refused same) tells = rw (tells.0) (tells.1, refl, ([], refl))
+told_refusal : (a b : Written) (refusal : Refusal) (told : Stop) → TellsStop Columns a b (Refused refusal) told → WroteAnswer a b (Err told) (refused_answer refusal)
+told_refusal a b refusal (Refused same) tells = rw (tells.0) (tells.1, refl, (Columns, [], refl))
 told_refusal a b refusal (Source fault at) tells = absurd tells
 told_refusal a b refusal (Out fault) tells = tells.1
 
 -- a task stopped, and what was told of that
 pub answered_stop : {a c : Written} {Holds : Answer → Type 0} (b : Written) (budget : Option ℕ) (size cost : ℕ) (whole : Answer) (stop told : Stop) (s0 s1 : Counting) → s0.asked ≤ 2 ^ 127
-    → Limits s0 s1 budget → size ≡ s1.seen.size → StopsIn s1 cost a b whole stop → TellsStop b c stop told
+    → Limits s0 s1 budget → size ≡ s1.seen.size → StopsIn s1 cost a b whole stop → TellsStop Columns b c stop told
     → ((answer : Answer) → ((refusal : Refusal) → stop ≡ Refused refusal → (IsBudget refusal → ⊥) → answer ≡ whole) → Holds answer)
     → Answers a c (Err told) (IsAnswered budget size cost whole) Holds
 answered_stop {a} {c} {Holds} b budget size cost whole (Refused refusal) told s0 s1 small set sized stops tells holds = by_cause (is_budget refusal.cause)
@@ -148,7 +149,7 @@ lookup_stops s1 s2 a n (Unread fault at) whole says refuses = TakesFront-all [] 
 
 -- a lookup's budget is used up where its refusal is for want of it, and the refusal names the read that it had no room for
 pub lookup_used : (a b : Written) (budget : Option ℕ) (s0 s1 s2 s3 : Counting) (n : ℕ) (fault : Fault) (told : Stop) (whole answer : Answer) → s0.asked ≤ 2 ^ 127 → Limits s0 s1 budget
-    → Limits s2 s3 None → Says s1 s2 n fault → TellsStop a b (stop_of fault) told → ((refusal : Refusal) → stop_of fault ≡ Refused refusal → (IsBudget refusal → ⊥) → answer ≡ whole)
+    → Limits s2 s3 None → Says s1 s2 n fault → TellsStop Columns a b (stop_of fault) told → ((refusal : Refusal) → stop_of fault ≡ Refused refusal → (IsBudget refusal → ⊥) → answer ≡ whole)
     → WholeOrUsedUp budget s0 s3 (Err told) whole answer
 lookup_used a b budget s0 s1 s2 s3 n (Unread cause at) told whole answer small set unset says tells other = rw (tells.1) tt
 lookup_used a b budget s0 s1 s2 s3 n (Refuses first) (Source cause at) whole answer small set unset says tells other = tt
@@ -175,7 +176,7 @@ section_stops entries s1 s2 a b out file headers section layout n cost (Source f
 section_stops entries s1 s2 a b out file headers section layout n cost (Out fault) says wants wrote = front_of_answer (applied file headers section layout) wrote
 
 -- what was told of a stop says of the source and the output what the stop did
-pub section_says : (s0 s1 s2 : Counting) (b c : Written) (n : ℕ) (budget : Option ℕ) (stop told : Stop) → Limits s0 s1 budget → ApplySays s1 s2 b n stop → TellsStop b c stop told → FaultSays s0 s2 c told
+pub section_says : (s0 s1 s2 : Counting) (b c : Written) (n : ℕ) (budget : Option ℕ) (stop told : Stop) → Limits s0 s1 budget → ApplySays s1 s2 b n stop → TellsStop Columns b c stop told → FaultSays s0 s2 c told
 section_says s0 s1 s2 b c n budget (Refused refusal) (Refused same) set says tells = tt
 section_says s0 s1 s2 b c n budget (Refused refusal) (Source fault at) set says tells = absurd tells
 section_says s0 s1 s2 b c n budget (Refused refusal) (Out fault) set says tells = tells.0

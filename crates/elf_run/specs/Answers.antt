@@ -4,6 +4,7 @@ use Rattle.elf_model.specs.Answer.{Answer}
 use Rattle.elf_model.specs.Budget.{IsBudget}
 use Rattle.elf_model.specs.Lines.{refusal_line}
 use Rattle.elf_model.specs.declared.causes.Refusal.{Refusal}
+use Rattle.elf_model.specs.declared.formats.Format.{Format}
 use Rattle.elf_source.specs.Source.{Counting}
 use Rattle.elf_source.specs.Output.{Written, Takes, TakesFront}
 use Rattle.elf_headers.specs.declared.stop.Stop.{Stop}
@@ -13,7 +14,7 @@ use Rattle.elf_words.specs.declared.requests.RequestFault.TheVariants.{Words, Ba
 
 -- a text ends in the line of a refusal
 abbrev pub EndsIn : Refusal → List ℕ → Type 0
-EndsIn refusal text = (lines : List ℕ) × (text ≡ lines ++ refusal_line refusal)
+EndsIn refusal text = (format : Format) × (lines : List ℕ) × (text ≡ lines ++ refusal_line format refusal)
 
 -- an answer was written and its status given, which is 1 where the refusal of its last line is; or a front of its text was written
 abbrev pub WroteAnswer : Written → Written → Result ℕ Stop → Answer → Type 0

@@ -5,6 +5,7 @@ ghost use Rattle.elf_run.specs.Requests.{RunsApply};
 use elf_apply::apply_with;
 use elf_layout::Addresses;
 use elf_listing::show_stop;
+use elf_model::Format;
 use elf_source::{Counted, Out, Sink, Source};
 use elf_table::{HeaderStore, Limits, Stop};
 
@@ -29,6 +30,6 @@ pub(crate) fn write_applied<S: Source, W: Sink>(
     src.limit(limits.budget);
     match apply_with(src, store, section, layout, out) {
         Ok(_) => Ok(0),
-        Err(stop) => Err(show_stop(stop, out)),
+        Err(stop) => Err(show_stop(stop, Format::Columns, out)),
     }
 }

@@ -10,6 +10,7 @@ ghost use Rattle.elf_run.specs.Requests.{RunsFind};
 
 use elf_hash::{Lookup, find};
 use elf_listing::{show_steps, show_stop, show_symbol};
+use elf_model::Format;
 use elf_source::{Counted, Out, Sink, Source};
 use elf_table::{HeaderStore, Limits, Stop};
 
@@ -38,7 +39,7 @@ pub(crate) fn look_up<S: Source, W: Sink>(
     src.limit(None);
     match found {
         Ok(lookup) => show_lookup(&lookup, wanted, out),
-        Err(fault) => Err(show_stop(fault.into(), out)),
+        Err(fault) => Err(show_stop(fault.into(), Format::Columns, out)),
     }
 }
 
@@ -61,11 +62,11 @@ fn show_lookup<W: Sink>(lookup: &Lookup, wanted: &[u8], out: &mut Out<W>) -> Res
             steps,
         } => {
             show_symbol(*section, u64::from(*index), symbol, wanted, out)?;
-            show_steps(true, u64::from(*steps), out)?;
+            show_steps(true, u64::from(*steps), Format::Columns, out)?;
             Ok(0)
         }
         Lookup::Absent { steps } => {
-            show_steps(false, u64::from(*steps), out)?;
+            show_steps(false, u64::from(*steps), Format::Columns, out)?;
             Ok(1)
         }
     }

@@ -6,6 +6,7 @@ ghost use Rattle.elf_loader.specs.Finding.{name_shown, version_found};
 ghost use Rattle.elf_loader.specs.Lookups.{AnswersLookup};
 ghost use Rattle.elf_model.specs.LineFronts.{symbol_front};
 ghost use Rattle.elf_model.specs.Lines.{named_line};
+ghost use Rattle.elf_model.specs.declared.formats.Format.TheVariants.{Columns};
 ghost use Rattle.elf_model.specs.Loader.{asked_name};
 ghost use Rattle.elf_model.specs.LoaderAnswer.{found_version_line};
 ghost use Rattle.elf_model.specs.LoaderFind.{LoaderLookup};
@@ -22,6 +23,7 @@ ghost use Rattle.elf_wanted.specs.Wants.{asked_of};
 use elf_lines::{Naming, show_named, symbol_front, symbol_version_front};
 use elf_listing::{show_steps, show_stop};
 use elf_loader::{FoundSymbol, FoundVersion, Lookup, VersionName, look_up};
+use elf_model::Format;
 use elf_source::{Counted, Out, OutFault, Sink, Source};
 use elf_table::{HeaderStore, Limits, NameBuf, NameEnd, Stop};
 use elf_wanted::{Asked, Wanted, wanted_of};
@@ -57,7 +59,7 @@ pub(crate) fn resolve<S: Source, W: Sink>(
     src.limit(None);
     match found {
         Ok(lookup) => show_resolved(&lookup, &wanted, &name, out),
-        Err(fault) => Err(show_stop(fault.into(), out)),
+        Err(fault) => Err(show_stop(fault.into(), Format::Columns, out)),
     }
 }
 
@@ -80,11 +82,11 @@ fn show_resolved<W: Sink>(
     match lookup {
         Lookup::Found(found) => {
             show_found(found, wanted, name, out)?;
-            show_steps(true, found.tried, out)?;
+            show_steps(true, found.tried, Format::Columns, out)?;
             Ok(0)
         }
         Lookup::Absent { tried } => {
-            show_steps(false, *tried, out)?;
+            show_steps(false, *tried, Format::Columns, out)?;
             Ok(1)
         }
     }
@@ -104,7 +106,7 @@ fn show_found<W: Sink>(
     ensures fails { IfErr result (OutFails out.new) }
     ensures puts { (file : List ℕ) (at : ℕ) → IsSym file at found.now.symbol →
         found.now.machine ≡ e_machine file →
-        let front = symbol_front true (e_machine file) file at found.now.section found.now.index in
+        let front = symbol_front Columns true (e_machine file) file at found.now.section found.now.index in
         let version = option_map (version_found (asked_of wanted.now.asked) name.now) found.now.version in
         Puts out.old out.new result
         (named_line front (Whole wanted.now.name.now) ++ found_version_line found.now.index version) }
@@ -112,6 +114,7 @@ fn show_found<W: Sink>(
     let naming = Naming {
         gnu: true,
         machine: found.machine,
+        format: Format::Columns,
     };
     let front = symbol_front(found.section, found.index, &found.symbol, naming);
     show_named(front, wanted.name, false, out)?;
@@ -135,7 +138,7 @@ fn show_version<W: Sink>(
     ensures puts { let version = version_found (asked_of asked.now) name.now version.now in
         Puts out.old out.new result (found_version_line index (Some version)) }
 {
-    let front = symbol_version_front(version.index, index, version.word);
+    let front = symbol_version_front(version.index, index, version.word, Format::Columns);
     let (bytes, is_cut) = version_name(version.name, asked, name);
     show_named(front, bytes, is_cut, out)
 }

@@ -1,5 +1,6 @@
 -- What a budget allows of an answer, of a file's state, and of what a search for a NUL keeps.
 use Rattle.std.specs.Prelude.{◌≡◌, ◌<◌, ℕ, true, false, List, [], ◌∷◌, None, Some}
+use Rattle.elf_model.specs.declared.formats.Format.TheVariants.{Columns}
 use Rattle.elf_model.specs.Answer.{Answer}
 use Rattle.elf_model.specs.Bytes.{IsBytes}
 use Rattle.elf_model.specs.Checking.{IsStateOf, state_of}
@@ -14,7 +15,7 @@ use Rattle.elf_model.specs.declared.states.FileState.{FileState}
 
 -- the line of a read at an offset that has no room in a budget, alone, with status 1
 abbrev pub budget_answer : ℕ → Answer
-budget_answer at = record { text = refusal_line (record { at = at; cause = Budget }); status = 1 }
+budget_answer at = record { text = refusal_line Columns (record { at = at; cause = Budget }); status = 1 }
 
 -- without a budget, and within one of the cost, the whole is answered
 abbrev pub TheCostSuffices : Type 0

@@ -1,5 +1,6 @@
 -- Worked examples of fields and names: records whose bytes all differ, and each number that has a name.
 use Rattle.std.specs.Prelude.{◌≡◌, ℕ, false, List, [], ◌∷◌, codes, map}
+use Rattle.elf_model.specs.declared.formats.Format.TheVariants.{Columns}
 use Rattle.elf_model.specs.Records.{e_type, e_machine, e_entry, e_phoff, e_shoff, e_flags, e_phentsize, e_phnum, e_shentsize, e_shnum, e_shstrndx, sh_name, sh_type, sh_flags, sh_addr, sh_offset, sh_size, sh_link, sh_info, sh_addralign, sh_entsize, p_type, p_flags, p_offset, p_vaddr, p_paddr, p_filesz, p_memsz, p_align, st_name, st_info, st_other, st_shndx, st_value, st_size, r_offset, r_info, r_addend, d_tag, d_un, n_namesz, n_descsz, n_type}
 use Rattle.elf_model.specs.NameTables.{file_type_text, section_type_text, section_flags_text, segment_type_text, segment_flags_text, symbol_types, bindings, visibilities, places, name_or_number, relocation_type_text, dynamic_tag_text}
 use Rattle.elf_model.specs.Lines.{header_line, segment_line, escaped}
@@ -15,7 +16,7 @@ places_as_bytes = numbers_from 0 128
 -- the fields of the file header
 abbrev pub HeaderFieldsStand : Type 0
 HeaderFieldsStand =
-    (header_line places_as_bytes
+    (header_line Columns places_as_bytes
     ≡ codes "H 1110  4882 1f1e1d1c1b1a1918 2726252423222120 2f2e2d2c2b2a2928 33323130 14648 15676 16190\n")
     × (e_phentsize places_as_bytes ≡ 0x3736)
     × (e_shentsize places_as_bytes ≡ 0x3b3a)
@@ -23,7 +24,7 @@ HeaderFieldsStand =
 -- the fields of a section header
 abbrev pub SectionFieldsStand : Type 0
 SectionFieldsStand =
-    (section_front false 0x1312 places_as_bytes 0x40 12345
+    ((section_front Columns false 0x1312 places_as_bytes 0x40 12345).text
     ≡ codes "S 12345 47464544      IOC?         5756555453525150 5f5e5d5c5b5a5958 6766656463626160 6b6a6968 6f6e6d6c ")
     × (sh_name places_as_bytes 0x40 ≡ 0x43424140)
     × (sh_addralign places_as_bytes 0x40 ≡ 0x7776757473727170)
@@ -32,26 +33,26 @@ SectionFieldsStand =
 -- the fields of a program header
 abbrev pub SegmentFieldsStand : Type 0
 SegmentFieldsStand =
-    segment_line false places_as_bytes 0x40 7
+    segment_line Columns false places_as_bytes 0x40 7
     ≡ codes "P     7 43424140 R-- 4f4e4d4c4b4a4948 5756555453525150 5f5e5d5c5b5a5958 6766656463626160 6f6e6d6c6b6a6968 7776757473727170\n"
 
 -- the fields of a symbol; its index may be wider than its column
 abbrev pub SymbolFieldsStand : Type 0
 SymbolFieldsStand =
-    (symbol_front false 0x1312 places_as_bytes 0x40 3 12345678901
+    ((symbol_front Columns false 0x1312 places_as_bytes 0x40 3 12345678901).text
     ≡ codes "Y     3 12345678901 4f4e4d4c4b4a4948 5756555453525150 FILE         4 INTERNAL  18246 ")
     × (st_name places_as_bytes 0x40 ≡ 0x43424140)
 
 -- the fields of a relocation entry
 abbrev pub RelocationFieldsStand : Type 0
 RelocationFieldsStand =
-    relocation_front false 62 places_as_bytes 0x40 3
+    (relocation_front Columns false 62 places_as_bytes 0x40 3).text
     ≡ codes "R     3 4746454443424140 #1263159624 4f4e4d4c +5756555453525150 "
 
 -- the fields of a dynamic entry and of a note's head; an entry's index may be wider than its column
 abbrev pub OtherFieldsStand : Type 0
 OtherFieldsStand =
-    (dynamic_front false places_as_bytes 0x40 123456 ≡ codes "D 123456 4746454443424140 4f4e4d4c4b4a4948 ")
+    ((dynamic_front Columns false places_as_bytes 0x40 123456).text ≡ codes "D 123456 4746454443424140 4f4e4d4c4b4a4948 ")
     × (n_namesz places_as_bytes 0x40 ≡ 0x43424140)
     × (n_descsz places_as_bytes 0x40 ≡ 0x47464544)
     × (n_type places_as_bytes 0x40 ≡ 0x4b4a4948)

@@ -1,6 +1,7 @@
 -- Worked examples of the rows of symbol versions.
 use Rattle.std.specs.Prelude.{◌≡◌, ℕ, ◌+◌, ◌-◌, ◌==◌, List, [], ◌∷◌, ◌++◌, length, drop, take, replicate, filter, codes, true, false}
 use Rattle.std.specs.List.{concat}
+use Rattle.elf_model.specs.declared.formats.Format.TheVariants.{Columns}
 use Rattle.elf_model.specs.Bytes.{little}
 use Rattle.elf_model.specs.Cost.{cost, listing_cost}
 use Rattle.elf_model.specs.Fixtures.{with_bytes}
@@ -12,11 +13,11 @@ use Rattle.elf_model.specs.Style.{Style, standard}
 
 -- how rows are shown here: 63 bytes of a name, and the names of the GNU system's numbers
 abbrev pub shown_as : Style
-shown_as = record { cap = 63; gnu = true; by_segments = false }
+shown_as = record { cap = 63; gnu = true; by_segments = false; format = Columns }
 
 -- the listing of some parts of a file, with eight headers permitted, and of its symbol versions alone
 unfoldable pub parts_listed : ℕ → List ℕ → List ℕ
-parts_listed parts file = report_of (listing file 8 shown_as parts)
+parts_listed parts file = report_of Columns (listing file 8 shown_as parts)
 
 unfoldable pub versions_listed : List ℕ → List ℕ
 versions_listed file = parts_listed VERSIONS file
@@ -173,9 +174,9 @@ LibraryListsWhole =
 -- without the names of the GNU system it has no symbol versions
 abbrev pub StandardHasNone : Type 0
 StandardHasNone =
-    (report_of (listing versioned_library 8 (standard 63) VERSIONS) ≡ [])
-    × (report_of (listing versioned_library 8 (standard 63) (HEADER + VERSIONS))
-    ≡ report_of (listing versioned_library 8 (standard 63) HEADER))
+    (report_of Columns (listing versioned_library 8 (standard 63) VERSIONS) ≡ [])
+    × (report_of Columns (listing versioned_library 8 (standard 63) (HEADER + VERSIONS))
+    ≡ report_of Columns (listing versioned_library 8 (standard 63) HEADER))
     × (cost versioned_library 8 63 VERSIONS ≡ 64)
     × (cost versioned_library 8 63 GNU_ALL ≡ cost versioned_library 8 63 ALL)
 

@@ -184,8 +184,8 @@ returns-in_err-refused-clause-text g c = λ file held.
     let m : Member = member_of c.in-Some.member c.advance.new.name in
     let now = c.in_ok-member.ensures.asks.0.keeps.same_file ∙ held in
     let shown = c.in_err-refused.ensures.text file now m refl in
-    rw (p.1, p.2, tells.0) (Stopped-then _ _ _ _ (Line (member_line m) ∷ []) (told (member_listing file c.args.store.now.slots (style_of c.args.choice.style) c.args.choice.parts.0 m))
-    (Whole-line (member_line m) c.in_ok-show_member.ensures.puts.0) shown.0)
+    rw (p.1, p.2, tells.0) (Stopped-then _ _ _ _ (Line (member_line c.args.choice.style.format m) ∷ []) (told c.args.choice.style.format (member_listing file c.args.store.now.slots (style_of c.args.choice.style) c.args.choice.parts.0 m))
+    (Whole-line (member_line c.args.choice.style.format m) c.in_ok-show_member.ensures.puts.0) shown.0)
 
 pub returns-in_err-refused-clause-steps : goal.returns-in_err-refused-clause-steps
 returns-in_err-refused-clause-steps g c = λ file held.
@@ -233,7 +233,7 @@ returns-clause-text g c = λ file held.
     let m : Member = member_of c.in-Some.member c.advance.new.name in
     let now = c.in_ok-member.ensures.asks.0.keeps.same_file ∙ held in
     let shown = c.in_ok-refused.ensures.text file now m refl in
-    rw (tells.0) (Whole-then (Whole-line (member_line m) c.in_ok-show_member.ensures.puts.0) shown.0)
+    rw (tells.0) (Whole-then (Whole-line (member_line c.args.choice.style.format m) c.in_ok-show_member.ensures.puts.0) shown.0)
 
 pub returns-clause-steps : goal.returns-clause-steps
 returns-clause-steps g c = λ file held.

@@ -16,14 +16,14 @@ pub returns-clause-ceiling : goal.returns-clause-ceiling
 returns-clause-ceiling g c =
     let same = ap (λ size. ceiling size c.args.store.now.slots c.args.choice.style.cap.bytes) c.narrow.ensures.size_is in
     Consumes-to _ _ _ _ _ _ (omega (arith, same))
-    (part_consumes _ _ _ _ _ _ _ _ _ _ _ c.requires.whole c.requires.lies c.narrow.ensures c.list-listed.ensures.ceiling c.widen.ensures c.tell_end.ensures.tells)
+    (part_consumes _ _ _ _ _ _ _ _ _ _ _ _ c.requires.whole c.requires.lies c.narrow.ensures c.list-listed.ensures.ceiling c.widen.ensures c.tell_end.ensures.tells)
 
 pub returns-clause-cost : goal.returns-clause-cost
 returns-clause-cost g c = λ file held.
     let part = part_file _ _ file _ _ c.requires.whole c.narrow.ensures held in
-    part_consumes _ _ _ _ _ _ _ _ _ _ _ c.requires.whole c.requires.lies c.narrow.ensures (c.list-listed.ensures.cost (bytes_in file (extent_of c.args.extent)) part) c.widen.ensures c.tell_end.ensures.tells
+    part_consumes _ _ _ _ _ _ _ _ _ _ _ _ c.requires.whole c.requires.lies c.narrow.ensures (c.list-listed.ensures.cost (bytes_in file (extent_of c.args.extent)) part) c.widen.ensures c.tell_end.ensures.tells
 
 pub returns-clause-text : goal.returns-clause-text
 returns-clause-text g c = λ file held.
     let part = part_file _ _ file _ _ c.requires.whole c.narrow.ensures held in
-    lists_told _ _ _ _ _ _ _ (c.list-listed.ensures.text (bytes_in file (extent_of c.args.extent)) part) c.tell_end.ensures.tells
+    lists_told _ _ _ _ _ _ _ _ (c.list-listed.ensures.text (bytes_in file (extent_of c.args.extent)) part) c.tell_end.ensures.tells

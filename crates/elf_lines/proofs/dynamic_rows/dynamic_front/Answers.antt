@@ -1,21 +1,20 @@
 -- The tag is shown as its bits.
 use Rattle.std.proofs.Common.{◌≡◌, refl}
 use Rattle.elf_model.specs.Records.{d_tag}
-use Rattle.elf_model.specs.NameTables.{dynamic_tag_text}
 use Rattle.elf_model.specs.LineFronts.{dynamic_front}
 use Rattle.elf_lines.proofs.TagBits.{tag_bits}
 use Rattle.elf_lines.proofs.dynamic_rows.dynamic_front.Goals as goal
 
-pub returns : goal.returns
-unfolding dynamic_front dynamic_tag_text
-returns c = λ file at is.
-    let bits : c.cast_unsigned-tag.result ≡ d_tag file at = tag_bits c.args.entry.now.d_tag _ _ is.d_tag_bits is.d_tag_low c.cast_unsigned-tag.ensures in
+pub returns-clause-front : goal.returns-clause-front
+unfolding dynamic_front
+returns-clause-front c = λ file at is.
+    let bits : c.cast_unsigned-number.result ≡ d_tag file at = tag_bits c.args.entry.now.d_tag _ _ is.d_tag_bits is.d_tag_low c.cast_unsigned-number.ensures in
     rw (
       c.put_xword.ensures.items,
       c.put_name_or_hex.ensures.items,
       c.put_decimal.ensures.items,
-      c.line_of-line.ensures.items,
-      c.tag_name.ensures.name,
+      c.begin-line.ensures.items,
+      c.tag_name-name.ensures.name,
       bits,
       is.d_un,
     )

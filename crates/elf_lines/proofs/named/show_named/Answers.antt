@@ -1,17 +1,23 @@
--- The mark and the newline are what stands behind the name.
-use Rattle.std.proofs.Common.{rules, ◌≡◌, if◌then◌else◌, [], ◌++◌}
-use Rattle.elf_model.specs.Text.{newline}
-use Rattle.elf_model.specs.Lines.{cut_mark}
-use Rattle.elf_lines.proofs.NameText.{name_text-pieces}
+-- The pieces that are put are the line's front, what stands before the name, the name, and what stands behind it.
+use Rattle.std.proofs.lemmas.Result.{err_from_is_err_and}
+use Rattle.elf_source.proofs.PutsLaws.{TakesFront-more}
+use Rattle.elf_lines.proofs.Pieces.{TakesBefore-more, Puts-rest}
+use Rattle.elf_lines.specs.Pieces.{spelt, name_end}
+use Rattle.elf_lines.proofs.NameText.{named-pieces}
 use Rattle.elf_lines.proofs.named.show_named.Goals as goal
-use Rattle.elf_lines.proofs.named.show_named.Goals.{then-is_cut, else-is_cut}
+
+pub returns-in_err-begin_name : goal.returns-in_err-begin_name
+returns-in_err-begin_name g c =
+    let p = err_from_is_err_and c.from_residual.result c.from_residual.ensures.1 in rw (p.1, p.2) (
+    let front = c.args.front in
+    let stopped = c.in_err-begin_name.ensures.puts in
+    let same = named-pieces front.format front.key.now front.line.items c.args.name.now c.args.is_cut in
+    record { puts = rw same (TakesFront-more _ _ (TakesFront-more _ _ stopped.0), stopped.1) })
 
 pub returns : goal.returns
 returns g c =
-    let tail : c.as_bytes.result.now ≡ (if c.args.is_cut then cut_mark else []) ++ newline =
-    elim c.if-is_cut.branch [
-      | then-is_cut w ↦ rw w.if-is_cut.true (search rules)
-      | else-is_cut w ↦ rw w.if-is_cut.false (search rules)
-    ] in
-    let same = name_text-pieces c.args.front.items c.args.name.now newline c.args.is_cut in
-    record { puts = rw same (rw tail at c.show_around.ensures.puts) }
+    let front = c.args.front in
+    let tail = name_end front.format c.args.is_cut in
+    let same = named-pieces front.format front.key.now front.line.items c.args.name.now c.args.is_cut in
+    let before = TakesBefore-more tail (TakesBefore-more (spelt front.format c.args.name.now) c.in_ok-begin_name.ensures.puts) in
+    record { puts = rw same (Puts-rest _ c.show_spelt.result before (rw c.name_end.ensures.items at c.show_spelt.ensures.puts)) }

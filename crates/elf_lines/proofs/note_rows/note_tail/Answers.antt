@@ -2,17 +2,19 @@
 use Rattle.std.proofs.Common.{◌≡◌, ℕ, nat_lt, if◌then◌else◌, List, [], ◌++◌, length, take, append_assoc}
 use Rattle.elf_model.specs.Text.{space, newline}
 use Rattle.elf_model.specs.Lines.{cut_mark, hex_bytes, note_tail, descriptor_text}
+use Rattle.elf_lines.specs.Notes.{described}
 use Rattle.elf_lines.proofs.note_rows.note_tail.Goals as goal
 
 regroup : (a b c d e : List ℕ) → (((a ++ b) ++ c) ++ d) ++ e ≡ a ++ ((b ++ (c ++ d)) ++ e)
 regroup a b c d e = simp append_assoc
 
-pub returns : goal.returns
-unfolding note_tail descriptor_text
-returns c = λ descriptor known.
+pub returns-in-Columns : goal.returns-in-Columns
+unfolding described note_tail descriptor_text
+returns-in-Columns c = λ descriptor known.
     rw (
-      c.put-2.ensures.items,
-      c.put_where-2.ensures.items,
+      c.in-Columns.is,
+      c.put-in-Columns.ensures.items,
+      c.put_where-in-Columns.ensures.items,
       c.put_bytes.ensures.items,
       c.put.ensures.items,
       c.put_where.ensures.items,

@@ -34,13 +34,13 @@ returns-in-Err-clause-asks g c =
     let n : ℕ = ceiling c.limit.new.self.seen.size c.args.store.now.slots c.args.caps.style.cap.bytes in
     asks_within c.args.caps c.args.parts.0 c.args.src.now c.limit.new.self c.list-listed.new.src c.limit-2.new.self n _ c.requires.1 c.limit.ensures
     (rw (c.requires.0) at c.list-listed.ensures.ceiling.0) c.limit-2.ensures c.list-listed.ensures.unread c.list-listed.ensures.alone
-    (λ refusal is. told_late _ _ _ _ _ n c.in-Err.stop _ c.show_stop.ensures.tells says refusal cc)
+    (λ refusal is. told_late c.args.caps.style.format _ _ _ _ _ n c.in-Err.stop _ c.show_stop.ensures.tells says refusal cc)
 
 pub returns-in-Err-clause-says : goal.returns-in-Err-clause-says
 returns-in-Err-clause-says g c =
     let end = c.in-Err.is in
     let says = rw end at c.list-listed.ensures.ceiling.1 in
-    told_says _ _ _ _ _ _ _ _ c.in-Err.stop _ c.limit.ensures c.limit-2.ensures c.show_stop.ensures.tells says
+    told_says c.args.caps.style.format _ _ _ _ _ _ _ _ c.in-Err.stop _ c.limit.ensures c.limit-2.ensures c.show_stop.ensures.tells says
 
 pub returns-in-Err-clause-grows : goal.returns-in-Err-clause-grows
 returns-in-Err-clause-grows g c = grows_then c.list-listed.ensures.grows c.show_stop.ensures.grows

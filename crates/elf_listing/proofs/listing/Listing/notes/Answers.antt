@@ -1,6 +1,7 @@
 -- Each note that the cursor gives is the file's, and is shown behind those before it.
 use Rattle.std.proofs.Common.{◌+◌, refl, ap, sym, ◌∙◌, arith}
 use Rattle.std.proofs.lemmas.Result.{err_from_is_err_and}
+use Rattle.elf_headers.specs.Permitted.{style_of}
 use Rattle.elf_model.specs.Bytes.{slice}
 use Rattle.elf_model.specs.Notes.{note_align}
 use Rattle.elf_names.proofs.HeldLaws.{still_held}
@@ -29,9 +30,9 @@ notes-init g c =
       grows = grows_not _;
       text = λ file held.
           let align = note_align c.args.align in
-          let cap = c.args.self.now.style.cap.bytes in
+          let style = style_of c.args.self.now.style in
           let all = all_left align file c.new-cursor.result.ahead c.args.table.at c.args.table.count 4096 n.ahead in
-          before_all _ _ _ (sym (ap (note_items cap c.args.index) all ∙ table_rows align cap c.args.index c.args.table.at (slice file c.args.table.at c.args.table.count)));
+          before_all _ _ _ (sym (ap (note_items style c.args.index) all ∙ table_rows style align c.args.index c.args.table.at (slice file c.args.table.at c.args.table.count)));
     }
 
 pub returns-in_err-advance : goal.returns-in_err-advance
@@ -54,7 +55,7 @@ returns-in_err-advance g c = record {
       let now = known.spends.reads.keeps.same_file ∙ held in
       let step = c.in_err-advance.ensures.steps in
       let tells = rw known.same_align at (step.tells file now (known.agrees file held) known.not_failed) in
-      rw (p.1, p.2) (before_fault _ _ _ c.args.self.now.style.cap.bytes c.args.index _ _ _ (step.leaves.1 known.not_failed) tells (known.text file held));
+      rw (p.1, p.2) (before_fault _ _ _ (style_of c.args.self.now.style) c.args.index _ _ _ (step.leaves.1 known.not_failed) tells (known.text file held));
 }
 
 pub returns-in_err-note_row : goal.returns-in_err-note_row
@@ -83,8 +84,8 @@ returns-in_err-note_row g c =
           let align = note_align c.args.align in
           let step = note_given _ align c.args.self.now.style c.notes.self.style old new _ c.row.result _ c.if-branch.true known.same_align known.keeps.same_style a.steps c.row.ensures.shows in
           rw (p.1, p.2)
-          (note_stopped _ _ _ _ c.args.self.now.style.cap.bytes c.args.index _ (notes_left align file old.ahead) (notes_left align file new.ahead) c.row.result _
-          (step.gives file now (known.agrees file held)) (known.text file held) (row.shows c.args.self.now.style.cap.bytes));
+          (note_stopped _ _ _ _ (style_of c.args.self.now.style) c.args.index _ (notes_left align file old.ahead) (notes_left align file new.ahead) c.row.result _
+          (step.gives file now (known.agrees file held)) (known.text file held) (rw known.keeps.same_style at row.shows));
     }
 
 pub notes-preserved : goal.notes-preserved
@@ -117,8 +118,8 @@ notes-preserved g c =
       grows = grows_then known.grows row.grows;
       text = λ file held.
           let now = known.spends.reads.keeps.same_file ∙ held in
-          note_more _ _ _ c.args.self.now.style.cap.bytes c.args.index _ (notes_left align file old.ahead) (notes_left align file new.ahead) c.row.result _
-          (step.gives file now (known.agrees file held)) (known.text file held) (row.shows c.args.self.now.style.cap.bytes);
+          note_more _ _ _ (style_of c.args.self.now.style) c.args.index _ (notes_left align file old.ahead) (notes_left align file new.ahead) c.row.result _
+          (step.gives file now (known.agrees file held)) (known.text file held) (rw known.keeps.same_style at row.shows);
     }
 
 pub returns : goal.returns
@@ -134,7 +135,7 @@ returns g c =
           let now = known.spends.reads.keeps.same_file ∙ held in
           let step = rw c.if-branch.false at a.steps in
           let tells = rw known.same_align at (step.tells file now (known.agrees file held)) in
-          before_none c.args.self.now.style.cap.bytes c.args.index _ _ tells (known.text file held);
+          before_none (style_of c.args.self.now.style) c.args.index _ _ tells (known.text file held);
     }
 
 pub invariant_of-self : goal.invariant_of-self

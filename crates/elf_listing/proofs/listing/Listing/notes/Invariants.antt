@@ -1,5 +1,6 @@
 -- What was shown so far are the notes before the cursor's, and what may still be asked for is counted.
 use Rattle.std.proofs.Common.{◌≡◌, ℕ, ◌+◌, ◌≤◌, List, None, Some}
+use Rattle.elf_headers.specs.Permitted.{style_of}
 use Rattle.elf_model.specs.Bytes.{slice}
 use Rattle.elf_model.specs.Notes.{note_align, walked}
 use Rattle.elf_model.specs.Rows.{walk_rows}
@@ -13,7 +14,7 @@ use Rattle.elf_listing.proofs.listing.Listing.notes.Given as goal
 
 abbrev pub invariant-notes : goal.invariant-notes
 invariant-notes g l =
-    let cap = l.fn.self.style.cap.bytes in
+    let style = style_of l.fn.self.style in
     let align = note_align l.fn.align in
     record {
       same_table : l.cursor.table ≡ l.fn.table;
@@ -26,8 +27,8 @@ invariant-notes g l =
       grows : Grows l.fn.self.out.now l.self.out.now;
       text : (file : List ℕ) → l.fn.self.src.now.seen.file ≡ Some file
           → WrittenBefore l.fn.self.out.now l.self.out.now
-          (walk_rows cap l.fn.index l.fn.table.at (walked align (slice file l.fn.table.at l.fn.table.count)))
-          (note_items cap l.fn.index (notes_left align file l.cursor.ahead));
+          (walk_rows style l.fn.index l.fn.table.at (walked align (slice file l.fn.table.at l.fn.table.count)))
+          (note_items style l.fn.index (notes_left align file l.cursor.ahead));
     }
 
 abbrev pub decreases-notes : goal.decreases-notes

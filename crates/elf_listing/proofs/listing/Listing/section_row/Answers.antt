@@ -23,7 +23,7 @@ pub returns : goal.returns
 returns g c = Lists-named _ _ _ _ _ _ _ _ (omega (arith, name_within c.names-names.result c.args.self.now.file.loaded.header.e_shstrndx c.args.self.now.style.cap.bytes c.names-names.ensures.unnamed)) c.in_ok-end.ensures.fetches c.named_line.ensures (λ file held.
     let belongs = c.args.self.now.loaded.belongs file held in
     let stands = c.section-header.ensures.stands file belongs in
-    let front = rw (c.naming-naming.ensures.gnu, c.naming-naming.ensures.machine file held) at (c.section_front.ensures file (section_at file c.args.section) stands) in
+    let front = rw (c.naming-naming.ensures.format, c.naming-naming.ensures.gnu, c.naming-naming.ensures.machine file held) at (c.section_front.ensures.front file (section_at file c.args.section) stands) in
     let some : 0 < e_shnum file = omega (arith, c.requires, belongs.count, belongs.header.e_shnum) in
     let place : c.place-place.result ≡ section_at file c.args.section = omega (arith, c.place-place.ensures.value, belongs.header.e_shoff) in
     rw (← c.in_ok-end.ensures.fetches.1)

@@ -1,0 +1,94 @@
+//! The members of JSON objects (RFC 8259).
+ghost use Rattle.std.specs.Prelude.{◌≡◌, ℕ, ◌+◌, ◌≤◌, ◌++◌, length, max, IfSome};
+ghost use Rattle.std.specs.Prelude.{option_copied};
+ghost use Rattle.arrayvec.specs.ArrayVec.{array_vec_len};
+ghost use Rattle.elf_model.specs.Fields.{member_key, name_or_value, quoted, string_byte};
+ghost use Rattle.elf_model.specs.Fields.{string_text};
+ghost use Rattle.elf_model.specs.Lines.{name_byte_text};
+
+use crate::columns::{Line, put, put_hex};
+use itoa::{Buffer, Integer};
+
+/// Puts a comma, a key and a colon.
+#[tactic(auto, unfolding(elf_model::specs::Fields::member_key))]
+pub(crate) fn put_key(line: &mut Line, key: &[u8])
+    requires { array_vec_len line.old + (length key.now + 4) ≤ 256 }
+    ensures items { line.new.items ≡ line.old.items ++ member_key key.now }
+    ensures len { array_vec_len line.new ≡ array_vec_len line.old + (length key.now + 4) }
+{
+    put(line, b",\"");
+    put(line, key);
+    put(line, b"\":");
+}
+
+/// Puts a number in decimal.
+pub(crate) fn put_number<I: Integer>(line: &mut Line, number: I)
+    requires { array_vec_len line.old + I.MAX_STR_LEN ≤ 256 }
+    ensures items { line.new.items ≡ line.old.items ++ I.text number }
+    ensures len { array_vec_len line.new ≤ array_vec_len line.old + I.MAX_STR_LEN }
+{
+    let mut buffer = Buffer::new();
+    put(line, buffer.format(number).as_bytes());
+}
+
+/// Puts a name as a string, or a number.
+pub(crate) fn put_name_or_number(line: &mut Line, name: Option<&'static str>, number: u64)
+    requires number { array_vec_len line.old + 20 ≤ 256 }
+    requires room { IfSome name (λ name.
+        array_vec_len line.old + (length name.now + length name.now + 2) ≤ 256) }
+    ensures items { line.new.items
+        ≡ line.old.items ++ name_or_value (option_copied name.entry) number }
+    ensures len { (most : ℕ) → IfSome name.entry (λ name. length name.now ≤ most) →
+        array_vec_len line.new ≤ array_vec_len line.old + max (most + most + 2) 20 }
+{
+    match name {
+        Some(name) => put_quoted(line, name.as_bytes()),
+        None => put_number(line, number),
+    }
+}
+
+/// Puts a text as a string.
+#[tactic(auto, unfolding(elf_model::specs::Fields::quoted))]
+pub(crate) fn put_quoted(line: &mut Line, text: &[u8])
+    requires { array_vec_len line.old + (length text.now + length text.now + 2) ≤ 256 }
+    ensures items { line.new.items ≡ line.old.items ++ quoted text.now }
+    ensures len { array_vec_len line.new
+        ≤ array_vec_len line.old + (length text.now + length text.now + 2) }
+{
+    line.push(b'"');
+    for byte in text {
+        put_string_byte(line, *byte);
+    }
+    line.push(b'"');
+}
+
+/// Puts a byte of a string.
+#[tactic(auto, unfolding(elf_model::specs::Fields::string_byte))]
+fn put_string_byte(line: &mut Line, byte: u8)
+    requires { array_vec_len line.old + 2 ≤ 256 }
+    ensures items { line.new.items ≡ line.old.items ++ string_byte byte }
+    ensures len { array_vec_len line.new ≤ array_vec_len line.old + 2 }
+{
+    if byte == b'"' || byte == b'\\' {
+        line.push(b'\\');
+    }
+    line.push(byte);
+}
+
+/// Puts a byte of a name, as it is spelt in a listing, in a string.
+#[tactic(auto, using(crate::proofs::NameText::string_hex), unfolding(elf_model::specs::Fields::string_byte, elf_model::specs::Fields::string_text, elf_model::specs::Lines::name_byte_text))]
+pub(crate) fn put_quoted_byte(line: &mut Line, byte: u8)
+    requires { array_vec_len line.old + 5 ≤ 256 }
+    ensures items { line.new.items ≡ line.old.items ++ string_text (name_byte_text byte) }
+    ensures len { array_vec_len line.new ≤ array_vec_len line.old + 5 }
+{
+    match byte {
+        b'\\' => put(line, b"\\\\\\\\"),
+        b'"' => put(line, b"\\\""),
+        b' '..=b'~' => line.push(byte),
+        _ => {
+            put(line, b"\\\\x");
+            put_hex(line, 2, u64::from(byte));
+        }
+    }
+}
