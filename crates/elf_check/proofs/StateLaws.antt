@@ -5,9 +5,10 @@ use Rattle.std.proofs.Common.{◌≡◌, ℕ, ◌<◌, ◌≤◌, Bool, true, fa
 use Rattle.std.specs.Prelude.{Ok, Err}
 use Rattle.std.proofs.lemmas.Bool.Decides.{nat_tests}
 use Rattle.elf_model.specs.Budget.{IsBudgeted}
-use Rattle.elf_model.specs.Checking.{IsStateOf, begins_as_elf, is_not_elf, permits_magic, state_of}
+use Rattle.elf_model.specs.Checking.{IsStateOf, is_not_elf, permits_magic, state_of}
 use Rattle.elf_model.specs.Checks.{first_refusal, header_checks}
 use Rattle.elf_model.specs.Listing.{report_of}
+use Rattle.elf_model.specs.Records.{begins_as_elf}
 use Rattle.elf_model.specs.Report.{listing}
 use Rattle.elf_model.specs.declared.causes.Cause.TheVariants.{Short}
 use Rattle.elf_model.specs.declared.causes.Refusal.{Refusal}

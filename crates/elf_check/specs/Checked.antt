@@ -2,9 +2,9 @@
 use Rattle.elf_model.specs.Style.{Style}
 use Rattle.elf_headers.specs.Permitted.{style_of}
 use Rattle.std.specs.Prelude.{ℕ, ◌+◌, ◌≤◌, ◌<◌, nat_lt, if◌then◌else◌, List, length, IfSome, ⊤}
-use Rattle.elf_model.specs.Checking.{IsStateOf, MAGIC_SIZE}
+use Rattle.elf_model.specs.Checking.{IsStateOf}
 use Rattle.elf_model.specs.Cost.{ceiling, listing_cost}
-use Rattle.elf_model.specs.Records.{FILE_HEADER_SIZE}
+use Rattle.elf_model.specs.Records.{FILE_HEADER_SIZE, ELF_MAGIC_SIZE}
 use Rattle.elf_model.specs.declared.states.FileState.{FileState}
 use Rattle.elf_model.specs.declared.states.FileState.TheVariants as state
 use Rattle.elf_source.specs.Source.{Counting, IsHonest}
@@ -24,11 +24,11 @@ FailsRead old new _ = ⊤
 -- what a file's check may ask for: of one that is too short for a file header its first bytes
 abbrev pub check_cost : List ℕ → ℕ → Style → ℕ → ℕ
 check_cost file headers style parts =
-    if nat_lt (length file) FILE_HEADER_SIZE then MAGIC_SIZE else listing_cost file headers style parts
+    if nat_lt (length file) FILE_HEADER_SIZE then ELF_MAGIC_SIZE else listing_cost file headers style parts
 
 -- the same of every source
 abbrev pub check_ceiling : ℕ → (headers cap : ℕ) → ℕ
-check_ceiling size headers cap = if nat_lt size FILE_HEADER_SIZE then MAGIC_SIZE else ceiling size headers cap
+check_ceiling size headers cap = if nat_lt size FILE_HEADER_SIZE then ELF_MAGIC_SIZE else ceiling size headers cap
 
 -- what is asked for, for every source: no more than the ceiling, and no more than the budget
 pub record AsksFor (caps : Caps) (old new : Counting) : Type 0 where

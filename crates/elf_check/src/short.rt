@@ -1,6 +1,7 @@
 //! A file that is too short for a file header.
 ghost use Rattle.std.specs.Prelude.{◌≡◌, ◌+◌, ◌<◌, ◌≤◌, ◌^◌, ℕ, List, IfOk, IfErr, IfSome, Some, true};
-ghost use Rattle.elf_model.specs.Checking.{begins_as_elf, permits_magic};
+ghost use Rattle.elf_model.specs.Checking.{permits_magic};
+ghost use Rattle.elf_model.specs.Records.{begins_as_elf};
 ghost use Rattle.elf_source.specs.Source.{Faults, Fills};
 ghost use Rattle.elf_check.specs.Checked.{FailsRead, Finds};
 ghost use Rattle.elf_listing.specs.Reports.{Leaves};

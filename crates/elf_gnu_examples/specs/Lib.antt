@@ -1,3 +1,4 @@
+pub mod ListedVersions
 pub mod LoaderWords
 pub mod ExamplesLoader
 pub mod ExamplesChains

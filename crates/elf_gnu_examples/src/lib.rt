@@ -1,11 +1,12 @@
-//! Worked examples of the definitions of a loader's lookup: the hash table of the GNU system, the symbols that are offered,
-//! versions. Each is the contract of a function with an empty body, and the prover computes it.
+//! Worked examples of what the GNU system adds: its hash table, the rows of symbol versions, and a loader's lookup by the symbols
+//! that are offered and their versions. Each is the contract of a function with an empty body, and the prover computes it.
 #![tactic(auto)]
 
 mod before_rows;
 mod chain_rows;
 mod hash_rows;
 mod library_rows;
+mod listed_versions;
 mod number_rows;
 mod offered_rows;
 mod overlap_rows;

@@ -7,6 +7,7 @@ use Rattle.elf_model.specs.Names.{same}
 use Rattle.elf_model.specs.Versions.{Met, name_index, named_at, names_version, number_in, number_word}
 use Rattle.elf_model.specs.declared.causes.Cause.{Cause}
 use Rattle.elf_model.specs.declared.causes.Refusal.{Refusal}
+use Rattle.elf_model.proofs.ReadingLaws.{compared-fault, compared-is, compared-none}
 use Rattle.elf_headers.specs.declared.fault.Fault.{Fault}
 use Rattle.elf_headers.specs.declared.fault.Fault.TheVariants.{Refused, Source}
 use Rattle.elf_table.specs.NamesRead.{Refuses as RefusesName}
@@ -26,28 +27,6 @@ among-more n number numbers = go (number == n) refl (nat_lt (position_or_len (λ
         let more : nat_lt (1 + position_or_len (λ other. other == n) numbers) (suc (length numbers)) ≡ true = grind (arith, nat_tests) in rw (e, is, more) refl
     go false e false is =
         let more : nat_lt (1 + position_or_len (λ other. other == n) numbers) (suc (length numbers)) ≡ false = grind (arith, nat_tests) in rw (e, is, more) refl
-
--- a record that names no version, one that names the wanted one or another, and one whose name has a fault
-pub compared-none :
-    (file wanted strings : List ℕ) (met : Met) (others : List Reading) → names_version file met ≡ false
-    → compared_with file wanted (Meets strings met ∷ others) ≡ one_more (compared_with file wanted others)
-unfolding compared_with
-compared-none file wanted strings met others n = rw (n, compared_with) refl
-
-pub compared-is :
-    (file wanted strings : List ℕ) (met : Met) (others : List Reading) (is_wanted : Bool) → names_version file met ≡ true
-    → same strings (name_index file met) wanted ≡ Ok is_wanted
-    → compared_with file wanted (Meets strings met ∷ others)
-    ≡ one_more (with_number is_wanted (number_in (number_word file met)) (compared_with file wanted others))
-unfolding compared_with
-compared-is file wanted strings met others is_wanted n e = rw (n, e, compared_with) refl
-
-pub compared-fault :
-    (file wanted strings : List ℕ) (met : Met) (others : List Reading) (cause : Cause) → names_version file met ≡ true
-    → same strings (name_index file met) wanted ≡ Err cause
-    → compared_with file wanted (Meets strings met ∷ others) ≡ compared_until 1 (record { at = named_at file met; cause = cause })
-unfolding compared_with
-compared-fault file wanted strings met others cause n e = rw (n, e, compared_with) refl
 
 -- a record that is met is read, whatever it holds
 pub compared-reads :

@@ -7,6 +7,7 @@ use Rattle.elf_model.specs.Loader.{RecordTable, Reading, Meets, Refuses, Misses,
 use Rattle.elf_model.specs.Versions.{Met, Stand, Versions, behind, first_stand, met_at, met_from, most_records, no_versions, record_checks, record_size, versions_in, with_met}
 use Rattle.elf_model.specs.declared.causes.Cause.TheVariants.{VersionCut}
 use Rattle.elf_model.specs.declared.causes.Refusal.{Refusal}
+use Rattle.elf_model.proofs.ReadingLaws.{stands-next}
 use Rattle.elf_model.proofs.VersionSteps.{ends-inside, met-ended, met-most, met-record, met-refused}
 use Rattle.elf_scope.specs.Symbols.{IsRecordTable}
 use Rattle.elf_scope.specs.declared.symbols.RecordTable.{RecordTable as Given}
@@ -42,12 +43,6 @@ past : (file : List ℕ) (table size : ℕ) (stand : Stand) → nat_lt size (sta
     → first_refusal (record_checks file table size stand) ≡ Some (cut_at stand)
 unfolding record_checks
 past file table size stand far = rw far refl
-
--- the next record is where one leads
-stands-next : (file : List ℕ) (told : RecordTable) (done : ℕ) (stand : Stand) → stand_after file told done ≡ Some stand
-    → stand_after file told (suc done) ≡ behind file told.place stand
-unfolding stand_after
-stands-next file told done stand is = rw is refl
 
 -- what is left, as the definitions have it: what is met, and how it ends
 left_as : List ℕ → (told : RecordTable) → (done : ℕ) → Versions → List Reading → List Reading

@@ -28,6 +28,7 @@ mod OneRule
 pub mod OverlapLemmas
 pub mod PatchLaws
 pub mod Pigeons
+pub mod ReadingLaws
 pub mod RecordLemmas
 pub mod RestLaws
 pub mod Searches

@@ -11,6 +11,7 @@ use Rattle.elf_model.specs.Listing.{Item, Line, Fault, fault_of, guarded, report
 use Rattle.elf_model.specs.Names.{Shown}
 use Rattle.elf_model.specs.Names.Shown.{Cut}
 use Rattle.elf_model.specs.Notes.{capped}
+use Rattle.elf_model.specs.Records.{ELF_MAGIC_SIZE, begins_as_elf}
 use Rattle.elf_model.specs.Report.{listing}
 use Rattle.elf_model.specs.Style.{Style, standard}
 use Rattle.elf_model.specs.declared.causes.Refusal.{Refusal}
@@ -289,9 +290,9 @@ member_line format m = named_line (member_front format m.index m.extent.at m.ext
 abbrev pub lists_members : Style → ℕ → Bool
 lists_members style parts = not (known_parts style parts == 0)
 
--- a member's data begin with the magic number of ELF (gABI 4, ELF Identification)
+-- a member's data begin as an ELF file
 abbrev pub is_elf : List ℕ → Bool
-is_elf content = nat_le 4 (length content) && field content 0 4 == 0x464c457f
+is_elf content = nat_le ELF_MAGIC_SIZE (length content) && begins_as_elf content
 
 -- the listing of a member that is an ELF file: that of the file that its data are
 abbrev pub member_listing : List ℕ → ℕ → Style → ℕ → Member → List Item

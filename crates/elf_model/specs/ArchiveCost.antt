@@ -6,6 +6,7 @@ use Rattle.elf_model.specs.Budget.{IsCut, IsReport}
 use Rattle.elf_model.specs.Checks.{pass}
 use Rattle.elf_model.specs.Cost.{ceiling, cost_where, listing_cost}
 use Rattle.elf_model.specs.Names.{name_bytes, pad64}
+use Rattle.elf_model.specs.Records.{ELF_MAGIC_SIZE}
 use Rattle.elf_model.specs.Style.{Style}
 use Rattle.elf_model.specs.declared.causes.Refusal.{Refusal}
 
@@ -27,7 +28,7 @@ header_cost file cap p =
 unfoldable pub member_cost : List ℕ → ℕ → Style → ℕ → Member → ℕ
 member_cost file headers style parts m =
     let content = bytes_in file m.extent in
-    cost_where (lists_members style parts) (4 + cost_where (is_elf content) (listing_cost content headers style parts))
+    cost_where (lists_members style parts) (ELF_MAGIC_SIZE + cost_where (is_elf content) (listing_cost content headers style parts))
 
 -- what the members cost from where a walk has come to, at most so many, and the place where none stands
 unfoldable pub members_cost : ℕ → List ℕ → ℕ → Style → ℕ → Progress → ℕ

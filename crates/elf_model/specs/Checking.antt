@@ -1,13 +1,12 @@
 -- What is told of a file among many: its state, and its line.
 use Rattle.std.specs.Prelude.{[], ◌∷◌, ℕ, ◌≡◌, ◌==◌, ◌&&◌, ◌||◌, nat_lt, not, Bool, true, false, if◌then◌else◌, List, ◌++◌, length, codes, Option, None, Some}
 use Rattle.elf_model.specs.Budget.{IsBudgeted}
-use Rattle.elf_model.specs.Bytes.{field}
 use Rattle.elf_model.specs.Causes.{cause_word}
 use Rattle.elf_model.specs.Fields.{Field, Fields, LineFront, closed_line, front}
 use Rattle.elf_model.specs.Fields.Field.{Decimal, Hexadecimal, Hyphen, Word}
 use Rattle.elf_model.specs.Lines.{named_line}
 use Rattle.elf_model.specs.Names.Shown.{Whole}
-use Rattle.elf_model.specs.Records.{FILE_HEADER_SIZE}
+use Rattle.elf_model.specs.Records.{FILE_HEADER_SIZE, ELF_MAGIC_SIZE, begins_as_elf}
 use Rattle.elf_model.specs.Style.{Style}
 use Rattle.elf_model.specs.Text.{hex, left_in, right_decimal, space, newline}
 use Rattle.elf_model.specs.declared.causes.Cause.{Cause}
@@ -17,18 +16,10 @@ use Rattle.elf_model.specs.declared.formats.Format.{Format}
 use Rattle.elf_model.specs.declared.states.FileState.{FileState}
 use Rattle.elf_model.specs.declared.states.FileState.TheVariants as state
 
--- how many bytes the magic number has (gABI 4, ELF Identification)
-abbrev pub MAGIC_SIZE : ℕ
-MAGIC_SIZE = 4
-
--- a file begins with the magic number
-abbrev pub begins_as_elf : List ℕ → Bool
-begins_as_elf file = field file 0 MAGIC_SIZE == 0x464c457f
-
 -- the first bytes of a file of so many bytes may be looked at: they are there, and the budget has them
 abbrev pub permits_magic : Option ℕ → Bool
 permits_magic None = true
-permits_magic (Some budget) = not (nat_lt budget MAGIC_SIZE)
+permits_magic (Some budget) = not (nat_lt budget ELF_MAGIC_SIZE)
 
 abbrev pub is_not_elf : Cause → Bool
 is_not_elf NotElf = true
@@ -39,7 +30,7 @@ is_not_elf _ = false
 abbrev pub is_foreign : Option ℕ → List ℕ → Refusal → Bool
 is_foreign budget file refusal =
     if nat_lt (length file) FILE_HEADER_SIZE
-    then nat_lt (length file) MAGIC_SIZE || (permits_magic budget && not (begins_as_elf file))
+    then nat_lt (length file) ELF_MAGIC_SIZE || (permits_magic budget && not (begins_as_elf file))
     else is_not_elf refusal.cause
 
 -- THE STATE of a file, by the fault of its listing

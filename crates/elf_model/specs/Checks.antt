@@ -1,7 +1,7 @@
 -- Checks in their order: the first one that fails is the answer. Sums are whole numbers.
 use Rattle.std.specs.Prelude.{ℕ, ◌+◌, ◌*◌, ◌%◌, ◌^◌, ◌==◌, ◌&&◌, ◌||◌, nat_lt, not, Bool, true, false, List, [], ◌∷◌, ◌++◌, length, if◌then◌else◌, is_none, Option, None, Some}
 use Rattle.elf_model.specs.Bytes.{field}
-use Rattle.elf_model.specs.Records.{FILE_HEADER_SIZE, SECTION_HEADER_SIZE, PROGRAM_HEADER_SIZE, e_phoff, e_shoff, e_phentsize, e_phnum, e_shentsize, e_shnum, e_shstrndx, sh_type, sh_offset, sh_size, sh_link, sh_entsize, section_at}
+use Rattle.elf_model.specs.Records.{FILE_HEADER_SIZE, SECTION_HEADER_SIZE, PROGRAM_HEADER_SIZE, begins_as_elf, e_phoff, e_shoff, e_phentsize, e_phnum, e_shentsize, e_shnum, e_shstrndx, sh_type, sh_offset, sh_size, sh_link, sh_entsize, section_at}
 use Rattle.elf_model.specs.Numbers.{PN_XNUM, SHN_XINDEX, SHT_STRTAB, SHT_SYMTAB, SHT_DYNSYM}
 use Rattle.elf_model.specs.declared.causes.Refusal.{Refusal}
 use Rattle.elf_model.specs.declared.causes.Cause.{Cause}
@@ -39,7 +39,7 @@ length_checks size =
 -- the identification: magic number, class, data encoding, version (gABI 4, ELF Identification)
 abbrev pub ident_checks : List ℕ → List Check
 ident_checks file =
-    refuse (not (field file 0 4 == 0x464c457f)) 0 NotElf
+    refuse (not (begins_as_elf file)) 0 NotElf
     ∷ refuse (not (field file 4 1 == 2)) 4 BadClass
     ∷ refuse (not (field file 5 1 == 1)) 5 BadData
     ∷ refuse (not (field file 6 1 == 1)) 6 BadVersion

@@ -1,14 +1,19 @@
 -- Laws of a loader's lookup.
-use Rattle.std.specs.Prelude.{ℕ, ◌≡◌, ◌≤◌, ◌/◌, true, List, [], ◌∷◌, ◌++◌, length, None, Ok, option_map}
+use Rattle.std.specs.Prelude.{ℕ, ◌≡◌, ◌≤◌, ◌+◌, ◌/◌, ◌&&◌, Bool, true, false, List, [], ◌∷◌, ◌++◌, length, map, filter, ◌⊎◌, Option, None, Some, Result, Ok, Err, option_map}
+use Rattle.std.specs.List.{All}
+use Rattle.elf_model.specs.Checks.{first_refusal}
 use Rattle.elf_model.specs.Dynamic.{listed_value}
 use Rattle.elf_model.specs.Tables.{DYNAMIC_SIZE}
 use Rattle.elf_model.specs.Hash.{Found}
-use Rattle.elf_model.specs.Loader.{RecordTable, Wanted, symbol_place, is_offered, naming_of, readings, version_fits, is_among}
+use Rattle.elf_model.specs.Loader.{Meets, Misses, Reading, RecordTable, Refuses, Wanted, compared_with, symbol_place, is_offered, naming_of, readings, stand_after, version_fits, is_among}
 use Rattle.elf_model.specs.LoaderFind.{wanted_numbers, loader_looked, loader_cost, loader_ceiling}
 use Rattle.elf_model.specs.LoaderScope.{Scope, scope_of, tagged_row}
 use Rattle.elf_model.specs.Names.{same}
 use Rattle.elf_model.specs.Records.{d_un, p_filesz, p_offset, st_name}
-use Rattle.elf_model.specs.Versions.{Versions, named_by, versions_in}
+use Rattle.elf_model.specs.Versions.{Met, Stand, Versions, met_at, most_records, name_index, named_at, named_by, names_version, number_in, number_word, record_checks, versions_in}
+use Rattle.elf_model.specs.declared.causes.Cause.{Cause}
+use Rattle.elf_model.specs.declared.causes.Cause.TheVariants.{VersionCut}
+use Rattle.elf_model.specs.declared.causes.Refusal.{Refusal}
 
 -- A SYMBOL IS ONE TO TAKE: by what a file tells of its symbols, it has the wanted name, it is offered, and its version fits
 pub record IsTaken (file : List ℕ) (headers : ℕ) (wanted : Wanted) (section index symbol : ℕ) : Type 0 where
@@ -54,3 +59,100 @@ abbrev pub FirstEntriesAreAlike : Type 0
 FirstEntriesAreAlike =
     (file : List ℕ) (at tag : ℕ)
     → listed_value file (p_offset file at) (p_filesz file at / DYNAMIC_SIZE) tag ≡ option_map (d_un file) (tagged_row file at tag)
+
+-- where a lookup's walk over a table stands once so many records are met, there stands the record that a listing meets next
+abbrev pub WalksStandAtRecords : Type 0
+WalksStandAtRecords =
+    (file : List ℕ) (table : RecordTable) (before : List Met) (met : Met) (others : List Met)
+    → (records_in file table).met ≡ before ++ met ∷ others
+    → (stand : Stand) × (stand_after file table (length before) ≡ Some stand) × (met_at table.place stand ≡ met)
+
+-- a walk that is refused stands at what fails a check, or at one record more than there is room for; one that is not is at its end
+abbrev pub StandsAtItsEnd : List ℕ → RecordTable → ℕ → Option Refusal → Option Stand → Type 0
+StandsAtItsEnd file table count None stand = stand ≡ None
+StandsAtItsEnd file table count (Some refusal) None = ⊥
+StandsAtItsEnd file table count (Some refusal) (Some stand) =
+    (first_refusal (record_checks file table.place table.size stand) ≡ Some refusal)
+    ⊎ ((count ≡ most_records table.kind table.size) × (refusal ≡ record { at = stand.from; cause = VersionCut }))
+
+abbrev pub WalksStandAtTheirEnd : Type 0
+WalksStandAtTheirEnd =
+    (file : List ℕ) (table : RecordTable)
+    → let walk = records_in file table in
+    StandsAtItsEnd file table (length walk.met) walk.cut (stand_after file table (length walk.met))
+
+-- how the records of a walk end that are read: with what is refused, once its bytes are read or before
+abbrev pub EndsReadings : Option Refusal → List Reading → Type 0
+EndsReadings None last = last ≡ []
+EndsReadings (Some refusal) last = (last ≡ Refuses refusal ∷ []) ⊎ (last ≡ Misses refusal ∷ [])
+
+-- ONE RULE IN TWO PLACES: a lookup reads of each table the records that a listing meets, with the strings of their table, and what
+-- is refused there; and of no table none
+abbrev pub ReadingsAreRecords : Type 0
+ReadingsAreRecords =
+    (file : List ℕ)
+    → (readings file [] ≡ [])
+    × ((table : RecordTable) (others : List RecordTable)
+    → (last : List Reading)
+    × EndsReadings (records_in file table).cut last
+    × (readings file (table ∷ others) ≡ map (Meets table.strings) (records_in file table).met ++ (last ++ readings file others)))
+
+-- a name that was compared is the wanted one
+abbrev pub is_same : Result Bool Cause → Bool
+is_same (Ok is_wanted) = is_wanted
+is_same (Err cause) = false
+
+-- a record names the wanted version
+abbrev pub names_wanted : List ℕ → (wanted strings : List ℕ) → Met → Bool
+names_wanted file wanted strings met = names_version file met && is_same (same strings (name_index file met) wanted)
+
+-- the numbers of met records that name it
+abbrev pub numbers_under : List ℕ → (wanted strings : List ℕ) → List Met → List ℕ
+numbers_under file wanted strings met =
+    map (λ one. number_in (number_word file one)) (filter (names_wanted file wanted strings) met)
+
+-- ONE RULE IN TWO PLACES: comparing that is not refused gives the numbers of the records under the wanted name, of those that a
+-- listing meets of definitions and then of needs, and reads each of these once
+abbrev pub ComparedNumbersAreRecords : Type 0
+ComparedNumbersAreRecords =
+    (file wanted : List ℕ) (definitions needs : RecordTable)
+    → let compared = compared_with file wanted (readings file (definitions ∷ needs ∷ [])) in
+    compared.refused ≡ None
+    → (compared.numbers
+    ≡ numbers_under file wanted definitions.strings (records_in file definitions).met
+    ++ numbers_under file wanted needs.strings (records_in file needs).met)
+    × (compared.read ≡ length (records_in file definitions).met + length (records_in file needs).met)
+
+-- comparing is refused at a record: it is refused itself, or it names a version and the name has a fault
+abbrev pub RefusesToCompare : List ℕ → (wanted : List ℕ) → Refusal → Reading → Type 0
+RefusesToCompare file wanted refusal (Refuses other) = refusal ≡ other
+RefusesToCompare file wanted refusal (Misses other) = refusal ≡ other
+RefusesToCompare file wanted refusal (Meets strings met) =
+    (names_version file met ≡ true)
+    × ((cause : Cause) × (same strings (name_index file met) wanted ≡ Err cause) × (refusal ≡ record { at = named_at file met; cause = cause }))
+
+-- and goes on behind others
+abbrev pub IsComparable : List ℕ → (wanted : List ℕ) → Reading → Type 0
+IsComparable file wanted reading = (refusal : Refusal) → RefusesToCompare file wanted refusal reading → ⊥
+
+-- how many records are read there: one, but where none stands
+abbrev pub records_read : Reading → ℕ
+records_read (Misses refusal) = 0
+records_read _ = 1
+
+-- the first of some records at which comparing is refused, once so many are read
+pub record IsRefusedAt (file wanted : List ℕ) (refusal : Refusal) (all : List Reading) (read : ℕ) : Type 0 where
+  pub before : List Reading
+  pub last : Reading
+  pub others : List Reading
+  pub parts : all ≡ before ++ last ∷ others
+  pub refuses : RefusesToCompare file wanted refusal last
+  pub goes_on : All (IsComparable file wanted) before
+  pub read_is : read ≡ length before + records_read last
+
+-- comparing that is refused is refused at the first such record
+abbrev pub ComparingEndsAtTheFirst : Type 0
+ComparingEndsAtTheFirst =
+    (file wanted : List ℕ) (all : List Reading) (refusal : Refusal)
+    → (compared_with file wanted all).refused ≡ Some refusal
+    → IsRefusedAt file wanted refusal all (compared_with file wanted all).read

@@ -1,6 +1,6 @@
 -- The fields of the records, each by its place. A record stands at an offset `at` of some bytes: of the
 -- whole file, or of its own bytes alone, at 0. The file header stands at the file's first byte.
-use Rattle.std.specs.Prelude.{ℕ, ℤ, pos, negsuc, ◌+◌, ◌-◌, ◌*◌, ◌/◌, ◌%◌, ◌^◌, nat_lt, if◌then◌else◌, List}
+use Rattle.std.specs.Prelude.{ℕ, ℤ, pos, negsuc, ◌+◌, ◌-◌, ◌*◌, ◌/◌, ◌%◌, ◌^◌, ◌==◌, nat_lt, if◌then◌else◌, Bool, List}
 use Rattle.elf_model.specs.Bytes.{field}
 
 -- the size of the file header, of a section header and of a program header, in bytes
@@ -12,6 +12,17 @@ SECTION_HEADER_SIZE = 64
 
 abbrev pub PROGRAM_HEADER_SIZE : ℕ
 PROGRAM_HEADER_SIZE = 56
+
+-- how many bytes the magic number of ELF has, and the number: 0x7f and `ELF`
+abbrev pub ELF_MAGIC_SIZE : ℕ
+ELF_MAGIC_SIZE = 4
+
+abbrev pub ELF_MAGIC : ℕ
+ELF_MAGIC = 0x464c457f
+
+-- A FILE BEGINS AS AN ELF FILE: with the magic number (gABI 4, ELF Identification)
+abbrev pub begins_as_elf : List ℕ → Bool
+begins_as_elf file = field file 0 ELF_MAGIC_SIZE == ELF_MAGIC
 
 -- The file header (gABI 4, ELF Header).
 abbrev pub e_type : List ℕ → ℕ
