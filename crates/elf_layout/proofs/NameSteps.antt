@@ -21,7 +21,7 @@ use Rattle.elf_layout.proofs.LentSteps.{front_falls}
 use Rattle.elf_layout.proofs.LayoutSteps.{drop-at, drop-all}
 
 -- names that are equal in their order are the same
-order_same : (a b : List ℕ) → name_order a b ≡ Equal → a ≡ b
+pub order_same : (a b : List ℕ) → name_order a b ≡ Equal → a ≡ b
 order_same a b e = (bytes_eq-Decides a b).0 (sym (is_eq-slice_cmp a b) ∙ ap is_eq e)
 
 order_other : (a b : List ℕ) (o : Ordering) → name_order a b ≡ o → (o ≡ Equal → ⊥) → a ≢ b

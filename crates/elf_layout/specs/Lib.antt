@@ -1,3 +1,6 @@
 pub mod Kept
 pub mod Layouts
 pub mod Lent
+pub mod Listed
+pub mod Spelled
+pub mod Texts

@@ -13,12 +13,10 @@ ghost use Rattle.elf_layout.specs.Lent.{Begins, BeginsAt, Finds, Follows, IsAddr
 ghost use Rattle.elf_layout.specs.Lent.{MayFollow, MayLend, Rises};
 ghost use Rattle.elf_layout.specs.Lent.{name_of, name_order, named, place_of};
 
+use crate::named::NAME_BYTES;
 use elf_model::Cause;
 use std::cmp::Ordering;
 use std::marker::Model;
-
-/// The most bytes that a name in a layout has.
-const NAME_BYTES: usize = 255;
 
 /// Sections with their addresses, by rising index.
 #[derive(Drop)]
@@ -48,6 +46,7 @@ impl<'a> SortedSections<'a> {
         ensures rise { IfOk result (λ _. Rises nat_cmp (λ item. item.0) items.now) }
         ensures refused { IfErr result (λ i. (i < length items.now)
             × (Rises nat_cmp (λ item. item.0) (take (i + 1) items.now) → ⊥)) }
+        ensures falls { IfErr result (λ i. Follows nat_cmp (λ item. item.0) items.now i → ⊥) }
     {
         let mut i = 0;
         while i < items.len() {
@@ -117,6 +116,7 @@ impl<'a> SortedNames<'a> {
         ensures lent { IfOk result (λ _. MayLend items.now) }
         ensures refused { IfErr result (λ i. (i < length items.now)
             × (MayLend (take (i + 1) items.now) → ⊥)) }
+        ensures falls { IfErr result (λ i. MayFollow items.now i → ⊥) }
     {
         let mut most = 0;
         let mut i = 0;
@@ -210,7 +210,7 @@ fn name_at<'a>(items: &[(&'a [u8], u64)], i: usize) -> &'a [u8]
 }
 
 /// Whether bytes may be a name in a layout.
-fn is_name(name: &[u8]) -> bool
+pub(crate) fn is_name(name: &[u8]) -> bool
     ensures { MatchBool result (IsName name.now) (IsName name.now → ⊥) }
 {
     !name.is_empty() && name.len() <= NAME_BYTES && name_end(name) == name.len()

@@ -1,13 +1,20 @@
 //! Layouts: the addresses that are given for sections, names and their entries in the procedure linkage
-//! table and in the global offset table. No call takes memory.
+//! table and in the global offset table, and what spells them: words, and the lines of a file. Only the
+//! items of a file take memory.
 #![tactic(auto)]
 
 mod addresses;
+mod items;
 mod layout;
 mod lent;
 mod named;
+mod spelled;
+mod texts;
 
 pub use addresses::{Addresses, Among, LentLayout};
+pub use items::{Items, ItemsFault};
 pub use layout::{Item, Layout, LayoutFault};
 pub use lent::{SortedNames, SortedSections};
 pub use named::Named;
+pub use spelled::item;
+pub use texts::{TextEnd, read_text};

@@ -2,8 +2,6 @@ pub mod CheckLaws
 pub mod ApplyLaws
 pub mod ArchiveLaws
 pub mod FaultLaws
-pub mod ItemLaws
 pub mod LayoutLaws
 pub mod ListingLaws
-pub mod NulLaws
 pub mod OnceLaws

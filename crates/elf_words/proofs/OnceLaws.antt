@@ -1,66 +1,16 @@
 -- Words give one layout, or have one fault.
-use Rattle.std.proofs.Common.{◌≡◌, ℕ, List, [], ◌∷◌, ◌++◌, get_or, drop, Ok, Err, ap, sym, subst, ◌∙◌, arith, inl, inr}
-use Rattle.std.specs.Str.Parse.{digits_value}
+use Rattle.std.proofs.Common.{◌≡◌, ℕ, List, [], ◌∷◌, ◌++◌, Ok, Err, ap, sym, subst, ◌∙◌, arith, inl, inr}
 use Rattle.clap.specs.Walk.{Text}
 use Rattle.elf_layout.specs.Layouts.{HasKey, LacksKey, Pushes}
 use Rattle.elf_layout.specs.declared.layout.Item.{Item}
 use Rattle.elf_layout.specs.declared.layout.Item.TheVariants.{Section, Define, Entry, Table, Thread}
 use Rattle.elf_layout.specs.declared.layout.LayoutFault.TheVariants.{Full, Repeat}
 use Rattle.elf_model.specs.Placing.{Layout}
-use Rattle.elf_words.specs.Items.{IsAddress, IsItemOf, Spells, item_address}
+use Rattle.elf_layout.specs.Spelled.{Spells}
+use Rattle.elf_layout.proofs.ItemLaws.{SameItem, one_item}
 use Rattle.elf_words.specs.Layouts.{Lays, RefusesItem}
 use Rattle.elf_words.specs.declared.requests.RequestFault.{RequestFault}
 use Rattle.elf_words.specs.declared.requests.RequestFault.TheVariants.{Memory, BadName, BadItem, LayoutFull, LayoutRepeat, Words as Told}
-use Rattle.elf_words.proofs.ItemLaws.{spelled_so}
-
--- two items are of one sort, and have one index or name and one address
-abbrev SameItem : Item → Item → Type 0
-SameItem (Section i a) (Section j b) = (i ≡ j) × (a ≡ b)
-SameItem (Define n a) (Define m b) = (n.now ≡ m.now) × (a ≡ b)
-SameItem (Entry n a) (Entry m b) = (n.now ≡ m.now) × (a ≡ b)
-SameItem (Table n a) (Table m b) = (n.now ≡ m.now) × (a ≡ b)
-SameItem (Thread n a) (Thread m b) = (n.now ≡ m.now) × (a ≡ b)
-SameItem _ _ = ⊥
-
-one_head : (key : List ℕ) (a b : ℕ) (xs ys : List ℕ) → key ≡ a ∷ xs → key ≡ b ∷ ys → a ≡ b
-one_head key a b xs ys e f = ap (λ l. get_or l 0 0) (sym e ∙ f)
-
-of_one_key : (key : List ℕ) (x y : Item) → IsItemOf key x → IsItemOf key y → item_address x ≡ item_address y → SameItem x y
-of_one_key key (Section i a) (Section j b) (d, e, n) (f, g, m) same =
-    (n.0.2 ∙ ap (λ k. digits_value 10 (drop 3 k)) (sym e ∙ g) ∙ sym m.0.2, same)
-of_one_key key (Section i a) (Define m b) (d, e, n) (g, p) same = absurd (omega (arith, one_head key 97 100 _ _ e g))
-of_one_key key (Section i a) (Entry m b) (d, e, n) (g, p) same = absurd (omega (arith, one_head key 97 112 _ _ e g))
-of_one_key key (Section i a) (Table m b) (d, e, n) (g, p) same = absurd (omega (arith, one_head key 97 103 _ _ e g))
-of_one_key key (Section i a) (Thread m b) (d, e, n) (g, p) same = absurd (omega (arith, one_head key 97 116 _ _ e g))
-of_one_key key (Define n a) (Section j b) (e, o) (f, g, m) same = absurd (omega (arith, one_head key 100 97 _ _ e g))
-of_one_key key (Define n a) (Define m b) (e, o) (g, p) same = (ap (drop 4) (sym e ∙ g), same)
-of_one_key key (Define n a) (Entry m b) (e, o) (g, p) same = absurd (omega (arith, one_head key 100 112 _ _ e g))
-of_one_key key (Define n a) (Table m b) (e, o) (g, p) same = absurd (omega (arith, one_head key 100 103 _ _ e g))
-of_one_key key (Define n a) (Thread m b) (e, o) (g, p) same = absurd (omega (arith, one_head key 100 116 _ _ e g))
-of_one_key key (Entry n a) (Section j b) (e, o) (f, g, m) same = absurd (omega (arith, one_head key 112 97 _ _ e g))
-of_one_key key (Entry n a) (Define m b) (e, o) (g, p) same = absurd (omega (arith, one_head key 112 100 _ _ e g))
-of_one_key key (Entry n a) (Entry m b) (e, o) (g, p) same = (ap (drop 4) (sym e ∙ g), same)
-of_one_key key (Entry n a) (Table m b) (e, o) (g, p) same = absurd (omega (arith, one_head key 112 103 _ _ e g))
-of_one_key key (Entry n a) (Thread m b) (e, o) (g, p) same = absurd (omega (arith, one_head key 112 116 _ _ e g))
-of_one_key key (Table n a) (Section j b) (e, o) (f, g, m) same = absurd (omega (arith, one_head key 103 97 _ _ e g))
-of_one_key key (Table n a) (Define m b) (e, o) (g, p) same = absurd (omega (arith, one_head key 103 100 _ _ e g))
-of_one_key key (Table n a) (Entry m b) (e, o) (g, p) same = absurd (omega (arith, one_head key 103 112 _ _ e g))
-of_one_key key (Table n a) (Table m b) (e, o) (g, p) same = (ap (drop 4) (sym e ∙ g), same)
-of_one_key key (Table n a) (Thread m b) (e, o) (g, p) same = absurd (omega (arith, one_head key 103 116 _ _ e g))
-of_one_key key (Thread n a) (Section j b) (e, o) (f, g, m) same = absurd (omega (arith, one_head key 116 97 _ _ e g))
-of_one_key key (Thread n a) (Define m b) (e, o) (g, p) same = absurd (omega (arith, one_head key 116 100 _ _ e g))
-of_one_key key (Thread n a) (Entry m b) (e, o) (g, p) same = absurd (omega (arith, one_head key 116 112 _ _ e g))
-of_one_key key (Thread n a) (Table m b) (e, o) (g, p) same = absurd (omega (arith, one_head key 116 103 _ _ e g))
-of_one_key key (Thread n a) (Thread m b) (e, o) (g, p) same = (ap (drop 6) (sym e ∙ g), same)
-
-one_address : (text : List ℕ) (a b : ℕ) → IsAddress text a → IsAddress text b → a ≡ b
-one_address text a b (d, e, n) (f, g, m) = n.2 ∙ ap (λ t. digits_value 16 (drop 2 t)) (sym e ∙ g) ∙ sym m.2
-
--- a word spells one item
-one_item : (word : List ℕ) (x y : Item) → Spells word x → Spells word y → SameItem x y
-one_item word x y one other =
-    let so = spelled_so word one.key one.text one.parted y other in
-    of_one_key one.key x y one.is_of so.0 (one_address one.text (item_address x) (item_address y) one.address so.1)
 
 lacks_none : {K : Type 0} (items : List (K × ℕ)) (key other : K) → key ≡ other → LacksKey items key → HasKey items other → ⊥
 lacks_none items key other same lacks (k, x, within, here, has) = lacks k x within (ap (λ i. i.0) here ∙ has ∙ sym same)

@@ -2,5 +2,4 @@ pub mod Asked
 pub mod Answered
 pub mod Archives
 pub mod Checks
-pub mod Items
 pub mod Layouts

@@ -10,7 +10,6 @@ mod requests;
 mod words;
 
 pub use checks::{Archiving, Asked, Checking, Laying};
-pub use items::item;
 pub use names::{checked_name, checked_symbol};
 pub use requests::{Request, RequestFault, Task, Wanted, WantedSymbol};
 pub use words::request;

@@ -5,7 +5,6 @@ mod archives;
 mod explaining;
 mod layouts;
 mod many;
-mod texts;
 
 ghost use Rattle.std.specs.Prelude.{◌≡◌, IfErr};
 ghost use Rattle.elf_run.specs.Answers.{refused_line, refused_status};

@@ -11,8 +11,9 @@ use Rattle.std.proofs.Math.Nat.{pow-le-pow_right}
 use Rattle.std.proofs.lemmas.List.{get_or_default}
 use Rattle.std.proofs.lemmas.Str.Parse.{without_leading_plus_none}
 use Rattle.std.proofs.lemmas.Str.Pattern.{NoCharPasses-char, drop_at_char, starts_char}
-use Rattle.elf_words.specs.Items.{EQUALS, IsAddress, IsItemOf, IsParted, Spells, item_address}
+use Rattle.elf_layout.specs.Spelled.{EQUALS, IsAddress, IsItemOf, IsParted, Spells, item_address}
 use Rattle.elf_layout.specs.declared.layout.Item.{Item}
+use Rattle.elf_layout.specs.declared.layout.Item.TheVariants.{Section, Define, Entry, Table, Thread}
 
 -- the clause of `rsplit_once` at `=`
 abbrev SplitsAtLast : List ℕ → Option (Bor (List ℕ) × Bor (List ℕ)) → Type 0
@@ -96,3 +97,52 @@ pub spelled_so : (word key text : List ℕ) → IsParted word key text → (item
 spelled_so word key text parted item spells =
     let same = parted_once word spells.key spells.text key text spells.parted parted in
     (subst (λ k. IsItemOf k item) same.0 spells.is_of, subst (λ t. IsAddress t (item_address item)) same.1 spells.address)
+
+-- two items are of one sort, and have one index or name and one address
+abbrev pub SameItem : Item → Item → Type 0
+SameItem (Section i a) (Section j b) = (i ≡ j) × (a ≡ b)
+SameItem (Define n a) (Define m b) = (n.now ≡ m.now) × (a ≡ b)
+SameItem (Entry n a) (Entry m b) = (n.now ≡ m.now) × (a ≡ b)
+SameItem (Table n a) (Table m b) = (n.now ≡ m.now) × (a ≡ b)
+SameItem (Thread n a) (Thread m b) = (n.now ≡ m.now) × (a ≡ b)
+SameItem _ _ = ⊥
+
+one_head : (key : List ℕ) (a b : ℕ) (xs ys : List ℕ) → key ≡ a ∷ xs → key ≡ b ∷ ys → a ≡ b
+one_head key a b xs ys e f = ap (λ l. get_or l 0 0) (sym e ∙ f)
+
+of_one_key : (key : List ℕ) (x y : Item) → IsItemOf key x → IsItemOf key y → item_address x ≡ item_address y → SameItem x y
+of_one_key key (Section i a) (Section j b) (d, e, n) (f, g, m) same =
+    (n.0.2 ∙ ap (λ k. digits_value 10 (drop 3 k)) (sym e ∙ g) ∙ sym m.0.2, same)
+of_one_key key (Section i a) (Define m b) (d, e, n) (g, p) same = absurd (omega (arith, one_head key 97 100 _ _ e g))
+of_one_key key (Section i a) (Entry m b) (d, e, n) (g, p) same = absurd (omega (arith, one_head key 97 112 _ _ e g))
+of_one_key key (Section i a) (Table m b) (d, e, n) (g, p) same = absurd (omega (arith, one_head key 97 103 _ _ e g))
+of_one_key key (Section i a) (Thread m b) (d, e, n) (g, p) same = absurd (omega (arith, one_head key 97 116 _ _ e g))
+of_one_key key (Define n a) (Section j b) (e, o) (f, g, m) same = absurd (omega (arith, one_head key 100 97 _ _ e g))
+of_one_key key (Define n a) (Define m b) (e, o) (g, p) same = (ap (drop 4) (sym e ∙ g), same)
+of_one_key key (Define n a) (Entry m b) (e, o) (g, p) same = absurd (omega (arith, one_head key 100 112 _ _ e g))
+of_one_key key (Define n a) (Table m b) (e, o) (g, p) same = absurd (omega (arith, one_head key 100 103 _ _ e g))
+of_one_key key (Define n a) (Thread m b) (e, o) (g, p) same = absurd (omega (arith, one_head key 100 116 _ _ e g))
+of_one_key key (Entry n a) (Section j b) (e, o) (f, g, m) same = absurd (omega (arith, one_head key 112 97 _ _ e g))
+of_one_key key (Entry n a) (Define m b) (e, o) (g, p) same = absurd (omega (arith, one_head key 112 100 _ _ e g))
+of_one_key key (Entry n a) (Entry m b) (e, o) (g, p) same = (ap (drop 4) (sym e ∙ g), same)
+of_one_key key (Entry n a) (Table m b) (e, o) (g, p) same = absurd (omega (arith, one_head key 112 103 _ _ e g))
+of_one_key key (Entry n a) (Thread m b) (e, o) (g, p) same = absurd (omega (arith, one_head key 112 116 _ _ e g))
+of_one_key key (Table n a) (Section j b) (e, o) (f, g, m) same = absurd (omega (arith, one_head key 103 97 _ _ e g))
+of_one_key key (Table n a) (Define m b) (e, o) (g, p) same = absurd (omega (arith, one_head key 103 100 _ _ e g))
+of_one_key key (Table n a) (Entry m b) (e, o) (g, p) same = absurd (omega (arith, one_head key 103 112 _ _ e g))
+of_one_key key (Table n a) (Table m b) (e, o) (g, p) same = (ap (drop 4) (sym e ∙ g), same)
+of_one_key key (Table n a) (Thread m b) (e, o) (g, p) same = absurd (omega (arith, one_head key 103 116 _ _ e g))
+of_one_key key (Thread n a) (Section j b) (e, o) (f, g, m) same = absurd (omega (arith, one_head key 116 97 _ _ e g))
+of_one_key key (Thread n a) (Define m b) (e, o) (g, p) same = absurd (omega (arith, one_head key 116 100 _ _ e g))
+of_one_key key (Thread n a) (Entry m b) (e, o) (g, p) same = absurd (omega (arith, one_head key 116 112 _ _ e g))
+of_one_key key (Thread n a) (Table m b) (e, o) (g, p) same = absurd (omega (arith, one_head key 116 103 _ _ e g))
+of_one_key key (Thread n a) (Thread m b) (e, o) (g, p) same = (ap (drop 6) (sym e ∙ g), same)
+
+one_address : (text : List ℕ) (a b : ℕ) → IsAddress text a → IsAddress text b → a ≡ b
+one_address text a b (d, e, n) (f, g, m) = n.2 ∙ ap (λ t. digits_value 16 (drop 2 t)) (sym e ∙ g) ∙ sym m.2
+
+-- a word spells one item
+pub one_item : (word : List ℕ) (x y : Item) → Spells word x → Spells word y → SameItem x y
+one_item word x y one other =
+    let so = spelled_so word one.key one.text one.parted y other in
+    of_one_key one.key x y one.is_of so.0 (one_address one.text (item_address x) (item_address y) one.address so.1)

@@ -1,5 +1,5 @@
-use Rattle.elf_words.proofs.ItemLaws.{parted_at, parted_nowhere}
-use Rattle.elf_words.proofs.items.parted.Goals as goal
+use Rattle.elf_layout.proofs.ItemLaws.{parted_at, parted_nowhere}
+use Rattle.elf_layout.proofs.spelled.parted.Goals as goal
 
 pub returns-clause-parts : goal.returns-clause-parts
 returns-clause-parts c = parted_at _ _ c.rsplit_once.ensures.cases

@@ -1,7 +1,7 @@
 use Rattle.std.proofs.Common.{ap, sym, ◌∙◌}
 use Rattle.std.specs.Prelude.{is_some}
-use Rattle.elf_words.proofs.ItemLaws.{no_plus, unread}
-use Rattle.elf_words.proofs.items.number.Goals as goal
+use Rattle.elf_layout.proofs.ItemLaws.{no_plus, unread}
+use Rattle.elf_layout.proofs.spelled.number.Goals as goal
 
 pub returns-clause-none : goal.returns-clause-none
 returns-clause-none c = λ none.

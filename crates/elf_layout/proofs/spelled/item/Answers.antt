@@ -1,6 +1,6 @@
 use Rattle.std.proofs.Common.{refl}
-use Rattle.elf_words.proofs.ItemLaws.{spelled_so}
-use Rattle.elf_words.proofs.items.item.Goals as goal
+use Rattle.elf_layout.proofs.ItemLaws.{spelled_so}
+use Rattle.elf_layout.proofs.spelled.item.Goals as goal
 
 pub returns-clause-unspelled : goal.returns-clause-unspelled
 returns-clause-unspelled c = λ none item spells.

@@ -1,0 +1,154 @@
+-- Items of lines, one after another, and sorted items of which two have one key.
+use Rattle.std.proofs.Common.{◌≡◌, ◌≢◌, ℕ, zero, suc, ◌+◌, ◌-◌, ◌<◌, ◌≤◌, List, [], ◌∷◌, ◌++◌, length, get_or, take, ap₂, drop, take-append-drop, append_assoc, ◌==◌, All, Ordering, Less, Equal, Greater, Option, Some, None, Result, Ok, Err, IfSome, IsNone, MatchBool, Bool, true, false, refl, sym, ap, subst, ◌∙◌, arith, inl, inr, is_lt, nat_cmp}
+use Rattle.std.specs.Borrow.{Bor}
+use Rattle.std.specs.Cmp.{IsTotalOrder}
+use Rattle.std.specs.List.{AllZip}
+use Rattle.std.specs.List.{slice_split}
+use Rattle.std.specs.List.Sorted.{IsSorted}
+use Rattle.std.specs.Cmp.Lexicographic.{slice_cmp}
+use Rattle.std.specs.Ordering.{ordering_reverse, ordering_then}
+use Rattle.std.specs.Prelude.{◌⊎◌}
+use Rattle.std.specs.Str.Lines.{lines, lines_of_parts}
+use Rattle.std.proofs.lemmas.Bool.{cases_lt}
+use Rattle.std.proofs.lemmas.Bool.Decides.{nat_tests}
+use Rattle.std.proofs.lemmas.Cmp.{nat_list_cmp_total}
+use Rattle.std.proofs.lemmas.List.{get_or-map, get_or_default, length-map}
+use Rattle.std.proofs.lemmas.List.Splits.{length-slice_split}
+use Rattle.std.proofs.lemmas.List.Sums.{count_by-le-length}
+use Rattle.std.proofs.lemmas.List.Elements.{All-nil, All-push}
+use Rattle.elf_model.specs.Placing.{Layout}
+use Rattle.elf_layout.specs.Listed.{AreAlike, GiveItems, HasTwice, IsFaulty, IsLastAlike, NeverFalls, SpellsAlike, with_item, with_items}
+use Rattle.elf_layout.specs.Layouts.{IsName}
+use Rattle.elf_layout.specs.Lent.{Follows, Item as Lent, MayFollow, name_of, name_order, named}
+use Rattle.elf_layout.specs.Spelled.{Spells}
+use Rattle.elf_layout.specs.declared.layout.Item.{Item}
+use Rattle.elf_layout.specs.declared.layout.Item.TheVariants.{Section, Define, Entry, Table, Thread}
+use Rattle.elf_layout.proofs.ItemLaws.{SameItem, one_item}
+use Rattle.elf_layout.proofs.LayoutSteps.{drop-at}
+use Rattle.elf_layout.proofs.NameSteps.{order_same, some_item}
+
+zip_push : (lines : List (List ℕ)) (items : List Item) (line : List ℕ) (item : Item) → AllZip Spells lines items → Spells line item → AllZip Spells (lines ++ line ∷ []) (items ++ item ∷ [])
+zip_push [] [] line item zip spells = (spells, tt)
+zip_push [] (x ∷ items) line item zip spells = absurd zip
+zip_push (l ∷ lines) [] line item zip spells = absurd zip
+zip_push (l ∷ lines) (x ∷ items) line item zip spells = (zip.0, zip_push lines items line item zip.1 spells)
+
+items_push : (old : Layout) (items : List Item) (item : Item) → with_items old (items ++ item ∷ []) ≡ with_item (with_items old items) item
+items_push old [] item = refl
+items_push old (x ∷ items) item = items_push (with_item old x) items item
+
+-- no line gives no item
+pub gives_none : (old : Layout) → GiveItems [] old old
+gives_none old = record { items = []; spelled = tt; placed = refl }
+
+-- one line more gives one item more
+pub gives_more : (lines : List (List ℕ)) (line : List ℕ) (item : Item) (old new newer : Layout) → GiveItems lines old new → Spells line item → newer ≡ with_item new item
+    → GiveItems (lines ++ line ∷ []) old newer
+gives_more lines line item old new newer gives spells is = record {
+  items = gives.items ++ item ∷ [];
+  spelled = zip_push lines gives.items line item gives.spelled spells;
+  placed = is ∙ ap (λ l. with_item l item) gives.placed ∙ sym (items_push old gives.items item);
+}
+
+-- items that are the same are alike to the same others
+same_alike : (one other wanted : Item) → SameItem one other → AreAlike other wanted → AreAlike one wanted
+same_alike (Section i a) (Section j b) (Section k c) same alike = same.0 ∙ alike
+same_alike (Define i a) (Define j b) (Define k c) same alike = same.0 ∙ alike
+same_alike (Entry i a) (Entry j b) (Entry k c) same alike = same.0 ∙ alike
+same_alike (Table i a) (Table j b) (Table k c) same alike = same.0 ∙ alike
+same_alike (Thread i a) (Thread j b) (Thread k c) same alike = same.0 ∙ alike
+same_alike (Section i a) (Section j b) _ same alike = absurd alike
+same_alike (Define i a) (Define j b) _ same alike = absurd alike
+same_alike (Entry i a) (Entry j b) _ same alike = absurd alike
+same_alike (Table i a) (Table j b) _ same alike = absurd alike
+same_alike (Thread i a) (Thread j b) _ same alike = absurd alike
+same_alike _ _ _ same alike = absurd same
+
+-- a line spells one item, so it is alike or none is
+pub alike_told : (line : List ℕ) (found wanted : Item) (answer : Bool) → Spells line found → MatchBool answer (AreAlike found wanted) (AreAlike found wanted → ⊥)
+    → MatchBool answer (SpellsAlike wanted line) (SpellsAlike wanted line → ⊥)
+alike_told line found wanted true spells alike = (found, spells, alike)
+alike_told line found wanted false spells other = λ said. other (same_alike found said.0 wanted (one_item line found said.0 spells said.1) said.2)
+
+-- the last line that is alike, one line later
+pub last_none : (wanted : Item) → IsLastAlike [] wanted 0
+last_none wanted = inl (refl, All-nil (λ line. SpellsAlike wanted line → ⊥))
+
+pub last_here : (lines : List (List ℕ)) (line : List ℕ) (wanted : Item) (number : ℕ) → SpellsAlike wanted line → number ≡ length lines + 1 → IsLastAlike (lines ++ line ∷ []) wanted number
+last_here lines line wanted number alike is = inr (lines, line, [], refl, alike, All-nil (λ line. SpellsAlike wanted line → ⊥), is)
+
+pub last_before : (lines : List (List ℕ)) (line : List ℕ) (wanted : Item) (number : ℕ) → (SpellsAlike wanted line → ⊥) → IsLastAlike lines wanted number → IsLastAlike (lines ++ line ∷ []) wanted number
+last_before lines line wanted number other (inl (is, none)) = inl (is, All-push (λ line. SpellsAlike wanted line → ⊥) lines line none other)
+last_before lines line wanted number other (inr (front, here, rest, parted, alike, none, is)) =
+    inr (front, here, rest ++ line ∷ [], ap (λ l. l ++ line ∷ []) parted ∙ append_assoc front (here ∷ rest) (line ∷ []), alike, All-push (λ line. SpellsAlike wanted line → ⊥) rest line none other, is)
+
+-- how many lines a text may have
+parts_few : (parts : List (List ℕ)) → length (lines_of_parts parts) ≤ length parts
+parts_few [] = omega arith
+parts_few (x ∷ []) = grind (arith, nat_tests)
+parts_few (x ∷ y ∷ more) = omega (arith, parts_few (y ∷ more))
+
+pub lines_few : (text : List ℕ) → length (lines text) ≤ length text + 1
+lines_few text = omega (arith, parts_few (slice_split (λ b. b == 10) text), length-slice_split (λ b. b == 10) text, count_by-le-length (λ b. b == 10) text)
+
+-- a line among all, behind those before it
+pub line_parted : (all front : List (List ℕ)) (n : ℕ) (line : List ℕ) → front ≡ take n all → n < length all → line ≡ get_or all n line → all ≡ front ++ line ∷ drop (n + 1) all
+line_parted all front n line is within here = sym (take-append-drop n all) ∙ ap₂ (λ a b. a ++ b) (sym is) (drop-at all n line line within here)
+
+-- sorted items of which one does not follow the one before it: both have its key
+module _ {K : Type 0} {order : K → K → Ordering} (total : IsTotalOrder order) (equal : (a b : K) → order a b ≡ Equal → a ≡ b) (items : List (K × ℕ)) (sorted : NeverFalls order items) where
+  alike_at : (j i : ℕ) (d : K × ℕ) → j + 1 ≡ i → i < length items → (order (get_or items j d).0 (get_or items i d).0 ≡ Less → ⊥) → (get_or items j d).0 ≡ (get_or items i d).0
+  alike_at j i d next within not = by_order (order (get_or items j d).0 (get_or items i d).0) refl
+    where
+      falls : order (get_or items i d).0 (get_or items j d).0 ≢ Less
+      falls = subst (λ n. order (get_or items n d).0 (get_or items j d).0 ≢ Less) next (sorted j d (omega (arith, next, within)))
+
+      by_order : (o : Ordering) → order (get_or items j d).0 (get_or items i d).0 ≡ o → (get_or items j d).0 ≡ (get_or items i d).0
+      by_order Less e = absurd (not e)
+      by_order Equal e = equal (get_or items j d).0 (get_or items i d).0 e
+      by_order Greater e = absurd (falls (total.antisymm (get_or items i d).0 (get_or items j d).0 ∙ ap ordering_reverse e))
+
+  pub has_twice : (i : ℕ) (e : K × ℕ) → i < length items → (Follows order (λ x. x.0) items i → ⊥) → HasTwice items (get_or items i e).0
+  has_twice i e within not = elim (cases_lt 0 i) [
+    | inl some ↦
+        let before : i - 1 < length items = omega (arith, within) in
+        let same = alike_at (i - 1) i e (omega (arith, some)) within (λ less. not (λ d above.
+        subst (λ x. order (get_or items (i - 1) d).0 x.0 ≡ Less) (get_or_default items i e d within) (subst (λ x. order x.0 (get_or items i e).0 ≡ Less) (get_or_default items (i - 1) e d before) less))) in
+        (i - 1, i, omega (arith, some), within, λ d. ap (λ x. x.0) (get_or_default items (i - 1) d e before) ∙ same, λ d. ap (λ x. x.0) (get_or_default items i d e within))
+    | inr none ↦ absurd (not (λ d above. absurd (omega (arith, above, none))))
+  ]
+
+-- the same of names that are lent
+abbrev as_named : Lent → List ℕ × ℕ
+as_named item = (name_of item, item.1)
+
+named_at : (items : List Lent) (i : ℕ) (d : Lent) (e : List ℕ × ℕ) → i < length items → get_or (named items) i e ≡ as_named (get_or items i d)
+named_at items i d e within = get_or-map as_named items i d e within
+
+long : (items : List Lent) → length (named items) ≡ length items
+long items = length-map items as_named
+
+pub names_twice : (items : List Lent) (i : ℕ) (e : Lent) → i < length items → NeverFalls name_order (named items) → (MayFollow items i → ⊥) → IsName (name_of (get_or items i e))
+    → HasTwice (named items) (name_of (get_or items i e))
+names_twice items i e within sorted not is_name =
+    let inside : i < length (named items) = omega (arith, within, long items) in
+    subst (HasTwice (named items)) (ap (λ x. x.0) (named_at items i e (as_named e) within)) (has_twice nat_list_cmp_total order_same (named items) sorted i (as_named e) inside (λ follows. not (
+      (λ d. subst (λ x. IsName (name_of x)) (get_or_default items i e d within) is_name),
+      λ d some.
+          let before : i - 1 < length items = omega (arith, within) in
+          subst (λ x. name_order x (name_of (get_or items i d)) ≡ Less) (ap (λ x. x.0) (named_at items (i - 1) d (as_named d) before)) (subst (λ x. name_order (get_or (named items) (i - 1) (as_named d)).0 x ≡ Less) (ap (λ x. x.0) (named_at items i d (as_named d) within)) (follows (as_named d) some)),
+    )))
+
+-- sorted pairs have sorted keys
+then_falls : (a b : Ordering) → is_lt (ordering_then a b) ≡ false → a ≡ Less → ⊥
+then_falls Less b falls less = cc
+then_falls Equal b falls less = cc
+then_falls Greater b falls less = cc
+
+pub names_sorted : (items : List Lent) → IsSorted (λ (x y : Lent). ordering_then (slice_cmp nat_cmp x.0.now y.0.now) (nat_cmp x.1 y.1)) items → NeverFalls name_order (named items)
+names_sorted items sorted i e within less =
+    let inside : i + 1 < length items = omega (arith, within, long items) in
+    let before : i < length items = omega (arith, inside) in
+    let d = some_item items (omega (arith, inside)) in
+    then_falls (name_order (name_of (get_or items (i + 1) d)) (name_of (get_or items i d))) (nat_cmp (get_or items (i + 1) d).1 (get_or items i d).1) (sorted i d (omega arith) inside)
+    (subst (λ x. name_order x (name_of (get_or items i d)) ≡ Less) (ap (λ x. x.0) (named_at items (i + 1) d e inside)) (subst (λ x. name_order (get_or (named items) (i + 1) e).0 x ≡ Less) (ap (λ x. x.0) (named_at items i d e before)) less))

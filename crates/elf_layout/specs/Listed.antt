@@ -1,0 +1,131 @@
+-- The items that the lines of a text give, one a line, behind those of a layout.
+use Rattle.std.specs.Prelude.{ℕ, ◌≡◌, ◌≢◌, ◌+◌, ◌<◌, ◌⊎◌, ⊤, List, [], ◌∷◌, ◌++◌, length, slice_index_or, All, Result, Ok, Err}
+use Rattle.std.specs.List.{AllZip}
+use Rattle.std.specs.List.Sorted.{IsPermutation}
+use Rattle.std.specs.Ordering.{nat_cmp}
+use Rattle.std.specs.Str.Lines.{lines}
+use Rattle.std.specs.declared.cmp.Ordering.{Ordering}
+use Rattle.std.specs.declared.cmp.Ordering.TheVariants.{Less}
+use Rattle.elf_model.specs.Placing.{Layout, Searched}
+use Rattle.elf_layout.specs.Kept.{lent_as}
+use Rattle.elf_layout.specs.Layouts.{IsName, NamesOf}
+use Rattle.elf_layout.specs.Lent.{name_order}
+use Rattle.elf_layout.specs.Spelled.{Spells}
+use Rattle.elf_layout.specs.declared.addresses.LentLayout.{LentLayout}
+use Rattle.elf_layout.specs.declared.layout.Item.{Item}
+use Rattle.elf_layout.specs.declared.layout.Item.TheVariants.{Section, Define, Entry, Table, Thread}
+use Rattle.elf_layout.specs.declared.items.ItemsFault.{ItemsFault}
+use Rattle.elf_layout.specs.declared.items.ItemsFault.TheVariants.{BadItem, Repeats, Memory}
+use Rattle.elf_layout.specs.declared.texts.TextEnd.{TextEnd}
+use Rattle.elf_layout.specs.declared.texts.TextEnd.TheVariants.{Whole, Cut}
+
+-- the items of a layout, which are searched
+abbrev pub as_searched : Layout → Layout
+as_searched layout = record (layout) { lookup = Searched }
+
+-- the items of another layout behind those that are searched
+abbrev pub with_layout : Layout → Layout → Layout
+with_layout old layout = record {
+  lookup = old.lookup;
+  sections = old.sections ++ layout.sections;
+  definitions = old.definitions ++ layout.definitions;
+  linkage = old.linkage ++ layout.linkage;
+  table = old.table ++ layout.table;
+  thread = old.thread ++ layout.thread;
+}
+
+-- an item behind those of its sort
+abbrev pub with_item : Layout → Item → Layout
+with_item old (Section index address) = record (old) { sections = old.sections ++ (index, address) ∷ [] }
+with_item old (Define name address) = record (old) { definitions = old.definitions ++ (name.now, address) ∷ [] }
+with_item old (Entry name address) = record (old) { linkage = old.linkage ++ (name.now, address) ∷ [] }
+with_item old (Table name address) = record (old) { table = old.table ++ (name.now, address) ∷ [] }
+with_item old (Thread name address) = record (old) { thread = old.thread ++ (name.now, address) ∷ [] }
+
+-- items behind those of their sorts, from the first to the last
+abbrev pub with_items : Layout → List Item → Layout
+with_items old [] = old
+with_items old (item ∷ items) = with_items (with_item old item) items
+
+-- lines give items, one each
+pub record GiveItems (lines : List (List ℕ)) (old new : Layout) : Type 0 where
+  pub items : List Item
+  pub spelled : AllZip Spells lines items
+  pub placed : new ≡ with_items old items
+
+-- the line behind some spells no item: it is there and spells none, or the text was cut before it
+abbrev pub IsFaulty : List (List ℕ) → List (List ℕ) → TextEnd → Type 0
+IsFaulty all front end =
+    ((line : List ℕ) × (rest : List (List ℕ)) × (all ≡ front ++ line ∷ rest) × ((item : Item) → Spells line item → ⊥))
+    ⊎ ((all ≡ front) × (end ≡ Cut))
+
+-- why lines give no items behind others: the first that spells none decides, and its number is told
+abbrev pub IsRefused : List (List ℕ) → Layout → TextEnd → ItemsFault → Type 0
+IsRefused lines old end (BadItem line) =
+    (front : List (List ℕ)) × (new : Layout) × GiveItems front old new × IsFaulty lines front end × (line ≡ length front + 1)
+IsRefused lines old end Memory = ⊤
+IsRefused lines old end _ = ⊥
+
+-- THE ITEMS of a layout, and behind them those of the lines of a text that ends with its file
+abbrev pub Gathers : Layout → List ℕ → TextEnd → Result Layout ItemsFault → Type 0
+Gathers layout text end (Ok items) = GiveItems (lines text) (as_searched layout) items × (end ≡ Whole)
+Gathers layout text end (Err fault) = IsRefused (lines text) (as_searched layout) end fault
+
+-- no key of some items is below the key of the item before it
+abbrev pub NeverFalls : {K : Type 0} → (K → K → Ordering) → List (K × ℕ) → Type 0
+NeverFalls {K} order items = (i : ℕ) (d : K × ℕ) → i + 1 < length items → order (slice_index_or items (i + 1) d).0 (slice_index_or items i d).0 ≢ Less
+
+-- items are sorted, sort by sort
+pub record AreSorted (items : Layout) : Type 0 where
+  pub sections : NeverFalls nat_cmp items.sections
+  pub definitions : NeverFalls name_order items.definitions
+  pub linkage : NeverFalls name_order items.linkage
+  pub table : NeverFalls name_order items.table
+  pub thread : NeverFalls name_order items.thread
+
+-- they are the same items, of each sort in another order
+pub record AreReordered (old new : Layout) : Type 0 where
+  pub lookup : new.lookup ≡ old.lookup
+  pub sections : IsPermutation old.sections new.sections
+  pub definitions : IsPermutation old.definitions new.definitions
+  pub linkage : IsPermutation old.linkage new.linkage
+  pub table : IsPermutation old.table new.table
+  pub thread : IsPermutation old.thread new.thread
+
+-- two of some items have a key
+abbrev pub HasTwice : {K : Type 0} → List (K × ℕ) → K → Type 0
+HasTwice {K} items key = (i j : ℕ) × (i < j) × (j < length items) × ((d : K × ℕ) → (slice_index_or items i d).0 ≡ key) × ((d : K × ℕ) → (slice_index_or items j d).0 ≡ key)
+
+-- two items of an item's sort have its index, or its name
+abbrev pub IsRepeated : Layout → Item → Type 0
+IsRepeated items (Section index address) = HasTwice items.sections index
+IsRepeated items (Define name address) = IsName name.now → HasTwice items.definitions name.now
+IsRepeated items (Entry name address) = IsName name.now → HasTwice items.linkage name.now
+IsRepeated items (Table name address) = IsName name.now → HasTwice items.table name.now
+IsRepeated items (Thread name address) = IsName name.now → HasTwice items.thread name.now
+
+-- two items are of one sort, and have one index or name
+abbrev pub AreAlike : Item → Item → Type 0
+AreAlike (Section index address) (Section other place) = index ≡ other
+AreAlike (Define name address) (Define other place) = name.now ≡ other.now
+AreAlike (Entry name address) (Entry other place) = name.now ≡ other.now
+AreAlike (Table name address) (Table other place) = name.now ≡ other.now
+AreAlike (Thread name address) (Thread other place) = name.now ≡ other.now
+AreAlike _ _ = ⊥
+
+-- a line spells an item of this sort, and of this index or name
+abbrev pub SpellsAlike : Item → List ℕ → Type 0
+SpellsAlike wanted line = (item : Item) × Spells line item × AreAlike item wanted
+
+-- the number of the last line that does, or 0 where none does
+abbrev pub IsLastAlike : List (List ℕ) → Item → ℕ → Type 0
+IsLastAlike lines wanted number =
+    ((number ≡ 0) × All (λ line. SpellsAlike wanted line → ⊥) lines)
+    ⊎ ((front : List (List ℕ)) × (line : List ℕ) × (rest : List (List ℕ)) × (lines ≡ front ++ line ∷ rest) × SpellsAlike wanted line
+    × All (λ line. SpellsAlike wanted line → ⊥) rest × (number ≡ length front + 1))
+
+-- SORTED ITEMS as a layout; where two of a sort have one index or name, they are refused at the last line that has such an item
+abbrev pub Lends : List ℕ → Layout → Result LentLayout ItemsFault → Type 0
+Lends text items (Ok lent) = lent_as lent ≡ items
+Lends text items (Err (Repeats line)) = (item : Item) × IsRepeated items item × IsLastAlike (lines text) item line
+Lends text items (Err _) = ⊥

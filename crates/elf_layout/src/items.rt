@@ -1,0 +1,339 @@
+//! Items of a layout, as many as there is memory for: those of another layout, and one of each line of
+//! a text.
+ghost use Rattle.std.specs.Prelude.{◌≡◌, ◌++◌, ◌∷◌, [], IfOk, IfErr, MatchBool};
+ghost use Rattle.std.specs.List.Sorted.{IsPermutation};
+ghost use Rattle.std.specs.Ordering.{nat_cmp};
+ghost use Rattle.std.specs.Str.Lines.{lines};
+ghost use Rattle.elf_model.specs.Placing.{Searched};
+ghost use Rattle.elf_layout.specs.Kept.{lent_as};
+ghost use Rattle.elf_layout.specs.Layouts.{IsName};
+ghost use Rattle.elf_layout.specs.Lent.{named, name_order};
+ghost use Rattle.elf_layout.specs.Listed.{AreAlike, AreReordered, AreSorted, Gathers, GiveItems};
+ghost use Rattle.elf_layout.specs.Listed.{HasTwice, IsLastAlike, IsRefused, IsRepeated, Lends};
+ghost use Rattle.elf_layout.specs.Listed.{NeverFalls, SpellsAlike, with_item, with_layout};
+ghost use Rattle.elf_layout.specs.declared.texts.TextEnd.TheVariants.{Whole};
+
+use crate::addresses::LentLayout;
+use crate::layout::{Item, Layout};
+use crate::lent::{SortedNames, SortedSections};
+use crate::named::Named;
+use crate::spelled::item;
+use crate::texts::TextEnd;
+use std::alloc::{AllocError, Global};
+use std::marker::Model;
+
+/// A name with its address.
+type Placed<'a> = (&'a [u8], u64);
+
+/// Why a file gives no items.
+pub enum ItemsFault {
+    /// It can't be read, or is no text.
+    Read,
+    /// It has too many bytes.
+    TooLarge,
+    /// The line of this number spells no item, or has too many bytes.
+    BadItem(u64),
+    /// The item of the line of this number is of the same sort, and has the same index or name, as one
+    /// of an earlier line or one that there was before.
+    Repeats(u64),
+    /// There was no memory.
+    Memory,
+}
+
+/// Items of a layout, as many as there is memory for, of each sort one behind the other.
+#[derive(Drop)]
+pub struct Items<'a> {
+    sections: Vec<(u16, u64)>,
+    definitions: Vec<Placed<'a>>,
+    linkage: Vec<Placed<'a>>,
+    table: Vec<Placed<'a>>,
+    thread: Vec<Placed<'a>>,
+}
+
+impl<'a> Model for Items<'a> {
+    ghost use Rattle.elf_layout.specs.Lent.{named};
+    ghost use Rattle.elf_model.specs.Placing.{Layout, Searched};
+
+    ghost Value = { Layout };
+
+    ghost view = { λ i. record {
+      lookup = Searched;
+      sections = i.sections.items;
+      definitions = named i.definitions.items;
+      linkage = named i.linkage.items;
+      table = named i.table.items;
+      thread = named i.thread.items;
+    } };
+}
+
+impl<'a> Items<'a> {
+    /// The items of a layout, and behind them those of the lines of a text, one of each line. Behind a
+    /// text that was cut stands a line that spells none.
+    ///
+    /// # Errors
+    /// `BadItem` with the number of the first line that spells no item, counted from 1; `Memory` where
+    /// there is none for the items.
+    pub fn gather(
+        alloc: Global,
+        layout: &'a Layout,
+        text: &'a str,
+        end: TextEnd,
+    ) -> Result<Items<'a>, ItemsFault>
+        ensures { Gathers layout.now text.now end result }
+    {
+        let mut items = Items::new(alloc);
+        if items.push_layout(layout).is_err() {
+            return Err(ItemsFault::Memory);
+        }
+        match items.push_lines(text, end) {
+            Ok(()) => Ok(items),
+            Err(fault) => Err(fault),
+        }
+    }
+
+    /// No item.
+    fn new(alloc: Global) -> Items<'a>
+        ensures { result ≡ record {
+          lookup = Searched;
+          sections = [];
+          definitions = [];
+          linkage = [];
+          table = [];
+          thread = [];
+        } }
+    {
+        Items {
+            sections: Vec::new(alloc),
+            definitions: Vec::new(alloc),
+            linkage: Vec::new(alloc),
+            table: Vec::new(alloc),
+            thread: Vec::new(alloc),
+        }
+    }
+
+    /// Puts the items of a layout behind those that are there.
+    fn push_layout(&mut self, layout: &'a Layout) -> Result<(), AllocError>
+        ensures { IfOk result (λ _. self.new ≡ with_layout self.old layout.now) }
+    {
+        push_sections(&mut self.sections, layout.sections())?;
+        push_names(&mut self.definitions, layout.definitions())?;
+        push_names(&mut self.linkage, layout.linkage())?;
+        push_names(&mut self.table, layout.table())?;
+        push_names(&mut self.thread, layout.thread())
+    }
+
+    /// Puts an item behind those of its sort.
+    fn push(&mut self, item: Item<'a>) -> Result<(), AllocError>
+        ensures { IfOk result (λ _. self.new ≡ with_item self.old item.entry) }
+    {
+        match item {
+            Item::Section { index, address } => push_section(&mut self.sections, index, address),
+            Item::Define { name, address } => push_name(&mut self.definitions, name, address),
+            Item::Entry { name, address } => push_name(&mut self.linkage, name, address),
+            Item::Table { name, address } => push_name(&mut self.table, name, address),
+            Item::Thread { name, address } => push_name(&mut self.thread, name, address),
+        }
+    }
+
+    /// Puts the items of lines behind those that are there, one of each line. Behind a text that was cut
+    /// stands a line that spells none.
+    fn push_lines(&mut self, text: &'a str, end: TextEnd) -> Result<(), ItemsFault>
+        ensures given { IfOk result (λ _.
+            GiveItems (lines text.now) self.old self.new × (end ≡ Whole)) }
+        ensures refused { IfErr result (IsRefused (lines text.now) self.old end) }
+    {
+        let mut number: u64 = 0;
+        for line in text.lines() {
+            number = number.saturating_add(1);
+            let Some(item) = item(line) else {
+                return Err(ItemsFault::BadItem(number));
+            };
+            if self.push(item).is_err() {
+                return Err(ItemsFault::Memory);
+            }
+        }
+        match end {
+            TextEnd::Whole => Ok(()),
+            TextEnd::Cut => Err(ItemsFault::BadItem(number.saturating_add(1))),
+        }
+    }
+
+    /// Sorts them: sections by rising index, names in the rising order of their bytes.
+    pub fn sort(&mut self)
+        ensures same { AreReordered self.old self.new }
+        ensures sorted { AreSorted self.new }
+    {
+        sort_sections(&mut self.sections);
+        sort_names(&mut self.definitions);
+        sort_names(&mut self.linkage);
+        sort_names(&mut self.table);
+        sort_names(&mut self.thread);
+    }
+
+    /// Sorted items as a layout. `text` is the one whose lines gave them.
+    ///
+    /// # Errors
+    /// `Repeats` where two items of one sort have the same index or name, with the number of the last
+    /// line that has such an item, counted from 1.
+    pub fn lend<'s>(&'s self, text: &str) -> Result<LentLayout<'s>, ItemsFault>
+        requires { AreSorted self.now }
+        ensures { Lends text.now self.now result }
+    {
+        match self.lent() {
+            Ok(layout) => Ok(layout),
+            Err(item) => Err(ItemsFault::Repeats(last_line(text, &item))),
+        }
+    }
+
+    /// Sorted items as a layout, or one whose index or name two have.
+    fn lent<'s>(&'s self) -> Result<LentLayout<'s>, Item<'s>>
+        requires { AreSorted self.now }
+        ensures lent { IfOk result (λ layout. lent_as layout ≡ self.now) }
+        ensures refused { IfErr result (IsRepeated self.now) }
+    {
+        let sections = match SortedSections::new(self.sections.as_slice()) {
+            Ok(sections) => sections,
+            Err(i) => {
+                let (index, address) = self.sections[i];
+                return Err(Item::Section { index, address });
+            }
+        };
+        let definitions = match names(self.definitions.as_slice()) {
+            Ok(names) => names,
+            Err((name, address)) => return Err(Item::Define { name, address }),
+        };
+        let linkage = match names(self.linkage.as_slice()) {
+            Ok(names) => names,
+            Err((name, address)) => return Err(Item::Entry { name, address }),
+        };
+        let table = match names(self.table.as_slice()) {
+            Ok(names) => names,
+            Err((name, address)) => return Err(Item::Table { name, address }),
+        };
+        let thread = match names(self.thread.as_slice()) {
+            Ok(names) => names,
+            Err((name, address)) => return Err(Item::Thread { name, address }),
+        };
+        Ok(LentLayout {
+            sections,
+            definitions,
+            linkage,
+            table,
+            thread,
+        })
+    }
+}
+
+/// Puts a section behind others.
+fn push_section(items: &mut Vec<(u16, u64)>, index: u16, address: u64) -> Result<(), AllocError>
+    ensures { IfOk result (λ _. items.new.items ≡ items.old.items ++ (index, address) ∷ []) }
+{
+    match items.push((index, address)) {
+        Ok(()) => Ok(()),
+        Err(_) => Err(AllocError),
+    }
+}
+
+/// Puts a name behind others.
+fn push_name<'a>(
+    items: &mut Vec<Placed<'a>>,
+    name: &'a [u8],
+    address: u64,
+) -> Result<(), AllocError>
+    ensures { IfOk result (λ _.
+        named items.new.items ≡ named items.old.items ++ (name.now, address) ∷ []) }
+{
+    match items.push((name, address)) {
+        Ok(()) => Ok(()),
+        Err(_) => Err(AllocError),
+    }
+}
+
+/// Puts sections behind others.
+fn push_sections(items: &mut Vec<(u16, u64)>, sections: &[(u16, u64)]) -> Result<(), AllocError>
+    ensures { IfOk result (λ _. items.new.items ≡ items.old.items ++ sections.now) }
+{
+    for (index, address) in sections {
+        push_section(items, *index, *address)?;
+    }
+    Ok(())
+}
+
+/// Puts names behind others.
+fn push_names<'a>(items: &mut Vec<Placed<'a>>, names: &'a [Named]) -> Result<(), AllocError>
+    ensures { IfOk result (λ _. named items.new.items ≡ named items.old.items ++ names.now) }
+{
+    for name in names {
+        push_name(items, name.name(), name.address())?;
+    }
+    Ok(())
+}
+
+/// Sorts sections by rising index.
+fn sort_sections(items: &mut Vec<(u16, u64)>)
+    ensures same { IsPermutation items.old.items items.new.items }
+    ensures sorted { NeverFalls nat_cmp items.new.items }
+{
+    items.sort_unstable();
+}
+
+/// Sorts names in the rising order of their bytes.
+fn sort_names(items: &mut Vec<Placed<'_>>)
+    ensures same { IsPermutation (named items.old.items) (named items.new.items) }
+    ensures sorted { NeverFalls name_order (named items.new.items) }
+{
+    items.sort_unstable();
+}
+
+/// Names in rising order, or one that two have.
+fn names<'a>(items: &'a [Placed<'a>]) -> Result<SortedNames<'a>, Placed<'a>>
+    requires { NeverFalls name_order (named items.now) }
+    ensures names { IfOk result (λ names. names ≡ named items.now) }
+    ensures refused { IfErr result (λ item.
+        IsName item.0.now → HasTwice (named items.now) item.0.now) }
+{
+    match SortedNames::new(items) {
+        Ok(names) => Ok(names),
+        Err(i) => Err(items[i]),
+    }
+}
+
+/// Whether two items are of one sort, and have the same index or name.
+fn are_alike(one: &Item<'_>, other: &Item<'_>) -> bool
+    ensures { MatchBool result (AreAlike one.now other.now) (AreAlike one.now other.now → ⊥) }
+{
+    match (one, other) {
+        (Item::Section { index, .. }, Item::Section { index: same, .. }) => index == same,
+        (Item::Define { name, .. }, Item::Define { name: same, .. }) => name == same,
+        (Item::Entry { name, .. }, Item::Entry { name: same, .. }) => name == same,
+        (Item::Table { name, .. }, Item::Table { name: same, .. }) => name == same,
+        (Item::Thread { name, .. }, Item::Thread { name: same, .. }) => name == same,
+        _ => false,
+    }
+}
+
+/// Whether a line spells an item of this sort and this index or name.
+fn spells_alike(line: &str, wanted: &Item<'_>) -> bool
+    ensures { MatchBool result (SpellsAlike wanted.now line.now)
+        (SpellsAlike wanted.now line.now → ⊥) }
+{
+    match item(line) {
+        Some(found) => are_alike(&found, wanted),
+        None => false,
+    }
+}
+
+/// The number of the last line with an item of this sort and this index or name, 0 where there is none.
+fn last_line(text: &str, wanted: &Item<'_>) -> u64
+    ensures { IsLastAlike (lines text.now) wanted.now result }
+{
+    let mut number: u64 = 0;
+    let mut last = 0;
+    for line in text.lines() {
+        number = number.saturating_add(1);
+        if spells_alike(line, wanted) {
+            last = number;
+        }
+    }
+    last
+}
