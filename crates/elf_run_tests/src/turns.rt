@@ -2,6 +2,7 @@
 use crate::requests::{LISTED, carry_out, listing, request};
 use elf_fixtures::{hash_with_cycle, one_symbol_table, overlapping_relocations, with_bytes};
 use elf_layout::Layout;
+use elf_program::outcome;
 use elf_source::TurnSource;
 use elf_table::HeaderRoom;
 use elf_words::{Request, Task, checked_name};
@@ -9,7 +10,7 @@ use std::process::Abort;
 use std::test::Fail;
 
 /// Carries a request out on two files of one length in turn, in both orders. It comes back with an
-/// answer, the source never fails, and no more than so many bytes are asked for.
+/// answer or a refusal, never with a fault, and no more than so many bytes are asked for.
 fn check_turns(
     rt: &(impl Abort + AllocGlobal),
     request: &Request<'_>,
@@ -21,7 +22,8 @@ fn check_turns(
     for (first, second) in [files, (files.1, files.0)] {
         let source = TurnSource::new(first, second).ok_or("lengths")?;
         let finished = carry_out(rt, request, source, &mut store);
-        assert!(rt; finished.answer.is_ok());
+        let (status, line) = outcome(&finished.answer);
+        assert!(rt; status <= 1 && line == "");
         assert!(rt;
             finished.asked >= 64 && finished.asked <= most,
             "{most} bytes"
