@@ -1,7 +1,8 @@
 -- Checks one list behind the other.
-use Rattle.std.proofs.Common.{◌≡◌, List, [], ◌∷◌, ◌++◌, Option, None, Some, refl, sym, ◌∙◌, inl, inr}
+use Rattle.std.proofs.Common.{◌≡◌, Bool, true, false, List, [], ◌∷◌, ◌++◌, Option, None, Some, refl, sym, ◌∙◌, inl, inr}
+use Rattle.std.specs.Prelude.{is_none}
 use Rattle.std.proofs.lemmas.Bool.{cases_Bool}
-use Rattle.elf_model.specs.Checks.{Check, first_refusal}
+use Rattle.elf_model.specs.Checks.{Check, first_refusal, pass}
 use Rattle.elf_model.specs.declared.causes.Refusal.{Refusal}
 
 -- a refusal in the first list is the answer
@@ -40,3 +41,23 @@ passes_front front rest h = by_cases (first_refusal front) (λ refusal fails. fi
     by_cases : (first : Option Refusal) → ((refusal : Refusal) → first ≡ Some refusal → first_refusal (front ++ rest) ≡ Some refusal) → first ≡ None
     by_cases None fails = refl
     by_cases (Some refusal) fails = let refused = fails refusal refl in cc
+
+-- every check of a list passes
+abbrev pub AllPass : List Check → Type 0
+AllPass [] = Unit {0}
+AllPass (check ∷ checks) = (check.fails ≡ false) × AllPass checks
+
+first_passes : (fails : Bool) (refusal : Refusal) (checks : List Check)
+    → is_none (elim fails [ true ↦ Some refusal | false ↦ first_refusal checks ]) ≡ true → (fails ≡ false) × (pass checks ≡ true)
+first_passes true refusal checks h = cc
+first_passes false refusal checks h = (refl, h)
+
+pub all_pass : (checks : List Check) → pass checks ≡ true → AllPass checks
+all_pass [] h = tt
+all_pass (check ∷ checks) h =
+    let p = first_passes check.fails check.refusal checks h in
+    (p.0, all_pass checks p.1)
+
+pub pass-behind : (front checks : List Check) → AllPass (front ++ checks) → AllPass checks
+pass-behind [] checks h = h
+pass-behind (check ∷ front) checks h = pass-behind front checks h.1

@@ -4,10 +4,9 @@ use Rattle.std.proofs.Math.Nat.{mul-le-mul_left, mul-le-mul_right, mul-le-mul, d
 use Rattle.std.proofs.lemmas.Bool.Decides.{nat_tests}
 use Rattle.std.proofs.lemmas.Bool.{ltb-false, eqb-true}
 use Rattle.std.proofs.lemmas.Nat.{le-div}
-use Rattle.std.specs.Prelude.{is_none}
 use Rattle.elf_model.specs.Records.{e_shnum, e_phnum, e_shstrndx, sh_type, sh_offset, sh_size, sh_link, sh_entsize, p_type, p_offset, p_filesz}
 use Rattle.elf_model.specs.Names.{name_bytes}
-use Rattle.elf_model.specs.Checks.{Check, refuse, first_refusal, pass, header_checks, early_checks, is_outside, is_symbol_table, range_checks_of, whole_checks_of, table_checks_of}
+use Rattle.elf_model.specs.Checks.{Check, refuse, pass, header_checks, early_checks, is_outside, is_symbol_table, range_checks_of, whole_checks_of, table_checks_of}
 use Rattle.elf_model.specs.declared.causes.Refusal.{Refusal}
 use Rattle.elf_model.specs.Listing.{has, has_tables, known_parts}
 use Rattle.elf_model.specs.declared.causes.Cause.TheVariants.{EntrySize, SizeNotWhole, TableOutside}
@@ -19,6 +18,7 @@ use Rattle.elf_model.specs.VersionRows.{version_definitions, version_needs, symb
 use Rattle.elf_model.specs.TableKinds.{TableHeaders, symbols, relocations, section_dynamic, section_notes, segment_notes, segment_dynamic, section_kinds, segment_kinds, by_sections, by_segments, table_headers}
 use Rattle.elf_model.specs.Cost.{sum_over, cost_where, table_cost, kinds_cost, is_loadable, needs_segments, sections_cost, segments_cost, tables_cost, behind_header as asked_behind, listing_cost, ceiling}
 use Rattle.elf_model.specs.Style.{viewed}
+use Rattle.elf_model.proofs.CheckSteps.{all_pass, pass-behind}
 use Rattle.elf_model.proofs.StyleLemmas.{view_length}
 use Rattle.elf_model.specs.CostLaws.{CostIsWithinCeiling, LastCostIsAdded, SumsGrow}
 
@@ -289,26 +289,6 @@ sum_over-le amount bound first (suc count) h =
     let more = sum_over-le amount bound (suc first) count h in
     let s : (count + 1) * bound ≡ count * bound + 1 * bound = add-mul count 1 bound in
     omega arith
-
--- every check of a list passes
-abbrev pub AllPass : List Check → Type 0
-AllPass [] = Unit {0}
-AllPass (check ∷ checks) = (check.fails ≡ false) × AllPass checks
-
-first_passes : (fails : Bool) (refusal : Refusal) (checks : List Check)
-    → is_none (elim fails [ true ↦ Some refusal | false ↦ first_refusal checks ]) ≡ true → (fails ≡ false) × (pass checks ≡ true)
-first_passes true refusal checks h = cc
-first_passes false refusal checks h = (refl, h)
-
-pub all_pass : (checks : List Check) → pass checks ≡ true → AllPass checks
-all_pass [] h = tt
-all_pass (check ∷ checks) h =
-    let p = first_passes check.fails check.refusal checks h in
-    (p.0, all_pass checks p.1)
-
-pub pass-behind : (front checks : List Check) → AllPass (front ++ checks) → AllPass checks
-pass-behind [] checks h = h
-pass-behind (check ∷ front) checks h = pass-behind front checks h.1
 
 -- the numbers of headers are permitted
 pub loadable-within : (file : List ℕ) (headers : ℕ) → is_loadable file headers ≡ true → (e_shnum file ≤ headers) × (e_phnum file ≤ headers)

@@ -1,5 +1,5 @@
 //! Tests of requests carried out: whole answers, within budgets too, and each read and each write failing
-//! in turn.
+//! in turn, and two files that answer in turn.
 #![tactic(auto)]
 
 #[cfg(test)]
@@ -14,3 +14,5 @@ mod listings;
 mod lookups;
 #[cfg(test)]
 mod requests;
+#[cfg(test)]
+mod turns;

@@ -10,13 +10,13 @@ ghost use Rattle.elf_hash.specs.Kinds.{kind_of};
 ghost use Rattle.elf_scope.specs.Kinds.{found_at};
 ghost use Rattle.elf_scope.specs.Scopes.{Finds, IsScope, ScopeLies};
 
-use crate::numbers::SHT_GNU_HASH;
 use crate::scope::Scope;
 use crate::section_versions::section_versions;
 use crate::symbols::Symbols;
 use elf_hash::{HashKind, HashPlace};
 use elf_headers::refused;
 use elf_record::Cause;
+use elf_record::gnu_numbers::SHT_GNU_HASH;
 use elf_record::numbers::SHT_HASH;
 use elf_table::{Fault, File};
 

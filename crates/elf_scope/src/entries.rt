@@ -7,9 +7,9 @@ ghost use Rattle.elf_table.specs.Tables.{RowsWithin, size_of};
 ghost use Rattle.elf_scope.specs.Entries.{AreListed, TakesEntry, entry_here, first_entry, no_entries};
 
 use crate::entry::{Entries, Entry};
-use crate::numbers::{DT_GNU_HASH, DT_VERDEF, DT_VERNEED, DT_VERSYM};
 use elf_note::{dynamic_rows, entry_in};
 use elf_record::Dyn;
+use elf_record::gnu_numbers::{DT_GNU_HASH, DT_VERDEF, DT_VERNEED, DT_VERSYM};
 use elf_record::numbers::{DT_HASH, DT_STRSZ, DT_STRTAB, DT_SYMTAB};
 use elf_source::{Counted, Source};
 use elf_table::{Fault, Table};

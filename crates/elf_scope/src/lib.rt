@@ -7,7 +7,6 @@ mod by_sections;
 mod by_segments;
 mod entries;
 mod entry;
-mod numbers;
 mod scope;
 mod scoping;
 mod section_versions;

@@ -14,10 +14,11 @@ ghost use Rattle.elf_table.specs.Tables.{RowsWithin, StringsWithin};
 ghost use Rattle.elf_scope.specs.Symbols.{AreWords, IsRecordTable, RecordsWithin};
 ghost use Rattle.elf_scope.specs.Versions.{AreInFront, AreVersions, VersionsLie, records_at, words_checks};
 
-use crate::numbers::{SHT_GNU_VERDEF, SHT_GNU_VERNEED, SHT_GNU_VERSYM, VERSION_WORD_BYTES};
 use crate::symbols::{RecordTable, VersionWords};
 use crate::versions::Versions;
 use elf_headers::refused;
+use elf_record::gnu_numbers::{SHT_GNU_VERDEF, SHT_GNU_VERNEED, SHT_GNU_VERSYM};
+use elf_record::sizes::SYMBOL_VERSION_BYTES;
 use elf_record::{Cause, VersionKind};
 use elf_table::{Fault, File, Names, Table};
 
@@ -69,7 +70,7 @@ fn section_words(file: &File<'_>, link: u32) -> Result<Option<VersionWords>, Fau
     let Some(section) = words_section(file) else {
         return Ok(None);
     };
-    let words = file.table(section, VERSION_WORD_BYTES)?;
+    let words = file.table(section, SYMBOL_VERSION_BYTES)?;
     let head = file.place(section);
     if file.section(section).sh_link != link {
         return refused(head, Cause::BadLink);

@@ -13,11 +13,10 @@ ghost use Rattle.elf_scope.specs.Symbols.{RecordsWithin, SymbolsLie};
 ghost use Rattle.elf_scope.specs.Versions.{AreInFront, AreVersions, VersionsLie};
 
 use crate::entry::{Entries, Entry};
-use crate::numbers::VERSION_WORD_BYTES;
 use crate::symbols::{RecordTable, Symbols, VersionWords};
 use crate::versions::Versions;
 use elf_headers::refused;
-use elf_record::sizes::SYMBOL_BYTES;
+use elf_record::sizes::{SYMBOL_BYTES, SYMBOL_VERSION_BYTES};
 use elf_record::{Cause, VersionKind};
 use elf_table::{Fault, Names, SegmentView, Table};
 
@@ -114,7 +113,7 @@ fn segment_versions(
     let definitions = segment_records(view, found.verdef, VersionKind::Definition, names)?;
     let needs = segment_records(view, found.verneed, VersionKind::File, names)?;
     let words = VersionWords {
-        words: rows_in(rest, VERSION_WORD_BYTES),
+        words: rows_in(rest, SYMBOL_VERSION_BYTES),
         head: entry.at,
         index: segment,
     };

@@ -50,14 +50,6 @@ impl<'a> SliceSink<'a> {
     {
         &self.buffer[..self.len]
     }
-
-    /// How many bytes of the slice are free.
-    pub fn free(&self) -> usize
-        ensures value { result ≡ self.now.free }
-        ensures full { IsTrue self.now.failed → self.now.free ≡ 0 }
-    {
-        self.buffer.len() - self.len
-    }
 }
 
 impl<'a> Sink for SliceSink<'a> {

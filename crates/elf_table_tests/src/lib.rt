@@ -1,7 +1,7 @@
 //! Tests of what no clause says of sources, sinks, lines, loads, tables, names, notes, versions,
 //! lookups and applied sections: readers and writers that give or take little, are interrupted, fail
 //! or end, how often they are called and for how much at once, and an entry that falls back between
-//! reads.
+//! reads; and a test by name of each call that no other crate makes.
 //! They are in a crate of their own, since a crate with tests is proved twice.
 #![tactic(auto)]
 
@@ -13,6 +13,8 @@ mod apply_budgets;
 mod apply_orders;
 #[cfg(test)]
 mod apply_pages;
+#[cfg(test)]
+mod callers;
 #[cfg(test)]
 mod chains;
 #[cfg(test)]
