@@ -1,12 +1,12 @@
-/* Looks a name up in a shared library, by its SysV hash table, and prints the address of the definition where
- * the library's first page is at BASE:
+/* Looks a name up in a shared library as a loader does, and prints the address of the definition where the
+ * library's first page is at BASE, and its version:
  *
- *     lookup LIBRARY NAME [BASE]
+ *     lookup LIBRARY NAME[@VERSION] [BASE]
  *
  *     cc lookup.c $(pkg-config --cflags --libs elfsee) -o lookup
  *
- * A library that has only a GNU hash table is refused. Of a name with versions the first is found that stands
- * in its chain.
+ * A name alone takes a version that is not hidden, NAME@VERSION that version, and NAME@@VERSION that one where
+ * it is the default.
  *
  * Status 0: found; 1: there is no such definition; 2: the library cannot be used, or the words are wrong. */
 #include <elfsee.h>
@@ -49,13 +49,25 @@ static int refuse(const char *path, const struct elfsee_end *end) {
     return 2;
 }
 
+/* Prints a name as a listing spells it: nothing of it acts on a terminal. */
+static void print_name(const uint8_t *name, size_t len) {
+    for (size_t i = 0; i < len; i++)
+        if (name[i] == '\\') printf("\\\\");
+        else if (name[i] >= 0x20 && name[i] < 0x7f) putchar(name[i]);
+        else printf("\\x%02x", name[i]);
+}
+
+/* The version of a definition that was found by its name alone. */
+static void tell_version(const struct elfsee_resolved *found, const uint8_t *file) {
+    if (found->version.len == 0) return;
+    printf("its version is ");
+    print_name(file + found->version.at, (size_t)found->version.len);
+    printf(found->is_cut ? "..\n" : "\n");
+}
+
 /* The address of a definition, for a library that is loaded at a base. */
-static int tell(const char *name, const struct elfsee_found *found, uint64_t base) {
+static void tell(const char *name, const struct elfsee_resolved *found, uint64_t base) {
     const struct elfsee_symbol *symbol = &found->symbol;
-    if (symbol->section == 0) { /* SHN_UNDEF: the library asks for it, and does not define it */
-        printf("%s is not defined here\n", name);
-        return 1;
-    }
     uint64_t address = symbol->section == 0xfff1 /* SHN_ABS */ ? symbol->value : base + symbol->value;
     if ((symbol->info & 15) == 6 /* STT_TLS */) {
         printf("%s lies at 0x%" PRIx64 " of each thread's block\n", name, symbol->value);
@@ -64,27 +76,39 @@ static int tell(const char *name, const struct elfsee_found *found, uint64_t bas
     } else {
         printf("%s is at 0x%" PRIx64 ", %" PRIu64 " bytes\n", name, address, symbol->size);
     }
-    return 0;
+}
+
+/* How many bytes of a text stand before its first @. */
+static size_t name_len(const char *text) {
+    const char *sign = strchr(text, '@');
+    return sign ? (size_t)(sign - text) : strlen(text);
 }
 
 int main(int argc, char **argv) {
     const struct elfsee_limits limits = {65279, 0, 1, 1 << 26}; /* 64 MB are read at most */
-    struct elfsee_found found = {{0, 0, 0, 0, 0, 0}, 0, 0, 0, 0, 0};
+    struct elfsee_resolved found = {{0, 0, 0, 0, 0, 0}, 0, 0, {0, 0}, 0, 0, 0, 0, 0, 0, 0, 0};
     struct elfsee_end end = {0, 0, 0, 0, 0};
     size_t len;
-    if (argc < 3) return fail("usage", "lookup LIBRARY NAME [BASE]");
+    if (argc < 3) return fail("usage", "lookup LIBRARY NAME[@VERSION] [BASE]");
     uint8_t *file = read_file(argv[1], &len);
     if (!file) return fail(argv[1], "it cannot be read");
     size_t room_len = (size_t)elfsee_room(file, len, limits.headers);
     uint8_t *room = malloc(room_len);
     if (!room) return fail(argv[1], "there is no memory for its headers");
-    uint32_t status = elfsee_find(file, len, &limits, room, room_len, (const uint8_t *)argv[2],
-                                  strlen(argv[2]), &found, &end);
+    const char *name = argv[2], *version = name + name_len(name);
+    uint32_t flags = strncmp(version, "@@", 2) ? 0 : ELFSEE_DEFAULT_ONLY;
+    version += flags ? 2 : *version == '@';
+    uint32_t status = elfsee_look_up(file, len, &limits, flags, (const uint8_t *)name, name_len(name),
+                                     (const uint8_t *)version, strlen(version), room, room_len, &found, &end);
+    if (status == ELFSEE_OK) {
+        tell(name, &found, argc > 3 ? strtoull(argv[3], NULL, 0) : 0);
+        tell_version(&found, file);
+    }
     free(room);
     free(file);
+    if (status == ELFSEE_OK) return 0;
     if (status == ELFSEE_REFUSED) return refuse(argv[1], &end);
-    if (status == ELFSEE_BAD_CALL) return fail(argv[2], "a name has at most 4,096 bytes");
-    if (status == ELFSEE_OK) return tell(argv[2], &found, argc > 3 ? strtoull(argv[3], NULL, 0) : 0);
-    printf("%s is not there\n", argv[2]);
+    if (status == ELFSEE_BAD_CALL) return fail(name, "a name and a version have at most 4,096 bytes");
+    printf("%s is not there\n", name);
     return 1;
 }

@@ -119,6 +119,11 @@ struct elfsee_symbol {
     uint8_t info, other;
 };
 
+/* Bytes of the file. */
+struct elfsee_range {
+    uint64_t at, len;
+};
+
 /* What a lookup found. */
 struct elfsee_found {
     struct elfsee_symbol symbol;
@@ -138,6 +143,46 @@ struct elfsee_found {
 uint32_t elfsee_find(const uint8_t *file, size_t file_len, const struct elfsee_limits *limits,
                      uint8_t *room, size_t room_len, const uint8_t *name, size_t name_len,
                      struct elfsee_found *found, struct elfsee_end *end);
+
+/* How a loader's lookup is made; the numbers add up. */
+enum {
+    ELFSEE_BY_SEGMENTS = 1, /* by the program headers, also where there are section headers */
+    ELFSEE_DEFAULT_ONLY = 2 /* the version that is asked for is to be the symbol's default version */
+};
+
+/* What a loader's lookup found; all 0 where it found nothing, but for `tried`. */
+struct elfsee_resolved {
+    struct elfsee_symbol symbol;
+    uint64_t index; /* of the symbol, among the symbols */
+    uint64_t tried; /* symbols that were tried: those of the name's hash in its chain */
+    struct elfsee_range version; /* the name of its version; 0, 0 where it has none, and where a
+                                    version was asked for, which it then has */
+    uint32_t has_version; /* 1: the file has versions of symbols; else 0, and so is what tells of one */
+    uint32_t is_hidden;   /* 1: a name alone does not take the version; else 0 */
+    uint32_t is_cut;      /* 1: the version's name has more bytes than the 256 that are told; else 0 */
+    uint16_t section; /* of symbols; or the program header of the dynamic entries */
+    uint16_t words;   /* the section of the symbols' versions; or that program header */
+    uint16_t number;  /* of the version, below 32,768; 0 and 1 have no name */
+    uint16_t none;        /* 0 */
+    uint32_t none_behind; /* 0 */
+};
+
+/* Looks a name up as a loader of the GNU system does, alone or with a version: by the file's hash
+ * table, of the GNU system or else of the gABI, the first symbol of the name's chain that has the name,
+ * is offered to others and whose version fits. `flags` adds up ELFSEE_BY_SEGMENTS and
+ * ELFSEE_DEFAULT_ONLY. The name and the version have at most 4,096 bytes each, no NUL among them and
+ * none behind them; a version of no bytes is none, and then a version is taken that is not hidden.
+ *  OK: the definition's symbol, with its version. ABSENT: no symbol answers; `resolved->tried` were
+ *    tried. REFUSED: for `end->cause` at `end->at`.
+ *  BAD_CALL: limits outside their ranges, room of less than 64 bytes, flags of more than 3, a name or
+ *    a version of more than 4,096.
+ * The bytes of `version` are the name in the file, as it is looked at: with ELFSEE_BY_SEGMENTS the
+ * bytes 40 to 47 and 60 to 63, where a file header tells of section headers, count as 0.
+ * `asked` is at most the lookup's cost, and the budget. */
+uint32_t elfsee_look_up(const uint8_t *file, size_t file_len, const struct elfsee_limits *limits,
+                        uint32_t flags, const uint8_t *name, size_t name_len, const uint8_t *version,
+                        size_t version_len, uint8_t *room, size_t room_len,
+                        struct elfsee_resolved *resolved, struct elfsee_end *end);
 
 /* What a layout gives an address for. */
 enum {
@@ -211,11 +256,6 @@ struct elfsee_dynamic {
     uint64_t value;
 };
 
-/* Bytes of the file. */
-struct elfsee_range {
-    uint64_t at, len;
-};
-
 /* The file header. OK, or REFUSED where its checks fail. */
 uint32_t elfsee_header(const uint8_t *file, size_t file_len, struct elfsee_header *header,
                        struct elfsee_end *end);
@@ -226,6 +266,13 @@ uint32_t elfsee_section(const uint8_t *file, size_t file_len, uint16_t index,
                         struct elfsee_section *section, struct elfsee_end *end);
 uint32_t elfsee_segment(const uint8_t *file, size_t file_len, uint16_t index,
                         struct elfsee_segment *segment, struct elfsee_end *end);
+
+/* Where the bytes of a section lie in the file, by its index: within it. OK; ABSENT where there is none
+ * of that index or its type is NOBITS or NULL, which has no bytes in the file; REFUSED where
+ * elfsee_section is, and with ELFSEE_TABLE_OUTSIDE at the section header where they end past the file.
+ * Where it is not OK `range` is as it was. `asked` is 0. */
+uint32_t elfsee_section_bytes(const uint8_t *file, size_t file_len, uint16_t index,
+                              struct elfsee_range *range, struct elfsee_end *end);
 
 /* A table, and a place in it. Plain numbers on the caller's own stack: any may be passed, and a
  * caller may set them; a step tests them. */

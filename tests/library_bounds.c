@@ -99,6 +99,20 @@ static uint32_t find(struct elfsee_limits limits, size_t room_len, const char *n
     return status;
 }
 
+static uint32_t look_up(struct elfsee_limits limits, size_t room_len, uint32_t flags, const char *name,
+                        size_t name_len, const char *version, size_t version_len,
+                        struct elfsee_resolved *resolved, struct elfsee_end *end) {
+    struct lent lent = lend_copy(name, name_len, name_len & 1);
+    struct lent wanted = lend_copy(version, version_len, version_len & 1);
+    memset(resolved, 77, sizeof *resolved);
+    *end = ODD;
+    uint32_t status = elfsee_look_up(library.bytes, library.len, &limits, flags, lent.bytes, name_len,
+                                     wanted.bytes, version_len, room.bytes, room_len, resolved, end);
+    take_back(&lent);
+    take_back(&wanted);
+    return status;
+}
+
 static uint32_t apply(struct elfsee_limits limits, size_t room_len, uint32_t section,
                       const struct elfsee_item *items, size_t count, size_t out_len, struct elfsee_end *end) {
     struct elfsee_job job = {items, count, section, 77};
@@ -123,6 +137,7 @@ static void bad_limits(void) {
     static const unsigned headers[] = {0, 65280, 65535}, names[] = {0, 4097, 65535};
     struct elfsee_end end;
     struct elfsee_found found;
+    struct elfsee_resolved resolved;
     struct elfsee_rows rows;
     struct elfsee_range range;
     int shows = 1, finds = 1, applies = 1, opens = 1, unlooked = 1, costs = 1;
@@ -131,7 +146,10 @@ static void bad_limits(void) {
         struct elfsee_limits bad = limits_of(headers[i], 256), other = limits_of(4096, names[i]);
         shows &= is_bad(show(bad, ROOM, OUT, &end), &end) && is_bad(show(other, ROOM, OUT, &end), &end);
         finds &= is_bad(find(bad, ROOM, "call", 4, &found, &end), &end);
+        finds &= is_bad(look_up(bad, ROOM, i, "call", 4, "", 0, &resolved, &end), &end);
+        finds &= is_zero(&resolved, sizeof resolved);
         unlooked &= find(other, ROOM, "call", 4, &found, &end) == ELFSEE_OK;
+        unlooked &= look_up(other, ROOM, i, "call", 4, "", 0, &resolved, &end) == ELFSEE_OK;
         paint();
         applies &= is_bad(apply(bad, ROOM, 1, 0, 0, OUT, &end), &end);
         for (table = 0; table < TABLE_COUNT; table += 1) {
@@ -154,6 +172,7 @@ static void bad_limits(void) {
 static void small_room(void) {
     struct elfsee_end end;
     struct elfsee_found found;
+    struct elfsee_resolved resolved;
     struct elfsee_rows rows;
     struct elfsee_range range;
     struct elfsee_limits limits = limits_of(4096, 256);
@@ -163,6 +182,7 @@ static void small_room(void) {
     for (len = 0; len < 64; len += 1) {
         all &= is_bad(show(limits, len, OUT, &end), &end);
         all &= is_bad(find(limits, len, "call", 4, &found, &end), &end);
+        all &= is_bad(look_up(limits, len, 0, "call", 4, "", 0, &resolved, &end), &end);
         all &= is_bad(apply(limits, len, 1, 0, 0, OUT, &end), &end);
         for (table = 0; table < TABLE_COUNT; table += 1) {
             uint32_t status =
@@ -176,6 +196,8 @@ static void small_room(void) {
     for (len = 64; len < 64 * 4; len += 21) {
         refused &= find(limits, len, "call", 4, &found, &end) == ELFSEE_REFUSED &&
                    end.cause == ELFSEE_TOO_MANY_HEADERS && end.at == 0x3c;
+        refused &= look_up(limits, len, 0, "call", 4, "", 0, &resolved, &end) == ELFSEE_REFUSED &&
+                   end.cause == ELFSEE_TOO_MANY_HEADERS && end.at == 0x3c && is_zero(&resolved, sizeof resolved);
     }
     check(refused, "room for fewer headers than the file has");
     check(show(limits_of(4096, 256), 64, OUT, &end) == ELFSEE_REFUSED && end.cause == ELFSEE_TOO_MANY_HEADERS,
@@ -187,6 +209,7 @@ static void short_files(void) {
     struct elfsee_limits limits = limits_of(4096, 256);
     struct elfsee_end end;
     struct elfsee_found found;
+    struct elfsee_resolved resolved;
     struct elfsee_header header;
     struct elfsee_rows rows;
     struct elfsee_range range;
@@ -196,12 +219,19 @@ static void short_files(void) {
     size_t len;
     job.items = &none;
     memset(&header, 77, sizeof header);
+    memset(&resolved, 77, sizeof resolved);
+    memset(&range, 77, sizeof range);
     for (len = 0; len < 64; len += 1) {
         struct lent file = lend_copy(object.bytes, len, len & 1);
         uint32_t status =
             elfsee_show(file.bytes, len, &limits, ELFSEE_ALL, room.bytes, ROOM, out.bytes, OUT, &end);
         all &= status == ELFSEE_REFUSED && end.cause == ELFSEE_SHORT && end.at == len && end.written == 25;
         status = elfsee_find(file.bytes, len, &limits, room.bytes, ROOM, none.name, 0, &found, &end);
+        all &= status == ELFSEE_REFUSED && end.cause == ELFSEE_SHORT && end.at == len;
+        status = elfsee_look_up(file.bytes, len, &limits, len % 4, none.name, 0, none.name, 0, room.bytes, ROOM,
+                                &resolved, &end);
+        all &= status == ELFSEE_REFUSED && end.cause == ELFSEE_SHORT && end.at == len;
+        status = elfsee_section_bytes(file.bytes, len, 0, &range, &end);
         all &= status == ELFSEE_REFUSED && end.cause == ELFSEE_SHORT && end.at == len;
         status = elfsee_apply(file.bytes, len, &limits, &job, room.bytes, ROOM, out.bytes, 0, &end);
         all &= status == ELFSEE_REFUSED && end.cause == ELFSEE_SHORT && end.at == len;
@@ -318,6 +348,36 @@ static void names(void) {
     check(find(limits, ROOM, "call\0", 5, &found, &end) != ELFSEE_OK, "a name with a NUL behind it");
     check(find(limits, ROOM, "ca\0l", 4, &found, &end) != ELFSEE_OK, "a name with a NUL in it");
     paint();
+}
+
+/* Names and versions of a loader's lookup, and its flags. */
+static void loader_names(void) {
+    static char name[5000];
+    struct elfsee_limits limits = limits_of(4096, 256);
+    struct elfsee_end end;
+    struct elfsee_resolved found;
+    unsigned flags;
+    int all = 1, many = 1;
+    memset(name, 'n', sizeof name);
+    for (flags = 0; flags < 4; flags += 1) {
+        all &= look_up(limits, ROOM, flags, "call", 4, "", 0, &found, &end) == ELFSEE_OK && found.tried > 0 &&
+               found.none == 0 && found.none_behind == 0 && found.is_cut == 0 && end.cause == 0 && end.at == 0 &&
+               end.written == 0;
+        all &= look_up(limits, ROOM, flags, "cal", 3, "", 0, &found, &end) == ELFSEE_ABSENT &&
+               is_zero(&found.symbol, sizeof found.symbol) && found.has_version == 0;
+        all &= look_up(limits, ROOM, flags, name, 0, name, 4096, &found, &end) != ELFSEE_BAD_CALL;
+        all &= look_up(limits, ROOM, flags, name, 4096, name, 4096, &found, &end) == ELFSEE_ABSENT;
+        all &= look_up(limits, ROOM, flags, "call", 5, "", 0, &found, &end) != ELFSEE_OK;
+        paint();
+        all &= is_bad(look_up(limits, ROOM, flags, name, 4097, "", 0, &found, &end), &end);
+        all &= is_bad(look_up(limits, ROOM, flags, "call", 4, name, 4097, &found, &end), &end);
+    }
+    check(all, "names and versions of a loader's lookup");
+    for (flags = 4; flags; flags *= 2) {
+        many &= is_bad(look_up(limits, ROOM, flags, "call", 4, "", 0, &found, &end), &end);
+        many &= is_bad(look_up(limits, ROOM, flags + 3, "call", 4, "", 0, &found, &end), &end);
+    }
+    check(many, "flags that are not known");
 }
 
 /* ------------------------------------------------------------------------- */
@@ -736,6 +796,45 @@ static int any_find(void) {
     return take_back(&some_room) && all;
 }
 
+static int any_look_up(void) {
+    struct lent file = changed(&library), name = lend_copy(next() & 1 ? "call" : "other", 4 + next() % 2, 0);
+    struct lent version = lend_copy(library.bytes, next() % 3 ? 0 : next() % 300, next() & 1);
+    struct lent some_room = lend(next() % (64 * 50), next() & 1);
+    struct elfsee_limits limits = any_limits();
+    struct elfsee_end end = ODD;
+    struct elfsee_resolved found;
+    uint32_t flags = (uint32_t)any(3);
+    memset(&found, (int)next(), sizeof found);
+    uint32_t status = elfsee_look_up(file.bytes, file.len, &limits, flags, name.bytes, name.len, version.bytes,
+                                     version.len, some_room.bytes, some_room.len, &found, &end);
+    int bad = limits.headers < 1 || limits.headers > 65279 || some_room.len < 64 || flags > 3;
+    int all = status <= ELFSEE_BAD_CALL && end.written == 0 && end.none == 0 && status != ELFSEE_FULL &&
+              (end.cause != 0) == (status == ELFSEE_REFUSED) && (status == ELFSEE_REFUSED || end.at == 0) &&
+              (!limits.has_budget || end.asked <= limits.budget) && bad == (status == ELFSEE_BAD_CALL);
+    all &= found.none == 0 && found.none_behind == 0 && found.has_version <= 1 && found.is_hidden <= 1 &&
+           found.is_cut <= 1 && found.number < 32768 && found.version.len <= 256;
+    all &= found.version.len == 0 || (found.version.at <= file.len && version.len == 0 &&
+                                      found.version.len <= file.len - found.version.at);
+    if (status != ELFSEE_OK && status != ELFSEE_ABSENT) all &= is_zero(&found, sizeof found);
+    take_back(&file);
+    take_back(&name);
+    take_back(&version);
+    return take_back(&some_room) && all;
+}
+
+static int any_bytes(void) {
+    struct lent file = changed(next() & 1 ? &object : &library);
+    struct elfsee_range range = {any(file.len), any(file.len)}, old = range;
+    struct elfsee_end end = ODD;
+    uint32_t status = elfsee_section_bytes(file.bytes, file.len, (uint16_t)any(40), &range, &end);
+    int all = status <= ELFSEE_ABSENT && end.asked == 0 && end.written == 0 && end.none == 0 &&
+              (end.cause != 0) == (status == ELFSEE_REFUSED);
+    all &= status == ELFSEE_OK ? range.at <= file.len && range.len <= file.len - range.at
+                               : range.at == old.at && range.len == old.len;
+    take_back(&file);
+    return all;
+}
+
 static int any_apply(void) {
     struct lent file = changed(&object), some_room = lend(next() % (64 * 50), next() & 1);
     struct lent some_out = lend(next() % 200, next() & 1);
@@ -857,6 +956,7 @@ int main(int argc, char **argv) {
     cause_words();
     parts();
     names();
+    loader_names();
     many_items();
     odd_items();
     item_lengths();
@@ -872,6 +972,8 @@ int main(int argc, char **argv) {
     many("segments of changed files, at any address", any_mapped, tries);
     many("listings of changed files, with any limits", any_show, tries);
     many("lookups in changed files, with any limits", any_find, tries);
+    many("a loader's lookups in changed files, with any flags", any_look_up, tries);
+    many("the bytes of sections of changed files", any_bytes, tries);
     many("sections of changed files, with any items", any_apply, tries);
     many("tables of changed files, with any limits", any_open, tries);
     check(is_whole(&out) && is_whole(&room) && is_whole(&object) && is_whole(&library) && is_whole(&archive),

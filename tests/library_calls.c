@@ -2,6 +2,7 @@
  *
  *     show HEADERS NAME BUDGET PARTS PATH
  *     find HEADERS BUDGET NAME PATH          NAME in hexadecimal digits, or -
+ *     resolve HEADERS BUDGET FLAGS NAME VERSION PATH   both in hexadecimal digits, or -
  *     apply HEADERS BUDGET SECTION ITEMS PATH
  *     rows PATH
  *     members PATH                           the lines of the members of an archive
@@ -160,6 +161,55 @@ static void find(const struct lent *file, char **words) {
                        found.symbol.other, found.symbol.section, found.symbol.name, found.steps, found.none,
                        found.none_behind);
     answer(status, &end, UINT64_MAX, text, (size_t)len);
+}
+
+/* Where a range of a lookup lies: within the file. */
+static void expect_name(const struct lent *file, const struct elfsee_resolved *resolved) {
+    expect(resolved->version.len <= 256 && resolved->is_cut <= 1 && resolved->is_hidden <= 1 &&
+               resolved->has_version <= 1 && resolved->number < 32768,
+           "a version out of its range");
+    expect(resolved->version.len == 0 || (resolved->version.at <= file->len &&
+                                          resolved->version.len <= file->len - resolved->version.at),
+           "the name of a version outside the file");
+}
+
+static void resolve(const struct lent *file, char **words) {
+    struct elfsee_limits limits = limits_of(words[0], "1", words[1]);
+    uint32_t flags = (uint32_t)atoi(words[2]);
+    static uint8_t bytes[1 << 16];
+    struct lent name = lend_copy(bytes, bytes_of(words[3], bytes), turn & 1);
+    struct lent version = lend_copy(bytes, bytes_of(words[4], bytes), turn & 2);
+    struct lent room = lend(HEADER_BYTES * (size_t)limits.headers, turn++ & 2);
+    struct lent less = lend((size_t)elfsee_room(file->bytes, file->len, limits.headers), turn & 1);
+    struct elfsee_resolved resolved, again;
+    struct elfsee_end end = {7, 7, 7, 7, 7}, end_again = end;
+    memset(&resolved, 7, sizeof resolved);
+    memset(&again, 9, sizeof again);
+    uint32_t status = elfsee_look_up(file->bytes, file->len, &limits, flags, name.bytes, name.len, version.bytes,
+                                     version.len, room.bytes, room.len, &resolved, &end);
+    uint32_t status_again = elfsee_look_up(file->bytes, file->len, &limits, flags, name.bytes, name.len,
+                                           version.bytes, version.len, less.bytes, less.len, &again, &end_again);
+    expect(status == status_again && is_same(&end, &end_again), "another answer with other room");
+    expect(!memcmp(&resolved, &again, sizeof resolved), "another symbol with other room");
+    expect(take_back(&room) && take_back(&less), "room was written outside");
+    expect_name(file, &resolved);
+    char text[1024];
+    int len = snprintf(text, sizeof text,
+                       "%u %" PRIu64 " %" PRIu64 " %" PRIu64 " %u %u %u %" PRIu32 " %" PRIu64 " %u %" PRIu32
+                       " %" PRIu32 " %" PRIu32 " %" PRIu32 " %u %u ",
+                       resolved.section, resolved.index, resolved.symbol.value, resolved.symbol.size,
+                       resolved.symbol.info, resolved.symbol.other, resolved.symbol.section,
+                       resolved.symbol.name, resolved.tried, resolved.none, resolved.none_behind,
+                       resolved.has_version, resolved.is_hidden, resolved.is_cut, resolved.words,
+                       resolved.number);
+    const uint8_t *told = version.len ? version.bytes : file->bytes + resolved.version.at;
+    size_t told_len = version.len ? version.len : (size_t)resolved.version.len, i;
+    for (i = 0; i < told_len && i < 256; i += 1) {
+        len += snprintf(text + len, sizeof text - (size_t)len, "%02x", told[i]);
+    }
+    answer(status, &end, UINT64_MAX, text, (size_t)len);
+    take_back(&name);
+    take_back(&version);
 }
 
 /* Items of their words; the names stand in `names`, one behind the other. */
@@ -407,10 +457,33 @@ static int say_segment_notes(struct walk *walk, uint16_t segment) {
     return say_notes(walk, status, &notes);
 }
 
+/* The bytes of a section are those that its header tells, where they lie in the file and it has any there. */
+static void expect_bytes(const struct walk *walk, uint16_t index, const struct elfsee_section *header,
+                         uint64_t place) {
+    struct elfsee_range range = {7, 7};
+    struct elfsee_end end = {7, 7, 7, 7, 7};
+    uint64_t len = walk->file->len;
+    uint32_t status = elfsee_section_bytes(walk->file->bytes, walk->file->len, index, &range, &end);
+    int has_none = header->type == 8 || header->type == 0;
+    int outside = header->size > len || header->offset > len - header->size;
+    expect(status == (has_none ? ELFSEE_ABSENT : outside ? ELFSEE_REFUSED : ELFSEE_OK), "the bytes of a section");
+    expect(status == ELFSEE_OK ? range.at == header->offset && range.len == header->size
+                               : range.at == 7 && range.len == 7,
+           "other bytes of a section");
+    expect(status != ELFSEE_REFUSED || (end.cause == ELFSEE_TABLE_OUTSIDE && end.at == place),
+           "the refusal of a section's bytes");
+    expect(end.asked == 0 && end.written == 0 && end.none == 0 && (status == ELFSEE_REFUSED || end.cause == 0),
+           "the end of a section's bytes");
+}
+
 static int say_section(struct walk *walk, uint16_t index) {
     struct elfsee_section header;
+    struct elfsee_header file;
     memset(&header, 7, sizeof header);
+    memset(&file, 7, sizeof file);
     if (elfsee_section(walk->file->bytes, walk->file->len, index, &header, &walk->end)) return 0;
+    if (elfsee_header(walk->file->bytes, walk->file->len, &file, &walk->end)) return 0;
+    expect_bytes(walk, index, &header, file.shoff + 64 * (uint64_t)index);
     say(walk,
         "S %u %" PRIu32 " %" PRIu64 " %" PRIu64 " %" PRIu64 " %" PRIu64 " %" PRIu32 " %" PRIu32 " %" PRIu64
         " %" PRIu64 " ",
@@ -456,6 +529,9 @@ static int say_all(struct walk *walk) {
         header.shnum, header.shstrndx, header.version, header.ehsize, header.phentsize, header.shentsize);
     expect(elfsee_section(bytes, len, header.shnum, &section, &walk->end) != ELFSEE_OK, "a section too many");
     expect(elfsee_segment(bytes, len, header.phnum, &segment, &walk->end) != ELFSEE_OK, "a segment too many");
+    struct elfsee_range range = {7, 7};
+    expect(elfsee_section_bytes(bytes, len, header.shnum, &range, &walk->end) != ELFSEE_OK && range.len == 7,
+           "the bytes of a section too many");
     uint32_t status = elfsee_section_names(bytes, len, &walk->limits, walk->room.bytes, walk->room.len,
                                            &walk->names, &walk->end);
     if (status != ELFSEE_OK) memset(&walk->names, 0, sizeof walk->names);
@@ -542,11 +618,12 @@ static void split(char *line, char **words, size_t count) {
 }
 
 static void answer_line(char *line) {
-    char *words[6];
-    size_t count = !strncmp(line, "show ", 5)    ? 5
-                   : !strncmp(line, "find ", 5)  ? 4
-                   : !strncmp(line, "apply ", 6) ? 5
-                                                 : 1;
+    char *words[7];
+    size_t count = !strncmp(line, "show ", 5)      ? 5
+                   : !strncmp(line, "find ", 5)    ? 4
+                   : !strncmp(line, "resolve ", 8) ? 6
+                   : !strncmp(line, "apply ", 6)   ? 5
+                                                   : 1;
     if (!strcmp(line, "words")) {
         words_of_causes();
         return;
@@ -555,6 +632,7 @@ static void answer_line(char *line) {
     struct lent file = read_file(words[count]);
     if (!strcmp(words[0], "show")) show(&file, words + 1);
     if (!strcmp(words[0], "find")) find(&file, words + 1);
+    if (!strcmp(words[0], "resolve")) resolve(&file, words + 1);
     if (!strcmp(words[0], "apply")) apply(&file, words + 1);
     if (!strcmp(words[0], "rows")) rows(&file);
     if (!strcmp(words[0], "members")) members(&file);

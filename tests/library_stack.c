@@ -38,6 +38,22 @@ static void call_find(void) {
     elfsee_find(file, file_len, &LIMITS, room, ROOM, name, sizeof name, &found, &end);
 }
 
+/* Lookups as a loader does them, alone and with a version, by sections and by segments. */
+static void call_look_up(void) {
+    static uint8_t name[4096], version[4096];
+    struct elfsee_resolved resolved;
+    uint32_t flags;
+    memset(&resolved, 0, sizeof resolved);
+    memset(name, 'n', sizeof name);
+    memset(version, 'v', sizeof version);
+    for (flags = 0; flags < 4; flags += 1) {
+        elfsee_look_up(file, file_len, &LIMITS, flags, (const uint8_t *)"call", 4, version, 0, room, ROOM,
+                       &resolved, &end);
+        elfsee_look_up(file, file_len, &LIMITS, flags, name, sizeof name, version, sizeof version, room, ROOM,
+                       &resolved, &end);
+    }
+}
+
 /* A layout with all that it can hold, so that as many entries as can be are applied. */
 static void call_apply(void) {
     static struct elfsee_item items[192];
@@ -111,6 +127,7 @@ static void call_headers(void) {
     elfsee_section_names(file, file_len, &LIMITS, room, ROOM, &range, &end);
     elfsee_name(file, file_len, &range, one.name, &name, &end);
     elfsee_mapped(file, file_len, segment.vaddr, segment.filesz, &name, &end);
+    elfsee_section_bytes(file, file_len, section, &name, &end);
     elfsee_room(file, file_len, LIMITS.headers);
     elfsee_cost(file_len, &LIMITS);
     elfsee_cause_word(end.cause, out, OUT);
@@ -139,6 +156,7 @@ static const struct {
     void (*call)(void);
     int each_section;
 } CALLS[] = {{"nothing", call_nothing, 0}, {"show", call_show, 0},       {"find", call_find, 0},
+             {"look_up", call_look_up, 0},
              {"apply", call_apply, 1},     {"symbols", call_symbols, 1}, {"relocations", call_relocations, 1},
              {"dynamic", call_dynamic, 1},     {"headers", call_headers, 1},
              {"notes", call_notes, 1},     {"members", call_members, 0}};

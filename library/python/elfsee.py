@@ -39,7 +39,8 @@ from typing import Any, Callable, Iterator, List, Mapping, NamedTuple, Optional,
 __all__ = [
     "ALL", "DYNAMIC", "HEADER", "NOTES", "RELOCS", "SECTIONS", "SEGMENTS", "SYMBOLS",
     "Absent", "Cause", "Dynamic", "File", "Full", "Header", "Layout", "Listing", "Lookup", "Member",
-    "Note", "Refused", "Relocation", "Section", "Segment", "Symbol", "VERSION", "spelt",
+    "Note", "Refused", "Relocation", "Resolved", "Section", "Segment", "Symbol", "SymbolVersion", "VERSION",
+    "spelt",
 ]
 
 # The parts of a listing.
@@ -119,6 +120,10 @@ _Symbol = _struct("elfsee_symbol", (_U64, "value size"), (_U32, "name"), (_U16, 
                   (_U8, "info other"))
 _Found = _struct("elfsee_found", (_Symbol, "symbol"), (_U32, "index steps"), (_U16, "section none"),
                  (_U32, "none_behind"))
+_Range = _struct("elfsee_range", (_U64, "at len"))
+_Resolved = _struct("elfsee_resolved", (_Symbol, "symbol"), (_U64, "index tried"), (_Range, "version"),
+                    (_U32, "has_version is_hidden is_cut"), (_U16, "section words number none"),
+                    (_U32, "none_behind"))
 _Item = _struct("elfsee_item", (_U64, "address"), (ctypes.c_char_p, "name"),
                 (ctypes.c_size_t, "name_len"), (_U32, "kind index"))
 _Job = _struct("elfsee_job", (ctypes.POINTER(_Item), "items"), (ctypes.c_size_t, "items_len"),
@@ -132,14 +137,13 @@ _Segment = _struct("elfsee_segment", (_U64, "offset vaddr paddr filesz memsz ali
                    (_U32, "type flags"))
 _Relocation = _struct("elfsee_relocation", (_U64, "offset info"), (_I64, "addend"))
 _Dynamic = _struct("elfsee_dynamic", (_I64, "tag"), (_U64, "value"))
-_Range = _struct("elfsee_range", (_U64, "at len"))
 _Rows = _struct("elfsee_rows", (_U64, "at count index entry strings_at strings_len"))
 _Notes = _struct("elfsee_notes", (_U64, "at left align"), (_U32, "header none"))
 _Note = _struct("elfsee_note", (_U64, "at name_at desc_at"), (_U32, "namesz descsz type header"))
 _Members = _struct("elfsee_members", (_U64, "at"), (_Range, "names"), (_U32, "has_names none"))
 _Member = _struct("elfsee_member", (_U64, "at"), (_Range, "content name"), (_U32, "is_cut none"))
-STRUCTS = (_Limits, _End, _Symbol, _Found, _Item, _Job, _Header, _Section, _Segment, _Relocation,
-           _Dynamic, _Range, _Rows, _Notes, _Note, _Members, _Member)
+STRUCTS = (_Limits, _End, _Symbol, _Range, _Found, _Resolved, _Item, _Job, _Header, _Section, _Segment,
+           _Relocation, _Dynamic, _Rows, _Notes, _Note, _Members, _Member)
 
 # The same as forms of `struct`, of the rows that are read in batches.
 _SYMBOL_FORM, _RELOCATION_FORM, _DYNAMIC_FORM = "=QQIHBB", "=QQq", "=qQ"
@@ -162,9 +166,11 @@ _CALLS = {
     "cost": (_U64, _U64, _to(_Limits)),
     "show": (_U32, *_FILE, _to(_Limits), _U8, *_ROOM, *_OUT, _to(_End)),
     "find": (_U32, *_FILE, _to(_Limits), *_ROOM, *_FILE, _to(_Found), _to(_End)),
+    "look_up": (_U32, *_FILE, _to(_Limits), _U32, *_FILE, *_FILE, *_ROOM, _to(_Resolved), _to(_End)),
     "apply": (_U32, *_FILE, _to(_Limits), _to(_Job), *_ROOM, *_OUT, _to(_End)),
     "header": (_U32, *_FILE, _to(_Header), _to(_End)),
     "section": (_U32, *_FILE, _U16, _to(_Section), _to(_End)),
+    "section_bytes": (_U32, *_FILE, _U16, _to(_Range), _to(_End)),
     "segment": (_U32, *_FILE, _U16, _to(_Segment), _to(_End)),
     "section_names": (_U32, *_FILE, _to(_Limits), *_ROOM, _to(_Range), _to(_End)),
     "symbols": (_U32, *_TABLE),
@@ -406,6 +412,27 @@ class Lookup(NamedTuple):
     steps: int
 
 
+class SymbolVersion(NamedTuple):
+    """The version of a symbol: its name, or the first 256 bytes of it where `is_cut` tells that it has
+    more, of no bytes where its number is 0 or 1. `is_hidden` tells that a name alone does not take it.
+    `table` is the section of symbols' versions, or in a lookup by segments a program header."""
+
+    name: bytes
+    number: int
+    is_hidden: bool
+    is_cut: bool
+    table: int
+
+
+class Resolved(NamedTuple):
+    """What a loader's lookup found: the symbol, or None; its version, or None where the file has no
+    versions of symbols; and how many symbols were tried."""
+
+    symbol: Optional[Symbol]
+    version: Optional[SymbolVersion]
+    tried: int
+
+
 class Listing(NamedTuple):
     """A listing: its lines; the refusal that its last line tells, or None; and how many bytes of the
     file were asked for."""
@@ -414,6 +441,9 @@ class Listing(NamedTuple):
     refused: Optional[Refused]
     asked: int
 
+
+# How a loader's lookup is made.
+_BY_SEGMENTS, _DEFAULT_ONLY = 1, 2
 
 _NOTHING: Mapping[Any, int] = types.MappingProxyType({})
 
@@ -579,6 +609,31 @@ class File:
         return Lookup(Symbol(text, row.value, row.size, row.section, row.info, row.other,
                              found.section, found.index), found.steps)
 
+    def look_up(self, name: Name, version: Optional[Name] = None, *, default_only: bool = False,
+                by_segments: bool = False) -> Resolved:
+        """Looks a name up as a loader of the GNU system does, alone or with a version: by the file's
+        hash table, of the GNU system or else of the gABI, the first symbol of the name's chain that has
+        the name, is offered to others and whose version fits. Without a version one is taken that is not
+        hidden; with `default_only` the version is to be the symbol's default one. `by_segments` goes by
+        the program headers also where there are section headers. Name and version have at most 4,096
+        bytes and no NUL, and the version has a byte."""
+        text, wanted = _name_bytes(name, MOST_NAME), _name_bytes(version or b"", MOST_NAME)
+        if version is not None and not wanted:
+            raise ValueError("a version has a byte; None asks for no version")
+        found, flags = _Resolved(), _BY_SEGMENTS * by_segments + _DEFAULT_ONLY * default_only
+        status, _ = self._call("look_up", self._limits, flags, text, len(text), wanted, len(wanted),
+                               *self._lent(), found)
+        if status == _ABSENT:
+            return Resolved(None, None, found.tried)
+        row, at = found.symbol, found.version.at
+        symbol = Symbol(text, row.value, row.size, row.section, row.info, row.other, found.section,
+                        found.index)
+        if not found.has_version:
+            return Resolved(symbol, None, found.tried)
+        told = wanted or self.data[at:at + found.version.len]
+        return Resolved(symbol, SymbolVersion(told, found.number, found.is_hidden != 0, found.is_cut != 0,
+                                              found.words), found.tried)
+
     def apply(self, section: int, layout: Layout = Layout()) -> bytes:
         """The bytes of a section of a relocatable file for x86-64, with its relocations applied for
         these addresses. ValueError where the layout is outside its bounds."""
@@ -640,6 +695,17 @@ class File:
         for index, (name, *numbers) in enumerate(self._section_rows()):
             text = self._name(strings, name, header.shoff + 64 * index) if header.shstrndx else b""
             yield Section(index, text, *numbers)
+
+    def content(self, section: int) -> Optional[bytes]:
+        """The bytes of a section; None of one whose type is NOBITS or NULL, which has no bytes in the
+        file. Absent where the file has no such section."""
+        found = _Range()
+        status, _ = self._call("section_bytes", _within("section", section, 0, 65535), found)
+        if status == _OK:
+            return self.data[found.at:found.at + found.len]
+        if section >= self.header.shnum:
+            raise Absent("there is no section %d" % section)
+        return None
 
     def segments(self) -> Iterator[Segment]:
         """The program headers in their order."""

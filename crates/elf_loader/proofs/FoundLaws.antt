@@ -21,11 +21,11 @@ use Rattle.elf_headers.proofs.LedgerLaws.{Charges-more, Charges-none}
 use Rattle.elf_scope.specs.Symbols.{AreWords, IsWords}
 use Rattle.elf_scope.specs.declared.symbols.VersionWords.{VersionWords as Words}
 use Rattle.elf_table.specs.Cursors.{row_at}
-use Rattle.elf_table.specs.declared.names.NameEnd.{NameEnd}
 use Rattle.elf_loader.specs.Finding.{FindsVersion, FoundAs, Spends}
 use Rattle.elf_loader.specs.Lookups.{FindsWith, FoundWith}
 use Rattle.elf_loader.specs.Telling.{TellsName, told_bytes}
 use Rattle.elf_loader.specs.declared.found.FoundVersion.{FoundVersion}
+use Rattle.elf_loader.specs.declared.telling.ToldName.{ToldName}
 use Rattle.elf_loader.specs.declared.found.VersionName.TheVariants.{Wanted, Unnamed, Told}
 
 -- where a version is wanted, it is told as it is wanted
@@ -72,7 +72,7 @@ told-spends file scope words y walked naming = go naming.found refl naming.refus
 pub finds-wanted :
     (file : List ℕ) (scope : Scope) (asked : Asked) (words : VersionWords) (y word : ℕ) (version told : List ℕ) (c : Counting) (code : Words)
     → asked_name asked ≡ Some version → IsWords words code → word ≡ versym file (version_word_at words y) → Charges c c None 0
-    → FindsVersion file scope asked words y c c told (Ok (record { index = code.index; word = word; name = Wanted }))
+    → FindsVersion file scope asked words y c c told (Ok (record { index = code.index; word = word; name = Wanted; name_at = 0 }))
 finds-wanted file scope asked words y word version told c code n is here none = record {
   records = 0;
   is_named = false;
@@ -84,13 +84,14 @@ finds-wanted file scope asked words y word version told c code n is here none = 
       let e = in-wanted file scope asked before y walked words version n in
       let index = is.index in
       rw (e, n, index, here) refl;
+  stands = refl;
 }
 
 -- without a name
 pub finds-unnamed :
     (file : List ℕ) (scope : Scope) (asked : Asked) (words : VersionWords) (y word : ℕ) (told : List ℕ) (c : Counting) (code : Words)
     → asked_name asked ≡ None → IsWords words code → word ≡ versym file (version_word_at words y) → number_in word < 2 → Charges c c None 0
-    → FindsVersion file scope asked words y c c told (Ok (record { index = code.index; word = word; name = Unnamed }))
+    → FindsVersion file scope asked words y c c told (Ok (record { index = code.index; word = word; name = Unnamed; name_at = 0 }))
 finds-unnamed file scope asked words y word told c code n is here low none =
     let small : nat_lt (number_in (versym file (version_word_at words y))) 2 ≡ true = subst (λ (w : ℕ). nat_lt (number_in w) 2 ≡ true) here (below (number_in word) low) in
     record {
@@ -104,6 +105,7 @@ finds-unnamed file scope asked words y word told c code n is here low none =
           let e = in-unnamed file scope asked before y walked words n small in
           let index = is.index in
           rw (e, index, here) refl;
+      stands = refl;
     }
   where
     below : (number : ℕ) → number < 2 → nat_lt number 2 ≡ true
@@ -114,11 +116,11 @@ above : (number : ℕ) → 2 ≤ number → nat_lt number 2 ≡ false
 above number high = grind (arith, nat_tests)
 
 pub finds-told :
-    (file : List ℕ) (scope : Scope) (asked : Asked) (words : VersionWords) (y word : ℕ) (told : List ℕ) (a b : Counting) (code : Words) (end : NameEnd)
+    (file : List ℕ) (scope : Scope) (asked : Asked) (words : VersionWords) (y word : ℕ) (told : List ℕ) (a b : Counting) (code : Words) (name : ToldName)
     → asked_name asked ≡ None → IsWords words code → word ≡ versym file (version_word_at words y) → 2 ≤ number_in word
-    → TellsName file scope words y (naming_of file (number_in word) (readings file scope.symbols.records)) a b told (Ok end)
-    → FindsVersion file scope asked words y a b told (Ok (record { index = code.index; word = word; name = Told end }))
-finds-told file scope asked words y word told a b code end n is here high tells =
+    → TellsName file scope words y (naming_of file (number_in word) (readings file scope.symbols.records)) a b told (Ok name)
+    → FindsVersion file scope asked words y a b told (Ok (record { index = code.index; word = word; name = Told name.end; name_at = name.at }))
+finds-told file scope asked words y word told a b code name n is here high tells =
     let naming = naming_of file (number_in word) (readings file scope.symbols.records) in
     let large : nat_lt (number_in (versym file (version_word_at words y))) 2 ≡ false = subst (λ (w : ℕ). nat_lt (number_in w) 2 ≡ false) here (above (number_in word) high) in
     let in_told : (before : ℕ) (walked : Walked) → found_in file scope asked before y walked (Some words) ≡ told_by file scope words y walked naming =
@@ -135,6 +137,7 @@ finds-told file scope asked words y word told a b code end n is here high tells 
           let e = in_told before walked ∙ tells.1 walked in
           let index = is.index in
           rw (e, index, here) refl;
+      stands = tells.2;
     }
 
 -- or it is not told
@@ -158,6 +161,7 @@ finds-fault file scope asked words y word told a b fault n here high tells =
           let spends = told-spends file scope words y walked naming in
           rw e (record { tried = spends.tried; chain_words = spends.chain_words; records = omega (arith, none, spends.records); is_named = spends.is_named });
       finds = λ walked before first. refused fault tells walked (found_in file scope asked before y walked (Some words)) (in_told before walked);
+      stands = tt;
     }
   where
     naming : Naming
@@ -192,6 +196,7 @@ finds-none file scope asked y told c are = go scope.symbols.words refl are
       costs = Charges-more _ (omega arith) (Charges-none c);
       spends = λ walked before first. rw e (record { tried = refl; chain_words = refl; records = omega arith; is_named = refl });
       finds = λ walked before first. rw e refl;
+      stands = tt;
     }
     go (Some words) e none = absurd none
 
@@ -214,6 +219,7 @@ module _ {a b : Counting} (file : List ℕ) (scope : Scope) (asked : Asked) (y :
             costs = f.costs;
             spends = λ walked before first. let is = with-words file scope asked y e before walked in rw is (f.spends walked before first);
             finds = λ walked before first. let is = with-words file scope asked y e before walked in rw is (f.finds walked before first);
+            stands = f.stands;
           }
 
   pub finds-failed : (fault : Fault) → ((words : VersionWords) → IsWords words code → FindsVersion file scope asked words y a b told (Err fault))
@@ -234,4 +240,5 @@ module _ {a b : Counting} (file : List ℕ) (scope : Scope) (asked : Asked) (y :
             costs = f.costs;
             spends = λ walked before first. let is = with-words file scope asked y e before walked in rw is (f.spends walked before first);
             finds = λ walked before first. fails fault walked _ _ (with-words file scope asked y e before walked) (f.finds walked before first);
+            stands = tt;
           }

@@ -114,6 +114,7 @@ module _ (file : List ℕ) (told : IsScopeOf) (wanted : Wanted) (before : ℕ) (
             subst (λ (p : ℕ). IsSym file p answer.symbol) at stands.0,
             ap (λ (l : LoaderLookup). l.version) here,
             is.machine,
+            finds.stands,
           );
         }
 

@@ -1,23 +1,28 @@
 -- The name of a symbol's version is told.
-use Rattle.std.proofs.Common.{◌≡◌, ℕ, ◌*◌, true, false, is_some, List, None, Some, Result, Ok, Err, refl, sym, ap, ◌∙◌, arith}
+use Rattle.std.proofs.Common.{◌≡◌, ℕ, ◌+◌, ◌*◌, ◌-◌, ◌^◌, ◌<◌, ◌≤◌, min, true, false, is_some, List, [], length, take, drop, None, Some, Result, Ok, Err, refl, sym, ap, subst, ◌∙◌, arith, length-take, length-drop}
+use Rattle.std.proofs.lemmas.List.{take-take}
+use Rattle.elf_model.specs.Bytes.{slice}
 use Rattle.elf_model.specs.Chains.{Walked}
 use Rattle.elf_model.specs.Loader.{Naming, VersionWords, version_word_at}
 use Rattle.elf_model.specs.LoaderFind.{TOLD_BYTES, found_lookup, refused_lookup, told_by}
 use Rattle.elf_model.specs.LoaderScope.{Scope}
-use Rattle.elf_model.specs.Names.{Shown, shown}
+use Rattle.elf_model.specs.Names.{Shown, StandsAt, shown}
 use Rattle.elf_model.specs.Names.Shown.{Whole as ShownWhole, Cut as ShownCut}
 use Rattle.elf_model.specs.Records.{versym}
 use Rattle.elf_model.specs.Versions.{Met, name_index, named_at}
 use Rattle.elf_model.specs.declared.causes.Cause.{Cause}
 use Rattle.elf_model.specs.declared.causes.Cause.TheVariants.{VersionIndex}
 use Rattle.elf_model.specs.declared.causes.Refusal.{Refusal}
+use Rattle.elf_model.proofs.NameLemmas.{View, is_cut, is_empty, is_outside, is_unended, is_whole, view}
+use Rattle.elf_model.proofs.Nuls.{some-free}
+use Rattle.elf_model.proofs.Slices.{slice-size, slice-slice}
 use Rattle.elf_source.specs.Source.{Counting}
 use Rattle.elf_headers.specs.Ledger.{Charges, why_stopped}
 use Rattle.elf_headers.specs.declared.fault.Fault.{Fault}
 use Rattle.elf_headers.specs.declared.fault.Fault.TheVariants.{Refused, Source}
 use Rattle.elf_headers.proofs.LedgerLaws.{Charges-more, Charges-then}
 use Rattle.elf_table.specs.NamesRead.{NameRead}
-use Rattle.elf_table.specs.Tables.{strings_in}
+use Rattle.elf_table.specs.Tables.{Strings, strings_in}
 use Rattle.elf_table.specs.declared.names.NameEnd.{NameEnd}
 use Rattle.elf_table.specs.declared.names.NameEnd.TheVariants.{Whole, Cut}
 use Rattle.elf_loader.specs.Naming.{NamesOf}
@@ -77,21 +82,83 @@ none-tells file scope words y at naming a b name here p = (
   λ other walked. let none : is_some naming.found ≡ false = ap is_some p.1 in rw (none, here) (told-none file scope words y walked naming p.1 p.2),
 )
 
--- its name is read
+-- the bytes that are shown of a name stand in the file, where its strings do
+abbrev shown_bytes : Result Shown Cause → List ℕ
+shown_bytes (Ok (ShownWhole bytes)) = bytes
+shown_bytes (Ok (ShownCut bytes)) = bytes
+shown_bytes (Err cause) = []
+
+slice-stands : (file : List ℕ) (at size off n : ℕ) → off + n ≤ length (slice file at size) → StandsAt file (at + off) (slice (slice file at size) off n)
+slice-stands file at size off n fits =
+    let few = length-take size (drop at file) in
+    let within : length (slice file at size) ≤ size = omega (arith, few) in
+    let same : slice (slice file at size) off n ≡ slice file (at + off) n = slice-slice file at size off n (omega (arith, fits, within)) in
+    let long : length (slice (slice file at size) off n) ≡ n = slice-size (slice file at size) off n fits in
+    ap (slice file (at + off)) long ∙ sym same
+
+shown-stands :
+    (file : List ℕ) (at size off cap : ℕ) (name : Shown) → shown (slice file at size) off cap ≡ Ok name
+    → StandsAt file (at + off) (shown_bytes (Ok name)) × (off ≤ size)
+shown-stands file at size off cap name told = go (view (slice file at size) off cap)
+  where
+    table : List ℕ
+    table = slice file at size
+
+    few : length table ≤ size
+    few = let l = length-take size (drop at file) in omega (arith, l)
+
+    so : (bytes : List ℕ) → bytes ≡ shown_bytes (Ok name) → StandsAt file (at + off) bytes → off ≤ size → StandsAt file (at + off) (shown_bytes (Ok name)) × (off ≤ size)
+    so bytes is stands inside = (subst (StandsAt file (at + off)) is stands, inside)
+
+    go : View table off cap → StandsAt file (at + off) (shown_bytes (Ok name)) × (off ≤ size)
+    go (is_empty none e) = let zero = none.1 in so [] (ap shown_bytes (sym e ∙ told)) refl (omega (arith, zero))
+    go (is_outside none e) = let no = sym e ∙ told in absurd (cc)
+    go (is_whole place below nul e) =
+        let front : List ℕ = slice table off (cap + 1) in
+        let f = some-free front place nul in
+        let l = length-take (cap + 1) (drop off table) in
+        let d = length-drop off table in
+        let same : slice table off place ≡ take place front = sym (take-take place (cap + 1) (drop off table) (omega (arith, f.1, l))) in
+        so (slice table off place) (same ∙ ap shown_bytes (sym e ∙ told)) (slice-stands file at size off place (omega (arith, f.1, l, d, below))) (omega (arith, below, few))
+    go (is_cut below none e) =
+        so (slice table off cap) (ap shown_bytes (sym e ∙ told)) (slice-stands file at size off cap (omega (arith, below))) (omega (arith, below, few))
+    go (is_unended below end none e) = let no = sym e ∙ told in absurd (cc)
+
+-- where the strings end below 2^64, the name's offset is a number of 64 bits
+pub stands-there :
+    (file : List ℕ) (strings : Strings) (off cap at : ℕ) (name : Shown) → shown (strings_in file strings) off cap ≡ Ok name
+    → strings.at + strings.size < 2 ^ 64 → at ≡ min (strings.at + off) (2 ^ 64 - 1) → StandsAt file at (shown_bytes (Ok name))
+stands-there file strings off cap at name told ends is =
+    let stands = shown-stands file strings.at strings.size off cap name told in
+    let inside = stands.1 in
+    let here : strings.at + off ≡ at = omega (arith, inside, ends, is) in
+    subst (λ (n : ℕ). StandsAt file n (shown_bytes (Ok name))) here stands.0
+
+-- its name is read, and stands there
 pub name-tells :
-    (file : List ℕ) (scope : Scope) (words : VersionWords) (y : ℕ) (naming : Naming) (a b c : Counting) (name : List ℕ) (by : NamedBy) (result : Result NameEnd Fault)
-    → NamesOf file a b naming (Ok (Some by)) → Charges b c (why_stopped result) told_bytes
-    → NameRead by.«record».named_at result name (shown (strings_in file by.names) by.«record».name TOLD_BYTES)
-    → TellsName file scope words y naming a c name result
-name-tells file scope words y naming a b c name by (Ok Whole) p pays reads = (
+    (file : List ℕ) (scope : Scope) (words : VersionWords) (y at : ℕ) (naming : Naming) (a b c : Counting) (name : List ℕ) (by : NamedBy) (end : NameEnd)
+    → NamesOf file a b naming (Ok (Some by)) → Charges b c None told_bytes
+    → NameRead by.«record».named_at (Ok end) name (shown (strings_in file by.names) by.«record».name TOLD_BYTES)
+    → by.names.at + by.names.size < 2 ^ 64 → at ≡ min (by.names.at + by.«record».name) (2 ^ 64 - 1)
+    → TellsName file scope words y naming a c name (Ok (record { end = end; at = at }))
+name-tells file scope words y at naming a b c name by Whole p pays reads ends is = (
   Charges-then _ (omega arith) p.3 pays,
   λ walked. told-shown file scope words y walked naming (strings_in file by.names) p.0 (ShownWhole name) p.1 (let e = p.2.name in rw e at reads),
+  stands-there file by.names by.«record».name TOLD_BYTES at (ShownWhole name) reads ends is,
 )
-name-tells file scope words y naming a b c name by (Ok Cut) p pays reads = (
+name-tells file scope words y at naming a b c name by Cut p pays reads ends is = (
   Charges-then _ (omega arith) p.3 pays,
   λ walked. told-shown file scope words y walked naming (strings_in file by.names) p.0 (ShownCut name) p.1 (let e = p.2.name in rw e at reads),
+  stands-there file by.names by.«record».name TOLD_BYTES at (ShownCut name) reads ends is,
 )
-name-tells file scope words y naming a b c name by (Err (Refused refusal)) p pays reads =
+
+-- or it is not
+pub name-fails :
+    (file : List ℕ) (scope : Scope) (words : VersionWords) (y : ℕ) (naming : Naming) (a b c : Counting) (name : List ℕ) (by : NamedBy) (fault : Fault)
+    → NamesOf file a b naming (Ok (Some by)) → Charges b c (Some fault) told_bytes
+    → NameRead by.«record».named_at (Err fault) name (shown (strings_in file by.names) by.«record».name TOLD_BYTES)
+    → TellsName file scope words y naming a c name (Err fault)
+name-fails file scope words y naming a b c name by (Refused refusal) p pays reads =
     let some : is_some naming.found ≡ true = ap is_some p.1 in
     rw some (
       Charges-then _ (omega arith) p.3 pays,
@@ -102,5 +169,5 @@ name-tells file scope words y naming a b c name by (Err (Refused refusal)) p pay
           let t = told-fault file scope words y walked naming (strings_in file by.names) p.0 refusal.cause p.1 (rw e at r.1) in
           rw at at t,
     )
-name-tells file scope words y naming a b c name by (Err (Source fault at)) p pays reads =
+name-fails file scope words y naming a b c name by (Source fault at) p pays reads =
     let some : is_some naming.found ≡ true = ap is_some p.1 in rw some (Charges-then _ (omega arith) p.3 pays)

@@ -1,5 +1,5 @@
 -- What the version of a symbol that is found is, as it is told.
-use Rattle.std.specs.Prelude.{ℕ, ◌≡◌, ◌+◌, ◌*◌, Bool, List, [], Option, None, Some, Result, Ok, Err}
+use Rattle.std.specs.Prelude.{ℕ, ◌≡◌, ◌+◌, ◌*◌, Bool, List, [], Option, None, Some, Result, Ok, Err, IfOk}
 use Rattle.elf_model.specs.Budget.{IsBudget}
 use Rattle.elf_model.specs.Chains.{Walked}
 use Rattle.elf_model.specs.Cost.{cost_where}
@@ -7,7 +7,7 @@ use Rattle.elf_model.specs.Hash.{Refused as IsRefused}
 use Rattle.elf_model.specs.Loader.{Asked as IsAsked, VersionWords as AreWordsOf, asked_name}
 use Rattle.elf_model.specs.LoaderFind.{FoundVersion as IsVersionOf, LoaderLookup, found_in, found_lookup}
 use Rattle.elf_model.specs.LoaderScope.{Scope}
-use Rattle.elf_model.specs.Names.{Shown}
+use Rattle.elf_model.specs.Names.{Shown, StandsAt}
 use Rattle.elf_model.specs.Names.Shown.{Whole}
 use Rattle.elf_source.specs.Source.{Counting}
 use Rattle.elf_headers.specs.Ledger.{Charges, why_stopped}
@@ -28,6 +28,12 @@ name_shown asked told (Told end) = shown_by end told
 -- the version of a symbol that is found, as the definitions have it
 abbrev pub version_found : IsAsked → List ℕ → FoundVersion → IsVersionOf
 version_found asked told version = record { index = version.index; word = version.word; name = name_shown (asked_name asked) told version.name }
+
+-- where the name that is told of a version stands: what is held of it stands there in the file; 0 where none is held
+abbrev pub StandsTold : List ℕ → List ℕ → ℕ → VersionName → Type 0
+StandsTold file told at Wanted = at ≡ 0
+StandsTold file told at Unnamed = at ≡ 0
+StandsTold file told at (Told end) = StandsAt file at told
 
 -- what a lookup reads: what its walk does, and so many records, and a name or none
 pub record Spends (lookup : LoaderLookup) (walked : Walked) (read : ℕ) (named : Bool) : Type 0 where
@@ -51,3 +57,4 @@ pub record FindsVersion (file : List ℕ) (scope : Scope) (asked : IsAsked) (wor
   pub costs : Charges old new (why_stopped result) (records * 28 + cost_where is_named told_bytes)
   pub spends : (walked : Walked) (before : ℕ) → (asked_name asked ≡ None → before ≡ 0) → Spends (found_in file scope asked before y walked (Some words)) walked (before + records) is_named
   pub finds : (walked : Walked) (before : ℕ) → (asked_name asked ≡ None → before ≡ 0) → FoundAs scope asked y told walked (found_in file scope asked before y walked (Some words)) result
+  pub stands : IfOk result (λ version. StandsTold file told version.name_at version.name)

@@ -1,5 +1,5 @@
 -- What a lookup answers, and what it asks for.
-use Rattle.std.specs.Prelude.{ℕ, ◌≡◌, ◌+◌, ◌*◌, ◌/◌, ◌≤◌, Bool, false, List, length, Option, None, Some, option_map, Result, Ok, Err, IfSome}
+use Rattle.std.specs.Prelude.{ℕ, ◌≡◌, ◌+◌, ◌*◌, ◌/◌, ◌≤◌, Bool, false, List, length, Option, None, Some, option_map, Result, Ok, Err, IfOk, IfSome}
 use Rattle.elf_model.specs.Budget.{IsBudget}
 use Rattle.elf_model.specs.Chains.{Walked}
 use Rattle.elf_model.specs.Cost.{cost_where}
@@ -14,7 +14,7 @@ use Rattle.elf_source.specs.Source.{Counting}
 use Rattle.elf_headers.specs.Ledger.{Charges, why_stopped}
 use Rattle.elf_headers.specs.declared.fault.Fault.{Fault}
 use Rattle.elf_headers.specs.declared.fault.Fault.TheVariants.{Refused, Source}
-use Rattle.elf_loader.specs.Finding.{Spends, version_found}
+use Rattle.elf_loader.specs.Finding.{Spends, StandsTold, version_found}
 use Rattle.elf_loader.specs.Telling.{told_bytes}
 use Rattle.elf_loader.specs.declared.found.FoundVersion.{FoundVersion}
 use Rattle.elf_loader.specs.declared.lookup.Lookup.{Lookup}
@@ -34,7 +34,7 @@ abbrev pub behind_bytes : (few size : ℕ) → Wanted → ℕ
 behind_bytes few size wanted = few + size / 4 * (4 + trial_bytes wanted) + size / 8 * record_cost wanted.asked + told_bytes
 
 -- an answer is the one that a lookup gives: the symbol that is found, with its version and the file's machine, or that there is
--- none; and how many symbols are tried. The name of a version is told in these bytes
+-- none; and how many symbols are tried. The name of a version is told in these bytes, and stands where it says
 abbrev pub AnswersLookup : List ℕ → Asked → List ℕ → LoaderLookup → Lookup → Type 0
 AnswersLookup file asked told looked (Found found) =
     (at : ℕ)
@@ -42,6 +42,7 @@ AnswersLookup file asked told looked (Found found) =
     × IsSym file at found.symbol
     × (looked.version ≡ option_map (version_found asked told) found.version)
     × (found.machine ≡ e_machine file)
+    × IfSome found.version (λ version. StandsTold file told version.name_at version.name)
 AnswersLookup file asked told looked (Absent tried) = looked.lookup ≡ record { answer = IsAbsent; compared = tried }
 
 -- what a lookup tells: its answer; or its refusal, unless that is for want of budget
@@ -84,3 +85,4 @@ pub record FindsWith (file : List ℕ) (scope : Scope) (asked : Asked) (y : ℕ)
   pub costs : Charges old new (why_stopped result) (records * 28 + cost_where is_named told_bytes)
   pub spends : (walked : Walked) (before : ℕ) → (asked_name asked ≡ None → before ≡ 0) → Spends (found_in file scope asked before y walked scope.symbols.words) walked (before + records) is_named
   pub finds : (walked : Walked) (before : ℕ) → (asked_name asked ≡ None → before ≡ 0) → FoundWith scope asked y told walked (found_in file scope asked before y walked scope.symbols.words) result
+  pub stands : IfOk result (λ found. IfSome found (λ version. StandsTold file told version.name_at version.name))

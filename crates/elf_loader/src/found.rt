@@ -41,6 +41,8 @@ pub struct FoundVersion {
     pub word: u16,
     /// Its name.
     pub name: VersionName,
+    /// The file offset of the bytes that a buffer holds of its name; 0 where it holds none.
+    pub name_at: u64,
 }
 
 /// The version of a symbol that a walk finds, where there are versions. A symbol without a word has
@@ -98,23 +100,25 @@ fn found_version<S: Source>(
 {
     let (index, word) = found;
     if let Some(_version) = asked.name() {
-        return Ok(told_as(words, word, VersionName::Wanted));
+        return Ok(told_as(words, word, VersionName::Wanted, 0));
     }
     let number = word % (1 << 15);
     if number < 2 {
-        return Ok(told_as(words, word, VersionName::Unnamed));
+        return Ok(told_as(words, word, VersionName::Unnamed, 0));
     }
-    let end = told_name(src, symbols, words.words.place(index), number, name)?;
-    Ok(told_as(words, word, VersionName::Told(end)))
+    let told = told_name(src, symbols, words.words.place(index), number, name)?;
+    Ok(told_as(words, word, VersionName::Told(told.end), told.at))
 }
 
-// A version by its word and its name.
-fn told_as(words: &VersionWords, word: u16, name: VersionName) -> FoundVersion
-    ensures { result ≡ record { index = words.now.index; word = word; name = name } }
+// A version by its word, its name and where that stands.
+fn told_as(words: &VersionWords, word: u16, name: VersionName, name_at: u64) -> FoundVersion
+    ensures { result
+        ≡ record { index = words.now.index; word = word; name = name; name_at = name_at } }
 {
     FoundVersion {
         index: words.index,
         word,
         name,
+        name_at,
     }
 }

@@ -17,9 +17,18 @@ use elf_table::{NameBuf, NameEnd};
 /// How many bytes of the name of a version are told.
 const TOLD_BYTES: u16 = 256;
 
+/// The name of a version that is told.
+#[derive(Clone, Copy)]
+pub(crate) struct ToldName {
+    /// Whether it is whole.
+    pub(crate) end: NameEnd,
+    /// The file offset of its first byte.
+    pub(crate) at: u64,
+}
+
 /// Tells the name of the version of a number, which the word of a symbol's version at a file offset
-/// has: into `name`, its first 256 bytes, by the first record that has the number. After a fault
-/// `name` holds any bytes.
+/// has: into `name`, its first 256 bytes, by the first record that has the number; and where they stand
+/// in the file. After a fault `name` holds any bytes.
 ///
 /// # Errors
 /// Those of the records before, as [`elf_versions::VersionCursor::advance`] has them; those of the
@@ -31,7 +40,7 @@ pub(crate) fn told_name<S: Source>(
     at: u64,
     number: u16,
     name: &mut NameBuf,
-) -> Result<NameEnd, Fault>
+) -> Result<ToldName, Fault>
     requires lies { SymbolsLie src.old.seen.size symbols.now }
     ensures { Did src.old src.new (why_stopped result)
         (most_versions symbols.now * 28 + told_bytes)
@@ -45,5 +54,9 @@ pub(crate) fn told_name<S: Source>(
     };
     let off = u64::from(named.record.name);
     let cap = Cap { bytes: TOLD_BYTES };
-    named.names.read(src, off, named.record.named_at, cap, name)
+    let end = named
+        .names
+        .read(src, off, named.record.named_at, cap, name)?;
+    let at = named.names.at().saturating_add(off);
+    Ok(ToldName { end, at })
 }

@@ -8,5 +8,6 @@ pub mod NoteRows
 pub mod Openings
 pub mod Rooms
 pub mod Rows
+pub mod SectionBytes
 pub mod SegmentDynamic
 pub mod Symbols

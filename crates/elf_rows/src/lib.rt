@@ -5,6 +5,7 @@
 
 mod bytes;
 mod checked;
+mod contents;
 mod dynamic;
 mod dynamic_table;
 mod header;
@@ -26,6 +27,7 @@ mod symbols;
 mod tables;
 
 pub use bytes::chunk_at;
+pub use contents::section_bytes;
 pub use dynamic::{Dynamic, next_dynamic};
 pub use header::{Header, read_header};
 pub use kind::Kind;

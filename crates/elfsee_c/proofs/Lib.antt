@@ -3,3 +3,4 @@ pub mod BudgetLaws
 pub mod FindingLaws
 pub mod ItemLaws
 pub mod ListingLaws
+pub mod ResolvingLaws

@@ -7,6 +7,8 @@ pub mod Items
 pub mod Lent
 pub mod Limits
 pub mod Openings
+pub mod Queries
+pub mod Resolved
 pub mod Shown
 pub mod Told
 pub mod Wants

@@ -5,6 +5,7 @@
 mod applied;
 mod applying;
 mod causes;
+mod contents;
 mod cost;
 mod counts;
 mod end;
@@ -20,6 +21,9 @@ mod members;
 mod names;
 mod notes;
 mod opening;
+mod query;
+mod resolved;
+mod resolving;
 mod room;
 mod show;
 mod steps;

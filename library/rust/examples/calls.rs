@@ -3,10 +3,13 @@
 //!     calls show FILE [PART]      the listing, or one part of it
 //!     calls asked FILE            how many bytes of the file the listing asks for
 //!     calls find FILE NAME        the symbol and the steps
+//!     calls resolve FILE NAME[@[@]VERSION] [by-segments]
+//!                                 the symbol as a loader takes it, and its version
+//!     calls contents FILE         how many bytes each section has in the file, and their sum
 //!     calls rows FILE..           all rows, as numbers; names in hexadecimal digits
 //!     calls members ARCHIVE       the members of an archive, so, with the listing of each ELF file
 
-use elfsee::{DynamicEntries, Error, File, Notes, Refused};
+use elfsee::{DynamicEntries, Error, File, Notes, Refused, Wanted};
 use std::process::exit;
 
 fn hex(bytes: &[u8]) -> String {
@@ -51,6 +54,48 @@ fn find(file: &File, name: &[u8]) -> Result<(), Error> {
     match lookup.found {
         Some((symbol, index, section)) => println!("{section} {index} {} {}", symbol.value, lookup.steps),
         None => println!("absent {}", lookup.steps),
+    }
+    Ok(())
+}
+
+/// What a text NAME, NAME@VERSION or NAME@@VERSION asks for.
+fn wanted(text: &str, by_segments: bool) -> Wanted<'_> {
+    let (name, version) = match text.split_once('@') {
+        None => (text, None),
+        Some((name, version)) => (name, Some(version)),
+    };
+    let default_only = version.map_or(false, |version| version.starts_with('@'));
+    let version = version.map(|version| version[usize::from(default_only)..].as_bytes());
+    Wanted { name: name.as_bytes(), version, default_only, by_segments }
+}
+
+fn resolve(file: &File, wanted: &Wanted) -> Result<(), Error> {
+    let resolved = file.look_up(wanted, &mut vec![0; file.room()])?;
+    let found = match resolved.found {
+        Some(found) => found,
+        None => {
+            println!("absent {}", resolved.tried);
+            return Ok(());
+        }
+    };
+    print!("{} {} {} {}", found.table, found.index, found.symbol.value, resolved.tried);
+    if let Some(version) = found.version {
+        let (is_hidden, is_cut) = (u8::from(version.is_hidden), u8::from(version.is_cut));
+        print!(" {} {} {is_hidden} {is_cut} {}", version.table, version.number, hex(version.name));
+    }
+    println!();
+    Ok(())
+}
+
+fn contents(file: &File) -> Result<(), Error> {
+    for index in 0..file.header()?.shnum {
+        match file.content(index)? {
+            None => println!("{index} none"),
+            Some(content) => {
+                let sum: u64 = content.iter().map(|byte| u64::from(*byte)).sum();
+                println!("{index} {} {sum}", content.len());
+            }
+        }
     }
     Ok(())
 }
@@ -155,6 +200,8 @@ fn main() {
             "show" => show(&file, part(words.get(2)), false),
             "asked" => show(&file, elfsee::ALL, true),
             "find" => find(&file, words[2].as_bytes()),
+            "resolve" => resolve(&file, &wanted(&words[2], words.len() > 3)),
+            "contents" => contents(&file),
             "members" => members(&file),
             _ => rows(&file),
         };

@@ -32,6 +32,8 @@ fn main() {
     tell!("elfsee_end", raw::End, at written asked cause none);
     tell!("elfsee_symbol", raw::Symbol, value size name section info other);
     tell!("elfsee_found", raw::Found, symbol index steps section none none_behind);
+    tell!("elfsee_resolved", raw::Resolved, symbol index tried version has_version is_hidden is_cut section
+        words number none none_behind);
     tell!("elfsee_item", raw::Item, address name name_len kind index);
     tell!("elfsee_job", raw::Job, items items_len section none);
     tell!("elfsee_header", raw::Header, entry phoff shoff version flags kind machine ehsize phentsize

@@ -127,6 +127,68 @@ pub struct Lookup {
     pub steps: u32,
 }
 
+/// What a loader's lookup asks for.
+#[derive(Clone, Copy, Debug, Default, PartialEq, Eq)]
+pub struct Wanted<'n> {
+    /// The name of the symbol, of at most 4,096 bytes without a NUL.
+    pub name: &'n [u8],
+    /// The name of its version, of 1 to 4,096 bytes without a NUL; none takes a version that is not hidden.
+    pub version: Option<&'n [u8]>,
+    /// Whether the version is to be the symbol's default version.
+    pub default_only: bool,
+    /// Whether the lookup goes by the program headers, also where there are section headers.
+    pub by_segments: bool,
+}
+
+impl<'n> Wanted<'n> {
+    /// A name alone.
+    pub fn name(name: &'n [u8]) -> Wanted<'n> {
+        Wanted { name, ..Wanted::default() }
+    }
+
+    /// A name with a version.
+    pub fn versioned(name: &'n [u8], version: &'n [u8]) -> Wanted<'n> {
+        Wanted { name, version: Some(version), ..Wanted::default() }
+    }
+}
+
+/// The version of a symbol that a loader's lookup found.
+#[derive(Clone, Copy, Debug, PartialEq, Eq)]
+pub struct SymbolVersion<'a> {
+    /// Its name, or the first 256 bytes of it; of no bytes where its number is 0 or 1.
+    pub name: &'a [u8],
+    /// Whether the name has more bytes.
+    pub is_cut: bool,
+    /// Its number, below 32,768.
+    pub number: u16,
+    /// Whether a name alone does not take it.
+    pub is_hidden: bool,
+    /// The index of the section of symbols' versions, or of the program header of the dynamic entries.
+    pub table: u16,
+}
+
+/// A symbol that a loader's lookup found.
+#[derive(Clone, Copy, Debug, PartialEq, Eq)]
+pub struct FoundSymbol<'a> {
+    /// The symbol.
+    pub symbol: Symbol,
+    /// Its index among the symbols.
+    pub index: u64,
+    /// The index of the section of symbols, or of the program header of the dynamic entries.
+    pub table: u16,
+    /// Its version; none where the file has no versions of symbols.
+    pub version: Option<SymbolVersion<'a>>,
+}
+
+/// What a loader's lookup found.
+#[derive(Clone, Copy, Debug, PartialEq, Eq)]
+pub struct Resolved<'a> {
+    /// The symbol; none where no symbol answers.
+    pub found: Option<FoundSymbol<'a>>,
+    /// Symbols that were tried.
+    pub tried: u64,
+}
+
 /// An address for [`File::apply`].
 #[repr(transparent)]
 #[derive(Clone, Copy, Debug)]
@@ -264,6 +326,64 @@ impl<'a> File<'a> {
         }
     }
 
+    /// Looks a name up as a loader of the GNU system does, alone or with a version: by the file's hash
+    /// table, of the GNU system or else of the gABI, the first symbol of the name's chain that has the
+    /// name, is offered to others and whose version fits. The name of a version is told with its first 256
+    /// bytes, and the wanted one whole.
+    ///
+    /// [`Error::BadCall`] also where the name or the version has a NUL or the version no byte.
+    pub fn look_up<'n>(&self, wanted: &Wanted<'n>, room: &mut [u8]) -> Result<Resolved<'n>, Error>
+    where
+        'a: 'n,
+    {
+        let version = wanted.version.unwrap_or(&[]);
+        if wanted.name.contains(&0) || version.contains(&0) || wanted.version == Some(&[]) {
+            return Err(Error::BadCall);
+        }
+        let flags = u32::from(wanted.by_segments) * raw::BY_SEGMENTS
+            + u32::from(wanted.default_only) * raw::DEFAULT_ONLY;
+        let (mut resolved, mut end) = (raw::Resolved::default(), raw::End::default());
+        // SAFETY: as in `show`; neither the name nor the version has a NUL.
+        let status = unsafe {
+            raw::elfsee_look_up(
+                self.bytes.as_ptr(),
+                self.bytes.len(),
+                &self.limits,
+                flags,
+                wanted.name.as_ptr(),
+                wanted.name.len(),
+                version.as_ptr(),
+                version.len(),
+                room.as_mut_ptr(),
+                room.len(),
+                &mut resolved,
+                &mut end,
+            )
+        };
+        match status {
+            raw::OK => Ok(self.resolved(&resolved, wanted.version)),
+            raw::ABSENT => Ok(Resolved { found: None, tried: resolved.tried }),
+            _ => Err(error_of(status, &end)),
+        }
+    }
+
+    /// What a loader's lookup told as numbers; the name of a version is that in the file where none is wanted.
+    fn resolved<'n>(&self, told: &raw::Resolved, wanted: Option<&'n [u8]>) -> Resolved<'n>
+    where
+        'a: 'n,
+    {
+        let name = wanted.unwrap_or(rows::bytes_of(self.bytes, told.version.at, told.version.len));
+        let version = (told.has_version != 0).then_some(SymbolVersion {
+            name,
+            is_cut: told.is_cut != 0,
+            number: told.number,
+            is_hidden: told.is_hidden != 0,
+            table: told.words,
+        });
+        let found = FoundSymbol { symbol: told.symbol, index: told.index, table: told.section, version };
+        Resolved { found: Some(found), tried: told.tried }
+    }
+
     /// Writes a section's bytes with its relocations applied, for the addresses of a layout: at most 64
     /// sections, 32 definitions and 32 entries of each kind, none twice. `out` has to be as long as the section.
     pub fn apply<'o>(
@@ -316,6 +436,17 @@ impl<'a> File<'a> {
         let status =
             unsafe { raw::elfsee_section(self.bytes.as_ptr(), self.bytes.len(), index, &mut row, &mut end) };
         row_of(status, row, &end)
+    }
+
+    /// The bytes of a section; none where there is none of that index, or its type is NOBITS or NULL, which
+    /// has no bytes in the file.
+    pub fn content(&self, index: u16) -> Result<Option<&'a [u8]>, Refused> {
+        let (mut range, mut end) = (Range::default(), raw::End::default());
+        // SAFETY: as in `header`.
+        let status = unsafe {
+            raw::elfsee_section_bytes(self.bytes.as_ptr(), self.bytes.len(), index, &mut range, &mut end)
+        };
+        Ok(row_of(status, range, &end)?.map(|range| rows::bytes_of(self.bytes, range.at, range.len)))
     }
 
     /// A program header by its index; none where there is none of that index.

@@ -11,6 +11,9 @@ pub const ABSENT: u32 = 2;
 pub const FULL: u32 = 3;
 pub const BAD_CALL: u32 = 4;
 
+pub const BY_SEGMENTS: u32 = 1;
+pub const DEFAULT_ONLY: u32 = 2;
+
 pub const SECTION: u32 = 0;
 pub const DEFINE: u32 = 1;
 pub const ENTRY: u32 = 2;
@@ -55,6 +58,24 @@ pub struct Found {
     pub index: u32,
     pub steps: u32,
     pub section: u16,
+    pub none: u16,
+    pub none_behind: u32,
+}
+
+/// What a loader's lookup found.
+#[repr(C)]
+#[derive(Clone, Copy, Debug, Default, PartialEq, Eq)]
+pub struct Resolved {
+    pub symbol: Symbol,
+    pub index: u64,
+    pub tried: u64,
+    pub version: Range,
+    pub has_version: u32,
+    pub is_hidden: u32,
+    pub is_cut: u32,
+    pub section: u16,
+    pub words: u16,
+    pub number: u16,
     pub none: u16,
     pub none_behind: u32,
 }
@@ -243,6 +264,20 @@ extern "C" {
         found: *mut Found,
         end: *mut End,
     ) -> u32;
+    pub fn elfsee_look_up(
+        file: *const u8,
+        file_len: usize,
+        limits: *const Limits,
+        flags: u32,
+        name: *const u8,
+        name_len: usize,
+        version: *const u8,
+        version_len: usize,
+        room: *mut u8,
+        room_len: usize,
+        resolved: *mut Resolved,
+        end: *mut End,
+    ) -> u32;
     pub fn elfsee_apply(
         file: *const u8,
         file_len: usize,
@@ -260,6 +295,13 @@ extern "C" {
         file_len: usize,
         index: u16,
         section: *mut Section,
+        end: *mut End,
+    ) -> u32;
+    pub fn elfsee_section_bytes(
+        file: *const u8,
+        file_len: usize,
+        index: u16,
+        range: *mut Range,
         end: *mut End,
     ) -> u32;
     pub fn elfsee_segment(

@@ -1,6 +1,6 @@
 //! What is outside its range is refused, and what is empty ends well.
 
-use elfsee::{Cause, Error, File, Item, Limits, Refused};
+use elfsee::{Cause, Error, File, Item, Limits, Refused, Wanted};
 
 /// A file header alone: a relocatable file for x86-64 without sections.
 fn header() -> [u8; 64] {
@@ -24,6 +24,8 @@ fn short_files_are_refused() {
         assert_eq!(file.header(), Err(short));
         assert_eq!(file.section(0), Err(short));
         assert_eq!(file.find(b"x", &mut room), Err(short.into()));
+        assert_eq!(file.look_up(&Wanted::name(b"x"), &mut room), Err(short.into()));
+        assert_eq!(file.content(0), Err(short));
         assert_eq!(file.apply(1, &[], &mut room, &mut []), Err(short.into()));
         assert_eq!(file.symbols(0, &mut room).err(), Some(short.into()));
         assert_eq!(file.segment_dynamic(0).err(), Some(short));
@@ -56,6 +58,7 @@ fn too_little_room_is_a_bad_call() {
         let mut room = vec![0; length];
         assert_eq!(file.show(elfsee::ALL, &mut room, &mut [0; 100]), Err(Error::BadCall));
         assert_eq!(file.find(b"x", &mut room), Err(Error::BadCall));
+        assert_eq!(file.look_up(&Wanted::name(b"x"), &mut room), Err(Error::BadCall));
         assert_eq!(file.apply(1, &[], &mut room, &mut []), Err(Error::BadCall));
         assert_eq!(file.symbols(1, &mut room).err(), Some(Error::BadCall));
         assert_eq!(file.section_names(&mut room), Err(Error::BadCall));
@@ -91,6 +94,14 @@ fn names_have_ranges() {
     let file = File::new(&bytes);
     assert_eq!(file.find(b"a\0b", &mut [0; 64]), Err(Error::BadCall));
     assert_eq!(file.find(&[b'a'; 4097], &mut [0; 64]), Err(Error::BadCall));
+    for name in [&b"a\0b"[..], &[b'a'; 4097]] {
+        assert_eq!(file.look_up(&Wanted::name(name), &mut [0; 64]), Err(Error::BadCall));
+        assert_eq!(file.look_up(&Wanted::versioned(b"a", name), &mut [0; 64]), Err(Error::BadCall));
+    }
+    assert_eq!(file.look_up(&Wanted::versioned(b"a", b""), &mut [0; 64]), Err(Error::BadCall));
+    let wanted =
+        Wanted { default_only: true, by_segments: true, ..Wanted::versioned(&[b'a'; 4096], &[b'b'; 4096]) };
+    assert!(matches!(file.look_up(&wanted, &mut [0; 64]), Err(Error::Refused(_))));
     for name in [&b""[..], b"a\0", &[b'a'; 256]] {
         assert_eq!(apply(&[Item::define(name, 0)]), Err(Error::BadCall));
         assert_eq!(apply(&[Item::entry(name, 0)]), Err(Error::BadCall));
@@ -119,6 +130,7 @@ fn what_is_not_there_is_absent() {
     let bytes = header();
     let file = File::new(&bytes);
     assert_eq!(file.section(0), Ok(None));
+    assert_eq!(file.content(0), Ok(None));
     assert_eq!(file.segment(65535), Ok(None));
     assert!(file.symbols(0, &mut [0; 64]).unwrap().is_none());
     assert!(file.relocations(7, &mut [0; 64]).unwrap().is_none());

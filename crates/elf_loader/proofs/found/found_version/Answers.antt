@@ -27,14 +27,14 @@ returns-then-number-lt2 g c =
     (λ file read costs scope told is words here.
     finds-unnamed file scope (asked_of c.args.asked.now) told c.args.found.0 c.args.found.1 c.args.name.now c.args.src.now c.args.words.now asks words here c.if-number-lt2.true (Charges-none c.args.src.now)))
 
-pub returns-in_err-end : goal.returns-in_err-end
-returns-in_err-end g c =
+pub returns-in_err-told : goal.returns-in_err-told
+returns-in_err-told g c =
     let none : c.name.result ≡ None = none-of c.name.result c.in_default.not-Some in
     let asks : asked_name (asked_of c.args.asked.now) ≡ None = sym c.name.ensures ∙ ap (option_map (λ name. name.now)) none in
     let bytes : telling_bytes (asked_of c.args.asked.now) (most_versions c.args.symbols.now) ≡ most_versions c.args.symbols.now * 28 + told_bytes = rw (asks, telling_bytes) refl in
     let p = err_from_is_err_and c.from_residual.result c.from_residual.ensures.1 in
     rw (p.1, p.2)
-    (Did-as _ (omega (arith, bytes)) c.in_err-end.ensures
+    (Did-as _ (omega (arith, bytes)) c.in_err-told.ensures
     (λ file read costs scope told is words here.
     finds-fault file scope (asked_of c.args.asked.now) told c.args.found.0 c.args.found.1 c.told_name.new.name c.args.src.now c.told_name.new.src _ asks here c.if-number-lt2.false
     (read scope told c.args.found.0 is (c.place.ensures ∙ word-at told c.args.words.now c.args.found.0 words c.args.words.now.entry))))
@@ -45,7 +45,7 @@ returns g c =
     let asks : asked_name (asked_of c.args.asked.now) ≡ None = sym c.name.ensures ∙ ap (option_map (λ name. name.now)) none in
     let bytes : telling_bytes (asked_of c.args.asked.now) (most_versions c.args.symbols.now) ≡ most_versions c.args.symbols.now * 28 + told_bytes = rw (asks, telling_bytes) refl in
     rw c.told_as-2.ensures
-    (Did-as _ (omega (arith, bytes)) c.in_ok-end.ensures
+    (Did-as _ (omega (arith, bytes)) c.in_ok-told.ensures
     (λ file read costs scope told is words here.
-    finds-told file scope (asked_of c.args.asked.now) told c.args.found.0 c.args.found.1 c.told_name.new.name c.args.src.now c.told_name.new.src c.args.words.now c.in_ok-end.end asks words here c.if-number-lt2.false
+    finds-told file scope (asked_of c.args.asked.now) told c.args.found.0 c.args.found.1 c.told_name.new.name c.args.src.now c.told_name.new.src c.args.words.now c.in_ok-told.told asks words here c.if-number-lt2.false
     (read scope told c.args.found.0 is (c.place.ensures ∙ word-at told c.args.words.now c.args.found.0 words c.args.words.now.entry))))

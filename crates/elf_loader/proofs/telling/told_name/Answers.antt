@@ -10,7 +10,7 @@ use Rattle.elf_headers.proofs.LedgerLaws.{Did-as, Did-of, Did-stop, Did-then}
 use Rattle.elf_model.specs.Loader.{naming_of, readings}
 use Rattle.elf_model.specs.declared.causes.Cause.TheVariants.{VersionIndex}
 use Rattle.elf_versions.proofs.WordLaws.{none-of}
-use Rattle.elf_loader.proofs.TellingLaws.{fault-tells, name-tells, none-tells}
+use Rattle.elf_loader.proofs.TellingLaws.{fault-tells, name-fails, name-tells, none-tells}
 use Rattle.elf_loader.proofs.telling.told_name.Goals as goal
 
 says-stopped : {X : Type 0} (a b : Counting) (n : ℕ) (result : Result X Fault) → IfErr result (Says a b n) → IfSome (why_stopped result) (Says a b n)
@@ -32,11 +32,22 @@ returns-in_default g c =
     (λ file read costs scope words y is here.
     none-tells file scope words y c.args.at (naming_of file c.args.number (readings file scope.symbols.records)) c.args.src.now c.name_of.new.src c.args.name.now here (read scope.symbols.records is.records)))
 
+pub returns-in_err-end : goal.returns-in_err-end
+returns-in_err-end g c =
+    let p = err_from_is_err_and c.from_residual-in_err-end.result c.from_residual-in_err-end.ensures.1 in
+    let off = c.from-off.ensures in
+    let says = says-stopped _ _ _ c.read.result c.read.ensures.says in
+    rw (p.1, p.2)
+    (Did-as _ (omega arith) (Did-then (rw c.in-Some.is at c.in_ok-named.ensures.did) (Did-of c.in_err-end.ensures.reads c.in_err-end.ensures.says c.in_err-end.ensures.read))
+    (λ file read costs scope words y is here.
+    name-fails file scope words y (naming_of file c.args.number (readings file scope.symbols.records)) c.args.src.now c.name_of.new.src c.read.new.src c.read.new.name c.in-Some.named _
+    (read.0 scope.symbols.records is.records) (record { reads = c.in_err-end.ensures.reads; says = c.in_err-end.ensures.says }) (rw off at read.1)))
+
 pub returns : goal.returns
 returns g c =
     let off = c.from-off.ensures in
-    let says = says-stopped _ _ _ c.read.result c.read.ensures.says in
-    Did-as _ (omega arith) (Did-then (rw c.in-Some.is at c.in_ok-named.ensures.did) (Did-of c.read.ensures.reads says c.read.ensures.read))
+    let at = rw c.at.ensures.value at c.saturating_add-at.ensures in
+    Did-as _ (omega arith) (Did-then (rw c.in-Some.is at c.in_ok-named.ensures.did) (Did-of c.in_ok-end.ensures.reads tt c.in_ok-end.ensures.read))
     (λ file read costs scope words y is here.
-    name-tells file scope words y (naming_of file c.args.number (readings file scope.symbols.records)) c.args.src.now c.name_of.new.src c.read.new.src c.read.new.name c.in-Some.named c.read.result
-    (read.0 scope.symbols.records is.records) (record { reads = c.read.ensures.reads; says = says }) (rw off at read.1))
+    name-tells file scope words y _ (naming_of file c.args.number (readings file scope.symbols.records)) c.args.src.now c.name_of.new.src c.read.new.src c.read.new.name c.in-Some.named c.in_ok-end.end
+    (read.0 scope.symbols.records is.records) (record { reads = c.in_ok-end.ensures.reads; says = tt }) (rw off at read.1) c.at.ensures.ends (rw off at at))

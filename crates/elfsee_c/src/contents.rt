@@ -1,0 +1,26 @@
+//! The export that tells where a section's bytes lie in a file in memory.
+ghost use Rattle.elf_rows.specs.SectionBytes.{ReadsSectionBytes};
+ghost use Rattle.elfsee_c.specs.Ends.{TellsRead};
+
+use crate::end::End;
+use crate::tell::tell;
+use elf_rows::{Range, section_bytes};
+
+/// Tells where the bytes of a section lie in a file that lies in memory. No other section header is
+/// looked at (gABI 4, Section Header).
+///
+/// Answers 0 where they lie in the file, 2 where the file has no such section or its type is NOBITS
+/// or NULL, and 1 where a check fails that a listing makes before it reads the headers, as many of
+/// them permitted as can be, or where the section ends past the end of the file; the first that
+/// fails is in `end`.
+#[unsafe(no_mangle)]
+pub extern "C" fn elfsee_section_bytes(
+    file: &[u8],
+    section: u16,
+    range: &mut Range,
+    end: &mut End,
+) -> u32
+    ensures { TellsRead (ReadsSectionBytes file.now section) result range.old range.new end.new }
+{
+    tell(section_bytes(file, section), range, end)
+}
