@@ -324,9 +324,12 @@ impl<'a> File<'a> {
     /// let bytes = std::fs::read("/proc/self/exe").unwrap();
     /// let file = File::new(&bytes);
     /// let layout = [Item::section(1, 0x401000), Item::define(b"callee", 0x402000)];
-    /// let applied = file.apply(1, &layout, &mut vec![0; file.room()], &mut [0; 64]);
-    /// // A program is no object.
-    /// assert!(matches!(applied, Err(Error::Refused(refused)) if refused.cause == Cause::NotRel));
+    /// let (mut room, mut out) = (vec![0; file.room()], [0; 64]);
+    /// match file.apply(1, &layout, &mut room, &mut out) {
+    ///     Ok(section) => println!("{section:x?}"),
+    ///     // A program is no object.
+    ///     Err(error) => assert!(matches!(error, Error::Refused(refused) if refused.cause == Cause::NotRel)),
+    /// }
     /// ```
     pub fn apply<'o>(
         &self,
