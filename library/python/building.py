@@ -32,7 +32,7 @@ def _library():
         return named
     build = os.path.join(os.path.dirname(HERE), "build")
     if not os.path.exists(build):
-        raise SystemExit("the library elfsee is built in its repository alone; ELFSEE_LIBRARY may name one that is built")
+        raise SystemExit("the library elfsee is built in its repository alone; ELFSEE_LIBRARY may name a built one")
     done = subprocess.run([build], stdin=subprocess.DEVNULL, stdout=subprocess.PIPE, check=True)
     return os.path.join(os.fsdecode(done.stdout.rstrip(b"\n")), LIBRARY)
 
