@@ -159,7 +159,9 @@ fn named(file: &File, kind: &str) -> Result<(), Error> {
             for (index, _) in file.segments()? {
                 let Some(rows) = file.segment_dynamic(index)? else { continue };
                 let first = |tag| rows.clone().find(|row| row.tag == tag).map_or(0, |row| row.value);
-                let strings = file.mapped(first(abi::DT_STRTAB), first(abi::DT_STRSZ))?.unwrap_or_default();
+                // Where they lie nowhere, the first entry that names a string is refused.
+                let strings = file.mapped(first(abi::DT_STRTAB), first(abi::DT_STRSZ)).ok().flatten();
+                let strings = strings.unwrap_or_default();
                 entries_named(index, rows.named_in(file.names_in(&strings)))?;
             }
         }
