@@ -13,7 +13,8 @@
  *    first.
  *  - `room` and `out` point to as many writable bytes as is said; these overlap neither each other,
  *    nor the file, nor a struct or a name that is passed. They need not be initialised.
- *  - Each pointer is not NULL and is aligned for its type, also where a length is 0.
+ *  - Each pointer is not NULL and is aligned for its type. Only the arguments `file`, `room`, `out` and
+ *    `name` may be NULL, where their lengths are 0 (tested, not proved); a pointer in a struct is not.
  *  - Each struct that is passed is initialised, with any values, also one that is only written.
  *  - No call is made from a signal handler.
  *
