@@ -52,11 +52,14 @@ if TYPE_CHECKING:
 
 __all__ = [
     "ALL", "DYNAMIC", "HEADER", "NOTES", "RELOCS", "SECTIONS", "SEGMENTS", "SYMBOLS",
-    "DT_NEEDED", "DT_NULL", "DT_RPATH", "DT_RUNPATH", "DT_SONAME", "DT_STRSZ", "DT_STRTAB",
-    "Absent", "Cause", "Dynamic", "DynamicFlag", "DynamicFlag1", "DynamicTag", "File", "FileType", "Full",
-    "Header", "Layout", "Listing", "Lookup", "Machine", "Member", "Note", "Refused", "Relocation",
-    "RelocationType", "Section", "SectionFlag", "SectionType", "Segment", "SegmentFlag", "SegmentType",
-    "SpecialSection", "Symbol", "SymbolBinding", "SymbolType", "SymbolVisibility", "VERSION", "spelt",
+    "Absent", "Cause", "Dynamic", "File", "Full", "Header", "Layout", "Listing", "Lookup", "Member",
+    "Note", "Refused", "Relocation", "Section", "Segment", "Symbol", "VERSION", "spelt",
+]
+# The numbers of the standards, and what is told of a cause.
+__all__ += [
+    "DT_NEEDED", "DT_NULL", "DT_RPATH", "DT_RUNPATH", "DT_SONAME", "DT_STRSZ", "DT_STRTAB", "DynamicFlag",
+    "DynamicFlag1", "DynamicTag", "FileType", "Machine", "RelocationType", "SectionFlag", "SectionType",
+    "SegmentFlag", "SegmentType", "SpecialSection", "SymbolBinding", "SymbolType", "SymbolVisibility",
     "word_of",
 ]
 

@@ -8,7 +8,8 @@
 //!                                 spells them, and the program headers, by the iterators
 //!     calls members ARCHIVE       the members of an archive, so, with the listing of each ELF file
 
-use elfsee::{abi, spelt, Dynamic, DynamicEntries, Error, File, Named, Notes, Refused};
+use elfsee::{abi, spelt, Dynamic, Named};
+use elfsee::{DynamicEntries, Error, File, Notes, Refused};
 use std::process::exit;
 
 fn hex(bytes: &[u8]) -> String {

@@ -393,6 +393,43 @@ impl<'a> File<'a> {
         row_of(status, row, &end)
     }
 
+    /// A program header by its index; none where there is none of that index.
+    pub fn segment(&self, index: u16) -> Result<Option<Segment>, Refused> {
+        let (mut row, mut end) = (Segment::default(), raw::End::default());
+        // SAFETY: as in `header`.
+        let status =
+            unsafe { raw::elfsee_segment(self.bytes.as_ptr(), self.bytes.len(), index, &mut row, &mut end) };
+        row_of(status, row, &end)
+    }
+
+    /// Where the string table of the section names lies; none where the file has none.
+    pub fn section_names(&self, room: &mut [u8]) -> Result<Option<Range>, Error> {
+        let (mut names, mut end) = (Range::default(), raw::End::default());
+        // SAFETY: as in `show`.
+        let status = unsafe {
+            raw::elfsee_section_names(
+                self.bytes.as_ptr(),
+                self.bytes.len(),
+                &self.limits,
+                room.as_mut_ptr(),
+                room.len(),
+                &mut names,
+                &mut end,
+            )
+        };
+        table_of(status, names, &end)
+    }
+
+    /// The name at an offset in a string table, any bytes of the file, without its NUL.
+    pub fn name(&self, strings: &Range, offset: u64) -> Result<&'a [u8], Refused> {
+        rows::name_in(self.bytes, strings, offset)
+    }
+
+    /// A string table: any bytes of the file.
+    pub fn names_in(&self, strings: &Range) -> Names<'a> {
+        Names::new(self.bytes, *strings)
+    }
+
     /// The section headers, each with its index: an iterator, behind the checks that a listing begins with.
     /// [`Sections::named`] has their names too.
     ///
@@ -432,43 +469,6 @@ impl<'a> File<'a> {
     pub fn segments(&self) -> Result<Segments<'a>, Refused> {
         self.segment(0)?;
         Ok(Segments::new(*self))
-    }
-
-    /// A program header by its index; none where there is none of that index.
-    pub fn segment(&self, index: u16) -> Result<Option<Segment>, Refused> {
-        let (mut row, mut end) = (Segment::default(), raw::End::default());
-        // SAFETY: as in `header`.
-        let status =
-            unsafe { raw::elfsee_segment(self.bytes.as_ptr(), self.bytes.len(), index, &mut row, &mut end) };
-        row_of(status, row, &end)
-    }
-
-    /// Where the string table of the section names lies; none where the file has none.
-    pub fn section_names(&self, room: &mut [u8]) -> Result<Option<Range>, Error> {
-        let (mut names, mut end) = (Range::default(), raw::End::default());
-        // SAFETY: as in `show`.
-        let status = unsafe {
-            raw::elfsee_section_names(
-                self.bytes.as_ptr(),
-                self.bytes.len(),
-                &self.limits,
-                room.as_mut_ptr(),
-                room.len(),
-                &mut names,
-                &mut end,
-            )
-        };
-        table_of(status, names, &end)
-    }
-
-    /// The name at an offset in a string table, any bytes of the file, without its NUL.
-    pub fn name(&self, strings: &Range, offset: u64) -> Result<&'a [u8], Refused> {
-        rows::name_in(self.bytes, strings, offset)
-    }
-
-    /// A string table: any bytes of the file.
-    pub fn names_in(&self, strings: &Range) -> Names<'a> {
-        Names::new(self.bytes, *strings)
     }
 
     /// The symbols of a section; none where it holds none.

@@ -1,6 +1,7 @@
 //! What is outside its range is refused, and what is empty ends well.
 
-use elfsee::{Cause, Error, File, Item, Limits, Range, Refused};
+use elfsee::Range;
+use elfsee::{Cause, Error, File, Item, Limits, Refused};
 
 /// A file header alone: a relocatable file for x86-64 without sections.
 fn header() -> [u8; 64] {
