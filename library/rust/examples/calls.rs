@@ -8,7 +8,6 @@
 //!                                 spells them, and the program headers, by the iterators
 //!     calls members ARCHIVE       the members of an archive, so, with the listing of each ELF file
 
-use elfsee::{abi, spelt, Dynamic, Named};
 use elfsee::{DynamicEntries, Error, File, Notes, Refused};
 use std::process::exit;
 
@@ -136,6 +135,7 @@ fn rows(file: &File) -> Result<(), Error> {
 
 /// Rows of one kind with their names; dynamic entries of the segments where there are no sections.
 fn named(file: &File, kind: &str) -> Result<(), Error> {
+    use elfsee::{abi, spelt};
     let mut room = vec![0; file.room()];
     let sections = file.sections(&mut room)?;
     match kind {
@@ -175,10 +175,10 @@ fn named(file: &File, kind: &str) -> Result<(), Error> {
     Ok(())
 }
 
-fn entries_named(table: u16, rows: Named<Dynamic>) -> Result<(), Error> {
+fn entries_named(table: u16, rows: elfsee::Named<elfsee::Dynamic>) -> Result<(), Error> {
     for row in rows {
         let (row, name) = row?;
-        println!("D {table} {} {}", row.tag, spelt(name));
+        println!("D {table} {} {}", row.tag, elfsee::spelt(name));
     }
     Ok(())
 }

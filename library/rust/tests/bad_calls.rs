@@ -1,6 +1,5 @@
 //! What is outside its range is refused, and what is empty ends well.
 
-use elfsee::Range;
 use elfsee::{Cause, Error, File, Item, Limits, Refused};
 
 /// A file header alone: a relocatable file for x86-64 without sections.
@@ -243,8 +242,8 @@ fn dynamic(entries: &[(u64, u64)], strings: &[u8]) -> Vec<u8> {
 fn named_rows_end_behind_the_first_refusal() {
     let bytes = dynamic(&[(5, 0), (1, 1), (14, 2), (1, 7), (1, 1)], b"\0a\0\\b");
     let file = File::new(&bytes);
-    let strings = file.names_in(&Range { at: 200, len: 5 });
-    assert_eq!(strings.range(), Range { at: 200, len: 5 });
+    let strings = file.names_in(&elfsee::Range { at: 200, len: 5 });
+    assert_eq!(strings.range(), elfsee::Range { at: 200, len: 5 });
     let mut rows = file.segment_dynamic(0).unwrap().unwrap();
     assert_eq!((rows.row(3).unwrap().value, rows.row(5)), (7, None));
     let mut all = rows.clone().named_in(strings);
