@@ -7,7 +7,7 @@
 #                         was built, that too
 #   make install-program  installs the program alone
 #   make install-library  builds the library where it is not built, and installs it with its header, its
-#                         man page and a file for pkg-config
+#                         man page, a file for pkg-config and the module for Python
 #   make uninstall        takes all of them away
 #
 # PREFIX (/usr/local) is where they go, DESTDIR what stands before that for packages. The other
@@ -29,6 +29,10 @@ man3dir = $(mandir)/man3
 bashcompdir = $(datadir)/bash-completion/completions
 zshcompdir = $(datadir)/zsh/site-functions
 fishcompdir = $(datadir)/fish/vendor_completions.d
+# Where Python has modules below the prefix, as it tells itself; without it, or where this is empty, the module is
+# not installed.
+PYTHON = python3
+pythondir = $(shell $(PYTHON) -c 'import site; print(site.getsitepackages(["$(exec_prefix)"])[-1])' 2>/dev/null)
 
 INSTALL = install
 INSTALL_PROGRAM = $(INSTALL) -m 755
@@ -77,6 +81,9 @@ install-library: library
 	    library/elfsee.pc.in >'$(DESTDIR)$(pkgconfigdir)/elfsee.pc'
 	chmod 644 '$(DESTDIR)$(pkgconfigdir)/elfsee.pc'
 	$(INSTALL_DATA) man/elfsee.3 '$(DESTDIR)$(man3dir)/elfsee.3'
+	folder='$(pythondir)'; if [ -n "$$folder" ]; then \
+	    $(INSTALL) -d '$(DESTDIR)'"$$folder/elfsee" && \
+	    $(INSTALL_DATA) library/python/elfsee/*.py library/python/elfsee/py.typed '$(DESTDIR)'"$$folder/elfsee"; fi
 	$(LOADER_LEARNS)
 
 install-strip:
@@ -89,4 +96,5 @@ uninstall:
 	    '$(DESTDIR)$(libdir)/libelfsee.a' '$(DESTDIR)$(libdir)/libelfsee.so.0' \
 	    '$(DESTDIR)$(libdir)/libelfsee.so' '$(DESTDIR)$(pkgconfigdir)/elfsee.pc' \
 	    '$(DESTDIR)$(man3dir)/elfsee.3'
+	folder='$(pythondir)'; if [ -n "$$folder" ]; then rm -rf '$(DESTDIR)'"$$folder/elfsee"; fi
 	$(LOADER_LEARNS)

@@ -9,25 +9,29 @@
 and `text written` (relocations in code) are what one does not want; `missing` names the libraries that
 are needed and that stand in no folder where the loader looks. Paths and names are spelt as elfsee spells
 names, so that none of them acts on a terminal. A file that is at fault, that cannot be read, or that has a name
-of more than 4,096 bytes is told with the cause, and the others go on. The exit status is 1 where there is such
-a file, or one that misses a library.
+of more than 4,096 bytes is told with the cause, and the others go on; so is one that has more dynamic entries than
+a program has, or names more places than are worth a look. The exit status is 1 where there is such a file, or one
+that misses a library.
 """
 
 import functools
+import itertools
 import os
 import signal
 import sys
 
 sys.path.insert(0, os.path.join(os.path.dirname(os.path.abspath(__file__)), "..", "library", "python"))
 import elfsee
+from elfsee import DynamicFlag, DynamicFlag1, DynamicTag, FileType, SegmentFlag, SegmentType
 
-PT_GNU_STACK, PT_GNU_RELRO, EXECUTE = 0x6474e551, 0x6474e552, 1
-DT_TEXTREL, DT_BIND_NOW, DT_FLAGS, DT_FLAGS_1 = 22, 24, 30, 0x6ffffffb
-DF_TEXTREL, DF_BIND_NOW, DF_1_NOW = 4, 8, 1
-EXEC, SHARED = 2, 3
 FOLDERS = ("/lib64", "/usr/lib64", "/lib", "/usr/lib", "/usr/local/lib")
-# How many bytes of one file may be read, and of one name: the files are not trusted.
-BUDGET, LONGEST_NAME = 100000000, 4096
+# How many bytes of one file may be read, and of one name, how many dynamic entries it may have, and in how many
+# places its libraries may be: the files are not trusted.
+BUDGET, LONGEST_NAME, MOST_ENTRIES, MOST_PLACES = 100000000, 4096, 1000, 100000
+
+
+class TooMany(Exception):
+    """A file has more of something than a program has."""
 
 
 @functools.lru_cache(maxsize=None)
@@ -51,26 +55,31 @@ def texts_of(entries, *tags):
 def missing_libraries(path, entries, paths):
     """The needed libraries that stand neither in the paths of the file nor where the loader looks."""
     origin = os.path.dirname(os.path.abspath(path))
-    own = [folder.replace("${ORIGIN}", origin).replace("$ORIGIN", origin) for folder in paths]
-    return [name for name in texts_of(entries, elfsee.DT_NEEDED)
-            if not any(os.path.exists(os.path.join(folder, name)) for folder in own + library_folders())]
+    folders = [folder.replace("${ORIGIN}", origin).replace("$ORIGIN", origin) for folder in paths] + library_folders()
+    names = texts_of(entries, DynamicTag.NEEDED)
+    return [name for name in names if not any(os.path.exists(os.path.join(folder, name)) for folder in folders)]
 
 
 def told_of(path, file):
     """What is told of a file, and whether it misses a library."""
     segments = {segment.type: segment for segment in file.segments()}
-    entries = list(file.dynamic())
-    flags = value_of(entries, DT_FLAGS)
-    now = any(entry.tag == DT_BIND_NOW for entry in entries) or flags & DF_BIND_NOW \
-        or value_of(entries, DT_FLAGS_1) & DF_1_NOW
-    written = any(entry.tag == DT_TEXTREL for entry in entries) or flags & DF_TEXTREL
-    stack = segments.get(PT_GNU_STACK)
-    found = texts_of(entries, elfsee.DT_RPATH, elfsee.DT_RUNPATH)
+    entries = list(itertools.islice(file.dynamic(), MOST_ENTRIES + 1))
+    if len(entries) > MOST_ENTRIES:
+        raise TooMany("it has more than %d dynamic entries" % MOST_ENTRIES)
+    flags = value_of(entries, DynamicTag.FLAGS)
+    now = any(entry.tag == DynamicTag.BIND_NOW for entry in entries) or flags & DynamicFlag.BIND_NOW \
+        or value_of(entries, DynamicTag.FLAGS_1) & DynamicFlag1.NOW
+    written = any(entry.tag == DynamicTag.TEXTREL for entry in entries) or flags & DynamicFlag.TEXTREL
+    stack = segments.get(SegmentType.GNU_STACK)
+    found = texts_of(entries, DynamicTag.RPATH, DynamicTag.RUNPATH)
+    folders = sum(each.count(":") + 1 for each in found) + len(library_folders())
+    if folders * sum(entry.tag == DynamicTag.NEEDED for entry in entries) > MOST_PLACES or folders > MOST_PLACES:
+        raise TooMany("its libraries may be in more than %d places" % MOST_PLACES)
     paths = [folder for each in found for folder in each.split(":")]
     missing = missing_libraries(path, entries, paths)
-    relro = "none" if PT_GNU_RELRO not in segments else "full" if now else "partial"
+    relro = "none" if SegmentType.GNU_RELRO not in segments else "full" if now else "partial"
     return "relro %s, bind %s, stack %s, paths %s, text %s, missing %s" % (
-        relro, "now" if now else "lazy", "executable" if not stack or stack.flags & EXECUTE else "plain",
+        relro, "now" if now else "lazy", "executable" if not stack or stack.flags & SegmentFlag.X else "plain",
         elfsee.spelt(":".join(paths)) or "none", "written" if written else "fixed",
         " ".join(map(elfsee.spelt, missing)) or "none"), missing
 
@@ -84,14 +93,14 @@ def checked(path):
             if file.read(4) != b"\x7fELF":
                 return None, False
         with elfsee.File(path, budget=BUDGET, longest_name=LONGEST_NAME) as file:
-            if file.header.type not in (EXEC, SHARED):
+            if file.header.type not in (FileType.EXEC, FileType.DYN):
                 return None, False
             told, missing = told_of(path, file)
             return told, bool(missing)
     except elfsee.Refused as refused:
         return "refused: %s" % refused, True
-    except elfsee.Full as full:
-        return "refused: %s" % full, True
+    except (elfsee.Full, TooMany) as much:
+        return "refused: %s" % much, True
     except OSError as error:
         return "cannot be read: %s" % error.strerror, True
     except MemoryError:

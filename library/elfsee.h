@@ -13,7 +13,8 @@
  *    first.
  *  - `room` and `out` point to as many writable bytes as is said; these overlap neither each other,
  *    nor the file, nor a struct or a name that is passed. They need not be initialised.
- *  - Each pointer is not NULL and is aligned for its type, also where a length is 0.
+ *  - Each pointer is not NULL and is aligned for its type. Only the arguments `file`, `room`, `out` and
+ *    `name` may be NULL, where their lengths are 0 (tested, not proved); a pointer in a struct is not.
  *  - Each struct that is passed is initialised, with any values, also one that is only written.
  *  - No call is made from a signal handler.
  *
@@ -21,6 +22,9 @@
  * structs; the file's bytes may be shared. A call takes no lock, starts no thread, makes no system
  * call, takes no memory but the stack, of which it needs less than 64 KiB (measured by a test, not
  * proved), and keeps no pointer behind its end.
+ *
+ * IN C++ each struct is a type of the namespace elfsee too, as elfsee::header: some share their names with
+ * a call, which hides them.
  *
  * ROOM is where the headers of a file lie while a call runs, 64 bytes each. A call permits as many
  * headers as `limits` says, or as many as the room holds, whichever is less; a file with more is
@@ -34,6 +38,10 @@
 #include <stdint.h>
 
 #ifdef __cplusplus
+#ifdef __GNUC__
+#pragma GCC diagnostic push
+#pragma GCC diagnostic ignored "-Wshadow" /* some structs share their names with calls */
+#endif
 extern "C" {
 #endif
 
@@ -397,6 +405,30 @@ uint32_t elfsee_section_names(const uint8_t *file, size_t file_len,
                               struct elfsee_range *strings, struct elfsee_end *end);
 
 #ifdef __cplusplus
+}
+#ifdef __GNUC__
+#pragma GCC diagnostic pop
+#endif
+
+/* The structs' names for C++, where `elfsee_header` is the call and not the struct. */
+namespace elfsee {
+typedef struct ::elfsee_limits limits;
+typedef struct ::elfsee_end end;
+typedef struct ::elfsee_symbol symbol;
+typedef struct ::elfsee_found found;
+typedef struct ::elfsee_item item;
+typedef struct ::elfsee_job job;
+typedef struct ::elfsee_header header;
+typedef struct ::elfsee_section section;
+typedef struct ::elfsee_segment segment;
+typedef struct ::elfsee_relocation relocation;
+typedef struct ::elfsee_dynamic dynamic;
+typedef struct ::elfsee_range range;
+typedef struct ::elfsee_rows rows;
+typedef struct ::elfsee_notes notes;
+typedef struct ::elfsee_note note;
+typedef struct ::elfsee_members members;
+typedef struct ::elfsee_member member;
 }
 #endif
 

@@ -940,6 +940,84 @@ static void many(const char *name, int (*call)(void), unsigned tries) {
     check(all, name);
 }
 
+/* What calls answer over a file of no bytes, at this address: their statuses, and how the last one ended. */
+static void over_no_file(const uint8_t *file, uint32_t *told, struct elfsee_end *end) {
+    struct elfsee_limits limits = limits_of(4096, 256);
+    static const struct elfsee_item item;
+    struct elfsee_job job = {&item, 0, 1, 0};
+    struct elfsee_found found;
+    struct elfsee_header header;
+    struct elfsee_section section;
+    struct elfsee_segment segment;
+    struct elfsee_rows rows = {0, 1, 0, 24, 0, 0};
+    struct elfsee_range range = {0, 0}, name;
+    struct elfsee_notes notes = {0, 12, 4, 0, 0};
+    struct elfsee_note note;
+    struct elfsee_members members = {0, {0, 0}, 0, 0};
+    struct elfsee_member member;
+    unsigned at = 0, table;
+    told[at++] = elfsee_show(file, 0, &limits, ELFSEE_ALL, room.bytes, ROOM, out.bytes, OUT, end);
+    told[at++] = elfsee_find(file, 0, &limits, room.bytes, ROOM, (const uint8_t *)"call", 4, &found, end);
+    told[at++] = elfsee_apply(file, 0, &limits, &job, room.bytes, ROOM, out.bytes, OUT, end);
+    told[at++] = elfsee_header(file, 0, &header, end);
+    told[at++] = elfsee_section(file, 0, 0, &section, end);
+    told[at++] = elfsee_segment(file, 0, 0, &segment, end);
+    for (table = 0; table < TABLE_COUNT; table += 1)
+        told[at++] = TABLES[table].call(file, 0, &limits, 1, room.bytes, ROOM, &rows, end);
+    told[at++] = elfsee_section_names(file, 0, &limits, room.bytes, ROOM, &name, end);
+    told[at++] = elfsee_segment_dynamic(file, 0, 0, &rows, end);
+    told[at++] = elfsee_notes(file, 0, 0, &notes, end);
+    told[at++] = elfsee_segment_notes(file, 0, 0, &notes, end);
+    told[at++] = elfsee_next_note(file, 0, &notes, &note, end);
+    told[at++] = elfsee_members(file, 0, &members, end);
+    told[at++] = elfsee_next_member(file, 0, &members, &member, end);
+    told[at++] = elfsee_mapped(file, 0, 0, 0, &name, end);
+    told[at++] = elfsee_name(file, 0, &range, 1, &name, end);
+    told[at++] = elfsee_name(file, 0, &range, 0, &name, end);
+    told[at++] = (uint32_t)elfsee_room(file, 0, 4096);
+    paint();
+}
+
+enum { TOLD = 20 };
+
+/* Where a file, a room, an output or a name has no bytes, NULL is as good an address as another. */
+static void no_memory(void) {
+    struct elfsee_limits limits = limits_of(4096, 256);
+    static const struct elfsee_item item;
+    struct elfsee_job job = {&item, 0, 1, 0};
+    struct elfsee_end ends[2] = {ODD, ODD};
+    struct elfsee_found found;
+    struct elfsee_rows rows = {0, 1, 0, 24, 0, 0};
+    uint32_t told[2][TOLD] = {{0}};
+    static uint8_t some[1];
+    unsigned i, table;
+    int rooms = 1, outs = 1, names = 1;
+    for (i = 0; i < 2; i += 1) {
+        uint8_t *none = i ? some : NULL;
+        over_no_file(none, told[i], &ends[i]);
+        rooms &= is_bad(elfsee_show(object.bytes, object.len, &limits, ELFSEE_ALL, none, 0, out.bytes, OUT, &ends[i]),
+                        &ends[i]);
+        for (table = 0; table < TABLE_COUNT; table += 1)
+            rooms &= is_bad(TABLES[table].call(object.bytes, object.len, &limits, 1, none, 0, &rows, &ends[i]),
+                            &ends[i]);
+        outs &= elfsee_show(object.bytes, object.len, &limits, ELFSEE_ALL, room.bytes, ROOM, none, 0, &ends[i])
+                == ELFSEE_FULL;
+        outs &= elfsee_show(object.bytes, object.len, &limits, 0, room.bytes, ROOM, none, 0, &ends[i]) == ELFSEE_OK;
+        outs &= elfsee_apply(object.bytes, object.len, &limits, &job, room.bytes, ROOM, none, 0, &ends[i])
+                == elfsee_apply(object.bytes, object.len, &limits, &job, room.bytes, ROOM, some, 0, &ends[1 - i]);
+        outs &= elfsee_cause_word(ELFSEE_SHORT, none, 0) == 0;
+        outs &= elfsee_next_symbols(object.bytes, object.len, &rows, NULL, 0) == 0;
+        names &= elfsee_find(library.bytes, library.len, &limits, room.bytes, ROOM, none, 0, &found, &ends[i])
+                 == ELFSEE_ABSENT;
+    }
+    paint();
+    check(told[0][0] == ELFSEE_REFUSED && told[0][TOLD - 1] == 64 && memcmp(told[0], told[1], sizeof told[0]) == 0,
+          "a file of no bytes at NULL");
+    check(rooms, "room of no bytes at NULL");
+    check(outs, "an output of no bytes at NULL");
+    check(names, "a name of no bytes at NULL");
+}
+
 int main(int argc, char **argv) {
     if (argc < 4) return 2;
     unsigned tries = (unsigned)atoi(argv[3]);
@@ -954,6 +1032,7 @@ int main(int argc, char **argv) {
     short_files();
     small_out();
     cause_words();
+    no_memory();
     parts();
     names();
     loader_names();

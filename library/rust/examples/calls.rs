@@ -7,6 +7,8 @@
 //!                                 the symbol as a loader takes it, and its version
 //!     calls contents FILE         how many bytes each section has in the file, and their sum
 //!     calls rows FILE..           all rows, as numbers; names in hexadecimal digits
+//!     calls named FILE PART       the sections, the symbols or the dynamic entries with their names, as a listing
+//!                                 spells them, and the program headers, by the iterators
 //!     calls members ARCHIVE       the members of an archive, so, with the listing of each ELF file
 
 use elfsee::{DynamicEntries, Error, File, Notes, Refused, Wanted};
@@ -176,6 +178,56 @@ fn rows(file: &File) -> Result<(), Error> {
     others(file, tables, header.phnum, &mut room)
 }
 
+/// Rows of one kind with their names; dynamic entries of the segments where there are no sections.
+fn named(file: &File, kind: &str) -> Result<(), Error> {
+    use elfsee::{abi, spelt};
+    let mut room = vec![0; file.room()];
+    let sections = file.sections(&mut room)?;
+    match kind {
+        "sections" => {
+            for section in sections.named() {
+                let (index, row, name) = section?;
+                println!("S {index} {} {}", row.kind, spelt(name));
+            }
+        }
+        "segments" => file.segments()?.for_each(|(index, row)| println!("P {index} {}", row.kind)),
+        "symbols" => {
+            for (index, _) in sections {
+                let symbols = file.symbols(index, &mut room)?;
+                for (at, symbol) in symbols.clone().into_iter().flat_map(|rows| rows.named()).enumerate() {
+                    let (symbol, name) = symbol?;
+                    assert_eq!(symbols.as_ref().and_then(|rows| rows.row(at as u64)), Some(symbol));
+                    println!("Y {index} {} {}", symbol.visibility(), spelt(name));
+                }
+            }
+        }
+        _ if file.header()?.shnum == 0 => {
+            for (index, _) in file.segments()? {
+                let Some(rows) = file.segment_dynamic(index)? else { continue };
+                let first = |tag| rows.clone().find(|row| row.tag == tag).map_or(0, |row| row.value);
+                // Where they lie nowhere, the first entry that names a string is refused.
+                let strings = file.mapped(first(abi::DT_STRTAB), first(abi::DT_STRSZ)).ok().flatten();
+                let strings = strings.unwrap_or_default();
+                entries_named(index, rows.named_in(file.names_in(&strings)))?;
+            }
+        }
+        _ => {
+            for (index, _) in sections {
+                file.dynamic(index, &mut room)?.map_or(Ok(()), |rows| entries_named(index, rows.named()))?;
+            }
+        }
+    }
+    Ok(())
+}
+
+fn entries_named(table: u16, rows: elfsee::Named<elfsee::Dynamic>) -> Result<(), Error> {
+    for row in rows {
+        let (row, name) = row?;
+        println!("D {table} {} {}", row.tag, elfsee::spelt(name));
+    }
+    Ok(())
+}
+
 /// The members of an archive: where each lies, and what of its listing is the file header.
 fn members(file: &File) -> Result<(), Error> {
     for member in file.members()? {
@@ -203,6 +255,7 @@ fn main() {
             "resolve" => resolve(&file, &wanted(&words[2], words.len() > 3)),
             "contents" => contents(&file),
             "members" => members(&file),
+            "named" => named(&file, &words[2]),
             _ => rows(&file),
         };
         if let Err(error) = done {

@@ -27,20 +27,25 @@
 //! a file wants. A file that changes while it is read, as a mapped file may, is no slice: read such a
 //! file into memory first.
 
+//! Linked is the library that cargo finds by the crate's build script: in the folder that the environment's
+//! `ELFSEE_LIBRARY_DIR` names, else where the repository builds it, else where pkg-config says.
+
 #![no_std]
 #![warn(missing_docs)]
 
-#[cfg(feature = "std")]
-extern crate std;
-
+pub mod abi;
 mod error;
+mod headers;
 mod members;
+mod names;
 mod notes;
 pub mod raw;
 mod rows;
 
 pub use error::{Cause, Error, Refused};
+pub use headers::{NamedSections, Sections, Segments};
 pub use members::{Member, Members};
+pub use names::{spelt, HasName, Named, Names, Spelt};
 pub use notes::{Note, Notes};
 pub use raw::{Dynamic, Header, Range, Relocation, Section, Segment, Symbol};
 pub use rows::{DynamicEntries, Relocations, Rows, Symbols};
@@ -73,6 +78,11 @@ impl raw::Symbol {
     /// Its binding: STB_GLOBAL and the like.
     pub fn binding(&self) -> u8 {
         self.info >> 4
+    }
+
+    /// Its visibility: STV_HIDDEN and the like.
+    pub fn visibility(&self) -> u8 {
+        self.other & 3
     }
 }
 
@@ -257,6 +267,13 @@ impl<'a> File<'a> {
     }
 
     /// How many bytes of room the file wants: at least 64, at most 64 for each permitted header.
+    ///
+    /// ```
+    /// assert_eq!(elfsee::File::new(b"").room(), 64);
+    /// let bytes = std::fs::read("/proc/self/exe").unwrap();
+    /// let file = elfsee::File::new(&bytes);
+    /// assert_eq!(file.room(), 64 * usize::from(file.header().unwrap().shnum));
+    /// ```
     pub fn room(&self) -> usize {
         // SAFETY: a slice's own pointer and length.
         let room = unsafe { raw::elfsee_room(self.bytes.as_ptr(), self.bytes.len(), self.limits.headers) };
@@ -264,6 +281,17 @@ impl<'a> File<'a> {
     }
 
     /// How many bytes a listing of a file of this length asks for at most, whatever its bytes are.
+    ///
+    /// ```
+    /// # fn main() -> Result<(), Box<dyn std::error::Error>> {
+    /// let bytes = std::fs::read("/proc/self/exe")?;
+    /// let file = elfsee::File::new(&bytes);
+    /// let asked = file.show(elfsee::HEADER, &mut vec![0; file.room()], &mut [0; 256])?.asked;
+    /// assert_eq!(asked, 64);
+    /// assert!(asked <= file.cost());
+    /// # Ok(())
+    /// # }
+    /// ```
     pub fn cost(&self) -> u64 {
         // SAFETY: a struct that is initialised.
         unsafe { raw::elfsee_cost(self.bytes.len() as u64, &self.limits) }
@@ -272,6 +300,17 @@ impl<'a> File<'a> {
     /// Lists the file, as far as `parts` has it ([`ALL`], or a sum of [`HEADER`] and the like). A
     /// refusal is the listing's last line, and no error. [`Error::Full`] where `out` is too short; a
     /// front of the listing stands in it then.
+    ///
+    /// ```
+    /// # fn main() -> Result<(), Box<dyn std::error::Error>> {
+    /// let bytes = std::fs::read("/proc/self/exe")?;
+    /// let file = elfsee::File::new(&bytes);
+    /// let (mut room, mut out) = (vec![0; file.room()], vec![0; 1 << 16]);
+    /// let listing = file.show(elfsee::HEADER | elfsee::SEGMENTS, &mut room, &mut out)?;
+    /// assert!(listing.text.starts_with("H ") && listing.refused.is_none());
+    /// # Ok(())
+    /// # }
+    /// ```
     pub fn show<'o>(&self, parts: u16, room: &mut [u8], out: &'o mut [u8]) -> Result<Listing<'o>, Error> {
         let mut end = raw::End::default();
         // SAFETY: slices' own pointers and lengths, of which none that is written overlaps another, and
@@ -299,6 +338,18 @@ impl<'a> File<'a> {
 
     /// Looks a name up by the file's own SysV hash table: the first symbol of that name in its chain,
     /// whatever its version and place. A name has at most 4,096 bytes and no NUL.
+    ///
+    /// ```
+    /// use elfsee::{Cause, Error, File};
+    ///
+    /// let bytes = std::fs::read("/proc/self/exe").unwrap();
+    /// let file = File::new(&bytes);
+    /// match file.find(b"main", &mut vec![0; file.room()]) {
+    ///     Ok(lookup) => println!("{:?} after {} names", lookup.found, lookup.steps),
+    ///     Err(Error::Refused(refused)) => assert_eq!(refused.cause, Cause::NoHash),
+    ///     Err(error) => panic!("{error}"),
+    /// }
+    /// ```
     pub fn find(&self, name: &[u8], room: &mut [u8]) -> Result<Lookup, Error> {
         if name.contains(&0) {
             return Err(Error::BadCall);
@@ -386,6 +437,20 @@ impl<'a> File<'a> {
 
     /// Writes a section's bytes with its relocations applied, for the addresses of a layout: at most 64
     /// sections, 32 definitions and 32 entries of each kind, none twice. `out` has to be as long as the section.
+    ///
+    /// ```
+    /// use elfsee::{Cause, Error, File, Item};
+    ///
+    /// let bytes = std::fs::read("/proc/self/exe").unwrap();
+    /// let file = File::new(&bytes);
+    /// let layout = [Item::section(1, 0x401000), Item::define(b"callee", 0x402000)];
+    /// let (mut room, mut out) = (vec![0; file.room()], [0; 64]);
+    /// match file.apply(1, &layout, &mut room, &mut out) {
+    ///     Ok(section) => println!("{section:x?}"),
+    ///     // A program is no object.
+    ///     Err(error) => assert!(matches!(error, Error::Refused(refused) if refused.cause == Cause::NotRel)),
+    /// }
+    /// ```
     pub fn apply<'o>(
         &self,
         section: u16,
@@ -418,6 +483,16 @@ impl<'a> File<'a> {
     }
 
     /// The file header.
+    ///
+    /// ```
+    /// use elfsee::{abi, File};
+    ///
+    /// let bytes = std::fs::read("/proc/self/exe").unwrap();
+    /// let header = File::new(&bytes).header().unwrap();
+    /// assert!(header.kind == abi::ET_DYN || header.kind == abi::ET_EXEC);
+    /// assert_eq!(header.machine, abi::EM_X86_64);
+    /// assert!(File::new(&bytes[..63]).header().is_err());
+    /// ```
     pub fn header(&self) -> Result<Header, Refused> {
         let (mut header, mut end) = (Header::default(), raw::End::default());
         // SAFETY: a slice's own pointer and length, and structs that are initialised.
@@ -481,13 +556,100 @@ impl<'a> File<'a> {
         rows::name_in(self.bytes, strings, offset)
     }
 
+    /// A string table: any bytes of the file.
+    pub fn names_in(&self, strings: &Range) -> Names<'a> {
+        Names::new(self.bytes, *strings)
+    }
+
+    /// The section headers, each with its index: an iterator, behind the checks that a listing begins with.
+    /// [`Sections::named`] has their names too.
+    ///
+    /// ```
+    /// # fn main() -> Result<(), Box<dyn std::error::Error>> {
+    /// let bytes = std::fs::read("/proc/self/exe")?;
+    /// let file = elfsee::File::new(&bytes);
+    /// let mut room = vec![0; file.room()];
+    /// for section in file.sections(&mut room)?.named() {
+    ///     let (index, header, name) = section?;
+    ///     println!("{index} {} {}", elfsee::spelt(name), header.size);
+    /// }
+    /// assert_eq!(file.sections(&mut room)?.count(), usize::from(file.header()?.shnum));
+    /// # Ok(())
+    /// # }
+    /// ```
+    pub fn sections(&self, room: &mut [u8]) -> Result<Sections<'a>, Error> {
+        let first = self.header()?.shoff;
+        let strings = self.section_names(room)?;
+        Ok(Sections::new(*self, strings.map(|strings| self.names_in(&strings)), first))
+    }
+
+    /// The program headers, each with its index: an iterator, behind the checks of the file header and of where they
+    /// lie.
+    ///
+    /// ```
+    /// # fn main() -> Result<(), Box<dyn std::error::Error>> {
+    /// use elfsee::abi;
+    ///
+    /// let bytes = std::fs::read("/proc/self/exe")?;
+    /// let mut segments = elfsee::File::new(&bytes).segments()?;
+    /// let (_, stack) = segments.find(|(_, segment)| segment.kind == abi::PT_GNU_STACK).unwrap();
+    /// assert_eq!(stack.flags & abi::PF_X, 0);
+    /// # Ok(())
+    /// # }
+    /// ```
+    pub fn segments(&self) -> Result<Segments<'a>, Refused> {
+        self.segment(0)?;
+        Ok(Segments::new(*self))
+    }
+
     /// The symbols of a section; none where it holds none.
+    ///
+    /// ```
+    /// # fn main() -> Result<(), Box<dyn std::error::Error>> {
+    /// use elfsee::abi;
+    ///
+    /// let bytes = std::fs::read("/proc/self/exe")?;
+    /// let file = elfsee::File::new(&bytes);
+    /// let mut room = vec![0; file.room()];
+    /// for (index, _) in file.sections(&mut room)? {
+    ///     let Some(symbols) = file.symbols(index, &mut room)? else { continue };
+    ///     for symbol in symbols.named() {
+    ///         let (symbol, name) = symbol?;
+    ///         if symbol.kind() == abi::STT_FUNC && symbol.section != abi::SHN_UNDEF {
+    ///             println!("{:x} {}", symbol.value, elfsee::spelt(name));
+    ///         }
+    ///     }
+    /// }
+    /// # Ok(())
+    /// # }
+    /// ```
     pub fn symbols(&self, section: u16, room: &mut [u8]) -> Result<Option<Symbols<'a>>, Error> {
         let rows = self.open(raw::elfsee_symbols, section, room)?;
         Ok(rows.map(|rows| Rows::new(self.bytes, rows)))
     }
 
     /// The relocation entries of a section; none where it holds none.
+    ///
+    /// ```
+    /// # fn main() -> Result<(), Box<dyn std::error::Error>> {
+    /// use elfsee::abi;
+    ///
+    /// let bytes = std::fs::read("/proc/self/exe")?;
+    /// let file = elfsee::File::new(&bytes);
+    /// let mut room = vec![0; file.room()];
+    /// for (index, section) in file.sections(&mut room)? {
+    ///     let Some(entries) = file.relocations(index, &mut room)? else { continue };
+    ///     // The symbols that the entries are for, with their names, are in the section that this one links to.
+    ///     let symbols = file.symbols(section.link as u16, &mut room)?;
+    ///     for entry in entries.filter(|entry| entry.kind() == abi::R_X86_64_GLOB_DAT) {
+    ///         let symbols = symbols.as_ref().ok_or("no symbols")?;
+    ///         let symbol = symbols.row(entry.symbol().into()).ok_or("no such symbol")?;
+    ///         println!("{:x} {}", entry.offset, elfsee::spelt(symbols.names().at(symbol.name.into())?));
+    ///     }
+    /// }
+    /// # Ok(())
+    /// # }
+    /// ```
     pub fn relocations(&self, section: u16, room: &mut [u8]) -> Result<Option<Relocations<'a>>, Error> {
         let rows = self.open(raw::elfsee_relocations, section, room)?;
         Ok(rows.map(|rows| Rows::new(self.bytes, rows)))
@@ -501,7 +663,26 @@ impl<'a> File<'a> {
 
     /// The dynamic entries of a segment, up to and with the first of tag NULL; none where it holds none.
     /// No string table goes with these rows: [`File::mapped`] tells where that lies whose address and
-    /// size the first entries of the tags STRTAB (5) and STRSZ (10) tell, and [`File::name`] the names.
+    /// size the first entries of the tags STRTAB (5) and STRSZ (10) tell, and [`Rows::named_in`] has the names.
+    ///
+    /// ```
+    /// # fn main() -> Result<(), Box<dyn std::error::Error>> {
+    /// use elfsee::{abi, spelt};
+    ///
+    /// let bytes = std::fs::read("/proc/self/exe")?;
+    /// let file = elfsee::File::new(&bytes);
+    /// for (index, _) in file.segments()? {
+    ///     let Some(rows) = file.segment_dynamic(index)? else { continue };
+    ///     let first = |tag| rows.clone().find(|row| row.tag == tag).map_or(0, |row| row.value);
+    ///     let strings = file.mapped(first(abi::DT_STRTAB), first(abi::DT_STRSZ))?.unwrap_or_default();
+    ///     for row in rows.named_in(file.names_in(&strings)) {
+    ///         let (row, name) = row?;
+    ///         println!("{} {}", row.tag, spelt(name));
+    ///     }
+    /// }
+    /// # Ok(())
+    /// # }
+    /// ```
     pub fn segment_dynamic(&self, segment: u16) -> Result<Option<DynamicEntries<'a>>, Refused> {
         let (mut rows, mut end) = (raw::Rows::default(), raw::End::default());
         // SAFETY: as in `header`.
@@ -529,11 +710,37 @@ impl<'a> File<'a> {
     }
 
     /// The notes of a segment; none where it holds none.
+    ///
+    /// ```
+    /// # fn main() -> Result<(), Box<dyn std::error::Error>> {
+    /// let bytes = std::fs::read("/proc/self/exe")?;
+    /// let file = elfsee::File::new(&bytes);
+    /// for (index, _) in file.segments()? {
+    ///     for note in file.segment_notes(index)?.into_iter().flatten() {
+    ///         let note = note?;
+    ///         println!("{} {} {} bytes", elfsee::spelt(note.name), note.kind, note.descriptor.len());
+    ///     }
+    /// }
+    /// # Ok(())
+    /// # }
+    /// ```
     pub fn segment_notes(&self, segment: u16) -> Result<Option<Notes<'a>>, Refused> {
         self.open_notes(raw::elfsee_segment_notes, segment)
     }
 
     /// The members of an archive, as a static library.
+    ///
+    /// ```
+    /// # fn main() -> Result<(), elfsee::Error> {
+    /// let archive = b"!<arch>\nhello.txt/      0           0     0     644     6         `\nhello\n";
+    /// for member in elfsee::File::new(archive).members()? {
+    ///     let member = member?;
+    ///     assert_eq!((member.name, member.content), (&b"hello.txt"[..], &b"hello\n"[..]));
+    ///     assert_eq!(elfsee::File::new(member.content).header().unwrap_err().cause, elfsee::Cause::Short);
+    /// }
+    /// # Ok(())
+    /// # }
+    /// ```
     pub fn members(&self) -> Result<Members<'a>, Refused> {
         let (mut members, mut end) = (raw::Members::default(), raw::End::default());
         // SAFETY: as in `header`.

@@ -1,12 +1,13 @@
 //! The rows of a table, one after another.
 
 use crate::error::Refused;
+use crate::names::{HasName, Named, Names};
 use crate::raw;
 
 /// So many rows are fetched by one call.
 const BATCH: usize = 32;
 
-mod sealed {
+pub(crate) mod sealed {
     /// What fetches rows of one kind.
     pub trait Fetch: Copy + Default {
         /// Fetches up to so many next rows, and tells how many.
@@ -32,7 +33,8 @@ fetched!(raw::Symbol, raw::elfsee_next_symbols);
 fetched!(raw::Relocation, raw::elfsee_next_relocations);
 fetched!(raw::Dynamic, raw::elfsee_next_dynamic);
 
-/// The rows of a table of symbols, relocation entries or dynamic entries: an iterator.
+/// The rows of a table of symbols, relocation entries or dynamic entries: an iterator. Its rows are numbers, and hold
+/// no borrow of it; [`Rows::names`] and [`Rows::named`] have their names.
 #[derive(Clone, Debug)]
 pub struct Rows<'a, R> {
     file: &'a [u8],
@@ -67,8 +69,69 @@ impl<'a, R: Fetch> Rows<'a, R> {
     /// The name at an offset in the string table that goes with these rows, without its NUL. A refusal's
     /// offset is where the name was to begin in the file.
     pub fn name(&self, offset: u64) -> Result<&'a [u8], Refused> {
+        self.names().at(offset)
+    }
+
+    /// The string table that goes with these rows. It borrows the file alone: so names can be read while the
+    /// iterator is used up, by `for` too.
+    pub fn names(&self) -> Names<'a> {
         let strings = raw::Range { at: self.rows.strings_at, len: self.rows.strings_len };
-        name_in(self.file, &strings, offset)
+        Names::new(self.file, strings)
+    }
+
+    /// The row of an index, wherever the iterator is; none where the table has no such row.
+    ///
+    /// ```
+    /// # fn main() -> Result<(), Box<dyn std::error::Error>> {
+    /// let bytes = std::fs::read("/proc/self/exe")?;
+    /// let file = elfsee::File::new(&bytes);
+    /// let mut room = vec![0; file.room()];
+    /// for (index, section) in file.sections(&mut room)? {
+    ///     if section.kind == elfsee::abi::SHT_DYNSYM {
+    ///         let symbols = file.symbols(index, &mut room)?.unwrap();
+    ///         assert_eq!(symbols.row(0), Some(elfsee::Symbol::default()));
+    ///         assert_eq!(symbols.row(symbols.total()), None);
+    ///     }
+    /// }
+    /// # Ok(())
+    /// # }
+    /// ```
+    pub fn row(&self, index: u64) -> Option<R> {
+        let (mut rows, mut row) = (raw::Rows { index, ..self.rows }, [R::default()]);
+        (R::fetch(self.file, &mut rows, &mut row) == 1).then(|| row[0])
+    }
+}
+
+impl<'a, R: HasName> Rows<'a, R> {
+    /// The rows that are left, each with its name.
+    ///
+    /// ```
+    /// # fn main() -> Result<(), Box<dyn std::error::Error>> {
+    /// let bytes = std::fs::read("/proc/self/exe")?;
+    /// let file = elfsee::File::new(&bytes);
+    /// let mut room = vec![0; file.room()];
+    /// let mut needed = Vec::new();
+    /// for (index, _) in file.sections(&mut room)? {
+    ///     for entry in file.dynamic(index, &mut room)?.into_iter().flat_map(|rows| rows.named()) {
+    ///         let (entry, name) = entry?;
+    ///         if entry.tag == elfsee::abi::DT_NEEDED {
+    ///             needed.push(name);
+    ///         }
+    ///     }
+    /// }
+    /// assert!(needed.iter().any(|name| name.starts_with(b"libc.so")));
+    /// # Ok(())
+    /// # }
+    /// ```
+    pub fn named(self) -> Named<'a, R> {
+        let names = self.names();
+        self.named_in(names)
+    }
+
+    /// The same by another string table, as dynamic entries of a segment want it.
+    pub fn named_in(self, names: Names<'a>) -> Named<'a, R> {
+        let passed = self.rows.index.saturating_sub((self.fetched - self.next) as u64);
+        Named::new(self, names, passed)
     }
 }
 

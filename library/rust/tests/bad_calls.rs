@@ -227,6 +227,74 @@ fn other_files_have_no_members() {
 }
 
 #[test]
+fn headers_are_gone_through() {
+    let bytes = segment(1, &[7; 16]);
+    let segments: Vec<_> = File::new(&bytes).segments().unwrap().map(|(at, row)| (at, row.kind)).collect();
+    assert_eq!(segments, [(0, 1)]);
+    let outside = Refused { cause: Cause::TableOutside, at: 32 };
+    assert_eq!(File::new(&bytes[..119]).segments().err(), Some(outside));
+    let short = Refused { cause: Cause::Short, at: 63 };
+    assert_eq!(File::new(&bytes[..63]).segments().err(), Some(short));
+    assert_eq!(File::new(&bytes[..63]).sections(&mut [0; 64]).err(), Some(short.into()));
+    assert_eq!(File::new(&bytes).sections(&mut [0; 63]).err(), Some(Error::BadCall));
+    let mut sections = File::new(&bytes).sections(&mut [0; 64]).unwrap();
+    assert!(sections.names().is_none());
+    assert_eq!(sections.next(), None);
+}
+
+/// A file with dynamic entries in a segment, and bytes behind them.
+fn dynamic(entries: &[(u64, u64)], strings: &[u8]) -> Vec<u8> {
+    let words = entries.iter().flat_map(|(tag, value)| [tag.to_le_bytes(), value.to_le_bytes()]);
+    let mut bytes = segment(2, &words.flatten().collect::<Vec<u8>>());
+    bytes.extend(strings);
+    bytes
+}
+
+#[test]
+fn named_rows_end_behind_the_first_refusal() {
+    let bytes = dynamic(&[(5, 0), (1, 1), (14, 2), (1, 7), (1, 1)], b"\0a\0\\b");
+    let file = File::new(&bytes);
+    let strings = file.names_in(&elfsee::Range { at: 200, len: 5 });
+    assert_eq!(strings.range(), elfsee::Range { at: 200, len: 5 });
+    let mut rows = file.segment_dynamic(0).unwrap().unwrap();
+    assert_eq!((rows.row(3).unwrap().value, rows.row(5)), (7, None));
+    let mut all = rows.clone().named_in(strings);
+    let names: Vec<_> = all.by_ref().take(3).map(|row| row.unwrap().1).collect();
+    assert_eq!(names, [&b""[..], b"a", b""]);
+    // The place of a refusal is the row's, wherever the iterator of the rows was.
+    let outside = Err(Refused { cause: Cause::NameOutside, at: 120 + 3 * 16 });
+    assert_eq!((all.next(), all.next()), (Some(outside), None));
+    rows.nth(1);
+    let mut rest = rows.named_in(strings);
+    assert_eq!(rest.next().unwrap().unwrap().1, b"");
+    assert_eq!((rest.next(), rest.next()), (Some(outside), None));
+    assert_eq!(strings.at(3), Err(Refused { cause: Cause::NameUnended, at: 203 }));
+}
+
+#[test]
+fn errors_are_errors() {
+    fn told(error: impl core::error::Error + 'static) -> String {
+        Box::<dyn std::error::Error>::from(error).to_string()
+    }
+    let refused = Refused { cause: Cause::Short, at: 3 };
+    assert_eq!((told(refused), told(Error::from(refused))), ("short at 0x3".into(), "short at 0x3".into()));
+    assert_eq!(told(Error::Full), "no room for the answer");
+}
+
+#[test]
+fn each_byte_is_spelt() {
+    for byte in 0..=255 {
+        let wanted = match byte {
+            b'\\' => r"\\".to_string(),
+            0x20..=0x7e => char::from(byte).to_string(),
+            _ => format!("\\x{byte:02x}"),
+        };
+        assert_eq!(elfsee::spelt(&[byte]).to_string(), wanted);
+    }
+    assert_eq!(elfsee::spelt(b"").to_string(), "");
+}
+
+#[test]
 fn names_lie_in_any_bytes() {
     let file = File::new(b"\0ab\0cd");
     let all = elfsee::Range { at: 0, len: 6 };

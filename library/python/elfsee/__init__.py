@@ -3,9 +3,10 @@
     import elfsee
 
     with elfsee.File("/bin/ls") as file:
-        print(file.header.machine, [entry.string for entry in file.dynamic() if entry.tag == elfsee.DT_NEEDED])
+        print([entry.string for entry in file.dynamic() if entry.tag == elfsee.DynamicTag.NEEDED])
         for symbol in file.symbols():
-            print(symbol.name, hex(symbol.value))
+            if symbol.type == elfsee.SymbolType.FUNC:
+                print(elfsee.spelt(symbol.name), hex(symbol.value))
         print(file.text(elfsee.SEGMENTS), end="")
 
 A file may be anyone's: whatever its bytes are, each call comes back with an answer or raises one of
@@ -22,8 +23,12 @@ memoryview, mmap) is copied. So nobody can change a file while a call runs.
 THREADS. A File may be used by several threads at once: it is not written to. An iterator belongs to
 one thread at a time. The library's calls run without the interpreter's lock.
 
-THE LIBRARY is sought where the environment's ELFSEE_LIBRARY says, else beside this module, else in
-../out from here, else where the system keeps its libraries. ImportError tells where it is not.
+THE LIBRARY is sought where the environment's ELFSEE_LIBRARY says, else beside this module, where a wheel
+has it, else in library/out where this module is the repository's, else where the system keeps its
+libraries. ImportError tells where it is not.
+
+NUMBERS of the standards have names: SymbolType.FUNC, DynamicTag.NEEDED. Rows hold plain numbers, also such
+as have no name: compare them, or make a name of one by SymbolType(number) where that is known.
 """
 
 from __future__ import annotations
@@ -34,13 +39,29 @@ import enum
 import os
 import struct
 import types
-from typing import Any, Callable, Iterator, List, Mapping, NamedTuple, Optional, Sequence, Tuple, Union
+from typing import (TYPE_CHECKING, Any, Callable, Dict, Iterator, List, Mapping, NamedTuple, Optional, Sequence,
+                    Tuple, Union)
+
+from ._numbers import (DynamicFlag, DynamicFlag1, DynamicTag, FileType, Machine, RelocationType, SectionFlag,
+                       SectionType, SegmentFlag, SegmentType, SpecialSection, SymbolBinding, SymbolType,
+                       SymbolVisibility)
+
+if TYPE_CHECKING:
+    import array
+    import mmap
 
 __all__ = [
     "ALL", "DYNAMIC", "HEADER", "NOTES", "RELOCS", "SECTIONS", "SEGMENTS", "SYMBOLS",
     "Absent", "Cause", "Dynamic", "File", "Full", "Header", "Layout", "Listing", "Lookup", "Member",
     "Note", "Refused", "Relocation", "Resolved", "Section", "Segment", "Symbol", "SymbolVersion", "VERSION",
     "spelt",
+]
+# The numbers of the standards, and what is told of a cause.
+__all__ += [
+    "DT_NEEDED", "DT_NULL", "DT_RPATH", "DT_RUNPATH", "DT_SONAME", "DT_STRSZ", "DT_STRTAB", "DynamicFlag",
+    "DynamicFlag1", "DynamicTag", "FileType", "Machine", "RelocationType", "SectionFlag", "SectionType",
+    "SegmentFlag", "SegmentType", "SpecialSection", "SymbolBinding", "SymbolType", "SymbolVisibility",
+    "word_of",
 ]
 
 # The parts of a listing.
@@ -57,7 +78,13 @@ STRING_TAGS = frozenset((DT_NEEDED, DT_SONAME, DT_RPATH, DT_RUNPATH))
 BATCH = 4096
 
 Name = Union[str, bytes]
+# Addresses by names; a mapping of one kind of name is none of another's.
+Named = Union[Mapping[str, int], Mapping[bytes, int], Mapping[Name, int]]
+# A path, or a buffer with the file's bytes.
+Source = Union[str, "os.PathLike[str]", bytes, bytearray, memoryview, "mmap.mmap", "array.array[Any]"]
 Numbers = Tuple[int, ...]
+# Where a string table begins in the file, and where it ends.
+Places = Tuple[int, int]
 
 
 class Cause(enum.IntEnum):
@@ -159,7 +186,7 @@ def _to(kind: Any) -> Any:
 
 _TABLE = (*_FILE, _to(_Limits), _U16, *_ROOM, _to(_Rows), _to(_End))
 _STEP = (*_FILE, _to(_Rows), *_OUT)
-_CALLS = {
+_CALLS: Mapping[str, Tuple[Any, ...]] = {
     "version": (_U32,),
     "cause_word": (ctypes.c_size_t, _U32, *_OUT),
     "room": (_U64, *_FILE, _U16),
@@ -196,7 +223,10 @@ def _places() -> Iterator[str]:
         yield os.environ["ELFSEE_LIBRARY"]
         return
     here = os.path.dirname(os.path.abspath(__file__))
-    for folder in (here, os.path.join(os.path.dirname(here), "out")):
+    # In the repository this is library/python/elfsee.
+    library = os.path.dirname(os.path.dirname(here))
+    is_there = os.path.exists(os.path.join(library, "elfsee.h"))
+    for folder in (here, os.path.join(library, "out")) if is_there else (here,):
         for name in ("libelfsee.so.0", "libelfsee.so"):
             yield os.path.join(folder, name)
     yield "libelfsee.so.0"
@@ -207,7 +237,7 @@ def _places() -> Iterator[str]:
 
 def _loaded() -> ctypes.CDLL:
     """The library, with the types of its calls."""
-    sought = []
+    sought: List[str] = []
     for place in _places():
         if os.path.isabs(place) and not os.path.exists(place):
             sought.append(place + ": is not there")
@@ -227,7 +257,7 @@ def _loaded() -> ctypes.CDLL:
 
 _library = _loaded()
 # The library's version: its three numbers.
-VERSION = tuple(_library.elfsee_version() >> bits & 255 for bits in (16, 8, 0))
+VERSION: Tuple[int, ...] = tuple(_library.elfsee_version() >> bits & 255 for bits in (16, 8, 0))
 if VERSION[0] != 0:
     raise ImportError("the library elfsee has version %d.%d.%d, this module is for 0" % VERSION)
 
@@ -248,7 +278,7 @@ def spelt(name: Name) -> str:
 def word_of(cause: int) -> str:
     """The word of a cause, as a listing's last line has it; empty for a number that is no cause."""
     out = ctypes.create_string_buffer(32)
-    length = _library.elfsee_cause_word(_within("cause", cause, 0, (1 << 32) - 1), out, len(out))
+    length: int = _library.elfsee_cause_word(_within("cause", cause, 0, (1 << 32) - 1), out, len(out))
     return ctypes.string_at(out, length).decode("ascii")
 
 
@@ -275,7 +305,8 @@ class Absent(LookupError):
 
 
 # ---------------------------------------------------------------------------
-# What is answered. Fields have the standard's names (gABI, Object Files).
+# What is answered. Fields have the standard's names (gABI, Object Files). `index` is a field where there is one,
+# and not the method of a tuple.
 
 class Header(NamedTuple):
     """The file header."""
@@ -299,7 +330,7 @@ class Header(NamedTuple):
 class Section(NamedTuple):
     """A section header. `offset` and `size` are as the file says, and may lie outside of it."""
 
-    index: int
+    index: int  # type: ignore[assignment]
     name: bytes
     type: int
     flags: int
@@ -315,7 +346,7 @@ class Section(NamedTuple):
 class Segment(NamedTuple):
     """A program header. `offset` and `filesz` are as the file says, and may lie outside of it."""
 
-    index: int
+    index: int  # type: ignore[assignment]
     type: int
     flags: int
     offset: int
@@ -337,7 +368,7 @@ class Symbol(NamedTuple):
     info: int
     other: int
     table: int
-    index: int
+    index: int  # type: ignore[assignment]
 
     @property
     def type(self) -> int:
@@ -365,7 +396,7 @@ class Relocation(NamedTuple):
     addend: int
     name: bytes
     table: int
-    index: int
+    index: int  # type: ignore[assignment]
 
 
 class Note(NamedTuple):
@@ -389,13 +420,14 @@ class Dynamic(NamedTuple):
     value: int
     string: Optional[bytes]
     table: int
-    index: int
+    index: int  # type: ignore[assignment]
 
 
 class Member(NamedTuple):
     """A member of an archive. `at` is the offset of its header, `offset` that of its data, and `content`
     are these bytes of the archive, not copied: `File(member.content)` is the file that they are. Where the
-    name stands at the front of the data, as BSD's `ar` writes it, they begin behind it. `is_cut` tells that its name has more bytes than the 4,096 of `name`."""
+    name stands at the front of the data, as BSD's `ar` writes it, they begin behind it. `is_cut` tells that
+    its name has more bytes than the 4,096 of `name`."""
 
     name: bytes
     at: int
@@ -455,10 +487,10 @@ class Layout(NamedTuple):
     definitions and 32 entries of each kind; names of 1 to 255 bytes."""
 
     sections: Mapping[int, int] = _NOTHING
-    define: Mapping[Name, int] = _NOTHING
-    entries: Mapping[Name, int] = _NOTHING
-    table: Mapping[Name, int] = _NOTHING
-    thread: Mapping[Name, int] = _NOTHING
+    define: Named = _NOTHING
+    entries: Named = _NOTHING
+    table: Named = _NOTHING
+    thread: Named = _NOTHING
 
 
 # ---------------------------------------------------------------------------
@@ -477,7 +509,7 @@ def _name_bytes(name: Name, most: int) -> bytes:
     return text
 
 
-def _content(source: Union[str, bytes, "os.PathLike[str]", Any]) -> bytes:
+def _content(source: Source) -> bytes:
     """The bytes of a path, or of a buffer."""
     if isinstance(source, (str, os.PathLike)):
         with open(source, "rb") as file:
@@ -497,12 +529,19 @@ def _items_of(layout: Layout) -> List[Any]:
     items = [_Item(_within("an address", address, 0, MOST_NUMBER), b"", 0, 0,
                    _within("a section", index, 0, 65535))
              for index, address in layout.sections.items()]
-    named = (layout.define, layout.entries, layout.table, layout.thread)
+    named: Sequence[Named] = (layout.define, layout.entries, layout.table, layout.thread)
     for kind, addresses in enumerate(named, 1):
         for name, address in addresses.items():
             text = _name_bytes(name, 255)
             items.append(_Item(_within("an address", address, 0, MOST_NUMBER), text, len(text), kind, 0))
     return items
+
+
+def _always(strings: Places) -> Callable[[int], Places]:
+    """What tells one string table for the entry at any offset."""
+    def told(_: int) -> Places:
+        return strings
+    return told
 
 
 class File:
@@ -521,7 +560,7 @@ class File:
     does not end in its string table, it goes on, and here the fault is raised.
     """
 
-    def __init__(self, source: Union[str, bytes, "os.PathLike[str]", Any], *,
+    def __init__(self, source: Source, *,
                  headers: int = DEFAULT_HEADERS, budget: Optional[int] = None,
                  longest_name: int = 65536) -> None:
         self._limits = _limits_of(headers, DEFAULT_NAME, budget)
@@ -570,7 +609,8 @@ class File:
 
     def cost(self, name_cap: int = DEFAULT_NAME) -> int:
         """How many bytes a listing of a file of this length asks for at most, whatever its bytes are."""
-        return _library.elfsee_cost(len(self.data), _limits_of(self._headers, name_cap, self._budget))
+        cost: int = _library.elfsee_cost(len(self.data), _limits_of(self._headers, name_cap, self._budget))
+        return cost
 
     def show(self, parts: int = ALL, name_cap: int = DEFAULT_NAME, most: int = 1 << 30) -> Listing:
         """A listing of some parts, with so many bytes of a name. It is what the program elfsee prints,
@@ -655,7 +695,8 @@ class File:
             status, _ = self._call("section", section, row)
         except Refused:
             return 0
-        return min(row.size, len(self.data)) if status == _OK and row.type != SHT_NOBITS else 0
+        size: int = row.size
+        return min(size, len(self.data)) if status == _OK and row.type != SHT_NOBITS else 0
 
     # -----------------------------------------------------------------------
     # Headers.
@@ -669,7 +710,7 @@ class File:
                       row.ehsize, row.phentsize, row.phnum, row.shentsize, row.shnum, row.shstrndx,
                       bytes(row.ident))
 
-    def _names_of_sections(self) -> Tuple[int, int]:
+    def _names_of_sections(self) -> Places:
         """Where the string table of the section names lies; it has no bytes where there is none. This
         runs the checks that every listing of headers begins with."""
         names = _Range()
@@ -681,7 +722,8 @@ class File:
         string table of the names is the first."""
         if self._sections is None:
             self._names_of_sections()
-            row, rows = _Section(), []
+            row = _Section()
+            rows: List[Numbers] = []
             for index in range(self.header.shnum):
                 self._call("section", index, row)
                 rows.append((row.name, row.type, row.flags, row.addr, row.offset, row.size, row.link,
@@ -743,7 +785,7 @@ class File:
             count = step(data, len(data), rows, lent, BATCH)
             yield struct.iter_unpack(form, view[:size * count])
 
-    def _name(self, strings: Tuple[int, int], offset: int, entry: int) -> bytes:
+    def _name(self, strings: Places, offset: int, entry: int) -> bytes:
         """The name at an offset of the string table from the first of two places to the other, which
         the library told; a fault is that of the entry at `entry`."""
         start, (first, last) = strings[0] + offset, strings
@@ -767,7 +809,8 @@ class File:
 
     def _symbols_of(self, table: int) -> Iterator[Symbol]:
         rows = self._opened("symbols", table)
-        data, find, make, longest = self.data, self.data.find, tuple.__new__, self._longest + 1
+        data, find, longest = self.data, self.data.find, self._longest + 1
+        make: Callable[..., Any] = tuple.__new__
         strings, at, index = (rows.strings_at, rows.strings_at + rows.strings_len), rows.at, 0
         first, last = strings
         for batch in self._batches("next_symbols", rows, _SYMBOL_FORM):
@@ -788,9 +831,11 @@ class File:
 
     def _relocations_of(self, table: int) -> Iterator[Relocation]:
         rows = self._opened("relocations", table)
-        at, index, make = rows.at, 0, tuple.__new__
         # What an empty table links to is not looked at.
-        name_of = self._symbol_names(table) if rows.count else None
+        if not rows.count:
+            return
+        at, index, name_of = rows.at, 0, self._symbol_names(table)
+        make: Callable[..., Any] = tuple.__new__
         for batch in self._batches("next_relocations", rows, _RELOCATION_FORM):
             for offset, info, addend in batch:
                 symbol = info >> 32
@@ -801,10 +846,12 @@ class File:
     def _symbol_names(self, table: int) -> Callable[[int, int], bytes]:
         """What names the symbol of an index, for an entry at an offset, in a table of entries."""
         sections = self._section_rows()
-        link, symbols = sections[table][6], None
+        link = sections[table][6]
+        symbols: Any = None
         if link < len(sections) and sections[link][1] in (SHT_SYMTAB, SHT_DYNSYM):
             symbols = self._opened("symbols", link)
         unpack, content = struct.Struct("<I").unpack_from, self.data
+        strings = (symbols.strings_at, symbols.strings_at + symbols.strings_len) if symbols else (0, 0)
 
         def name_of(symbol: int, entry: int) -> bytes:
             if symbols is None:
@@ -814,7 +861,6 @@ class File:
             at = symbols.at + 24 * symbol
             return self._name(strings, unpack(content, at)[0], at)
 
-        strings = (symbols.strings_at, symbols.strings_at + symbols.strings_len) if symbols else (0, 0)
         return name_of
 
     def notes(self) -> Iterator[Note]:
@@ -846,7 +892,8 @@ class File:
         found = _Range()
         status, _ = self._call("mapped", _within("address", address, 0, MOST_NUMBER),
                                _within("size", size, 0, MOST_NUMBER), found)
-        return found.at if status == _OK else None
+        at: int = found.at
+        return at if status == _OK else None
 
     def dynamic(self, section: Optional[int] = None) -> Iterator[Dynamic]:
         """The dynamic entries of a section, or of all of them, up to and with the first of tag NULL. In
@@ -859,10 +906,9 @@ class File:
             return
         for table in self._tables(section, (SHT_DYNAMIC,)):
             rows = self._opened("dynamic", table)
-            strings = rows.strings_at, rows.strings_at + rows.strings_len
-            yield from self._entries(rows, table, lambda entry, places=strings: places)
+            yield from self._entries(rows, table, _always((rows.strings_at, rows.strings_at + rows.strings_len)))
 
-    def _entries(self, rows: Any, table: int, strings: Callable[[int], Tuple[int, int]]) -> Iterator[Dynamic]:
+    def _entries(self, rows: Any, table: int, strings: Callable[[int], Places]) -> Iterator[Dynamic]:
         """The dynamic entries of a table; `strings` tells the string table for the entry at an offset."""
         at, index = rows.at, 0
         for batch in self._batches("next_dynamic", rows, _DYNAMIC_FORM):
@@ -872,16 +918,18 @@ class File:
                 yield Dynamic(tag, value, text, table, index)
                 index += 1
 
-    def _mapped_strings(self, rows: Any) -> Callable[[int], Tuple[int, int]]:
+    def _mapped_strings(self, rows: Any) -> Callable[[int], Places]:
         """What tells the string table of a segment's dynamic entries, which its first entries of two
         tags place in memory, for the entry at an offset."""
-        again, first = _Rows(rows.at, rows.count, 0, rows.entry, 0, 0), {}
+        again = _Rows(rows.at, rows.count, 0, rows.entry, 0, 0)
+        first: Dict[int, int] = {}
         for batch in self._batches("next_dynamic", again, _DYNAMIC_FORM):
             for tag, value in batch:
                 if tag in (DT_STRTAB, DT_STRSZ):
                     first.setdefault(tag, value)
+        found: List[Places] = []
 
-        def strings(entry: int) -> Tuple[int, int]:
+        def strings(entry: int) -> Places:
             if not found:
                 place = self.mapped(first[DT_STRTAB], first[DT_STRSZ]) if len(first) == 2 else None
                 if place is None:
@@ -889,5 +937,4 @@ class File:
                 found.append((place, place + first[DT_STRSZ]))
             return found[0]
 
-        found: List[Tuple[int, int]] = []
         return strings
