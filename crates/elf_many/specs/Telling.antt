@@ -1,7 +1,7 @@
 -- What is told of one file among many.
 use Rattle.std.specs.Prelude.{ℕ, ◌≡◌, List, max, Some, Result, OnOk}
-use Rattle.elf_check.specs.Checked.{FailsRead, Finds}
-use Rattle.elf_check.specs.Statuses.{state_status}
+use Rattle.elf_many.specs.Checked.{FailsRead, Finds}
+use Rattle.elf_many.specs.Statuses.{state_status}
 use Rattle.elf_headers.specs.declared.caps.Caps.{Caps}
 use Rattle.elf_model.specs.Checking.{check_line}
 use Rattle.elf_model.specs.declared.states.FileState.{FileState}

@@ -1,13 +1,14 @@
 //! What is kept from one file to the next, and the lines.
 ghost use Rattle.std.specs.Prelude.{◌≡◌, ◌+◌, ◌-◌, ◌^◌, ◌<◌, ◌≤◌, ℕ, List, Some, max, min, OnOk, Ok};
-ghost use Rattle.elf_check.specs.Checked.{AsksFor, check_cost};
+ghost use Rattle.elf_many.specs.Checked.{AsksFor, check_cost};
 ghost use Rattle.elf_headers.specs.Permitted.{style_of};
-ghost use Rattle.elf_check.specs.Statuses.{state_status};
+ghost use Rattle.elf_many.specs.Statuses.{state_status};
 ghost use Rattle.elf_many.specs.Telling.{TellsOf};
 ghost use Rattle.elf_model.specs.Checking.{check_line, unnamed_line};
 ghost use Rattle.elf_source.specs.Output.{Puts};
 
-use elf_check::{check, worse};
+use crate::checking::check;
+use crate::statuses::worse;
 use elf_lines::{show_check, show_unnamed};
 use elf_model::FileState;
 use elf_record::Parts;
