@@ -6,5 +6,6 @@ pub mod PassLaws
 pub mod MemberLaws
 pub mod FrontLaws
 pub mod HeldLaws
+pub mod RoomLaws
 pub mod SortedLaws
 pub mod StackedLaws

@@ -1,6 +1,7 @@
 -- The names of a folder that are kept, a pass at a time.
 use Rattle.std.specs.Prelude.{ℕ, ◌≡◌, ◌≤◌, Bool, true, false, not, ◌&&◌, ◌||◌, List, [], ◌∷◌, ◌++◌, length, codes, bytes_eq, IsUtf8}
 use Rattle.std.specs.Ordering.{is_gt, is_lt}
+use Rattle.elf_many.specs.Held.{IsEnough, IsWithinRoom}
 use Rattle.elf_many.specs.Order.{order}
 use Rattle.elf_many.specs.Passes.{in_order, behind}
 
@@ -45,3 +46,8 @@ Keeps names kept = IsFront kept.limit kept.more kept.names (in_order (behind kep
 -- a name has its place among those that are kept
 abbrev pub wants : List ℕ → Kept → Bool
 wants name kept = is_gt (order name kept.after) && (not kept.more || is_lt (order name kept.limit))
+
+-- HOW MUCH IS HELD of a folder: no more than there is memory for, and where the folder has more names, as many as are kept
+pub record HoldsWithin (kept : Kept) : Type 0 where
+  pub room : IsWithinRoom kept.held
+  pub enough : kept.more ≡ true → IsEnough kept.names

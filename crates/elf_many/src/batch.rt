@@ -1,7 +1,8 @@
 //! The names in a folder, in order, a pass at a time.
 ghost use Rattle.std.specs.Prelude.{◌≡◌, ◌<◌, ◌++◌, ◌∷◌, List, ℕ, suc, slice_index_or, true, false, IfOk, IfSome, IsNone, OnOk, Ok, [], length, take};
 ghost use Rattle.std.specs.List.Sorted.{IsSorted};
-ghost use Rattle.elf_many.specs.Kept.{IsFront, IsNameable, Keeps, is_dots, wants};
+ghost use Rattle.elf_many.specs.Held.{IsEnough, IsWithinKept, LeavesRoom, IsSettled};
+ghost use Rattle.elf_many.specs.Kept.{HoldsWithin, IsFront, IsNameable, Keeps, is_dots, wants};
 ghost use Rattle.elf_many.specs.Order.{order};
 ghost use Rattle.elf_many.specs.Passes.{in_order};
 
@@ -75,6 +76,7 @@ impl Batch {
         ensures keeps { Keeps [] self.new }
         ensures after { self.new.after ≡ after.now.items }
         ensures more { self.new.more ≡ false }
+        ensures room { HoldsWithin self.new }
     {
         self.kept.clear();
         self.after = copied(after);
@@ -99,9 +101,12 @@ impl Batch {
             (result ≡ Ok Put.Unnamed) × (self.new ≡ self.old) }
         ensures placed { is_dots name.now ≡ false → IsNameable name.now →
             OnOk result (result ≡ Ok Put.Placed) }
+        ensures named { result ≡ Ok Put.Placed → is_dots name.now ≡ false →
+            IsNameable name.now }
         ensures keeps { is_dots name.now ≡ false → IsNameable name.now →
             OnOk result ((names : List (List ℕ)) → Keeps names self.old →
             Keeps (names ++ name.now ∷ []) self.new) }
+        ensures room { OnOk result (HoldsWithin self.old → HoldsWithin self.new) }
         ensures after { self.new.after ≡ self.old.after }
     {
         if is_dots(name) {
@@ -121,6 +126,7 @@ impl Batch {
     fn hold(&mut self, name: &[u8]) -> Result<(), AllocError>
         ensures keeps { OnOk result ((names : List (List ℕ)) → Keeps names self.old →
             Keeps (names ++ name.now ∷ []) self.new) }
+        ensures room { OnOk result (HoldsWithin self.old → HoldsWithin self.new) }
         ensures after { self.new.after ≡ self.old.after }
     {
         self.make_room()?;
@@ -137,6 +143,9 @@ impl Batch {
     fn make_room(&mut self) -> Result<(), AllocError>
         ensures keeps { OnOk result ((names : List (List ℕ)) → Keeps names self.old →
             Keeps names self.new) }
+        ensures enough { OnOk result (HoldsWithin self.old → self.new.more ≡ true →
+            IsEnough self.new.names) }
+        ensures room { OnOk result (LeavesRoom self.new.held) }
         ensures after { self.new.after ≡ self.old.after }
     {
         if self.kept.is_full() {
@@ -161,6 +170,9 @@ impl Batch {
         ensures names { OnOk result (self.new.held ≡ self.new.names) }
         ensures keeps { OnOk result ((names : List (List ℕ)) → Keeps names self.old →
             Keeps names self.new) }
+        ensures within { OnOk result (IsWithinKept self.new.held) }
+        ensures enough { OnOk result (HoldsWithin self.old → self.new.more ≡ true →
+            IsEnough self.new.names) }
         ensures after { self.new.after ≡ self.old.after }
     {
         settle(
@@ -209,6 +221,7 @@ fn settle(
         IsFront limit.old.items more.old (in_order kept.old) all →
         IsFront limit.new.items more.new (in_order kept.new) all) }
     ensures order { OnOk result (in_order kept.new ≡ kept.new) }
+    ensures settles { OnOk result (IsSettled more.old more.new (in_order kept.old) kept.new) }
 {
     kept.sort();
     spare.clear();
@@ -252,6 +265,8 @@ fn put_first(from: &Names, to: &mut Names) -> Result<bool, AllocError>
     ensures whole { result ≡ Ok true → to.new ≡ from.now }
     ensures front { result ≡ Ok false → (to.new ≡ take (length to.new) from.now)
         × (0 < length to.new) × (length to.new < length from.now) }
+    ensures within { OnOk result (IsWithinKept to.new) }
+    ensures enough { result ≡ Ok false → IsEnough to.new }
 {
     for i in 0..from.len() {
         if to.is_enough() {

@@ -1,8 +1,8 @@
 //! Names in memory that is taken once.
-ghost use Rattle.std.specs.Prelude.{◌≡◌, ◌≤◌, ◌<◌, ◌++◌, ◌∷◌, [], false, IfOk, IfSome, IsNone, OnOk, length, slice_index_or, take, drop};
+ghost use Rattle.std.specs.Prelude.{◌≡◌, ◌+◌, ◌≤◌, ◌<◌, ◌++◌, ◌∷◌, [], true, false, IfOk, IfSome, IsNone, OnOk, length, slice_index_or, take, drop};
 ghost use Rattle.std.specs.List.Sorted.{IsPermutation, IsSorted};
 ghost use Rattle.elf_many.specs.Order.{order};
-ghost use Rattle.elf_many.specs.Held.{repeats};
+ghost use Rattle.elf_many.specs.Held.{IsEnough, IsFew, LeavesRoom, bytes_held, repeats};
 
 use std::alloc::{AllocError, Global};
 use std::marker::Model;
@@ -37,14 +37,15 @@ struct Place {
 }
 
 impl Model for Names {
-    ghost use Rattle.std.specs.Prelude.{◌≤◌, ◌+◌, ℕ, List, map, All, length};
+    ghost use Rattle.std.specs.Prelude.{◌≡◌, ◌≤◌, ◌+◌, ℕ, List, map, All, length, sum_by};
     ghost use Rattle.elf_many.specs.Held.{piece};
 
     ghost Value = { List (List ℕ) };
 
     ghost view = { λ n. map (λ p. piece n.bytes.items p.start p.len) n.places.items };
 
-    ghost invariant = { λ n. All (λ p. p.start + p.len ≤ length n.bytes.items) n.places.items };
+    ghost invariant = { λ n. (All (λ p. p.start + p.len ≤ length n.bytes.items) n.places.items)
+        × (sum_by (λ p. p.len) n.places.items ≡ length n.bytes.items) };
 }
 
 impl Names {
@@ -75,6 +76,13 @@ impl Names {
         self.places.len()
     }
 
+    /// How many bytes the names have together.
+    fn size(&self) -> usize
+        ensures { result ≡ bytes_held self.now }
+    {
+        self.bytes.len()
+    }
+
     /// The name at an index.
     pub fn get(&self, index: usize) -> Option<&[u8]>
         ensures some { IfSome result (λ n. (index < length self.now)
@@ -88,16 +96,19 @@ impl Names {
     }
 
     /// Whether there is no room for one more name.
-    pub(crate) fn is_full(&self) -> bool {
-        self.places.len() >= MOST_NAMES || self.bytes.len() > MOST_BYTES - NAME_BYTES
+    pub(crate) fn is_full(&self) -> bool
+        ensures { result ≡ false → LeavesRoom self.now }
+    {
+        self.len() >= MOST_NAMES || self.size() > MOST_BYTES - NAME_BYTES
     }
 
     /// Whether these are as many names as are kept where there are more.
     pub(crate) fn is_enough(&self) -> bool
-        ensures { self.now ≡ [] → result ≡ false }
+        ensures none { self.now ≡ [] → result ≡ false }
+        ensures enough { result ≡ true → IsEnough self.now }
+        ensures few { result ≡ false → 0 < length self.now → IsFew self.now }
     {
-        !self.places.is_empty()
-            && (self.places.len() >= KEPT_NAMES || self.bytes.len() >= KEPT_BYTES)
+        self.len() > 0 && (self.len() >= KEPT_NAMES || self.size() >= KEPT_BYTES)
     }
 
     /// Puts a name behind the others.
@@ -105,7 +116,8 @@ impl Names {
     /// # Errors
     /// Where memory is refused, or the name has more than 255 bytes; the names stay.
     pub(crate) fn push(&mut self, name: &[u8]) -> Result<(), AllocError>
-        ensures { OnOk result (self.new ≡ self.old ++ name.now ∷ []) }
+        ensures pushed { OnOk result (self.new ≡ self.old ++ name.now ∷ []) }
+        ensures short { OnOk result (length name.now ≤ 255) }
     {
         let (Ok(start), Ok(len)) = (u32::try_from(self.bytes.len()), u8::try_from(name.len()))
         else {
@@ -113,6 +125,7 @@ impl Names {
         };
         self.bytes.extend_from_slice(name)?;
         if self.places.push(Place { start, len }).is_err() {
+            self.bytes.truncate(start as usize);
             return Err(AllocError);
         }
         Ok(())

@@ -20,5 +20,5 @@ loop-i-preserved c =
     let within : c.loop-i.i < length c.args.from.now = search rules in
     let name : c.in-Some.name.now ≡ slice_index_or c.args.from.now c.loop-i.i [] = search rules in
     rw (add-one)
-    (c.in_ok-push.ensures ∙ ap (λ l. l ++ c.in-Some.name.now ∷ []) c.loop-i.invariant
+    (c.in_ok-push.ensures.pushed ∙ ap (λ l. l ++ c.in-Some.name.now ∷ []) c.loop-i.invariant
     ∙ ap (λ n. in_order (take c.loop-i.i c.args.from.now) ++ n ∷ []) name ∙ added c.args.from.now c.loop-i.i within c.requires.sorted is)

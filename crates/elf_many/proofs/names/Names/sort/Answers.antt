@@ -1,6 +1,6 @@
-use Rattle.std.proofs.Common.{rules, ◌+◌, ◌≤◌, length}
+use Rattle.std.proofs.Common.{rules, ◌+◌, ◌≤◌, ◌∙◌, length}
 use Rattle.std.proofs.lemmas.Cmp.{nat_list_cmp_total}
-use Rattle.std.proofs.lemmas.List.Sorted.{All-permutation, IsPermutation-map, ranks_by}
+use Rattle.std.proofs.lemmas.List.Sorted.{All-permutation, IsPermutation-map, ranks_by, sum_by-IsPermutation}
 use Rattle.std.specs.Ordering.{is_lt}
 use Rattle.elf_many.specs.Held.{piece}
 use Rattle.elf_many.specs.Order.{order}
@@ -8,7 +8,10 @@ use Rattle.elf_many.proofs.HeldLaws.{answers_so, sorted_mapped}
 use Rattle.elf_many.proofs.names.Names.sort.Goals as goal
 
 pub invariant_of-self : goal.invariant_of-self
-invariant_of-self c = All-permutation (λ p. p.start + p.len ≤ length c.self.inside.bytes.items) _ _ c.sort_unstable_by.ensures.permutation (search rules)
+invariant_of-self c = (
+  All-permutation (λ p. p.start + p.len ≤ length c.self.inside.bytes.items) _ _ c.sort_unstable_by.ensures.permutation c.self.invariant.0,
+  sum_by-IsPermutation (λ p. p.len) _ _ c.sort_unstable_by.ensures.permutation ∙ c.self.invariant.1,
+)
 
 pub returns-clause-permutation : goal.returns-clause-permutation
 returns-clause-permutation c = rw (← c.self.view_is) (IsPermutation-map (λ p. piece c.self.inside.bytes.items p.start p.len) _ _ c.sort_unstable_by.ensures.permutation)
