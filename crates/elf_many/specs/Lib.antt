@@ -1,1 +1,10 @@
+pub mod Checked
+pub mod Held
+pub mod Joined
+pub mod Kept
+pub mod Order
+pub mod Pass
+pub mod Passes
+pub mod Stacked
+pub mod Statuses
 pub mod Telling

@@ -1,19 +1,20 @@
 //! What is kept from one file to the next, and the lines.
 ghost use Rattle.std.specs.Prelude.{◌≡◌, ◌+◌, ◌-◌, ◌^◌, ◌<◌, ◌≤◌, ℕ, List, Some, max, min, OnOk, Ok};
-ghost use Rattle.elf_check.specs.Checked.{AsksFor, check_cost};
 ghost use Rattle.elf_headers.specs.Permitted.{style_of};
-ghost use Rattle.elf_check.specs.Statuses.{state_status};
-ghost use Rattle.elf_many.specs.Telling.{TellsOf};
-ghost use Rattle.elf_model.specs.Checking.{check_line, unnamed_line};
+ghost use Rattle.elf_many.specs.Checked.{AsksFor, check_cost};
+ghost use Rattle.elf_many.specs.Telling.{KeepsAsked, TellsLine, TellsOf};
+ghost use Rattle.elf_model.specs.Checking.{unnamed_line};
 ghost use Rattle.elf_source.specs.Output.{Puts};
 
-use elf_check::{check, worse};
+use crate::checking::check;
+use crate::statuses::worse;
 use elf_lines::{show_check, show_unnamed};
 use elf_model::FileState;
 use elf_record::Parts;
 use elf_source::{Counted, Out, OutFault, Sink, Source};
 use elf_table::{Caps, HeaderStore};
 use std::io::Write;
+use std::marker::Model;
 
 /// How many files are checked between two words of how far it is.
 const TELL_EVERY: u64 = 512;
@@ -21,15 +22,31 @@ const TELL_EVERY: u64 = 512;
 /// A check of many files: what each file's check uses again, and what has come of them so far.
 #[derive(Drop)]
 pub struct Checks<'a, W: Sink, E: Write + Drop> {
-    pub(crate) out: Out<W>,
-    pub(crate) store: HeaderStore<'a>,
-    pub(crate) caps: Caps,
-    pub(crate) parts: Parts,
-    pub(crate) status: u8,
-    pub(crate) unnamed: u64,
-    pub(crate) files: u64,
-    pub(crate) terminal: Option<E>,
-    pub(crate) ghost slots: { store.slots ≡ caps.limits.headers },
+    out: Out<W>,
+    store: HeaderStore<'a>,
+    caps: Caps,
+    parts: Parts,
+    status: u8,
+    unnamed: u64,
+    files: u64,
+    terminal: Option<E>,
+}
+
+impl<'a, W: Sink, E: Write + Drop> Model for Checks<'a, W, E> {
+    ghost use Rattle.std.specs.Prelude.{◌≡◌};
+    ghost use Rattle.elf_many.specs.Telling.{Tally};
+
+    ghost Value = { Tally };
+
+    ghost view = { λ c. record {
+      out = c.out;
+      caps = c.caps;
+      parts = c.parts.0;
+      status = c.status;
+      unnamed = c.unnamed;
+    } };
+
+    ghost invariant = { λ c. c.store.slots ≡ c.caps.limits.headers };
 }
 
 impl<'a, W: Sink, E: Write + Drop> Checks<'a, W, E> {
@@ -44,7 +61,7 @@ impl<'a, W: Sink, E: Write + Drop> Checks<'a, W, E> {
     ) -> Self
         requires { store.slots ≡ caps.limits.headers }
         ensures out { result.out ≡ out }
-        ensures asked { (result.caps ≡ caps) × (result.parts ≡ parts) }
+        ensures asked { (result.caps ≡ caps) × (result.parts ≡ parts.0) }
         ensures status { result.status ≡ 0 }
         ensures unnamed { result.unnamed ≡ 0 }
     {
@@ -72,15 +89,12 @@ impl<'a, W: Sink, E: Write + Drop> Checks<'a, W, E> {
         path: &[u8],
     ) -> Result<(), OutFault>
         requires { src.old.asked ≤ 2 ^ 127 }
-        ensures tells { TellsOf self.old.caps self.old.parts.0 path.now src.old src.new result
-            self.old.out self.new.out self.old.status self.new.status }
+        ensures tells { TellsOf path.now src.old src.new result self.old self.new }
         ensures cost { (file : List ℕ) → src.old.seen.file ≡ Some file →
             src.new.asked ≤ src.old.asked + check_cost file self.old.caps.limits.headers
-            (style_of self.old.caps.style) self.old.parts.0 }
+            (style_of self.old.caps.style) self.old.parts }
         // For every source.
         ensures asks { AsksFor self.old.caps src.old src.new }
-        ensures unnamed { self.new.unnamed ≡ self.old.unnamed }
-        ensures asked { (self.new.caps ≡ self.old.caps) × (self.new.parts ≡ self.old.parts) }
     {
         let state = check(src, &mut self.store, self.caps, self.parts);
         self.tell(state, path)
@@ -91,11 +105,7 @@ impl<'a, W: Sink, E: Write + Drop> Checks<'a, W, E> {
     /// # Errors
     /// A fault of the output, with a front of the line written.
     pub(crate) fn tell(&mut self, state: FileState, path: &[u8]) -> Result<(), OutFault>
-        ensures puts { Puts self.old.out self.new.out result (check_line state path.now) }
-        ensures status { OnOk result
-            (self.new.status ≡ max self.old.status (state_status state)) }
-        ensures unnamed { self.new.unnamed ≡ self.old.unnamed }
-        ensures asked { (self.new.caps ≡ self.old.caps) × (self.new.parts ≡ self.old.parts) }
+        ensures { TellsLine state path.now result self.old self.new }
     {
         show_check(state, path, &mut self.out)?;
         self.status = worse(self.status, state);
@@ -109,17 +119,14 @@ impl<'a, W: Sink, E: Write + Drop> Checks<'a, W, E> {
         ensures unnamed { self.new.unnamed ≡ min (self.old.unnamed + count) (2 ^ 64 - 1) }
         ensures out { self.new.out ≡ self.old.out }
         ensures status { self.new.status ≡ self.old.status }
-        ensures asked { (self.new.caps ≡ self.old.caps) × (self.new.parts ≡ self.old.parts) }
+        ensures asked { KeepsAsked self.old self.new }
     {
         self.unnamed = self.unnamed.saturating_add(count);
     }
 
     /// Tells a terminal how far the check is, now and then.
     fn tell_terminal(&mut self)
-        ensures out { self.new.out ≡ self.old.out }
-        ensures status { self.new.status ≡ self.old.status }
-        ensures unnamed { self.new.unnamed ≡ self.old.unnamed }
-        ensures asked { (self.new.caps ≡ self.old.caps) × (self.new.parts ≡ self.old.parts) }
+        ensures { self.new ≡ self.old }
     {
         if self.files % TELL_EVERY != 0 {
             return;
@@ -151,9 +158,7 @@ impl<'a, W: Sink, E: Write + Drop> Checks<'a, W, E> {
 
     /// Takes back what a terminal was told.
     fn clear_terminal(&mut self)
-        ensures out { self.new.out ≡ self.old.out }
-        ensures status { self.new.status ≡ self.old.status }
-        ensures unnamed { self.new.unnamed ≡ self.old.unnamed }
+        ensures { self.new ≡ self.old }
     {
         if self.files < TELL_EVERY {
             return;

@@ -1,7 +1,8 @@
 //! The names in a folder, read in passes.
+use crate::batch::{Batch, Put};
+use crate::entries::ends_at;
 use crate::opening::unopened;
 use elf_model::FileState;
-use elf_paths::{Batch, Put, ends_at};
 use std::alloc::AllocError;
 use std::io::{ErrorKind, Read};
 use std::rt::Files;

@@ -1,8 +1,8 @@
 //! A list of paths, each ended by NUL.
 use crate::checks::Checks;
+use crate::entries::entry_end;
 use crate::paths::check_path;
 use crate::walk::Walk;
-use elf_paths::entry_end;
 use elf_source::{OutFault, Sink};
 use std::io::{ErrorKind, Read, Write};
 use std::os::unix::fs::FileExt;

@@ -1,5 +1,6 @@
 //! One file, opened and checked.
 ghost use Rattle.std.specs.Prelude.{◌≡◌};
+ghost use Rattle.elf_many.specs.Telling.{TellsFile};
 ghost use Rattle.elf_model.specs.declared.states.FileState.TheVariants.{Memory, Unread};
 ghost use Rattle.std.specs.IoError.{error_kind};
 
@@ -33,6 +34,7 @@ pub(crate) fn check_file<R: Files, W: Sink, E: Write + Drop>(
 ) -> Result<(), OutFault>
 where
     R::File: FileExt,
+    ensures { TellsFile path.now result checks.old checks.new }
 {
     match open(rt, path) {
         Ok(source) => checks.check_source(&mut Counted::new(source), path.as_bytes()),

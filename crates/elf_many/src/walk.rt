@@ -1,9 +1,11 @@
 //! Folders, gone through in the order of their names.
+use crate::batch::{Batch, Name};
 use crate::checks::Checks;
 use crate::folders::gather;
 use crate::opening::{check_file, unopened};
+use crate::path::{PathText, join};
+use crate::stack::{STACK_BYTES, Stack, count_within};
 use elf_model::FileState;
-use elf_paths::{Batch, Name, PathText, STACK_BYTES, Stack, count_within, join};
 use elf_source::{OutFault, Sink};
 use std::alloc::{AllocError, Global};
 use std::io::Write;

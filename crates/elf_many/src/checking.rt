@@ -1,0 +1,65 @@
+//! The check of one file.
+ghost use Rattle.elf_headers.specs.Permitted.{style_of};
+ghost use Rattle.std.specs.Prelude.{◌≡◌, ◌+◌, ◌≤◌, ◌^◌, ℕ, List, Some, if◌then◌else◌};
+ghost use Rattle.elf_model.specs.Checking.{is_not_elf};
+ghost use Rattle.elf_model.specs.declared.states.FileState.TheVariants.{NoElf, Refused};
+ghost use Rattle.elf_many.specs.Checked.{AsksFor, FailsRead, Finds, check_cost};
+ghost use Rattle.elf_listing.specs.Reports.{Leaves};
+
+use crate::short::check_short;
+use elf_listing::show;
+use elf_model::{Cause, FileState, Refusal};
+use elf_record::Parts;
+use elf_source::{Counted, NullSink, Out, Source};
+use elf_table::{Caps, HeaderStore, Stop};
+
+/// How many bytes a file header has.
+const HEADER_BYTES: u64 = 64;
+
+/// Checks one file: goes through its listing, as far as `parts` has it, and answers the state that
+/// the first fault gives, or that there is none. Nothing is written. The store has a slot for each
+/// header that the caps permit; what it and the source held before is of no account, and at most
+/// 2^127 bytes were asked of the source. Where the caps have a budget no more is read; afterwards
+/// no limit is set.
+pub fn check<S: Source>(
+    src: &mut Counted<S>,
+    store: &mut HeaderStore,
+    caps: Caps,
+    parts: Parts,
+) -> FileState
+    requires { (store.old.slots ≡ caps.limits.headers) × (src.old.asked ≤ 2 ^ 127) }
+    ensures slots { store.new.slots ≡ store.old.slots }
+    ensures leaves { Leaves src.old src.new }
+    ensures state { (file : List ℕ) → src.old.seen.file ≡ Some file →
+        Finds caps parts.0 file result }
+    ensures cost { (file : List ℕ) → src.old.seen.file ≡ Some file →
+        src.new.asked ≤ src.old.asked
+        + check_cost file caps.limits.headers (style_of caps.style) parts.0 }
+    // For every source.
+    ensures read { FailsRead src.old src.new result }
+    ensures asks { AsksFor caps src.old src.new }
+{
+    if src.length() < HEADER_BYTES {
+        return check_short(src, caps);
+    }
+    let mut out = Out::new(NullSink);
+    let listed = show(src, store, caps, parts, &mut out);
+    let _sink = out.into_inner();
+    match listed {
+        Ok(()) => FileState::Ok,
+        Err(Stop::Refused(refusal)) => judged(refusal),
+        Err(Stop::Source { .. }) => FileState::Unread,
+        // Not reached: the sink never fails.
+        Err(Stop::Out(_)) => FileState::Unread,
+    }
+}
+
+/// The state of a file that has room for a file header, by its refusal.
+fn judged(refusal: Refusal) -> FileState
+    ensures { result ≡ (if is_not_elf refusal.cause then NoElf else Refused refusal) }
+{
+    match refusal.cause {
+        Cause::NotElf => FileState::NoElf,
+        _ => FileState::Refused(refusal),
+    }
+}

@@ -1,0 +1,24 @@
+//! The exit status of a check over many files.
+ghost use Rattle.std.specs.Prelude.{◌≡◌, max};
+ghost use Rattle.elf_many.specs.Statuses.{state_status};
+
+use elf_model::FileState;
+
+/// The exit status that a file's state calls for: 0 where it has no fault or is of another kind, 1
+/// where it is refused, 3 where it could not be read or there was no memory.
+pub fn status(state: FileState) -> u8
+    ensures { result ≡ state_status state }
+{
+    match state {
+        FileState::Ok | FileState::NoElf => 0,
+        FileState::Refused(_) => 1,
+        FileState::Unread | FileState::Memory => 3,
+    }
+}
+
+/// The exit status of a check, `status` so far, after one more file with this state: the larger one.
+pub fn worse(status_so_far: u8, state: FileState) -> u8
+    ensures { result ≡ max status_so_far (state_status state) }
+{
+    status_so_far.max(status(state))
+}

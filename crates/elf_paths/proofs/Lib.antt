@@ -1,9 +1,0 @@
-pub mod AllNamesLaws
-pub mod AscendLaws
-pub mod OrderLaws
-pub mod PassLaws
-pub mod MemberLaws
-pub mod FrontLaws
-pub mod HeldLaws
-pub mod SortedLaws
-pub mod StackedLaws
