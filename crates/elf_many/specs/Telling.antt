@@ -24,7 +24,7 @@ pub record KeepsAsked (old new : Tally) : Type 0 where
 
 -- the line of one file, and the status that its state calls for; at a fault of the output the status stays
 pub record TellsLine {X : Type 0} (state : FileState) (path : List ℕ) (result : Result X OutFault) (old new : Tally) : Type 0 where
-  pub puts : Puts old.out new.out result (check_line state path)
+  pub puts : Puts old.out new.out result (check_line old.caps.style.format state path)
   pub status : OnOk result (new.status ≡ max old.status (state_status state))
   pub stays : OnErr result (new.status ≡ old.status)
   pub unnamed : new.unnamed ≡ old.unnamed

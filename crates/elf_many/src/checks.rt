@@ -107,7 +107,7 @@ impl<'a, W: Sink, E: Write + Drop> Checks<'a, W, E> {
     pub(crate) fn tell(&mut self, state: FileState, path: &[u8]) -> Result<(), OutFault>
         ensures { TellsLine state path.now result self.old self.new }
     {
-        show_check(state, path, &mut self.out)?;
+        show_check(state, path, self.caps.style.format, &mut self.out)?;
         self.status = worse(self.status, state);
         self.files = self.files.saturating_add(1);
         self.tell_terminal();
@@ -146,13 +146,14 @@ impl<'a, W: Sink, E: Write + Drop> Checks<'a, W, E> {
         ensures quiet { self.old.unnamed ≡ 0 → self.new.out ≡ self.old.out }
         ensures told { 0 < self.old.unnamed → OnOk result (result ≡ Ok 3) }
         ensures puts { 0 < self.old.unnamed →
-            Puts self.old.out self.new.out result (unnamed_line self.old.unnamed) }
+            Puts self.old.out self.new.out result
+            (unnamed_line self.old.caps.style.format self.old.unnamed) }
     {
         self.clear_terminal();
         if self.unnamed == 0 {
             return Ok(self.status);
         }
-        show_unnamed(self.unnamed, &mut self.out)?;
+        show_unnamed(self.unnamed, self.caps.style.format, &mut self.out)?;
         Ok(3)
     }
 
