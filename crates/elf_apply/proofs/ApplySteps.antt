@@ -1,6 +1,6 @@
 -- Applying to a section of a loaded file, stage by stage.
 use Rattle.std.proofs.Common.{◌≡◌, ℕ, true, List, [], ◌∷◌, ◌++◌, length, flat_map, None, Some, Result, Ok, Err, refl, sym, ap, ◌∙◌, subst, arith}
-use Rattle.elf_model.specs.Apply.{Patch, Change, Put, Fails, apply_checks, held_bytes, patches_of, and_patches, changes_of, section_changes, places_from, patched, target_of, before_entries, applied}
+use Rattle.elf_model.specs.Apply.{StoredBytes, Change, Put, Fails, apply_checks, held_bytes, patches_of, and_patches, changes_of, section_changes, places_from, patched, target_of, before_entries, applied}
 use Rattle.elf_model.specs.ApplyLaws.{AllInside}
 use Rattle.elf_model.specs.Budget.{IsBudget}
 use Rattle.elf_model.specs.Bytes.{slice}
@@ -19,7 +19,7 @@ use Rattle.elf_headers.specs.declared.fault.Fault.{Fault}
 use Rattle.elf_headers.specs.declared.fault.Fault.TheVariants.{Refused as Refuses}
 use Rattle.elf_apply.specs.Applied.{HeldIs, Applies, StandsFor, WritesOrWants}
 use Rattle.elf_apply.specs.Entries.{target_as}
-use Rattle.elf_apply.specs.Passes.{Checks, folded, rising}
+use Rattle.elf_apply.specs.Passes.{ChecksEntries, folded, rising}
 use Rattle.elf_apply.specs.Walk.{changes_all, changes_from, sections_of}
 use Rattle.elf_headers.specs.Stops.{stop_of}
 use Rattle.elf_apply.specs.declared.applying.Applied.{Applied}
@@ -28,21 +28,21 @@ use Rattle.elf_headers.specs.declared.stop.Stop.{Stop}
 use Rattle.elf_apply.proofs.WindowSteps.{front_none}
 
 -- what a pass says of the patches
-pub and_ok : (patch : Patch) (rest : Result (List Patch) Refusal) (patches : List Patch) → rest ≡ Ok patches → and_patches patch rest ≡ Ok (patch ∷ patches)
+pub and_ok : (patch : StoredBytes) (rest : Result (List StoredBytes) Refusal) (patches : List StoredBytes) → rest ≡ Ok patches → and_patches patch rest ≡ Ok (patch ∷ patches)
 unfolding and_patches
 and_ok patch rest patches h = rw h refl
 
-and_err : (patch : Patch) (rest : Result (List Patch) Refusal) (refusal : Refusal) → rest ≡ Err refusal → and_patches patch rest ≡ Err refusal
+and_err : (patch : StoredBytes) (rest : Result (List StoredBytes) Refusal) (refusal : Refusal) → rest ≡ Err refusal → and_patches patch rest ≡ Err refusal
 unfolding and_patches
 and_err patch rest refusal h = rw h refl
 
-pub folded_ok : {A : Type 0} (step : A → Patch → A) (value last : A) (changes : List Change) → folded step value changes ≡ Ok last → (patches : List Patch) × (patches_of changes ≡ Ok patches)
+pub folded_ok : {A : Type 0} (step : A → StoredBytes → A) (value last : A) (changes : List Change) → folded step value changes ≡ Ok last → (patches : List StoredBytes) × (patches_of changes ≡ Ok patches)
 unfolding folded patches_of
 folded_ok step value last [] h = ([], refl)
 folded_ok step value last (Put patch ∷ changes) h = let p = folded_ok step (step value patch) last changes h in (patch ∷ p.0, and_ok patch (patches_of changes) p.0 p.1)
 folded_ok step value last (Fails refusal ∷ changes) h = cc
 
-pub folded_err : {A : Type 0} (step : A → Patch → A) (value : A) (refusal : Refusal) (changes : List Change) → folded step value changes ≡ Err refusal → patches_of changes ≡ Err refusal
+pub folded_err : {A : Type 0} (step : A → StoredBytes → A) (value : A) (refusal : Refusal) (changes : List Change) → folded step value changes ≡ Err refusal → patches_of changes ≡ Err refusal
 unfolding folded patches_of
 folded_err step value refusal [] h = cc
 folded_err step value refusal (Put patch ∷ changes) h = and_err patch (patches_of changes) refusal (folded_err step (step value patch) refusal changes h)
@@ -75,16 +75,16 @@ module _ (file : List ℕ) (headers : ℕ) (target : TargetCode) (at : ℕ) (bel
 
   pub check_failed :
       (a : Written) (fault : Fault) (result : Result Applied Stop) → result ≡ Err (stop_of fault)
-      → Checks (Err fault) (folded rising (true, 0) (changes_all file target)) → Applies a a result entries the_answer
+      → ChecksEntries (Err fault) (folded rising (true, 0) (changes_all file target)) → Applies a a result entries the_answer
   check_failed a fault result is h = failed a fault result entries the_answer is (λ refusal same other.
       let read = rw same at h in
       applied-fault file headers target.section target.layout.now refusal stands.passed (sym (of_definition patches_of) ∙ folded_err rising (true, 0) refusal (changes_all file target) (read other)))
 
-  pub text_is : (patches : List Patch) → patches_of (changes_all file target) ≡ Ok patches → the_answer ≡ Ok (patched patches (slice file at target.size))
+  pub text_is : (patches : List StoredBytes) → patches_of (changes_all file target) ≡ Ok patches → the_answer ≡ Ok (patched patches (slice file at target.size))
   text_is patches h =
       applied-patched file headers target.section target.layout.now patches stands.passed (sym (of_definition patches_of) ∙ h) ∙ ap (λ b. Ok (patched patches b)) (sym stands.bytes)
 
-  pub all_inside : (patches : List Patch) → patches_of (changes_all file target) ≡ Ok patches → AllInside target.size patches
+  pub all_inside : (patches : List StoredBytes) → patches_of (changes_all file target) ≡ Ok patches → AllInside target.size patches
   all_inside patches h =
       let within = changes_inside (target_of file target.section target.layout.now) patches (sym (of_definition patches_of) ∙ h) in
       let P : ℕ → Type 0 = λ n. AllInside n patches in subst P (sym (sym long ∙ ap length stands.bytes)) within

@@ -4,7 +4,7 @@ use Rattle.std.proofs.lemmas.List.{take_all, drop-take, drop-drop, take-append-d
 use Rattle.std.proofs.lemmas.List.Elements.{All-nil, All-cons, All-head, All-tail}
 use Rattle.std.proofs.lemmas.Slice.{take-put_mid}
 use borrow.Rule.Slice.PartMut.{mid_of, put_mid}
-use Rattle.elf_model.specs.Apply.{Patch, Change, Put, Fails, put, patched, patches_of}
+use Rattle.elf_model.specs.Apply.{StoredBytes, Change, Put, Fails, put, patched, patches_of}
 use Rattle.elf_model.specs.ApplyLaws.{IsInside, AllInside, clipped}
 use Rattle.elf_model.specs.Bytes.{slice}
 use Rattle.elf_model.specs.declared.causes.Refusal.{Refusal}
@@ -15,7 +15,7 @@ use Rattle.elf_source.specs.Source.{Counting}
 use Rattle.elf_headers.specs.Faults.{ReadSays}
 use Rattle.elf_headers.specs.declared.fault.Fault.{Fault}
 use Rattle.elf_headers.specs.declared.fault.Fault.TheVariants.{Refused as Refuses, Source as Unread}
-use Rattle.elf_apply.specs.InOrder.{Holding, Midway, Rises, UnderWay}
+use Rattle.elf_apply.specs.InOrder.{Holding, Midway, OffsetsRise, UnderWay}
 use Rattle.elf_apply.specs.Walk.{FindsEntry, changes_left}
 use Rattle.elf_apply.specs.Windows.{WritesBytes, IsUnread}
 use Rattle.elf_headers.specs.Stops.{stop_of}
@@ -86,22 +86,22 @@ midway_fill file at size now h low count width bytes out view less few same is l
     (is ∙ (ap (λ n. take n (drop (at + (low + count)) file)) some ∙ ap (λ i. slice file (at + i) m) place)) midway
 
 -- one patch
-one_inside : (base : List ℕ) (patch : Patch) → IsInside (length base) patch → AllInside (length base) (patch ∷ [])
+one_inside : (base : List ℕ) (patch : StoredBytes) → IsInside (length base) patch → AllInside (length base) (patch ∷ [])
 one_inside base patch h = All-cons (IsInside (length base)) patch [] h (All-nil (IsInside (length base)))
 
-length_put : (base : List ℕ) (patch : Patch) → IsInside (length base) patch → length (put patch base) ≡ length base
+length_put : (base : List ℕ) (patch : StoredBytes) → IsInside (length base) patch → length (put patch base) ≡ length base
 unfolding patched
 length_put base patch h = length_kept (patch ∷ []) base (one_inside base patch h)
 
-drop_put : (base : List ℕ) (patch : Patch) (high : ℕ) → IsInside (length base) patch → patch.at + length patch.bytes ≤ high → drop high (put patch base) ≡ drop high base
+drop_put : (base : List ℕ) (patch : StoredBytes) (high : ℕ) → IsInside (length base) patch → patch.at + length patch.bytes ≤ high → drop high (put patch base) ≡ drop high base
 unfolding patched
 drop_put base patch high h le = kept_above (patch ∷ []) base high (one_inside base patch h) (All-cons (λ p. p.at + length p.bytes ≤ high) patch [] le (All-nil (λ p. p.at + length p.bytes ≤ high)))
 
-take_put : (base : List ℕ) (patch : Patch) (low : ℕ) → IsInside (length base) patch → low ≤ patch.at → take low (put patch base) ≡ take low base
+take_put : (base : List ℕ) (patch : StoredBytes) (low : ℕ) → IsInside (length base) patch → low ≤ patch.at → take low (put patch base) ≡ take low base
 unfolding patched
 take_put base patch low h le = final_below (patch ∷ []) base low (one_inside base patch h) (All-cons (λ p. low ≤ p.at) patch [] le (All-nil (λ p. low ≤ p.at)))
 
-pub midway_patch : (base now : List ℕ) (h after : Holding) (patch : Patch) → h.low ≤ patch.at → patch.at + length patch.bytes ≤ h.low + length h.bytes
+pub midway_patch : (base now : List ℕ) (h after : Holding) (patch : StoredBytes) → h.low ≤ patch.at → patch.at + length patch.bytes ≤ h.low + length h.bytes
     → after.low ≡ h.low → after.bytes ≡ put (clipped h.low (length h.bytes) patch) h.bytes → length after.bytes ≡ length h.bytes → Midway base now h → Midway base (put patch now) after
 midway_patch base now h after patch from fits low bytes same midway =
     let inside : IsInside (length now) patch = grind arith in
@@ -139,18 +139,18 @@ pub unread_after : (X : Type 0) (a b : Written) (fault : Fault) (result : Result
 unread_after X a b fault result text is un h = grind (arith, TakesFront-all {a = a} {b = b} text [], append-nil text)
 
 -- patches that never fall
-rises_less : (low high : ℕ) (patches : List Patch) → low ≤ high → Rises high patches → Rises low patches
-unfolding Rises
+rises_less : (low high : ℕ) (patches : List StoredBytes) → low ≤ high → OffsetsRise high patches → OffsetsRise low patches
+unfolding OffsetsRise
 rises_less low high [] le h = tt
 rises_less low high (p ∷ ps) le h = let first = h.0 in (omega (arith, le, first), h.1)
 
-rises_all : (low : ℕ) (patches : List Patch) → Rises low patches → All (λ patch. low ≤ patch.at) patches
-unfolding Rises
+rises_all : (low : ℕ) (patches : List StoredBytes) → OffsetsRise low patches → All (λ patch. low ≤ patch.at) patches
+unfolding OffsetsRise
 rises_all low [] h = All-nil (λ patch. low ≤ patch.at)
 rises_all low (patch ∷ patches) h = All-cons (λ p. low ≤ p.at) patch patches h.0 (rises_all low patches (rises_less low patch.at patches h.0 h.1))
 
-rises_first : (low : ℕ) (patch : Patch) (patches : List Patch) → Rises low (patch ∷ patches) → (low ≤ patch.at) × (Rises patch.at patches × Rises patch.at (patch ∷ patches))
-unfolding Rises
+rises_first : (low : ℕ) (patch : StoredBytes) (patches : List StoredBytes) → OffsetsRise low (patch ∷ patches) → (low ≤ patch.at) × (OffsetsRise patch.at patches × OffsetsRise patch.at (patch ∷ patches))
+unfolding OffsetsRise
 rises_first low patch patches h = (h.0, (h.1, (omega arith, h.1)))
 
 -- equal fronts have equal parts
@@ -174,16 +174,16 @@ module _ (base text : List ℕ) (h : Holding) (left : List Change) (a b : Writte
       let P : List ℕ → Type 0 = λ t. Takes a b t in
       record { front = take h.low text; rest = drop h.low text; split = sym (take-append-drop h.low text); takes = subst P same known.takes }
 
-  module _ (patch : Patch) (rest : List Change) (e : left ≡ Put patch ∷ rest) where
-    more_are : (more : List Patch) × (patches_of rest ≡ Ok more) × (known.patches ≡ patch ∷ more)
+  module _ (patch : StoredBytes) (rest : List Change) (e : left ≡ Put patch ∷ rest) where
+    more_are : (more : List StoredBytes) × (patches_of rest ≡ Ok more) × (known.patches ≡ patch ∷ more)
     unfolding patches_of
     more_are = and_is patch (patches_of rest) known.patches (sym (ap patches_of e) ∙ known.are)
 
-    rises_so : Rises h.low (patch ∷ more_are.0)
-    rises_so = let P : List Patch → Type 0 = λ ps. Rises h.low ps in subst P more_are.2 known.rises
+    rises_so : OffsetsRise h.low (patch ∷ more_are.0)
+    rises_so = let P : List StoredBytes → Type 0 = λ ps. OffsetsRise h.low ps in subst P more_are.2 known.rises
 
     inside_so : AllInside (length base) (patch ∷ more_are.0)
-    inside_so = let P : List Patch → Type 0 = λ ps. AllInside (length base) ps in subst P more_are.2 known.inside
+    inside_so = let P : List StoredBytes → Type 0 = λ ps. AllInside (length base) ps in subst P more_are.2 known.inside
 
     pub underway_first : h.low ≤ patch.at
     underway_first = (rises_first h.low patch more_are.0 rises_so).0
@@ -196,7 +196,7 @@ module _ (base text : List ℕ) (h : Holding) (left : List Change) (a b : Writte
         let long : length known.now ≡ length base = known.midway.long in
         let first : IsInside (length base) patch = All-head (IsInside (length base)) patch more_are.0 inside_so in
         let inside : IsInside (length known.now) patch = rw long first in
-        let P : ℕ → Type 0 = λ k. Rises k more_are.0 in
+        let P : ℕ → Type 0 = λ k. OffsetsRise k more_are.0 in
         let Q : List ℕ → Type 0 = λ t. Takes a c t in
         let step : patch.at ≡ h.low + (patch.at - h.low) = omega arith in
         let all : Takes a c (take patch.at known.now) = window_more a b c known.now h.low (patch.at - h.low) patch.at step known.takes taken in
@@ -215,7 +215,7 @@ module _ (base text : List ℕ) (h : Holding) (left : List Change) (a b : Writte
     underway_stopped X c fault this =
         let from : h.low ≤ patch.at = underway_first in
         let step : patch.at ≡ h.low + (patch.at - h.low) = omega arith in
-        let P : List Patch → Type 0 = λ ps. Rises patch.at ps in
+        let P : List StoredBytes → Type 0 = λ ps. OffsetsRise patch.at ps in
         let all : take patch.at known.now ≡ take patch.at text = final_front patch.at (rises_all patch.at known.patches (subst P (sym more_are.2) (rises_first h.low patch more_are.0 rises_so).1.1)) in
         let same : take (h.low + (patch.at - h.low)) known.now ≡ take (h.low + (patch.at - h.low)) text = ap (λ k. take k known.now) (sym step) ∙ (all ∙ ap (λ k. take k text) step) in
         let Q : List ℕ → Type 0 = λ t. Takes a b t in
@@ -246,11 +246,11 @@ module _ (base text : List ℕ) (h : Holding) (left : List Change) (a b : Writte
   underway_failed X (Unread fault at) result rest is = let P : Result X Stop → Type 0 = λ r. WritesBytes a b r text in subst P (sym is) underway_front
 
 -- the begin
-pub underway_start : (base : List ℕ) (h : Holding) (left : List Change) (patches : List Patch) (a : Written) → h.low ≡ 0 → h.bytes ≡ [] → patches_of left ≡ Ok patches → AllInside (length base) patches → Rises 0 patches
+pub underway_start : (base : List ℕ) (h : Holding) (left : List Change) (patches : List StoredBytes) (a : Written) → h.low ≡ 0 → h.bytes ≡ [] → patches_of left ≡ Ok patches → AllInside (length base) patches → OffsetsRise 0 patches
     → UnderWay base (patched patches base) h left a a
 underway_start base h left patches a low none are inside rises =
     let zero_long : length h.bytes ≡ 0 = ap length none in
-    let P : ℕ → Type 0 = λ k. Rises k patches in
+    let P : ℕ → Type 0 = λ k. OffsetsRise k patches in
     let Q : ℕ → Type 0 = λ k. Takes a a (take k base) in
     record {
       now = base;

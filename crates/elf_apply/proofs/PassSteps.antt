@@ -5,18 +5,18 @@ use Rattle.std.proofs.lemmas.Bool.{cases_lt}
 use Rattle.std.proofs.lemmas.List.{take_all, nil_from_length}
 use Rattle.std.proofs.lemmas.List.{drop-drop, take-append-drop}
 use borrow.Rule.Slice.PartMut.{put_mid}
-use Rattle.elf_model.specs.Apply.{Patch, Change, Put, Fails, put}
+use Rattle.elf_model.specs.Apply.{StoredBytes, Change, Put, Fails, put}
 use Rattle.elf_model.specs.ApplyLaws.{clipped}
 use Rattle.elf_model.specs.declared.causes.Refusal.{Refusal}
 use Rattle.elf_headers.specs.declared.fault.Fault.{Fault}
 use Rattle.elf_apply.specs.Costs.{ValueOrRefusal}
-use Rattle.elf_apply.specs.Passes.{folded, Folds, Checks}
+use Rattle.elf_apply.specs.Passes.{folded, Folds, ChecksEntries}
 use Rattle.elf_apply.specs.Walk.{changes_left, FindsEntry}
 use Rattle.elf_apply.specs.declared.entry.Target.{Target as TargetCode}
 use Rattle.elf_apply.specs.declared.walk.Entries.{Entries}
 
-module _ {A : Type 0} (step : A → Patch → A) (value : A) where
-  pub folded-some : (changes rest : List Change) (patch : Patch) (answer : Result A Refusal) → changes ≡ Put patch ∷ rest → folded step value changes ≡ answer → folded step (step value patch) rest ≡ answer
+module _ {A : Type 0} (step : A → StoredBytes → A) (value : A) where
+  pub folded-some : (changes rest : List Change) (patch : StoredBytes) (answer : Result A Refusal) → changes ≡ Put patch ∷ rest → folded step value changes ≡ answer → folded step (step value patch) rest ≡ answer
   unfolding folded
   folded-some changes rest patch answer e h = sym (ap (folded step value) e) ∙ h
 
@@ -32,7 +32,7 @@ module _ {A : Type 0} (step : A → Patch → A) (value : A) where
   folded-fault file target old new fault answer finds h = grind (arith, folded-fails)
 
 -- the same fault of a check
-pub checks_fault : (fault : Fault) (answer : Result (Bool × ℕ) Refusal) → ValueOrRefusal {X = Bool × ℕ} (Err fault) answer → Checks (Err fault) answer
+pub checks_fault : (fault : Fault) (answer : Result (Bool × ℕ) Refusal) → ValueOrRefusal {X = Bool × ℕ} (Err fault) answer → ChecksEntries (Err fault) answer
 checks_fault fault answer h = grind arith
 
 -- the same fault, where the answer is another value
@@ -49,15 +49,15 @@ take-cut j k xs e = elim (cases_lt k (length xs)) [
     min-left : (a b : ℕ) → a < b → min a b ≡ a
     min-left a b h = omega arith
 
-put-as : (patch : Patch) (window mid : List ℕ) (a k : ℕ) → a ≡ patch.at → mid ≡ patch.bytes → k ≡ length mid → put_mid a k window mid ≡ put patch window
+put-as : (patch : StoredBytes) (window mid : List ℕ) (a k : ℕ) → a ≡ patch.at → mid ≡ patch.bytes → k ≡ length mid → put_mid a k window mid ≡ put patch window
 unfolding put
 put-as patch window mid a k same bytes len = grind (arith, drop-drop)
 
-put-none : (patch : Patch) (window : List ℕ) → patch.bytes ≡ [] → put patch window ≡ window
+put-none : (patch : StoredBytes) (window : List ℕ) → patch.bytes ≡ [] → put patch window ≡ window
 unfolding put
 put-none patch window none = grind (arith, take-append-drop)
 
-module _ (patch : Patch) (low n first end : ℕ) (window : List ℕ) (counted : n ≡ length window) (f : first ≡ max patch.at low) (e : end ≡ min (patch.at + length patch.bytes) (low + n)) where
+module _ (patch : StoredBytes) (low n first end : ℕ) (window : List ℕ) (counted : n ≡ length window) (f : first ≡ max patch.at low) (e : end ≡ min (patch.at + length patch.bytes) (low + n)) where
   pub stored-in : (mid : List ℕ) → first < end → mid ≡ take (end - patch.at - (first - patch.at)) (drop (first - patch.at) patch.bytes)
       → put_mid (first - low) (end - low - (first - low)) window mid ≡ put (clipped low n patch) window
   unfolding clipped

@@ -2,7 +2,7 @@
 use Rattle.std.proofs.Common.{◌≡◌, ℕ, ◌==◌, ◌&&◌, nat_le, Bool, true, false, inl, inr, List, [], ◌∷◌, ◌++◌, length, map, flat_map, Option, None, Some, Ok, refl, sym, ap, ◌∙◌, arith}
 use Rattle.std.proofs.lemmas.Bool.{cases_Bool}
 use Rattle.std.proofs.lemmas.Bool.Decides.{nat_tests}
-use Rattle.elf_model.specs.Apply.{Patch, Target, Change, Put, Fails, applies_to, change_of, entry_changes, section_changes, changes_of, relocation_entries, places_from, and_patches, patches_of, patched, target_of, applied}
+use Rattle.elf_model.specs.Apply.{StoredBytes, Target, Change, Put, Fails, applies_to, change_of, entry_changes, section_changes, changes_of, relocation_entries, places_from, and_patches, patches_of, patched, target_of, applied}
 use Rattle.elf_model.specs.ApplyCost.{entries_in, entries_for, offsets_at, never_fall_from, offsets_never_fall}
 use Rattle.elf_model.specs.Checks.{first_refusal, table_checks}
 use Rattle.elf_model.specs.Records.{sh_size}
@@ -10,7 +10,7 @@ use Rattle.elf_model.specs.Tables.{RELA_SIZE, relocation_table_checks}
 use Rattle.elf_model.specs.declared.causes.Refusal.{Refusal}
 use Rattle.elf_model.proofs.ApplySteps.{offsets_at-append}
 use Rattle.elf_model.proofs.CheckSteps.{first_refusal-some}
-use Rattle.elf_apply.specs.InOrder.{Rises}
+use Rattle.elf_apply.specs.InOrder.{OffsetsRise}
 use Rattle.elf_apply.specs.Passes.{folded, rising}
 use Rattle.elf_apply.specs.Applied.{HasSection, StandsFor}
 use Rattle.elf_apply.specs.Walk.{changes_all}
@@ -23,11 +23,11 @@ use Rattle.elf_apply.proofs.ApplySteps.{all_inside, and_ok, changes_same, folded
 use Rattle.elf_apply.proofs.WindowSteps.{and_is, length_patched}
 
 -- the offsets of patches
-abbrev pub offsets_of : List Patch → List ℕ
-offsets_of patches = map (λ (patch : Patch). patch.at) patches
+abbrev pub offsets_of : List StoredBytes → List ℕ
+offsets_of patches = map (λ (patch : StoredBytes). patch.at) patches
 
 -- what a pass over patches says of their offsets
-pub rising_is : (so low : _) (last : Bool × ℕ) (changes : List Change) (patches : List Patch) → patches_of changes ≡ Ok patches → folded rising (so, low) changes ≡ Ok last → last.0 ≡ (so && never_fall_from low (offsets_of patches))
+pub rising_is : (so low : _) (last : Bool × ℕ) (changes : List Change) (patches : List StoredBytes) → patches_of changes ≡ Ok patches → folded rising (so, low) changes ≡ Ok last → last.0 ≡ (so && never_fall_from low (offsets_of patches))
 unfolding folded patches_of never_fall_from
 rising_is so low last [] patches e h = grind arith
 rising_is so low last (Put patch ∷ changes) patches e h =
@@ -35,8 +35,8 @@ rising_is so low last (Put patch ∷ changes) patches e h =
     let rest = rising_is (so && nat_le low patch.at) patch.at last changes one.0 one.1 h in grind arith
 rising_is so low last (Fails refusal ∷ changes) patches e h = absurd (cc)
 
-pub never_rises : (low : ℕ) (patches : List Patch) → never_fall_from low (offsets_of patches) ≡ true → Rises low patches
-unfolding Rises never_fall_from
+pub never_rises : (low : ℕ) (patches : List StoredBytes) → never_fall_from low (offsets_of patches) ≡ true → OffsetsRise low patches
+unfolding OffsetsRise never_fall_from
 never_rises low [] h = tt
 never_rises low (patch ∷ patches) h = let parts = both (nat_le low patch.at) (never_fall_from patch.at (offsets_of patches)) h in (grind (arith, nat_tests, parts.0), never_rises patch.at patches parts.1)
   where
@@ -45,16 +45,16 @@ never_rises low (patch ∷ patches) h = let parts = both (nat_le low patch.at) (
 
 -- changes, if none is a fault, store bytes at these offsets
 abbrev Gives : List Change → List ℕ → Type 0
-Gives changes offsets = (patches : List Patch) → patches_of changes ≡ Ok patches → offsets_of patches ≡ offsets
+Gives changes offsets = (patches : List StoredBytes) → patches_of changes ≡ Ok patches → offsets_of patches ≡ offsets
 
-record Split (xs ys : List Change) (patches : List Patch) : Type 0 where
-  front : List Patch
-  back : List Patch
+record Split (xs ys : List Change) (patches : List StoredBytes) : Type 0 where
+  front : List StoredBytes
+  back : List StoredBytes
   of_front : patches_of xs ≡ Ok front
   of_back : patches_of ys ≡ Ok back
   both : patches ≡ front ++ back
 
-split : (xs ys : List Change) (patches : List Patch) → patches_of (xs ++ ys) ≡ Ok patches → Split xs ys patches
+split : (xs ys : List Change) (patches : List StoredBytes) → patches_of (xs ++ ys) ≡ Ok patches → Split xs ys patches
 unfolding patches_of
 split [] ys patches h = record { front = []; back = patches; of_front = refl; of_back = h; both = refl }
 split (Fails refusal ∷ xs) ys patches h = absurd (cc)
@@ -63,7 +63,7 @@ split (Put patch ∷ xs) ys patches h =
     let rest = split xs ys one.0 one.1 in
     record { front = patch ∷ rest.front; back = rest.back; of_front = and_ok patch (patches_of xs) rest.front rest.of_front; of_back = rest.of_back; both = one.2 ∙ ap (λ ps. patch ∷ ps) rest.both }
 
-offsets_both : (front back : List Patch) → offsets_of (front ++ back) ≡ offsets_of front ++ offsets_of back
+offsets_both : (front back : List StoredBytes) → offsets_of (front ++ back) ≡ offsets_of front ++ offsets_of back
 offsets_both [] back = refl
 offsets_both (patch ∷ front) back = ap (λ l. patch.at ∷ l) (offsets_both front back)
 
@@ -128,7 +128,7 @@ sections_give target (at ∷ headers) =
     (gives_both (section_changes target at) (flat_map (section_changes target) headers) _ _ (section_gives target at) (sections_give target headers))
 
 -- a pass that goes through all entries tells whether their offsets never fall
-module _ (target : Target) (last : Bool × ℕ) (patches : List Patch) (are : patches_of (changes_of target) ≡ Ok patches) (h : folded rising (true, 0) (changes_of target) ≡ Ok last) where
+module _ (target : Target) (last : Bool × ℕ) (patches : List StoredBytes) (are : patches_of (changes_of target) ≡ Ok patches) (h : folded rising (true, 0) (changes_of target) ≡ Ok last) where
   told_by : last.0 ≡ never_fall_from 0 (offsets_of patches)
   told_by = rising_is true 0 last (changes_of target) patches are h
 
@@ -140,16 +140,16 @@ module _ (target : Target) (last : Bool × ℕ) (patches : List Patch) (are : pa
   unfolding offsets_never_fall
   never_fall_is = ap (never_fall_from 0) (sym (all_give patches are)) ∙ sym told_by
 
-  pub patches_rise : last.0 ≡ true → Rises 0 patches
+  pub patches_rise : last.0 ≡ true → OffsetsRise 0 patches
   patches_rise rises = never_rises 0 patches (sym told_by ∙ rises)
 
 -- what is stored where no entry is refused: bytes within the section, whether their offsets never fall, and the answer
 pub record Stores (file : List ℕ) (headers : ℕ) (target : TargetCode) (at : ℕ) (rises : Bool) : Type 0 where
-  pub patches : List Patch
+  pub patches : List StoredBytes
   pub are : patches_of (changes_all file target) ≡ Ok patches
   pub inside : AllInside target.size patches
   pub never_falls : offsets_never_fall file target.section ≡ rises
-  pub in_order : rises ≡ true → Rises 0 patches
+  pub in_order : rises ≡ true → OffsetsRise 0 patches
   pub long : target.size ≡ length (patched patches (slice file at target.size))
   pub text : applied file headers target.section target.layout.now ≡ Ok (patched patches (slice file at target.size))
 

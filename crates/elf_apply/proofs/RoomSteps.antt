@@ -7,7 +7,7 @@ use Rattle.std.proofs.lemmas.Bool.{cases_lt}
 use Rattle.std.proofs.lemmas.Bool.Decides.{leb_tells}
 use Rattle.elf_model.specs.ApplyCost.{layout_names_cost}
 use Rattle.elf_source.specs.Output.{Written}
-use Rattle.elf_source.specs.Source.{Seen, Counting, Limits, Reads, left}
+use Rattle.elf_source.specs.Source.{Seen, Counting, SetsLimit, Reads, left}
 use Rattle.elf_headers.specs.Load.{IsOpen, Opened}
 use Rattle.elf_headers.specs.Store.{Stored}
 use Rattle.elf_apply.specs.Applied.{ApplySays, OverBudget, RoomFor, ReadsWithin, WritesOrWants, write_passes}
@@ -76,7 +76,7 @@ pub write_asks :
 write_asks rises size walk before after once all = grind arith
 
 -- a limit was taken away
-module _ (a b : Counting) (bytes : Option ℕ) (limits : Limits a b bytes) where
+module _ (a b : Counting) (bytes : Option ℕ) (limits : SetsLimit a b bytes) where
   pub open_free : (loaded : Opened) (store : Stored) → IsOpen a loaded store → IsOpen b loaded store
   open_free loaded store opened = record { size = grind arith; belongs = λ file held. opened.belongs file (ap (λ (s : Seen). s.file) (sym limits.seen) ∙ held) }
 
@@ -88,7 +88,7 @@ module _ (a b : Counting) (bytes : Option ℕ) (limits : Limits a b bytes) where
   says_free d out n result says = grind arith
 
 -- the same where it is taken away last
-module _ (a b d : Counting) (bytes : Option ℕ) (limits : Limits b d bytes) where
+module _ (a b d : Counting) (bytes : Option ℕ) (limits : SetsLimit b d bytes) where
   pub spends_last : (n : ℕ) → ReadsWithin a b n → ReadsWithin a d n
   spends_last n spends = grind arith
 

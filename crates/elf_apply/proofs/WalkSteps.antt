@@ -18,11 +18,11 @@ use Rattle.elf_headers.specs.Load.{section_place}
 use Rattle.elf_headers.specs.declared.fault.Fault.{Fault}
 use Rattle.elf_headers.specs.declared.fault.Fault.TheVariants.{Refused, Source}
 use Rattle.elf_apply.specs.Entries.{target_as, patch_as, Changes, Refers}
-use Rattle.elf_apply.specs.Walk.{AsksOf, Goes, changes_from, rows_changes, changes_left, changes_all, beside_entry_cost, entry_count_in, entries_from, sections_of, steps_left, walk_left, walk_all, Walked, FindsEntry, ReadsEntries}
+use Rattle.elf_apply.specs.Walk.{AsksOf, Goes, changes_from, rows_changes, changes_left, changes_all, beside_entry_cost, entry_count_in, entries_from, sections_of, steps_left, walk_left, walk_all, StepsWalk, FindsEntry, ReadsEntries}
 use Rattle.elf_apply.specs.declared.entry.Placed.{Placed}
 use Rattle.elf_apply.specs.declared.entry.Target.{Target as TargetCode}
 use Rattle.elf_apply.specs.declared.walk.Entries.{Entries}
-use Rattle.elf_apply.specs.declared.walk.Step.{Step}
+use Rattle.elf_apply.specs.declared.walk.WalkStep.{WalkStep}
 
 sum-suc : (cost : ℕ → ℕ) (i n : ℕ) → sum_over cost i (suc n) ≡ cost i + sum_over cost (suc i) n
 unfolding sum_over
@@ -164,7 +164,7 @@ refers_here file target new section here h = let P : ℕ → Type 0 = λ k. Refe
 
 -- a section was opened, or refused
 pub opened-fault : (file : List ℕ) (target : TargetCode) (old new : Entries) (fault : Fault) → old.cursor.left ≡ 0 → old.next < sections_of target → applies_to file target.section (section_at file old.next) ≡ true
-    → Relocates file (section_at file old.next) (Err fault) → Walked file target old new (Err fault)
+    → Relocates file (section_at file old.next) (Err fault) → StepsWalk file target old new (Err fault)
 opened-fault file target old new (Refused refusal) none below applies h = λ other.
     left-refused file target old refusal none below (section_fault (target_as file target) (section_at file old.next) refusal applies h)
 opened-fault file target old new (Source fault at) none below applies h = absurd h
@@ -204,7 +204,7 @@ pub asks-then : {target : TargetCode} {old mid new : Entries} {a b c : Counting}
 asks-then p q = record { reads = Reads-to (Reads-then p.reads q.reads) (omega (arith, p.account, q.account)); account = omega (arith, p.account, q.account) }
 
 pub finds-fault : (file : List ℕ) (target : TargetCode) (old mid new : Entries) (fault : Fault) → changes_left file target old ≡ changes_left file target mid
-    → Walked file target mid new (Err fault) → FindsEntry file target old new (Err fault)
+    → StepsWalk file target mid new (Err fault) → FindsEntry file target old new (Err fault)
 finds-fault file target old mid new (Refused refusal) same walked = λ other. let found = walked other in (found.0, same ∙ found.1)
 finds-fault file target old mid new (Source fault at) same walked = tt
 
@@ -260,7 +260,7 @@ module _ (file : List ℕ) (target : TargetCode) (old new : Entries) (at : ℕ) 
   pub row-nothing : entry_changes (target_as file target) (section_at file old.current) at ≡ [] → changes_left file target old ≡ changes_left file target new
   row-nothing h = left-row file target old new at next here index less place ∙ ap (λ l. l ++ changes_left file target new) h
 
-  pub row-fails : (fault : Fault) (after : Entries) → Changes (Err fault) (entry_changes (target_as file target) (section_at file old.current) at) → Walked file target old after (Err fault)
+  pub row-fails : (fault : Fault) (after : Entries) → Changes (Err fault) (entry_changes (target_as file target) (section_at file old.current) at) → StepsWalk file target old after (Err fault)
   row-fails (Refused refusal) after h = λ other.
       (changes_left file target new, left-row file target old new at next here index less place ∙ ap (λ l. l ++ changes_left file target new) (h other))
   row-fails (Source fault offset) after h = tt
@@ -273,8 +273,8 @@ reads-row file target holds old new gives held here reads refers = record {
   placed = λ some. ap (λ (t : Rows). t.at) gives.same_table ∙ (reads.placed (omega (arith, some, gives.one_less)) ∙ ap (λ k. sh_offset file (section_at file k)) (sym here));
 }
 
-pub same-walked : (file : List ℕ) (target : TargetCode) (old new : Entries) (cursor : Reading) (result : Result Step Fault) → cursor ≡ old.cursor
-    → (let now : Entries = record { cursor = cursor; symbols = old.symbols; current = old.current; next = old.next; count = old.count } in ReadsEntries file target now → Walked file target now new result) → ReadsEntries file target old → Walked file target old new result
+pub same-walked : (file : List ℕ) (target : TargetCode) (old new : Entries) (cursor : Reading) (result : Result WalkStep Fault) → cursor ≡ old.cursor
+    → (let now : Entries = record { cursor = cursor; symbols = old.symbols; current = old.current; next = old.next; count = old.count } in ReadsEntries file target now → StepsWalk file target now new result) → ReadsEntries file target old → StepsWalk file target old new result
 same-walked file target old new cursor result same walked reads =
-    let P : Reading → Type 0 = λ c. (let now : Entries = record { cursor = c; symbols = old.symbols; current = old.current; next = old.next; count = old.count } in ReadsEntries file target now → Walked file target now new result) in
+    let P : Reading → Type 0 = λ c. (let now : Entries = record { cursor = c; symbols = old.symbols; current = old.current; next = old.next; count = old.count } in ReadsEntries file target now → StepsWalk file target now new result) in
     subst P same walked (record { agrees = reads.agrees; links = reads.links; placed = reads.placed })

@@ -4,7 +4,7 @@ use Rattle.std.proofs.lemmas.Result.{err_from_is_err_and}
 use Rattle.std.proofs.lemmas.List.{take_all, take-append-drop, length-replicate}
 use Rattle.std.proofs.Math.Nat.{mul-le-mul_right}
 use Rattle.std.proofs.Math.Seq.{take-add}
-use Rattle.elf_model.specs.Apply.{Patch, Change, Put, Fails, put, patched, patches_of, and_patches}
+use Rattle.elf_model.specs.Apply.{StoredBytes, Change, Put, Fails, put, patched, patches_of, and_patches}
 use Rattle.elf_model.specs.ApplyLaws.{AllInside, clipped}
 use Rattle.elf_model.specs.Bytes.{slice}
 use Rattle.elf_model.specs.declared.causes.Refusal.{Refusal}
@@ -22,12 +22,12 @@ use Rattle.elf_headers.specs.declared.stop.Stop.{Stop}
 use Rattle.elf_model.proofs.Slices.{slice-size, slice-slice}
 
 -- a pass in a window is the patches' parts, stored one after another
-pub and_is : (patch : Patch) (rest : Result (List Patch) Refusal) (patches : List Patch) → and_patches patch rest ≡ Ok patches → (more : List Patch) × (rest ≡ Ok more) × (patches ≡ patch ∷ more)
+pub and_is : (patch : StoredBytes) (rest : Result (List StoredBytes) Refusal) (patches : List StoredBytes) → and_patches patch rest ≡ Ok patches → (more : List StoredBytes) × (rest ≡ Ok more) × (patches ≡ patch ∷ more)
 unfolding and_patches
 and_is patch (Ok more) patches h = (more, refl, let same : patch ∷ more ≡ patches = cc in sym same)
 and_is patch (Err refusal) patches h = cc
 
-pub folded_window : (low n : ℕ) (changes : List Change) (patches : List Patch) (window : List ℕ) → patches_of changes ≡ Ok patches
+pub folded_window : (low n : ℕ) (changes : List Change) (patches : List StoredBytes) (window : List ℕ) → patches_of changes ≡ Ok patches
     → folded (storing low n) window changes ≡ Ok (patched (map (clipped low n) patches) window)
 unfolding folded patches_of patched
 folded_window low n [] patches window h = let none : patches ≡ [] = cc in rw none refl
@@ -37,7 +37,7 @@ folded_window low n (Put patch ∷ changes) patches window h =
 folded_window low n (Fails refusal ∷ changes) patches window h = cc
 
 -- the window that a pass leaves is the patched section's
-pub window_is : (file : List ℕ) (at size low n : ℕ) (changes : List Change) (patches : List Patch) (read : List ℕ) → at + size ≤ length file → low + n ≤ size → read ≡ slice file (at + low) n
+pub window_is : (file : List ℕ) (at size low n : ℕ) (changes : List Change) (patches : List StoredBytes) (read : List ℕ) → at + size ≤ length file → low + n ≤ size → read ≡ slice file (at + low) n
     → patches_of changes ≡ Ok patches → AllInside size patches → folded (storing low n) read changes ≡ Ok (slice (patched patches (slice file at size)) low n)
 window_is file at size low n changes patches read within fits is h inside =
     let base : List ℕ = slice file at size in
@@ -89,12 +89,12 @@ pub window_stopped : (X : Type 0) (a b c : Written) (text : List ℕ) (done n : 
 window_stopped X a b c text done n fault before this = grind (arith, front_then a b c text done n)
 
 -- a patched section is as long as the section
-pub length_patched : (patches : List Patch) (base : List ℕ) (size : ℕ) → length base ≡ size → AllInside size patches → length (patched patches base) ≡ size
+pub length_patched : (patches : List StoredBytes) (base : List ℕ) (size : ℕ) → length base ≡ size → AllInside size patches → length (patched patches base) ≡ size
 length_patched patches base size long inside =
     let all : AllInside (length base) patches = rw long inside in length_kept patches base all ∙ long
 
 -- all windows
-pub windows_end : (a b : Written) (patches : List Patch) (base : List ℕ) (done size : ℕ) → length base ≡ size → AllInside size patches → size ≤ done → Takes a b (take done (patched patches base)) → Takes a b (patched patches base)
+pub windows_end : (a b : Written) (patches : List StoredBytes) (base : List ℕ) (done size : ℕ) → length base ≡ size → AllInside size patches → size ≤ done → Takes a b (take done (patched patches base)) → Takes a b (patched patches base)
 windows_end a b patches base done size long inside past h =
     let kept = length_patched patches base size long inside in
     let P : List ℕ → Type 0 = λ t. Takes a b t in subst P (take_all done (patched patches base) (omega (arith, kept, past))) h
@@ -109,7 +109,7 @@ windows_account size done count next walk before after start bound below is step
     omega (arith, product, split)
 
 -- what a pass answered of a window that was read: the patched section's, or none of it was written
-pub window_done : (file : List ℕ) (at size low n m : ℕ) (changes : List Change) (patches : List Patch) (read : List ℕ) → at + size ≤ length file → low + n ≤ size → read ≡ slice file (at + low) n → m ≡ n
+pub window_done : (file : List ℕ) (at size low n m : ℕ) (changes : List Change) (patches : List StoredBytes) (read : List ℕ) → at + size ≤ length file → low + n ≤ size → read ≡ slice file (at + low) n → m ≡ n
     → patches_of changes ≡ Ok patches → AllInside size patches → folded (storing low m) read changes ≡ Ok (slice (patched patches (slice file at size)) low n)
 window_done file at size low n m changes patches read within fits is same h inside =
     ap (λ k. folded (storing low k) read changes) same ∙ window_is file at size low n changes patches read within fits is h inside

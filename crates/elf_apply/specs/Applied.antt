@@ -19,7 +19,7 @@ use Rattle.elf_apply.specs.declared.applying.Applied.{Applied}
 use Rattle.elf_apply.specs.declared.entry.Target.{Target}
 use Rattle.elf_headers.specs.declared.stop.Stop.{Stop}
 use Rattle.elf_headers.specs.declared.stop.Stop.TheVariants.{Refused, Source, Out}
-use Rattle.elf_apply.specs.InOrder.{Rises}
+use Rattle.elf_apply.specs.InOrder.{OffsetsRise}
 use Rattle.elf_apply.specs.Walk.{walk_all}
 use Rattle.elf_apply.specs.Windows.{OfPatches, WroteBytes, windows}
 
@@ -123,7 +123,7 @@ pub record WritesWithin {X : Type 0} (before after : Counting) (old new : Writte
   pub reads : ReadsWithin before after (passes_cost target (write_passes rises target.size))
   pub grows : Grows old new
   pub wrote : WroteBytes old new result target.size
-  pub text : (file : List ℕ) → before.seen.file ≡ Some file → OfPatches target at (λ patches text. (rises ≡ true → Rises 0 patches) → WritesOrWants old new result text) file
+  pub text : (file : List ℕ) → before.seen.file ≡ Some file → OfPatches target at (λ patches text. (rises ≡ true → OffsetsRise 0 patches) → WritesOrWants old new result text) file
 
 -- what a call did that checks all entries and writes the section, whose bytes stand at an offset: two passes where the
 -- offsets of the entries never fall

@@ -1,7 +1,7 @@
 -- What a relocation entry stores, as the code has it, in the words of the definitions.
 use Rattle.std.specs.Prelude.{ℕ, ◌≡◌, ◌+◌, ◌≤◌, IfSome, true, false, List, [], ◌∷◌, length, Option, None, Some, Result, Ok, Err}
 use Rattle.elf_model.specs.Budget.{IsBudget}
-use Rattle.elf_model.specs.Apply.{Target, Patch, Change, Put, Fails, named_value, symbol_checks}
+use Rattle.elf_model.specs.Apply.{Target, StoredBytes, Change, Put, Fails, named_value, symbol_checks}
 use Rattle.elf_model.specs.Checks.{first_refusal}
 use Rattle.elf_model.specs.Placing.{place_value}
 use Rattle.elf_model.specs.Records.{r_sym}
@@ -15,7 +15,7 @@ use Rattle.elf_headers.specs.declared.fault.Fault.{Fault}
 use Rattle.elf_headers.specs.declared.fault.Fault.TheVariants.{Refused, Source}
 use Rattle.elf_table.specs.Relocations.{RefersTo}
 use Rattle.elf_apply.specs.declared.entry.Placed.{Placed}
-use Rattle.elf_apply.specs.declared.entry.Symbols.{Symbols}
+use Rattle.elf_apply.specs.declared.entry.EntrySymbols.{EntrySymbols}
 use Rattle.elf_apply.specs.declared.entry.Taken.{Taken}
 use Rattle.elf_apply.specs.declared.entry.Target.{Target as TargetCode}
 
@@ -24,7 +24,7 @@ abbrev pub target_as : List ℕ → TargetCode → Target
 target_as file target = record { file = file; section = target.section; size = target.size; layout = target.layout.now }
 
 -- the bytes that are stored
-abbrev pub patch_as : Placed → Patch
+abbrev pub patch_as : Placed → StoredBytes
 patch_as placed = record { at = placed.offset; bytes = patched_bytes placed.patch }
 
 -- they lie within so many bytes
@@ -66,11 +66,11 @@ taken_place formula target rela =
     ]
 
 -- what an entry took of a symbol is what each entry takes that names it so
-abbrev pub IsTaken : List ℕ → TargetCode → ℕ → Taken → Type 0
-IsTaken file target header taken =
+abbrev pub IsSymbolTaken : List ℕ → TargetCode → ℕ → Taken → Type 0
+IsSymbolTaken file target header taken =
     (rela : ℕ) → taken.symbol ≡ r_sym file rela → term_of taken.base (target_as file target) header rela ≡ Ok taken.value
 
 -- the symbols that the entries of the section with this header refer to, and what the last of them took
-pub record Refers (file : List ℕ) (target : TargetCode) (header : ℕ) (symbols : Symbols) : Type 0 where
+pub record Refers (file : List ℕ) (target : TargetCode) (header : ℕ) (symbols : EntrySymbols) : Type 0 where
   pub linked : RefersTo file header symbols.linked
-  pub last : IfSome symbols.last (IsTaken file target header)
+  pub last : IfSome symbols.last (IsSymbolTaken file target header)

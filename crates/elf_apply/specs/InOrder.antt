@@ -1,6 +1,6 @@
 -- One pass over entries whose offsets never fall: what is held, and how far the section has come.
 use Rattle.std.specs.Prelude.{ℕ, ◌≡◌, ◌+◌, ◌^◌, ◌<◌, ◌≤◌, List, [], ◌∷◌, length, take, drop, None, Ok}
-use Rattle.elf_model.specs.Apply.{Patch, Change, patches_of, patched}
+use Rattle.elf_model.specs.Apply.{StoredBytes, Change, patches_of, patched}
 use Rattle.elf_model.specs.ApplyLaws.{AllInside}
 use Rattle.elf_model.specs.Bytes.{slice}
 use Rattle.elf_source.specs.Output.{Written, Takes}
@@ -30,19 +30,19 @@ pub record Midway (base now : List ℕ) (h : Holding) : Type 0 where
   pub rest : drop (h.low + length h.bytes) now ≡ drop (h.low + length h.bytes) base
 
 -- patches whose offsets never fall, the first at or behind an offset
-unfoldable pub Rises : ℕ → List Patch → Type 0
-Rises low [] = Unit {0}
-Rises low (patch ∷ patches) = (low ≤ patch.at) × Rises patch.at patches
+unfoldable pub OffsetsRise : ℕ → List StoredBytes → Type 0
+OffsetsRise low [] = Unit {0}
+OffsetsRise low (patch ∷ patches) = (low ≤ patch.at) × OffsetsRise patch.at patches
 
 -- for the section as it is now: what stands before the bytes that are held was written, and the changes that are left
 -- make the text of it
 pub record UnderWay (base text : List ℕ) (h : Holding) (left : List Change) (old new : Written) : Type 0 where
   pub now : List ℕ
   pub midway : Midway base now h
-  pub patches : List Patch
+  pub patches : List StoredBytes
   pub are : patches_of left ≡ Ok patches
   pub inside : AllInside (length base) patches
-  pub rises : Rises h.low patches
+  pub rises : OffsetsRise h.low patches
   pub ends : patched patches now ≡ text
   pub takes : Takes old new (take h.low now)
 

@@ -1,6 +1,6 @@
 -- What the passes over the entries calculate of the list of changes.
 use Rattle.std.specs.Prelude.{ℕ, ◌≡◌, ◌+◌, ◌^◌, ◌<◌, ◌≤◌, ◌&&◌, nat_le, Bool, List, [], ◌∷◌, Result, Ok, Err}
-use Rattle.elf_model.specs.Apply.{Patch, Change, Put, Fails, put}
+use Rattle.elf_model.specs.Apply.{StoredBytes, Change, Put, Fails, put}
 use Rattle.elf_model.specs.ApplyLaws.{clipped}
 use Rattle.elf_model.specs.Budget.{IsBudget}
 use Rattle.elf_model.specs.declared.causes.Refusal.{Refusal}
@@ -12,17 +12,17 @@ use Rattle.elf_apply.specs.declared.entry.Target.{Target}
 use Rattle.elf_apply.specs.declared.passes.Checked.{Checked}
 
 -- what comes of a value by a step for each patch, or the first fault
-unfoldable pub folded : {A : Type 0} → (A → Patch → A) → A → List Change → Result A Refusal
+unfoldable pub folded : {A : Type 0} → (A → StoredBytes → A) → A → List Change → Result A Refusal
 folded step value [] = Ok value
 folded step value (Put patch ∷ changes) = folded step (step value patch) changes
 folded step value (Fails refusal ∷ changes) = Err refusal
 
 -- whether offsets never fall, and the last one
-abbrev pub rising : Bool × ℕ → Patch → Bool × ℕ
+abbrev pub rising : Bool × ℕ → StoredBytes → Bool × ℕ
 rising so_far patch = (so_far.0 && nat_le so_far.1 patch.at, patch.at)
 
 -- a window of n bytes at an offset, with the part of a patch that falls into it
-abbrev pub storing : ℕ → ℕ → List ℕ → Patch → List ℕ
+abbrev pub storing : ℕ → ℕ → List ℕ → StoredBytes → List ℕ
 storing low n window patch = put (clipped low n patch) window
 
 -- a pass has a value, or the first fault, unless it is refused for want of budget
@@ -33,10 +33,10 @@ Folds (Err (Source fault at)) value answer = Unit {0}
 
 -- the entries were checked: whether their offsets never fall, and the last one; or the first fault, unless it is refused for
 -- want of budget
-abbrev pub Checks : Result Checked Fault → Result (Bool × ℕ) Refusal → Type 0
-Checks (Ok found) answer = answer ≡ Ok (found.rises, found.low)
-Checks (Err (Refused refusal)) answer = (IsBudget refusal → ⊥) → answer ≡ Err refusal
-Checks (Err (Source fault at)) answer = Unit {0}
+abbrev pub ChecksEntries : Result Checked Fault → Result (Bool × ℕ) Refusal → Type 0
+ChecksEntries (Ok found) answer = answer ≡ Ok (found.rises, found.low)
+ChecksEntries (Err (Refused refusal)) answer = (IsBudget refusal → ⊥) → answer ≡ Err refusal
+ChecksEntries (Err (Source fault at)) answer = Unit {0}
 
 -- a window of n bytes at an offset may be patched: it lies inside the section, and the entries may be read
 pub record MayPatch (src : Counting) (target : Target) (low n : ℕ) : Type 0 where

@@ -18,8 +18,8 @@ use Rattle.elf_apply.specs.Entries.{target_as, patch_as, IsPlacedInside, Refers}
 use Rattle.elf_apply.specs.declared.entry.Placed.{Placed}
 use Rattle.elf_apply.specs.declared.entry.Target.{Target as TargetCode}
 use Rattle.elf_apply.specs.declared.walk.Entries.{Entries}
-use Rattle.elf_apply.specs.declared.walk.Step.{Step}
-use Rattle.elf_apply.specs.declared.walk.Step.TheVariants.{Stores, Nothing, End}
+use Rattle.elf_apply.specs.declared.walk.WalkStep.{WalkStep}
+use Rattle.elf_apply.specs.declared.walk.WalkStep.TheVariants.{Stores, Nothing, End}
 
 -- how many sections the target's file has
 abbrev pub sections_of : TargetCode → ℕ
@@ -104,12 +104,12 @@ abbrev pub CountsEntries : TargetCode → Entries → Entries → Type 0
 CountsEntries target old new = new.count + entries_from target new.next ≡ old.count + entries_from target old.next
 
 -- a step of the walk; a refusal for want of budget says nothing of the entries
-abbrev pub Walked : List ℕ → TargetCode → Entries → Entries → Result Step Fault → Type 0
-Walked file target old new (Ok (Stores placed)) = (changes_left file target old ≡ Put (patch_as placed) ∷ changes_left file target new) × ReadsEntries file target new
-Walked file target old new (Ok Nothing) = (changes_left file target old ≡ changes_left file target new) × ReadsEntries file target new
-Walked file target old new (Ok End) = changes_left file target old ≡ []
-Walked file target old new (Err (Refused refusal)) = (IsBudget refusal → ⊥) → (rest : List Change) × (changes_left file target old ≡ Fails refusal ∷ rest)
-Walked file target old new (Err (Source fault at)) = Unit {0}
+abbrev pub StepsWalk : List ℕ → TargetCode → Entries → Entries → Result WalkStep Fault → Type 0
+StepsWalk file target old new (Ok (Stores placed)) = (changes_left file target old ≡ Put (patch_as placed) ∷ changes_left file target new) × ReadsEntries file target new
+StepsWalk file target old new (Ok Nothing) = (changes_left file target old ≡ changes_left file target new) × ReadsEntries file target new
+StepsWalk file target old new (Ok End) = changes_left file target old ≡ []
+StepsWalk file target old new (Err (Refused refusal)) = (IsBudget refusal → ⊥) → (rest : List Change) × (changes_left file target old ≡ Fails refusal ∷ rest)
+StepsWalk file target old new (Err (Source fault at)) = Unit {0}
 
 -- the next entry that stores bytes; a refusal for want of budget says nothing of the entries
 abbrev pub FindsEntry : List ℕ → TargetCode → Entries → Entries → Result (Option Placed) Fault → Type 0
@@ -118,7 +118,7 @@ FindsEntry file target old new (Ok None) = changes_left file target old ≡ []
 FindsEntry file target old new (Err (Refused refusal)) = (IsBudget refusal → ⊥) → (rest : List Change) × (changes_left file target old ≡ Fails refusal ∷ rest)
 FindsEntry file target old new (Err (Source fault at)) = Unit {0}
 
-abbrev pub StepInside : ℕ → Step → Type 0
+abbrev pub StepInside : ℕ → WalkStep → Type 0
 StepInside size (Stores placed) = IsPlacedInside size placed
 StepInside size Nothing = Unit {0}
 StepInside size End = Unit {0}
@@ -128,7 +128,7 @@ FoundInside size (Some placed) = IsPlacedInside size placed
 FoundInside size None = Unit {0}
 
 -- fewer steps are left, or none and the sections are counted
-abbrev pub StepFewer : TargetCode → Entries → Entries → Step → Type 0
+abbrev pub StepFewer : TargetCode → Entries → Entries → WalkStep → Type 0
 StepFewer target old new (Stores placed) = steps_left target new < steps_left target old
 StepFewer target old new Nothing = steps_left target new < steps_left target old
 StepFewer target old new End = entries_from target new.next ≡ 0

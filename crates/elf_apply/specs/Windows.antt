@@ -1,6 +1,6 @@
 -- What a call that writes a section with its relocations applied did.
 use Rattle.std.specs.Prelude.{ℕ, ◌≡◌, ◌+◌, ◌-◌, ◌^◌, ◌/◌, ◌<◌, ◌≤◌, min, List, None, Result, Ok, Err}
-use Rattle.elf_model.specs.Apply.{Patch, patches_of, patched}
+use Rattle.elf_model.specs.Apply.{StoredBytes, patches_of, patched}
 use Rattle.elf_model.specs.ApplyLaws.{AllInside}
 use Rattle.elf_model.specs.Budget.{IsBudget}
 use Rattle.elf_model.specs.Bytes.{slice}
@@ -52,6 +52,6 @@ pub record MayWrite (src : Counting) (target : Target) (at bound : ℕ) : Type 0
 
 -- where all entries store patches inside the section, whose bytes stand at an offset, this holds of them and of its bytes
 -- with the patches
-abbrev pub OfPatches : Target → ℕ → (List Patch → List ℕ → Type 0) → List ℕ → Type 0
+abbrev pub OfPatches : Target → ℕ → (List StoredBytes → List ℕ → Type 0) → List ℕ → Type 0
 OfPatches target at Text file =
-    (patches : List Patch) → patches_of (changes_all file target) ≡ Ok patches → AllInside target.size patches → Text patches (patched patches (slice file at target.size))
+    (patches : List StoredBytes) → patches_of (changes_all file target) ≡ Ok patches → AllInside target.size patches → Text patches (patched patches (slice file at target.size))

@@ -12,7 +12,7 @@ ghost use Rattle.elf_apply.specs.Applied.{Applies, AppliesFile, AppliesLoaded, A
 ghost use Rattle.elf_apply.specs.Applied.{ApplySays, HasSection, HeldIs, MayApply, RoomFor};
 ghost use Rattle.elf_apply.specs.Applied.{ReadsWithin, WantsBudget, WritesWithin, WroteMost};
 ghost use Rattle.elf_apply.specs.Applied.{apply_ceiling, passes_cost, write_passes};
-ghost use Rattle.elf_apply.specs.InOrder.{Rises};
+ghost use Rattle.elf_apply.specs.InOrder.{OffsetsRise};
 ghost use Rattle.elf_apply.specs.Walk.{entries_from, walk_all};
 ghost use Rattle.elf_apply.specs.Windows.{ApplyFaultSays, MayWrite, OfPatches, WritesBytes};
 ghost use Rattle.elf_apply.specs.Windows.{WroteBytes, windows};
@@ -21,12 +21,12 @@ use crate::entry::Target;
 use crate::in_order::write_in_order;
 use crate::passes::{Checked, check};
 use crate::windows::write_windows;
-use elf_headers::{ends_outside, refused};
+use elf_headers::{Fault, HeaderStore, Loaded, Stop, ends_outside, header, load, refused};
 use elf_layout::{Addresses, Layout};
 use elf_record::numbers::{EM_X86_64, ET_REL, SHT_NOBITS, SHT_NULL};
 use elf_record::{Cause, Refusal, SectionFlags, Shdr};
 use elf_source::{Counted, Out, Sink, Source};
-use elf_table::{Fault, File, HeaderStore, Loaded, Stop, header, load};
+use elf_table::File;
 
 /// What was applied.
 #[derive(Clone, Copy)]
@@ -112,7 +112,7 @@ fn write_section<S: Source, W: Sink>(
     ensures grows { Grows out.old out.new }
     ensures wrote { WroteBytes out.old out.new result target.now.size }
     ensures text { (file : List ℕ) → src.old.seen.file ≡ Some file → OfPatches target.now at
-        (λ patches text. (rises ≡ true → Rises 0 patches) →
+        (λ patches text. (rises ≡ true → OffsetsRise 0 patches) →
         WritesBytes out.old out.new result text) file }
 {
     if rises && target.size > 0 {

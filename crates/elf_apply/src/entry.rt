@@ -16,14 +16,14 @@ ghost use Rattle.elf_apply.specs.Costs.{ValueOrRefusal};
 ghost use Rattle.elf_apply.specs.Entries.{Changes, Does, IsPlacedInside, Refers, target_as};
 ghost use Rattle.elf_apply.specs.Entries.{taken_place, term_of, value_or};
 
-use crate::lookup::{Symbol, base_value};
-use elf_headers::refused;
+use crate::lookup::{SymbolAt, base_value};
+use elf_headers::{Fault, refused};
 use elf_layout::Addresses;
 use elf_record::numbers::R_X86_64_NONE;
 use elf_record::{Cause, Rela};
 use elf_reloc::{Base, Formula, Patch, RelocationType, patch_of, relocation_type, takes_place};
 use elf_source::{Counted, Source};
-use elf_table::{Fault, File, Names, Table};
+use elf_table::{File, Names, Table};
 
 /// Symbols with the string table of their names.
 pub(crate) type Linked = Option<(Table, Names)>;
@@ -39,7 +39,7 @@ pub(crate) struct Taken {
 /// The symbols that the entries of a section refer to, and the address that the last of them took.
 /// An entry that takes the same reads nothing for it.
 #[derive(Clone, Copy)]
-pub(crate) struct Symbols {
+pub(crate) struct EntrySymbols {
     pub(crate) linked: Linked,
     pub(crate) last: Option<Taken>,
 }
@@ -71,7 +71,7 @@ pub(crate) fn entry_change<S: Source>(
     target: &Target<'_>,
     entry: &Rela,
     at: u64,
-    symbols: &mut Symbols,
+    symbols: &mut EntrySymbols,
 ) -> Result<Option<Placed>, Fault>
     requires within { IfSome symbols.old.linked (SymbolsWithin src.old.seen.size) }
     ensures same { symbols.new.linked ≡ symbols.old.linked }
@@ -120,7 +120,7 @@ fn stored<S: Source>(
     target: &Target<'_>,
     entry: &Rela,
     at: u64,
-    symbols: &mut Symbols,
+    symbols: &mut EntrySymbols,
     found: RelocationType,
 ) -> Result<Placed, Fault>
     requires within { IfSome symbols.old.linked (SymbolsWithin src.old.seen.size) }
@@ -169,7 +169,7 @@ fn taken_value<S: Source>(
     target: &Target<'_>,
     symbol: u32,
     at: u64,
-    symbols: &mut Symbols,
+    symbols: &mut EntrySymbols,
     base: Base,
 ) -> Result<u64, Fault>
     requires within { IfSome symbols.old.linked (SymbolsWithin src.old.seen.size) }
@@ -250,7 +250,7 @@ fn named_value<S: Source>(
         Ok(fields) => fields,
         Err(fault) => return Err(fault),
     };
-    let named = Symbol {
+    let named = SymbolAt {
         fields,
         names,
         at: place,

@@ -11,7 +11,7 @@ ghost use Rattle.elf_source.specs.Output.{Puts};
 ghost use Rattle.elf_source.specs.Source.{Reads};
 ghost use Rattle.elf_headers.specs.Faults.{ReadSays};
 ghost use Rattle.elf_apply.specs.Entries.{patch_as};
-ghost use Rattle.elf_apply.specs.InOrder.{IsHeldFrom, IsNoRefusal, MayRead, Midway, Rises};
+ghost use Rattle.elf_apply.specs.InOrder.{IsHeldFrom, IsNoRefusal, MayRead, Midway, OffsetsRise};
 ghost use Rattle.elf_apply.specs.InOrder.{end_of};
 ghost use Rattle.elf_apply.specs.Walk.{walk_all};
 ghost use Rattle.elf_apply.specs.Windows.{ApplyFaultSays, IsUnread, MayWrite, OfPatches};
@@ -20,10 +20,10 @@ ghost use Rattle.elf_apply.specs.Windows.{WritesBytes, WroteBytes};
 use crate::entry::{Placed, Target};
 use crate::passes::put_in;
 use crate::walk::Entries;
+use elf_headers::{Fault, Stop, fill};
 use elf_record::{Cause, Refusal};
 use elf_reloc::Patch;
 use elf_source::{Counted, Out, OutFault, Sink, Source};
-use elf_table::{Fault, Stop, fill};
 use std::marker::Model;
 
 /// How many bytes are read at once.
@@ -341,7 +341,7 @@ pub(crate) fn write_in_order<S: Source, W: Sink>(
     ensures grows { Grows out.old out.new }
     ensures wrote { WroteBytes out.old out.new result target.now.size }
     ensures text { (file : List ℕ) → src.old.seen.file ≡ Some file → OfPatches target.now at
-        (λ patches text. Rises 0 patches → WritesBytes out.old out.new result text) file }
+        (λ patches text. OffsetsRise 0 patches → WritesBytes out.old out.new result text) file }
 {
     let size = target.size;
     let mut entries = Entries::new();

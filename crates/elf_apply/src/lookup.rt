@@ -14,21 +14,21 @@ ghost use Rattle.elf_table.specs.Tables.{StringsWithin, strings_in};
 ghost use Rattle.elf_layout.specs.Layouts.{items_cost, names_for};
 ghost use Rattle.elf_apply.specs.Costs.{ValueOrCause, ValueOrRefusal};
 
-use elf_headers::{fill, refused};
-use elf_layout::{Addresses, Among, Named, SortedNames};
+use elf_headers::{Fault, fill, refused};
+use elf_layout::{Addresses, Among, NamedAddress, SortedNames};
 use elf_record::gnu_numbers::STT_GNU_IFUNC;
 use elf_record::numbers::{SHN_UNDEF, STB_WEAK, STT_LOOS};
 use elf_record::{Cause, Place, Sym};
 use elf_reloc::Base;
 use elf_source::{Counted, Source};
-use elf_table::{Fault, Names};
+use elf_table::Names;
 
 /// How many bytes of a symbol's name are read at most: the longest name of a layout, and its NUL.
-const NAME_BYTES: usize = 256;
+const NAME_BUFFER_BYTES: usize = 256;
 
 /// A symbol that stands at an offset of the file, with the string table of its name.
 #[derive(Clone, Copy)]
-pub(crate) struct Symbol {
+pub(crate) struct SymbolAt {
     pub(crate) fields: Sym,
     pub(crate) names: Names,
     pub(crate) at: u64,
@@ -39,8 +39,8 @@ pub(crate) struct Symbol {
 #[tactic(auto, unfolding(elf_model::specs::Placing::address_named))]
 fn compared<S: Source>(
     src: &mut Counted<S>,
-    symbol: &Symbol,
-    items: &[Named],
+    symbol: &SymbolAt,
+    items: &[NamedAddress],
 ) -> Result<Option<u64>, Fault>
     requires within { StringsWithin src.old.seen.size symbol.now.names }
     ensures reads { Reads src.old src.new (items_cost items.now) }
@@ -67,7 +67,7 @@ fn compared<S: Source>(
 /// has are read once, and searched for.
 fn searched<S: Source>(
     src: &mut Counted<S>,
-    symbol: &Symbol,
+    symbol: &SymbolAt,
     names: &SortedNames<'_>,
 ) -> Result<Option<u64>, Fault>
     requires within { StringsWithin src.old.seen.size symbol.now.names }
@@ -88,7 +88,7 @@ fn searched<S: Source>(
     if off >= size {
         return refused(symbol.at, Cause::NameOutside);
     }
-    let mut bytes = [0; NAME_BYTES];
+    let mut bytes = [0; NAME_BUFFER_BYTES];
     let count = (size - off).min(names.longest() as u64 + 1) as usize;
     read_name(src, symbol, &mut bytes[..count], names)
 }
@@ -96,7 +96,7 @@ fn searched<S: Source>(
 /// The address of the name whose first bytes are read, as many as `front` has.
 fn read_name<S: Source>(
     src: &mut Counted<S>,
-    symbol: &Symbol,
+    symbol: &SymbolAt,
     front: &mut [u8],
     names: &SortedNames<'_>,
 ) -> Result<Option<u64>, Fault>
@@ -127,7 +127,7 @@ fn read_name<S: Source>(
 #[tactic(auto, unfolding(elf_model::specs::ApplyCost::lookup_cost))]
 fn address_named<S: Source>(
     src: &mut Counted<S>,
-    symbol: &Symbol,
+    symbol: &SymbolAt,
     layout: &Addresses<'_>,
     base: Base,
 ) -> Result<Option<u64>, Fault>
@@ -177,7 +177,7 @@ fn undefined_value(symbol: &Sym, entry: u64) -> Result<u64, Fault>
 fn defined_value<S: Source>(
     src: &mut Counted<S>,
     layout: &Addresses<'_>,
-    symbol: &Symbol,
+    symbol: &SymbolAt,
     entry: u64,
 ) -> Result<u64, Fault>
     requires within { StringsWithin src.old.seen.size symbol.now.names }
@@ -214,7 +214,7 @@ fn is_system_specific(symbol: &Sym) -> bool
 fn system_value<S: Source>(
     src: &mut Counted<S>,
     layout: &Addresses<'_>,
-    symbol: &Symbol,
+    symbol: &SymbolAt,
     entry: u64,
 ) -> Result<u64, Fault>
     requires within { StringsWithin src.old.seen.size symbol.now.names }
@@ -236,7 +236,7 @@ fn system_value<S: Source>(
 fn located_value<S: Source>(
     src: &mut Counted<S>,
     layout: &Addresses<'_>,
-    symbol: &Symbol,
+    symbol: &SymbolAt,
     entry: u64,
 ) -> Result<u64, Fault>
     requires within { StringsWithin src.old.seen.size symbol.now.names }
@@ -264,7 +264,7 @@ fn located_value<S: Source>(
 fn symbol_value<S: Source>(
     src: &mut Counted<S>,
     layout: &Addresses<'_>,
-    symbol: &Symbol,
+    symbol: &SymbolAt,
     entry: u64,
 ) -> Result<u64, Fault>
     requires within { StringsWithin src.old.seen.size symbol.now.names }
@@ -286,7 +286,7 @@ fn symbol_value<S: Source>(
 fn linkage_value<S: Source>(
     src: &mut Counted<S>,
     layout: &Addresses<'_>,
-    symbol: &Symbol,
+    symbol: &SymbolAt,
     entry: u64,
 ) -> Result<u64, Fault>
     requires within { StringsWithin src.old.seen.size symbol.now.names }
@@ -310,7 +310,7 @@ fn linkage_value<S: Source>(
 fn entry_value<S: Source>(
     src: &mut Counted<S>,
     layout: &Addresses<'_>,
-    symbol: &Symbol,
+    symbol: &SymbolAt,
     entry: u64,
     base: Base,
 ) -> Result<u64, Fault>
@@ -336,7 +336,7 @@ fn entry_value<S: Source>(
 pub(crate) fn base_value<S: Source>(
     src: &mut Counted<S>,
     layout: &Addresses<'_>,
-    symbol: &Symbol,
+    symbol: &SymbolAt,
     entry: u64,
     base: Base,
 ) -> Result<u64, Fault>

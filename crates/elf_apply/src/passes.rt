@@ -7,13 +7,13 @@ ghost use Rattle.elf_source.specs.Source.{Reads};
 ghost use Rattle.elf_headers.specs.Faults.{Says};
 ghost use Rattle.elf_headers.specs.Load.{IsOpen};
 ghost use Rattle.elf_apply.specs.Entries.{patch_as};
-ghost use Rattle.elf_apply.specs.Passes.{Checks, Folds, MayPatch, folded, rising, storing};
+ghost use Rattle.elf_apply.specs.Passes.{ChecksEntries, Folds, MayPatch, folded, rising, storing};
 ghost use Rattle.elf_apply.specs.Walk.{changes_all, entries_from, walk_all};
 
 use crate::entry::{Placed, Target};
 use crate::walk::Entries;
+use elf_headers::Fault;
 use elf_source::{Counted, Source};
-use elf_table::Fault;
 
 /// What a pass that only checks found.
 #[derive(Clone, Copy)]
@@ -36,7 +36,7 @@ pub(crate) fn check<S: Source>(src: &mut Counted<S>, target: &Target<'_>) -> Res
     ensures says { IfErr result (Says src.old src.new (walk_all target.now)) }
     ensures counted { IfOk result (λ found. found.entries ≡ entries_from target.now 0) }
     ensures checked { (file : List ℕ) → src.old.seen.file ≡ Some file →
-        Checks result (folded rising (true, 0) (changes_all file target.now)) }
+        ChecksEntries result (folded rising (true, 0) (changes_all file target.now)) }
 {
     let mut entries = Entries::new();
     let mut rises = true;

@@ -6,27 +6,28 @@ ghost use Rattle.elf_headers.specs.Faults.{IsOfCheck, Says};
 ghost use Rattle.elf_headers.specs.Load.{Belongs};
 ghost use Rattle.elf_apply.specs.Walk.{AsksOf, BeginsWalk, CountsEntries, FindsEntry, FoundFewer};
 ghost use Rattle.elf_apply.specs.Walk.{FoundInside, Goes, MayWalk, ReadsEntries, StepFewer};
-ghost use Rattle.elf_apply.specs.Walk.{StepInside, Walked, walk_left};
+ghost use Rattle.elf_apply.specs.Walk.{StepInside, StepsWalk, walk_left};
 
-use crate::entry::{Placed, Symbols, Target, entry_change};
+use crate::entry::{EntrySymbols, Placed, Target, entry_change};
+use elf_headers::Fault;
 use elf_record::numbers::SHT_RELA;
 use elf_record::{Rela, Shdr};
 use elf_source::{Counted, Source};
-use elf_table::{Cursor, Fault, Row, Table};
+use elf_table::{Cursor, Row, Table};
 
 /// The relocation entries for a section, one after another: the rows of a section of entries, the
 /// sections that are still to be looked at, and how many entries the sections before those have.
 #[derive(Drop)]
 pub(crate) struct Entries {
     cursor: Cursor,
-    symbols: Symbols,
+    symbols: EntrySymbols,
     current: u16,
     next: u16,
     count: u128,
 }
 
 /// What a step of the walk gives.
-pub(crate) enum Step {
+pub(crate) enum WalkStep {
     /// An entry that stores bytes.
     Stores(Placed),
     /// Nothing: the walk goes on.
@@ -42,7 +43,7 @@ impl Entries {
     {
         Entries {
             cursor: Cursor::new(Table::new(0, 0, 24)),
-            symbols: Symbols {
+            symbols: EntrySymbols {
                 linked: None,
                 last: None,
             },
@@ -81,16 +82,20 @@ impl Entries {
     {
         'steps: loop {
             match self.step(src, target) {
-                Ok(Step::Stores(placed)) => return Ok(Some(placed)),
-                Ok(Step::Nothing) => {}
-                Ok(Step::End) => return Ok(None),
+                Ok(WalkStep::Stores(placed)) => return Ok(Some(placed)),
+                Ok(WalkStep::Nothing) => {}
+                Ok(WalkStep::End) => return Ok(None),
                 Err(fault) => return Err(fault),
             }
         }
     }
 
     /// One step: an entry, or a section.
-    fn step<S: Source>(&mut self, src: &mut Counted<S>, target: &Target<'_>) -> Result<Step, Fault>
+    fn step<S: Source>(
+        &mut self,
+        src: &mut Counted<S>,
+        target: &Target<'_>,
+    ) -> Result<WalkStep, Fault>
         requires { MayWalk src.old target.now self.old }
         ensures asks { AsksOf src.old src.new target.now self.old self.new }
         ensures says { IfErr result (Says src.old src.new (walk_left target.now self.old)) }
@@ -100,7 +105,7 @@ impl Entries {
         ensures inside { IfOk result (StepInside target.now.size) }
         ensures walked { (file : List ℕ) → src.old.seen.file ≡ Some file →
             ReadsEntries file target.now self.old →
-            Walked file target.now self.old self.new result }
+            StepsWalk file target.now self.old self.new result }
     {
         match self.cursor.advance(src) {
             Ok(true) => {
@@ -108,8 +113,8 @@ impl Entries {
                 let at = row.at;
                 let entry = Rela::decode(whole_row(&row));
                 match entry_change(src, target, &entry, at, &mut self.symbols) {
-                    Ok(Some(placed)) => Ok(Step::Stores(placed)),
-                    Ok(None) => Ok(Step::Nothing),
+                    Ok(Some(placed)) => Ok(WalkStep::Stores(placed)),
+                    Ok(None) => Ok(WalkStep::Nothing),
                     Err(fault) => Err(fault),
                 }
             }
@@ -119,7 +124,7 @@ impl Entries {
     }
 
     /// Goes to the next section: its entries, where it has some for the target.
-    fn open(&mut self, target: &Target<'_>) -> Result<Step, Fault>
+    fn open(&mut self, target: &Target<'_>) -> Result<WalkStep, Fault>
         requires goes { Goes target.now.file.loaded.size target.now self.old }
         requires none { self.old.cursor.left ≡ 0 }
         ensures goes { IfOk result
@@ -132,27 +137,27 @@ impl Entries {
         ensures walked { (file : List ℕ) →
             Belongs file target.now.file.loaded target.now.file.store.now →
             ReadsEntries file target.now self.old →
-            Walked file target.now self.old self.new result }
+            StepsWalk file target.now self.old self.new result }
     {
         let section = self.next;
         if section >= target.file.sections() {
-            return Ok(Step::End);
+            return Ok(WalkStep::End);
         }
         self.next += 1;
         let header = target.file.section(section);
         if !applies(&header, target.section) {
-            return Ok(Step::Nothing);
+            return Ok(WalkStep::Nothing);
         }
         match target.file.relocations(section) {
             Ok(found) => {
                 self.count += u128::from(found.0.len());
                 self.cursor = Cursor::new(found.0);
-                self.symbols = Symbols {
+                self.symbols = EntrySymbols {
                     linked: found.1,
                     last: None,
                 };
                 self.current = section;
-                Ok(Step::Nothing)
+                Ok(WalkStep::Nothing)
             }
             Err(fault) => Err(fault),
         }

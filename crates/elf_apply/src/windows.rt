@@ -9,8 +9,8 @@ ghost use Rattle.elf_apply.specs.Windows.{WroteBytes, windows};
 
 use crate::entry::Target;
 use crate::passes::patch_window;
+use elf_headers::{Stop, fill};
 use elf_source::{Counted, Out, Sink, Source};
-use elf_table::{Stop, fill};
 
 /// The size of a window in bytes.
 const WINDOW: usize = 64;

@@ -4,7 +4,7 @@ use Rattle.elf_model.specs.ApplyCost.{apply_cost, apply_cost_in_order, apply_cos
 use Rattle.elf_model.specs.Bytes.{little}
 use Rattle.elf_model.specs.Fixtures.{zeros, with_bytes}
 use Rattle.elf_model.specs.FixturesApply.{relocation, relocated, overlapping_relocations, overlapping_in_other_order, third_overflows, rising_relocations, falling_relocations, one_call, two_relocation_sections, with_entries_header, empty_layout, entry_layout, full_layout}
-use Rattle.elf_model.specs.Placing.{Layout, Lookup, Compared, Searched}
+use Rattle.elf_model.specs.Placing.{Layout, NameSearch, Compared, Searched}
 
 -- two entries without symbols, and one call with a procedure linkage table entry
 abbrev pub CostsOfWindows : Type 0
@@ -18,7 +18,7 @@ abbrev pub CostsOfNames : Type 0
 CostsOfNames =
     let definitions : List (List ℕ × ℕ) = (replicate 63 97, 1) ∷ (codes "f", 2) ∷ (codes "g", 3) ∷ [] in
     let linkage : List (List ℕ × ℕ) = (codes "f", 2) ∷ (replicate 64 97, 1) ∷ [] in
-    let laid : Lookup → Layout = λ lookup. record { lookup = lookup; sections = []; definitions = definitions; linkage = linkage; table = []; thread = [] } in
+    let laid : NameSearch → Layout = λ lookup. record { lookup = lookup; sections = []; definitions = definitions; linkage = linkage; table = []; thread = [] } in
     (layout_names_cost (laid Searched) ≡ 64 + 128) × (layout_names_cost (laid Compared) ≡ 3 * 64 + (64 + 128))
 
 -- a window has 64 bytes, the last one fewer

@@ -86,8 +86,8 @@ LaterItemsAreFound =
     × WritesSection one_call longer_layout (0xe8 ∷ 0xfb ∷ 0x1f ∷ 0 ∷ 0 ∷ [])
 
 -- definitions and entries, each with a name of 63 bytes and one of 64
-unfoldable pub long_names : Layout
-long_names =
+unfoldable pub long_named_layout : Layout
+long_named_layout =
     record {
       lookup = Compared;
       sections = [];
@@ -100,7 +100,7 @@ long_names =
 -- a name and its NUL cost whole pieces of 64 bytes
 abbrev pub LongNamesCost : Type 0
 LongNamesCost =
-    (layout_names_cost long_names ≡ (64 + 128) + (64 + 128))
+    (layout_names_cost long_named_layout ≡ (64 + 128) + (64 + 128))
     × (find_cost hash_with_cycle 4 (replicate 63 99) ≡ 76 + 256 + 3 * (28 + 64))
     × (find_cost hash_with_cycle 4 (replicate 64 99) ≡ 76 + 256 + 3 * (28 + 128))
 

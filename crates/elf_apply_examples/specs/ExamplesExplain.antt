@@ -1,7 +1,7 @@
 -- Worked examples of what a layout lacks where the entry of a call, at 0x48, is refused.
 use Rattle.std.specs.Prelude.{◌≡◌, ◌+◌, ℕ, List, [], ◌∷◌, ◌++◌, Option, None, Some, Ok, codes, replicate}
 use Rattle.elf_model.specs.Bytes.{little}
-use Rattle.elf_model.specs.Explain.{missing, refused_in, explained, told_name}
+use Rattle.elf_model.specs.Explain.{missing, refused_in, explained, told_symbol_name}
 use Rattle.elf_model.specs.ExplainLine.{explanation, lack_line}
 use Rattle.elf_model.specs.Fixtures.{with_bytes}
 use Rattle.elf_model.specs.FixturesApply.{one_call, two_relocation_sections, with_symbol, empty_layout, placed_layout}
@@ -10,8 +10,8 @@ use Rattle.elf_model.specs.Placing.{Layout}
 use Rattle.elf_model.specs.declared.causes.Cause.{Cause}
 use Rattle.elf_model.specs.declared.causes.Cause.TheVariants.{Undefined, Unplaced, Unsupported, Overflow}
 use Rattle.elf_model.specs.declared.missing.Missing.{Missing}
-use Rattle.elf_model.specs.declared.missing.Wanted.{Wanted}
-use Rattle.elf_model.specs.declared.missing.Wanted.TheVariants.{Place, Named}
+use Rattle.elf_model.specs.declared.missing.LayoutAddress.{LayoutAddress}
+use Rattle.elf_model.specs.declared.missing.LayoutAddress.TheVariants.{Place, Named}
 use Rattle.elf_model.specs.declared.relocation_types.Base.TheVariants.{Linkage, Table, Thread}
 
 -- what is missing at the entry of the call in a layout, whose section of entries has its header at 0x118
@@ -19,7 +19,7 @@ abbrev pub MissesInCall : List ℕ → Layout → Cause → Option Missing → T
 MissesInCall file layout cause answer = missing file 0x118 layout 1 (record { at = 0x48; cause = cause }) ≡ answer
 
 -- a type, a symbol's name and what is wanted
-abbrev pub lacks : ℕ → ℕ → Wanted → Option Missing
+abbrev pub lacks : ℕ → ℕ → LayoutAddress → Option Missing
 lacks kind name wanted = Some (record { kind = kind; name = name; wanted = wanted })
 
 -- the entry of the call with another type
@@ -58,18 +58,18 @@ SectionsOfEntries =
     × (refused_in (two_relocation_sections 10 16) 1 0x60 ≡ None)
 
 -- what is told of the entry of the call
-abbrev pub Tells : List ℕ → Layout → Cause → List ℕ → Type 0
-Tells file layout cause line = explanation (explained file 1 layout (record { at = 0x48; cause = cause })) ≡ line
+abbrev pub ExplainsAs : List ℕ → Layout → Cause → List ℕ → Type 0
+ExplainsAs file layout cause line = explanation (explained file 1 layout (record { at = 0x48; cause = cause })) ≡ line
 
 -- a definition or an entry of a name, an entry alone, a section; a name that has a fault; nothing is missing
 abbrev pub TellsOfCall : Type 0
 TellsOfCall =
-    Tells one_call placed_layout Undefined (codes "elfsee: PLT32 to f: plt:f=ADDR or def:f=ADDR would help\n")
-    × Tells (typed_call 9) placed_layout Unsupported (codes "elfsee: GOTPCREL to f: got:f=ADDR would help\n")
-    × Tells (with_symbol 6 (little 2 2)) placed_layout Unplaced (codes "elfsee: PLT32 to f: at:2=ADDR would help\n")
-    × Tells (with_symbol 0 (little 4 0)) empty_layout Unplaced (codes "elfsee: PLT32: at:1=ADDR would help\n")
-    × Tells (with_symbol 0 (little 4 9)) placed_layout Undefined []
-    × Tells one_call placed_layout Overflow []
+    ExplainsAs one_call placed_layout Undefined (codes "elfsee: PLT32 to f: plt:f=ADDR or def:f=ADDR would help\n")
+    × ExplainsAs (typed_call 9) placed_layout Unsupported (codes "elfsee: GOTPCREL to f: got:f=ADDR would help\n")
+    × ExplainsAs (with_symbol 6 (little 2 2)) placed_layout Unplaced (codes "elfsee: PLT32 to f: at:2=ADDR would help\n")
+    × ExplainsAs (with_symbol 0 (little 4 0)) empty_layout Unplaced (codes "elfsee: PLT32: at:1=ADDR would help\n")
+    × ExplainsAs (with_symbol 0 (little 4 9)) placed_layout Undefined []
+    × ExplainsAs one_call placed_layout Overflow []
 
 -- an entry of the offset from the thread pointer has an item of its own
 abbrev pub ThreadItemHelps : Type 0
@@ -80,8 +80,8 @@ ThreadItemHelps =
 -- a name of 255 bytes is told whole, as an item may have it, and one more is cut
 abbrev pub NamesAreToldAsItemsHaveThem : Type 0
 NamesAreToldAsItemsHaveThem =
-    (told_name (0 ∷ replicate 255 97 ++ 0 ∷ []) 1 ≡ Ok (Whole (replicate 255 97)))
-    × (told_name (0 ∷ replicate 256 97 ++ 0 ∷ []) 1 ≡ Ok (Cut (replicate 255 97)))
+    (told_symbol_name (0 ∷ replicate 255 97 ++ 0 ∷ []) 1 ≡ Ok (Whole (replicate 255 97)))
+    × (told_symbol_name (0 ∷ replicate 256 97 ++ 0 ∷ []) 1 ≡ Ok (Cut (replicate 255 97)))
 
 -- no item has a name that is cut, or is empty
 abbrev pub NoItemNames : Type 0

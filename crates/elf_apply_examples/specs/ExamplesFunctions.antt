@@ -6,10 +6,10 @@ use Rattle.elf_model.specs.Fixtures.{zeros, with_bytes}
 use Rattle.elf_model.specs.FixturesApply.{one_call, with_symbol, with_entries_header, empty_layout, placed_layout, defined_layout, entry_layout, unplaced_layout, full_layout, table_layout}
 use Rattle.elf_model.specs.Placing.{Layout, Compared, Searched}
 use Rattle.elf_model.specs.declared.causes.Cause.TheVariants.{Unsupported, Overflow, Unplaced, Undefined, PlaceOutside, NameOutside, BadLink, NotRel}
-use Rattle.elf_model.specs.declared.missing.Wanted.TheVariants.{Named, Entry}
+use Rattle.elf_model.specs.declared.missing.LayoutAddress.TheVariants.{Named, Entry}
 use Rattle.elf_model.specs.declared.relocation_types.Base.TheVariants.{Table}
 use Rattle.elf_apply_examples.specs.ExamplesApply.{WritesSection, RefusesSection, RefusesToApply}
-use Rattle.elf_apply_examples.specs.ExamplesExplain.{MissesInCall, Tells, lacks}
+use Rattle.elf_apply_examples.specs.ExamplesExplain.{MissesInCall, ExplainsAs, lacks}
 
 -- the call's symbol, with a type, a section index and a value
 abbrev pub symbol_of : ℕ → ℕ → ℕ → List ℕ
@@ -101,10 +101,10 @@ EntriesWouldHelp =
     × MissesInCall (call_of 11 2) placed_layout Unsupported None
     × MissesInCall (call_of 15 4) placed_layout Unsupported (lacks 4 1 Entry)
     × MissesInCall (call_of 10 9) placed_layout Unsupported (lacks 9 1 (Named Table))
-    × Tells (call_of 10 2) placed_layout Unsupported (codes "elfsee: PC32 to f: plt:f=ADDR would help\n")
-    × Tells (call_of 10 4) placed_layout Unsupported (codes "elfsee: PLT32 to f: plt:f=ADDR would help\n")
-    × Tells (with_bytes 0x78 (little 4 0) (call_of 10 2)) placed_layout Unsupported (codes "elfsee: PC32: no item can name it\n")
-    × Tells (call_of 12 2) placed_layout Unsupported []
+    × ExplainsAs (call_of 10 2) placed_layout Unsupported (codes "elfsee: PC32 to f: plt:f=ADDR would help\n")
+    × ExplainsAs (call_of 10 4) placed_layout Unsupported (codes "elfsee: PLT32 to f: plt:f=ADDR would help\n")
+    × ExplainsAs (with_bytes 0x78 (little 4 0) (call_of 10 2)) placed_layout Unsupported (codes "elfsee: PC32: no item can name it\n")
+    × ExplainsAs (call_of 12 2) placed_layout Unsupported []
 
 -- the call where section 1 has these flags
 abbrev pub flagged : ℕ → List ℕ

@@ -175,8 +175,8 @@ DefinitionsStandAlone =
     (0xe8 ∷ 0xfb ∷ 0xef ∷ 0xff ∷ 0xff ∷ [])
 
 -- no other file type and no other machine, whatever some of its bits are
-abbrev pub OtherFilesAreRefused : Type 0
-OtherFilesAreRefused =
+abbrev pub OtherMachinesAreRefused : Type 0
+OtherMachinesAreRefused =
     RefusesToApply (with_bytes 16 (little 2 0) one_call) entry_layout 0x10 NotRel
     × RefusesToApply (with_bytes 16 (little 2 0x101) one_call) entry_layout 0x10 NotRel
     × RefusesToApply (with_bytes 18 (little 2 3) one_call) entry_layout 0x12 NotRel

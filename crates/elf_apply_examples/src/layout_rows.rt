@@ -1,5 +1,5 @@
 //! Worked symbols in layouts and requests to apply, each a theorem about the definitions that the prover computes.
-ghost use Rattle.elf_apply_examples.specs.ExamplesLayouts.{WeakAloneIsZero, ReservedIndicesAreUnplaced, DefinitionsAreForUndefined, EntriesAreForAll, SectionBytesAreChecked, RequestsCheckTheFile, PlacesAreWhole, BadHeadersCost, OrderOverSections, NoBytesCost, OrderHasEachType, EntriesWithoutAddends, EntriesOfTheSection, OtherTypesAreUnsupported, WeakIsDefined, EntriesPastTheLastSection, AddressesMayBeZero, FirstItemStands, LaterNamesAreCompared, DefinitionsStandAlone, OtherFilesAreRefused};
+ghost use Rattle.elf_apply_examples.specs.ExamplesLayouts.{WeakAloneIsZero, ReservedIndicesAreUnplaced, DefinitionsAreForUndefined, EntriesAreForAll, SectionBytesAreChecked, RequestsCheckTheFile, PlacesAreWhole, BadHeadersCost, OrderOverSections, NoBytesCost, OrderHasEachType, EntriesWithoutAddends, EntriesOfTheSection, OtherTypesAreUnsupported, WeakIsDefined, EntriesPastTheLastSection, AddressesMayBeZero, FirstItemStands, LaterNamesAreCompared, DefinitionsStandAlone, OtherMachinesAreRefused};
 
 /// Undefined symbols by their binding.
 #[tactic(auto, unfolding(elf_model::proofs::OnLiterals::on_literals, crate::proofs::OnExamples::on_examples))]
@@ -124,5 +124,5 @@ pub fn definitions_stand_alone()
 /// File types and machines next to those that are applied.
 #[tactic(auto, unfolding(elf_model::proofs::OnLiterals::on_literals, crate::proofs::OnExamples::on_examples))]
 pub fn other_files_are_refused()
-    ensures { OtherFilesAreRefused }
+    ensures { OtherMachinesAreRefused }
 {}

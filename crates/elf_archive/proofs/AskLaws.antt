@@ -10,7 +10,7 @@ use Rattle.elf_source.proofs.ReadsLaws.{Reads-none, Reads-then, Reads-to, Faults
 use Rattle.elf_headers.specs.Faults.{Says}
 use Rattle.elf_headers.specs.declared.fault.Fault.{Fault}
 use Rattle.elf_headers.specs.declared.fault.Fault.TheVariants.{Refused, Source}
-use Rattle.elf_archive.specs.Members.{Asks, name_cost}
+use Rattle.elf_archive.specs.Members.{AsksAtMost, member_name_cost}
 use Rattle.elf_archive.proofs.MemberLaws.{name-of}
 
 -- reads behind others, in a bound on all
@@ -19,11 +19,11 @@ Says-then a b c (Refused refusal) n m k within p q = λ is.
     let over = q is in (rw (sym p.keeps.same_size) over.0, OverLimit-then n k (omega (arith, p.at_most)) p over.1, over.2)
 Says-then a b c (Source fault at) n m k within p q = (Faults-then a.seen b.seen c.seen fault p.keeps q.0, q.1)
 
-pub Asks-then : {X : Type 0} (a b c : Counting) (result : Result X Fault) (n m k : ℕ) → n + m ≤ k → Reads a b n → Asks b c result m → Asks a c result k
+pub Asks-then : {X : Type 0} (a b c : Counting) (result : Result X Fault) (n m k : ℕ) → n + m ≤ k → Reads a b n → AsksAtMost b c result m → AsksAtMost a c result k
 Asks-then a b c (Ok x) n m k within p q = (Reads-to (Reads-then p q.0) (omega (arith, p.at_most, q.0.at_most)), tt)
 Asks-then a b c (Err fault) n m k within p q = (Reads-to (Reads-then p q.0) (omega (arith, p.at_most, q.0.at_most)), Says-then a b c fault n m k within p q.1)
 
-pub Asks-to : {X : Type 0} (a b : Counting) (result : Result X Fault) (n k : ℕ) → n ≤ k → Asks a b result n → Asks a b result k
+pub Asks-to : {X : Type 0} (a b : Counting) (result : Result X Fault) (n k : ℕ) → n ≤ k → AsksAtMost a b result n → AsksAtMost a b result k
 Asks-to a b result n k within p = Asks-then a a b result 0 n k (omega (arith, within)) (Reads-none a 0) p
 
 -- a cost where there is room
@@ -39,13 +39,13 @@ where_most true n = omega arith
 where_most false n = omega arith
 
 -- what a header costs at most
-pub name_most : (header : List ℕ) (cap : ℕ) → name_cost header cap ≤ long_name_bytes cap
+pub name_most : (header : List ℕ) (cap : ℕ) → member_name_cost header cap ≤ long_name_bytes cap
 name_most header cap = where_most (is_elsewhere (take 16 header)) (long_name_bytes cap)
 
-pub header_some : (file header : List ℕ) (cap at : ℕ) (p : Progress) → p.at ≡ at → header ≡ slice file at 60 → at + 60 ≤ length file → header_cost file cap p ≡ 60 + name_cost header cap
+pub header_some : (file header : List ℕ) (cap at : ℕ) (p : Progress) → p.at ≡ at → header ≡ slice file at 60 → at + 60 ≤ length file → header_cost file cap p ≡ 60 + member_name_cost header cap
 unfolding header_cost
 header_some file header cap at p is read room =
-    let same : name_cost header cap ≡ cost_where (is_elsewhere (name_field file at)) (long_name_bytes cap) =
+    let same : member_name_cost header cap ≡ cost_where (is_elsewhere (name_field file at)) (long_name_bytes cap) =
     ap (λ field. cost_where (is_elsewhere field) (long_name_bytes cap)) (name-of file header at read) in
     rw (is, where_room at (length file) (60 + cost_where (is_elsewhere (name_field file at)) (long_name_bytes cap)) room, same) refl
 

@@ -10,10 +10,10 @@ use Rattle.elf_headers.specs.declared.fault.Fault.TheVariants.{Refused as Refuse
 use Rattle.elf_headers.specs.declared.stop.Stop.{Stop}
 use Rattle.elf_headers.specs.declared.stop.Stop.TheVariants.{Refused, Source, Out}
 use Rattle.elf_headers.specs.Faults.{Says}
-use Rattle.elf_archive.specs.Listed.{Consumes, Explains, IsAll}
+use Rattle.elf_archive.specs.Listed.{Consumes, StopTells, IsAll}
 
 -- reads behind others, in a bound on all
-pub Explains-then : (a b c : Counting) (out : Written) (stop : Stop) (n m k : ℕ) → n + m ≤ k → Reads a b n → Explains b c out m stop → Explains a c out k stop
+pub Explains-then : (a b c : Counting) (out : Written) (stop : Stop) (n m k : ℕ) → n + m ≤ k → Reads a b n → StopTells b c out m stop → StopTells a c out k stop
 Explains-then a b c out (Refused refusal) n m k within p q = λ is.
     let over = q is in (rw (sym p.keeps.same_size) over.0, OverLimit-then n k (omega (arith, p.at_most)) p over.1)
 Explains-then a b c out (Source fault at) n m k within p q = Faults-then a.seen b.seen c.seen fault p.keeps q

@@ -17,7 +17,7 @@ use Rattle.elf_headers.specs.declared.fault.Fault.{Fault}
 use Rattle.elf_headers.specs.declared.fault.Fault.TheVariants.{Refused, Source}
 use Rattle.elf_lines.specs.Pieces.{shown_as}
 use Rattle.elf_table.specs.NamesRead.{Refuses}
-use Rattle.elf_archive.specs.Members.{NameShown, name_cost, told_cost}
+use Rattle.elf_archive.specs.Members.{NameShown, member_name_cost, told_cost}
 use Rattle.elf_archive.proofs.MemberLaws.{name-of}
 
 -- two slices, one behind the other
@@ -121,10 +121,10 @@ unfolding is_elsewhere
 elsewhere-long field told = rw told refl
 
 -- what it costs by the header
-pub cost-bsd : (header : List ℕ) (cap size : ℕ) → bsd_name_size (take 16 header) ≡ Some size → name_cost header cap ≡ long_name_bytes cap
+pub cost-bsd : (header : List ℕ) (cap size : ℕ) → bsd_name_size (take 16 header) ≡ Some size → member_name_cost header cap ≡ long_name_bytes cap
 cost-bsd header cap size told = ap (λ t. cost_where t (long_name_bytes cap)) (elsewhere-bsd (take 16 header) size told)
 
-pub cost-told : (header : List ℕ) (cap : ℕ) → bsd_name_size (take 16 header) ≡ None → name_cost header cap ≡ told_cost (take 16 header) cap
+pub cost-told : (header : List ℕ) (cap : ℕ) → bsd_name_size (take 16 header) ≡ None → member_name_cost header cap ≡ told_cost (take 16 header) cap
 cost-told header cap told = ap (λ t. cost_where t (long_name_bytes cap)) (elsewhere-long (take 16 header) told)
 
 -- a name at the front of the data, by the bytes that are looked at

@@ -7,13 +7,13 @@ use Rattle.elf_model.specs.ArchiveCost.{IsArchiveBudgeted, any_refused, archive_
 use Rattle.elf_model.specs.Budget.{IsBudget, IsReport}
 use Rattle.elf_model.specs.Checks.{first_refusal}
 use Rattle.elf_model.specs.Lines.{refusal_line}
-use Rattle.elf_model.specs.Listing.{Item, Fault as FaultItem, lines_of, fault_of, report_of, end_text}
+use Rattle.elf_model.specs.Listing.{ListingItem, Fault as FaultItem, lines_of, fault_of, report_of, end_text}
 use Rattle.elf_model.specs.Style.{Style}
 use Rattle.elf_model.specs.declared.causes.Cause.TheVariants.{Budget}
 use Rattle.elf_model.specs.declared.causes.Refusal.{Refusal}
 use Rattle.elf_model.proofs.BudgetLaws.{is_budget}
 use Rattle.elf_model.proofs.ListingLemmas.{listings_append}
-use Rattle.elf_source.specs.Source.{Counting, Seen, Limits, Reads, counted}
+use Rattle.elf_source.specs.Source.{Counting, Seen, SetsLimit, Reads, counted}
 use Rattle.elf_source.specs.Output.{Written, TakesFront}
 use Rattle.elf_source.proofs.LimitLaws.{budget_below, late_budget, within_budget}
 use Rattle.elf_source.proofs.PutsLaws.{Takes-then, TakesFront-then, TakesFront-more, TakesFront-all}
@@ -24,7 +24,7 @@ use Rattle.elf_headers.specs.declared.stop.Stop.TheVariants.{Refused, Source, Ou
 use Rattle.elf_listing.specs.Reports.{Wrote, WroteRefusal, TellsStop}
 use Rattle.elf_listing.specs.Shows.{WroteItems, Front, IsNext, EndsRefused, Stopped}
 use Rattle.elf_listing.proofs.EachLaws.{lines_front}
-use Rattle.elf_archive.specs.Listed.{ArchiveSays, AsksInArchive, BudgetSays, Explains, ReportsArchive}
+use Rattle.elf_archive.specs.Listed.{ArchiveSays, AsksInArchive, BudgetSays, StopTells, ReportsArchive}
 
 -- a report is what is listed, within every budget
 report_listed : (budget : Option ℕ) (file : List ℕ) (headers : ℕ) (style : Style) (parts : ℕ) (text : List ℕ) (fault : Option Refusal) → IsReport style.format (archive_items file headers style parts) text fault
@@ -33,14 +33,14 @@ report_listed None file headers style parts text fault is = is
 report_listed (Some budget) file headers style parts text fault is = inl is
 
 -- what is listed with these caps
-abbrev items_with : List ℕ → Caps → ℕ → List Item
+abbrev items_with : List ℕ → Caps → ℕ → List ListingItem
 items_with file caps parts = archive_items file caps.limits.headers (style_of caps.style) parts
 
 -- a listing without a fault is its report
 pub whole_archive : {a b : Written} (file : List ℕ) (caps : Caps) (parts : ℕ) (any : Bool) → any ≡ any_refused file caps.limits.headers (style_of caps.style) parts
     → WroteItems a b (archive_items file caps.limits.headers (style_of caps.style) parts) → ReportsArchive file caps parts a b (Ok any)
 whole_archive file caps parts any is whole =
-    let all : List Item = items_with file caps parts in
+    let all : List ListingItem = items_with file caps parts in
     let text : lines_of all ≡ report_of caps.style.format all = sym (ap (λ end. lines_of all ++ end_text caps.style.format end) whole.no_fault ∙ append-nil (lines_of all)) in
     record {
       text = lines_of all;
@@ -64,7 +64,7 @@ wrote_front (Out cause) text fault is front = front
 -- a front of a listing is a front of its report
 front_report : {a b : Written} (file : List ℕ) (caps : Caps) (parts : ℕ) (stop : Stop) → IsFault stop → TakesFront a b (lines_of (items_with file caps parts)) → ReportsArchive file caps parts a b (Err stop)
 front_report file caps parts stop is front =
-    let all : List Item = items_with file caps parts in
+    let all : List ListingItem = items_with file caps parts in
     record {
       text = report_of caps.style.format all;
       fault = fault_of all;
@@ -74,14 +74,14 @@ front_report file caps parts stop is front =
     }
 
 -- whole lines of a listing are a front of its lines
-front_lines : {a b : Written} (all : List Item) → Front a b all → TakesFront a b (lines_of all)
+front_lines : {a b : Written} (all : List ListingItem) → Front a b all → TakesFront a b (lines_of all)
 front_lines all front =
     let more = lines_front front.front front.rest in
     let split = ap lines_of front.split ∙ more.1 in
     rw split (TakesFront-all (lines_of front.front) more.0 front.takes)
 
 -- a listing that ended in a refusal, and what was put of its line
-ended : {a b : Written} (refusal : Refusal) (all : List Item) (ends : EndsRefused a b refusal all) → IsNext refusal ends.front.rest
+ended : {a b : Written} (refusal : Refusal) (all : List ListingItem) (ends : EndsRefused a b refusal all) → IsNext refusal ends.front.rest
     → (lines_of all ≡ lines_of ends.front.front) × (fault_of all ≡ Some refusal)
 ended refusal all ends next =
     let front = ends.front.front in
@@ -91,7 +91,7 @@ ended refusal all ends next =
 
 -- the text of a listing that ended in a refusal
 ended_listed : {a b : Written} (file : List ℕ) (caps : Caps) (parts : ℕ) (refusal : Refusal) (before limited after : Counting) → before.asked ≤ 2 ^ 127
-    → Limits before limited caps.limits.budget → before.seen.size ≡ length file → BudgetSays limited after (archive_cost file caps.limits.headers (style_of caps.style) parts) refusal
+    → SetsLimit before limited caps.limits.budget → before.seen.size ≡ length file → BudgetSays limited after (archive_cost file caps.limits.headers (style_of caps.style) parts) refusal
     → (ends : EndsRefused a b refusal (items_with file caps parts))
     → IsArchiveBudgeted caps.limits.budget file caps.limits.headers (style_of caps.style) parts (lines_of ends.front.front ++ refusal_line caps.style.format refusal) (Some refusal)
 ended_listed file caps parts refusal before limited after small limits sized says ends = by_cause (is_budget refusal.cause)
@@ -129,14 +129,14 @@ ended_listed file caps parts refusal before limited after small limits sized say
         → IsArchiveBudgeted caps.limits.budget file caps.limits.headers (style_of caps.style) parts (lines_of ends.front.front ++ refusal_line caps.style.format refusal) (Some refusal)
     by_cause (inl for_budget) = cut caps.limits.budget refl for_budget
     by_cause (inr other) =
-        let all : List Item = items_with file caps parts in
+        let all : List ListingItem = items_with file caps parts in
         let is = ended refusal all ends (ends.next other) in
         report_listed caps.limits.budget file caps.limits.headers (style_of caps.style) parts _ _
         (record { text_is = sym (ap (λ lines. lines ++ end_text caps.style.format (fault_of all)) is.0 ∙ ap (λ end. lines_of ends.front.front ++ end_text caps.style.format end) is.1); fault_is = sym is.1 })
 
 -- a listing that ended in a refusal, whose line was told
 ended_report : {a b c : Written} (file : List ℕ) (caps : Caps) (parts : ℕ) (refusal : Refusal) (told : Stop) (before limited after : Counting) → before.asked ≤ 2 ^ 127
-    → Limits before limited caps.limits.budget → before.seen.size ≡ length file → BudgetSays limited after (archive_cost file caps.limits.headers (style_of caps.style) parts) refusal
+    → SetsLimit before limited caps.limits.budget → before.seen.size ≡ length file → BudgetSays limited after (archive_cost file caps.limits.headers (style_of caps.style) parts) refusal
     → EndsRefused a b refusal (items_with file caps parts) → WroteRefusal caps.style.format b c refusal told → ReportsArchive file caps parts a c (Err told)
 ended_report {a} {b} {c} file caps parts refusal told before limited after small limits sized says ends line = record {
   text = lines_of ends.front.front ++ refusal_line caps.style.format refusal;
@@ -153,7 +153,7 @@ ended_report {a} {b} {c} file caps parts refusal told before limited after small
 
 -- a listing that stopped, and what was told of that
 pub stopped_archive : {a c : Written} (b : Written) (file : List ℕ) (caps : Caps) (parts : ℕ) (stop told : Stop) (before limited after : Counting) (out : Written) → before.asked ≤ 2 ^ 127
-    → Limits before limited caps.limits.budget → before.seen.size ≡ length file → Explains limited after out (archive_cost file caps.limits.headers (style_of caps.style) parts) stop
+    → SetsLimit before limited caps.limits.budget → before.seen.size ≡ length file → StopTells limited after out (archive_cost file caps.limits.headers (style_of caps.style) parts) stop
     → Stopped a b stop (archive_items file caps.limits.headers (style_of caps.style) parts) → TellsStop caps.style.format b c stop told → ReportsArchive file caps parts a c (Err told)
 stopped_archive b file caps parts (Refused refusal) told before limited after out small limits sized says ends tells =
     ended_report file caps parts refusal told before limited after small limits sized says ends tells
@@ -163,8 +163,8 @@ stopped_archive b file caps parts (Out cause) told before limited after out smal
     rw (tells.0, tells.1) (front_report file caps parts (Out cause) tt ends)
 
 -- what is asked for within a budget
-pub asks_in_archive : (caps : Caps) (s0 s1 s2 s3 : Counting) (n : ℕ) (result : Result Bool Stop) → s0.asked ≤ 2 ^ 127 → Limits s0 s1 caps.limits.budget
-    → Reads s1 s2 (archive_ceiling s1.seen.size caps.limits.headers caps.style.cap.bytes) → Limits s2 s3 None
+pub asks_in_archive : (caps : Caps) (s0 s1 s2 s3 : Counting) (n : ℕ) (result : Result Bool Stop) → s0.asked ≤ 2 ^ 127 → SetsLimit s0 s1 caps.limits.budget
+    → Reads s1 s2 (archive_ceiling s1.seen.size caps.limits.headers caps.style.cap.bytes) → SetsLimit s2 s3 None
     → ((refusal : Refusal) → first_refusal (archive_length_checks s1.seen.size) ≡ Some refusal → s2 ≡ s1)
     → ((refusal : Refusal) → result ≡ Err (Refused refusal) → BudgetSays s1 s2 n refusal) → AsksInArchive caps s0 s3 result
 asks_in_archive caps s0 s1 s2 s3 n result small set reads unset unread late =
@@ -184,7 +184,7 @@ asks_in_archive caps s0 s1 s2 s3 n result small set reads unset unread late =
     }
 
 -- a refusal that was told is the one that stopped the listing
-pub told_late : (format : Format) (s1 s2 : Counting) (a b out : Written) (n : ℕ) (stop told : Stop) → TellsStop format a b stop told → Explains s1 s2 out n stop
+pub told_late : (format : Format) (s1 s2 : Counting) (a b out : Written) (n : ℕ) (stop told : Stop) → TellsStop format a b stop told → StopTells s1 s2 out n stop
     → (refusal : Refusal) → told ≡ Refused refusal → BudgetSays s1 s2 n refusal
 told_late format s1 s2 a b out n (Refused first) (Refused same) tells says refusal is =
     let all : first ≡ refusal = cc in subst (λ (r : Refusal). BudgetSays s1 s2 n r) all says
@@ -194,8 +194,8 @@ told_late format s1 s2 a b out n (Source cause at) told tells says refusal is = 
 told_late format s1 s2 a b out n (Out cause) told tells says refusal is = let other = tells.1 in cc
 
 -- what was told of a stop says of the source and the output what the stop did
-pub told_says : (format : Format) (s0 s1 s2 s3 : Counting) (a b : Written) (n : ℕ) (budget : Option ℕ) (stop told : Stop) → Limits s0 s1 budget → Limits s2 s3 None
-    → TellsStop format a b stop told → Explains s1 s2 a n stop → ArchiveSays s0 s3 b told
+pub told_says : (format : Format) (s0 s1 s2 s3 : Counting) (a b : Written) (n : ℕ) (budget : Option ℕ) (stop told : Stop) → SetsLimit s0 s1 budget → SetsLimit s2 s3 None
+    → TellsStop format a b stop told → StopTells s1 s2 a n stop → ArchiveSays s0 s3 b told
 told_says format s0 s1 s2 s3 a b n budget (Refused first) (Refused same) set unset tells says = tt
 told_says format s0 s1 s2 s3 a b n budget (Refused first) (Source cause at) set unset tells says = absurd tells
 told_says format s0 s1 s2 s3 a b n budget (Refused first) (Out cause) set unset tells says = tells.0

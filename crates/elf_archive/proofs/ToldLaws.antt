@@ -3,7 +3,7 @@ use Rattle.std.proofs.Common.{◌≡◌, ℕ, Bool, List, [], ◌∷◌, ◌++�
 use Rattle.elf_model.specs.Archive.{told}
 use Rattle.elf_model.specs.Budget.{IsBudget}
 use Rattle.elf_model.specs.Lines.{refusal_line}
-use Rattle.elf_model.specs.Listing.{Item, Line, Fault, lines_of, fault_of, report_of}
+use Rattle.elf_model.specs.Listing.{ListingItem, Line, Fault, lines_of, fault_of, report_of}
 use Rattle.elf_model.specs.declared.causes.Refusal.{Refusal}
 use Rattle.elf_model.specs.declared.formats.Format.{Format}
 use Rattle.elf_model.proofs.BudgetLaws.{is_budget}
@@ -17,34 +17,34 @@ use Rattle.elf_archive.specs.Listed.{ListsTold, TellsEnd, WroteEnd}
 
 module _ (format : Format) where
   -- without a fault nothing changes
-  told_none : (items : List Item) → fault_of items ≡ None → told format items ≡ items
+  told_none : (items : List ListingItem) → fault_of items ≡ None → told format items ≡ items
   told_none [] none = refl
   told_none (Line text ∷ items) none = ap (λ rest. Line text ∷ rest) (told_none items none)
   told_none (Fault refusal ∷ items) none = cc
 
   -- the lines are the text of its report
-  told_lines : (items : List Item) → lines_of (told format items) ≡ report_of format items
+  told_lines : (items : List ListingItem) → lines_of (told format items) ≡ report_of format items
   told_lines [] = refl
   told_lines (Line text ∷ items) = ap (λ rest. text ++ rest) (told_lines items) ∙ sym (append_assoc text _ _)
   told_lines (Fault refusal ∷ items) = append-nil (refusal_line format refusal)
 
   -- items in front of the first fault stand
-  told_front : (front rest : List Item) → fault_of front ≡ None → told format (front ++ rest) ≡ front ++ told format rest
+  told_front : (front rest : List ListingItem) → fault_of front ≡ None → told format (front ++ rest) ≡ front ++ told format rest
   told_front [] rest none = refl
   told_front (Line text ∷ front) rest none = ap (λ more. Line text ∷ more) (told_front front rest none)
   told_front (Fault refusal ∷ front) rest none = cc
 
-  told_split : (items front rest : List Item) → items ≡ front ++ rest → fault_of front ≡ None → told format items ≡ front ++ told format rest
+  told_split : (items front rest : List ListingItem) → items ≡ front ++ rest → fault_of front ≡ None → told format items ≡ front ++ told format rest
   told_split items front rest split none = ap (told format) split ∙ told_front front rest none
 
   -- a listing without a fault
-  whole_told : {a b : Written} (items : List Item) → WroteItems a b items → ListsTold format a b (Ok false) items
+  whole_told : {a b : Written} (items : List ListingItem) → WroteItems a b items → ListsTold format a b (Ok false) items
   whole_told items p =
       let same = told_none items p.no_fault in
       (rw same p, sym (ap is_some p.no_fault))
 
   -- a front of a listing
-  front_told : {a b : Written} (items : List Item) → Front a b items → Front a b (told format items)
+  front_told : {a b : Written} (items : List ListingItem) → Front a b items → Front a b (told format items)
   front_told items p = record {
     front = p.front;
     rest = told format p.rest;
@@ -54,11 +54,11 @@ module _ (format : Format) where
   }
 
   -- a listing that ended in a refusal, whose line was written
-  refused_told : (a b c : Written) (items : List Item) (refusal : Refusal) (result : Result Bool Stop) → (IsBudget refusal → ⊥) → EndsRefused a b refusal items → WroteEnd format b c refusal result
+  refused_told : (a b c : Written) (items : List ListingItem) (refusal : Refusal) (result : Result Bool Stop) → (IsBudget refusal → ⊥) → EndsRefused a b refusal items → WroteEnd format b c refusal result
       → ListsTold format a c result items
   refused_told a b c items refusal result other ends wrote = by_result result wrote
     where
-      front : List Item
+      front : List ListingItem
       front = ends.front.front
 
       behind : items ≡ front ++ (Fault refusal ∷ (ends.next other).behind)
@@ -84,7 +84,7 @@ module _ (format : Format) where
       by_result (Err (Out fault)) wrote = (rw lines (TakesFront-then (lines_of front) (refusal_line format refusal) ends.front.takes wrote.1), tt)
 
   -- the listing of a member, and how its end was told
-  pub lists_told : {X : Type 0} (a b c : Written) (items : List Item) (start : ℕ) (listed : Result X Stop) (result : Result Bool Stop) → Writes a b listed items → TellsEnd format start b c listed result
+  pub lists_told : {X : Type 0} (a b c : Written) (items : List ListingItem) (start : ℕ) (listed : Result X Stop) (result : Result Bool Stop) → Writes a b listed items → TellsEnd format start b c listed result
       → ListsTold format a c result items
   lists_told a b c items start (Ok x) result p tells = rw (tells.0, tells.1) (whole_told items p)
   lists_told a b c items start (Err (Refused refusal)) result p tells = by_cause (is_budget refusal.cause)

@@ -4,7 +4,7 @@ use Rattle.std.proofs.lemmas.Bool.Decides.{nat_tests}
 use Rattle.std.specs.List.{list_any}
 use Rattle.elf_model.specs.Archive.{Members, Next, Ends, Broken, OneMember, Progress, behind, is_refused, member_items, members_from, members_items, end_items, next_member, walk_items, with_member}
 use Rattle.elf_model.specs.ArchiveCost.{header_cost, member_cost, members_cost}
-use Rattle.elf_model.specs.Listing.{Item}
+use Rattle.elf_model.specs.Listing.{ListingItem}
 use Rattle.elf_model.specs.Style.{Style}
 use Rattle.elf_source.specs.Source.{Counting, Reads}
 use Rattle.elf_source.specs.Output.{Written}
@@ -12,7 +12,7 @@ use Rattle.elf_source.proofs.ReadsLaws.{Reads-none, Reads-then}
 use Rattle.elf_headers.specs.declared.stop.Stop.{Stop}
 use Rattle.elf_listing.specs.Shows.{WroteItems, Writes}
 use Rattle.elf_listing.proofs.ShowLaws.{Whole-none, Whole-then, Stopped-then, Stopped-more}
-use Rattle.elf_archive.specs.Listed.{Consumes, Steps, Walks, next_cost, next_items}
+use Rattle.elf_archive.specs.Listed.{Consumes, StepsListing, WalksMembers, next_cost, next_items}
 use Rattle.elf_archive.proofs.ConsumeLaws.{Consumes-then}
 use Rattle.elf_archive.proofs.MemberLaws.{next-ends}
 
@@ -41,7 +41,7 @@ members_next file cap (suc most) p (Broken refusal) enough is = rw (is, members_
 members_next file cap (suc most) p (OneMember m) enough is = rw (is, members_from) refl
 
 -- what stands behind the next place
-abbrev pub after_items : List ℕ → ℕ → Style → ℕ → ℕ → Progress → Next → List Item
+abbrev pub after_items : List ℕ → ℕ → Style → ℕ → ℕ → Progress → Next → List ListingItem
 after_items file headers style parts most p Ends = []
 after_items file headers style parts most p (Broken refusal) = []
 after_items file headers style parts most p (OneMember m) = walk_items file headers style parts (members_from (fewer most) file style.cap (behind file p m))
@@ -103,7 +103,7 @@ cost_next file headers style parts (suc most) p (OneMember m) enough is =
 pub record WalkSoFar (file : List ℕ) (headers : ℕ) (style : Style) (parts first : ℕ) (start p : Progress) (a b : Counting) (old new : Written) (any : Bool) : Type 0 where
   pub most : ℕ
   pub enough : length file < p.at + most
-  pub listed : List Item
+  pub listed : List ListingItem
   pub wrote : WroteItems old new listed
   pub left : walk_items file headers style parts (members_from first file style.cap start) ≡ listed ++ walk_items file headers style parts (members_from most file style.cap p)
   pub spent : ℕ
@@ -136,7 +136,7 @@ or_false false = refl
 
 -- a member more
 pub walk_more : (file : List ℕ) (headers : ℕ) (style : Style) (parts first : ℕ) (start p q : Progress) (a b c : Counting) (old new out : Written) (any refused both : Bool)
-    → (any || refused) ≡ both → p.at < q.at → WalkSoFar file headers style parts first start p a b old new any → Steps file headers style parts p q (Ok (Some refused))
+    → (any || refused) ≡ both → p.at < q.at → WalkSoFar file headers style parts first start p a b old new any → StepsListing file headers style parts p q (Ok (Some refused))
     → Consumes {X = Option Bool} b c out (Ok (Some refused)) (next_cost file headers style parts p (next_member file style.cap p))
     → Writes {X = Option Bool} new out (Ok (Some refused)) (next_items file headers style parts (next_member file style.cap p))
     → WalkSoFar file headers style parts first start q a c old out both
@@ -171,10 +171,10 @@ walk_more file headers style parts first start p q a b c old new out any refused
 
 -- the file's end
 pub walk_ends : (file : List ℕ) (headers : ℕ) (style : Style) (parts first : ℕ) (start p q : Progress) (a b c : Counting) (old new out : Written) (any : Bool)
-    → WalkSoFar file headers style parts first start p a b old new any → Steps file headers style parts p q (Ok None)
+    → WalkSoFar file headers style parts first start p a b old new any → StepsListing file headers style parts p q (Ok None)
     → Consumes {X = Option Bool} b c out (Ok None) (next_cost file headers style parts p (next_member file style.cap p))
     → Writes {X = Option Bool} new out (Ok None) (next_items file headers style parts (next_member file style.cap p))
-    → Walks file headers style parts first start a c old out (Ok any)
+    → WalksMembers file headers style parts first start a c old out (Ok any)
 walk_ends file headers style parts first start p q a b c old new out any known steps takes text =
     let items = rw steps at text in
     let cost : Reads b c (header_cost file style.cap p) = rw steps at takes.0 in
@@ -192,7 +192,7 @@ pub walk_stops : (file : List ℕ) (headers : ℕ) (style : Style) (parts first 
     → WalkSoFar file headers style parts first start p a b old new any
     → Consumes {X = Option Bool} b c out (Err stop) (next_cost file headers style parts p (next_member file style.cap p))
     → Writes {X = Option Bool} new out (Err stop) (next_items file headers style parts (next_member file style.cap p))
-    → Walks file headers style parts first start a c old out (Err stop)
+    → WalksMembers file headers style parts first start a c old out (Err stop)
 walk_stops file headers style parts first start p a b c old new out any stop known takes text =
     let next = next_member file style.cap p in
     let whole = walk_next file headers style parts known.most p next known.enough refl in

@@ -6,12 +6,12 @@ use Rattle.elf_model.specs.ArchiveCost.{IsArchiveBudgeted, allowance, any_refuse
 use Rattle.elf_model.specs.Budget.{IsBudget}
 use Rattle.elf_model.specs.Checks.{first_refusal}
 use Rattle.elf_model.specs.Lines.{refusal_line}
-use Rattle.elf_model.specs.Listing.{Item, Fault, fault_of}
+use Rattle.elf_model.specs.Listing.{ListingItem, Fault, fault_of}
 use Rattle.elf_model.specs.Style.{Style}
 use Rattle.elf_model.specs.declared.causes.Refusal.{Refusal}
 use Rattle.elf_model.specs.declared.formats.Format.{Format}
 use Rattle.elf_source.specs.Source.{Counting, Faults, OverLimit, Reads}
-use Rattle.elf_source.specs.Ranges.{IsWhole}
+use Rattle.elf_source.specs.Ranges.{IsWholeRange}
 use Rattle.elf_source.specs.Output.{Written, Takes, TakesFront, OutFails}
 use Rattle.elf_headers.specs.Permitted.{style_of}
 use Rattle.elf_headers.specs.declared.caps.Caps.{Caps}
@@ -19,11 +19,11 @@ use Rattle.elf_headers.specs.declared.stop.Stop.{Stop}
 use Rattle.elf_headers.specs.declared.stop.Stop.TheVariants.{Refused, Source, Out}
 use Rattle.elf_listing.specs.Reports.{Wrote}
 use Rattle.elf_listing.specs.Shows.{Writes}
-use Rattle.elf_archive.specs.Members.{StandsIn}
+use Rattle.elf_archive.specs.Members.{WalkStandsIn}
 
 -- a source is a range of all bytes of an archive, and nothing of it is hidden
 pub record IsAll (c : Counting) : Type 0 where
-  pub whole : IsWhole c.seen
+  pub whole : IsWholeRange c.seen
   pub shows : c.hides ≡ false
 
 -- what a refusal says of the source, by reads of at most n bytes: where it is for want of budget, it names an offset of the file
@@ -31,14 +31,14 @@ abbrev pub BudgetSays : Counting → Counting → ℕ → Refusal → Type 0
 BudgetSays old new n refusal = IsBudget refusal → (refusal.at < old.seen.size) × OverLimit old new n
 
 -- what a stop says of the source and the output
-abbrev pub Explains : Counting → Counting → Written → ℕ → Stop → Type 0
-Explains old new out n (Refused refusal) = BudgetSays old new n refusal
-Explains old new out n (Source fault at) = Faults old.seen new.seen fault
-Explains old new out n (Out fault) = OutFails out fault
+abbrev pub StopTells : Counting → Counting → Written → ℕ → Stop → Type 0
+StopTells old new out n (Refused refusal) = BudgetSays old new n refusal
+StopTells old new out n (Source fault at) = Faults old.seen new.seen fault
+StopTells old new out n (Out fault) = OutFails out fault
 
 -- WHAT A CALL TAKES of the source: it asked for at most n bytes, and a stop says what is so
 abbrev pub Consumes : {X : Type 0} → Counting → Counting → Written → Result X Stop → ℕ → Type 0
-Consumes old new out result n = Reads old new n × IfErr result (Explains old new out n)
+Consumes old new out result n = Reads old new n × IfErr result (StopTells old new out n)
 
 -- an offset behind another one, as far as 64 bits go
 abbrev pub behind_start : ℕ → ℕ → ℕ
@@ -62,11 +62,11 @@ TellsEnd format start old new (Err (Source fault at)) result = (result ≡ Err (
 TellsEnd format start old new (Err (Out fault)) result = (result ≡ Err (Out fault)) × (new ≡ old)
 
 -- the listing of a member was written, its refusal as a line, and the answer is whether there was one
-abbrev pub ListsTold : Format → Written → Written → Result Bool Stop → List Item → Type 0
+abbrev pub ListsTold : Format → Written → Written → Result Bool Stop → List ListingItem → Type 0
 ListsTold format old new result items = Writes old new result (told format items) × IfOk result (λ refused. refused ≡ is_some (fault_of items))
 
 -- what is listed at the next place of a walk
-abbrev pub next_items : List ℕ → ℕ → Style → ℕ → Next → List Item
+abbrev pub next_items : List ℕ → ℕ → Style → ℕ → Next → List ListingItem
 next_items file headers style parts Ends = []
 next_items file headers style parts (Broken refusal) = Fault refusal ∷ []
 next_items file headers style parts (OneMember member) = member_items file headers style parts member
@@ -78,15 +78,15 @@ next_cost file headers style parts p (Broken refusal) = header_cost file style.c
 next_cost file headers style parts p (OneMember member) = header_cost file style.cap p + member_cost file headers style parts member
 
 -- a step of a listing tells where its walk has come to, and whether the member was refused
-abbrev pub Steps : List ℕ → ℕ → Style → ℕ → Progress → Progress → Result (Option Bool) Stop → Type 0
-Steps file headers style parts old new (Ok None) = next_member file style.cap old ≡ Ends
-Steps file headers style parts old new (Ok (Some refused)) =
+abbrev pub StepsListing : List ℕ → ℕ → Style → ℕ → Progress → Progress → Result (Option Bool) Stop → Type 0
+StepsListing file headers style parts old new (Ok None) = next_member file style.cap old ≡ Ends
+StepsListing file headers style parts old new (Ok (Some refused)) =
     (member : Member) × (next_member file style.cap old ≡ OneMember member) × (new ≡ behind file old member)
     × (refused ≡ is_refused file headers style parts member)
-Steps file headers style parts old new (Err stop) = Unit {0}
+StepsListing file headers style parts old new (Err stop) = Unit {0}
 
 -- a walk over at most so many members wrote what is listed of them, for no more than they cost, and answers whether one was refused
-pub record Walks (file : List ℕ) (headers : ℕ) (style : Style) (parts most : ℕ) (p : Progress) (a b : Counting) (old new : Written) (result : Result Bool Stop) : Type 0 where
+pub record WalksMembers (file : List ℕ) (headers : ℕ) (style : Style) (parts most : ℕ) (p : Progress) (a b : Counting) (old new : Written) (result : Result Bool Stop) : Type 0 where
   pub takes : Consumes a b new result (members_cost most file headers style parts p)
   pub text : Writes old new result (walk_items file headers style parts (members_from most file style.cap p))
   pub refused : IfOk result (λ any. any ≡ list_any (is_refused file headers style parts) (members_from most file style.cap p).members)
@@ -106,7 +106,7 @@ pub record StepsWithin (headers cap : ℕ) (old new : Progress) (a b : Counting)
 -- the walk behind a member stands in the source still, and further on
 abbrev pub StandsBehind : ℕ → Progress → Progress → Result (Option Bool) Stop → Type 0
 StandsBehind size old new (Ok None) = Unit {0}
-StandsBehind size old new (Ok (Some refused)) = StandsIn size new × (old.at < new.at)
+StandsBehind size old new (Ok (Some refused)) = WalkStandsIn size new × (old.at < new.at)
 StandsBehind size old new (Err stop) = Unit {0}
 
 -- THE TEXT: what these caps and parts list of an archive was written, its report or, where it costs more than the budget, a

@@ -8,21 +8,21 @@ use Rattle.elf_model.specs.Notes.{capped}
 use Rattle.elf_model.specs.declared.causes.Cause.{Cause}
 use Rattle.elf_model.specs.declared.causes.Refusal.{Refusal}
 use Rattle.elf_lines.specs.Pieces.{shown_as}
-use Rattle.elf_rows.specs.declared.name.Range.{Range}
+use Rattle.elf_rows.specs.declared.name.ByteRange.{ByteRange}
 use Rattle.elf_archive.specs.declared.rows.MemberRow.{MemberRow}
-use Rattle.elf_archive.specs.declared.rows.Members.{Members}
-use Rattle.elf_archive.specs.declared.rows.Named.{Named}
+use Rattle.elf_archive.specs.declared.rows.MembersLeft.{MembersLeft}
+use Rattle.elf_archive.specs.declared.rows.MemberName.{MemberName}
 
 -- the bytes of a range
-abbrev pub extent_in : Range → Extent
+abbrev pub extent_in : ByteRange → Extent
 extent_in range = record { at = range.at; size = range.len }
 
 -- the table of names that a place has, if it has one; it may be any bytes
-abbrev pub names_in : Members → Option Extent
+abbrev pub names_in : MembersLeft → Option Extent
 names_in place = elim (place.has_names == 0) [ true ↦ None | false ↦ Some (extent_in place.names) ]
 
 -- the walk that has come to a place, with some index for the next member: a place counts none
-abbrev pub walk_at : ℕ → Members → Progress
+abbrev pub walk_at : ℕ → MembersLeft → Progress
 walk_at index place = record { at = place.at; index = index; names = names_in place }
 
 -- the member that a row tells: its name is the bytes at the place that the row tells
@@ -31,18 +31,18 @@ member_in file index row =
     record { index = index; extent = extent_in row.content; name = shown_as (not (row.is_cut == 0)) (bytes_in file (extent_in row.name)) }
 
 -- a name of so many bytes at an offset is found: it is shown with at most 4,096 bytes, which lie in the file
-abbrev pub Names : List ℕ → ℕ → ℕ → Named → Type 0
-Names file at size named =
+abbrev pub NamesMember : List ℕ → ℕ → ℕ → MemberName → Type 0
+NamesMember file at size named =
     (capped 4096 (slice file at size) ≡ shown_as named.is_cut (bytes_in file (extent_in named.place))) × (named.place.at + named.place.len ≤ length file)
 
 -- a name is found where it lies, or its cause
-abbrev pub IsNamed : List ℕ → Result Named Cause → Result Shown Cause → Type 0
-IsNamed file (Ok named) answer =
+abbrev pub FindsMemberName : List ℕ → Result MemberName Cause → Result Shown Cause → Type 0
+FindsMemberName file (Ok named) answer =
     (answer ≡ Ok (shown_as named.is_cut (bytes_in file (extent_in named.place)))) × (named.place.at + named.place.len ≤ length file)
-IsNamed file (Err cause) answer = answer ≡ Err cause
+FindsMemberName file (Err cause) answer = answer ≡ Err cause
 
 -- a row tells the member that stands next in a walk, and the walk goes on behind it; its data and its name lie in the file
-pub record TellsRow (file : List ℕ) (old new : Members) (row : MemberRow) : Type 0 where
+pub record TellsRow (file : List ℕ) (old new : MembersLeft) (row : MemberRow) : Type 0 where
   pub member : (index : ℕ) → next_member file 4096 (walk_at index old) ≡ OneMember (member_in file index row)
   pub goes_on : (index : ℕ) → walk_at (index + 1) new ≡ behind file (walk_at index old) (member_in file index row)
   pub header : row.at ≡ old.at
@@ -54,13 +54,13 @@ pub record TellsRow (file : List ℕ) (old new : Members) (row : MemberRow) : Ty
 
 -- A STEP over the next member of a walk: its row; or the walk is at the file's end; or no member stands there, for this cause. Names
 -- are shown with at most 4,096 bytes
-abbrev pub StepsMember : List ℕ → Members → Members → Result (Option MemberRow) Refusal → Type 0
+abbrev pub StepsMember : List ℕ → MembersLeft → MembersLeft → Result (Option MemberRow) Refusal → Type 0
 StepsMember file old new (Ok (Some row)) = TellsRow file old new row
 StepsMember file old new (Ok None) = (new ≡ old) × ((index : ℕ) → next_member file 4096 (walk_at index old) ≡ Ends)
 StepsMember file old new (Err refusal) = (new ≡ old) × ((index : ℕ) → next_member file 4096 (walk_at index old) ≡ Broken refusal)
 
 -- WHAT A CALLER HAS of an archive: a place before its first member, or the first check that fails
-abbrev pub OpensMembers : List ℕ → Result (Option Members) Refusal → Type 0
+abbrev pub OpensMembers : List ℕ → Result (Option MembersLeft) Refusal → Type 0
 OpensMembers file (Ok (Some place)) =
     (first_refusal (archive_checks file) ≡ None) × (walk_at 0 place ≡ before_members) × (place.names ≡ record { at = 0; len = 0 }) × (place.none ≡ 0)
 OpensMembers file (Ok None) = ⊥

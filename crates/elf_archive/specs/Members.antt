@@ -22,8 +22,8 @@ abbrev pub extent_of : Place → Extent
 extent_of place = record { at = place.at; size = place.size }
 
 -- the table of names, if there was one
-abbrev pub names_of : Option Place → Option Extent
-names_of names = option_map extent_of names
+abbrev pub extent_of_names : Option Place → Option Extent
+extent_of_names names = option_map extent_of names
 
 -- a member, with the bytes of its name that are shown
 abbrev pub member_of : Given → List ℕ → Member
@@ -34,7 +34,7 @@ abbrev pub LiesIn : ℕ → Extent → Type 0
 LiesIn size extent = extent.at + extent.size ≤ size
 
 -- a walk over the members stands within a source of this size, or just behind its end, and has passed over 60 bytes a member
-pub record StandsIn (size : ℕ) (p : Progress) : Type 0 where
+pub record WalkStandsIn (size : ℕ) (p : Progress) : Type 0 where
   pub within : p.at ≤ size + 1
   pub passed : 8 + 60 * p.index ≤ p.at
   pub names : IfSome p.names (LiesIn size)
@@ -85,7 +85,7 @@ pub record PassesMember (size : ℕ) (old new : Progress) (given : Given) : Type
   pub index : given.index ≡ old.index
   pub begins : old.at + 60 ≤ given.extent.at
   pub lies : LiesIn size (extent_of given.extent)
-  pub stands : StandsIn size new
+  pub stands : WalkStandsIn size new
   pub counts : new.index ≡ old.index + 1
   pub ends : given.extent.at + given.extent.size ≤ new.at
 
@@ -101,8 +101,8 @@ names_passed (Some table) header extent = Some table
 names_passed None header extent = if is_name_table header 0 then Some extent else None
 
 -- what a name costs by the header
-abbrev pub name_cost : List ℕ → ℕ → ℕ
-name_cost header cap = cost_where (is_elsewhere (take 16 header)) (long_name_bytes cap)
+abbrev pub member_name_cost : List ℕ → ℕ → ℕ
+member_name_cost header cap = cost_where (is_elsewhere (take 16 header)) (long_name_bytes cap)
 
 -- what a name costs that its field alone tells
 abbrev pub told_cost : List ℕ → ℕ → ℕ
@@ -113,5 +113,5 @@ abbrev pub step_cost : ℕ → ℕ → Progress → ℕ
 step_cost size cap p = cost_where (nat_le (p.at + 60) size) (60 + long_name_bytes cap)
 
 -- what reads did: they asked for at most n bytes, and a fault says what is so
-abbrev pub Asks : {X : Type 0} → Counting → Counting → Result X Fault → ℕ → Type 0
-Asks old new result n = Reads old new n × IfErr result (Says old new n)
+abbrev pub AsksAtMost : {X : Type 0} → Counting → Counting → Result X Fault → ℕ → Type 0
+AsksAtMost old new result n = Reads old new n × IfErr result (Says old new n)

@@ -4,10 +4,10 @@ ghost use Rattle.elf_model.specs.Archive.{before_members, member_data, name_in_d
 ghost use Rattle.elf_model.specs.ArchiveCost.{header_cost};
 ghost use Rattle.elf_model.specs.Bytes.{slice};
 ghost use Rattle.elf_model.specs.Cost.{cost_where};
-ghost use Rattle.elf_archive.specs.Members.{Asks, DataRead, LiesIn, StandsIn, StepsOver, TellsMember, extent_of};
-ghost use Rattle.elf_archive.specs.Members.{names_of, names_passed, step_cost};
+ghost use Rattle.elf_archive.specs.Members.{AsksAtMost, DataRead, LiesIn, WalkStandsIn, StepsOver, TellsMember, extent_of};
+ghost use Rattle.elf_archive.specs.Members.{extent_of_names, names_passed, step_cost};
 
-use crate::fields::{HEADER_BYTES, data_within, is_name_table, padded_end};
+use crate::fields::{MEMBER_HEADER_BYTES, data_within, is_name_table, padded_end};
 use crate::member::{Extent, Member};
 use crate::names::read_name;
 use elf_headers::{Cap, Fault, fill, refused};
@@ -29,11 +29,11 @@ pub struct MemberCursor {
 
 impl Model for MemberCursor {
     ghost use Rattle.elf_model.specs.Archive.{Progress};
-    ghost use Rattle.elf_archive.specs.Members.{names_of};
+    ghost use Rattle.elf_archive.specs.Members.{extent_of_names};
 
     ghost Value = { Progress };
 
-    ghost view = { λ c. record { at = c.at; index = c.index; names = names_of c.names } };
+    ghost view = { λ c. record { at = c.at; index = c.index; names = extent_of_names c.names } };
 }
 
 impl MemberCursor {
@@ -68,11 +68,11 @@ impl MemberCursor {
         name: &mut NameBuf,
     ) -> Result<Option<Member>, Fault>
         requires size { src.old.seen.size < 2 ^ 63 }
-        requires stands { StandsIn src.old.seen.size self.old }
-        ensures asks { Asks src.old src.new result
+        requires stands { WalkStandsIn src.old.seen.size self.old }
+        ensures asks { AsksAtMost src.old src.new result
             (step_cost src.old.seen.size cap.bytes self.old) }
         ensures cost { (file : List ℕ) → src.old.seen.file ≡ Some file →
-            Asks src.old src.new result (header_cost file cap.bytes self.old) }
+            AsksAtMost src.old src.new result (header_cost file cap.bytes self.old) }
         ensures steps { StepsOver src.old.seen.size self.old self.new result }
         ensures tells { (file : List ℕ) → src.old.seen.file ≡ Some file →
             TellsMember file cap.bytes self.old self.new name.new result }
@@ -81,7 +81,7 @@ impl MemberCursor {
             return Ok(None);
         }
         let at = self.at;
-        let mut header = [0; HEADER_BYTES];
+        let mut header = [0; MEMBER_HEADER_BYTES];
         let extent = read_header(src, at, &mut header)?;
         let is_cut = read_name(src, self.names, &header, at, cap, name)?;
         let index = self.index;
@@ -94,7 +94,7 @@ impl MemberCursor {
     }
 
     /// Goes behind the member with this header and these data.
-    fn pass(&mut self, header: &[u8; HEADER_BYTES], extent: Extent)
+    fn pass(&mut self, header: &[u8; MEMBER_HEADER_BYTES], extent: Extent)
         requires begins { self.old.at + 60 ≤ extent.at }
         requires ends { extent.at + extent.size < 2 ^ 63 }
         requires count { self.old.index < 2 ^ 63 }
@@ -119,10 +119,10 @@ impl MemberCursor {
 fn read_header<S: Source>(
     src: &mut Counted<S>,
     at: u64,
-    header: &mut [u8; HEADER_BYTES],
+    header: &mut [u8; MEMBER_HEADER_BYTES],
 ) -> Result<Extent, Fault>
     requires { (src.old.seen.size < 2 ^ 63) × (at < src.old.seen.size) }
-    ensures asks { Asks src.old src.new result
+    ensures asks { AsksAtMost src.old src.new result
         (cost_where (nat_le (at + 60) src.old.seen.size) 60) }
     ensures begins { IfOk result (λ extent.
         extent.at ≡ at + 60 + name_in_data (take 16 header.new)) }
@@ -133,7 +133,7 @@ fn read_header<S: Source>(
         DataRead at result (member_data file at) }
 {
     let left = src.length() - at;
-    if left < HEADER_BYTES as u64 {
+    if left < MEMBER_HEADER_BYTES as u64 {
         return refused(at, Cause::MemberCut);
     }
     fill(src, at, header)?;

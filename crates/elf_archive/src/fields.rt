@@ -12,10 +12,10 @@ use elf_record::{u16_at, u64_at};
 use memchr::memchr;
 
 /// The size of a member's header in bytes.
-pub(crate) const HEADER_BYTES: usize = 60;
+pub(crate) const MEMBER_HEADER_BYTES: usize = 60;
 
 /// The size of the field of the name in bytes.
-pub(crate) const NAME_BYTES: usize = 16;
+pub(crate) const NAME_FIELD_BYTES: usize = 16;
 
 /// The byte that fills up a field.
 const SPACE: u8 = b' ';
@@ -29,7 +29,7 @@ const HEADER_MARK: u16 = 0x0a60;
 /// The size of its data that a header tells; None where the header does not end in its mark, or the
 /// field is no decimal number.
 #[tactic(auto, unfolding(elf_model::specs::Archive::told_size))]
-pub(crate) fn told_size(header: &[u8; HEADER_BYTES]) -> Option<u64>
+pub(crate) fn told_size(header: &[u8; MEMBER_HEADER_BYTES]) -> Option<u64>
     ensures value { result ≡ told_size header.now 0 }
     ensures small { IfSome result (λ size. size < 2 ^ 62) }
 {
@@ -41,7 +41,7 @@ pub(crate) fn told_size(header: &[u8; HEADER_BYTES]) -> Option<u64>
 
 /// The size of all data that a header tells, where the header and they have room in `left` bytes, of
 /// which the header has 60; None where no such size is told.
-pub(crate) fn size_within(header: &[u8; HEADER_BYTES], left: u64) -> Option<u64>
+pub(crate) fn size_within(header: &[u8; MEMBER_HEADER_BYTES], left: u64) -> Option<u64>
     requires { 60 ≤ left }
     ensures lies { IfSome result (λ size. 60 + size ≤ left) }
     ensures size { (file : List ℕ) (at : ℕ) → header.now ≡ slice file at 60 →
@@ -50,7 +50,7 @@ pub(crate) fn size_within(header: &[u8; HEADER_BYTES], left: u64) -> Option<u64>
     let Some(size) = told_size(header) else {
         return None;
     };
-    if left - (HEADER_BYTES as u64) < size {
+    if left - (MEMBER_HEADER_BYTES as u64) < size {
         return None;
     }
     Some(size)
@@ -59,7 +59,7 @@ pub(crate) fn size_within(header: &[u8; HEADER_BYTES], left: u64) -> Option<u64>
 /// The data that the header at the file offset `at` tells, behind the name where that stands at their
 /// front, where the header and all data have room in `left` bytes, of which the header has 60; None
 /// where no size is told, or one that has no room there, or the name has no room in the data.
-pub(crate) fn data_within(header: &[u8; HEADER_BYTES], at: u64, left: u64) -> Option<Extent>
+pub(crate) fn data_within(header: &[u8; MEMBER_HEADER_BYTES], at: u64, left: u64) -> Option<Extent>
     requires header { 60 ≤ left }
     requires small { at + left < 2 ^ 63 }
     ensures begins { IfSome result (λ extent.
@@ -76,7 +76,7 @@ pub(crate) fn data_within(header: &[u8; HEADER_BYTES], at: u64, left: u64) -> Op
         return None;
     }
     Some(Extent {
-        at: at + HEADER_BYTES as u64 + name,
+        at: at + MEMBER_HEADER_BYTES as u64 + name,
         size: size - name,
     })
 }
@@ -88,11 +88,11 @@ pub(crate) fn padded_end(header: u64, end: u64) -> u64
     requires small { end < 2 ^ 63 }
     ensures { result ≡ padded_end header end }
 {
-    end + (end - (header + HEADER_BYTES as u64)) % 2
+    end + (end - (header + MEMBER_HEADER_BYTES as u64)) % 2
 }
 
 /// Whether a header is that of the table of names: its name is two slashes.
-pub(crate) fn is_name_table(header: &[u8; HEADER_BYTES]) -> bool
+pub(crate) fn is_name_table(header: &[u8; MEMBER_HEADER_BYTES]) -> bool
     ensures { result ≡ is_name_table header.now 0 }
 {
     u64_at(header, 0) == 0x2020_2020_2020_2f2f && u64_at(header, 8) == 0x2020_2020_2020_2020

@@ -14,4 +14,4 @@ pub use cursor::MemberCursor;
 pub use listing::show_archive;
 pub use magic_strings::{begins_elf, magic};
 pub use member::{Extent, Member};
-pub use rows::{MemberRow, Members, next_member, open_members};
+pub use rows::{MemberRow, MembersLeft, next_member, open_members};

@@ -13,9 +13,9 @@ ghost use Rattle.elf_listing.specs.Reports.{Leaves};
 ghost use Rattle.elf_listing.specs.Shows.{Writes};
 ghost use Rattle.elf_source.specs.Growth.{Grows};
 ghost use Rattle.elf_source.specs.Output.{Puts};
-ghost use Rattle.elf_archive.specs.Listed.{ArchiveSays, AsksInArchive, Consumes, IsAll, ReportsArchive, Steps};
-ghost use Rattle.elf_archive.specs.Listed.{ListsTold, StandsBehind, StepsWithin, TellsEnd, Walks, next_cost, next_items};
-ghost use Rattle.elf_archive.specs.Members.{LiesIn, StandsIn, extent_of, member_of};
+ghost use Rattle.elf_archive.specs.Listed.{ArchiveSays, AsksInArchive, Consumes, IsAll, ReportsArchive, StepsListing};
+ghost use Rattle.elf_archive.specs.Listed.{ListsTold, StandsBehind, StepsWithin, TellsEnd, WalksMembers, next_cost, next_items};
+ghost use Rattle.elf_archive.specs.Members.{LiesIn, WalkStandsIn, extent_of, member_of};
 
 use crate::cursor::MemberCursor;
 use crate::magic_strings::{begins_elf, magic};
@@ -135,7 +135,7 @@ fn list_members<S: Source, W: Sink>(
     ensures allowed { Consumes src.old src.new out.new result
         (allowance (src.old.seen.size - 8) store.old.slots choice.style.cap.bytes) }
     ensures walks { (file : List ℕ) → src.old.seen.file ≡ Some file →
-        Walks file store.old.slots (style_of choice.style) choice.parts.0 (length file)
+        WalksMembers file store.old.slots (style_of choice.style) choice.parts.0 (length file)
         before_members src.old src.new out.old out.new result }
 {
     let mut cursor = MemberCursor::new();
@@ -170,7 +170,7 @@ fn list_next<S: Source, W: Sink>(
 ) -> Result<Option<bool>, Stop>
     requires whole { IsAll src.old }
     requires size { src.old.seen.size < 2 ^ 63 }
-    requires stands { StandsIn src.old.seen.size cursor.old }
+    requires stands { WalkStandsIn src.old.seen.size cursor.old }
     ensures slots { store.new.slots ≡ store.old.slots }
     ensures grows { Grows out.old out.new }
     ensures stands { StandsBehind src.old.seen.size cursor.old cursor.new result }
@@ -185,7 +185,7 @@ fn list_next<S: Source, W: Sink>(
         (next_items file store.old.slots (style_of choice.style) choice.parts.0
         (next_member file choice.style.cap.bytes cursor.old)) }
     ensures steps { (file : List ℕ) → src.old.seen.file ≡ Some file →
-        Steps file store.old.slots (style_of choice.style) choice.parts.0
+        StepsListing file store.old.slots (style_of choice.style) choice.parts.0
         cursor.old cursor.new result }
 {
     let Some(member) = cursor.advance(src, choice.style.cap, name)? else {

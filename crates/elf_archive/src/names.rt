@@ -7,12 +7,12 @@ ghost use Rattle.elf_model.specs.Notes.{capped};
 ghost use Rattle.elf_headers.specs.Faults.{IsOfRead, Says};
 ghost use Rattle.elf_lines.specs.Pieces.{shown_as};
 ghost use Rattle.elf_source.specs.Source.{Reads};
-ghost use Rattle.elf_archive.specs.Members.{FrontRead, LengthTold, LiesIn, NameShown, name_cost, names_of};
+ghost use Rattle.elf_archive.specs.Members.{FrontRead, LengthTold, LiesIn, NameShown, member_name_cost, extent_of_names};
 ghost use Rattle.elf_archive.specs.Members.{told_cost};
 
 use crate::fields::{
-    HEADER_BYTES, NAME_BYTES, NUL, bsd_name_size, find_byte, long_offset, short_length,
-    slashless_length, trimmed_length,
+    MEMBER_HEADER_BYTES, NAME_FIELD_BYTES, NUL, bsd_name_size, find_byte, long_offset,
+    short_length, slashless_length, trimmed_length,
 };
 use crate::member::Extent;
 use elf_headers::{Cap, Fault, fill, refused};
@@ -35,23 +35,23 @@ pub(crate) const LONG_NAME_BYTES: usize = 4098;
 pub(crate) fn read_name<S: Source>(
     src: &mut Counted<S>,
     names: Option<Extent>,
-    header: &[u8; HEADER_BYTES],
+    header: &[u8; MEMBER_HEADER_BYTES],
     at: u64,
     cap: Cap,
     name: &mut NameBuf,
 ) -> Result<bool, Fault>
     requires size { src.old.seen.size < 2 ^ 63 }
-    requires lies { IfSome (names_of names) (LiesIn src.old.seen.size) }
+    requires lies { IfSome (extent_of_names names) (LiesIn src.old.seen.size) }
     requires front { at + 60 + name_in_data (take 16 header.now) ≤ src.old.seen.size }
-    ensures reads { Reads src.old src.new (name_cost header.now cap.bytes) }
-    ensures says { IfErr result (Says src.old src.new (name_cost header.now cap.bytes)) }
+    ensures reads { Reads src.old src.new (member_name_cost header.now cap.bytes) }
+    ensures says { IfErr result (Says src.old src.new (member_name_cost header.now cap.bytes)) }
     ensures read { (file : List ℕ) → src.old.seen.file ≡ Some file →
         header.now ≡ slice file at 60 →
-        NameShown at result name.new (member_name file cap.bytes (names_of names) at) }
+        NameShown at result name.new (member_name file cap.bytes (extent_of_names names) at) }
 {
     let field = &header[..NAME_BYTES];
     match bsd_name_size(field) {
-        Some(size) => read_bsd(src, at + HEADER_BYTES as u64, size, cap, name),
+        Some(size) => read_bsd(src, at + MEMBER_HEADER_BYTES as u64, size, cap, name),
         None => read_told(src, names, field, at, cap, name),
     }
 }
@@ -124,11 +124,11 @@ fn read_told<S: Source>(
 ) -> Result<bool, Fault>
     requires field { length field.now ≡ 16 }
     requires size { src.old.seen.size < 2 ^ 63 }
-    requires lies { IfSome (names_of names) (LiesIn src.old.seen.size) }
+    requires lies { IfSome (extent_of_names names) (LiesIn src.old.seen.size) }
     ensures reads { Reads src.old src.new (told_cost field.now cap.bytes) }
     ensures says { IfErr result (Says src.old src.new (told_cost field.now cap.bytes)) }
     ensures read { (file : List ℕ) → src.old.seen.file ≡ Some file →
-        NameShown at result name.new (told_name file cap.bytes (names_of names) field.now) }
+        NameShown at result name.new (told_name file cap.bytes (extent_of_names names) field.now) }
 {
     match long_offset(field) {
         Some(offset) => read_long(src, names, offset, at, cap, name),
@@ -149,11 +149,11 @@ fn read_long<S: Source>(
     name: &mut NameBuf,
 ) -> Result<bool, Fault>
     requires size { src.old.seen.size < 2 ^ 63 }
-    requires lies { IfSome (names_of names) (LiesIn src.old.seen.size) }
+    requires lies { IfSome (extent_of_names names) (LiesIn src.old.seen.size) }
     ensures reads { Reads src.old src.new (long_name_bytes cap.bytes) }
     ensures says { IfErr result (Says src.old src.new (long_name_bytes cap.bytes)) }
     ensures read { (file : List ℕ) → src.old.seen.file ≡ Some file →
-        NameShown at result name.new (long_name file cap.bytes (names_of names) offset) }
+        NameShown at result name.new (long_name file cap.bytes (extent_of_names names) offset) }
 {
     let Some(table) = names else {
         return refused(at, Cause::NameOutside);

@@ -5,21 +5,21 @@ ghost use Rattle.std.specs.Prelude.{◌≡◌, ◌+◌, ◌^◌, ◌<◌, ◌≤
 ghost use Rattle.elf_model.specs.Archive.{bsd_name, long_name, member_name, name_in_data, padded_end, told_name};
 ghost use Rattle.elf_model.specs.Bytes.{slice};
 ghost use Rattle.elf_model.specs.declared.causes.Cause.TheVariants.{MemberCut};
-ghost use Rattle.elf_archive.specs.MemberRows.{IsNamed, Names, OpensMembers, StepsMember};
+ghost use Rattle.elf_archive.specs.MemberRows.{FindsMemberName, NamesMember, OpensMembers, StepsMember};
 ghost use Rattle.elf_archive.specs.MemberRows.{extent_in, names_in};
-ghost use Rattle.elf_archive.specs.Members.{extent_of, names_of, names_passed};
+ghost use Rattle.elf_archive.specs.Members.{extent_of, extent_of_names, names_passed};
 
 use crate::cursor::MAGIC_BYTES;
 use crate::fields::{
-    HEADER_BYTES, NAME_BYTES, NUL, bsd_name_size, data_within, is_name_table, long_offset,
-    padded_end, short_length, trimmed_length,
+    MEMBER_HEADER_BYTES, NAME_FIELD_BYTES, NUL, bsd_name_size, data_within, is_name_table,
+    long_offset, padded_end, short_length, trimmed_length,
 };
 use crate::magic_strings::magic;
 use crate::member::Extent;
 use crate::names::{LONG_NAME_BYTES, long_length};
 use elf_headers::Fault;
 use elf_record::{Cause, Refusal};
-use elf_rows::{Range, bytes_of, chunk_at};
+use elf_rows::{ByteRange, bytes_of, chunk_at};
 use elf_source::{Counted, MemorySource};
 
 /// The most bytes of a name that a row tells.
@@ -28,11 +28,11 @@ const NAME_CAP: u16 = 4096;
 /// A place in a walk over the members of an archive.
 #[repr(C)]
 #[derive(Clone, Copy)]
-pub struct Members {
+pub struct MembersLeft {
     /// The file offset of the next member's header.
     pub at: u64,
     /// The data of the table of names, where there was one.
-    pub names: Range,
+    pub names: ByteRange,
     /// Whether a table of names was passed: none where it is 0.
     pub has_names: u32,
     /// 0.
@@ -46,9 +46,9 @@ pub struct MemberRow {
     /// The file offset of its header.
     pub at: u64,
     /// Its data, behind the name where that stands at their front.
-    pub content: Range,
+    pub content: ByteRange,
     /// Its name, or the first 4,096 bytes of it.
-    pub name: Range,
+    pub name: ByteRange,
     /// Whether its name has more bytes: 1, else 0.
     pub is_cut: u32,
     /// 0.
@@ -57,8 +57,8 @@ pub struct MemberRow {
 
 /// Where a name lies, or the first 4,096 bytes of it, and whether it has more.
 #[derive(Clone, Copy)]
-struct Named {
-    place: Range,
+struct MemberName {
+    place: ByteRange,
     is_cut: bool,
 }
 
@@ -67,16 +67,16 @@ struct Named {
 /// # Errors
 /// Refused at offset 0 where the file is no archive: `Short` where it has fewer than 8 bytes, `Thin`
 /// for the magic string of a thin archive, `NotArchive` for other bytes.
-pub fn open_members(file: &[u8]) -> Result<Option<Members>, Refusal>
+pub fn open_members(file: &[u8]) -> Result<Option<MembersLeft>, Refusal>
     ensures { OpensMembers file.now result }
 {
     let mut src = Counted::new(MemorySource::new(file));
     let read = magic(&mut src);
     let _ = src.into_inner();
     match read {
-        Ok(()) => Ok(Some(Members {
+        Ok(()) => Ok(Some(MembersLeft {
             at: MAGIC_BYTES,
-            names: Range { at: 0, len: 0 },
+            names: ByteRange { at: 0, len: 0 },
             has_names: 0,
             none: 0,
         })),
@@ -94,7 +94,7 @@ pub fn open_members(file: &[u8]) -> Result<Option<Members>, Refusal>
 /// to be; `NameOutside` where the name begins past the table of names, or there is none, and
 /// `NameUnended` where the table, as far as it lies in the file, ends before the name does. Then the
 /// place is as it was.
-pub fn next_member(file: &[u8], members: &mut Members) -> Result<Option<MemberRow>, Refusal>
+pub fn next_member(file: &[u8], members: &mut MembersLeft) -> Result<Option<MemberRow>, Refusal>
     ensures { StepsMember file.now members.old members.new result }
 {
     let at = members.at;
@@ -103,7 +103,7 @@ pub fn next_member(file: &[u8], members: &mut Members) -> Result<Option<MemberRo
         return Ok(None);
     }
     let left = length - at;
-    if left < HEADER_BYTES as u64 {
+    if left < MEMBER_HEADER_BYTES as u64 {
         return Err(cut(at));
     }
     let header = chunk_at(file, at as usize);
@@ -114,7 +114,7 @@ pub fn next_member(file: &[u8], members: &mut Members) -> Result<Option<MemberRo
         Ok(name) => name,
         Err(cause) => return Err(Refusal { at, cause }),
     };
-    let content = Range {
+    let content = ByteRange {
         at: extent.at,
         len: extent.size,
     };
@@ -146,8 +146,8 @@ fn cut(at: u64) -> Refusal
 }
 
 /// The table of names that was passed, if one was.
-fn table_in(members: &Members) -> Option<Extent>
-    ensures { names_of result ≡ names_in members.now }
+fn table_in(members: &MembersLeft) -> Option<Extent>
+    ensures { extent_of_names result ≡ names_in members.now }
 {
     if members.has_names == 0 {
         return None;
@@ -159,7 +159,7 @@ fn table_in(members: &Members) -> Option<Extent>
 }
 
 /// Goes behind the member with this header and these data.
-fn pass(members: &mut Members, header: &[u8; HEADER_BYTES], content: Range)
+fn pass(members: &mut MembersLeft, header: &[u8; MEMBER_HEADER_BYTES], content: ByteRange)
     requires begins { members.old.at + 60 ≤ content.at }
     requires ends { content.at + content.len < 2 ^ 63 }
     ensures at { members.new.at ≡ padded_end members.old.at (content.at + content.len) }
@@ -181,27 +181,28 @@ fn pass(members: &mut Members, header: &[u8; HEADER_BYTES], content: Range)
 fn find_name(
     file: &[u8],
     names: Option<Extent>,
-    header: &[u8; HEADER_BYTES],
+    header: &[u8; MEMBER_HEADER_BYTES],
     at: u64,
-) -> Result<Named, Cause>
+) -> Result<MemberName, Cause>
     requires within { at + 60 + name_in_data (take 16 header.now) ≤ length file.now }
     requires header { header.now ≡ slice file.now at 60 }
-    ensures { IsNamed file.now result (member_name file.now 4096 (names_of names) at) }
+    ensures { FindsMemberName file.now result
+        (member_name file.now 4096 (extent_of_names names) at) }
 {
     let field = &header[..NAME_BYTES];
     match bsd_name_size(field) {
-        Some(size) => Ok(find_bsd(file, at + HEADER_BYTES as u64, size)),
+        Some(size) => Ok(find_bsd(file, at + MEMBER_HEADER_BYTES as u64, size)),
         None => find_told(file, names, field, at),
     }
 }
 
 /// Where the name in the first `size` bytes of a member's data lies, which begin at the offset `start`,
 /// without the NULs at the end of what is looked at.
-fn find_bsd(file: &[u8], start: u64, size: u64) -> Named
+fn find_bsd(file: &[u8], start: u64, size: u64) -> MemberName
     requires { start + size ≤ length file.now }
-    ensures { IsNamed file.now (Ok result) (Ok (bsd_name file.now 4096 start size)) }
+    ensures { FindsMemberName file.now (Ok result) (Ok (bsd_name file.now 4096 start size)) }
 {
-    let looked_at = Range {
+    let looked_at = ByteRange {
         at: start,
         len: size.min(LONG_NAME_BYTES as u64),
     };
@@ -213,10 +214,11 @@ fn find_bsd(file: &[u8], start: u64, size: u64) -> Named
 ///
 /// # Errors
 /// As [`next_member`].
-fn find_told(file: &[u8], names: Option<Extent>, field: &[u8], at: u64) -> Result<Named, Cause>
+fn find_told(file: &[u8], names: Option<Extent>, field: &[u8], at: u64) -> Result<MemberName, Cause>
     requires within { at + 16 ≤ length file.now }
     requires field { field.now ≡ slice file.now at 16 }
-    ensures { IsNamed file.now result (told_name file.now 4096 (names_of names) field.now) }
+    ensures { FindsMemberName file.now result
+        (told_name file.now 4096 (extent_of_names names) field.now) }
 {
     match long_offset(field) {
         Some(offset) => find_long(file, names, offset),
@@ -228,8 +230,9 @@ fn find_told(file: &[u8], names: Option<Extent>, field: &[u8], at: u64) -> Resul
 ///
 /// # Errors
 /// As [`next_member`].
-fn find_long(file: &[u8], names: Option<Extent>, offset: u64) -> Result<Named, Cause>
-    ensures { IsNamed file.now result (long_name file.now 4096 (names_of names) offset) }
+fn find_long(file: &[u8], names: Option<Extent>, offset: u64) -> Result<MemberName, Cause>
+    ensures { FindsMemberName file.now result
+        (long_name file.now 4096 (extent_of_names names) offset) }
 {
     let Some(table) = names else {
         return Err(Cause::NameOutside);
@@ -237,11 +240,11 @@ fn find_long(file: &[u8], names: Option<Extent>, offset: u64) -> Result<Named, C
     if offset >= table.size {
         return Err(Cause::NameOutside);
     }
-    let range = Range {
+    let range = ByteRange {
         at: table.at,
         len: table.size,
     };
-    let looked_at = Range {
+    let looked_at = ByteRange {
         at: offset,
         len: LONG_NAME_BYTES as u64,
     };
@@ -253,12 +256,12 @@ fn find_long(file: &[u8], names: Option<Extent>, offset: u64) -> Result<Named, C
 }
 
 /// A name of so many bytes at an offset, or the first 4,096 bytes of it.
-fn shortened(file: &[u8], at: u64, size: usize) -> Named
+fn shortened(file: &[u8], at: u64, size: usize) -> MemberName
     requires { at + size ≤ length file.now }
-    ensures { Names file.now at size result }
+    ensures { NamesMember file.now at size result }
 {
-    Named {
-        place: Range {
+    MemberName {
+        place: ByteRange {
             at,
             len: size.min(usize::from(NAME_CAP)) as u64,
         },

@@ -31,8 +31,8 @@ abbrev pub indexed : Text → ValueParser → Rule
 indexed name parser = record (required name) { parser = Some parser }
 
 -- an option with a number, which is that of the default where the option is not there
-abbrev pub counted : Text → ValueParser → Text → Rule
-counted name parser default = record (option name parser) { defaults = default ∷ [] }
+abbrev pub numbered_option : Text → ValueParser → Text → Rule
+numbered_option name parser default = record (option name parser) { defaults = default ∷ [] }
 
 -- any number of words
 abbrev pub any_words : Text → Rule

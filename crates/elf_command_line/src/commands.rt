@@ -11,112 +11,112 @@ ghost use Rattle.elf_command_line.specs.CommandLine.{with_checks, with_files, wi
 
 use crate::adding::{Described, command_of, new_command, with_command, with_commands};
 use crate::texts::{ABOUT, CHECKED, FOUND, ITEMS, MEMBERS, MORE};
-use crate::words::{Kind, Word};
+use crate::words::{Word, WordKind};
 use clap::Command;
 use clap::builder::ValueParser;
 use std::alloc::{AllocError, Global};
 
 const HEADERS: Word = Word {
     name: "headers",
-    kind: Kind::Count(ValueParser::Signed(1, 65279), "4096"),
+    kind: WordKind::Count(ValueParser::Signed(1, 65279), "4096"),
     help: "Permit N section headers, and as many program headers: 1 to 65279",
 };
 
 const NAMES: Word = Word {
     name: "names",
-    kind: Kind::Count(ValueParser::Signed(1, 4096), "256"),
+    kind: WordKind::Count(ValueParser::Signed(1, 4096), "256"),
     help: "Show N bytes of a name: 1 to 4096",
 };
 
 const MAX_READ: Word = Word {
     name: "max-read",
-    kind: Kind::Number(ValueParser::Unsigned(0, 9_223_372_036_854_775_807)),
+    kind: WordKind::Number(ValueParser::Unsigned(0, 9_223_372_036_854_775_807)),
     help: "Read at most N bytes of the file: 0 to 9223372036854775807 [default: any]",
 };
 
 const ONLY: Word = Word {
     name: "only",
-    kind: Kind::Part,
+    kind: WordKind::Part,
     help: "List one part [default: all]",
 };
 
 const GNU: Word = Word {
     name: "gnu",
-    kind: Kind::Flag,
+    kind: WordKind::Flag,
     help: "Name the numbers of the GNU system too, and list symbol versions",
 };
 
 const BY_SEGMENTS: Word = Word {
     name: "by-segments",
-    kind: Kind::Flag,
+    kind: WordKind::Flag,
     help: "Find tables by the program headers, as a loader does",
 };
 
 const JSON: Word = Word {
     name: "json",
-    kind: Kind::Flag,
+    kind: WordKind::Flag,
     help: "Write each line as a JSON object",
 };
 
 const FILE: Word = Word {
     name: "FILE",
-    kind: Kind::Needed,
+    kind: WordKind::Needed,
     help: "The file to read",
 };
 
 // Whether the name is looked up as a loader of the GNU system does it.
 const AS_LOADER: Word = Word {
     name: "gnu",
-    kind: Kind::Flag,
+    kind: WordKind::Flag,
     help: "Take the symbol that a loader of the GNU system takes, by its version too",
 };
 
 // Whether that loader's way to the tables is gone also where there are section headers.
 const AS_LOADED: Word = Word {
     name: "by-segments",
-    kind: Kind::Flag,
+    kind: WordKind::Flag,
     help: "With --gnu: find the tables by the program headers, as the loader does",
 };
 
 const NAME: Word = Word {
     name: "NAME",
-    kind: Kind::Needed,
+    kind: WordKind::Needed,
     help: "The name to look up: 1 to 4096 bytes",
 };
 
 const LAYOUT: Word = Word {
     name: "layout",
-    kind: Kind::Value("LIST"),
+    kind: WordKind::Value("LIST"),
     help: "Take the items in the file LIST too, one a line, as many as there are",
 };
 
 const EXPLAIN: Word = Word {
     name: "explain",
-    kind: Kind::Flag,
+    kind: WordKind::Flag,
     help: "Where an address is missing, tell the type, the symbol and the item that would help",
 };
 
 const SECTION: Word = Word {
     name: "SECTION",
-    kind: Kind::Index(ValueParser::Signed(0, 65535)),
+    kind: WordKind::Index(ValueParser::Signed(0, 65535)),
     help: "The index of the section to write: 0 to 65535",
 };
 
 const ITEM: Word = Word {
     name: "ITEM",
-    kind: Kind::Any,
+    kind: WordKind::Any,
     help: "An address: at:INDEX=ADDR, or NAME=ADDR behind def:, plt:, got: or tpgot:",
 };
 
 const LIST: Word = Word {
     name: "files0-from",
-    kind: Kind::Value("FILE"),
+    kind: WordKind::Value("FILE"),
     help: "Check the paths in FILE too, each ended by NUL; - is standard input",
 };
 
 const PATH: Word = Word {
     name: "PATH",
-    kind: Kind::Any,
+    kind: WordKind::Any,
     help: "A file to check, or a folder of files",
 };
 

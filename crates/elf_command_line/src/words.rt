@@ -1,5 +1,5 @@
 //! What commands take among their words, as data, and the arguments that are made of it.
-ghost use Rattle.elf_command_line.specs.Building.{IsArg, any_words, counted, indexed};
+ghost use Rattle.elf_command_line.specs.Building.{IsArg, any_words, numbered_option, indexed};
 ghost use Rattle.elf_command_line.specs.Building.{required, valued};
 ghost use Rattle.elf_command_line.specs.CommandLine.{flag, option};
 ghost use Rattle.elf_command_line.specs.Described.{rule_by};
@@ -11,12 +11,12 @@ use std::alloc::Global;
 /// What a command takes among its words.
 pub(crate) struct Word {
     pub(crate) name: &'static str,
-    pub(crate) kind: Kind,
+    pub(crate) kind: WordKind,
     pub(crate) help: &'static str,
 }
 
 /// How a word is read.
-pub(crate) enum Kind {
+pub(crate) enum WordKind {
     /// An option without a value.
     Flag,
     /// An option with a value, which help has this name for.
@@ -40,14 +40,14 @@ pub(crate) fn arg_of<'a>(alloc: Global, word: &Word, part: ValueParser<'a>) -> A
     ensures { IsArg (rule_by part.entry word.now) result }
 {
     match word.kind {
-        Kind::Flag => flag(alloc, word),
-        Kind::Value(value) => valued(alloc, word, value),
-        Kind::Number(parser) => parsed(alloc, word, "N", parser),
-        Kind::Count(parser, default) => count(alloc, word, parser, default),
-        Kind::Part => parsed(alloc, word, "PART", part),
-        Kind::Needed => required(alloc, word),
-        Kind::Index(parser) => index(alloc, word, parser),
-        Kind::Any => any(alloc, word),
+        WordKind::Flag => flag(alloc, word),
+        WordKind::Value(value) => valued(alloc, word, value),
+        WordKind::Number(parser) => parsed(alloc, word, "N", parser),
+        WordKind::Count(parser, default) => count(alloc, word, parser, default),
+        WordKind::Part => parsed(alloc, word, "PART", part),
+        WordKind::Needed => required(alloc, word),
+        WordKind::Index(parser) => index(alloc, word, parser),
+        WordKind::Any => any(alloc, word),
     }
 }
 
@@ -80,7 +80,7 @@ fn parsed<'a>(alloc: Global, word: &Word, value: &'static str, parser: ValuePars
 
 /// An option with a number, and what it is where the option is not there.
 fn count<'a>(alloc: Global, word: &Word, parser: ValueParser<'a>, default: &'static str) -> Arg<'a>
-    ensures { IsArg (counted word.now.name.now parser.entry default.entry.now) result }
+    ensures { IsArg (numbered_option word.now.name.now parser.entry default.entry.now) result }
 {
     parsed(alloc, word, "N", parser).default_value(default)
 }

@@ -7,24 +7,24 @@ use Rattle.std.proofs.lemmas.List.{take-append-drop}
 use Rattle.elf_model.specs.Answer.{Answer, IsShown, status_of, show_answer}
 use Rattle.elf_model.specs.Budget.{IsBudget, IsReport, IsCut, IsBudgeted}
 use Rattle.elf_model.specs.Lines.{refusal_line}
-use Rattle.elf_model.specs.Listing.{Item, lines_of, fault_of}
+use Rattle.elf_model.specs.Listing.{ListingItem, lines_of, fault_of}
 use Rattle.elf_model.specs.Report.{items, report, report_fault}
 use Rattle.elf_model.specs.declared.causes.Refusal.{Refusal}
 use Rattle.elf_examples.specs.ListedBudgets.{spent_at, EndsBehind, BudgetMayEndAListing, NothingElseIsAllowed, AllowedAnswersAreShown, NothingElseIsShown}
 
 -- a cut by the number of its lines and the offset of its read
-abbrev pub CutBehind : ℕ → List Item → List ℕ → Option Refusal → Type 0
+abbrev pub CutBehind : ℕ → List ListingItem → List ℕ → Option Refusal → Type 0
 CutBehind size all text fault =
     (count : ℕ) × (at : ℕ) × (fault ≡ Some (spent_at at)) × (at < size) × (fault_of (take count all) ≡ None)
     × (text ≡ lines_of (take count all) ++ refusal_line Columns (spent_at at))
 
-front_taken : (all front rest : List Item) → all ≡ front ++ rest → take (length front) all ≡ front
+front_taken : (all front rest : List ListingItem) → all ≡ front ++ rest → take (length front) all ≡ front
 front_taken all front rest split = ap (take (length front)) split ∙ take-append_seam front rest
 
 budget_spent : (refusal : Refusal) → IsBudget refusal → refusal ≡ spent_at refusal.at
 budget_spent refusal budget = rw budget refl
 
-pub cut_behind : (size : ℕ) (all : List Item) (text : List ℕ) (fault : Option Refusal) → IsCut Columns size all text fault → CutBehind size all text fault
+pub cut_behind : (size : ℕ) (all : List ListingItem) (text : List ℕ) (fault : Option Refusal) → IsCut Columns size all text fault → CutBehind size all text fault
 cut_behind size all text fault cut =
     let taken = front_taken all cut.front cut.rest cut.split in
     let spent = budget_spent cut.refusal cut.for_budget in

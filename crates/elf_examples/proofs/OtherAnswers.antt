@@ -5,7 +5,7 @@ use Rattle.elf_model.specs.Listing.{HEADER, ALL}
 use Rattle.elf_model.specs.Report.{report}
 use Rattle.elf_model.specs.Fixtures.{one_symbol_table}
 use Rattle.elf_model.proofs.OnLiterals.{on_literals}
-use Rattle.elf_examples.specs.ListedBudgets.{EndsBehind, OtherAnswersAreNotShown, Shows, header_and_budget}
+use Rattle.elf_examples.specs.ListedBudgets.{EndsBehind, OtherAnswersAreNotShown, ShowsWithin, header_and_budget}
 use Rattle.elf_examples.proofs.Budgets.{EndsEarly, answers_shown, nothing_shown}
 use Rattle.elf_examples.proofs.OtherTexts.{clash, same_byte}
 
@@ -17,10 +17,10 @@ answer text status = record { text = text; status = status }
 abbrev IsWhole : ℕ → List ℕ → ℕ → Type 0
 IsWhole parts text status = answer text status ≡ show_answer one_symbol_table 3 63 parts
 
-without : (parts : ℕ) (text : List ℕ) (status : ℕ) → Shows None parts text status → IsWhole parts text status
+without : (parts : ℕ) (text : List ℕ) (status : ℕ) → ShowsWithin None parts text status → IsWhole parts text status
 without parts text status shown = (nothing_shown one_symbol_table 3 63 parts (answer text status)).0 shown
 
-within : (budget parts : ℕ) (text : List ℕ) (status : ℕ) → Shows (Some budget) parts text status
+within : (budget parts : ℕ) (text : List ℕ) (status : ℕ) → ShowsWithin (Some budget) parts text status
     → IsWhole parts text status ⊎ EndsEarly one_symbol_table 3 63 parts budget (answer text status)
 within budget parts text status shown = (nothing_shown one_symbol_table 3 63 parts (answer text status)).1 budget shown
 
@@ -42,18 +42,18 @@ ends : EndsBehind one_symbol_table 3 63 ALL 64 1 0x78 header_and_budget
 unfolding on_literals
 ends = (omega arith, omega arith, refl, refl)
 
-header_alone : Shows None HEADER (report one_symbol_table 3 63 HEADER) 0
+header_alone : ShowsWithin None HEADER (report one_symbol_table 3 63 HEADER) 0
 unfolding on_literals
 header_alone = (answers_shown one_symbol_table 3 63 HEADER).0 None
 
-status_zero : Shows (Some 64) ALL header_and_budget 0 → ⊥
+status_zero : ShowsWithin (Some 64) ALL header_and_budget 0 → ⊥
 status_zero shown = by (within 64 ALL header_and_budget 0 shown)
   where
     by : IsWhole ALL header_and_budget 0 ⊎ EndsEarly one_symbol_table 3 63 ALL 64 (answer header_and_budget 0) → ⊥
     by (inl is) = not_cut 0 is
     by (inr early) = clash 0 1 (omega arith) early.0
 
-ample : Shows (Some 432) ALL header_and_budget 1 → ⊥
+ample : ShowsWithin (Some 432) ALL header_and_budget 1 → ⊥
 unfolding on_literals
 ample shown = by (within 432 ALL header_and_budget 1 shown)
   where
@@ -61,7 +61,7 @@ ample shown = by (within 432 ALL header_and_budget 1 shown)
     by (inl is) = (whole_status header_and_budget).0 is
     by (inr (status, (count, at, early))) = let less : 432 < 432 = early.0 in omega arith
 
-header_status : Shows (Some 64) HEADER (report one_symbol_table 3 63 HEADER) 1 → ⊥
+header_status : ShowsWithin (Some 64) HEADER (report one_symbol_table 3 63 HEADER) 1 → ⊥
 unfolding on_literals
 header_status shown = by (within 64 HEADER (report one_symbol_table 3 63 HEADER) 1 shown)
   where
@@ -69,7 +69,7 @@ header_status shown = by (within 64 HEADER (report one_symbol_table 3 63 HEADER)
     by (inl is) = (whole_status (report one_symbol_table 3 63 HEADER)).1 is
     by (inr (status, (count, at, early))) = let less : 64 < 64 = early.0 in omega arith
 
-header_text : Shows (Some 64) HEADER [] 0 → ⊥
+header_text : ShowsWithin (Some 64) HEADER [] 0 → ⊥
 header_text shown = by (within 64 HEADER [] 0 shown)
   where
     by : IsWhole HEADER [] 0 ⊎ EndsEarly one_symbol_table 3 63 HEADER 64 (answer [] 0) → ⊥

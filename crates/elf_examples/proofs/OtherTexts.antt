@@ -4,7 +4,7 @@ use Rattle.elf_model.specs.declared.formats.Format.TheVariants.{Columns}
 use Rattle.elf_model.specs.Budget.{IsCut}
 use Rattle.elf_model.specs.Causes.{cause_word}
 use Rattle.elf_model.specs.Lines.{refusal_line}
-use Rattle.elf_model.specs.Listing.{Item, Line, Fault, lines_of}
+use Rattle.elf_model.specs.Listing.{ListingItem, Line, Fault, lines_of}
 use Rattle.elf_model.specs.declared.causes.Refusal.{Refusal}
 use Rattle.elf_model.specs.declared.causes.Cause.TheVariants.{Short}
 use Rattle.elf_model.proofs.OnLiterals.{on_literals}
@@ -67,7 +67,7 @@ fault_and_budget (zero, at, is, inside, none, text) =
     (same_byte 19 (refusal_line Columns (spent_at at)) (codes "! 0000000000000000 short\n! 0000000000000000 budget\n") (sym text))
 fault_and_budget (suc count, at, is, inside, none, text) = cc
 
-no_cut : {size : ℕ} {all : List Item} {text : List ℕ} {fault : Option Refusal} → (CutBehind size all text fault → ⊥) → IsCut Columns size all text fault → ⊥
+no_cut : {size : ℕ} {all : List ListingItem} {text : List ℕ} {fault : Option Refusal} → (CutBehind size all text fault → ⊥) → IsCut Columns size all text fault → ⊥
 no_cut {size} {all} {text} {fault} never is = never (cut_behind size all text fault is)
 
 pub no_cuts : OtherTextsAreNoCuts

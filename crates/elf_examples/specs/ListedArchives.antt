@@ -19,8 +19,8 @@ MembersList =
     ++ codes "A     4 000000000000029e 0000000000000040 b.o\n"
 
 -- and behind each that is an ELF file its listing, with offsets from its own first byte
-abbrev pub LibraryLists : Type 0
-LibraryLists =
+abbrev pub ArchiveOfNamesLists : Type 0
+ArchiveOfNamesLists =
     archive library 3 63 ALL
     ≡ codes "A     0 0000000000000044 0000000000000004 /\n"
     ++ codes "A     1 0000000000000084 0000000000000029 //\n"
@@ -43,8 +43,8 @@ ThreeBytesAreNoElf =
     archive (archive_of (member (codes "a.o/") (127 ∷ 69 ∷ 76 ∷ []))) 3 63 ALL ≡ codes "A     0 0000000000000044 0000000000000003 a.o\n"
 
 -- what is no archive
-abbrev pub OtherFilesAreRefused : Type 0
-OtherFilesAreRefused =
+abbrev pub WhatIsNoArchiveIsRefused : Type 0
+WhatIsNoArchiveIsRefused =
     (archive (codes "!<arch>") 3 63 0 ≡ codes "! 0000000000000000 short\n")
     × (archive (codes "!<thin>\n") 3 63 0 ≡ codes "! 0000000000000000 thin\n")
     × (archive (codes "!<arch>\r") 3 63 0 ≡ codes "! 0000000000000000 not-archive\n")

@@ -112,19 +112,19 @@ EmptyFileIsShort =
     → text ≡ codes "! 0000000000000000 short\n"
 
 -- a text and a status as they are shown of one symbol table within a budget
-abbrev pub Shows : Option ℕ → ℕ → List ℕ → ℕ → Type 0
-Shows budget parts text status = IsShown budget one_symbol_table 3 (standard 63) parts (record { text = text; status = status })
+abbrev pub ShowsWithin : Option ℕ → ℕ → List ℕ → ℕ → Type 0
+ShowsWithin budget parts text status = IsShown budget one_symbol_table 3 (standard 63) parts (record { text = text; status = status })
 
 -- a cut is shown where the budget is below the cost, and not with status 0, within a budget of the cost or without a budget; a
 -- whole listing is shown with its own text and status alone
 abbrev pub OtherAnswersAreNotShown : Type 0
 OtherAnswersAreNotShown =
-    Shows (Some 64) ALL header_and_budget 1
-    × (Shows (Some 64) ALL header_and_budget 0 → ⊥)
-    × (Shows (Some 432) ALL header_and_budget 1 → ⊥)
-    × (Shows None ALL header_and_budget 1 → ⊥)
-    × Shows None HEADER (report one_symbol_table 3 63 HEADER) 0
-    × (Shows None HEADER (report one_symbol_table 3 63 HEADER) 1 → ⊥)
-    × (Shows None HEADER [] 0 → ⊥)
-    × (Shows (Some 64) HEADER (report one_symbol_table 3 63 HEADER) 1 → ⊥)
-    × (Shows (Some 64) HEADER [] 0 → ⊥)
+    ShowsWithin (Some 64) ALL header_and_budget 1
+    × (ShowsWithin (Some 64) ALL header_and_budget 0 → ⊥)
+    × (ShowsWithin (Some 432) ALL header_and_budget 1 → ⊥)
+    × (ShowsWithin None ALL header_and_budget 1 → ⊥)
+    × ShowsWithin None HEADER (report one_symbol_table 3 63 HEADER) 0
+    × (ShowsWithin None HEADER (report one_symbol_table 3 63 HEADER) 1 → ⊥)
+    × (ShowsWithin None HEADER [] 0 → ⊥)
+    × (ShowsWithin (Some 64) HEADER (report one_symbol_table 3 63 HEADER) 1 → ⊥)
+    × (ShowsWithin (Some 64) HEADER [] 0 → ⊥)

@@ -114,8 +114,8 @@ CostsOfLongerNames =
     × (cost one_symbol_table 3 4096 ALL ≡ 8624)
 
 -- the ceilings of files of 472 and 312 bytes, and of lengths just below and at a multiple of 16
-abbrev pub Ceilings : Type 0
-Ceilings =
+abbrev pub ListingCeilings : Type 0
+ListingCeilings =
     (ceiling 472 5 63 ≡ 17264) × (ceiling 312 3 63 ≡ 7024)
     × (ceiling 15 1 63 ≡ 64 + (120 + 64 + 15))
     × (ceiling 16 1 63 ≡ 64 + (120 + 64 + 16 + 96))

@@ -1,5 +1,5 @@
 //! Listings of archives, each computed by the prover.
-ghost use Rattle.elf_examples.specs.ListedArchives.{MembersList, LibraryLists, RefusedMembersEndAlone, ThreeBytesAreNoElf, OtherFilesAreRefused, CutMembersAreRefused, LastPaddingMayMiss, MemberNames, LongNames, ArchivesCost};
+ghost use Rattle.elf_examples.specs.ListedArchives.{MembersList, ArchiveOfNamesLists, RefusedMembersEndAlone, ThreeBytesAreNoElf, WhatIsNoArchiveIsRefused, CutMembersAreRefused, LastPaddingMayMiss, MemberNames, LongNames, ArchivesCost};
 
 /// The members of a library, without their listings.
 #[tactic(auto, unfolding(elf_model::proofs::OnLiterals::on_literals))]
@@ -10,7 +10,7 @@ pub fn members_list()
 /// A library: its whole listing.
 #[tactic(auto, unfolding(elf_model::proofs::OnLiterals::on_literals))]
 pub fn library_lists()
-    ensures { LibraryLists }
+    ensures { ArchiveOfNamesLists }
 {}
 
 /// A member whose listing is refused, and the one behind it.
@@ -28,7 +28,7 @@ pub fn three_bytes_are_no_elf()
 /// Files that are no archive, and one without members.
 #[tactic(auto, unfolding(elf_model::proofs::OnLiterals::on_literals))]
 pub fn other_files_are_refused()
-    ensures { OtherFilesAreRefused }
+    ensures { WhatIsNoArchiveIsRefused }
 {}
 
 /// Places where no member stands: a cut header, sizes past the end and sizes that are no number.

@@ -1,5 +1,5 @@
 //! What listings ask for at most, and what they never pass, each computed by the prover.
-ghost use Rattle.elf_examples.specs.ListedCosts.{CostsOfWholeListings, CostsOfParts, CostsWithoutSections, CostsOfTheHeaderAlone, CostsOfTablesThatFail, CostsAtTheEnd, CostsOfRelocations, CostsOfLongerNames, Ceilings};
+ghost use Rattle.elf_examples.specs.ListedCosts.{CostsOfWholeListings, CostsOfParts, CostsWithoutSections, CostsOfTheHeaderAlone, CostsOfTablesThatFail, CostsAtTheEnd, CostsOfRelocations, CostsOfLongerNames, ListingCeilings};
 
 /// The costs of whole listings.
 #[tactic(auto, unfolding(elf_model::proofs::OnLiterals::on_literals))]
@@ -52,5 +52,5 @@ pub fn costs_of_longer_names()
 /// The ceilings of files of 472 and 312 bytes.
 #[tactic(auto, unfolding(elf_model::proofs::OnLiterals::on_literals))]
 pub fn ceilings()
-    ensures { Ceilings }
+    ensures { ListingCeilings }
 {}

@@ -3,7 +3,7 @@ use Rattle.std.proofs.Common.{◌≡◌, ◌≢◌, ℕ, zero, suc, Bool, true, 
 use Rattle.std.proofs.lemmas.Bool.Decides.{nat_tests}
 use Rattle.elf_model.specs.Budget.{IsBudget}
 use Rattle.elf_model.specs.Checks.{first_refusal, header_checks, load_checks}
-use Rattle.elf_model.specs.Explain.{Lack, explained, lack_of, lack_with, missing, missing_of, name_wanted, refused_in, told_name, wanted}
+use Rattle.elf_model.specs.Explain.{Lack, explained, lack_of, lack_with, missing, missing_of, name_wanted, refused_in, told_symbol_name, wanted}
 use Rattle.elf_model.specs.Names.{Shown}
 use Rattle.elf_model.specs.Placing.{Layout}
 use Rattle.elf_model.specs.Records.{section_at}
@@ -21,7 +21,8 @@ use Rattle.elf_headers.specs.declared.fault.Fault.{Fault}
 use Rattle.elf_headers.specs.declared.fault.Fault.TheVariants.{Refused, Source}
 use Rattle.elf_table.specs.Tables.{Strings, strings_in}
 use Rattle.elf_table.specs.declared.names.NameEnd.{NameEnd}
-use Rattle.elf_explain.specs.Explained.{Explains, ExplainsLoaded, Lacks, TellsName, may_lack, shown_by}
+use Rattle.elf_table.specs.NamesRead.{shown_by}
+use Rattle.elf_explain.specs.Explained.{Explains, ExplainsLoaded, Lacks, TellsSymbolName, may_lack}
 use Rattle.elf_explain.specs.declared.lacking.Lacking.{Lacking}
 use Rattle.elf_explain.proofs.NamingLaws.{unnamed}
 
@@ -61,19 +62,19 @@ module _ (file : List ℕ) (section : ℕ) (layout : Layout) (refusal : Refusal)
 
 -- what is missing, with its name
 told_of : (file : List ℕ) (header : ℕ) (lacking : Lacking) → (lacking.missing.name ≢ 0 → strings_in file lacking.names ≡ strings_of file (linked_at file header))
-    → told_name (strings_in file lacking.names) lacking.missing.name ≡ told_name (strings_of file (linked_at file header)) lacking.missing.name
+    → told_symbol_name (strings_in file lacking.names) lacking.missing.name ≡ told_symbol_name (strings_of file (linked_at file header)) lacking.missing.name
 told_of file header lacking names = by_name lacking.missing.name refl
   where
-    by_name : (n : ℕ) → lacking.missing.name ≡ n → told_name (strings_in file lacking.names) lacking.missing.name ≡ told_name (strings_of file (linked_at file header)) lacking.missing.name
+    by_name : (n : ℕ) → lacking.missing.name ≡ n → told_symbol_name (strings_in file lacking.names) lacking.missing.name ≡ told_symbol_name (strings_of file (linked_at file header)) lacking.missing.name
     by_name zero e = unnamed _ _ e ∙ sym (unnamed _ _ e)
-    by_name (suc n) e = ap (λ (strings : List ℕ). told_name strings lacking.missing.name) (names (λ zero. omega (arith, zero, e)))
+    by_name (suc n) e = ap (λ (strings : List ℕ). told_symbol_name strings lacking.missing.name) (names (λ zero. omega (arith, zero, e)))
 
 pub lacks_nothing : (file : List ℕ) (header : ℕ) (missed : Option Missing) → Lacks file header missed None → lack_of file header missed ≡ None
 unfolding lack_of
 lacks_nothing file header missed lacks = rw (lacks, lack_of) refl
 
 pub lacks_told : (file : List ℕ) (header : ℕ) (missed : Option Missing) (lacking : Lacking) → Lacks file header missed (Some lacking)
-    → lack_of file header missed ≡ lack_with lacking.missing (told_name (strings_in file lacking.names) lacking.missing.name)
+    → lack_of file header missed ≡ lack_with lacking.missing (told_symbol_name (strings_in file lacking.names) lacking.missing.name)
 unfolding lack_of
 lacks_told file header missed lacking lacks = rw (lacks.0, lack_of) (ap (lack_with lacking.missing) (sym (told_of file header lacking lacks.1)))
 

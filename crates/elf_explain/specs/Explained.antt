@@ -6,14 +6,13 @@ use Rattle.elf_model.specs.Checks.{first_refusal, header_checks, load_checks}
 use Rattle.elf_model.specs.Explain.{Lack, missing_of, refused_in, relocates_at}
 use Rattle.elf_model.specs.Hash.{symbol_at}
 use Rattle.elf_model.specs.Names.{Shown, pad64}
-use Rattle.elf_model.specs.Names.Shown.{Whole as ShownWhole, Cut as ShownCut}
 use Rattle.elf_model.specs.Records.{r_sym, section_at, st_name, st_shndx, st_type}
 use Rattle.elf_model.specs.Tables.{linked_at, strings_of}
 use Rattle.elf_model.specs.declared.causes.Cause.{Cause}
 use Rattle.elf_model.specs.declared.causes.Cause.TheVariants.{Unplaced, Undefined, Unsupported}
 use Rattle.elf_model.specs.declared.causes.Refusal.{Refusal}
 use Rattle.elf_model.specs.declared.missing.Missing.{Missing}
-use Rattle.elf_model.specs.declared.missing.Wanted.{Wanted}
+use Rattle.elf_model.specs.declared.missing.LayoutAddress.{LayoutAddress}
 use Rattle.elf_record.specs.Rela.{IsRela}
 use Rattle.elf_record.specs.declared.rela.Rela.{Rela}
 use Rattle.elf_headers.specs.Faults.{IsOfRead}
@@ -23,9 +22,9 @@ use Rattle.elf_table.specs.Cursors.{row_at}
 use Rattle.elf_table.specs.Relocations.{RefersTo}
 use Rattle.elf_table.specs.Tables.{Rows, Strings, SymbolsWithin, strings_in}
 use Rattle.elf_table.specs.declared.names.NameEnd.{NameEnd}
-use Rattle.elf_table.specs.declared.names.NameEnd.TheVariants.{Whole, Cut}
+use Rattle.elf_table.specs.NamesRead.{shown_by}
 use Rattle.elf_explain.specs.declared.lacking.Lacking.{Lacking}
-use Rattle.elf_explain.specs.declared.lacking.Named.{Named}
+use Rattle.elf_explain.specs.declared.lacking.SymbolOfEntry.{SymbolOfEntry}
 
 -- an entry that is refused for this cause may lack an address
 unfoldable pub may_lack : Cause → Bool
@@ -41,11 +40,6 @@ entry_bytes = 48 + pad64 256
 -- WHAT IS NEVER PASSED: the file header, a section header for each slot, and those
 abbrev pub explain_bytes : ℕ → ℕ
 explain_bytes slots = 64 + 64 * slots + entry_bytes
-
--- a name as it is shown, by how its bytes end
-abbrev pub shown_by : NameEnd → List ℕ → Shown
-shown_by Whole bytes = ShownWhole bytes
-shown_by Cut bytes = ShownCut bytes
 
 -- what is lacking, with the bytes of the symbol's name
 abbrev pub lack_as : List ℕ → Option (Missing × NameEnd) → Option Lack
@@ -87,7 +81,7 @@ EntryRead file at (Ok entry) = IsRela file at entry
 EntryRead file at (Err fault) = IsOfRead fault
 
 -- the symbol that an entry names is symbol 0, or one of the linked table's, whose names are those of its string table
-pub record IsNamed (file : List ℕ) (header rela : ℕ) (named : Named) : Type 0 where
+pub record NamesEntrySymbol (file : List ℕ) (header rela : ℕ) (named : SymbolOfEntry) : Type 0 where
   pub passed : first_refusal (symbol_checks file header rela) ≡ None
   pub zero : r_sym file rela ≡ 0 → (named.name ≡ 0) × (named.symbol ≡ None)
   pub fields : r_sym file rela ≢ 0
@@ -97,13 +91,13 @@ pub record IsNamed (file : List ℕ) (header rela : ℕ) (named : Named) : Type 
       × (strings_in file named.names ≡ strings_of file (linked_at file header))
 
 -- it was read, or is none
-abbrev pub SymbolRead : List ℕ → (header rela : ℕ) → Result (Option Named) Fault → Type 0
+abbrev pub SymbolRead : List ℕ → (header rela : ℕ) → Result (Option SymbolOfEntry) Fault → Type 0
 SymbolRead file header rela (Ok None) = first_refusal (symbol_checks file header rela) ≢ None
-SymbolRead file header rela (Ok (Some named)) = IsNamed file header rela named
+SymbolRead file header rela (Ok (Some named)) = NamesEntrySymbol file header rela named
 SymbolRead file header rela (Err fault) = IsOfRead fault
 
 -- what an entry of the type of a number lacks, by its symbol and what is wanted
-abbrev pub LackOf : (kind : ℕ) → Named → Option Wanted → Option Lacking → Type 0
+abbrev pub LackOf : (kind : ℕ) → SymbolOfEntry → Option LayoutAddress → Option Lacking → Type 0
 LackOf kind named wanted None = missing_of kind named.name wanted ≡ None
 LackOf kind named wanted (Some lacking) = (missing_of kind named.name wanted ≡ Some lacking.missing) × (lacking.names ≡ named.names)
 
@@ -119,10 +113,10 @@ LacksRead file header missing (Ok found) = Lacks file header missing found
 LacksRead file header missing (Err fault) = IsOfRead fault
 
 -- a name is told, or has a fault
-abbrev pub TellsName : Result Shown Cause → Result (Option NameEnd) Fault → List ℕ → Type 0
-TellsName answer (Ok (Some end)) name = answer ≡ Ok (shown_by end name)
-TellsName answer (Ok None) name = (cause : Cause) × (answer ≡ Err cause)
-TellsName answer (Err fault) name = IsOfRead fault
+abbrev pub TellsSymbolName : Result Shown Cause → Result (Option NameEnd) Fault → List ℕ → Type 0
+TellsSymbolName answer (Ok (Some end)) name = answer ≡ Ok (shown_by end name)
+TellsSymbolName answer (Ok None) name = (cause : Cause) × (answer ≡ Err cause)
+TellsSymbolName answer (Err fault) name = IsOfRead fault
 
 -- a name that is refused by a check is none; any other fault stays
 abbrev pub WithoutName : Fault → Result (Option NameEnd) Fault → Type 0

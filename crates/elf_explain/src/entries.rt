@@ -11,12 +11,12 @@ use elf_record::numbers::SHT_RELA;
 use elf_table::{File, Names, Table};
 
 /// Symbols with the string table of their names.
-pub(crate) type Linked = Option<(Table, Names)>;
+pub(crate) type LinkedSymbols = Option<(Table, Names)>;
 
 /// The first section of relocation entries for a section whose checks pass and of whose entries one
 /// stands at the file offset `rela` (gABI 4, Relocation): the symbols that it refers to. None where
 /// there is no such section. No bytes are read.
-pub(crate) fn entries_at(file: &File<'_>, section: u16, rela: u64) -> Option<Linked>
+pub(crate) fn entries_at(file: &File<'_>, section: u16, rela: u64) -> Option<LinkedSymbols>
     ensures within { IfSome result (EntryWithin file.now.loaded.size rela) }
     ensures found { (bytes : List ℕ) → Belongs bytes file.now.loaded file.now.store.now →
         FoundEntries bytes section rela result }
@@ -31,7 +31,7 @@ pub(crate) fn entries_at(file: &File<'_>, section: u16, rela: u64) -> Option<Lin
 
 /// The symbols that the section of an index refers to, where it holds relocation entries for
 /// another, its checks pass, and one of its entries stands at the file offset `rela`.
-fn entry_in(file: &File<'_>, index: u16, section: u16, rela: u64) -> Option<Linked>
+fn entry_in(file: &File<'_>, index: u16, section: u16, rela: u64) -> Option<LinkedSymbols>
     requires { index < file.now.store.now.loaded }
     ensures within { IfSome result (EntryWithin file.now.loaded.size rela) }
     ensures has { (bytes : List ℕ) → Belongs bytes file.now.loaded file.now.store.now →

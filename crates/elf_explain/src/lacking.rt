@@ -9,10 +9,10 @@ ghost use Rattle.elf_table.specs.Tables.{StringsWithin, SymbolsWithin};
 ghost use Rattle.elf_explain.specs.Explained.{EntryRead, EntryWithin, LackOf, LacksRead};
 ghost use Rattle.elf_explain.specs.Explained.{SymbolRead};
 
-use crate::entries::Linked;
+use crate::entries::LinkedSymbols;
 use elf_headers::{Fault, fill};
 use elf_layout::Addresses;
-use elf_model::{Missing, Wanted};
+use elf_model::{LayoutAddress, Missing};
 use elf_record::gnu_numbers::STT_GNU_IFUNC;
 use elf_record::numbers::{SHN_LORESERVE, SHN_UNDEF};
 use elf_record::{Cause, Refusal, Rela};
@@ -23,7 +23,7 @@ use elf_table::Names;
 /// The symbol that an entry names: where its name begins, its section index and its type, which
 /// symbol 0 does not have, the string table of its name, and the file offset at which it stands.
 #[derive(Clone, Copy)]
-pub(crate) struct Named {
+pub(crate) struct SymbolOfEntry {
     pub(crate) name: u32,
     pub(crate) symbol: Option<(u16, u8)>,
     pub(crate) names: Names,
@@ -48,7 +48,7 @@ pub(crate) fn lacking_at<S: Source>(
     layout: &Addresses<'_>,
     section: u16,
     refusal: Refusal,
-    linked: Linked,
+    linked: LinkedSymbols,
 ) -> Result<Option<Lacking>, Fault>
     requires { EntryWithin src.old.seen.size refusal.at linked }
     ensures did { Did src.old src.new (why_stopped result) 48
@@ -89,9 +89,9 @@ fn read_entry<S: Source>(src: &mut Counted<S>, at: u64) -> Result<Rela, Fault>
 /// A fault of the read, or a refusal for want of budget, at the symbol's offset.
 fn read_symbol<S: Source>(
     src: &mut Counted<S>,
-    linked: Linked,
+    linked: LinkedSymbols,
     symbol: u32,
-) -> Result<Option<Named>, Fault>
+) -> Result<Option<SymbolOfEntry>, Fault>
     requires { IfSome linked (SymbolsWithin src.old.seen.size) }
     ensures did { Did src.old src.new (why_stopped result) 24
         (λ file. (header rela : ℕ) → RefersTo file header linked → symbol ≡ r_sym file rela →
@@ -100,7 +100,7 @@ fn read_symbol<S: Source>(
         IfSome found (λ named. StringsWithin src.old.seen.size named.names)) }
 {
     if symbol == 0 {
-        return Ok(Some(Named {
+        return Ok(Some(SymbolOfEntry {
             name: 0,
             symbol: None,
             names: Names::new(0, 0),
@@ -116,7 +116,7 @@ fn read_symbol<S: Source>(
     }
     let at = symbols.place(index);
     let fields = symbols.symbol(src, index)?;
-    Ok(Some(Named {
+    Ok(Some(SymbolOfEntry {
         name: fields.st_name,
         symbol: Some((fields.st_shndx, fields.kind())),
         names,
@@ -126,7 +126,7 @@ fn read_symbol<S: Source>(
 
 /// What an entry of the type of a number lacks, which names this symbol, where something is wanted.
 #[tactic(auto, unfolding(elf_model::specs::Explain::missing_of))]
-fn lacking_of(kind: u32, named: &Named, wanted: Option<Wanted>) -> Option<Lacking>
+fn lacking_of(kind: u32, named: &SymbolOfEntry, wanted: Option<LayoutAddress>) -> Option<Lacking>
     ensures { LackOf kind named.now wanted result }
 {
     let wanted = wanted?;
@@ -152,7 +152,7 @@ fn wanted(
     layout: &Addresses<'_>,
     section: u16,
     symbol: Option<(u16, u8)>,
-) -> Option<Wanted>
+) -> Option<LayoutAddress>
     ensures { result ≡ wanted cause found layout.now section symbol }
 {
     match cause {
@@ -171,26 +171,26 @@ fn place_wanted(
     layout: &Addresses<'_>,
     section: u16,
     symbol: Option<(u16, u8)>,
-) -> Option<Wanted>
+) -> Option<LayoutAddress>
     ensures { result ≡ place_wanted formula layout.now section symbol }
 {
     if takes_place(formula) && layout.section_address(section).is_none() {
-        return Some(Wanted::Place(section));
+        return Some(LayoutAddress::Place(section));
     }
     let (index, _) = symbol?;
     if index != SHN_UNDEF && index < SHN_LORESERVE && layout.section_address(index).is_none() {
-        return Some(Wanted::Place(index));
+        return Some(LayoutAddress::Place(index));
     }
     None
 }
 
 /// What a base tells of a symbol's name is wanted; nothing where the entry names symbol 0.
 #[tactic(auto, unfolding(elf_model::specs::Explain::name_wanted))]
-fn name_wanted(base: Base, symbol: Option<(u16, u8)>) -> Option<Wanted>
+fn name_wanted(base: Base, symbol: Option<(u16, u8)>) -> Option<LayoutAddress>
     ensures { result ≡ name_wanted base symbol }
 {
     match symbol {
-        Some(_) => Some(Wanted::Named(base)),
+        Some(_) => Some(LayoutAddress::Named(base)),
         None => None,
     }
 }
@@ -198,25 +198,25 @@ fn name_wanted(base: Base, symbol: Option<(u16, u8)>) -> Option<Wanted>
 /// The entry that is wanted of a symbol where the relocation entry is not applied without: that
 /// which the base tells, where S has none; nothing where the entry names symbol 0.
 #[tactic(auto, unfolding(elf_model::specs::Explain::entry_wanted))]
-fn entry_wanted(base: Base, symbol: Option<(u16, u8)>) -> Option<Wanted>
+fn entry_wanted(base: Base, symbol: Option<(u16, u8)>) -> Option<LayoutAddress>
     ensures { result ≡ entry_wanted base symbol }
 {
     let (_, kind) = symbol?;
     match base {
         Base::Symbol => system_wanted(kind),
-        Base::Linkage => Some(Wanted::Entry),
-        Base::Table | Base::Thread => Some(Wanted::Named(base)),
+        Base::Linkage => Some(LayoutAddress::Entry),
+        Base::Table | Base::Thread => Some(LayoutAddress::Named(base)),
     }
 }
 
 /// What S of a type that is specific to the system wants: of an indirect function its procedure
 /// linkage table entry; nothing helps with another.
 #[tactic(auto, unfolding(elf_model::specs::Explain::system_wanted))]
-fn system_wanted(kind: u8) -> Option<Wanted>
+fn system_wanted(kind: u8) -> Option<LayoutAddress>
     ensures { result ≡ system_wanted kind }
 {
     if kind == STT_GNU_IFUNC {
-        return Some(Wanted::Entry);
+        return Some(LayoutAddress::Entry);
     }
     None
 }

@@ -1,10 +1,10 @@
 //! The name of the symbol that an entry names.
 ghost use Rattle.std.specs.Prelude.{◌≡◌, ℕ, List, [], IfErr};
-ghost use Rattle.elf_model.specs.Explain.{told_name};
+ghost use Rattle.elf_model.specs.Explain.{told_symbol_name};
 ghost use Rattle.elf_model.specs.Names.{pad64};
 ghost use Rattle.elf_headers.specs.Ledger.{Did, why_stopped};
 ghost use Rattle.elf_table.specs.Tables.{StringsWithin, strings_in};
-ghost use Rattle.elf_explain.specs.Explained.{TellsName, WithoutName};
+ghost use Rattle.elf_explain.specs.Explained.{TellsSymbolName, WithoutName};
 
 use crate::lacking::Lacking;
 use elf_headers::{Cap, Fault};
@@ -28,7 +28,7 @@ pub(crate) fn read_name<S: Source>(
 ) -> Result<Option<NameEnd>, Fault>
     requires { StringsWithin src.old.seen.size lacking.now.names }
     ensures { Did src.old src.new (why_stopped result) (pad64 256)
-        (λ file. TellsName (told_name (strings_in file lacking.now.names)
+        (λ file. TellsSymbolName (told_symbol_name (strings_in file lacking.now.names)
         lacking.now.missing.name) result name.new) }
 {
     let off = lacking.missing.name;

@@ -1,8 +1,8 @@
 -- What opens the words of the examples, beside those of the definitions.
-use Rattle.elf_gnu_examples.specs.ExamplesGnuHash.{table_of}
+use Rattle.elf_gnu_examples.specs.ExamplesGnuHash.{gnu_table_of}
 use Rattle.elf_gnu_examples.specs.ExamplesWanted.{long_version}
 use Rattle.elf_gnu_examples.specs.ListedVersions.{parts_listed, versions_listed}
 
 unfoldable pub on_examples : Unit {0}
-unfolding table_of long_version parts_listed versions_listed
+unfolding gnu_table_of long_version parts_listed versions_listed
 on_examples = tt

@@ -24,8 +24,8 @@ KnownGnuHashes =
 
 -- a table of three buckets at offset 8: it knows the symbols from 5 on; its filter has two words, and a shift of 9; the second
 -- bucket's chain begins at symbol 6, the third's at symbol 9, the first has none
-unfoldable pub table_of : List ℕ → List ℕ → List ℕ
-table_of filter chains = zeros 8 ++ words (3 ∷ 5 ∷ 2 ∷ 9 ∷ []) ++ filter ++ words (0 ∷ 6 ∷ 9 ∷ []) ++ words chains
+unfoldable pub gnu_table_of : List ℕ → List ℕ → List ℕ
+gnu_table_of filter chains = zeros 8 ++ words (3 ∷ 5 ∷ 2 ∷ 9 ∷ []) ++ filter ++ words (0 ∷ 6 ∷ 9 ∷ []) ++ words chains
 
 -- the table has so many bytes, and the symbols are so many
 abbrev pub table_with : (size symbols : ℕ) → HashTable
@@ -66,42 +66,42 @@ LeadsNowhere file table at tried read =
 -- symbols of the hash alone are tried, and the words of the others read; the chain ends with the odd word
 abbrev pub ChainsAreWalked : Type 0
 ChainsAreWalked =
-    GivesSymbol (table_of its_filter its_chains) its_hash 6 1 1
-    × GivesSymbol (table_of its_filter its_chains) its_hash 8 2 3
-    × GivesNone (table_of its_filter its_chains) its_hash 9 2 3
-    × GivesNone (table_of its_filter its_chains) its_hash 5 2 3
+    GivesSymbol (gnu_table_of its_filter its_chains) its_hash 6 1 1
+    × GivesSymbol (gnu_table_of its_filter its_chains) its_hash 8 2 3
+    × GivesNone (gnu_table_of its_filter its_chains) its_hash 9 2 3
+    × GivesNone (gnu_table_of its_filter its_chains) its_hash 5 2 3
 
 -- a symbol that cannot be tried is refused, where its hash is the one
 abbrev pub TrialsAreRefused : Type 0
 TrialsAreRefused =
-    gnu_looked_up (table_of its_filter (0 ∷ 0x156b2bb8 ∷ 0x156b2bb8 ∷ 0x156b2bb9 ∷ [])) (table_with 80 14) its_hash (answers_at 8)
+    gnu_looked_up (gnu_table_of its_filter (0 ∷ 0x156b2bb8 ∷ 0x156b2bb8 ∷ 0x156b2bb9 ∷ [])) (table_with 80 14) its_hash (answers_at 8)
     ≡ record { answer = Err (record { at = 700; cause = NameOutside }); tried = 2; read = 2 }
 
 -- the filter's second word is for hashes with bit 6; each of two bits is needed; a bit of the other word does not count
 abbrev pub FilterWordsAlternate : Type 0
 FilterWordsAlternate =
-    GivesNone (table_of (zeros 8 ++ little 8 0x0100000000200000) its_chains) its_hash 6 0 0
-    × GivesNone (table_of (little 8 0x0100000000000000 ++ zeros 8) its_chains) its_hash 6 0 0
-    × GivesNone (table_of (little 8 0x0000000000200000 ++ zeros 8) its_chains) its_hash 6 0 0
-    × GivesNone (table_of (little 8 0xfeffffffffffffff ++ replicate 8 0xff) its_chains) its_hash 6 0 0
-    × GivesNone (table_of (little 8 0xffffffffffdfffff ++ replicate 8 0xff) its_chains) its_hash 6 0 0
-    × GivesSymbol (table_of (zeros 8 ++ replicate 8 0xff) (0 ∷ 0x156b2bfa ∷ 1 ∷ [])) 0x156b2bfa 6 1 1
-    × GivesNone (table_of (replicate 8 0xff ++ zeros 8) (0 ∷ 0x156b2bfa ∷ 1 ∷ [])) 0x156b2bfa 6 0 0
+    GivesNone (gnu_table_of (zeros 8 ++ little 8 0x0100000000200000) its_chains) its_hash 6 0 0
+    × GivesNone (gnu_table_of (little 8 0x0100000000000000 ++ zeros 8) its_chains) its_hash 6 0 0
+    × GivesNone (gnu_table_of (little 8 0x0000000000200000 ++ zeros 8) its_chains) its_hash 6 0 0
+    × GivesNone (gnu_table_of (little 8 0xfeffffffffffffff ++ replicate 8 0xff) its_chains) its_hash 6 0 0
+    × GivesNone (gnu_table_of (little 8 0xffffffffffdfffff ++ replicate 8 0xff) its_chains) its_hash 6 0 0
+    × GivesSymbol (gnu_table_of (zeros 8 ++ replicate 8 0xff) (0 ∷ 0x156b2bfa ∷ 1 ∷ [])) 0x156b2bfa 6 1 1
+    × GivesNone (gnu_table_of (replicate 8 0xff ++ zeros 8) (0 ∷ 0x156b2bfa ∷ 1 ∷ [])) 0x156b2bfa 6 0 0
 
 -- another bucket's chain, and one that has none
 abbrev pub BucketsAreByTheHash : Type 0
 BucketsAreByTheHash =
-    GivesSymbol (table_of (replicate 16 0xff) (0 ∷ 1 ∷ 1 ∷ 1 ∷ 0x156b2bb9 ∷ [])) 0x156b2bb9 9 1 1
-    × GivesNone (table_of (replicate 16 0xff) (0 ∷ 1 ∷ 1 ∷ 1 ∷ 0x156b2bb9 ∷ [])) 0x156b2bba 9 0 0
+    GivesSymbol (gnu_table_of (replicate 16 0xff) (0 ∷ 1 ∷ 1 ∷ 1 ∷ 0x156b2bb9 ∷ [])) 0x156b2bb9 9 1 1
+    × GivesNone (gnu_table_of (replicate 16 0xff) (0 ∷ 1 ∷ 1 ∷ 1 ∷ 0x156b2bb9 ∷ [])) 0x156b2bba 9 0 0
 
 -- a bucket below the first symbol that the table knows, and one past the last symbol; chains that go on past the last symbol,
 -- and past the end of the table
 abbrev pub WordsLeadNowhere : Type 0
 WordsLeadNowhere =
-    LeadsNowhere (with_bytes 0x2c (little 4 4) (table_of its_filter its_chains)) (table_with 80 14) 0x2c 0 0
-    × LeadsNowhere (with_bytes 0x2c (little 4 14) (table_of its_filter its_chains)) (table_with 80 14) 0x2c 0 0
-    × LeadsNowhere (table_of its_filter (replicate 9 2)) (table_with 80 14) 0x54 0 8
-    × LeadsNowhere (table_of its_filter (replicate 9 2)) (table_with 80 13) 0x50 0 7
-    × LeadsNowhere (table_of its_filter (replicate 9 2)) (table_with 76 14) 0x50 0 7
-    × LeadsNowhere (table_of its_filter (replicate 9 2)) (table_with 79 14) 0x50 0 7
-    × LeadsNowhere (table_of its_filter (0 ∷ 0x156b2bb8 ∷ 2 ∷ 0x156b2bb8 ∷ [])) (table_with 60 14) 0x40 2 3
+    LeadsNowhere (with_bytes 0x2c (little 4 4) (gnu_table_of its_filter its_chains)) (table_with 80 14) 0x2c 0 0
+    × LeadsNowhere (with_bytes 0x2c (little 4 14) (gnu_table_of its_filter its_chains)) (table_with 80 14) 0x2c 0 0
+    × LeadsNowhere (gnu_table_of its_filter (replicate 9 2)) (table_with 80 14) 0x54 0 8
+    × LeadsNowhere (gnu_table_of its_filter (replicate 9 2)) (table_with 80 13) 0x50 0 7
+    × LeadsNowhere (gnu_table_of its_filter (replicate 9 2)) (table_with 76 14) 0x50 0 7
+    × LeadsNowhere (gnu_table_of its_filter (replicate 9 2)) (table_with 79 14) 0x50 0 7
+    × LeadsNowhere (gnu_table_of its_filter (0 ∷ 0x156b2bb8 ∷ 2 ∷ 0x156b2bb8 ∷ [])) (table_with 60 14) 0x40 2 3

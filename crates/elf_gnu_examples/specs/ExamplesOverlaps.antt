@@ -4,7 +4,7 @@ use Rattle.elf_model.specs.Bytes.{little}
 use Rattle.elf_model.specs.Fixtures.{with_bytes}
 use Rattle.elf_model.specs.FixturesTables.{program_header}
 use Rattle.elf_model.specs.FixturesVersions.{versioned_library, versioned_without_sections}
-use Rattle.elf_gnu_examples.specs.LoaderWords.{Asks, Fails, Finds, found_2, of_v2, second_f}
+use Rattle.elf_gnu_examples.specs.LoaderWords.{LoaderCosts, Fails, LoaderFinds, found_2, of_v2, second_f}
 
 -- a segment that is loaded at an address, of so many bytes in memory and none in the file
 abbrev load : (address size : ℕ) → List ℕ
@@ -29,9 +29,9 @@ found_lines =
 abbrev pub OverlapsAreRefused : Type 0
 OverlapsAreRefused =
     Fails (with_loads 3 (load 0x800 1)) (codes "f") (codes "! 0000000000000360 load-overlap\n")
-    × Asks (with_loads 3 (load 0x800 1)) (codes "f") 452
-    × Finds (with_loads 3 (load 0x1000 1)) (codes "f") found_lines
-    × Finds (with_loads 3 (load 0x800 0)) (codes "f") found_lines
+    × LoaderCosts (with_loads 3 (load 0x800 1)) (codes "f") 452
+    × LoaderFinds (with_loads 3 (load 0x1000 1)) (codes "f") found_lines
+    × LoaderFinds (with_loads 3 (load 0x800 0)) (codes "f") found_lines
     × Fails (with_loads 4 (load 0x5000 0 ++ load 0x800 1)) (codes "f") (codes "! 0000000000000398 load-overlap\n")
     × Fails (with_loads 4 (load (2 ^ 64 - 0x1000) 0x2000 ++ load 0x1000 1)) (codes "f") (codes "! 0000000000000398 load-overlap\n")
 
@@ -40,4 +40,4 @@ abbrev pub OverlapsBeforeTheEntries : Type 0
 OverlapsBeforeTheEntries =
     Fails (with_bytes 0x78 (little 4 1) versioned_without_sections) (codes "f") (codes "! 0000000000000078 load-overlap\n")
     × Fails (with_bytes 0x38 (little 2 9) (with_loads 3 (load 0x800 1))) (codes "f") (codes "! 0000000000000038 too-many-headers\n")
-    × Finds (with_bytes 0x78 (little 4 1) versioned_library) (codes "f") (second_f ++ of_v2 ++ found_2)
+    × LoaderFinds (with_bytes 0x78 (little 4 1) versioned_library) (codes "f") (second_f ++ of_v2 ++ found_2)

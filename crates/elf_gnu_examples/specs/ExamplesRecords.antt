@@ -4,12 +4,12 @@ use Rattle.std.specs.Prelude.{◌++◌, codes}
 use Rattle.elf_model.specs.Bytes.{little}
 use Rattle.elf_model.specs.Fixtures.{with_bytes}
 use Rattle.elf_model.specs.FixturesVersions.{versioned_library, versioned_without_sections}
-use Rattle.elf_gnu_examples.specs.LoaderWords.{Fails, Finds, absent_0, absent_2, first_f, found_1, found_2, of_v1, of_v2, second_f}
+use Rattle.elf_gnu_examples.specs.LoaderWords.{Fails, LoaderFinds, absent_0, absent_2, first_f, found_1, found_2, of_v1, of_v2, second_f}
 
 -- a definition with another flag than BASE names a version, and one with both does not
 abbrev pub FlagsDecide : Type 0
 FlagsDecide =
-    Finds (with_bytes 0x1ce (little 2 2) versioned_library) (codes "f@V1") (first_f ++ of_v1 ++ found_1)
+    LoaderFinds (with_bytes 0x1ce (little 2 2) versioned_library) (codes "f@V1") (first_f ++ of_v1 ++ found_1)
     × Fails (with_bytes 0x1ce (little 2 3) versioned_library) (codes "f@V1") absent_2
 
 -- nothing is checked of a table of no bytes: of words, whose entries are too large; of definitions without strings. One byte is enough
@@ -24,9 +24,9 @@ NothingIsCheckedOfNone =
 abbrev pub StringsAreTheirOwn : Type 0
 StringsAreTheirOwn =
     let library = with_bytes 0x226 (little 2 3) (with_bytes 0x498 (little 4 7) (with_bytes 0x4b4 (little 4 3) (with_bytes 0x4c8 (little 8 0x171 ++ little 8 0x2f) versioned_library))) in
-    Finds library (codes "f@LIBC_2.2.5") (second_f ++ codes "X     4          4     3 - LIBC_2.2.5\n" ++ found_2)
+    LoaderFinds library (codes "f@LIBC_2.2.5") (second_f ++ codes "X     4          4     3 - LIBC_2.2.5\n" ++ found_2)
     × Fails library (codes "f@GLIBC_2.2.5") absent_2
-    × Finds library (codes "f@V2") (second_f ++ of_v2 ++ found_2)
+    × LoaderFinds library (codes "f@V2") (second_f ++ of_v2 ++ found_2)
 
 -- a hash table of the gABI by segments has its two counts in 8 bytes: one of 12 holds a bucket too. In one of 8 there is no bucket
 abbrev pub SmallTablesBySegments : Type 0
@@ -37,8 +37,8 @@ SmallTablesBySegments =
 -- a symbol is found in a file of any machine; the place of a large common symbol has its name with x86-64 alone
 abbrev pub MachinesName : Type 0
 MachinesName =
-    Finds (with_bytes 0x12 (little 2 183) versioned_library) (codes "f") (second_f ++ of_v2 ++ found_2)
-    × Finds (with_bytes 0x146 (little 2 0xff02) versioned_library) (codes "f")
+    LoaderFinds (with_bytes 0x12 (little 2 183) versioned_library) (codes "f") (second_f ++ of_v2 ++ found_2)
+    × LoaderFinds (with_bytes 0x146 (little 2 0xff02) versioned_library) (codes "f")
     (codes "Y     2          4 00000000000002a9 0000000000000001 FUNC    GLOBAL DEFAULT   LCOM  f\n" ++ of_v2 ++ found_2)
-    × Finds (with_bytes 0x12 (little 2 183) (with_bytes 0x146 (little 2 0xff02) versioned_library)) (codes "f")
+    × LoaderFinds (with_bytes 0x12 (little 2 183) (with_bytes 0x146 (little 2 0xff02) versioned_library)) (codes "f")
     (codes "Y     2          4 00000000000002a9 0000000000000001 FUNC    GLOBAL DEFAULT   65282 f\n" ++ of_v2 ++ found_2)

@@ -6,17 +6,17 @@ use Rattle.elf_model.specs.Fixtures.{with_bytes}
 use Rattle.elf_model.specs.FixturesHash.{words}
 use Rattle.elf_model.specs.FixturesVersions.{versioned_library, versioned_without_sections}
 use Rattle.elf_model.specs.Style.{looked_at}
-use Rattle.elf_gnu_examples.specs.LoaderWords.{Asks, Fails, Finds, found_2, of_v2, second_f}
+use Rattle.elf_gnu_examples.specs.LoaderWords.{LoaderCosts, Fails, LoaderFinds, found_2, of_v2, second_f}
 
 -- a lookup by the program headers
 abbrev pub FindsBySegments : List ℕ → List ℕ → List ℕ → Type 0
-FindsBySegments file text lines = Finds (looked_at true file) text lines
+FindsBySegments file text lines = LoaderFinds (looked_at true file) text lines
 
 abbrev pub FailsBySegments : List ℕ → List ℕ → List ℕ → Type 0
 FailsBySegments file text line = Fails (looked_at true file) text line
 
 abbrev pub AsksBySegments : List ℕ → List ℕ → ℕ → Type 0
-AsksBySegments file text cost = Asks (looked_at true file) text cost
+AsksBySegments file text cost = LoaderCosts (looked_at true file) text cost
 
 abbrev pub second_with_v2 : List ℕ
 second_with_v2 =
@@ -52,12 +52,12 @@ alpha file = with_bytes 0x12 (little 2 0x9026) file
 
 -- words of 8 bytes are refused in Alpha's files alone, and in tables of the gABI alone; where their size is not told, by the
 -- segments, in all of Alpha's
-abbrev pub WideWordsAreRefused : Type 0
-WideWordsAreRefused =
+abbrev pub WideWordsOfViewsAreRefused : Type 0
+WideWordsOfViewsAreRefused =
     Fails (alpha (with_bytes 0x368 (little 8 8) (with_bytes 0x334 (little 4 5) versioned_library))) (codes "f") (codes "! 0000000000000330 hash-shape\n")
-    × Asks (alpha (with_bytes 0x368 (little 8 8) (with_bytes 0x334 (little 4 5) versioned_library))) (codes "f") 604
-    × Finds (with_bytes 0xb0 (words (1 ∷ 6 ∷ 1 ∷ 0 ∷ 2 ∷ 3 ∷ 4 ∷ 5 ∷ 0 ∷ [])) (with_bytes 0x368 (little 8 8) (with_bytes 0x334 (little 4 5) versioned_library))) (codes "f") (second_f ++ of_v2 ++ codes "F found           4\n")
-    × Finds (alpha (with_bytes 0xb0 (words (1 ∷ 6 ∷ 1 ∷ 0 ∷ 2 ∷ 3 ∷ 4 ∷ 5 ∷ 0 ∷ [])) (with_bytes 0x368 (little 8 4) (with_bytes 0x334 (little 4 5) versioned_library)))) (codes "f") (second_f ++ of_v2 ++ codes "F found           4\n")
-    × Finds (alpha (with_bytes 0x368 (little 8 8) versioned_library)) (codes "f") (second_f ++ of_v2 ++ found_2)
+    × LoaderCosts (alpha (with_bytes 0x368 (little 8 8) (with_bytes 0x334 (little 4 5) versioned_library))) (codes "f") 604
+    × LoaderFinds (with_bytes 0xb0 (words (1 ∷ 6 ∷ 1 ∷ 0 ∷ 2 ∷ 3 ∷ 4 ∷ 5 ∷ 0 ∷ [])) (with_bytes 0x368 (little 8 8) (with_bytes 0x334 (little 4 5) versioned_library))) (codes "f") (second_f ++ of_v2 ++ codes "F found           4\n")
+    × LoaderFinds (alpha (with_bytes 0xb0 (words (1 ∷ 6 ∷ 1 ∷ 0 ∷ 2 ∷ 3 ∷ 4 ∷ 5 ∷ 0 ∷ [])) (with_bytes 0x368 (little 8 4) (with_bytes 0x334 (little 4 5) versioned_library)))) (codes "f") (second_f ++ of_v2 ++ codes "F found           4\n")
+    × LoaderFinds (alpha (with_bytes 0x368 (little 8 8) versioned_library)) (codes "f") (second_f ++ of_v2 ++ found_2)
     × Fails (alpha (with_bytes 0x250 (little 8 4) versioned_without_sections)) (codes "f") (codes "! 0000000000000250 hash-shape\n")
-    × Finds (alpha versioned_without_sections) (codes "f") second_with_v2
+    × LoaderFinds (alpha versioned_without_sections) (codes "f") second_with_v2

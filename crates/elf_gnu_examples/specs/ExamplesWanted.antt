@@ -7,7 +7,7 @@ use Rattle.elf_model.specs.FixturesHash.{words}
 use Rattle.elf_model.specs.FixturesVersions.{versioned_library, versioned_without_sections}
 use Rattle.elf_model.specs.Loader.{NoVersion, Version, DefaultVersion, wanted_of, is_complete}
 use Rattle.elf_model.specs.LoaderFind.{loader_ceiling}
-use Rattle.elf_gnu_examples.specs.LoaderWords.{Finds, Asks, second_f, found_2}
+use Rattle.elf_gnu_examples.specs.LoaderWords.{LoaderFinds, LoaderCosts, second_f, found_2}
 
 -- the text of a name alone, of a version behind one sign and behind two, and of versions that hold such signs
 abbrev pub TextsAreParted : Type 0
@@ -43,25 +43,25 @@ long_version count =
 -- a name of 256 bytes is told whole, one more is cut; the wanted one is told whole
 abbrev pub LongVersionsAreCut : Type 0
 LongVersionsAreCut =
-    Finds (long_version 256) (codes "f") (second_f ++ codes "X     4          4     3 - " ++ replicate 256 97 ++ codes "\n" ++ found_2)
-    × Finds (long_version 257) (codes "f") (second_f ++ codes "X     4          4     3 - " ++ replicate 256 97 ++ codes "\\+\n" ++ found_2)
-    × Finds (long_version 300) (codes "f@" ++ replicate 300 97)
+    LoaderFinds (long_version 256) (codes "f") (second_f ++ codes "X     4          4     3 - " ++ replicate 256 97 ++ codes "\n" ++ found_2)
+    × LoaderFinds (long_version 257) (codes "f") (second_f ++ codes "X     4          4     3 - " ++ replicate 256 97 ++ codes "\\+\n" ++ found_2)
+    × LoaderFinds (long_version 300) (codes "f@" ++ replicate 300 97)
     (second_f ++ codes "X     4          4     3 - " ++ replicate 300 97 ++ codes "\n" ++ found_2)
 
 -- a wanted version is read in whole pieces of 64 bytes with each record, and a wanted name with each symbol
 abbrev pub LongNamesAsk : Type 0
 LongNamesAsk =
-    Asks (long_version 300) (codes "f@" ++ replicate 300 97) (604 + 188 + 5 * (28 + 320))
-    × Asks (long_version 300) (codes "f@" ++ replicate 63 97) (604 + 192 + 5 * (28 + 64))
-    × Asks (long_version 300) (codes "f@" ++ replicate 64 97) (604 + 192 + 5 * (28 + 128))
-    × Asks (long_version 300) (codes "f") (604 + 188 + 3 * 28 + 320)
-    × Asks (with_bytes 0x334 (little 4 5) (with_bytes 0xb0 (words (1 ∷ 6 ∷ 1 ∷ 0 ∷ 2 ∷ 3 ∷ 4 ∷ 5 ∷ 0 ∷ [])) versioned_library))
+    LoaderCosts (long_version 300) (codes "f@" ++ replicate 300 97) (604 + 188 + 5 * (28 + 320))
+    × LoaderCosts (long_version 300) (codes "f@" ++ replicate 63 97) (604 + 192 + 5 * (28 + 64))
+    × LoaderCosts (long_version 300) (codes "f@" ++ replicate 64 97) (604 + 192 + 5 * (28 + 128))
+    × LoaderCosts (long_version 300) (codes "f") (604 + 188 + 3 * 28 + 320)
+    × LoaderCosts (with_bytes 0x334 (little 4 5) (with_bytes 0xb0 (words (1 ∷ 6 ∷ 1 ∷ 0 ∷ 2 ∷ 3 ∷ 4 ∷ 5 ∷ 0 ∷ [])) versioned_library))
     (replicate 64 97) (604 + 5 * (4 + 26 + 128))
-    × Asks (with_bytes 0xc0 (replicate 8 0xff) versioned_library) (replicate 64 97) (604 + 4 * 3)
+    × LoaderCosts (with_bytes 0xc0 (replicate 8 0xff) versioned_library) (replicate 64 97) (604 + 4 * 3)
 
 -- what no lookup asks for more than, by a file's length, the headers that are permitted, the name and the version
-abbrev pub Ceilings : Type 0
-Ceilings =
+abbrev pub LoaderCeilings : Type 0
+LoaderCeilings =
     (loader_ceiling 1264 8 (wanted_of (codes "f")) ≡ 92 + 512 + 1264 + 316 * (30 + 64) + 158 * 28 + 320)
     × (loader_ceiling 1264 8 (wanted_of (codes "f@V1")) ≡ 92 + 512 + 1264 + 316 * (30 + 64) + 158 * (28 + 64) + 320)
     × (loader_ceiling 7 0 (wanted_of (replicate 64 97)) ≡ 92 + 7 + 158 + 320)

@@ -3,7 +3,7 @@ use Rattle.std.specs.Prelude.{ℕ, List, ◌++◌, codes}
 use Rattle.elf_model.specs.Bytes.{little}
 use Rattle.elf_model.specs.Fixtures.{with_bytes}
 use Rattle.elf_model.specs.FixturesVersions.{versioned_library, versioned_without_sections}
-use Rattle.elf_gnu_examples.specs.LoaderWords.{Asks, Fails, Finds, absent_2, first_f, found_1, found_2, of_v1, of_v2, second_f}
+use Rattle.elf_gnu_examples.specs.LoaderWords.{LoaderCosts, Fails, LoaderFinds, absent_2, first_f, found_1, found_2, of_v1, of_v2, second_f}
 
 -- the library without a section of definitions and without one of needs, and the one without section headers without their entries
 abbrev pub without_records : List ℕ
@@ -18,45 +18,45 @@ first_by_segments = codes "Y     1          3 00000000000002a8 0000000000000001 
 -- by the sections: the first symbol of the name answers, for a name alone and for any version of it; no version is told
 abbrev pub WordsWithoutRecords : Type 0
 WordsWithoutRecords =
-    Finds without_records (codes "f") (first_f ++ found_1)
-    × Asks without_records (codes "f") 698
-    × Finds without_records (codes "f@V1") (first_f ++ found_1)
-    × Finds without_records (codes "f@@V9") (first_f ++ found_1)
-    × Asks without_records (codes "f@@V9") 698
+    LoaderFinds without_records (codes "f") (first_f ++ found_1)
+    × LoaderCosts without_records (codes "f") 698
+    × LoaderFinds without_records (codes "f@V1") (first_f ++ found_1)
+    × LoaderFinds without_records (codes "f@@V9") (first_f ++ found_1)
+    × LoaderCosts without_records (codes "f@@V9") 698
 
 -- nor are the words checked: another link, another size of their entries, past the end of the file
 abbrev pub UnreadWordsAreUnchecked : Type 0
 UnreadWordsAreUnchecked =
-    Finds (with_bytes 0x418 (little 4 3) without_records) (codes "f") (first_f ++ found_1)
-    × Finds (with_bytes 0x428 (little 8 4) without_records) (codes "f") (first_f ++ found_1)
-    × Finds (with_bytes 0x408 (little 8 0x1000) without_records) (codes "f@V1") (first_f ++ found_1)
+    LoaderFinds (with_bytes 0x418 (little 4 3) without_records) (codes "f") (first_f ++ found_1)
+    × LoaderFinds (with_bytes 0x428 (little 8 4) without_records) (codes "f") (first_f ++ found_1)
+    × LoaderFinds (with_bytes 0x408 (little 8 0x1000) without_records) (codes "f@V1") (first_f ++ found_1)
 
 -- a section of records that has no byte counts for none: of definitions, of both; the first of a type decides, and a later one
 -- with bytes is not looked at
 abbrev pub EmptyRecordsAreNone : Type 0
 EmptyRecordsAreNone =
-    Finds (with_bytes 0x450 (little 8 0) (with_bytes 0x474 (little 4 1) versioned_library)) (codes "f@V1") (first_f ++ found_1)
-    × Finds (with_bytes 0x490 (little 8 0) (with_bytes 0x434 (little 4 1) versioned_library)) (codes "f@V9") (first_f ++ found_1)
-    × Finds (with_bytes 0x490 (little 8 0) (with_bytes 0x450 (little 8 0) versioned_library)) (codes "f") (first_f ++ found_1)
-    × Finds (with_bytes 0x4b4 (little 4 0x6ffffffd) (with_bytes 0x450 (little 8 0) (with_bytes 0x474 (little 4 1) versioned_library))) (codes "f@V9") (first_f ++ found_1)
+    LoaderFinds (with_bytes 0x450 (little 8 0) (with_bytes 0x474 (little 4 1) versioned_library)) (codes "f@V1") (first_f ++ found_1)
+    × LoaderFinds (with_bytes 0x490 (little 8 0) (with_bytes 0x434 (little 4 1) versioned_library)) (codes "f@V9") (first_f ++ found_1)
+    × LoaderFinds (with_bytes 0x490 (little 8 0) (with_bytes 0x450 (little 8 0) versioned_library)) (codes "f") (first_f ++ found_1)
+    × LoaderFinds (with_bytes 0x4b4 (little 4 0x6ffffffd) (with_bytes 0x450 (little 8 0) (with_bytes 0x474 (little 4 1) versioned_library))) (codes "f@V9") (first_f ++ found_1)
 
 -- one section of records with a byte is enough: needs beside definitions without one, and definitions alone
 abbrev pub EitherRecordsAreEnough : Type 0
 EitherRecordsAreEnough =
     Fails (with_bytes 0x450 (little 8 0) versioned_library) (codes "f@V2") absent_2
     × Fails (with_bytes 0x450 (little 8 0) versioned_library) (codes "f") (codes "! 00000000000001a8 version-index\n")
-    × Finds (with_bytes 0x474 (little 4 1) versioned_library) (codes "f@V1") (first_f ++ of_v1 ++ found_1)
-    × Finds (with_bytes 0x490 (little 8 0) versioned_library) (codes "f") (second_f ++ of_v2 ++ found_2)
+    × LoaderFinds (with_bytes 0x474 (little 4 1) versioned_library) (codes "f@V1") (first_f ++ of_v1 ++ found_1)
+    × LoaderFinds (with_bytes 0x490 (little 8 0) versioned_library) (codes "f") (second_f ++ of_v2 ++ found_2)
     × Fails (with_bytes 0x418 (little 4 3) (with_bytes 0x474 (little 4 1) versioned_library)) (codes "f") (codes "! 00000000000003f0 bad-link\n")
 
 -- by the segments: the same without their entries, also where the entry of the words is of no loaded address, and where the
 -- entries stand behind the first null one; entries of records count whatever they tell of
 abbrev pub WordsWithoutRows : Type 0
 WordsWithoutRows =
-    Finds without_rows (codes "f") (first_by_segments ++ found_1)
-    × Asks without_rows (codes "f") 490
-    × Finds without_rows (codes "f@V9") (first_by_segments ++ found_1)
-    × Asks without_rows (codes "f@V9") 490
-    × Finds (with_bytes 0x298 (little 8 0x2f0) without_rows) (codes "f@@V1") (first_by_segments ++ found_1)
-    × Finds (with_bytes 0x2a0 (little 8 0) versioned_without_sections) (codes "f@V9") (first_by_segments ++ found_1)
+    LoaderFinds without_rows (codes "f") (first_by_segments ++ found_1)
+    × LoaderCosts without_rows (codes "f") 490
+    × LoaderFinds without_rows (codes "f@V9") (first_by_segments ++ found_1)
+    × LoaderCosts without_rows (codes "f@V9") 490
+    × LoaderFinds (with_bytes 0x298 (little 8 0x2f0) without_rows) (codes "f@@V1") (first_by_segments ++ found_1)
+    × LoaderFinds (with_bytes 0x2a0 (little 8 0) versioned_without_sections) (codes "f@V9") (first_by_segments ++ found_1)
     × Fails (with_bytes 0x2a8 (little 8 0x2ef) (with_bytes 0x2c0 (little 8 0x63) versioned_without_sections)) (codes "f@V9") (codes "! 00000000000002a0 version-cut\n")

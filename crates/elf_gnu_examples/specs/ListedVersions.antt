@@ -12,35 +12,35 @@ use Rattle.elf_model.specs.Report.{listing}
 use Rattle.elf_model.specs.Style.{Style, standard}
 
 -- how rows are shown here: 63 bytes of a name, and the names of the GNU system's numbers
-abbrev pub shown_as : Style
-shown_as = record { cap = 63; gnu = true; by_segments = false; format = Columns }
+abbrev pub standard_style : Style
+standard_style = record { cap = 63; gnu = true; by_segments = false; format = Columns }
 
 -- the listing of some parts of a file, with eight headers permitted, and of its symbol versions alone
 unfoldable pub parts_listed : ℕ → List ℕ → List ℕ
-parts_listed parts file = report_of Columns (listing file 8 shown_as parts)
+parts_listed parts file = report_of Columns (listing file 8 standard_style parts)
 
 unfoldable pub versions_listed : List ℕ → List ℕ
 versions_listed file = parts_listed VERSIONS file
 
 -- it has so many lines, and ends in one
-abbrev pub EndsIn : List ℕ → ℕ → List ℕ → Type 0
-EndsIn file count last =
+abbrev pub EndsInLine : List ℕ → ℕ → List ℕ → Type 0
+EndsInLine file count last =
     let text = versions_listed file in
     (length (filter (λ b. b == 10) text) ≡ count) × (drop (length text - length last) text ≡ last)
 
 -- a number that no record names: of a symbol, of definitions that are none, and of one that names the file itself
 abbrev pub NumbersAreRefused : Type 0
 NumbersAreRefused =
-    EndsIn (with_bytes 0x1a8 (little 2 9) versioned_library) 10 (codes "! 00000000000001a8 version-index\n")
-    × EndsIn (with_bytes 0x434 (little 4 1) versioned_library) 6 (codes "! 00000000000001a6 version-index\n")
-    × EndsIn (with_bytes 0x1c0 (little 4 0) versioned_library) 7 (codes "! 00000000000001a6 version-index\n")
-    × EndsIn (with_bytes 0x1ce (little 2 1) versioned_library) 9 (codes "! 00000000000001a6 version-index\n")
+    EndsInLine (with_bytes 0x1a8 (little 2 9) versioned_library) 10 (codes "! 00000000000001a8 version-index\n")
+    × EndsInLine (with_bytes 0x434 (little 4 1) versioned_library) 6 (codes "! 00000000000001a6 version-index\n")
+    × EndsInLine (with_bytes 0x1c0 (little 4 0) versioned_library) 7 (codes "! 00000000000001a6 version-index\n")
+    × EndsInLine (with_bytes 0x1ce (little 2 1) versioned_library) 9 (codes "! 00000000000001a6 version-index\n")
 
 -- a definition that names the file itself, with another flag too, names no version; with another flag alone it does
 abbrev pub FlagsNameVersions : Type 0
 FlagsNameVersions =
-    EndsIn (with_bytes 0x1ce (little 2 3) versioned_library) 9 (codes "! 00000000000001a6 version-index\n")
-    × EndsIn (with_bytes 0x1ce (little 2 2) versioned_library) 11 (codes "X     4          5     3 - V2\n")
+    EndsInLine (with_bytes 0x1ce (little 2 3) versioned_library) 9 (codes "! 00000000000001a6 version-index\n")
+    × EndsInLine (with_bytes 0x1ce (little 2 2) versioned_library) 11 (codes "X     4          5     3 - V2\n")
 
 -- the strings of the needs are those that their section links to: here they begin one byte later than those of the definitions
 abbrev pub NeedsHaveTheirStrings : Type 0
@@ -62,61 +62,61 @@ NeedsHaveTheirStrings =
 -- the section of version numbers: fewer entries than symbols, half of one, their size, no symbol table, no such section
 abbrev pub NumberTablesAreRefused : Type 0
 NumberTablesAreRefused =
-    EndsIn (with_bytes 0x410 (little 8 8) versioned_library) 10 (codes "! 00000000000003f0 version-cut\n")
-    × EndsIn (with_bytes 0x410 (little 8 9) versioned_library) 6 (codes "! 00000000000003f0 size-not-whole\n")
-    × EndsIn (with_bytes 0x428 (little 8 4) versioned_library) 6 (codes "! 00000000000003f0 entry-size\n")
-    × EndsIn (with_bytes 0x418 (little 4 3) versioned_library) 6 (codes "! 00000000000003f0 bad-link\n")
-    × EndsIn (with_bytes 0x3f4 (little 4 1) versioned_library) 5 (codes "V     6 NEED     4 0000 09691a75 GLIBC_2.2.5\n")
+    EndsInLine (with_bytes 0x410 (little 8 8) versioned_library) 10 (codes "! 00000000000003f0 version-cut\n")
+    × EndsInLine (with_bytes 0x410 (little 8 9) versioned_library) 6 (codes "! 00000000000003f0 size-not-whole\n")
+    × EndsInLine (with_bytes 0x428 (little 8 4) versioned_library) 6 (codes "! 00000000000003f0 entry-size\n")
+    × EndsInLine (with_bytes 0x418 (little 4 3) versioned_library) 6 (codes "! 00000000000003f0 bad-link\n")
+    × EndsInLine (with_bytes 0x3f4 (little 4 1) versioned_library) 5 (codes "V     6 NEED     4 0000 09691a75 GLIBC_2.2.5\n")
 
 -- entries behind the last symbol are not looked at, and a section of no bytes has no rows
 abbrev pub NumberTablesEnd : Type 0
 NumberTablesEnd =
-    EndsIn (with_bytes 0x390 (little 8 0x60) versioned_library) 9 (codes "X     4          3     2 H V1\n")
-    × EndsIn (with_bytes 0x410 (little 8 0) versioned_library) 5 (codes "V     6 NEED     4 0000 09691a75 GLIBC_2.2.5\n")
+    EndsInLine (with_bytes 0x390 (little 8 0x60) versioned_library) 9 (codes "X     4          3     2 H V1\n")
+    × EndsInLine (with_bytes 0x410 (little 8 0) versioned_library) 5 (codes "V     6 NEED     4 0000 09691a75 GLIBC_2.2.5\n")
 
 -- a definition: its version, its number, its name past the end of the table, and past the end of the strings
 abbrev pub DefinitionsAreRefused : Type 0
 DefinitionsAreRefused =
-    EndsIn (with_bytes 0x1cc (little 2 2) versioned_library) 2 (codes "! 00000000000001cc version\n")
-    × EndsIn (with_bytes 0x1d0 (little 2 1024) versioned_library) 2 (codes "! 00000000000001cc version-index\n")
-    × EndsIn (with_bytes 0x1d0 (little 2 0x402) versioned_library) 2 (codes "! 00000000000001cc version-index\n")
-    × EndsIn (with_bytes 0x1d8 (little 4 57) versioned_library) 2 (codes "! 00000000000001cc version-cut\n")
-    × EndsIn (with_bytes 0x1fc (little 4 48) versioned_library) 3 (codes "! 00000000000001fc name-outside\n")
+    EndsInLine (with_bytes 0x1cc (little 2 2) versioned_library) 2 (codes "! 00000000000001cc version\n")
+    × EndsInLine (with_bytes 0x1d0 (little 2 1024) versioned_library) 2 (codes "! 00000000000001cc version-index\n")
+    × EndsInLine (with_bytes 0x1d0 (little 2 0x402) versioned_library) 2 (codes "! 00000000000001cc version-index\n")
+    × EndsInLine (with_bytes 0x1d8 (little 4 57) versioned_library) 2 (codes "! 00000000000001cc version-cut\n")
+    × EndsInLine (with_bytes 0x1fc (little 4 48) versioned_library) 3 (codes "! 00000000000001fc name-outside\n")
 
 -- a definition that leads into itself, and past the end of the table; a table without room for one
 abbrev pub DefinitionsLeadOn : Type 0
 DefinitionsLeadOn =
-    EndsIn (with_bytes 0x1c0 (little 4 4) versioned_library) 2 (codes "! 00000000000001b4 version-index\n")
-    × EndsIn (with_bytes 0x1c0 (little 4 0xffffffff) versioned_library) 2 (codes "! 00000000000001b0 version-cut\n")
-    × EndsIn (with_bytes 0x450 (little 8 19) versioned_library) 1 (codes "! 0000000000000430 version-cut\n")
+    EndsInLine (with_bytes 0x1c0 (little 4 4) versioned_library) 2 (codes "! 00000000000001b4 version-index\n")
+    × EndsInLine (with_bytes 0x1c0 (little 4 0xffffffff) versioned_library) 2 (codes "! 00000000000001b0 version-cut\n")
+    × EndsInLine (with_bytes 0x450 (little 8 19) versioned_library) 1 (codes "! 0000000000000430 version-cut\n")
 
 -- a name that two definitions share, the largest number with the hidden bit, a name in the last bytes of the table
 abbrev pub DefinitionsAreNamed : Type 0
 DefinitionsAreNamed =
-    EndsIn (with_bytes 0x1d8 (little 4 56) versioned_library) 11 (codes "X     4          5     3 - V2\n")
-    × EndsIn (with_bytes 0x1ec (little 2 0x83ff) (with_bytes 0x1a8 (little 2 0x3ff) (with_bytes 0x1aa (little 2 0x3ff) versioned_library))) 11 (codes "X     4          5  1023 - V2\n")
-    × EndsIn (with_bytes 0x450 (little 8 80) (with_bytes 0x1f4 (little 4 16) versioned_library)) 11 (codes "X     4          5     3 - \n")
+    EndsInLine (with_bytes 0x1d8 (little 4 56) versioned_library) 11 (codes "X     4          5     3 - V2\n")
+    × EndsInLine (with_bytes 0x1ec (little 2 0x83ff) (with_bytes 0x1a8 (little 2 0x3ff) (with_bytes 0x1aa (little 2 0x3ff) versioned_library))) 11 (codes "X     4          5  1023 - V2\n")
+    × EndsInLine (with_bytes 0x450 (little 8 80) (with_bytes 0x1f4 (little 4 16) versioned_library)) 11 (codes "X     4          5     3 - \n")
 
 -- a needed file and its version: the record version, the number, and names past the end of the strings
 abbrev pub NeedsAreRefused : Type 0
 NeedsAreRefused =
-    EndsIn (with_bytes 0x210 (little 2 0) versioned_library) 4 (codes "! 0000000000000210 version\n")
-    × EndsIn (with_bytes 0x226 (little 2 1024) versioned_library) 5 (codes "! 0000000000000220 version-index\n")
-    × EndsIn (with_bytes 0x228 (little 4 0xffffffff) versioned_library) 5 (codes "! 0000000000000220 name-outside\n")
-    × EndsIn (with_bytes 0x214 (little 4 48) versioned_library) 4 (codes "! 0000000000000210 name-outside\n")
+    EndsInLine (with_bytes 0x210 (little 2 0) versioned_library) 4 (codes "! 0000000000000210 version\n")
+    × EndsInLine (with_bytes 0x226 (little 2 1024) versioned_library) 5 (codes "! 0000000000000220 version-index\n")
+    × EndsInLine (with_bytes 0x228 (little 4 0xffffffff) versioned_library) 5 (codes "! 0000000000000220 name-outside\n")
+    × EndsInLine (with_bytes 0x214 (little 4 48) versioned_library) 4 (codes "! 0000000000000210 name-outside\n")
 
 -- a needed file whose versions or whose next file are past the end of the table; more records than have room
 abbrev pub NeedsLeadOn : Type 0
 NeedsLeadOn =
-    EndsIn (with_bytes 0x218 (little 4 17) versioned_library) 5 (codes "! 0000000000000210 version-cut\n")
-    × EndsIn (with_bytes 0x21c (little 4 16) versioned_library) 6 (codes "! 0000000000000210 version-cut\n")
-    × EndsIn (with_bytes 0x22c (little 4 16) versioned_library) 6 (codes "! 0000000000000220 version-cut\n")
-    × EndsIn (with_bytes 0x218 (little 4 8) (with_bytes 0x220 (little 4 0x16) (with_bytes 0x224 (little 2 8) (with_bytes 0x226 (little 2 0) versioned_library)))) 6 (codes "! 0000000000000218 version-cut\n")
+    EndsInLine (with_bytes 0x218 (little 4 17) versioned_library) 5 (codes "! 0000000000000210 version-cut\n")
+    × EndsInLine (with_bytes 0x21c (little 4 16) versioned_library) 6 (codes "! 0000000000000210 version-cut\n")
+    × EndsInLine (with_bytes 0x22c (little 4 16) versioned_library) 6 (codes "! 0000000000000220 version-cut\n")
+    × EndsInLine (with_bytes 0x218 (little 4 8) (with_bytes 0x220 (little 4 0x16) (with_bytes 0x224 (little 2 8) (with_bytes 0x226 (little 2 0) versioned_library)))) 6 (codes "! 0000000000000218 version-cut\n")
 
 -- a number that a definition and a need have: the definition names it
 abbrev pub DefinitionsComeFirst : Type 0
 DefinitionsComeFirst =
-    EndsIn (with_bytes 0x226 (little 2 3) (with_bytes 0x1a2 (little 2 3) versioned_library)) 11 (codes "X     4          5     3 - V2\n")
+    EndsInLine (with_bytes 0x226 (little 2 3) (with_bytes 0x1a2 (little 2 3) versioned_library)) 11 (codes "X     4          5     3 - V2\n")
 
 -- a library that defines two versions of a symbol and needs one
 abbrev pub version_lines : List ℕ
@@ -133,8 +133,8 @@ version_lines =
     ++ codes "X     4          4     3 - V2\n"
     ++ codes "X     4          5     3 - V2\n"
 
-abbrev pub LibraryLists : Type 0
-LibraryLists = versions_listed versioned_library ≡ version_lines
+abbrev pub VersionedLibraryLists : Type 0
+VersionedLibraryLists = versions_listed versioned_library ≡ version_lines
 
 -- its whole listing, in the names of the GNU system: headers, symbols, dynamic entries, and behind them the versions
 abbrev pub LibraryListsWhole : Type 0
@@ -200,12 +200,12 @@ overlapping = take 1000 (concat (replicate 77 (1 ∷ 0 ∷ 0 ∷ 13 ∷ 0 ∷ 0 
 
 abbrev pub OverlappingAreCut : Type 0
 OverlappingAreCut =
-    EndsIn (one_table 0x6ffffffd 8 0 overlapping (0 ∷ [])) 51
+    EndsInLine (one_table 0x6ffffffd 8 0 overlapping (0 ∷ [])) 51
     (codes "V     1 DEF      0 0d00 00000000 \n" ++ codes "! 00000000000002bd version-cut\n")
 
 -- how many bytes are asked for at most: of the library, with and without sections, and where checks fail
 abbrev pub parts_cost : ℕ → List ℕ → ℕ
-parts_cost parts file = listing_cost file 8 shown_as parts
+parts_cost parts file = listing_cost file 8 standard_style parts
 
 abbrev pub VersionsCost : Type 0
 VersionsCost =

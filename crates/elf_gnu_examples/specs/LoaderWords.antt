@@ -5,16 +5,16 @@ use Rattle.elf_model.specs.LoaderAnswer.{loader_answer}
 use Rattle.elf_model.specs.LoaderFind.{loader_cost}
 
 -- a lookup in a file, with eight headers permitted, finds a symbol and writes these lines
-abbrev pub Finds : List ℕ → List ℕ → List ℕ → Type 0
-Finds file text lines = loader_answer file 8 text ≡ record { text = lines; status = 0 }
+abbrev pub LoaderFinds : List ℕ → List ℕ → List ℕ → Type 0
+LoaderFinds file text lines = loader_answer file 8 text ≡ record { text = lines; status = 0 }
 
 -- it finds none, or is refused, and writes this line
 abbrev pub Fails : List ℕ → List ℕ → List ℕ → Type 0
 Fails file text line = loader_answer file 8 text ≡ record { text = line; status = 1 }
 
 -- it asks for so many bytes
-abbrev pub Asks : List ℕ → List ℕ → ℕ → Type 0
-Asks file text cost = loader_cost file 8 (wanted_of text) ≡ cost
+abbrev pub LoaderCosts : List ℕ → List ℕ → ℕ → Type 0
+LoaderCosts file text cost = loader_cost file 8 (wanted_of text) ≡ cost
 
 -- the lines of the two symbols `f`, of `g`
 abbrev pub first_f : List ℕ

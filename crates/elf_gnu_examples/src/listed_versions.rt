@@ -1,5 +1,5 @@
 //! Worked rows of symbol versions, each computed by the prover.
-ghost use Rattle.elf_gnu_examples.specs.ListedVersions.{NumbersAreRefused, FlagsNameVersions, NeedsHaveTheirStrings, NumberTablesAreRefused, NumberTablesEnd, DefinitionsAreRefused, DefinitionsLeadOn, DefinitionsAreNamed, NeedsAreRefused, NeedsLeadOn, DefinitionsComeFirst, LibraryLists, LibraryListsWhole, StandardHasNone, HostileLists, NoneWithoutSections, OverlappingAreCut, VersionsCost};
+ghost use Rattle.elf_gnu_examples.specs.ListedVersions.{NumbersAreRefused, FlagsNameVersions, NeedsHaveTheirStrings, NumberTablesAreRefused, NumberTablesEnd, DefinitionsAreRefused, DefinitionsLeadOn, DefinitionsAreNamed, NeedsAreRefused, NeedsLeadOn, DefinitionsComeFirst, VersionedLibraryLists, LibraryListsWhole, StandardHasNone, HostileLists, NoneWithoutSections, OverlappingAreCut, VersionsCost};
 
 /// A number that no record names: of a symbol, of definitions that are none, and of one that names
 /// the file itself.
@@ -77,7 +77,7 @@ pub fn definitions_come_first()
 /// A library that defines two versions of a symbol and needs one.
 #[tactic(auto, unfolding(elf_model::proofs::OnLiterals::on_literals, crate::proofs::OnExamples::on_examples))]
 pub fn library_lists()
-    ensures { LibraryLists }
+    ensures { VersionedLibraryLists }
 {}
 
 /// Its whole listing, in the names of the GNU system.

@@ -1,6 +1,6 @@
 //! Worked lookups by the program headers in files with section headers, and in files of Alpha, each
 //! computed by the prover.
-ghost use Rattle.elf_gnu_examples.specs.ExamplesViews.{SectionsAreNotLookedAt, SegmentsAreChecked, WideWordsAreRefused};
+ghost use Rattle.elf_gnu_examples.specs.ExamplesViews.{SectionsAreNotLookedAt, SegmentsAreChecked, WideWordsOfViewsAreRefused};
 
 /// Whatever the section headers tell, the library answers as it does without them.
 #[tactic(auto, unfolding(elf_model::proofs::OnLiterals::on_literals, elf_model::proofs::OnLoader::on_loader))]
@@ -17,5 +17,5 @@ pub fn segments_are_checked()
 /// Hash tables of the gABI with words of 8 bytes are refused in files of Alpha.
 #[tactic(auto, unfolding(elf_model::proofs::OnLiterals::on_literals, elf_model::proofs::OnLoader::on_loader))]
 pub fn wide_words_are_refused()
-    ensures { WideWordsAreRefused }
+    ensures { WideWordsOfViewsAreRefused }
 {}

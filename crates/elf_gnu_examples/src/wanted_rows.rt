@@ -1,5 +1,5 @@
 //! Worked parting of texts, and lookups of long names, each computed by the prover.
-ghost use Rattle.elf_gnu_examples.specs.ExamplesWanted.{TextsAreParted, EmptyNamesAreNone, LongVersionsAreCut, LongNamesAsk, Ceilings, OtherLookupsFindNoTable};
+ghost use Rattle.elf_gnu_examples.specs.ExamplesWanted.{TextsAreParted, EmptyNamesAreNone, LongVersionsAreCut, LongNamesAsk, LoaderCeilings, OtherLookupsFindNoTable};
 
 /// A name alone, and with a version behind one sign or two.
 #[tactic(auto, unfolding(elf_model::proofs::OnLiterals::on_literals, elf_model::proofs::OnLoader::on_loader, crate::proofs::OnExamples::on_examples))]
@@ -28,7 +28,7 @@ pub fn long_names_ask()
 /// What no lookup asks for more than.
 #[tactic(auto, unfolding(elf_model::proofs::OnLiterals::on_literals, elf_model::proofs::OnLoader::on_loader, crate::proofs::OnExamples::on_examples))]
 pub fn ceilings()
-    ensures { Ceilings }
+    ensures { LoaderCeilings }
 {}
 
 /// A hash table of the GNU system is none for the lookup of a name alone.

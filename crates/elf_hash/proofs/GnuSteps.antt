@@ -15,9 +15,9 @@ use Rattle.elf_headers.specs.Faults.{IsOfRead}
 use Rattle.elf_headers.specs.declared.fault.Fault.{Fault}
 use Rattle.elf_headers.specs.declared.fault.Fault.TheVariants.{Refused}
 use Rattle.elf_hash.specs.Counts.{IsGnu}
-use Rattle.elf_hash.specs.declared.answer.Answer.{Answer}
+use Rattle.elf_hash.specs.declared.answer.TrialAnswer.{TrialAnswer}
 use Rattle.elf_hash.specs.Trials.{Tries, TriesWhere}
-use Rattle.elf_hash.specs.Walks.{Holds, walk_bytes}
+use Rattle.elf_hash.specs.Walks.{HoldsHash, walk_bytes}
 use Rattle.elf_hash.specs.declared.gnu_table.GnuTable.{GnuTable}
 use Rattle.elf_hash.proofs.WalkLaws.{Meets, bytes_most, bytes_tried, meets_answer, meets_fault, meets_refusal, meets_untried}
 
@@ -104,7 +104,7 @@ module _ (file : List ℕ) (table : Table) (hash : ℕ) (says : ℕ → Result B
     pub place_is : place ≡ gnu_word_at file table.place hash read
     pub tried_is : tried ≡ tried_of read
 
-  pub along_start : (start place : ℕ) → Holds file table.place hash start → place ≡ gnu_bucket_of file table.place hash → Along 0 0 start place
+  pub along_start : (start place : ℕ) → HoldsHash file table.place hash start → place ≡ gnu_bucket_of file table.place hash → Along 0 0 start place
   unfolding gnu_word_at gnu_tried sum_over
   along_start start place holds here = record {
     told = holds.0;
@@ -217,7 +217,7 @@ module _ (file : List ℕ) (table : Table) (hash : ℕ) (says : ℕ → Result B
     end_there = end_by index b t.is (ap (λ (w : ℕ). is_of_hash w hash) (sym t.word_is) ∙ sym t.of_hash)
 
 -- what a walk meets there
-module _ (file : List ℕ) (table : Table) (hash : ℕ) (says : ℕ → Result Bool Refusal) (stands : ℕ → Answer → Type 0) (cost : ℕ) where
+module _ (file : List ℕ) (table : Table) (hash : ℕ) (says : ℕ → Result Bool Refusal) (stands : ℕ → TrialAnswer → Type 0) (cost : ℕ) where
   abbrev looked : Walk
   looked = gnu_looked_up file table hash says
 
@@ -256,7 +256,7 @@ module _ (file : List ℕ) (table : Table) (hash : ℕ) (says : ℕ → Result B
         wanted true tries = (refl, tries)
         wanted false tries = absurd (cc)
 
-    pub meets_found : (answer : Answer) (all : ℕ) → TriesWhere b stands says index (Ok (Some answer)) → all ≡ tried + one_if b
+    pub meets_found : (answer : TrialAnswer) (all : ℕ) → TriesWhere b stands says index (Ok (Some answer)) → all ≡ tried + one_if b
         → Meets stands 0 cost looked (walk_bytes 0 read tried cost + 4 + cost_where b cost)
         (Ok (record { found = Some (record { index = index; answer = answer }); tried = all; read = read + 1 }))
     unfolding gnu_walked_at
@@ -285,7 +285,7 @@ module _ (file : List ℕ) (table : Table) (hash : ℕ) (says : ℕ → Result B
         by_case true tries e = e ∙ rw tries refl
         by_case false tries e = e
 
-    pub meets_last : (found : Option Answer) (all : ℕ) → TriesWhere b stands says index (Ok found) → ((answer : Answer) → found ≡ Some answer → ⊥)
+    pub meets_last : (found : Option TrialAnswer) (all : ℕ) → TriesWhere b stands says index (Ok found) → ((answer : TrialAnswer) → found ≡ Some answer → ⊥)
         → ends_chain word ≡ true → all ≡ tried + one_if b
         → Meets stands 0 cost looked (walk_bytes 0 read tried cost + 4 + cost_where b cost)
         (Ok (record { found = None; tried = all; read = read + 1 }))
@@ -300,7 +300,7 @@ module _ (file : List ℕ) (table : Table) (hash : ℕ) (says : ℕ → Result B
         (let bytes = bytes_where 0 read tried cost b in omega (arith, bytes)) tt)
 
     -- past a symbol that does not answer and is not the last
-    pub along_next : (found : Option Answer) (all place : ℕ) → TriesWhere b stands says index (Ok found) → ((answer : Answer) → found ≡ Some answer → ⊥)
+    pub along_next : (found : Option TrialAnswer) (all place : ℕ) → TriesWhere b stands says index (Ok found) → ((answer : TrialAnswer) → found ≡ Some answer → ⊥)
         → ends_chain word ≡ false → all ≡ tried + one_if b → place ≡ gnu_chain_at file table.place index
         → Along file table hash says (read + 1) all (index + 1) place
     unfolding gnu_word_at
@@ -350,7 +350,7 @@ pub told_empty : (file : List ℕ) (place hash start : ℕ) → may_hold file pl
 told_empty file place hash start may is none = rw (may, sym is ∙ none) refl
 
 pub told_start : (file : List ℕ) (place hash start : ℕ) → may_hold file place hash ≡ true → start ≡ gnu_start file place hash → (start ≡ 0 → ⊥)
-    → Holds file place hash start
+    → HoldsHash file place hash start
 told_start file place hash start may is some = (rw may (ne_eqb (gnu_start file place hash) 0 (λ e. some (is ∙ e))), is)
 
 -- nothing is tried where the table tells that there is nothing

@@ -11,13 +11,13 @@ use Rattle.elf_headers.specs.Ledger.{Charges, why_stopped}
 use Rattle.elf_headers.specs.declared.fault.Fault.{Fault}
 use Rattle.elf_headers.specs.declared.fault.Fault.TheVariants.{Refused, Source}
 use Rattle.elf_table.specs.Cursors.{row_at}
-use Rattle.elf_hash.specs.Lookups.{Looks, Walks as Finds, lookup_in, step_bytes, symbol_bytes}
-use Rattle.elf_hash.specs.Tables.{IsSection}
-use Rattle.elf_hash.specs.Trials.{IsNamed}
-use Rattle.elf_hash.specs.Walks.{Gives, Walks, walk_bytes}
-use Rattle.elf_hash.specs.declared.answer.Answer.{Answer}
+use Rattle.elf_hash.specs.Lookups.{LooksBySysv, GivesLookup as Finds, lookup_in, step_bytes, symbol_bytes}
+use Rattle.elf_hash.specs.Tables.{IsHashSection}
+use Rattle.elf_hash.specs.Trials.{SaysHasName}
+use Rattle.elf_hash.specs.Walks.{GivesWalked, Walks, walk_bytes}
+use Rattle.elf_hash.specs.declared.answer.TrialAnswer.{TrialAnswer}
 use Rattle.elf_hash.specs.declared.hash_section.HashSection.{HashSection}
-use Rattle.elf_hash.specs.declared.walked.Found.{Found}
+use Rattle.elf_hash.specs.declared.walked.FoundInChain.{FoundInChain}
 use Rattle.elf_hash.specs.declared.walked.Walked.{Walked}
 use Rattle.elf_hash.proofs.NamedLaws.{row_is}
 
@@ -25,20 +25,20 @@ use Rattle.elf_hash.proofs.NamedLaws.{row_is}
 pub steps_ask : (steps length : ℕ) → walk_bytes 4 steps steps (symbol_bytes length) ≡ 4 + steps * step_bytes length
 steps_ask steps length = omega arith
 
-module _ (file : List ℕ) (at : ℕ) (wanted : List ℕ) (s : HashSection) (is : IsSection file at s) (entry : s.symbols.entry ≡ 24) where
-  abbrev pub stands : ℕ → Answer → Type 0
+module _ (file : List ℕ) (at : ℕ) (wanted : List ℕ) (s : HashSection) (is : IsHashSection file at s) (entry : s.symbols.entry ≡ 24) where
+  abbrev pub stands : ℕ → TrialAnswer → Type 0
   stands index answer = IsSym file (row_at s.symbols index) answer.symbol
 
   abbrev pub walk : Walk
   walk = sysv_walked file (section_table_of file at) (sysv_hash wanted) (has_name file (linked_at file at) wanted)
 
-  abbrev pub named : IsNamed file s.symbols s.names wanted (has_name file (linked_at file at) wanted)
+  abbrev pub named : SaysHasName file s.symbols s.names wanted (has_name file (linked_at file at) wanted)
   named = record { table = linked_at file at; start = is.symbols; entry = entry; count = is.count; strings = is.names; says_so = refl }
 
   looked : looked_up file at wanted ≡ lookup_of file at walk
   looked = sym (sysv_walk_is_lookup file at wanted)
 
-  finds_found : (found : Option Found) (tried read : ℕ) → Gives stands walk (Ok (record { found = found; tried = tried; read = read }))
+  finds_found : (found : Option FoundInChain) (tried read : ℕ) → GivesWalked stands walk (Ok (record { found = found; tried = tried; read = read }))
       → Finds file (looked_up file at wanted) (Ok (lookup_in s.link (record { found = found; tried = tried; read = read })))
   finds_found None tried read gives = looked ∙ ap (lookup_of file at) gives.0
   finds_found (Some found) tried read gives = (
@@ -47,7 +47,7 @@ module _ (file : List ℕ) (at : ℕ) (wanted : List ℕ) (s : HashSection) (is 
     subst (λ (p : ℕ). IsSym file p found.answer.symbol) (row_is file s.symbols s.names wanted _ named found.index) gives.1,
   )
 
-  fails : (fault : Fault) → Gives stands walk (Err fault) → Finds file (looked_up file at wanted) (Err fault)
+  fails : (fault : Fault) → GivesWalked stands walk (Err fault) → Finds file (looked_up file at wanted) (Err fault)
   fails (Refused refusal) gives = λ other. ap (λ (l : Looked). l.answer) looked ∙ ap (lookup_answer file at) (gives other)
   fails (Source fault offset) gives = tt
 
@@ -59,9 +59,9 @@ module _ (file : List ℕ) (at : ℕ) (wanted : List ℕ) (s : HashSection) (is 
       rw (looked, ← steps_ask walk.tried (length wanted)) (rw bounded at walks.costs)
 
   pub looks_answered : {old new : Counting} (w : Walked) → Walks stands 4 (symbol_bytes (length wanted)) walk old new (Ok w)
-      → Looks file (looked_up file at wanted) old new (Ok (lookup_in s.link w)) 4 (length wanted)
+      → LooksBySysv file (looked_up file at wanted) old new (Ok (lookup_in s.link w)) 4 (length wanted)
   looks_answered w walks = record { costs = charges _ walks; finds = finds_found w.found w.tried w.read walks.gives }
 
   pub looks_failed : {old new : Counting} (fault : Fault) → Walks stands 4 (symbol_bytes (length wanted)) walk old new (Err fault)
-      → Looks file (looked_up file at wanted) old new (Err fault) 4 (length wanted)
+      → LooksBySysv file (looked_up file at wanted) old new (Err fault) 4 (length wanted)
   looks_failed fault walks = record { costs = charges _ walks; finds = fails fault walks.gives }

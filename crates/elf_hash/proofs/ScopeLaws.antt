@@ -8,7 +8,7 @@ use Rattle.elf_model.specs.declared.causes.Cause.TheVariants.{HashShape}
 use Rattle.elf_headers.specs.declared.fault.Fault.{Fault}
 use Rattle.elf_headers.specs.declared.fault.Fault.TheVariants.{Refused, Source}
 use Rattle.elf_hash.specs.Counts.{HasGnuCounts, HasSysvCounts, gnu_misshapen, sysv_misshapen}
-use Rattle.elf_hash.specs.Kinds.{kind_of}
+use Rattle.elf_hash.specs.Kinds.{hash_kind_of}
 use Rattle.elf_hash.specs.Scopes.{HasCounts, IsPlaceIn, walked_in}
 use Rattle.elf_hash.specs.declared.gnu_table.GnuTable.{GnuTable as GnuHashTable}
 use Rattle.elf_hash.specs.declared.kind.HashKind.TheVariants.{Gnu, Sysv}
@@ -27,24 +27,24 @@ module _ (file : List ℕ) (scope : Scope) (place : HashPlace) (is : IsPlaceIn s
 
   pub gnu_passes : (t : GnuHashTable) → place.kind ≡ Gnu → HasGnuCounts file scope.table place (Ok t) → HasCounts file scope (Ok (IsGnuTable t))
   gnu_passes t gnu counts =
-      let kind : scope.kind ≡ GnuTable = sym is.kind ∙ ap kind_of gnu in
+      let kind : scope.kind ≡ GnuTable = sym is.kind ∙ ap hash_kind_of gnu in
       let c = counts is.table in
       (gnu_check kind ∙ rw c.0 refl, (kind, c.1))
 
   pub sysv_passes : (t : SysvHashTable) → place.kind ≡ Sysv → HasSysvCounts file scope.table place (Ok t) → HasCounts file scope (Ok (IsSysvTable t))
   sysv_passes t sysv counts =
-      let kind : scope.kind ≡ SysvTable = sym is.kind ∙ ap kind_of sysv in
+      let kind : scope.kind ≡ SysvTable = sym is.kind ∙ ap hash_kind_of sysv in
       let c = counts is.table in
       (sysv_check kind ∙ rw c.0 refl, (kind, c.1))
 
   pub gnu_fails : (fault : Fault) → place.kind ≡ Gnu → HasGnuCounts file scope.table place (Err fault) → HasCounts file scope (Err fault)
   gnu_fails (Refused refusal) gnu counts = λ other.
-      let c = counts is.table other in gnu_check (sym is.kind ∙ ap kind_of gnu) ∙ rw (c.0, c.1) refl
+      let c = counts is.table other in gnu_check (sym is.kind ∙ ap hash_kind_of gnu) ∙ rw (c.0, c.1) refl
   gnu_fails (Source fault at) gnu counts = tt
 
   pub sysv_fails : (fault : Fault) → place.kind ≡ Sysv → HasSysvCounts file scope.table place (Err fault) → HasCounts file scope (Err fault)
   sysv_fails (Refused refusal) sysv counts = λ other.
-      let c = counts is.table other in sysv_check (sym is.kind ∙ ap kind_of sysv) ∙ rw (c.0, c.1) refl
+      let c = counts is.table other in sysv_check (sym is.kind ∙ ap hash_kind_of sysv) ∙ rw (c.0, c.1) refl
   sysv_fails (Source fault at) sysv counts = tt
 
 -- the walk of a loader's lookup is that of its trial

@@ -15,7 +15,7 @@ use Rattle.elf_headers.specs.Faults.{IsOfRead}
 use Rattle.elf_headers.specs.declared.fault.Fault.{Fault}
 use Rattle.elf_headers.specs.declared.fault.Fault.TheVariants.{Refused}
 use Rattle.elf_hash.specs.Counts.{IsSysv}
-use Rattle.elf_hash.specs.declared.answer.Answer.{Answer}
+use Rattle.elf_hash.specs.declared.answer.TrialAnswer.{TrialAnswer}
 use Rattle.elf_hash.specs.Trials.{Tries}
 use Rattle.elf_hash.specs.Walks.{walk_bytes}
 use Rattle.elf_hash.specs.declared.sysv_table.SysvTable.{SysvTable}
@@ -139,7 +139,7 @@ module _ (file : List ℕ) (table : Table) (hash : ℕ) (says : ℕ → Result B
   more steps word t =
       least_more walk (sysv_walk_answers file table hash says) steps t.along.goes t.few (rw (← t.along.word_is) t.tries)
 
-  module _ (stands : ℕ → Answer → Type 0) (cost : ℕ) where
+  module _ (stands : ℕ → TrialAnswer → Type 0) (cost : ℕ) where
     module _ (steps word place : ℕ) (along : Along steps word place) where
       pub meets_absent : word ≡ 0 → Meets stands 4 cost walk (walk_bytes 4 steps steps cost) (Ok (record { found = None; tried = steps; read = steps }))
       unfolding sysv_walked_at
@@ -173,7 +173,7 @@ module _ (file : List ℕ) (table : Table) (hash : ℕ) (says : ℕ → Result B
           (λ refusal e. ends_here steps word t.place (Untried refusal) t.along (t.tries ∙ rw e refl))
           few.0 few.1 (omega (arith, bytes_tried 4 steps steps cost))
 
-      pub meets_found : (answer : Answer) (index : ℕ) → index ≡ word → Tries stands says index (Ok (Some answer))
+      pub meets_found : (answer : TrialAnswer) (index : ℕ) → index ≡ word → Tries stands says index (Ok (Some answer))
           → Meets stands 4 cost walk (walk_bytes 4 steps steps cost + cost)
           (Ok (record { found = Some (record { index = word; answer = answer }); tried = steps + 1; read = steps + 1 }))
       unfolding sysv_walked_at
@@ -189,7 +189,7 @@ module _ (file : List ℕ) (table : Table) (hash : ℕ) (says : ℕ → Result B
           meets_fault stands 4 cost walk _ (suc steps) (suc steps) fault read few.0 few.1 (omega (arith, bytes_tried 4 steps steps cost))
 
       -- past a symbol that does not answer
-      pub along_next : (found : Option Answer) (next place index : ℕ) → index ≡ word → Tries stands says index (Ok found) → ((answer : Answer) → found ≡ Some answer → ⊥)
+      pub along_next : (found : Option TrialAnswer) (next place index : ℕ) → index ≡ word → Tries stands says index (Ok found) → ((answer : TrialAnswer) → found ≡ Some answer → ⊥)
           → place ≡ sysv_chain_at file table.place word → next ≡ field file place 4 → Along (steps + 1) next place
       unfolding walk_word sysv_word_at
       along_next (Some answer) next place index same tries other stands read = absurd (other answer refl)

@@ -10,9 +10,9 @@ use Rattle.elf_headers.specs.Ledger.{Charges, why_stopped}
 use Rattle.elf_headers.specs.declared.fault.Fault.{Fault}
 use Rattle.elf_headers.specs.declared.fault.Fault.TheVariants.{Refused, Source}
 use Rattle.elf_hash.specs.Trials.{Tries}
-use Rattle.elf_hash.specs.Walks.{Gives, Walks, index_of, walk_bytes}
-use Rattle.elf_hash.specs.declared.answer.Answer.{Answer}
-use Rattle.elf_hash.specs.declared.walked.Found.{Found}
+use Rattle.elf_hash.specs.Walks.{GivesWalked, Walks, index_of, walk_bytes}
+use Rattle.elf_hash.specs.declared.answer.TrialAnswer.{TrialAnswer}
+use Rattle.elf_hash.specs.declared.walked.FoundInChain.{FoundInChain}
 use Rattle.elf_hash.specs.declared.walked.Walked.{Walked}
 
 -- eight bytes that are read
@@ -34,11 +34,11 @@ pub bytes_step : (few steps most cost : ℕ) → suc steps ≤ most → walk_byt
 bytes_step few steps most cost one =
     omega (arith, bytes_tried few steps steps cost, bytes_most few (suc steps) (suc steps) most most cost one one)
 
-module _ (stands : ℕ → Answer → Type 0) (few cost : ℕ) (walk : Walk) where
+module _ (stands : ℕ → TrialAnswer → Type 0) (few cost : ℕ) (walk : Walk) where
   -- how a walk ends that has asked for so many bytes: within what it costs, and with what it gives
   pub record Meets (spent : ℕ) (result : Result Walked Fault) : Type 0 where
     pub within : spent ≤ walk_bytes few walk.read walk.tried cost
-    pub gives : Gives stands walk result
+    pub gives : GivesWalked stands walk result
 
   -- and so it does what it does
   pub walks : {old new : Counting} (spent : ℕ) (result : Result Walked Fault)
@@ -46,7 +46,7 @@ module _ (stands : ℕ → Answer → Type 0) (few cost : ℕ) (walk : Walk) whe
       → Walks stands few cost walk old new result
   walks spent result costs meets = record { costs = costs _ meets.within; gives = meets.gives }
 
-  pub meets_answer : (spent tried read : ℕ) (found : Option Found) → walk ≡ record { answer = Ok (index_of found); tried = tried; read = read }
+  pub meets_answer : (spent tried read : ℕ) (found : Option FoundInChain) → walk ≡ record { answer = Ok (index_of found); tried = tried; read = read }
       → spent ≤ walk_bytes few read tried cost → IfSome found (λ f. stands f.index f.answer)
       → Meets spent (Ok (record { found = found; tried = tried; read = read }))
   meets_answer spent tried read found is within symbol = record { within = rw is within; gives = (is, symbol) }

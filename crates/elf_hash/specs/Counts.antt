@@ -12,14 +12,14 @@ use Rattle.elf_hash.specs.declared.place.HashPlace.{HashPlace}
 use Rattle.elf_hash.specs.declared.sysv_table.SysvTable.{SysvTable}
 
 -- it is the place of a table
-pub record IsPlace (table : Table) (p : HashPlace) : Type 0 where
+pub record IsTablePlace (table : Table) (p : HashPlace) : Type 0 where
   pub start : p.at ≡ table.place
   pub size : p.size ≡ table.size
   pub symbols : p.symbols ≡ table.symbols
 
 -- it is a table of the GNU system in a file, with its counts
 pub record IsGnu (file : List ℕ) (table : Table) (t : GnuTable) : Type 0 where
-  pub place : IsPlace table t.place
+  pub place : IsTablePlace table t.place
   pub buckets : t.nbucket ≡ gnu_nbucket file table.place
   pub first : t.first ≡ gnu_first file table.place
   pub filters : t.nbloom ≡ gnu_nbloom file table.place
@@ -27,7 +27,7 @@ pub record IsGnu (file : List ℕ) (table : Table) (t : GnuTable) : Type 0 where
 
 -- it is a table of the gABI in a file, with its counts
 pub record IsSysv (file : List ℕ) (table : Table) (t : SysvTable) : Type 0 where
-  pub place : IsPlace table t.place
+  pub place : IsTablePlace table t.place
   pub buckets : t.nbucket ≡ sysv_nbucket file table.place
   pub chains : t.nchain ≡ sysv_nchain file table.place
 
@@ -44,15 +44,15 @@ sysv_misshapen file table =
     (sysv_nbucket file table.place == 0) || nat_lt table.size (8 + 4 * sysv_nbucket file table.place + 4 * sysv_nchain file table.place)
 
 -- the counts are a table's, and this is the table; or they are none's, which is refused at an offset
-abbrev pub Counts : {X : Type 0} → (misshapen : Bool) (head : ℕ) (is : X → Type 0) → Result X Fault → Type 0
-Counts misshapen head is (Ok table) = (misshapen ≡ false) × is table
-Counts misshapen head is (Err (Refused refusal)) =
+abbrev pub CountsFit : {X : Type 0} → (misshapen : Bool) (head : ℕ) (is : X → Type 0) → Result X Fault → Type 0
+CountsFit misshapen head is (Ok table) = (misshapen ≡ false) × is table
+CountsFit misshapen head is (Err (Refused refusal)) =
     (IsBudget refusal → ⊥) → (misshapen ≡ true) × (refusal ≡ record { at = head; cause = HashShape })
-Counts misshapen head is (Err (Source fault at)) = Unit {0}
+CountsFit misshapen head is (Err (Source fault at)) = Unit {0}
 
 -- the counts of the table at a place
 abbrev pub HasGnuCounts : List ℕ → Table → HashPlace → Result GnuTable Fault → Type 0
-HasGnuCounts file table p result = IsPlace table p → Counts (gnu_misshapen file table) p.head (IsGnu file table) result
+HasGnuCounts file table p result = IsTablePlace table p → CountsFit (gnu_misshapen file table) p.head (IsGnu file table) result
 
 abbrev pub HasSysvCounts : List ℕ → Table → HashPlace → Result SysvTable Fault → Type 0
-HasSysvCounts file table p result = IsPlace table p → Counts (sysv_misshapen file table) p.head (IsSysv file table) result
+HasSysvCounts file table p result = IsTablePlace table p → CountsFit (sysv_misshapen file table) p.head (IsSysv file table) result

@@ -4,6 +4,6 @@ use Rattle.elf_hash.specs.declared.kind.HashKind.{HashKind}
 use Rattle.elf_hash.specs.declared.kind.HashKind.TheVariants.{Gnu, Sysv}
 
 -- the kind of a loader's definitions
-abbrev pub kind_of : HashKind → Kind
-kind_of Gnu = GnuTable
-kind_of Sysv = SysvTable
+abbrev pub hash_kind_of : HashKind → Kind
+hash_kind_of Gnu = GnuTable
+hash_kind_of Sysv = SysvTable

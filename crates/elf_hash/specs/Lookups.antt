@@ -30,8 +30,8 @@ abbrev pub step_bytes : ℕ → ℕ
 step_bytes length = 28 + pad64 (length + 1)
 
 -- what stands behind the section headers: the two counts, and a walk of so many steps
-abbrev pub behind_bytes : ℕ → ℕ → ℕ
-behind_bytes steps length = 12 + steps * step_bytes length
+abbrev pub behind_headers_bytes : ℕ → ℕ → ℕ
+behind_headers_bytes steps length = 12 + steps * step_bytes length
 
 -- WHAT A LOOKUP NEVER PASSES: the file header, a section header for each slot, the two counts, and a walk of as many steps
 -- as words fit into a file of this size
@@ -39,22 +39,22 @@ abbrev pub find_bytes : ℕ → ℕ → ℕ → ℕ
 find_bytes size slots length = 76 + 64 * slots + size / 4 * step_bytes length
 
 -- an answer is the one that a lookup gives, with its number of steps, and the symbol is the one at its place
-abbrev pub AnswersLookup : List ℕ → Looked → Lookup → Type 0
-AnswersLookup file looked (Found section index symbol steps) =
+abbrev pub AnswersSysvLookup : List ℕ → Looked → Lookup → Type 0
+AnswersSysvLookup file looked (Found section index symbol steps) =
     (at : ℕ) × (looked ≡ record { answer = IsFound section index at; compared = steps }) × IsSym file at symbol
-AnswersLookup file looked (Absent steps) = looked ≡ record { answer = IsAbsent; compared = steps }
+AnswersSysvLookup file looked (Absent steps) = looked ≡ record { answer = IsAbsent; compared = steps }
 
 -- what a lookup finds: the answer that it gives, with its steps, the section, the index and the symbol; or its refusal, unless
 -- that is for want of budget
-abbrev pub Walks : List ℕ → Looked → Result Lookup Fault → Type 0
-Walks file looked (Ok lookup) = AnswersLookup file looked lookup
-Walks file looked (Err (Refused refusal)) = (IsBudget refusal → ⊥) → looked.answer ≡ IsRefused refusal
-Walks file looked (Err (Source fault at)) = Unit {0}
+abbrev pub GivesLookup : List ℕ → Looked → Result Lookup Fault → Type 0
+GivesLookup file looked (Ok lookup) = AnswersSysvLookup file looked lookup
+GivesLookup file looked (Err (Refused refusal)) = (IsBudget refusal → ⊥) → looked.answer ≡ IsRefused refusal
+GivesLookup file looked (Err (Source fault at)) = Unit {0}
 
 -- WHAT A LOOKUP DOES in a known file: it costs a few bytes and a step for each name that it compares, and finds what it gives
-pub record Looks (file : List ℕ) (looked : Looked) (old new : Counting) (result : Result Lookup Fault) (few length : ℕ) : Type 0 where
+pub record LooksBySysv (file : List ℕ) (looked : Looked) (old new : Counting) (result : Result Lookup Fault) (few length : ℕ) : Type 0 where
   pub costs : Charges old new (why_stopped result) (few + looked.compared * step_bytes length)
-  pub finds : Walks file looked result
+  pub finds : GivesLookup file looked result
 
 -- the checks of the file pass
 pub record Passed (file : List ℕ) (headers : ℕ) : Type 0 where
@@ -69,9 +69,9 @@ looked_behind file wanted = elim (first_hash file) [
 ]
 
 -- WHAT A LOOKUP OF A NAME DOES in a known file: it costs no more than the definition's, and finds what that gives
-pub record Finds (file : List ℕ) (headers : ℕ) (wanted : List ℕ) (old new : Counting) (result : Result Lookup Fault) : Type 0 where
+pub record FindsBySysv (file : List ℕ) (headers : ℕ) (wanted : List ℕ) (old new : Counting) (result : Result Lookup Fault) : Type 0 where
   pub costs : Charges old new (why_stopped result) (find_cost file headers wanted)
-  pub finds : Walks file (looked file headers wanted) result
+  pub finds : GivesLookup file (looked file headers wanted) result
 
 -- the answer to a walk's: the symbol that is found, in the section of an index, and how many symbols are tried
 abbrev pub lookup_in : (section : ℕ) → Walked → Lookup

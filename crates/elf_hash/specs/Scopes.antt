@@ -11,8 +11,8 @@ use Rattle.elf_model.specs.SysvWalk.{sysv_walked}
 use Rattle.elf_model.specs.declared.causes.Refusal.{Refusal}
 use Rattle.elf_headers.specs.declared.fault.Fault.{Fault}
 use Rattle.elf_headers.specs.declared.fault.Fault.TheVariants.{Refused, Source}
-use Rattle.elf_hash.specs.Counts.{IsGnu, IsPlace, IsSysv}
-use Rattle.elf_hash.specs.Kinds.{kind_of}
+use Rattle.elf_hash.specs.Counts.{IsGnu, IsTablePlace, IsSysv}
+use Rattle.elf_hash.specs.Kinds.{hash_kind_of}
 use Rattle.elf_hash.specs.declared.kind.HashKind.{HashKind}
 use Rattle.elf_hash.specs.declared.place.HashPlace.{HashPlace}
 use Rattle.elf_hash.specs.declared.table.HashTable.{HashTable}
@@ -20,18 +20,18 @@ use Rattle.elf_hash.specs.declared.table.HashTable.TheVariants.{Gnu, Sysv}
 
 -- it is the place of the table that a lookup is made in
 pub record IsPlaceIn (scope : Scope) (p : HashPlace) : Type 0 where
-  pub kind : kind_of p.kind ≡ scope.kind
+  pub kind : hash_kind_of p.kind ≡ scope.kind
   pub head : p.head ≡ scope.head
-  pub table : IsPlace scope.table p
+  pub table : IsTablePlace scope.table p
 
 -- how many bytes the counts have
 abbrev pub counts_bytes : HashKind → ℕ
-counts_bytes kind = least_size (kind_of kind)
+counts_bytes kind = least_size (hash_kind_of kind)
 
 -- the place of a table
-abbrev pub place_of : HashTable → HashPlace
-place_of (Gnu t) = t.place
-place_of (Sysv t) = t.place
+abbrev pub place_of_table : HashTable → HashPlace
+place_of_table (Gnu t) = t.place
+place_of_table (Sysv t) = t.place
 
 -- it is the table that a lookup is made in, with its counts
 abbrev pub IsTable : List ℕ → Scope → HashTable → Type 0

@@ -8,8 +8,8 @@ use Rattle.elf_headers.specs.Ledger.{Charges, why_stopped}
 use Rattle.elf_headers.specs.Faults.{IsOfRead}
 use Rattle.elf_headers.specs.declared.fault.Fault.{Fault}
 use Rattle.elf_headers.specs.declared.fault.Fault.TheVariants.{Refused, Source}
-use Rattle.elf_hash.specs.declared.answer.Answer.{Answer}
-use Rattle.elf_hash.specs.declared.walked.Found.{Found}
+use Rattle.elf_hash.specs.declared.answer.TrialAnswer.{TrialAnswer}
+use Rattle.elf_hash.specs.declared.walked.FoundInChain.{FoundInChain}
 use Rattle.elf_hash.specs.declared.walked.Walked.{Walked}
 
 -- a few bytes, the chain words that are read, and the symbols that are tried, each for no more than a cost
@@ -17,34 +17,34 @@ abbrev pub walk_bytes : (few read tried cost : ℕ) → ℕ
 walk_bytes few read tried cost = few + 4 * read + tried * cost
 
 -- the index of the symbol that answers
-abbrev pub index_of : Option Found → Option ℕ
+abbrev pub index_of : Option FoundInChain → Option ℕ
 index_of None = None
 index_of (Some found) = Some found.index
 
 -- what a walk gives: its answer, with what it took, and what stands for the symbol; or its refusal, unless that is for
 -- want of budget
-abbrev pub Gives : (stands : ℕ → Answer → Type 0) → Walk → Result Walked Fault → Type 0
-Gives stands walk (Ok w) =
+abbrev pub GivesWalked : (stands : ℕ → TrialAnswer → Type 0) → Walk → Result Walked Fault → Type 0
+GivesWalked stands walk (Ok w) =
     (walk ≡ record { answer = Ok (index_of w.found); tried = w.tried; read = w.read })
     × IfSome w.found (λ found. stands found.index found.answer)
-Gives stands walk (Err (Refused refusal)) = (IsBudget refusal → ⊥) → walk.answer ≡ Err refusal
-Gives stands walk (Err (Source fault at)) = Unit {0}
+GivesWalked stands walk (Err (Refused refusal)) = (IsBudget refusal → ⊥) → walk.answer ≡ Err refusal
+GivesWalked stands walk (Err (Source fault at)) = Unit {0}
 
 -- WHAT A WALK DOES in a known file: it costs what the definition's walk does, and gives what that gives
-pub record Walks (stands : ℕ → Answer → Type 0) (few cost : ℕ) (walk : Walk) (old new : Counting) (result : Result Walked Fault) : Type 0 where
+pub record Walks (stands : ℕ → TrialAnswer → Type 0) (few cost : ℕ) (walk : Walk) (old new : Counting) (result : Result Walked Fault) : Type 0 where
   pub costs : Charges old new (why_stopped result) (walk_bytes few walk.read walk.tried cost)
-  pub gives : Gives stands walk result
+  pub gives : GivesWalked stands walk result
 
 -- a walk tries no more symbols than a number, and the one that answers has an index below it
 abbrev pub IsShort : ℕ → Walked → Type 0
 IsShort n w = (w.tried ≤ n) × IfSome w.found (λ found. found.index < n)
 
 -- a table of the GNU system tells that it holds a hash, and at which symbol its chain starts
-abbrev pub Holds : List ℕ → (place hash start : ℕ) → Type 0
-Holds file place hash start = (holds_none file place hash ≡ false) × (start ≡ gnu_start file place hash)
+abbrev pub HoldsHash : List ℕ → (place hash start : ℕ) → Type 0
+HoldsHash file place hash start = (holds_none file place hash ≡ false) × (start ≡ gnu_start file place hash)
 
 -- the symbol at which the chain of a hash starts, if the table tells that it holds the hash
 abbrev pub Starts : List ℕ → (place hash : ℕ) → Result (Option ℕ) Fault → Type 0
 Starts file place hash (Ok None) = holds_none file place hash ≡ true
-Starts file place hash (Ok (Some start)) = Holds file place hash start
+Starts file place hash (Ok (Some start)) = HoldsHash file place hash start
 Starts file place hash (Err fault) = IsOfRead fault

@@ -3,7 +3,7 @@ use elf_record::Sym;
 
 /// A symbol that answers a trial.
 #[derive(Clone, Copy)]
-pub struct Answer {
+pub struct TrialAnswer {
     /// The symbol.
     pub symbol: Sym,
     /// The word of the symbol's version, where the trial reads one.

@@ -1,9 +1,9 @@
 //! The call that looks a name up.
 ghost use Rattle.std.specs.Prelude.{◌≡◌, ℕ, ◌+◌, ◌*◌, ◌/◌, ◌≤◌, length, IfOk};
 ghost use Rattle.elf_headers.specs.Ledger.{Did, why_stopped};
-ghost use Rattle.elf_hash.specs.Lookups.{Finds, Looks, behind_bytes, find_bytes, lookup_in, looked_behind, step_bytes, steps_of};
+ghost use Rattle.elf_hash.specs.Lookups.{FindsBySysv, LooksBySysv, behind_headers_bytes, find_bytes, lookup_in, looked_behind, step_bytes, steps_of};
 ghost use Rattle.elf_hash.specs.Counts.{IsSysv};
-ghost use Rattle.elf_hash.specs.Tables.{IsPlaceOf, IsSection, Lies};
+ghost use Rattle.elf_hash.specs.Tables.{IsPlaceOf, IsHashSection, Lies};
 ghost use Rattle.elf_hash.specs.Walks.{IsShort};
 ghost use Rattle.elf_model.specs.Hash.{looked_up};
 ghost use Rattle.elf_model.specs.SysvWalk.{section_table_of};
@@ -15,7 +15,7 @@ use crate::hash_section::HashSection;
 use crate::hashing::sysv_hash;
 use crate::kind::HashKind;
 use crate::lookup::Lookup;
-use crate::named::Named;
+use crate::named::NamedSymbols;
 use crate::place::HashPlace;
 use crate::sysv_table::SysvTable;
 use crate::sysv_walk::sysv_walk;
@@ -49,7 +49,7 @@ pub fn find<S: Source>(
     requires most { length wanted.now ≤ 4096 }
     ensures did { Did src.old src.new (why_stopped result)
         (find_bytes src.old.seen.size store.old.slots (length wanted.now))
-        (λ file. Finds file store.old.slots wanted.now src.old src.new result) }
+        (λ file. FindsBySysv file store.old.slots wanted.now src.old src.new result) }
     ensures slots { store.new.slots ≡ store.old.slots }
     ensures steps { IfOk result (λ lookup. steps_of lookup ≤ src.old.seen.size / 4) }
 {
@@ -63,9 +63,10 @@ fn find_in<S: Source>(src: &mut Counted<S>, file: &File<'_>, wanted: &[u8]) -> R
     requires most { length wanted.now ≤ 4096 }
     requires size { file.now.loaded.size ≡ src.old.seen.size }
     ensures did { Did src.old src.new (why_stopped result)
-        (behind_bytes (src.old.seen.size / 4) (length wanted.now))
+        (behind_headers_bytes (src.old.seen.size / 4) (length wanted.now))
         (λ bytes. Belongs bytes file.now.loaded file.now.store.now →
-        Looks bytes (looked_behind bytes wanted.now) src.old src.new result 12 (length wanted.now)) }
+        LooksBySysv bytes (looked_behind bytes wanted.now) src.old src.new result 12
+        (length wanted.now)) }
     ensures steps { IfOk result (λ lookup. steps_of lookup ≤ src.old.seen.size / 4) }
 {
     let Some(section) = first_hash(file) else {
@@ -104,12 +105,13 @@ fn look_up<S: Source>(
     requires place { IsPlaceOf section.now table.now.place }
     ensures did { Did src.old src.new (why_stopped result)
         (4 + table.now.nchain * step_bytes (length wanted.now))
-        (λ file. (at : ℕ) → IsSection file at section.now →
+        (λ file. (at : ℕ) → IsHashSection file at section.now →
         IsSysv file (section_table_of file at) table.now →
-        Looks file (looked_up file at wanted.now) src.old src.new result 4 (length wanted.now)) }
+        LooksBySysv file (looked_up file at wanted.now) src.old src.new result 4
+        (length wanted.now)) }
     ensures steps { IfOk result (λ lookup. steps_of lookup ≤ table.now.nchain) }
 {
-    let trial = Named {
+    let trial = NamedSymbols {
         symbols: section.symbols,
         names: section.names,
         wanted,

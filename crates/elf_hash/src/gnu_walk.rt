@@ -3,17 +3,17 @@ ghost use Rattle.std.specs.Prelude.{◌≡◌, ℕ, ◌+◌, ◌-◌, ◌*◌, �
 ghost use Rattle.elf_headers.specs.Ledger.{Did, why_stopped};
 ghost use Rattle.elf_hash.specs.Counts.{IsGnu};
 ghost use Rattle.elf_hash.specs.Trials.{TriesWhere};
-ghost use Rattle.elf_hash.specs.Walks.{Holds, Starts, Walks, walk_bytes};
+ghost use Rattle.elf_hash.specs.Walks.{HoldsHash, Starts, Walks, walk_bytes};
 ghost use Rattle.elf_model.specs.Chains.{HashTable as Place};
 ghost use Rattle.elf_model.specs.Cost.{cost_where};
 ghost use Rattle.elf_model.specs.GnuHash.{ends_chain, gnu_looked_up, is_of_hash, is_set};
 ghost use Rattle.elf_model.specs.declared.causes.Refusal.{Refusal};
 
-use crate::answer::Answer;
+use crate::answer::TrialAnswer;
 use crate::gnu_table::GnuTable;
 use crate::reading::{read_filter, read_word};
 use crate::trial::Trial;
-use crate::walked::{Found, Walked};
+use crate::walked::{FoundInChain, Walked};
 use elf_headers::{Fault, refused};
 use elf_record::Cause;
 use elf_source::{Counted, Source};
@@ -100,7 +100,7 @@ fn along_chain<S: Source, T: Trial>(
     ensures did { Did src.old src.new (why_stopped result)
         (walk_bytes 0 (table.now.place.size / 4) (table.now.place.size / 4) (T.cost trial.now))
         (λ file. (at : Place) (says : ℕ → Result Bool Refusal) → IsGnu file at table.now →
-        T.is_of trial.now file says → Holds file at.place hash start →
+        T.is_of trial.now file says → HoldsHash file at.place hash start →
         Walks (T.stands trial.now file) 0 (T.cost trial.now)
         (gnu_looked_up file at hash says) src.old src.new result) }
 {
@@ -115,7 +115,7 @@ fn along_chain<S: Source, T: Trial>(
         read += 1;
         tried += one_where(is_wanted);
         if let Some(answer) = tried_where(src, trial, index, is_wanted)? {
-            let found = Some(Found { index, answer });
+            let found = Some(FoundInChain { index, answer });
             return Ok(Walked { found, tried, read });
         }
         if ends_chain(word) {
@@ -157,7 +157,7 @@ fn tried_where<S: Source, T: Trial>(
     trial: &T,
     index: u64,
     is_wanted: bool,
-) -> Result<Option<Answer>, Fault>
+) -> Result<Option<TrialAnswer>, Fault>
     requires below { index < T.symbols trial.now }
     requires lies { T.lies trial.now src.old.seen.size }
     ensures { Did src.old src.new (why_stopped result) (cost_where is_wanted (T.cost trial.now))

@@ -1,7 +1,7 @@
 //! The kinds of hash tables.
 ghost use Rattle.std.specs.Prelude.{◌≡◌};
 ghost use Rattle.elf_model.specs.LoaderScope.{least_size};
-ghost use Rattle.elf_hash.specs.Kinds.{kind_of};
+ghost use Rattle.elf_hash.specs.Kinds.{hash_kind_of};
 
 /// The kinds of hash tables.
 #[derive(Clone, Copy)]
@@ -15,7 +15,7 @@ pub enum HashKind {
 impl HashKind {
     /// How many bytes a table of the kind has at least: its counts, 16 or 8.
     pub fn least_bytes(self) -> u64
-        ensures { result ≡ least_size (kind_of self) }
+        ensures { result ≡ least_size (hash_kind_of self) }
     {
         match self {
             HashKind::Gnu => 16,

@@ -1,12 +1,12 @@
 //! The trial of a symbol by its name alone.
 ghost use Rattle.std.specs.Prelude.{◌≤◌, length};
 ghost use Rattle.elf_hash.specs.Lookups.{symbol_bytes};
-ghost use Rattle.elf_hash.specs.Trials.{IsNamed};
+ghost use Rattle.elf_hash.specs.Trials.{SaysHasName};
 ghost use Rattle.elf_record.specs.Sym.{IsSym};
 ghost use Rattle.elf_table.specs.Cursors.{row_at};
 ghost use Rattle.elf_table.specs.Tables.{SymbolsWithin};
 
-use crate::answer::Answer;
+use crate::answer::TrialAnswer;
 use crate::trial::Trial;
 use elf_headers::Fault;
 use elf_source::{Counted, Source};
@@ -15,7 +15,7 @@ use elf_table::{Names, Table};
 /// The symbols of a table that have a name, whatever their versions and places: one read of a symbol,
 /// and its name is compared.
 #[derive(Clone, Copy)]
-pub(crate) struct Named<'a> {
+pub(crate) struct NamedSymbols<'a> {
     /// The symbols, rows of 24 bytes.
     pub symbols: Table,
     /// The names of the symbols.
@@ -24,7 +24,7 @@ pub(crate) struct Named<'a> {
     pub wanted: &'a [u8],
 }
 
-impl<'a> Trial for Named<'a> {
+impl<'a> Trial for NamedSymbols<'a> {
     ghost symbols = { λ t. t.symbols.count };
 
     ghost cost = { λ t. symbol_bytes (length t.wanted.now) };
@@ -34,16 +34,20 @@ impl<'a> Trial for Named<'a> {
     ghost lies = { λ t size.
         SymbolsWithin size (t.symbols, t.names) × (length t.wanted.now ≤ 4096) };
 
-    ghost is_of = { λ t file says. IsNamed file t.symbols t.names t.wanted.now says };
+    ghost is_of = { λ t file says. SaysHasName file t.symbols t.names t.wanted.now says };
 
-    fn tried<S: Source>(&self, src: &mut Counted<S>, index: u64) -> Result<Option<Answer>, Fault> {
+    fn tried<S: Source>(
+        &self,
+        src: &mut Counted<S>,
+        index: u64,
+    ) -> Result<Option<TrialAnswer>, Fault> {
         let symbol = self.symbols.symbol(src, index)?;
         let place = self.symbols.place(index);
         let off = u64::from(symbol.st_name);
         let is_wanted = self.names.equals(src, off, place, self.wanted)?;
         let version = None;
         Ok(if is_wanted {
-            Some(Answer { symbol, version })
+            Some(TrialAnswer { symbol, version })
         } else {
             None
         })

@@ -1,6 +1,6 @@
 //! The place of a hash table.
 ghost use Rattle.std.specs.Prelude.{◌+◌, ◌^◌, ◌<◌, ◌≤◌};
-ghost use Rattle.elf_hash.specs.Kinds.{kind_of};
+ghost use Rattle.elf_hash.specs.Kinds.{hash_kind_of};
 ghost use Rattle.elf_model.specs.LoaderScope.{least_size};
 
 use crate::kind::HashKind;
@@ -19,6 +19,6 @@ pub struct HashPlace {
     pub size: u64,
     /// The number of symbols in the symbol table.
     pub symbols: u64,
-    pub ghost room: { least_size (kind_of kind) ≤ size },
+    pub ghost room: { least_size (hash_kind_of kind) ≤ size },
     pub ghost ends: { at + size < 2 ^ 64 },
 }

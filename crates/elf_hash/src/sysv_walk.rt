@@ -7,11 +7,11 @@ ghost use Rattle.elf_model.specs.Chains.{HashTable as Place};
 ghost use Rattle.elf_model.specs.SysvWalk.{is_sysv_index, sysv_walked};
 ghost use Rattle.elf_model.specs.declared.causes.Refusal.{Refusal};
 
-use crate::answer::Answer;
+use crate::answer::TrialAnswer;
 use crate::reading::read_word;
 use crate::sysv_table::SysvTable;
 use crate::trial::Trial;
-use crate::walked::{Found, Walked};
+use crate::walked::{FoundInChain, Walked};
 use elf_headers::{Fault, refused};
 use elf_record::Cause;
 use elf_source::{Counted, Source};
@@ -70,17 +70,17 @@ fn is_index(table: &SysvTable, word: u32) -> bool
 }
 
 /// A symbol of an index that answers.
-fn found_at(index: u32, answer: Answer) -> Found
+fn found_at(index: u32, answer: TrialAnswer) -> FoundInChain
     ensures { result ≡ record { index = index; answer = answer } }
 {
-    Found {
+    FoundInChain {
         index: u64::from(index),
         answer,
     }
 }
 
 /// What is answered after so many steps, each of which tries a symbol and counts for a chain word.
-fn stepped(found: Option<Found>, steps: u64) -> Walked
+fn stepped(found: Option<FoundInChain>, steps: u64) -> Walked
     ensures { result ≡ record { found = found; tried = steps; read = steps } }
 {
     Walked {

@@ -3,9 +3,9 @@ ghost use Rattle.std.specs.Prelude.{ℕ, ◌<◌, Bool, List, Result};
 ghost use Rattle.elf_model.specs.declared.causes.Refusal.{Refusal};
 ghost use Rattle.elf_headers.specs.Ledger.{Did, why_stopped};
 ghost use Rattle.elf_hash.specs.Trials.{Tries};
-ghost use Rattle.elf_hash.specs.declared.answer.Answer.{Answer};
+ghost use Rattle.elf_hash.specs.declared.answer.TrialAnswer.{TrialAnswer};
 
-use crate::answer::Answer;
+use crate::answer::TrialAnswer;
 use elf_headers::Fault;
 use elf_source::{Counted, Source};
 
@@ -18,7 +18,7 @@ pub trait Trial {
     ghost cost: { Self → ℕ };
 
     /// In a file this is what it answers of the symbol of an index.
-    ghost stands: { Self → List ℕ → ℕ → Answer → Type 0 };
+    ghost stands: { Self → List ℕ → ℕ → TrialAnswer → Type 0 };
 
     /// All that it reads lies within a source of so many bytes.
     ghost lies: { Self → ℕ → Type 0 };
@@ -31,7 +31,11 @@ pub trait Trial {
     ///
     /// # Errors
     /// Where the symbol cannot be tried, as the trial tells. Else a fault of a read.
-    fn tried<S: Source>(&self, src: &mut Counted<S>, index: u64) -> Result<Option<Answer>, Fault>
+    fn tried<S: Source>(
+        &self,
+        src: &mut Counted<S>,
+        index: u64,
+    ) -> Result<Option<TrialAnswer>, Fault>
         requires below { index < symbols self.now }
         requires lies { lies self.now src.old.seen.size }
         ensures did { Did src.old src.new (why_stopped result) (cost self.now)

@@ -1,7 +1,7 @@
 //! The counts of a hash table of either kind, and the walk in it.
 ghost use Rattle.std.specs.Prelude.{◌≡◌, ℕ, ◌+◌, ◌/◌, ◌≤◌, Bool, List, Result, IfOk};
 ghost use Rattle.elf_headers.specs.Ledger.{Did, why_stopped};
-ghost use Rattle.elf_hash.specs.Scopes.{HasCounts, IsPlaceIn, IsTable, counts_bytes, place_of, walked_in};
+ghost use Rattle.elf_hash.specs.Scopes.{HasCounts, IsPlaceIn, IsTable, counts_bytes, place_of_table, walked_in};
 ghost use Rattle.elf_hash.specs.Walks.{Walks, walk_bytes};
 ghost use Rattle.elf_model.specs.LoaderScope.{Scope};
 ghost use Rattle.elf_model.specs.declared.causes.Refusal.{Refusal};
@@ -30,7 +30,7 @@ pub fn counts<S: Source>(src: &mut Counted<S>, place: &HashPlace) -> Result<Hash
     requires { place.now.at + place.now.size ≤ src.old.seen.size }
     ensures did { Did src.old src.new (why_stopped result) (counts_bytes place.now.kind)
         (λ file. (scope : Scope) → IsPlaceIn scope place.now → HasCounts file scope result) }
-    ensures same { IfOk result (λ table. place_of table ≡ place.now) }
+    ensures same { IfOk result (λ table. place_of_table table ≡ place.now) }
 {
     match place.kind {
         HashKind::Gnu => Ok(HashTable::Gnu(gnu_counts(src, place)?)),
@@ -57,11 +57,13 @@ pub fn walk<S: Source, T: Trial>(
     name: &[u8],
     trial: &T,
 ) -> Result<Walked, Fault>
-    requires within { (place_of table.now).at + (place_of table.now).size ≤ src.old.seen.size }
-    requires known { (place_of table.now).symbols ≤ T.symbols trial.now }
+    requires within { (place_of_table table.now).at + (place_of_table table.now).size
+        ≤ src.old.seen.size }
+    requires known { (place_of_table table.now).symbols ≤ T.symbols trial.now }
     requires lies { T.lies trial.now src.old.seen.size }
     ensures { Did src.old src.new (why_stopped result) (walk_bytes 12
-        ((place_of table.now).size / 4) ((place_of table.now).size / 4) (T.cost trial.now))
+        ((place_of_table table.now).size / 4) ((place_of_table table.now).size / 4)
+        (T.cost trial.now))
         (λ file. (scope : Scope) (says : ℕ → Result Bool Refusal) → IsTable file scope table.now →
         T.is_of trial.now file says → Walks (T.stands trial.now file) 12 (T.cost trial.now)
         (walked_in file scope name.now says) src.old src.new result) }

@@ -16,7 +16,7 @@ use Rattle.elf_source.specs.Onward.{ReadsOnward}
 use Rattle.elf_source.proofs.OnwardLaws.{onward_none, onward_one}
 use Rattle.elf_headers.specs.Faults.{FillsOnce, IsOfRead, Says}
 use Rattle.elf_headers.specs.Load.{Belongs, LoadedAs, Opened, early_of, file_header_cost, load_cost}
-use Rattle.elf_headers.specs.Store.{AreRows, HoldsSections, Stored}
+use Rattle.elf_headers.specs.Store.{AreRowSlices, HoldsSections, Stored}
 use Rattle.elf_headers.specs.declared.fault.Fault.{Fault}
 use Rattle.elf_headers.specs.declared.fault.Fault.TheVariants.{Refused, Source}
 
@@ -85,7 +85,7 @@ read_stops file (Source fault at) store is = tt
 
 -- rows that were read where the file header tells them are the file's section headers
 pub rows_loaded : (file : List ℕ) (header : Ehdr) (store : Stored) → IsEhdr file 0 header → store.loaded ≡ header.e_shnum
-    → AreRows file header.e_shoff 64 header.e_shnum store.rows → HoldsSections file store
+    → AreRowSlices file header.e_shoff 64 header.e_shnum store.rows → HoldsSections file store
 rows_loaded file header store is count rows = λ i below. rows i (omega (arith, below, count)) ∙ ap (λ (n : ℕ). slice file (n + 64 * i) 64) is.e_shoff
 
 -- where the early checks pass the answer is that of the section names' checks

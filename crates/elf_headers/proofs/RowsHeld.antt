@@ -4,7 +4,7 @@ use Rattle.std.specs.Prelude.{slice_index_or}
 use Rattle.std.proofs.Math.Nat.{mul-le-mul_left}
 use Rattle.elf_model.specs.Bytes.{slice}
 use Rattle.elf_model.proofs.Slices.{slice-slice}
-use Rattle.elf_headers.specs.Store.{AreRows, rows_from}
+use Rattle.elf_headers.specs.Store.{AreRowSlices, rows_from}
 use Rattle.elf_headers.specs.declared.fault.Fault.{Fault}
 
 -- the row of an index
@@ -25,7 +25,7 @@ rows-within entry i count below = rw (← mul-suc entry i) (mul-le-mul_left entr
 
 -- bytes that were read at the front are a file's rows
 pub rows_read_ok : (result : Result (Unit {0}) Fault) (entry : ℕ) (file bytes : List ℕ) (from count : ℕ) → OnOk result (take (entry * count) bytes ≡ slice file from (entry * count))
-    → OnOk result (AreRows file from entry count (rows_from bytes 0 entry count))
+    → OnOk result (AreRowSlices file from entry count (rows_from bytes 0 entry count))
 rows_read_ok (Ok x) entry file bytes from count read = λ i below.
     let within : entry * i + entry ≤ entry * count = rows-within entry i count below in
     row_held bytes 0 entry count i below

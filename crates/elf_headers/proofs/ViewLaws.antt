@@ -3,13 +3,13 @@ use Rattle.std.proofs.Common.{◌≡◌, ℕ, ◌+◌, ◌*◌, if◌then◌else
 use Rattle.elf_model.specs.Bytes.{slice}
 use Rattle.elf_model.specs.Checks.{first_refusal, load_checks}
 use Rattle.elf_headers.specs.Load.{Opened, Belongs, Views}
-use Rattle.elf_headers.specs.Store.{Stored, AreRows}
+use Rattle.elf_headers.specs.Store.{Stored, AreRowSlices}
 use Rattle.elf_headers.specs.declared.fault.Fault.{Fault}
 
 -- a file that was loaded without sections, and then its program headers, where they were read
 pub views_read : (result : Result (Unit {0}) Fault) (file : List ℕ) (loaded : Opened) (old new : Stored) → Belongs file loaded old → loaded.header.e_shnum ≡ 0
     → new.slots ≡ old.slots → new.loaded ≡ 0 → new.segments ≡ (if is_ok result then loaded.header.e_phnum else 0)
-    → OnOk result (AreRows file loaded.header.e_phoff 56 loaded.header.e_phnum new.segment_rows) → OnOk result (Views file loaded new)
+    → OnOk result (AreRowSlices file loaded.header.e_phoff 56 loaded.header.e_phnum new.segment_rows) → OnOk result (Views file loaded new)
 views_read (Ok x) file loaded old new b none slots empty counted are = record {
   belongs = record {
     size = b.size;

@@ -34,8 +34,8 @@ rows_from file at entry zero = []
 rows_from file at entry (suc count) = slice file at entry ∷ rows_from file (at + entry) entry count
 
 -- the first rows, so many of them, are a file's consecutive slices of one size from an offset on
-abbrev pub AreRows : List ℕ → ℕ → ℕ → ℕ → List (List ℕ) → Type 0
-AreRows file from entry count rows =
+abbrev pub AreRowSlices : List ℕ → ℕ → ℕ → ℕ → List (List ℕ) → Type 0
+AreRowSlices file from entry count rows =
     (i : ℕ) → i < count → slice_index_or rows i [] ≡ slice file (from + entry * i) entry
 
 -- the loaded rows are the file's section headers

@@ -12,7 +12,7 @@ use elf_record::{Cause, Ehdr, Refusal};
 use elf_source::{Counted, Source};
 
 /// The size of a file header in bytes.
-pub(crate) const HEADER_BYTES: usize = 64;
+pub(crate) const FILE_HEADER_BYTES: usize = 64;
 
 /// Reads and checks the file header: one read of 64 bytes at offset 0, or none where the length
 /// alone refuses the file (gABI 4, ELF Header).
@@ -33,7 +33,7 @@ pub fn header<S: Source>(src: &mut Counted<S>) -> Result<Ehdr, Fault>
     if let Some(refusal) = refused_length(src.length()) {
         return Err(Fault::Refused(refusal));
     }
-    let mut bytes = [0; HEADER_BYTES];
+    let mut bytes = [0; FILE_HEADER_BYTES];
     fill(src, 0, &mut bytes)?;
     match Ehdr::check(&bytes) {
         Ok(header) => Ok(header),
@@ -51,7 +51,7 @@ pub fn refused_length(length: u64) -> Option<Refusal>
             cause: Cause::TooLong,
         });
     }
-    if length < HEADER_BYTES as u64 {
+    if length < FILE_HEADER_BYTES as u64 {
         return Some(Refusal {
             at: length,
             cause: Cause::Short,

@@ -16,7 +16,7 @@ mod segment_loading;
 mod stop;
 mod store;
 
-pub use buffers::BUFFER_BYTES;
+pub use buffers::HEADERS_BUFFER_BYTES;
 pub use caps::{Cap, Caps, Limits, Style};
 pub use fault::{Fault, refused};
 pub use file_header::{header, refused_length};

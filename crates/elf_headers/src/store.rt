@@ -8,7 +8,7 @@ ghost use Rattle.elf_record.specs.Shdr.{IsShdr};
 ghost use Rattle.elf_source.specs.Source.{Reads};
 ghost use Rattle.elf_headers.specs.Faults.{Says, IsOfRead};
 ghost use Rattle.elf_headers.specs.Store.{empty, emptied, row, segment_bytes};
-ghost use Rattle.elf_headers.specs.Store.{AreRows, HoldsSections, HoldsSegments, rows_from};
+ghost use Rattle.elf_headers.specs.Store.{AreRowSlices, HoldsSections, HoldsSegments, rows_from};
 
 use crate::fault::Fault;
 use crate::filling::fill;
@@ -160,7 +160,7 @@ impl<'a> HeaderStore<'a> {
         ensures says { IfErr result (Says src.old src.new (64 * count)) }
         ensures fault { IfErr result IsOfRead }
         ensures rows { (file : List ℕ) → src.old.seen.file ≡ Some file →
-            OnOk result (AreRows file from 64 count self.new.rows) }
+            OnOk result (AreRowSlices file from 64 count self.new.rows) }
     {
         self.forget();
         read_rows(src, self.bytes, SLOT_BYTES, count, from)?;
@@ -186,7 +186,7 @@ impl<'a> HeaderStore<'a> {
         ensures says { IfErr result (Says src.old src.new (56 * count)) }
         ensures fault { IfErr result IsOfRead }
         ensures rows { (file : List ℕ) → src.old.seen.file ≡ Some file →
-            OnOk result (AreRows file from 56 count self.new.segment_rows) }
+            OnOk result (AreRowSlices file from 56 count self.new.segment_rows) }
     {
         self.forget();
         read_rows(src, self.bytes, SEGMENT_BYTES, count, from)?;
@@ -220,7 +220,7 @@ fn read_rows<S: Source>(
     ensures says { IfErr result (Says src.old src.new (size * count)) }
     ensures fault { IfErr result IsOfRead }
     ensures rows { (file : List ℕ) → src.old.seen.file ≡ Some file →
-        OnOk result (AreRows file from size count (rows_from bytes.new 0 size count)) }
+        OnOk result (AreRowSlices file from size count (rows_from bytes.new 0 size count)) }
 {
     read_front(src, bytes, size * count as usize, from)
 }

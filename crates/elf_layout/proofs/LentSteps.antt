@@ -8,16 +8,16 @@ use Rattle.std.proofs.lemmas.Cmp.{alike_right, ranked}
 use Rattle.std.proofs.lemmas.List.{get_or-take}
 use Rattle.std.proofs.lemmas.List.Sorted.{searchable_from_sorted}
 use Rattle.elf_model.specs.Placing.{address_in}
-use Rattle.elf_layout.specs.Lent.{Rises, Finds, Follows}
+use Rattle.elf_layout.specs.Lent.{KeysRise, FindsKey, Follows}
 use Rattle.elf_layout.proofs.LayoutSteps.{address_in-hit, address_in-miss}
 
 -- a search by an order, among items whose keys rise
-module _ {K X : Type 0} {order : K → K → Ordering} (total : IsTotalOrder order) (key : X → K) (items : List X) (rises : Rises order key items) where
+module _ {K X : Type 0} {order : K → K → Ordering} (total : IsTotalOrder order) (key : X → K) (items : List X) (rises : KeysRise order key items) where
   sorted : IsSortedBy (λ a b. is_lt (order (key a) (key b))) items
   sorted k d low within =
       ap is_lt (total.antisymm (key (get_or items (k + 1) d)) (key (get_or items k d)) ∙ ap ordering_reverse (rises k (k + 1) d (omega arith) within))
 
-  pub searched : (wanted : K) (r : Result ℕ ℕ) → IsSearchInRange r (length items) → IsBinarySearchResult (λ y. order (key y) wanted) items r → Finds order key items wanted r
+  pub searched : (wanted : K) (r : Result ℕ ℕ) → IsSearchInRange r (length items) → IsBinarySearchResult (λ y. order (key y) wanted) items r → FindsKey order key items wanted r
   searched wanted (Ok i) within equal =
       (within, equal, λ k d below. sym (alike_right total (key (get_or items i d)) wanted (key (get_or items k d)) (equal d)) ∙ rises k i d below within)
   searched wanted (Err i) within parted =
@@ -38,11 +38,11 @@ module _ {K X : Type 0} {order : K → K → Ordering} (total : IsTotalOrder ord
     ])
   ]
 
-  pub all_rise : (n : ℕ) → Below n → length items ≤ n → Rises order key items
+  pub all_rise : (n : ℕ) → Below n → length items ≤ n → KeysRise order key items
   all_rise n low past a b d less within = low a b d less (omega (arith, past, within))
 
   -- and one that does not rise
-  pub front_falls : (n : ℕ) → n < length items → Rises order key (take (n + 1) items) → Follows order key items n
+  pub front_falls : (n : ℕ) → n < length items → KeysRise order key (take (n + 1) items) → Follows order key items n
   front_falls n within rises d some =
       let long = length-take (n + 1) items in
       let up = rises (n - 1) n d (omega (arith, some)) (omega (arith, long, within)) in
@@ -68,12 +68,12 @@ below_is_other x wanted e same = let below : x < wanted = ranked x wanted Less (
 above_is_other : (x wanted : ℕ) → nat_cmp x wanted ≡ Greater → x ≢ wanted
 above_is_other x wanted e same = let above : wanted < x = ranked x wanted Greater (sym e) in omega (arith, above, same)
 
-pub section_found : (items : List (ℕ × ℕ)) (section i : ℕ) (item : ℕ × ℕ) → Finds nat_cmp (λ x. x.0) items section (Ok i) → item ≡ get_or items i item → address_in items section ≡ Some item.1
+pub section_found : (items : List (ℕ × ℕ)) (section i : ℕ) (item : ℕ × ℕ) → FindsKey nat_cmp (λ x. x.0) items section (Ok i) → item ≡ get_or items i item → address_in items section ≡ Some item.1
 section_found items section i item found is =
     found_first items section i item found.0 (ranked (get_or items i item).0 section Equal (sym (found.1 item))) (λ k below. below_is_other (get_or items k item).0 section (found.2 k item below))
     ∙ ap (λ x. Some x.1) (sym is)
 
-pub section_absent : (items : List (ℕ × ℕ)) (section i : ℕ) → Finds nat_cmp (λ x. x.0) items section (Err i) → address_in items section ≡ None
+pub section_absent : (items : List (ℕ × ℕ)) (section i : ℕ) → FindsKey nat_cmp (λ x. x.0) items section (Err i) → address_in items section ≡ None
 section_absent items section i found = found_none items section (0, 0) other
   where
     other : (k : ℕ) → k < length items → (get_or items k (0, 0)).0 ≢ section

@@ -19,7 +19,7 @@ use Rattle.std.proofs.lemmas.List.Elements.{All-nil, All-push}
 use Rattle.elf_model.specs.Placing.{Layout}
 use Rattle.elf_layout.specs.Listed.{AreAlike, GiveItems, HasTwice, IsFaulty, IsLastAlike, NeverFalls, SpellsAlike, with_item, with_items}
 use Rattle.elf_layout.specs.Layouts.{IsName}
-use Rattle.elf_layout.specs.Lent.{Follows, Item as Lent, MayFollow, name_of, name_order, named}
+use Rattle.elf_layout.specs.Lent.{Follows, LentItem as Lent, MayFollow, lent_name, name_order, named}
 use Rattle.elf_layout.specs.Spelled.{Spells}
 use Rattle.elf_layout.specs.declared.layout.Item.{Item}
 use Rattle.elf_layout.specs.declared.layout.Item.TheVariants.{Section, Define, Entry, Table, Thread}
@@ -120,7 +120,7 @@ module _ {K : Type 0} {order : K → K → Ordering} (total : IsTotalOrder order
 
 -- the same of names that are lent
 abbrev as_named : Lent → List ℕ × ℕ
-as_named item = (name_of item, item.1)
+as_named item = (lent_name item, item.1)
 
 named_at : (items : List Lent) (i : ℕ) (d : Lent) (e : List ℕ × ℕ) → i < length items → get_or (named items) i e ≡ as_named (get_or items i d)
 named_at items i d e within = get_or-map as_named items i d e within
@@ -128,15 +128,15 @@ named_at items i d e within = get_or-map as_named items i d e within
 long : (items : List Lent) → length (named items) ≡ length items
 long items = length-map items as_named
 
-pub names_twice : (items : List Lent) (i : ℕ) (e : Lent) → i < length items → NeverFalls name_order (named items) → (MayFollow items i → ⊥) → IsName (name_of (get_or items i e))
-    → HasTwice (named items) (name_of (get_or items i e))
+pub names_twice : (items : List Lent) (i : ℕ) (e : Lent) → i < length items → NeverFalls name_order (named items) → (MayFollow items i → ⊥) → IsName (lent_name (get_or items i e))
+    → HasTwice (named items) (lent_name (get_or items i e))
 names_twice items i e within sorted not is_name =
     let inside : i < length (named items) = omega (arith, within, long items) in
     subst (HasTwice (named items)) (ap (λ x. x.0) (named_at items i e (as_named e) within)) (has_twice nat_list_cmp_total order_same (named items) sorted i (as_named e) inside (λ follows. not (
-      (λ d. subst (λ x. IsName (name_of x)) (get_or_default items i e d within) is_name),
+      (λ d. subst (λ x. IsName (lent_name x)) (get_or_default items i e d within) is_name),
       λ d some.
           let before : i - 1 < length items = omega (arith, within) in
-          subst (λ x. name_order x (name_of (get_or items i d)) ≡ Less) (ap (λ x. x.0) (named_at items (i - 1) d (as_named d) before)) (subst (λ x. name_order (get_or (named items) (i - 1) (as_named d)).0 x ≡ Less) (ap (λ x. x.0) (named_at items i d (as_named d) within)) (follows (as_named d) some)),
+          subst (λ x. name_order x (lent_name (get_or items i d)) ≡ Less) (ap (λ x. x.0) (named_at items (i - 1) d (as_named d) before)) (subst (λ x. name_order (get_or (named items) (i - 1) (as_named d)).0 x ≡ Less) (ap (λ x. x.0) (named_at items i d (as_named d) within)) (follows (as_named d) some)),
     )))
 
 -- sorted pairs have sorted keys
@@ -150,5 +150,5 @@ names_sorted items sorted i e within less =
     let inside : i + 1 < length items = omega (arith, within, long items) in
     let before : i < length items = omega (arith, inside) in
     let d = some_item items (omega (arith, inside)) in
-    then_falls (name_order (name_of (get_or items (i + 1) d)) (name_of (get_or items i d))) (nat_cmp (get_or items (i + 1) d).1 (get_or items i d).1) (sorted i d (omega arith) inside)
-    (subst (λ x. name_order x (name_of (get_or items i d)) ≡ Less) (ap (λ x. x.0) (named_at items (i + 1) d e inside)) (subst (λ x. name_order (get_or (named items) (i + 1) e).0 x ≡ Less) (ap (λ x. x.0) (named_at items i d e before)) less))
+    then_falls (name_order (lent_name (get_or items (i + 1) d)) (lent_name (get_or items i d))) (nat_cmp (get_or items (i + 1) d).1 (get_or items i d).1) (sorted i d (omega arith) inside)
+    (subst (λ x. name_order x (lent_name (get_or items i d)) ≡ Less) (ap (λ x. x.0) (named_at items (i + 1) d e inside)) (subst (λ x. name_order (get_or (named items) (i + 1) e).0 x ≡ Less) (ap (λ x. x.0) (named_at items i d e before)) less))

@@ -5,8 +5,8 @@ use Rattle.elf_model.specs.declared.relocation_types.Base.{Base}
 use Rattle.elf_layout.specs.Layouts.{names_for}
 use Rattle.elf_layout.specs.declared.addresses.Among.{Among}
 use Rattle.elf_layout.specs.declared.addresses.Among.TheVariants as among
-use Rattle.elf_layout.specs.declared.addresses.Kept.{Kept}
-use Rattle.elf_layout.specs.declared.addresses.Kept.TheVariants.{Fixed, Lent}
+use Rattle.elf_layout.specs.declared.addresses.AddressesKept.{AddressesKept}
+use Rattle.elf_layout.specs.declared.addresses.AddressesKept.TheVariants.{Fixed, Lent}
 use Rattle.elf_layout.specs.declared.addresses.LentLayout.{LentLayout}
 
 -- what a caller lends is searched
@@ -21,7 +21,7 @@ lent_as lent = record {
 }
 
 -- what is kept
-abbrev pub kept_as : Kept → Layout
+abbrev pub kept_as : AddressesKept → Layout
 kept_as (Fixed layout) = layout.now
 kept_as (Lent lent) = lent_as lent.now
 

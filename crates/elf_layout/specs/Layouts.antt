@@ -14,12 +14,12 @@ abbrev pub IsName : List ℕ → Type 0
 IsName name = (0 < length name) × (length name ≤ 255) × All (λ byte. byte ≢ 0) name
 
 -- the name of an item, where it has one
-abbrev pub NamesOf : Item → (List ℕ → Type 0) → Type 0
-NamesOf (Section index address) P = Unit {0}
-NamesOf (Define name address) P = P name.now
-NamesOf (Entry name address) P = P name.now
-NamesOf (Table name address) P = P name.now
-NamesOf (Thread name address) P = P name.now
+abbrev pub OnName : Item → (List ℕ → Type 0) → Type 0
+OnName (Section index address) P = Unit {0}
+OnName (Define name address) P = P name.now
+OnName (Entry name address) P = P name.now
+OnName (Table name address) P = P name.now
+OnName (Thread name address) P = P name.now
 
 -- one of some items has this index, or name
 abbrev pub HasKey : {K : Type 0} → List (K × ℕ) → K → Type 0

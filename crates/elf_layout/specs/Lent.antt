@@ -8,61 +8,61 @@ use Rattle.std.specs.declared.cmp.Ordering.TheVariants.{Less, Equal, Greater}
 use Rattle.elf_layout.specs.Layouts.{IsName}
 
 -- the keys of some items rise, so that none comes twice
-abbrev pub Rises : {X K : Type 0} → (K → K → Ordering) → (X → K) → List X → Type 0
-Rises {X} order key items = (i j : ℕ) (d : X) → i < j → j < length items → order (key (slice_index_or items i d)) (key (slice_index_or items j d)) ≡ Less
+abbrev pub KeysRise : {X K : Type 0} → (K → K → Ordering) → (X → K) → List X → Type 0
+KeysRise {X} order key items = (i j : ℕ) (d : X) → i < j → j < length items → order (key (slice_index_or items i d)) (key (slice_index_or items j d)) ≡ Less
 
 -- an item that is lent: a name with its address
-abbrev pub Item : Type 0
-Item = Bor (List ℕ) × ℕ
+abbrev pub LentItem : Type 0
+LentItem = Bor (List ℕ) × ℕ
 
 -- its name
-abbrev pub name_of : Item → List ℕ
-name_of item = item.0.now
+abbrev pub lent_name : LentItem → List ℕ
+lent_name item = item.0.now
 
 -- the items as a layout has them
-abbrev pub named : List Item → List (List ℕ × ℕ)
-named items = map (λ item. (name_of item, item.1)) items
+abbrev pub named : List LentItem → List (List ℕ × ℕ)
+named items = map (λ item. (lent_name item, item.1)) items
 
 -- the order of names, by their bytes as numbers, from the first on
 abbrev pub name_order : List ℕ → List ℕ → Ordering
 name_order = slice_cmp nat_cmp
 
 -- items may be lent: each has a name, and the names rise
-pub record MayLend (items : List Item) : Type 0 where
-  pub rise : Rises name_order name_of items
-  pub names : All (λ item. IsName (name_of item)) items
+pub record MayLend (items : List LentItem) : Type 0 where
+  pub rise : KeysRise name_order lent_name items
+  pub names : All (λ item. IsName (lent_name item)) items
 
 -- the key at a place is above the one before it
 abbrev pub Follows : {X K : Type 0} → (K → K → Ordering) → (X → K) → List X → ℕ → Type 0
 Follows {X} order key items i = (d : X) → 0 < i → order (key (slice_index_or items (i - 1) d)) (key (slice_index_or items i d)) ≡ Less
 
 -- there is a name at a place, and it is above the one before it
-abbrev pub MayFollow : List Item → ℕ → Type 0
-MayFollow items i = ((d : Item) → IsName (name_of (slice_index_or items i d))) × Follows name_order name_of items i
+abbrev pub MayFollow : List LentItem → ℕ → Type 0
+MayFollow items i = ((d : LentItem) → IsName (lent_name (slice_index_or items i d))) × Follows name_order lent_name items i
 
 -- what a search for a key finds: the item that has it, or the place between those below it and those above it
-abbrev pub Finds : {X K : Type 0} → (K → K → Ordering) → (X → K) → List X → K → Result ℕ ℕ → Type 0
-Finds {X} order key items wanted (Ok i) =
+abbrev pub FindsKey : {X K : Type 0} → (K → K → Ordering) → (X → K) → List X → K → Result ℕ ℕ → Type 0
+FindsKey {X} order key items wanted (Ok i) =
     (i < length items) × ((d : X) → order (key (slice_index_or items i d)) wanted ≡ Equal)
     × ((k : ℕ) (d : X) → k < i → order (key (slice_index_or items k d)) wanted ≡ Less)
-Finds {X} order key items wanted (Err i) =
+FindsKey {X} order key items wanted (Err i) =
     (i ≤ length items) × ((k : ℕ) (d : X) → k < i → order (key (slice_index_or items k d)) wanted ≡ Less)
     × ((k : ℕ) (d : X) → i ≤ k → k < length items → order (key (slice_index_or items k d)) wanted ≡ Greater)
 
 -- where a search ended
-abbrev pub place_of : Result ℕ ℕ → ℕ
-place_of (Ok i) = i
-place_of (Err i) = i
+abbrev pub search_end : Result ℕ ℕ → ℕ
+search_end (Ok i) = i
+search_end (Err i) = i
 
 -- the address of what a search found
-abbrev pub IsAddressAt : List Item → Result ℕ ℕ → Option ℕ → Type 0
-IsAddressAt items (Ok i) address = (item : Item) × (item ≡ slice_index_or items i item) × (address ≡ Some item.1)
+abbrev pub IsAddressAt : List LentItem → Result ℕ ℕ → Option ℕ → Type 0
+IsAddressAt items (Ok i) address = (item : LentItem) × (item ≡ slice_index_or items i item) × (address ≡ Some item.1)
 IsAddressAt items (Err i) address = address ≡ None
 
 -- a name begins with some bytes
-abbrev pub Begins : List ℕ → List ℕ → Type 0
-Begins name front = (rest : List ℕ) × (name ≡ front ++ rest)
+abbrev pub BeginsWith : List ℕ → List ℕ → Type 0
+BeginsWith name front = (rest : List ℕ) × (name ≡ front ++ rest)
 
 -- there is an item at a place, whose name begins with some bytes
-abbrev pub BeginsAt : List Item → ℕ → List ℕ → Type 0
-BeginsAt items i front = (i < length items) × ((item : Item) × (item ≡ slice_index_or items i item) × Begins (name_of item) front)
+abbrev pub BeginsAt : List LentItem → ℕ → List ℕ → Type 0
+BeginsAt items i front = (i < length items) × ((item : LentItem) × (item ≡ slice_index_or items i item) × BeginsWith (lent_name item) front)

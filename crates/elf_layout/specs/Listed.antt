@@ -8,7 +8,7 @@ use Rattle.std.specs.declared.cmp.Ordering.{Ordering}
 use Rattle.std.specs.declared.cmp.Ordering.TheVariants.{Less}
 use Rattle.elf_model.specs.Placing.{Layout, Searched}
 use Rattle.elf_layout.specs.Kept.{lent_as}
-use Rattle.elf_layout.specs.Layouts.{IsName, NamesOf}
+use Rattle.elf_layout.specs.Layouts.{IsName, OnName}
 use Rattle.elf_layout.specs.Lent.{name_order}
 use Rattle.elf_layout.specs.Spelled.{Spells}
 use Rattle.elf_layout.specs.declared.addresses.LentLayout.{LentLayout}

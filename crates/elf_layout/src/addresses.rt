@@ -7,7 +7,7 @@ ghost use Rattle.elf_layout.specs.Layouts.{names_for};
 
 use crate::layout::Layout;
 use crate::lent::{SortedNames, SortedSections};
-use crate::named::Named;
+use crate::named::NamedAddress;
 use elf_model::Base;
 use std::marker::Model;
 
@@ -66,7 +66,7 @@ impl<'a> LentLayout<'a> {
 
 /// How addresses are kept.
 #[derive(Clone, Copy)]
-enum Kept<'a> {
+enum AddressesKept<'a> {
     /// In a layout of fixed size.
     Fixed(&'a Layout),
     /// In what a caller lends.
@@ -77,7 +77,7 @@ enum Kept<'a> {
 #[derive(Clone, Copy)]
 pub enum Among<'a> {
     /// Each is compared with a symbol's name.
-    Compared(&'a [Named]),
+    Compared(&'a [NamedAddress]),
     /// A symbol's name is read, and searched for.
     Searched(&'a SortedNames<'a>),
 }
@@ -85,7 +85,7 @@ pub enum Among<'a> {
 /// The addresses that relocations are applied with, however they are kept.
 #[derive(Drop)]
 pub struct Addresses<'a> {
-    kept: Kept<'a>,
+    kept: AddressesKept<'a>,
 }
 
 impl<'a> Model for Addresses<'a> {
@@ -103,7 +103,7 @@ impl<'a> Addresses<'a> {
         ensures { result ≡ layout.now }
     {
         Addresses {
-            kept: Kept::Fixed(layout),
+            kept: AddressesKept::Fixed(layout),
         }
     }
 
@@ -112,7 +112,7 @@ impl<'a> Addresses<'a> {
         ensures { result ≡ lent_as layout.now }
     {
         Addresses {
-            kept: Kept::Lent(layout),
+            kept: AddressesKept::Lent(layout),
         }
     }
 
@@ -121,8 +121,8 @@ impl<'a> Addresses<'a> {
         ensures { result ≡ address_in self.now.sections section }
     {
         match self.kept {
-            Kept::Fixed(layout) => layout.section_address(section),
-            Kept::Lent(layout) => layout.sections.address(section),
+            AddressesKept::Fixed(layout) => layout.section_address(section),
+            AddressesKept::Lent(layout) => layout.sections.address(section),
         }
     }
 
@@ -131,8 +131,8 @@ impl<'a> Addresses<'a> {
         ensures { IsAmong self.now base result }
     {
         match self.kept {
-            Kept::Fixed(layout) => Among::Compared(layout.names(base)),
-            Kept::Lent(layout) => Among::Searched(layout.names(base)),
+            AddressesKept::Fixed(layout) => Among::Compared(layout.names(base)),
+            AddressesKept::Lent(layout) => Among::Searched(layout.names(base)),
         }
     }
 
@@ -142,8 +142,8 @@ impl<'a> Addresses<'a> {
         ensures { result ≡ has_base self.now base }
     {
         match self.kept {
-            Kept::Fixed(layout) => layout.has_base(base),
-            Kept::Lent(layout) => layout.has_base(base),
+            AddressesKept::Fixed(layout) => layout.has_base(base),
+            AddressesKept::Lent(layout) => layout.has_base(base),
         }
     }
 
@@ -153,8 +153,8 @@ impl<'a> Addresses<'a> {
         ensures few { result < 2 ^ 75 }
     {
         match self.kept {
-            Kept::Fixed(layout) => layout.names_cost(),
-            Kept::Lent(layout) => layout.names_cost(),
+            AddressesKept::Fixed(layout) => layout.names_cost(),
+            AddressesKept::Lent(layout) => layout.names_cost(),
         }
     }
 }

@@ -16,7 +16,7 @@ ghost use Rattle.elf_layout.specs.declared.texts.TextEnd.TheVariants.{Whole};
 use crate::addresses::LentLayout;
 use crate::layout::{Item, Layout};
 use crate::lent::{SortedNames, SortedSections};
-use crate::named::Named;
+use crate::named::NamedAddress;
 use crate::spelled::item;
 use crate::texts::TextEnd;
 use std::alloc::{AllocError, Global};
@@ -260,7 +260,7 @@ fn push_sections(items: &mut Vec<(u16, u64)>, sections: &[(u16, u64)]) -> Result
 }
 
 /// Puts names behind others.
-fn push_names<'a>(items: &mut Vec<Placed<'a>>, names: &'a [Named]) -> Result<(), AllocError>
+fn push_names<'a>(items: &mut Vec<Placed<'a>>, names: &'a [NamedAddress]) -> Result<(), AllocError>
     ensures { IfOk result (λ _. named items.new.items ≡ named items.old.items ++ names.now) }
 {
     for name in names {

@@ -2,17 +2,17 @@
 ghost use Rattle.std.specs.Prelude.{◌≡◌, ◌≤◌, ◌<◌, ◌^◌, [], length, MatchBool};
 ghost use Rattle.elf_model.specs.ApplyCost.{layout_names_cost};
 ghost use Rattle.elf_model.specs.Placing.{Compared, address_in, has_base};
-ghost use Rattle.elf_layout.specs.Layouts.{Adds, IsName, NamesOf, Pushes, HasKey, LacksKey};
+ghost use Rattle.elf_layout.specs.Layouts.{Adds, IsName, OnName, Pushes, HasKey, LacksKey};
 ghost use Rattle.elf_layout.specs.Layouts.{names_for};
 
-use crate::named::{Named, has_name, names_cost};
+use crate::named::{NamedAddress, has_name, names_cost};
 use arrayvec::ArrayVec;
 use elf_model::Base;
 use std::marker::Model;
 use thiserror::Error;
 
 /// The most sections that a layout gives addresses for.
-const SECTIONS: usize = 64;
+const MOST_SECTIONS: usize = 64;
 /// The most names that it defines, and the most entries of each sort.
 const NAMES: usize = 32;
 
@@ -75,11 +75,11 @@ pub enum LayoutFault {
 /// given. It takes no memory: it is fixed arrays of some 36,000 bytes, and holds copies of the names.
 #[derive(Drop)]
 pub struct Layout {
-    sections: ArrayVec<(u16, u64), SECTIONS>,
-    definitions: ArrayVec<Named, NAMES>,
-    entries: ArrayVec<Named, NAMES>,
-    table: ArrayVec<Named, NAMES>,
-    thread: ArrayVec<Named, NAMES>,
+    sections: ArrayVec<(u16, u64), MOST_SECTIONS>,
+    definitions: ArrayVec<NamedAddress, NAMES>,
+    entries: ArrayVec<NamedAddress, NAMES>,
+    table: ArrayVec<NamedAddress, NAMES>,
+    thread: ArrayVec<NamedAddress, NAMES>,
 }
 
 impl Model for Layout {
@@ -133,21 +133,21 @@ impl Layout {
     }
 
     /// The definitions, in the order in which they were given.
-    pub fn definitions(&self) -> &[Named]
+    pub fn definitions(&self) -> &[NamedAddress]
         ensures { result.now ≡ self.now.definitions }
     {
         self.definitions.as_slice()
     }
 
     /// The procedure linkage table entries, in the order in which they were given.
-    pub fn linkage(&self) -> &[Named]
+    pub fn linkage(&self) -> &[NamedAddress]
         ensures { result.now ≡ self.now.linkage }
     {
         self.entries.as_slice()
     }
 
     /// The global offset table entries, in the order in which they were given.
-    pub fn table(&self) -> &[Named]
+    pub fn table(&self) -> &[NamedAddress]
         ensures { result.now ≡ self.now.table }
     {
         self.table.as_slice()
@@ -155,7 +155,7 @@ impl Layout {
 
     /// The global offset table entries of offsets from the thread pointer, in the order in which they
     /// were given.
-    pub fn thread(&self) -> &[Named]
+    pub fn thread(&self) -> &[NamedAddress]
         ensures { result.now ≡ self.now.thread }
     {
         self.thread.as_slice()
@@ -163,7 +163,7 @@ impl Layout {
 
     /// The names that are looked through for a base, in the order in which they were given.
     #[tactic(auto, unfolding(crate::specs::Layouts::names_for))]
-    pub(crate) fn names(&self, base: Base) -> &[Named]
+    pub(crate) fn names(&self, base: Base) -> &[NamedAddress]
         ensures names { result.now ≡ names_for self.now base }
         ensures compared { self.now.lookup ≡ Compared }
     {
@@ -205,7 +205,7 @@ impl Layout {
     /// there are 64 sections, 32 definitions or 32 entries of this sort. Either leaves the layout as
     /// it was.
     pub fn push(&mut self, item: Item<'_>) -> Result<(), LayoutFault>
-        requires { NamesOf item IsName }
+        requires { OnName item IsName }
         ensures { Pushes item.entry self.old self.new result }
     {
         match item {
@@ -220,7 +220,7 @@ impl Layout {
 
 /// Puts a section behind others.
 fn push_section(
-    items: &mut ArrayVec<(u16, u64), SECTIONS>,
+    items: &mut ArrayVec<(u16, u64), MOST_SECTIONS>,
     index: u16,
     address: u64,
 ) -> Result<(), LayoutFault>
@@ -259,7 +259,7 @@ fn has_section(items: &[(u16, u64)], index: u16) -> bool
 
 /// Puts a name behind others.
 fn push_named(
-    items: &mut ArrayVec<Named, NAMES>,
+    items: &mut ArrayVec<NamedAddress, NAMES>,
     name: &[u8],
     address: u64,
 ) -> Result<(), LayoutFault>
@@ -272,6 +272,6 @@ fn push_named(
     if items.is_full() {
         return Err(LayoutFault::Full);
     }
-    items.push(Named::new(name, address));
+    items.push(NamedAddress::new(name, address));
     Ok(())
 }

@@ -9,11 +9,11 @@ ghost use Rattle.elf_model.specs.Names.{pad64};
 ghost use Rattle.elf_model.specs.Placing.{Searched, address_in, address_named};
 ghost use Rattle.elf_model.specs.declared.causes.Cause.TheVariants.{NameUnended};
 ghost use Rattle.elf_layout.specs.Layouts.{IsName};
-ghost use Rattle.elf_layout.specs.Lent.{Begins, BeginsAt, Finds, Follows, IsAddressAt, Item};
-ghost use Rattle.elf_layout.specs.Lent.{MayFollow, MayLend, Rises};
-ghost use Rattle.elf_layout.specs.Lent.{name_of, name_order, named, place_of};
+ghost use Rattle.elf_layout.specs.Lent.{BeginsWith, BeginsAt, FindsKey, Follows, IsAddressAt, LentItem};
+ghost use Rattle.elf_layout.specs.Lent.{MayFollow, MayLend, KeysRise};
+ghost use Rattle.elf_layout.specs.Lent.{lent_name, name_order, named, search_end};
 
-use crate::named::NAME_BYTES;
+use crate::named::ITEM_NAME_BYTES;
 use elf_model::Cause;
 use std::cmp::Ordering;
 use std::marker::Model;
@@ -27,13 +27,13 @@ pub struct SortedSections<'a> {
 impl<'a> Model for SortedSections<'a> {
     ghost use Rattle.std.specs.Prelude.{List, ℕ};
     ghost use Rattle.std.specs.Ordering.{nat_cmp};
-    ghost use Rattle.elf_layout.specs.Lent.{Rises};
+    ghost use Rattle.elf_layout.specs.Lent.{KeysRise};
 
     ghost Value = { List (ℕ × ℕ) };
 
     ghost view = { λ s. s.items.now };
 
-    ghost invariant = { λ s. Rises nat_cmp (λ item. item.0) s.items.now };
+    ghost invariant = { λ s. KeysRise nat_cmp (λ item. item.0) s.items.now };
 }
 
 impl<'a> SortedSections<'a> {
@@ -43,9 +43,9 @@ impl<'a> SortedSections<'a> {
     /// The place of the first item whose index is not above the index of the item before it.
     pub fn new(items: &'a [(u16, u64)]) -> Result<SortedSections<'a>, usize>
         ensures sorted { IfOk result (λ sections. sections ≡ items.now) }
-        ensures rise { IfOk result (λ _. Rises nat_cmp (λ item. item.0) items.now) }
+        ensures rise { IfOk result (λ _. KeysRise nat_cmp (λ item. item.0) items.now) }
         ensures refused { IfErr result (λ i. (i < length items.now)
-            × (Rises nat_cmp (λ item. item.0) (take (i + 1) items.now) → ⊥)) }
+            × (KeysRise nat_cmp (λ item. item.0) (take (i + 1) items.now) → ⊥)) }
         ensures falls { IfErr result (λ i. Follows nat_cmp (λ item. item.0) items.now i → ⊥) }
     {
         let mut i = 0;
@@ -80,8 +80,8 @@ fn section_follows(items: &[(u16, u64)], i: usize) -> bool
 
 /// Where a section is among some, or would be.
 fn search_section(items: &[(u16, u64)], section: u16) -> Result<usize, usize>
-    requires { Rises nat_cmp (λ item. item.0) items.now }
-    ensures { Finds nat_cmp (λ item. item.0) items.now section result }
+    requires { KeysRise nat_cmp (λ item. item.0) items.now }
+    ensures { FindsKey nat_cmp (λ item. item.0) items.now section result }
 {
     items.binary_search_by_key(&section, |item| item.0)
 }
@@ -186,8 +186,8 @@ impl<'a> SortedNames<'a> {
 
 /// Where a name is among some, or would be.
 fn search_name(items: &[(&[u8], u64)], name: &[u8]) -> Result<usize, usize>
-    requires { Rises name_order name_of items.now }
-    ensures { Finds name_order name_of items.now name.now result }
+    requires { KeysRise name_order lent_name items.now }
+    ensures { FindsKey name_order lent_name items.now name.now result }
 {
     items.binary_search_by_key(&name, |item| item.0)
 }
@@ -204,7 +204,7 @@ fn name_follows(items: &[(&[u8], u64)], i: usize) -> bool
 /// The name of the item at a place.
 fn name_at<'a>(items: &[(&'a [u8], u64)], i: usize) -> &'a [u8]
     requires { i < length items.now }
-    ensures { (d : Item) → result.now ≡ name_of (slice_index_or items.now i d) }
+    ensures { (d : LentItem) → result.now ≡ lent_name (slice_index_or items.now i d) }
 {
     items[i].0
 }
@@ -213,7 +213,7 @@ fn name_at<'a>(items: &[(&'a [u8], u64)], i: usize) -> &'a [u8]
 pub(crate) fn is_name(name: &[u8]) -> bool
     ensures { MatchBool result (IsName name.now) (IsName name.now → ⊥) }
 {
-    !name.is_empty() && name.len() <= NAME_BYTES && name_end(name) == name.len()
+    !name.is_empty() && name.len() <= ITEM_NAME_BYTES && name_end(name) == name.len()
 }
 
 /// Whether a name comes before another.
@@ -250,7 +250,7 @@ fn address_at(items: &[(&[u8], u64)], place: Result<usize, usize>) -> Option<u64
 
 /// Where a search ended.
 fn place_of(place: Result<usize, usize>) -> usize
-    ensures { result ≡ place_of place }
+    ensures { result ≡ search_end place }
 {
     let (Ok(i) | Err(i)) = place;
     i
@@ -266,7 +266,7 @@ fn begins_at(items: &[(&[u8], u64)], place: usize, front: &[u8]) -> bool
 
 /// Whether a name begins with some bytes.
 fn begins(name: &[u8], front: &[u8]) -> bool
-    ensures { MatchBool result (Begins name.now front.now) (Begins name.now front.now → ⊥) }
+    ensures { MatchBool result (BeginsWith name.now front.now) (BeginsWith name.now front.now → ⊥) }
 {
     name.starts_with(front)
 }

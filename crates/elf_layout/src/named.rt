@@ -5,17 +5,17 @@ ghost use Rattle.elf_layout.specs.Layouts.{HasKey, LacksKey, items_cost};
 use std::marker::Model;
 
 /// The most bytes that a name in a layout has.
-pub(crate) const NAME_BYTES: usize = 255;
+pub(crate) const ITEM_NAME_BYTES: usize = 255;
 
 /// A name of at most 255 bytes, which it holds itself, with the address that is given for it.
 #[derive(Drop)]
-pub struct Named {
-    bytes: [u8; NAME_BYTES],
+pub struct NamedAddress {
+    bytes: [u8; ITEM_NAME_BYTES],
     len: usize,
     address: u64,
 }
 
-impl Model for Named {
+impl Model for NamedAddress {
     ghost use Rattle.std.specs.Prelude.{ℕ, ◌≤◌, List, take};
 
     ghost Value = { List ℕ × ℕ };
@@ -25,28 +25,28 @@ impl Model for Named {
     ghost invariant = { λ n. n.len ≤ 255 };
 }
 
-impl Default for Named {
-    fn default() -> Named
+impl Default for NamedAddress {
+    fn default() -> NamedAddress
         ensures { result ≡ ([], 0) }
     {
-        Named {
-            bytes: [0; NAME_BYTES],
+        NamedAddress {
+            bytes: [0; ITEM_NAME_BYTES],
             len: 0,
             address: 0,
         }
     }
 }
 
-impl Named {
+impl NamedAddress {
     /// A name of at most 255 bytes with its address.
-    pub(crate) fn new(name: &[u8], address: u64) -> Named
+    pub(crate) fn new(name: &[u8], address: u64) -> NamedAddress
         requires { length name.now ≤ 255 }
         ensures { result ≡ (name.now, address) }
     {
-        let mut bytes = [0; NAME_BYTES];
+        let mut bytes = [0; ITEM_NAME_BYTES];
         let len = name.len();
         bytes[..len].copy_from_slice(name);
-        Named {
+        NamedAddress {
             bytes,
             len,
             address,
@@ -77,7 +77,7 @@ impl Named {
 }
 
 /// Whether one of some items has this name.
-pub(crate) fn has_name(items: &[Named], name: &[u8]) -> bool
+pub(crate) fn has_name(items: &[NamedAddress], name: &[u8]) -> bool
     ensures { MatchBool result (HasKey items.now name.now) (LacksKey items.now name.now) }
 {
     for item in items {
@@ -90,7 +90,7 @@ pub(crate) fn has_name(items: &[Named], name: &[u8]) -> bool
 
 /// How many bytes a comparison with each of some names may ask for: for each as many as it has with
 /// its NUL, in whole pieces of 64.
-pub(crate) fn names_cost(items: &[Named]) -> u128
+pub(crate) fn names_cost(items: &[NamedAddress]) -> u128
     ensures value { result ≡ items_cost items.now }
     ensures few { result < 2 ^ 73 }
 {

@@ -2,7 +2,7 @@
 use Rattle.std.proofs.Common.{◌≡◌, ℕ, ◌==◌, Bool, true, false, List, ◌++◌, length, codes, refl}
 use Rattle.elf_model.specs.ExplainLine.{entry_item_text, entry_text, help_text, items_text, type_front, where_named}
 use Rattle.elf_model.specs.Lines.{cut_mark, escaped, name_text}
-use Rattle.elf_model.specs.declared.missing.Wanted.TheVariants.{Entry, Named}
+use Rattle.elf_model.specs.declared.missing.LayoutAddress.TheVariants.{Entry, Named}
 use Rattle.elf_model.specs.declared.relocation_types.Base.{Base}
 use Rattle.elf_lines.specs.Pieces.{shown_as}
 use Rattle.elf_lines.proofs.NameText.{name_text-pieces}

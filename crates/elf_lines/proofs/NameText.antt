@@ -10,8 +10,8 @@ use Rattle.elf_model.specs.Lines.{SHOWN_DESCRIPTOR, name_byte_text, escaped, cut
 use Rattle.elf_model.specs.declared.formats.Format.{Format}
 use Rattle.elf_model.specs.declared.formats.Format.TheVariants.{Columns, Object}
 use Rattle.elf_source.specs.Output.{Written}
-use Rattle.elf_lines.specs.Notes.{described}
-use Rattle.elf_lines.specs.Pieces.{TakesBefore, shown_as, name_start, byte_text, spelt, name_end}
+use Rattle.elf_lines.specs.Notes.{note_end}
+use Rattle.elf_lines.specs.Pieces.{TakesBefore, shown_as, name_start, byte_text, spelt, name_tail}
 use Rattle.elf_lines.proofs.Pieces.{TakesBefore-more, TakesBefore-then}
 
 -- the bytes of two texts, one behind the other
@@ -153,8 +153,8 @@ member-cut a k q s m r = simp append_assoc
 
 -- a line that ends in a name, as its pieces
 pub named-pieces : (format : Format) (key line name : List ℕ) (is_cut : Bool)
-    → line_named format key line (shown_as is_cut name) ≡ ((line ++ name_start format key) ++ spelt format name) ++ name_end format is_cut
-unfolding line_named name_text name_start name_end quoted closing member_key
+    → line_named format key line (shown_as is_cut name) ≡ ((line ++ name_start format key) ++ spelt format name) ++ name_tail format is_cut
+unfolding line_named name_text name_start name_tail quoted closing member_key
 named-pieces Columns key line name true = rw (spelt-columns name) (simp (append_assoc, append-nil))
 named-pieces Columns key line name false = rw (spelt-columns name) (simp (append_assoc, append-nil))
 named-pieces Object key line name true =
@@ -179,8 +179,8 @@ string_digits (byte ∷ bytes) = string_text-append (hex 2 byte) (hex_bytes byte
 
 pub described-pieces : (format : Format) (key line name descriptor : List ℕ) (is_cut : Bool)
     → line_described format key line (shown_as is_cut name) descriptor
-    ≡ ((line ++ name_start format key) ++ spelt format name) ++ described format is_cut descriptor
-unfolding line_described name_text name_start described quoted closing member_key
+    ≡ ((line ++ name_start format key) ++ spelt format name) ++ note_end format is_cut descriptor
+unfolding line_described name_text name_start note_end quoted closing member_key
 described-pieces Columns key line name descriptor true = rw (spelt-columns name) (simp (append_assoc, append-nil))
 described-pieces Columns key line name descriptor false = rw (spelt-columns name) (simp (append_assoc, append-nil))
 described-pieces Object key line name descriptor true =

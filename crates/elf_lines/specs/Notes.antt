@@ -10,8 +10,8 @@ pub record IsDescriptor (first : List ℕ) (size : ℕ) (descriptor : List ℕ) 
   pub size_is : size ≡ length descriptor
 
 -- what stands behind a note's name, by whether the name was cut
-unfoldable pub described : Format → Bool → List ℕ → List ℕ
-described Columns is_cut descriptor = (if is_cut then cut_mark else []) ++ note_tail descriptor
-described Object is_cut descriptor =
+unfoldable pub note_end : Format → Bool → List ℕ → List ℕ
+note_end Columns is_cut descriptor = (if is_cut then cut_mark else []) ++ note_tail descriptor
+note_end Object is_cut descriptor =
     codes "\"" ++ (if is_cut then codes ",\"cut\":true" else []) ++ codes ",\"descriptor\":\""
     ++ hex_bytes (take SHOWN_DESCRIPTOR descriptor) ++ codes "\"}\n"

@@ -43,6 +43,6 @@ spelt format [] = []
 spelt format (byte ∷ bytes) = byte_text format byte ++ spelt format bytes
 
 -- what stands behind a name, by whether it was cut
-unfoldable pub name_end : Format → Bool → List ℕ
-name_end Columns is_cut = (if is_cut then cut_mark else []) ++ newline
-name_end Object is_cut = codes "\"" ++ (if is_cut then codes ",\"cut\":true" else []) ++ codes "}\n"
+unfoldable pub name_tail : Format → Bool → List ℕ
+name_tail Columns is_cut = (if is_cut then cut_mark else []) ++ newline
+name_tail Object is_cut = codes "\"" ++ (if is_cut then codes ",\"cut\":true" else []) ++ codes "}\n"

@@ -5,4 +5,4 @@ use crate::columns::{DIGIT_BYTES, LINE_BYTES};
 /// field of it (the letters of a section's flags, the type of a relocation entry, what stands
 /// behind a note's name), the digits of a number. A note's line takes 64 bytes more, for the digits
 /// of its descriptor.
-pub const BUFFER_BYTES: usize = LINE_BYTES + LINE_BYTES + DIGIT_BYTES;
+pub const LINES_BUFFER_BYTES: usize = LINE_BYTES + LINE_BYTES + DIGIT_BYTES;

@@ -11,7 +11,7 @@ ghost use Rattle.elf_lines.specs.Pieces.{shown_as};
 use crate::columns::{Line, line_of, number_sign, put};
 use crate::named::show_spelt;
 use crate::relocation_rows::relocation_type_name;
-use elf_model::{Base, Format, Missing, Wanted};
+use elf_model::{Base, Format, LayoutAddress, Missing};
 use elf_source::{Out, OutFault, Sink};
 use itoa::Buffer;
 
@@ -78,7 +78,7 @@ fn type_front(kind: u32) -> Line
 /// A fault of the output, with a front of the text written.
 #[tactic(auto, unfolding(elf_model::specs::ExplainLine::help_text))]
 fn show_help<W: Sink>(
-    wanted: Wanted,
+    wanted: LayoutAddress,
     name: &[u8],
     is_cut: bool,
     out: &mut Out<W>,
@@ -86,14 +86,14 @@ fn show_help<W: Sink>(
     ensures puts { Puts out.old out.new result (help_text wanted (shown_as is_cut name.now)) }
 {
     match wanted {
-        Wanted::Place(section) => out.put(&place_row(section)),
-        Wanted::Named(base) => {
+        LayoutAddress::Place(section) => out.put(&place_row(section)),
+        LayoutAddress::Named(base) => {
             if is_cut || name.is_empty() {
                 return show_no_item(out);
             }
             show_items(base, name, out)
         }
-        Wanted::Entry => {
+        LayoutAddress::Entry => {
             if is_cut || name.is_empty() {
                 return show_no_item(out);
             }

@@ -23,7 +23,7 @@ mod symbol_rows;
 mod told;
 mod version_rows;
 
-pub use buffers::BUFFER_BYTES;
+pub use buffers::LINES_BUFFER_BYTES;
 pub use check_rows::{show_check, show_unnamed};
 pub use columns::Line;
 pub use dynamic_rows::dynamic_front;
@@ -32,7 +32,7 @@ pub use lack_rows::show_lack;
 pub use lookup_rows::show_steps;
 pub use member_rows::member_front;
 pub use named::show_named;
-pub use naming::Naming;
+pub use naming::NumberNaming;
 pub use note_rows::{note_front, show_note};
 pub use relocation_rows::relocation_front;
 pub use rows::{cause_word, header_row, show_refusal};

@@ -5,7 +5,7 @@ ghost use Rattle.arrayvec.specs.ArrayVec.{array_vec_len};
 ghost use Rattle.elf_model.specs.Lines.{named_line, name_byte_text};
 ghost use Rattle.elf_source.specs.Output.{Puts};
 ghost use Rattle.elf_lines.specs.Fronts.{front_of};
-ghost use Rattle.elf_lines.specs.Pieces.{PutsBefore, byte_text, name_end, name_start, shown_as};
+ghost use Rattle.elf_lines.specs.Pieces.{PutsBefore, byte_text, name_tail, name_start, shown_as};
 ghost use Rattle.elf_lines.specs.Pieces.{spelt};
 
 use crate::columns::{LINE_BYTES, Line, put, put_hex};
@@ -32,7 +32,7 @@ pub fn show_named<W: Sink>(
     let LineFront { line, format, key } = front;
     let mut line = line;
     begin_name(&mut line, format, key, out)?;
-    show_spelt(line, format, name, name_end(format, is_cut), out)
+    show_spelt(line, format, name, name_tail(format, is_cut), out)
 }
 
 /// Puts what stands before a name of this key: nothing in columns. Where the line is full it is
@@ -63,9 +63,9 @@ pub(crate) fn begin_name<W: Sink>(
 }
 
 /// What stands behind a name, by whether the name was cut.
-#[tactic(auto, unfolding(crate::specs::Pieces::name_end))]
-fn name_end(format: Format, is_cut: bool) -> &'static [u8]
-    ensures items { result.now ≡ name_end format is_cut }
+#[tactic(auto, unfolding(crate::specs::Pieces::name_tail))]
+fn name_tail(format: Format, is_cut: bool) -> &'static [u8]
+    ensures items { result.now ≡ name_tail format is_cut }
     ensures short { length result.now ≤ 14 }
 {
     match (format, is_cut) {

@@ -5,7 +5,7 @@ use elf_record::numbers::EM_X86_64;
 /// How numbers are named in the lines of a file: by the names of the standards alone, or by those of
 /// the GNU system too; and on which machine, since some names are of x86-64 alone.
 #[derive(Clone, Copy)]
-pub struct Naming {
+pub struct NumberNaming {
     /// Whether numbers of the GNU system have names.
     pub gnu: bool,
     /// The machine of the file (gABI 4, ELF Header).
@@ -14,18 +14,18 @@ pub struct Naming {
     pub format: Format,
 }
 
-impl Naming {
+impl NumberNaming {
     ghost use Rattle.std.specs.Prelude.{◌≡◌, ◌==◌, ◌&&◌, false};
     ghost use Rattle.elf_model.specs.Numbers.{EM_X86_64};
     ghost use Rattle.elf_model.specs.declared.formats.Format.TheVariants.{Columns};
 
     /// The names of the standards alone, in columns.
-    pub fn standard(machine: u16) -> Naming
+    pub fn standard(machine: u16) -> NumberNaming
         ensures gnu { result.gnu ≡ false }
         ensures machine { result.machine ≡ machine }
         ensures format { result.format ≡ Columns }
     {
-        Naming {
+        NumberNaming {
             gnu: false,
             machine,
             format: Format::Columns,

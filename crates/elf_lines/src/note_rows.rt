@@ -6,7 +6,7 @@ ghost use Rattle.elf_model.specs.LineFronts.{note_front};
 ghost use Rattle.elf_model.specs.Lines.{hex_bytes, note_line};
 ghost use Rattle.elf_source.specs.Output.{OutFails, Puts};
 ghost use Rattle.elf_lines.specs.Fronts.{front_of};
-ghost use Rattle.elf_lines.specs.Notes.{IsDescriptor, described};
+ghost use Rattle.elf_lines.specs.Notes.{IsDescriptor, note_end};
 ghost use Rattle.elf_lines.specs.Pieces.{shown_as};
 
 use crate::columns::{Line, put, put_where};
@@ -72,11 +72,11 @@ pub fn show_note<W: Sink>(
 
 /// What stands behind a note's name: what tells that it was cut, the first bytes of its descriptor,
 /// in columns the mark where it has more than these, and the line's end.
-#[tactic(auto, unfolding(crate::specs::Notes::described))]
+#[tactic(auto, unfolding(crate::specs::Notes::note_end))]
 fn note_tail(format: Format, is_cut: bool, first_bytes: &[u8], descsz: u32) -> Line
     requires { length first_bytes.now ≤ 32 }
     ensures { (descriptor : List ℕ) → IsDescriptor first_bytes.now descsz descriptor →
-        result.items ≡ described format is_cut descriptor }
+        result.items ≡ note_end format is_cut descriptor }
 {
     let mut line = Line::new();
     match format {

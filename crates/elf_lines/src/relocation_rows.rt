@@ -10,7 +10,7 @@ use crate::fields::{
     LineFront, begin, put_half, put_name_or_sign, put_signed, put_word, put_xword,
 };
 use crate::name_tables::name_of_either;
-use crate::naming::Naming;
+use crate::naming::NumberNaming;
 use elf_record::Rela;
 use elf_record::gnu_numbers::{
     R_X86_64_DTPMOD64, R_X86_64_DTPOFF32, R_X86_64_DTPOFF64, R_X86_64_GNU_VTENTRY,
@@ -30,7 +30,7 @@ use elf_record::numbers::{
 /// The `R` line of a relocation entry up to the name: the index of its section, offset, type on this
 /// machine, symbol and addend (gABI 4, Relocation). The space before the name is the last byte.
 #[tactic(auto, unfolding(elf_model::specs::LineFronts::relocation_front))]
-pub fn relocation_front(section: u16, entry: &Rela, naming: Naming) -> LineFront
+pub fn relocation_front(section: u16, entry: &Rela, naming: NumberNaming) -> LineFront
     ensures front { (file : List ℕ) (at : ℕ) → IsRela file at entry.now → front_of result
         ≡ relocation_front naming.format naming.gnu naming.machine file at section }
     ensures key { length result.key.now ≤ 16 }
@@ -53,7 +53,7 @@ pub fn relocation_front(section: u16, entry: &Rela, naming: Naming) -> LineFront
 
 /// The name of a relocation type on the machine. Names are known for x86-64 alone.
 #[tactic(auto, unfolding(elf_model::specs::Text::name_of))]
-fn name_on_machine(kind: u32, naming: Naming) -> Option<&'static str>
+fn name_on_machine(kind: u32, naming: NumberNaming) -> Option<&'static str>
     ensures name { option_copied result
         ≡ name_of (relocation_names naming.gnu naming.machine) kind }
     ensures short { IfSome result (λ name. length name.now ≤ 10) }

@@ -14,7 +14,7 @@ use crate::fields::{
     LineFront, NamedNumber, begin, put_half, put_name_or_hex, put_text, put_word, put_xword,
 };
 use crate::name_tables::name_of_either;
-use crate::naming::Naming;
+use crate::naming::NumberNaming;
 use elf_record::gnu_numbers::{
     SHF_EXCLUDE, SHF_GNU_MBIND, SHF_GNU_RETAIN, SHF_X86_64_LARGE, SHT_GNU_ATTRIBUTES, SHT_GNU_HASH,
     SHT_GNU_LIBLIST, SHT_GNU_VERDEF, SHT_GNU_VERNEED, SHT_GNU_VERSYM, SHT_RELR, SHT_X86_64_UNWIND,
@@ -29,7 +29,7 @@ use elf_record::{SectionFlags, Shdr};
 /// The `S` line of a section header up to the name: its index, type, flags, address, file offset,
 /// size, link and info (gABI 4, Section Header). The space before the name is the last byte.
 #[tactic(auto, unfolding(elf_model::specs::LineFronts::section_front))]
-pub fn section_front(index: u16, header: &Shdr, naming: Naming) -> LineFront
+pub fn section_front(index: u16, header: &Shdr, naming: NumberNaming) -> LineFront
     ensures front { (file : List ℕ) (at : ℕ) → IsShdr file at header.now →
         front_of result ≡ section_front naming.format naming.gnu naming.machine file at index }
     ensures key { length result.key.now ≤ 16 }
@@ -69,7 +69,7 @@ const STANDARD_FLAGS: u64 = 0xff7;
 
 /// The letters of a section's flags, and a question mark where any other bit is set (gABI 4,
 /// Section Attribute Flags); of more than twelve the first eleven, and a question mark.
-fn section_letters(bits: u64, naming: Naming) -> Line
+fn section_letters(bits: u64, naming: NumberNaming) -> Line
     ensures text { result.items ≡ section_flags_text naming.gnu naming.machine bits }
     ensures short { array_vec_len result ≤ 12 }
 {
@@ -140,7 +140,7 @@ const PROCESSOR_LETTERS: [(u64, u8); 1] = [(SHF_EXCLUDE, b'E')];
 
 /// All flags that have letters.
 #[tactic(auto, unfolding(crate::specs::Rows::section_flags, crate::specs::Rows::standard_section_flags, crate::specs::Rows::further_section_flags, crate::specs::Rows::gnu_section_flags, crate::specs::Rows::x86_64_section_flags, crate::specs::Rows::processor_section_flags))]
-fn flags_with_letters(naming: Naming) -> u64
+fn flags_with_letters(naming: NumberNaming) -> u64
     ensures { result ≡ flags_with_letters (section_flags naming.gnu naming.machine) }
 {
     if !naming.gnu {
@@ -154,7 +154,7 @@ fn flags_with_letters(naming: Naming) -> u64
 }
 
 /// The name of a section type.
-fn section_type_name(kind: u64, naming: Naming) -> Option<&'static str>
+fn section_type_name(kind: u64, naming: NumberNaming) -> Option<&'static str>
     ensures name { option_copied result ≡ name_of (section_types naming.gnu naming.machine) kind }
     ensures short { IfSome result (λ name. length name.now ≤ 13) }
 {

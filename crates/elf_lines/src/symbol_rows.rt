@@ -17,7 +17,7 @@ use crate::fields::{
 };
 use crate::name_tables::{name_of, name_of_either};
 use crate::named::show_named;
-use crate::naming::Naming;
+use crate::naming::NumberNaming;
 use elf_record::Sym;
 use elf_record::gnu_numbers::{SHN_X86_64_LCOMMON, STB_GNU_UNIQUE, STT_GNU_IFUNC};
 use elf_record::numbers::{
@@ -31,7 +31,7 @@ use elf_source::{Out, OutFault, Sink};
 /// type, binding, visibility and place (gABI 4, Symbol Table). The space before the name is the last
 /// byte.
 #[tactic(auto, unfolding(elf_model::specs::LineFronts::symbol_front))]
-pub fn symbol_front(section: u16, index: u64, symbol: &Sym, naming: Naming) -> LineFront
+pub fn symbol_front(section: u16, index: u64, symbol: &Sym, naming: NumberNaming) -> LineFront
     ensures front { (file : List ℕ) (at : ℕ) → IsSym file at symbol.now → front_of result
         ≡ symbol_front naming.format naming.gnu naming.machine file at section index }
     ensures key { length result.key.now ≤ 16 }
@@ -86,7 +86,7 @@ pub fn show_symbol<W: Sink>(
     ensures fails { IfErr result (OutFails out.new) }
     ensures grows { Grows out.old out.new }
 {
-    let front = symbol_front(section, index, symbol, Naming::standard(0));
+    let front = symbol_front(section, index, symbol, NumberNaming::standard(0));
     show_named(front, name, false, out)
 }
 
@@ -147,7 +147,7 @@ const VISIBILITIES: [(u64, &str); 4] = [
 ];
 
 /// The name of a special section index that a symbol may have.
-fn place_name(index: u64, naming: Naming) -> Option<&'static str>
+fn place_name(index: u64, naming: NumberNaming) -> Option<&'static str>
     ensures name { option_copied result ≡ name_of (places naming.gnu naming.machine) index }
     ensures short { IfSome result (λ name. length name.now ≤ 5) }
 {

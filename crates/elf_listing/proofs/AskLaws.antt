@@ -6,7 +6,7 @@ use Rattle.elf_model.specs.Checks.{first_refusal, length_checks}
 use Rattle.elf_model.specs.Cost.{ceiling}
 use Rattle.elf_model.specs.Listing.{has_tables, known_parts}
 use Rattle.elf_model.specs.declared.causes.Refusal.{Refusal}
-use Rattle.elf_source.specs.Source.{Seen, Counting, Reads, Limits, OverLimit, counted}
+use Rattle.elf_source.specs.Source.{Seen, Counting, Reads, SetsLimit, OverLimit, counted}
 use Rattle.elf_source.proofs.LimitLaws.{late_budget, within_budget}
 use Rattle.elf_headers.specs.Faults.{RefusalSays}
 use Rattle.elf_headers.specs.Permitted.{style_of}
@@ -17,8 +17,8 @@ use Rattle.elf_source.specs.Output.{Written}
 use Rattle.elf_listing.specs.Reports.{AsksWithin, FaultSays, TellsStop}
 use Rattle.elf_listing.specs.Shows.{StopSays}
 
-pub asks_within : {X : Type 0} (caps : Caps) (parts : ℕ) (s0 s1 s2 s3 : Counting) (n : ℕ) (result : Result X Stop) → s0.asked ≤ 2 ^ 127 → Limits s0 s1 caps.limits.budget
-    → Reads s1 s2 (ceiling s1.seen.size caps.limits.headers caps.style.cap.bytes) → Limits s2 s3 None
+pub asks_within : {X : Type 0} (caps : Caps) (parts : ℕ) (s0 s1 s2 s3 : Counting) (n : ℕ) (result : Result X Stop) → s0.asked ≤ 2 ^ 127 → SetsLimit s0 s1 caps.limits.budget
+    → Reads s1 s2 (ceiling s1.seen.size caps.limits.headers caps.style.cap.bytes) → SetsLimit s2 s3 None
     → ((refusal : Refusal) → first_refusal (length_checks s1.seen.size) ≡ Some refusal → s2 ≡ s1) → (has_tables (known_parts (style_of caps.style) parts) ≡ false → s2.asked ≤ s1.asked + 64)
     → ((refusal : Refusal) → result ≡ Err (Refused refusal) → RefusalSays s1 s2 n refusal) → AsksWithin caps parts s0 s3 result
 asks_within caps parts s0 s1 s2 s3 n result small set reads unset unread alone late =
@@ -48,7 +48,7 @@ told_late format s1 s2 a b out n (Source cause at) told tells says refusal is = 
 told_late format s1 s2 a b out n (Out cause) told tells says refusal is = let other = tells.1 in cc
 
 -- what was told of a stop says of the source and the output what the stop did
-pub told_says : (format : Format) (s0 s1 s2 s3 : Counting) (a b : Written) (n : ℕ) (budget : Option ℕ) (stop told : Stop) → Limits s0 s1 budget → Limits s2 s3 None
+pub told_says : (format : Format) (s0 s1 s2 s3 : Counting) (a b : Written) (n : ℕ) (budget : Option ℕ) (stop told : Stop) → SetsLimit s0 s1 budget → SetsLimit s2 s3 None
     → TellsStop format a b stop told → StopSays s1 s2 a n stop → FaultSays s0 s3 b told
 told_says format s0 s1 s2 s3 a b n budget (Refused first) (Refused same) set unset tells says = tt
 told_says format s0 s1 s2 s3 a b n budget (Refused first) (Source cause at) set unset tells says = absurd tells

@@ -4,7 +4,7 @@ use Rattle.std.proofs.Common.{◌≡◌, ℕ, ◌==◌, ◌||◌, inl, inr, true
 use Rattle.elf_model.specs.Budget.{IsBudget}
 use Rattle.elf_model.specs.Checks.{first_refusal, header_checks, load_checks}
 use Rattle.elf_model.specs.Lines.{header_line}
-use Rattle.elf_model.specs.Listing.{Item, Line, Fault, fault_of, has, has_tables, known_parts, where_asked, each, HEADER, SEGMENTS, NOTES, DYNAMIC, VERSIONS}
+use Rattle.elf_model.specs.Listing.{ListingItem, Line, Fault, fault_of, has, has_tables, known_parts, where_asked, each, HEADER, SEGMENTS, NOTES, DYNAMIC, VERSIONS}
 use Rattle.elf_model.specs.Records.{e_shnum, e_phnum}
 use Rattle.elf_model.specs.Style.{Style, viewed as view_of}
 use Rattle.elf_model.specs.Report.{listing, load_items, loaded_items, table_items, kinds_rows, view_checks}
@@ -24,12 +24,12 @@ use Rattle.elf_headers.specs.Store.{Stored}
 use Rattle.elf_headers.specs.declared.fault.Fault.{Fault as TableFault}
 use Rattle.elf_headers.specs.declared.fault.Fault.TheVariants.{Refused}
 use Rattle.elf_listing.specs.Parts.{listed_by, part_items}
-use Rattle.elf_listing.specs.Viewed.{ChecksView, viewed}
+use Rattle.elf_listing.specs.Viewed.{ChecksView, viewed_headers}
 use Rattle.elf_listing.specs.declared.parts.Part.{Part}
 use Rattle.elf_listing.specs.declared.parts.Part.TheVariants.{Headers, Symbols, Relocations, SectionNotes, SegmentNotes, SectionDynamic, SegmentDynamic, Definitions, Needs, SymbolVersions}
 
 -- the file header's part
-abbrev pub header_part : Format → List ℕ → ℕ → List Item
+abbrev pub header_part : Format → List ℕ → ℕ → List ListingItem
 header_part format file parts = where_asked parts HEADER (Line (header_line format file) ∷ [])
 
 pub items_are : (file : List ℕ) (headers : ℕ) (style : Style) (parts : ℕ) → first_refusal (header_checks file) ≡ None → listing file headers style parts ≡ header_part style.format file parts ++ load_items (view_of style file) headers style (known_parts style parts)
@@ -78,10 +78,10 @@ load_passed file headers slots style parts passed same tables checked =
     ∙ guarded-passes (view_checks file style parts) (table_items file style parts) checked
 
 -- a part of so many headers
-abbrev pub of_headers : List ℕ → Style → ℕ → Part → ℕ → List Item
+abbrev pub of_headers : List ℕ → Style → ℕ → Part → ℕ → List ListingItem
 of_headers file style parts part count = where_asked parts (listed_by part).bit (part_items part style count file)
 
-abbrev pub segment_part : List ℕ → Style → ℕ → List Item
+abbrev pub segment_part : List ℕ → Style → ℕ → List ListingItem
 segment_part file style parts = where_asked parts SEGMENTS (each (segment_row file style) 0 (e_phnum file))
 
 nothing_asked : (parts part : ℕ) → where_asked parts part [] ≡ []
@@ -93,7 +93,7 @@ unfolding each
 none_of file style parts part count none = rw none (nothing_asked parts (listed_by part).bit)
 
 -- a part whose number of headers matters only where it is asked for
-asked_same : (parts part : ℕ) (items : ℕ → List Item) (n m : ℕ) → (has parts part ≡ true → n ≡ m) → where_asked parts part (items n) ≡ where_asked parts part (items m)
+asked_same : (parts part : ℕ) (items : ℕ → List ListingItem) (n m : ℕ) → (has parts part ≡ true → n ≡ m) → where_asked parts part (items n) ≡ where_asked parts part (items m)
 asked_same parts part items n m same = elim (cases_Bool (has parts part)) [
   | inl asked ↦ ap (λ k. where_asked parts part (items k)) (same asked)
   | inr other ↦ rw (other, where_asked) refl
@@ -112,26 +112,26 @@ kinds_of_segments : (file : List ℕ) (style : Style) (parts : ℕ) → kinds_ro
 unfolding kinds_rows segment_notes segment_dynamic
 kinds_of_segments file style parts = refl
 
-sections_alone : (y r n d v w x : List Item)
+sections_alone : (y r n d v w x : List ListingItem)
     → y ++ (r ++ (n ++ (d ++ (v ++ (w ++ (x ++ [])))))) ≡ ((((y ++ r) ++ (n ++ [])) ++ (d ++ [])) ++ (v ++ w)) ++ x
 sections_alone y r n d v w x = simp (append_assoc, append-nil)
 
-segments_alone : (n d : List Item) → n ++ (d ++ []) ≡ (((([] ++ []) ++ ([] ++ n)) ++ ([] ++ d)) ++ ([] ++ [])) ++ []
+segments_alone : (n d : List ListingItem) → n ++ (d ++ []) ≡ (((([] ++ []) ++ ([] ++ n)) ++ ([] ++ d)) ++ ([] ++ [])) ++ []
 segments_alone n d = simp (append_assoc, append-nil)
 
 -- where a part wants the program headers of a file without sections, they are loaded
 viewed_where : (parts : ℕ) (loaded : Opened) → (loaded.header.e_shnum == 0) ≡ true → (has parts SEGMENTS || (has parts NOTES || has parts DYNAMIC)) ≡ true
-    → viewed parts loaded ≡ loaded.header.e_phnum
+    → viewed_headers parts loaded ≡ loaded.header.e_phnum
 viewed_where parts loaded none asked = rw (none, asked) refl
 
-pub viewed_none : (parts : ℕ) (loaded : Opened) → (loaded.header.e_shnum == 0) ≡ false → viewed parts loaded ≡ 0
+pub viewed_none : (parts : ℕ) (loaded : Opened) → (loaded.header.e_shnum == 0) ≡ false → viewed_headers parts loaded ≡ 0
 viewed_none parts loaded some = rw some refl
 
-pub viewed_segments : (parts : ℕ) (loaded : Opened) → (loaded.header.e_shnum == 0) ≡ true → has parts SEGMENTS ≡ true → viewed parts loaded ≡ loaded.header.e_phnum
+pub viewed_segments : (parts : ℕ) (loaded : Opened) → (loaded.header.e_shnum == 0) ≡ true → has parts SEGMENTS ≡ true → viewed_headers parts loaded ≡ loaded.header.e_phnum
 viewed_segments parts loaded none asked = rw (none, asked) refl
 
 -- the parts of all kinds of tables, by so many section headers and program headers
-abbrev of_kinds : List ℕ → Style → ℕ → (sections segments : ℕ) → List Item
+abbrev of_kinds : List ℕ → Style → ℕ → (sections segments : ℕ) → List ListingItem
 of_kinds file style parts sections segments =
     ((((of_headers file style parts Symbols sections ++ of_headers file style parts Relocations sections)
     ++ (of_headers file style parts SectionNotes sections ++ of_headers file style parts SegmentNotes segments))
@@ -140,7 +140,7 @@ of_kinds file style parts sections segments =
     ++ of_headers file style parts SymbolVersions sections
 
 -- the tables of all kinds are those of the headers in the store
-kinds_are : (file : List ℕ) (style : Style) (parts : ℕ) (loaded : Opened) (store : Stored) → Belongs file loaded store → store.segments ≡ viewed parts loaded
+kinds_are : (file : List ℕ) (style : Style) (parts : ℕ) (loaded : Opened) (store : Stored) → Belongs file loaded store → store.segments ≡ viewed_headers parts loaded
     → kinds_rows (table_headers file).kinds (table_headers file).headers file style parts ≡ of_kinds file style parts store.loaded store.segments
 unfolding segment_notes segment_dynamic
 kinds_are file style parts loaded store belongs view =
@@ -167,11 +167,11 @@ kinds_are file style parts loaded store belongs view =
           (sections_alone (rows Symbols) (rows Relocations) (rows SectionNotes) (rows SectionDynamic) (rows Definitions) (rows Needs) (rows SymbolVersions)))
     ]
 
-behind : (a b c d e f : List Item) → a ++ ((((b ++ c) ++ d) ++ e) ++ f) ≡ ((((a ++ b) ++ c) ++ d) ++ e) ++ f
+behind : (a b c d e f : List ListingItem) → a ++ ((((b ++ c) ++ d) ++ e) ++ f) ≡ ((((a ++ b) ++ c) ++ d) ++ e) ++ f
 behind a b c d e f = simp append_assoc
 
 -- the tables of a loaded file, by the headers in the store
-pub tables_are : (file : List ℕ) (style : Style) (parts : ℕ) (loaded : Opened) (store : Stored) → Belongs file loaded store → store.segments ≡ viewed parts loaded
+pub tables_are : (file : List ℕ) (style : Style) (parts : ℕ) (loaded : Opened) (store : Stored) → Belongs file loaded store → store.segments ≡ viewed_headers parts loaded
     → table_items file style parts
     ≡ (((((of_headers file style parts Headers store.loaded ++ segment_part file style parts)
     ++ (of_headers file style parts Symbols store.loaded ++ of_headers file style parts Relocations store.loaded))
@@ -182,7 +182,7 @@ pub tables_are : (file : List ℕ) (style : Style) (parts : ℕ) (loaded : Opene
 unfolding table_items
 tables_are file style parts loaded store belongs view =
     let count : e_shnum file ≡ store.loaded = sym (belongs.count ∙ belongs.header.e_shnum) in
-    let first : List Item = of_headers file style parts Headers store.loaded ++ segment_part file style parts in
+    let first : List ListingItem = of_headers file style parts Headers store.loaded ++ segment_part file style parts in
     ap (λ n. (of_headers file style parts Headers n ++ segment_part file style parts) ++ kinds_rows (table_headers file).kinds (table_headers file).headers file style parts) count
     ∙ (ap (λ rest. first ++ rest) (kinds_are file style parts loaded store belongs view) ∙ behind first _ _ _ _ _)
 
@@ -195,6 +195,6 @@ unfolding version_definitions version_needs
 versions_none file style parts loaded store belongs asked none =
     let count : store.loaded ≡ e_shnum file = belongs.count ∙ belongs.header.e_shnum in
     let both = rw (asked, count, where_asked) at none in
-    let first : List Item = each ((listed_by Definitions).items file style) 0 (e_shnum file) in
-    let second : List Item = each ((listed_by Needs).items file style) 0 (e_shnum file) in
+    let first : List ListingItem = each ((listed_by Definitions).items file style) 0 (e_shnum file) in
+    let second : List ListingItem = each ((listed_by Needs).items file style) 0 (e_shnum file) in
     records-none file style (front-none first second both) (back-none first second both)

@@ -14,18 +14,18 @@ use Rattle.elf_source.specs.Source.{Counting}
 use Rattle.elf_table.specs.Relocations.{RefusedBy}
 use Rattle.elf_table.specs.Sections.{rows}
 use Rattle.elf_table.specs.Tables.{Rows, Strings, strings_in}
-use Rattle.elf_versions.specs.NumberNames.{Names, ReadsNames}
+use Rattle.elf_versions.specs.NumberNames.{NamesNumbers, ReadsNumberNames}
 use Rattle.elf_versions.specs.Reading.{StartsVersions, Walking, versions_left}
 use Rattle.elf_versions.specs.declared.number_names.NameAt.{NameAt}
-use Rattle.elf_listing.specs.SymbolVersions.{IsNoCheck, IsWhole, TakenIn}
+use Rattle.elf_listing.specs.SymbolVersions.{IsNoCheck, AreRecordsWhole, TakenIn}
 use Rattle.elf_listing.specs.Versions.{kind_type}
 use Rattle.elf_listing.proofs.VersionSections.{left_all}
 
 -- where there is no record, nothing is taken in
 pub taken-none : (file : List ℕ) (kind : VersionKind) (records : List Met) (names : List NameAt) (strings : Strings) → first_versions kind (kind_type kind) file ≡ []
-    → Names file records names → TakenIn file kind records names strings
+    → NamesNumbers file records names → TakenIn file kind records names strings
 taken-none file kind records names strings none is = record {
-  names = subst (λ (all : List Met). Names file all names) (sym (ap (λ (x : List Met). records ++ x) none ∙ append-nil records)) is;
+  names = subst (λ (all : List Met). NamesNumbers file all names) (sym (ap (λ (x : List Met). records ++ x) none ∙ append-nil records)) is;
   named = λ some. absurd (some none);
 }
 
@@ -49,7 +49,7 @@ empty-section file kind i first none =
 -- all of its records are
 pub taken-all : (file : List ℕ) (kind : VersionKind) (i : ℕ) (records : List Met) (after : List NameAt) (table : Rows) (c : Walking) (strings : Strings)
     → first_of_type file (kind_type kind) ≡ Some i → table ≡ rows (sh_offset file (section_at file i)) (sh_size file (section_at file i)) 1
-    → StartsVersions kind (section_at file i) table c → Names file (records ++ (versions_left file c).met) after
+    → StartsVersions kind (section_at file i) table c → NamesNumbers file (records ++ (versions_left file c).met) after
     → strings_of file (section_at file i) ≡ strings_in file strings → TakenIn file kind records after strings
 taken-all file kind i records after table c strings first same starts names is =
     let at = section_at file i in
@@ -57,14 +57,14 @@ taken-all file kind i records after table c strings first same starts names is =
     left_all kind file at table c starts ∙ ap (λ (t : Rows). versions_in kind file at t.at t.count) same in
     let all = rw left at names in
     record {
-      names = subst (λ (rs : List Met). Names file (records ++ rs) after) (sym (ap (records_of kind file) first)) all;
+      names = subst (λ (rs : List Met). NamesNumbers file (records ++ rs) after) (sym (ap (records_of kind file) first)) all;
       named = λ some. sym is ∙ sym (ap (strings_found file) first);
     }
 
 -- a walk over a whole section is not cut
 pub not-cut : (file : List ℕ) (kind : VersionKind) (i : ℕ) (records : List Met) (after : List NameAt) (table : Rows) (c : Walking) (fault : Fault)
-    → first_of_type file (kind_type kind) ≡ Some i → IsWhole file kind → table ≡ rows (sh_offset file (section_at file i)) (sh_size file (section_at file i)) 1
-    → StartsVersions kind (section_at file i) table c → ReadsNames file records (versions_left file c) after (Err fault) → IsNoCheck fault
+    → first_of_type file (kind_type kind) ≡ Some i → AreRecordsWhole file kind → table ≡ rows (sh_offset file (section_at file i)) (sh_size file (section_at file i)) 1
+    → StartsVersions kind (section_at file i) table c → ReadsNumberNames file records (versions_left file c) after (Err fault) → IsNoCheck fault
 not-cut file kind i records after table c (Refused refusal) first whole same starts reads = λ other.
     let at = section_at file i in
     let left : versions_left file c ≡ versions_in kind file at (sh_offset file at) (sh_size file at) =

@@ -2,7 +2,7 @@
 use Rattle.elf_headers.specs.Permitted.{style_of}
 use Rattle.std.proofs.Common.{◌≡◌, ℕ, ◌+◌, ◌-◌, ◌<◌, List, ◌++◌, Some, Result, Ok, Err, sym, ap, ◌∙◌, arith, zero-add}
 use Rattle.elf_model.specs.Cost.{sum_over}
-use Rattle.elf_model.specs.Listing.{Item, each}
+use Rattle.elf_model.specs.Listing.{ListingItem, each}
 use Rattle.elf_model.specs.VersionRows.{symbol_versions}
 use Rattle.elf_model.proofs.CostLemmas.{last_cost, sums_split}
 use Rattle.elf_model.proofs.ListingLemmas.{rows_split}
@@ -28,17 +28,17 @@ use Rattle.elf_listing.proofs.ShowLaws.{Spent-then, Stopped-more, Writes-then}
 abbrev pub cost_asked : ℕ → Part → File → Style → ℕ
 cost_asked parts part f style = asked_cost parts part f.loaded f.store.now style.cap.bytes
 
-abbrev pub items_asked : ℕ → Part → File → Style → List ℕ → List Item
+abbrev pub items_asked : ℕ → Part → File → Style → List ℕ → List ListingItem
 items_asked parts part f style file = asked_items parts part f.store.now (style_of style) file
 
 module _ {S W X : Type 0} {s : Sources S} {w : Sinks W} where
   -- the same items
-  pub Parts-as : {a b : Listing S W s w} {result : Result X Stop} {n : ℕ} {xs ys : List ℕ → List Item}
+  pub Parts-as : {a b : Listing S W s w} {result : Result X Stop} {n : ℕ} {xs ys : List ℕ → List ListingItem}
       → ((file : List ℕ) → a.src.now.seen.file ≡ Some file → ys file ≡ xs file) → Lists a b result n (Shows a b result xs) → Lists a b result n (Shows a b result ys)
   Parts-as same p = Lists-within _ _ _ _ _ _ _ (omega arith) p (λ file held. Writes-as _ _ _ (same file held) (p.shows file held))
 
   -- a part was shown, and then another, whose cost and items the file and the style tell
-  pub Parts-then : {a b c : Listing S W s w} {x : X} {result : Result X Stop} {n : ℕ} (xs : List ℕ → List Item) (m : File → Style → ℕ) (ys : File → Style → List ℕ → List Item)
+  pub Parts-then : {a b c : Listing S W s w} {x : X} {result : Result X Stop} {n : ℕ} (xs : List ℕ → List ListingItem) (m : File → Style → ℕ) (ys : File → Style → List ℕ → List ListingItem)
       → Lists a b (Ok x) n (Shows a b (Ok x) xs) → Lists b c result (m b.file b.style) (Shows b c result (ys b.file b.style))
       → Lists a c result (n + m a.file a.style) (Shows a c result (λ file. xs file ++ ys a.file a.style file))
   Parts-then xs m ys p q = record {
@@ -51,12 +51,12 @@ module _ {S W X : Type 0} {s : Sources S} {w : Sinks W} where
   }
 
   -- a part stopped, and nothing behind it was shown
-  pub Parts-more : {a b : Listing S W s w} {stop : Stop} {n : ℕ} (m : ℕ) (xs ys : List ℕ → List Item)
+  pub Parts-more : {a b : Listing S W s w} {stop : Stop} {n : ℕ} (m : ℕ) (xs ys : List ℕ → List ListingItem)
       → Lists {X = X} a b (Err stop) n (Shows {X = X} a b (Err stop) xs) → Lists {X = X} a b (Err stop) (n + m) (Shows {X = X} a b (Err stop) (λ file. xs file ++ ys file))
   Parts-more m xs ys p = Lists-within _ _ _ _ _ _ _ (omega arith) p (λ file held. Stopped-more _ _ _ _ _ (p.shows file held))
 
   -- some headers were shown, and then the next
-  pub headers_then : {a b c : Listing S W s w} {x : X} {result : Result X Stop} (amount : File → Style → ℕ → ℕ) (row : Style → List ℕ → ℕ → List Item) (i : ℕ)
+  pub headers_then : {a b c : Listing S W s w} {x : X} {result : Result X Stop} (amount : File → Style → ℕ → ℕ) (row : Style → List ℕ → ℕ → List ListingItem) (i : ℕ)
       → Lists a b (Ok x) (sum_over (amount a.file a.style) 0 i) (Shows a b (Ok x) (λ file. each (row a.style file) 0 i))
       → Lists b c result (amount b.file b.style i) (Shows b c result (λ file. row b.style file i))
       → Lists a c result (sum_over (amount a.file a.style) 0 (i + 1)) (Shows a c result (λ file. each (row a.style file) 0 (i + 1)))
@@ -66,7 +66,7 @@ module _ {S W X : Type 0} {s : Sources S} {w : Sinks W} where
       (Parts-as (λ file held. each-more (row a.style file) i) (Parts-then _ (λ f style. amount f style i) (λ f style file. row style file i) p q))
 
   -- the last of them stopped, and none behind it was shown
-  pub headers_stopped : {a b : Listing S W s w} {stop : Stop} (amount : ℕ → ℕ) (row : List ℕ → ℕ → List Item) (i count : ℕ) → i < count
+  pub headers_stopped : {a b : Listing S W s w} {stop : Stop} (amount : ℕ → ℕ) (row : List ℕ → ℕ → List ListingItem) (i count : ℕ) → i < count
       → Lists {X = X} a b (Err stop) (sum_over amount 0 (i + 1)) (Shows {X = X} a b (Err stop) (λ file. each (row file) 0 (i + 1)))
       → Lists {X = X} a b (Err stop) (sum_over amount 0 count) (Shows {X = X} a b (Err stop) (λ file. each (row file) 0 count))
   headers_stopped amount row i count below p =

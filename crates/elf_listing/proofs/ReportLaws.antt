@@ -4,14 +4,14 @@ use Rattle.std.proofs.Common.{◌≡◌, ℕ, ◌+◌, ◌^◌, ◌<◌, ◌≤�
 use Rattle.elf_model.specs.Budget.{IsBudget, IsBudgeted, IsReport}
 use Rattle.elf_model.specs.Cost.{listing_cost}
 use Rattle.elf_model.specs.Lines.{refusal_line}
-use Rattle.elf_model.specs.Listing.{Item, Fault as FaultItem, lines_of, fault_of, report_of, end_text}
+use Rattle.elf_model.specs.Listing.{ListingItem, Fault as FaultItem, lines_of, fault_of, report_of, end_text}
 use Rattle.elf_model.specs.Report.{listing}
 use Rattle.elf_model.specs.Style.{Style}
 use Rattle.elf_model.specs.declared.causes.Cause.TheVariants.{Budget}
 use Rattle.elf_model.specs.declared.causes.Refusal.{Refusal}
 use Rattle.elf_model.proofs.BudgetLaws.{is_budget}
 use Rattle.elf_model.proofs.ListingLemmas.{listings_append}
-use Rattle.elf_source.specs.Source.{Counting, Limits, counted}
+use Rattle.elf_source.specs.Source.{Counting, SetsLimit, counted}
 use Rattle.elf_source.specs.Output.{Written, Takes, TakesFront}
 use Rattle.elf_source.proofs.LimitLaws.{budget_below}
 use Rattle.elf_source.proofs.PutsLaws.{Takes-then, TakesFront-then, TakesFront-more, TakesFront-all}
@@ -32,7 +32,7 @@ report_listed (Some budget) file headers style parts text fault is = inl is
 -- a listing without a fault is its report
 pub whole_report : {a b : Written} (file : List ℕ) (caps : Caps) (parts : ℕ) → WroteItems a b (listing file caps.limits.headers (style_of caps.style) parts) → Reports {X = Unit {0}} file caps parts a b (Ok tt)
 whole_report file caps parts whole =
-    let all : List Item = listing file caps.limits.headers (style_of caps.style) parts in
+    let all : List ListingItem = listing file caps.limits.headers (style_of caps.style) parts in
     let text : lines_of all ≡ report_of caps.style.format all = sym (ap (λ end. lines_of all ++ end_text caps.style.format end) whole.no_fault ∙ append-nil (lines_of all)) in
     record {
       text = lines_of all;
@@ -56,7 +56,7 @@ wrote_front (Out cause) text fault is front = front
 front_report : {a b : Written} (file : List ℕ) (caps : Caps) (parts : ℕ) (stop : Stop) → IsFault stop → TakesFront a b (lines_of (listing file caps.limits.headers (style_of caps.style) parts))
     → Reports {X = Unit {0}} file caps parts a b (Err stop)
 front_report file caps parts stop is front =
-    let all : List Item = listing file caps.limits.headers (style_of caps.style) parts in
+    let all : List ListingItem = listing file caps.limits.headers (style_of caps.style) parts in
     record {
       text = report_of caps.style.format all;
       fault = fault_of all;
@@ -65,14 +65,14 @@ front_report file caps parts stop is front =
     }
 
 -- whole lines of a listing are a front of its lines
-front_lines : {a b : Written} (all : List Item) → Front a b all → TakesFront a b (lines_of all)
+front_lines : {a b : Written} (all : List ListingItem) → Front a b all → TakesFront a b (lines_of all)
 front_lines all front =
     let more = lines_front front.front front.rest in
     let split = ap lines_of front.split ∙ more.1 in
     rw split (TakesFront-all (lines_of front.front) more.0 front.takes)
 
 -- a listing that ended in a refusal, and what was put of its line
-ended : {a b : Written} (refusal : Refusal) (all : List Item) (ends : EndsRefused a b refusal all) → IsNext refusal ends.front.rest
+ended : {a b : Written} (refusal : Refusal) (all : List ListingItem) (ends : EndsRefused a b refusal all) → IsNext refusal ends.front.rest
     → (lines_of all ≡ lines_of ends.front.front) × (fault_of all ≡ Some refusal)
 ended refusal all ends next =
     let front = ends.front.front in
@@ -82,7 +82,7 @@ ended refusal all ends next =
 
 -- the text of a listing that ended in a refusal
 ended_listed : {a b : Written} (file : List ℕ) (caps : Caps) (parts : ℕ) (refusal : Refusal) (before limited after : Counting) → before.asked ≤ 2 ^ 127
-    → Limits before limited caps.limits.budget → before.seen.size ≡ length file → RefusalSays limited after (listing_cost file caps.limits.headers (style_of caps.style) parts) refusal
+    → SetsLimit before limited caps.limits.budget → before.seen.size ≡ length file → RefusalSays limited after (listing_cost file caps.limits.headers (style_of caps.style) parts) refusal
     → (ends : EndsRefused a b refusal (listing file caps.limits.headers (style_of caps.style) parts))
     → IsBudgeted caps.limits.budget file caps.limits.headers (style_of caps.style) parts (lines_of ends.front.front ++ refusal_line caps.style.format refusal) (Some refusal)
 ended_listed file caps parts refusal before limited after small limits sized says ends = by_cause (is_budget refusal.cause)
@@ -120,14 +120,14 @@ ended_listed file caps parts refusal before limited after small limits sized say
         → IsBudgeted caps.limits.budget file caps.limits.headers (style_of caps.style) parts (lines_of ends.front.front ++ refusal_line caps.style.format refusal) (Some refusal)
     by_cause (inl for_budget) = cut caps.limits.budget refl for_budget
     by_cause (inr other) =
-        let all : List Item = listing file caps.limits.headers (style_of caps.style) parts in
+        let all : List ListingItem = listing file caps.limits.headers (style_of caps.style) parts in
         let is = ended refusal all ends (ends.next other) in
         report_listed caps.limits.budget file caps.limits.headers (style_of caps.style) parts _ _
         (record { text_is = sym (ap (λ lines. lines ++ end_text caps.style.format (fault_of all)) is.0 ∙ ap (λ end. lines_of ends.front.front ++ end_text caps.style.format end) is.1); fault_is = sym is.1 })
 
 -- a listing that ended in a refusal, whose line was told
 ended_report : {a b c : Written} (file : List ℕ) (caps : Caps) (parts : ℕ) (refusal : Refusal) (told : Stop) (before limited after : Counting) → before.asked ≤ 2 ^ 127
-    → Limits before limited caps.limits.budget → before.seen.size ≡ length file → RefusalSays limited after (listing_cost file caps.limits.headers (style_of caps.style) parts) refusal
+    → SetsLimit before limited caps.limits.budget → before.seen.size ≡ length file → RefusalSays limited after (listing_cost file caps.limits.headers (style_of caps.style) parts) refusal
     → EndsRefused a b refusal (listing file caps.limits.headers (style_of caps.style) parts) → WroteRefusal caps.style.format b c refusal told → Reports {X = Unit {0}} file caps parts a c (Err told)
 ended_report {a} {b} {c} file caps parts refusal told before limited after small limits sized says ends line = record {
   text = lines_of ends.front.front ++ refusal_line caps.style.format refusal;
@@ -143,7 +143,7 @@ ended_report {a} {b} {c} file caps parts refusal told before limited after small
 
 -- a listing that stopped, and what was told of that
 pub stopped_report : {a c : Written} (b : Written) (file : List ℕ) (caps : Caps) (parts : ℕ) (stop told : Stop) (before limited after : Counting) (out : Written) → before.asked ≤ 2 ^ 127
-    → Limits before limited caps.limits.budget → before.seen.size ≡ length file → StopSays limited after out (listing_cost file caps.limits.headers (style_of caps.style) parts) stop
+    → SetsLimit before limited caps.limits.budget → before.seen.size ≡ length file → StopSays limited after out (listing_cost file caps.limits.headers (style_of caps.style) parts) stop
     → Stopped a b stop (listing file caps.limits.headers (style_of caps.style) parts) → TellsStop caps.style.format b c stop told → Reports {X = Unit {0}} file caps parts a c (Err told)
 stopped_report b file caps parts (Refused refusal) told before limited after out small limits sized says ends tells =
     ended_report file caps parts refusal told before limited after small limits sized says ends tells

@@ -7,7 +7,7 @@ use Rattle.elf_model.specs.Names.{Shown, shown}
 use Rattle.elf_model.specs.Tables.{strings_of, entry_at}
 use Rattle.elf_model.specs.LineFronts.{symbol_front, relocation_front}
 use Rattle.elf_model.specs.Lines.{segment_line, named_line}
-use Rattle.elf_model.specs.Listing.{Item, Line, Fault as FaultItem, lines_of}
+use Rattle.elf_model.specs.Listing.{ListingItem, Line, Fault as FaultItem, lines_of}
 use Rattle.elf_model.specs.Fields.{LineFront}
 use Rattle.elf_model.specs.Rows.{segment_row, symbol_row, named_row, symbol_named, relocation_row}
 use Rattle.elf_model.specs.declared.causes.Refusal.{Refusal}
@@ -26,8 +26,8 @@ use Rattle.elf_headers.specs.Stops.{stop_of}
 use Rattle.elf_headers.specs.declared.stop.Stop.{Stop}
 
 -- the same items
-pub Writes-as : {X : Type 0} (a b : Written) (result : Result X Stop) {xs ys : List Item} → xs ≡ ys → Writes a b result ys → Writes a b result xs
-Writes-as a b result same written = subst (λ (items : List Item). Writes a b result items) (sym same) written
+pub Writes-as : {X : Type 0} (a b : Written) (result : Result X Stop) {xs ys : List ListingItem} → xs ≡ ys → Writes a b result ys → Writes a b result xs
+Writes-as a b result same written = subst (λ (items : List ListingItem). Writes a b result items) (sym same) written
 
 -- a line was put
 pub Whole-line : {a b : Written} (line : List ℕ) → Takes a b line → WroteItems a b (Line line ∷ [])
@@ -37,21 +37,21 @@ pub Stopped-line : {a b : Written} (line : List ℕ) → TakesFront a b line →
 Stopped-line line p = rw append-nil p
 
 -- nothing was written of some items
-pub Front-none : (a : Written) (all : List Item) → Front a a all
+pub Front-none : (a : Written) (all : List ListingItem) → Front a a all
 Front-none a all = record { front = []; rest = all; split = refl; takes = Takes-nothing a; no_fault = refl }
 
 -- a refusal stands in the place of all items
-pub Ends-first : (a : Written) (refusal : Refusal) (all : List Item) → ((IsBudget refusal → ⊥) → all ≡ FaultItem refusal ∷ []) → EndsRefused a a refusal all
+pub Ends-first : (a : Written) (refusal : Refusal) (all : List ListingItem) → ((IsBudget refusal → ⊥) → all ≡ FaultItem refusal ∷ []) → EndsRefused a a refusal all
 unfolding Front-none
 Ends-first a refusal all is = record { front = Front-none a all; next = λ other. record { behind = []; is_next = is other } }
 
 -- a fault of a read before anything was written
-pub Stopped-first : (a : Written) (fault : Fault) (all : List Item) → ((refusal : Refusal) → fault ≡ Refused refusal → (IsBudget refusal → ⊥) → all ≡ FaultItem refusal ∷ []) → Stopped a a (stop_of fault) all
+pub Stopped-first : (a : Written) (fault : Fault) (all : List ListingItem) → ((refusal : Refusal) → fault ≡ Refused refusal → (IsBudget refusal → ⊥) → all ≡ FaultItem refusal ∷ []) → Stopped a a (stop_of fault) all
 Stopped-first a (Refused refusal) all is = Ends-first a refusal all (is refusal refl)
 Stopped-first a (Source fault at) all is = Front-none a all
 
 -- a fault of a read before anything was written, and nothing is known of the file
-pub Stopped-unread-first : (a : Written) (fault : Fault) (all : List Item) → IsOfRead fault → Stopped a a (stop_of fault) all
+pub Stopped-unread-first : (a : Written) (fault : Fault) (all : List ListingItem) → IsOfRead fault → Stopped a a (stop_of fault) all
 Stopped-unread-first a (Refused refusal) all read = Ends-first a refusal all (λ other. absurd (other read))
 Stopped-unread-first a (Source fault at) all read = Front-none a all
 
@@ -91,6 +91,6 @@ pub relocation_is : (file : List ℕ) (front : LineFront) (style : Style) (secti
 unfolding relocation_row
 relocation_is file front style section at entry symbol index here same names =
     let place : entry ≡ entry_at file at 24 index = omega arith in
-    let row : LineFront → ℕ → ℕ → List Item = λ text e k. named_row text (symbol_named file style.cap at e k).0 (symbol_named file style.cap at e k).1 in
+    let row : LineFront → ℕ → ℕ → List ListingItem = λ text e k. named_row text (symbol_named file style.cap at e k).0 (symbol_named file style.cap at e k).1 in
     sym (ap (λ text. row text entry symbol) same ∙ (ap (λ k. row (relocation_front style.format style.gnu (e_machine file) file entry section) entry k) names
     ∙ ap (λ e. row (relocation_front style.format style.gnu (e_machine file) file e section) e (r_sym file e)) place))

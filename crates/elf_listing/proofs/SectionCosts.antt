@@ -20,14 +20,14 @@ use Rattle.elf_model.proofs.StoreLemmas.{rows_cost, segments_cost_rows, by_kind,
 use Rattle.elf_record.specs.Ehdr.{IsEhdr}
 use Rattle.elf_record.specs.declared.ehdr.Ehdr.{Ehdr}
 use Rattle.elf_headers.specs.Load.{Opened, Belongs, IsOpened, early_of, load_cost}
-use Rattle.elf_table.specs.Sections.{bytes_of, rows, table_of, checked}
+use Rattle.elf_table.specs.Sections.{byte_rows, rows, table_of, checked}
 use Rattle.elf_table.proofs.RelocationLaws.{passed_first}
 use Rattle.elf_headers.specs.Store.{Stored, HoldsSegments, row, segment_bytes}
 use Rattle.elf_table.specs.Tables.{Rows, Strings}
 use Rattle.elf_table.specs.Views.{dynamic_of}
 use Rattle.elf_headers.specs.declared.fault.Fault.{Fault}
 use Rattle.elf_listing.specs.Parts.{asked_cost, name_cost, segments_listed, store_sections, store_segments, tables_listed}
-use Rattle.elf_listing.specs.Viewed.{needs_view, viewed, view_cost}
+use Rattle.elf_listing.specs.Viewed.{needs_view, viewed_headers, view_cost}
 use Rattle.elf_listing.specs.declared.parts.Part.TheVariants.{Headers, Symbols, Relocations, SectionNotes, SegmentNotes, SectionDynamic, SegmentDynamic}
 use Rattle.elf_listing.proofs.FileShown.{viewed_none}
 use Rattle.elf_headers.proofs.LoadLaws.{early_is}
@@ -84,7 +84,7 @@ pub range_within : (kind : TableKind) (headers : HeaderTable) (i size offset n p
     → kind.has_table (headers.bytes i) (headers.at i) ≡ true
     → kind.checks.own (headers.bytes i) (headers.at i) size ≡ range_checks_of size offset n (headers.at i)
     → amount 0 ≡ 0 → amount n ≤ kind.asks headers i size cap
-    → Ok table ≡ bytes_of size offset n place → amount table.count ≤ table_cost kind headers i size cap
+    → Ok table ≡ byte_rows size offset n place → amount table.count ≤ table_cost kind headers i size cap
 range_within kind headers i size offset n place cap amount table has own zero most h =
     within_kind kind headers i size cap n amount (range_checks_of size offset n place) (rows offset 0 1) (rows offset n 1) table has
     (λ none. ap pass own ∙ whole_by_cases false (is_outside size offset n) place (headers.at i) none) (λ _. zero) most (sym h)
@@ -156,19 +156,19 @@ listed_parts loaded store most parts =
     omega (arith, names, once, sections, segments)
 
 -- all program headers are in the store, or none
-viewed_is : (parts : ℕ) (loaded : Opened) → (viewed parts loaded ≡ 0) ⊎ (viewed parts loaded ≡ loaded.header.e_phnum)
+viewed_is : (parts : ℕ) (loaded : Opened) → (viewed_headers parts loaded ≡ 0) ⊎ (viewed_headers parts loaded ≡ loaded.header.e_phnum)
 viewed_is parts loaded = by_cases (needs_view parts loaded)
   where
     by_cases : (needs : Bool) → ((if needs then loaded.header.e_phnum else 0) ≡ 0) ⊎ ((if needs then loaded.header.e_phnum else 0) ≡ loaded.header.e_phnum)
     by_cases true = inr refl
     by_cases false = inl refl
 
-pub viewed_all : (parts : ℕ) (loaded : Opened) (store : Stored) → store.segments ≡ viewed parts loaded → 0 < store.segments → store.segments ≡ loaded.header.e_phnum
+pub viewed_all : (parts : ℕ) (loaded : Opened) (store : Stored) → store.segments ≡ viewed_headers parts loaded → 0 < store.segments → store.segments ≡ loaded.header.e_phnum
 viewed_all parts loaded store view some = elim (viewed_is parts loaded) [ inl none ↦ absurd (omega arith) | inr all ↦ view ∙ all ]
 
 -- the tables of the headers in the store are those of the file
 module _ (file : List ℕ) (loaded : Opened) (store : Stored) (most parts : ℕ) (belongs : Belongs file loaded store) (held : HoldsSegments file store)
-    (view : store.segments ≡ viewed parts loaded) where
+    (view : store.segments ≡ viewed_headers parts loaded) where
   few_segments : segments_sum loaded store most parts ≤ sum_over (λ i. kinds_cost segment_kinds (file_segments file) i (length file) most parts) 0 (e_phnum file)
   few_segments = elim (viewed_is parts loaded) [
     | inl none ↦
@@ -230,7 +230,7 @@ module _ (file : List ℕ) (loaded : Opened) (store : Stored) (slots cap parts :
   loads : first_refusal (header_checks file) ≡ None → is_loadable file slots ≡ true
   loads passed = rw (← same) (loadable file store.slots passed (ap is_none (passes_front (early_checks file store.slots) (section_name_checks file) belongs.passes)))
 
-  pub loaded_within : HoldsSegments file store → store.segments ≡ viewed parts loaded → first_refusal (header_checks file) ≡ None → has_tables parts ≡ true
+  pub loaded_within : HoldsSegments file store → store.segments ≡ viewed_headers parts loaded → first_refusal (header_checks file) ≡ None → has_tables parts ≡ true
       → 64 * loaded.header.e_shnum + (view_cost parts loaded + tables_listed parts loaded store cap) ≤ behind_header file slots cap parts
   loaded_within held view passed tables =
       let within = tables_within file loaded store cap parts belongs held view in
@@ -247,7 +247,7 @@ module _ (file : List ℕ) (loaded : Opened) (store : Stored) (slots cap parts :
 
 -- and within the ceiling, whatever the source is
 pub loaded_below : (loaded : Opened) (store : Stored) (size slots cap parts : ℕ) → loaded.size ≡ size → store.slots ≡ slots → store.loaded ≡ loaded.header.e_shnum
-    → loaded.header.e_shnum ≤ slots → loaded.header.e_phnum ≤ slots → store.segments ≡ viewed parts loaded
+    → loaded.header.e_shnum ≤ slots → loaded.header.e_phnum ≤ slots → store.segments ≡ viewed_headers parts loaded
     → 64 + (64 * loaded.header.e_shnum + (view_cost parts loaded + tables_listed parts loaded store cap)) ≤ ceiling size slots cap
 loaded_below loaded store size slots cap parts same slotted count few some view =
     let listed = listed_parts loaded store cap parts in
@@ -271,7 +271,7 @@ loaded_below loaded store size slots cap parts same slotted count few some view 
 pub view_below : (loaded : Opened) (size slots cap parts : ℕ) → loaded.header.e_shnum ≤ slots → loaded.header.e_phnum ≤ slots
     → 64 + (64 * loaded.header.e_shnum + view_cost parts loaded) ≤ ceiling size slots cap
 view_below loaded size slots cap parts few some =
-    let store : Stored = record { slots = slots; loaded = loaded.header.e_shnum; rows = []; segments = viewed parts loaded; segment_rows = [] } in
+    let store : Stored = record { slots = slots; loaded = loaded.header.e_shnum; rows = []; segments = viewed_headers parts loaded; segment_rows = [] } in
     let below = loaded_below (record { size = size; header = loaded.header }) store size slots cap parts refl refl refl few some refl in
     omega (arith, below)
 

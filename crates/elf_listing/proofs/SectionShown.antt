@@ -6,7 +6,7 @@ use Rattle.std.proofs.lemmas.Bool.{cases_Bool, eqb-true}
 use Rattle.elf_model.specs.Bytes.{slice}
 use Rattle.elf_model.specs.Checks.{Check, first_refusal, table_checks, strings_checks, range_checks_of, unless_empty}
 use Rattle.elf_model.specs.LineFronts.{section_front}
-use Rattle.elf_model.specs.Listing.{Item, each, guarded}
+use Rattle.elf_model.specs.Listing.{ListingItem, each, guarded}
 use Rattle.elf_model.specs.Names.{shown}
 use Rattle.elf_model.specs.Numbers.{DT_STRSZ}
 use Rattle.elf_model.specs.Records.{e_machine, e_shnum, e_shoff, e_shstrndx, sh_name, sh_offset, sh_size, sh_link, p_offset, p_filesz, section_at}
@@ -25,7 +25,7 @@ use Rattle.elf_note.specs.declared.string_values.DynStrings.{DynStrings}
 use Rattle.elf_source.specs.Output.{Written}
 use Rattle.elf_table.specs.Relocations.{RefusedBy}
 use Rattle.elf_table.specs.Tables.{Rows, Strings}
-use Rattle.elf_table.specs.Sections.{bytes_of, table_at, string_table_at as strings_linked, names_at, rows, section_names, checked as checked_as}
+use Rattle.elf_table.specs.Sections.{byte_rows, table_at, string_table_at as strings_linked, names_at, rows, section_names, checked as checked_as}
 use Rattle.elf_table.proofs.RelocationLaws.{passed_first, table-fails, table-passes}
 use Rattle.elf_table.specs.Views.{dynamic_table_at as table_of_segment}
 use Rattle.elf_headers.specs.declared.fault.Fault.{Fault}
@@ -82,7 +82,7 @@ section_is file front names off at index style same some place is before =
 
 -- a range that a header tells of is the file's, as a load knows the file's size and the header's place
 pub range_of_file : {size offset n place all from_ count at : ℕ} {result : Result Rows Fault} → size ≡ all → offset ≡ from_ → n ≡ count → place ≡ at
-    → result ≡ bytes_of size offset n place → bytes_of all from_ count at ≡ result
+    → result ≡ byte_rows size offset n place → byte_rows all from_ count at ≡ result
 range_of_file sized from_is counted placed is = rw (← sized, ← from_is, ← counted, ← placed) (sym is)
 
 -- the place of a section header, as a load knows where the section headers begin
@@ -90,7 +90,7 @@ pub section_placed : {place begin : ℕ} (file : List ℕ) (i : ℕ) → place �
 section_placed file i is begins = omega arith
 
 -- the bytes of a range that is answered
-pub range_passes : (file : List ℕ) (offset size place : ℕ) (table : Rows) → bytes_of (length file) offset size place ≡ Ok table
+pub range_passes : (file : List ℕ) (offset size place : ℕ) (table : Rows) → byte_rows (length file) offset size place ≡ Ok table
     → (first_refusal (unless_empty size (range_checks_of (length file) offset size place)) ≡ None) × (rows offset size 1 ≡ table)
 range_passes file offset size place table h =
     let p = table-passes (size == 0) (rows offset 0 1) (rows offset size 1) table (range_checks_of (length file) offset size place) h in (
@@ -102,7 +102,7 @@ range_passes file offset size place table h =
     )
 
 -- the dynamic entries that are listed, of so many at an offset, where the strings of an entry are told
-abbrev pub entries_at : List ℕ → Style → ℕ → ℕ → (ℕ → Result (List ℕ) Refusal) → List Item
+abbrev pub entries_at : List ℕ → Style → ℕ → ℕ → (ℕ → Result (List ℕ) Refusal) → List ListingItem
 entries_at file style offset count strings = each (λ i. dynamic_row file style strings (dynamic_at offset i) i) 0 (dynamic_count file offset count)
 
 -- none of an empty section

@@ -4,13 +4,13 @@ use Rattle.elf_source.specs.Source.{Counting, Reads}
 use Rattle.elf_source.specs.Output.{Written}
 use Rattle.elf_source.proofs.PutsLaws.{Takes-nothing, Takes-then, TakesFront-then, TakesFront-more}
 use Rattle.elf_source.proofs.ReadsLaws.{Reads-to, Reads-then, Faults-then, OverLimit-then, OverLimit-more}
-use Rattle.elf_names.specs.Ahead.{Spends}
+use Rattle.elf_names.specs.Ahead.{SpendsCredit}
 use Rattle.elf_names.proofs.SpendsLaws.{Spends-reads, Spends-then, Spends-to}
 use Rattle.elf_headers.specs.Faults.{IsAt, Says}
 use Rattle.elf_model.specs.declared.causes.Refusal.{Refusal}
 use Rattle.elf_headers.specs.declared.fault.Fault.{Fault}
 use Rattle.elf_headers.specs.declared.fault.Fault.TheVariants.{Refused as Refuses, Source as Unread}
-use Rattle.elf_model.specs.Listing.{Item, lines_of}
+use Rattle.elf_model.specs.Listing.{ListingItem, lines_of}
 use Rattle.elf_headers.specs.Stops.{stop_of}
 use Rattle.elf_listing.specs.Shows.{WroteItems, Front, Stopped, Writes, StopSays, IsOfOutput, Costs, Spent}
 use Rattle.elf_headers.specs.declared.stop.Stop.{Stop}
@@ -22,13 +22,13 @@ use Rattle.elf_listing.proofs.EachLaws.{lines_front}
 pub Whole-none : (a : Written) → WroteItems a a []
 Whole-none a = record { takes = Takes-nothing a; no_fault = refl }
 
-pub Whole-then : {a b c : Written} {xs ys : List Item} → WroteItems a b xs → WroteItems b c ys → WroteItems a c (xs ++ ys)
+pub Whole-then : {a b c : Written} {xs ys : List ListingItem} → WroteItems a b xs → WroteItems b c ys → WroteItems a c (xs ++ ys)
 Whole-then {xs = xs} {ys = ys} p q = record {
   takes = rw ((listings_append xs ys p.no_fault).0) (Takes-then (lines_of xs) (lines_of ys) p.takes q.takes);
   no_fault = (listings_append xs ys p.no_fault).1 ∙ q.no_fault;
 }
 
-pub Front-then : {a b c : Written} {xs ys : List Item} → WroteItems a b xs → Front b c ys → Front a c (xs ++ ys)
+pub Front-then : {a b c : Written} {xs ys : List ListingItem} → WroteItems a b xs → Front b c ys → Front a c (xs ++ ys)
 Front-then {xs = xs} {ys = ys} p q = record {
   front = xs ++ q.front;
   rest = q.rest;
@@ -37,7 +37,7 @@ Front-then {xs = xs} {ys = ys} p q = record {
   no_fault = (listings_append xs q.front p.no_fault).1 ∙ q.no_fault;
 }
 
-pub Front-more : {a b : Written} {xs : List Item} (ys : List Item) → Front a b xs → Front a b (xs ++ ys)
+pub Front-more : {a b : Written} {xs : List ListingItem} (ys : List ListingItem) → Front a b xs → Front a b (xs ++ ys)
 Front-more ys p = record {
   front = p.front;
   rest = p.rest ++ ys;
@@ -47,23 +47,23 @@ Front-more ys p = record {
 }
 
 -- all of some items were written, and none of those behind them
-pub Front-all : {a b : Written} {xs : List Item} (ys : List Item) → WroteItems a b xs → Front a b (xs ++ ys)
+pub Front-all : {a b : Written} {xs : List ListingItem} (ys : List ListingItem) → WroteItems a b xs → Front a b (xs ++ ys)
 Front-all {xs = xs} ys p = record { front = xs; rest = ys; split = refl; takes = p.takes; no_fault = p.no_fault }
 
 -- a part was written whole, and the next stopped
-pub Stopped-then : (a b c : Written) (stop : Stop) (xs ys : List Item) → WroteItems a b xs → Stopped b c stop ys → Stopped a c stop (xs ++ ys)
+pub Stopped-then : (a b c : Written) (stop : Stop) (xs ys : List ListingItem) → WroteItems a b xs → Stopped b c stop ys → Stopped a c stop (xs ++ ys)
 unfolding Front-then
 Stopped-then a b c (Refused refusal) xs ys p q = record { front = Front-then p q.front; next = q.next }
 Stopped-then a b c (Source fault at) xs ys p q = Front-then p q
 Stopped-then a b c (Out fault) xs ys p q = rw ((listings_append xs ys p.no_fault).0) (TakesFront-then (lines_of xs) (lines_of ys) p.takes q)
 
 -- a part was written whole, and then another was written so far
-pub Writes-then : {X : Type 0} (a b c : Written) (result : Result X Stop) (xs ys : List Item) → WroteItems a b xs → Writes b c result ys → Writes a c result (xs ++ ys)
+pub Writes-then : {X : Type 0} (a b c : Written) (result : Result X Stop) (xs ys : List ListingItem) → WroteItems a b xs → Writes b c result ys → Writes a c result (xs ++ ys)
 Writes-then a b c (Ok x) xs ys p q = Whole-then p q
 Writes-then a b c (Err stop) xs ys p q = Stopped-then a b c stop xs ys p q
 
 -- a part stopped, and nothing behind it was written
-pub Stopped-more : (a b : Written) (stop : Stop) (xs ys : List Item) → Stopped a b stop xs → Stopped a b stop (xs ++ ys)
+pub Stopped-more : (a b : Written) (stop : Stop) (xs ys : List ListingItem) → Stopped a b stop xs → Stopped a b stop (xs ++ ys)
 unfolding Front-more
 Stopped-more a b (Refused refusal) xs ys p = record {
   front = Front-more ys p.front;
@@ -74,7 +74,7 @@ Stopped-more a b (Out fault) xs ys p =
     let more = lines_front xs ys in rw more.1 (TakesFront-more (lines_of xs) more.0 p)
 
 -- a read failed behind a part that was written whole
-pub Stopped-unread : (a b : Written) (fault : Fault) (at : ℕ) (xs ys : List Item) → IsAt at fault → WroteItems a b xs → Stopped a b (stop_of fault) (xs ++ ys)
+pub Stopped-unread : (a b : Written) (fault : Fault) (at : ℕ) (xs ys : List ListingItem) → IsAt at fault → WroteItems a b xs → Stopped a b (stop_of fault) (xs ++ ys)
 Stopped-unread a b (Refuses refusal) at xs ys is p =
     record { front = Front-all ys p; next = λ other. absurd (other (ap (λ (r : Refusal). r.cause) is)) }
 Stopped-unread a b (Unread fault offset) at xs ys is p = Front-all ys p
@@ -123,7 +123,7 @@ Spent-behind a b c out x y (Err stop) n m k within p q =
     (Spends-to (Spends-then (Spends-reads x p) q.0) (omega (arith, p.at_most, q.0.account)), StopSays-then a b c out stop n (x + m) (x + k) (omega (arith, p.at_most)) p q.1)
 
 -- a call behind one that has its own credit, in a bound on both
-pub Spent-then : {X : Type 0} (a b c : Counting) (out : Written) (x y z : ℕ) (result : Result X Stop) (n m k : ℕ) → n + m ≤ k → Spends a b x y n → Spent b c out y z result m → Spent a c out x z result k
+pub Spent-then : {X : Type 0} (a b c : Counting) (out : Written) (x y z : ℕ) (result : Result X Stop) (n m k : ℕ) → n + m ≤ k → SpendsCredit a b x y n → Spent b c out y z result m → Spent a c out x z result k
 Spent-then a b c out x y z (Ok v) n m k within p q = (Spends-to (Spends-then p q.0) (omega (arith, p.account, q.0.account)), tt)
 Spent-then a b c out x y z (Err stop) n m k within p q =
     (Spends-to (Spends-then p q.0) (omega (arith, p.account, q.0.account)), StopSays-then a b c out stop (x + n) (y + m) (x + k) (omega (arith, p.account)) p.reads q.1)
@@ -133,7 +133,7 @@ pub Spent-fault : (a b : Counting) (out : Written) (x : ℕ) (fault : Fault) (n 
 Spent-fault a b out x fault n k within p q = (Spends-reads x (Reads-to p (omega (arith, p.at_most))), StopSays-fault a b out fault n (x + k) (omega arith) q)
 
 -- a read that failed, in a looser bound
-pub Spent-failed : (a b : Counting) (out : Written) (x y : ℕ) (fault : Fault) (n k : ℕ) → n ≤ k → Spends a b x y n → Says a b (x + n) fault → Spent {X = Unit {0}} a b out x y (Err (stop_of fault)) k
+pub Spent-failed : (a b : Counting) (out : Written) (x y : ℕ) (fault : Fault) (n k : ℕ) → n ≤ k → SpendsCredit a b x y n → Says a b (x + n) fault → Spent {X = Unit {0}} a b out x y (Err (stop_of fault)) k
 Spent-failed a b out x y fault n k within p q = (Spends-to p (omega (arith, p.account)), StopSays-fault a b out fault (x + n) (x + k) (omega arith) q)
 
 -- the output failed after reads

@@ -4,7 +4,7 @@ use Rattle.std.proofs.Common.{◌≡◌, ℕ, Bool, true, false, List, [], ◌�
 use Rattle.elf_model.specs.Checks.{first_refusal}
 use Rattle.elf_model.specs.Fields.{LineFront}
 use Rattle.elf_model.specs.LineFronts.{dynamic_front}
-use Rattle.elf_model.specs.Listing.{Item, Fault as FaultItem}
+use Rattle.elf_model.specs.Listing.{ListingItem, Fault as FaultItem}
 use Rattle.elf_model.specs.Mapped.{mapped_checks, mapped_place, strings_at}
 use Rattle.elf_model.specs.Names.{Shown, shown}
 use Rattle.elf_model.specs.Records.{d_tag, d_un}
@@ -22,35 +22,35 @@ use Rattle.elf_headers.specs.declared.fault.Fault.TheVariants.{Refused}
 use Rattle.elf_table.specs.declared.names.NameEnd.{NameEnd}
 use Rattle.elf_listing.specs.Shows.{Stopped}
 use Rattle.elf_headers.specs.Stops.{stop_of}
-use Rattle.elf_listing.specs.Strings.{FoundAs, ToldRead, told_by, told_name}
+use Rattle.elf_listing.specs.Strings.{StringsFound, ToldRead, string_told_by, string_told}
 use Rattle.elf_listing.proofs.RowLaws.{Ends-first, Stopped-name}
 
 -- the row of an entry by its bytes before the name, and its string
-abbrev pub told_row : LineFront → ℕ → Result (Result Shown Cause) Refusal → List Item
+abbrev pub told_row : LineFront → ℕ → Result (Result Shown Cause) Refusal → List ListingItem
 told_row front at (Ok answer) = named_row front at answer
 told_row front at (Err refusal) = FaultItem refusal ∷ []
 
 row_by_cases : (tells : Bool) (table : Result (List ℕ) Refusal) (front : LineFront) (at : ℕ) (name : List ℕ → Result Shown Cause)
-    → (elim tells as (λ _. List Item) [
+    → (elim tells as (λ _. List ListingItem) [
       | false ↦ named_row front at no_name
-      | true ↦ elim table as (λ _. List Item) [ Err refusal ↦ FaultItem refusal ∷ [] | Ok strings ↦ named_row front at (name strings) ]
+      | true ↦ elim table as (λ _. List ListingItem) [ Err refusal ↦ FaultItem refusal ∷ [] | Ok strings ↦ named_row front at (name strings) ]
     ])
-    ≡ told_row front at (told_by tells table name)
+    ≡ told_row front at (string_told_by tells table name)
 row_by_cases false table front at name = refl
 row_by_cases true (Ok strings) front at name = refl
 row_by_cases true (Err refusal) front at name = refl
 
 pub row_told : (file : List ℕ) (style : Style) (strings : ℕ → Result (List ℕ) Refusal) (at index : ℕ)
-    → dynamic_row file style strings at index ≡ told_row (dynamic_front style.format style.gnu file at index) at (told_name strings file style.cap at)
+    → dynamic_row file style strings at index ≡ told_row (dynamic_front style.format style.gnu file at index) at (string_told strings file style.cap at)
 unfolding dynamic_row
 row_told file style strings at index =
     row_by_cases (is_string_tag (d_tag file at)) (strings at) (dynamic_front style.format style.gnu file at index) at (λ table. shown table (d_un file at) style.cap)
 
 -- the row of an entry at its place, by its front
 pub entry_is : (file : List ℕ) (front : LineFront) (style : Style) (at index place : ℕ) (strings : ℕ → Result (List ℕ) Refusal) → front ≡ dynamic_front style.format style.gnu file at index → at ≡ place
-    → dynamic_row file style strings place index ≡ told_row front at (told_name strings file style.cap at)
+    → dynamic_row file style strings place index ≡ told_row front at (string_told strings file style.cap at)
 entry_is file front style at index place strings same here =
-    ap (λ p. dynamic_row file style strings p index) (sym here) ∙ (row_told file style strings at index ∙ ap (λ text. told_row text at (told_name strings file style.cap at)) (sym same))
+    ap (λ p. dynamic_row file style strings p index) (sym here) ∙ (row_told file style strings at index ∙ ap (λ text. told_row text at (string_told strings file style.cap at)) (sym same))
 
 -- a string that could not be read
 pub Stopped-told : (a : Written) (front : LineFront) (at : ℕ) (fault : Fault) (name : List ℕ) (told : Result (Result Shown Cause) Refusal) → ToldRead at (Err fault) name told
@@ -71,30 +71,30 @@ abbrev name_at : List ℕ → ℕ → ℕ → List ℕ → Result Shown Cause
 name_at file cap at table = shown table (d_un file at) cap
 
 -- an entry that tells of no string
-pub told_none : (strings : ℕ → Result (List ℕ) Refusal) (file : List ℕ) (most at : ℕ) → is_string_tag (d_tag file at) ≡ false → told_name strings file most at ≡ Ok no_name
-told_none strings file most at none = ap (λ tells. told_by tells (strings at) (name_at file most at)) none
+pub told_none : (strings : ℕ → Result (List ℕ) Refusal) (file : List ℕ) (most at : ℕ) → is_string_tag (d_tag file at) ≡ false → string_told strings file most at ≡ Ok no_name
+told_none strings file most at none = ap (λ tells. string_told_by tells (strings at) (name_at file most at)) none
 
 -- one whose string table is refused
 pub told_refused : (strings : ℕ → Result (List ℕ) Refusal) (file name : List ℕ) (most at : ℕ) (fault : Fault) (table : Result (List ℕ) Refusal) → strings at ≡ table
-    → is_string_tag (d_tag file at) ≡ true → FoundAs file (Err fault) table → ToldRead at (Err fault) name (told_name strings file most at)
+    → is_string_tag (d_tag file at) ≡ true → StringsFound file (Err fault) table → ToldRead at (Err fault) name (string_told strings file most at)
 told_refused strings file name most at fault (Ok table) same tells found = absurd found
 told_refused strings file name most at fault (Err refusal) same tells found = rw (tells, same) (ap (λ (f : Fault). Err f) found)
 
 -- one whose string was read in its table
 pub told_read : (strings : ℕ → Result (List ℕ) Refusal) (file name : List ℕ) (most at off : ℕ) (names : Strings) (result : Result NameEnd Fault) (table : Result (List ℕ) Refusal) → strings at ≡ table
-    → is_string_tag (d_tag file at) ≡ true → FoundAs file (Ok names) table → off ≡ d_un file at → NameRead at result name (shown (strings_in file names) off most)
-    → ToldRead at result name (told_name strings file most at)
+    → is_string_tag (d_tag file at) ≡ true → StringsFound file (Ok names) table → off ≡ d_un file at → NameRead at result name (shown (strings_in file names) off most)
+    → ToldRead at result name (string_told strings file most at)
 told_read strings file name most at off names result (Ok table) same tells found is read =
     let here : strings_in file names ≡ table = found in rw (tells, same, ← here, ← is) read
 told_read strings file name most at off names result (Err refusal) same tells found is read = absurd found
 
 -- a string table that a segment loads is the one that is told
 found_by_cases : (file : List ℕ) (first : Option Refusal) (names : Strings)
-    → FoundAs file (answered first names) (elim first as (λ _. Result (List ℕ) Refusal) [ None ↦ Ok (strings_in file names) | Some refusal ↦ Err refusal ])
+    → StringsFound file (answered first names) (elim first as (λ _. Result (List ℕ) Refusal) [ None ↦ Ok (strings_in file names) | Some refusal ↦ Err refusal ])
 found_by_cases file None names = refl
 found_by_cases file (Some refusal) names = refl
 
-pub found_mapped : (file : List ℕ) (address size at : ℕ) → FoundAs file (strings_mapped file address size at) (strings_at file at (Some address) (Some size))
+pub found_mapped : (file : List ℕ) (address size at : ℕ) → StringsFound file (strings_mapped file address size at) (strings_at file at (Some address) (Some size))
 unfolding strings_at
 found_mapped file address size at =
     found_by_cases file (first_refusal (mapped_checks file address size at)) (record { at = mapped_place file address size; size = size })

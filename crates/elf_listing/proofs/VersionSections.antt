@@ -2,7 +2,7 @@
 use Rattle.std.proofs.Common.{◌≡◌, ℕ, ◌+◌, ◌*◌, ◌/◌, ◌≤◌, ◌==◌, Bool, true, false, List, [], ◌∷◌, ◌++◌, length, Option, None, Some, Result, Ok, Err, refl, sym, ap, ◌∙◌, arith}
 use Rattle.elf_model.specs.Bytes.{slice}
 use Rattle.elf_model.specs.Checks.{Check, first_refusal, range_checks_of, strings_checks}
-use Rattle.elf_model.specs.Listing.{Item}
+use Rattle.elf_model.specs.Listing.{ListingItem}
 use Rattle.elf_model.specs.Records.{sh_link, sh_offset, sh_size, section_at}
 use Rattle.elf_model.specs.Report.{table_rows}
 use Rattle.elf_model.specs.Style.{Style}
@@ -20,7 +20,7 @@ use Rattle.elf_names.proofs.SpendsLaws.{Spends-reads, Spends-then, Spends-to}
 use Rattle.elf_source.specs.Output.{Written}
 use Rattle.elf_source.specs.Source.{Counting, Reads}
 use Rattle.elf_table.specs.Relocations.{RefusedBy}
-use Rattle.elf_table.specs.Sections.{bytes_of, names_at, rows, string_table_at}
+use Rattle.elf_table.specs.Sections.{byte_rows, names_at, rows, string_table_at}
 use Rattle.elf_table.specs.Tables.{Rows, Strings, strings_in}
 use Rattle.elf_table.proofs.RelocationLaws.{passed_first, table-fails}
 use Rattle.elf_versions.specs.Reading.{StartsVersions, Walking, versions_left}
@@ -41,7 +41,7 @@ module _ (file : List ℕ) (at : ℕ) (some : (sh_size file at == 0) ≡ false) 
   range : List Check
   range = range_checks_of (length file) (sh_offset file at) (sh_size file at) at
 
-  pub outside : (fault : Fault) → bytes_of (length file) (sh_offset file at) (sh_size file at) at ≡ Err fault → RefusedBy (all_checks version_table file at) fault
+  pub outside : (fault : Fault) → byte_rows (length file) (sh_offset file at) (sh_size file at) at ≡ Err fault → RefusedBy (all_checks version_table file at) fault
   unfolding range
   outside fault h =
       rw some (front fault (table-fails (sh_size file at == 0) (rows (sh_offset file at) 0 1) (rows (sh_offset file at) (sh_size file at) 1) range fault h).1)
@@ -50,10 +50,10 @@ module _ (file : List ℕ) (at : ℕ) (some : (sh_size file at == 0) ≡ false) 
       front (Refused refusal) k = first_refusal-some range (strings_checks file at) refusal k
       front (Source fault offset) k = k
 
-  module _ (table : Rows) (held : bytes_of (length file) (sh_offset file at) (sh_size file at) at ≡ Ok table) where
+  module _ (table : Rows) (held : byte_rows (length file) (sh_offset file at) (sh_size file at) at ≡ Ok table) where
     own : (first_refusal range ≡ None) × (rows (sh_offset file at) (sh_size file at) 1 ≡ table)
     unfolding range
-    own = passed_first _ _ _ (rw (some, bytes_of) at held)
+    own = passed_first _ _ _ (rw (some, byte_rows) at held)
 
     pub unnamed : (fault : Fault) → string_table_at file at ≡ Err fault → RefusedBy (all_checks version_table file at) fault
     unfolding range

@@ -17,7 +17,7 @@ use Rattle.elf_headers.specs.declared.fault.Fault.{Fault}
 use Rattle.elf_headers.specs.declared.fault.Fault.TheVariants.{Refused, Source}
 use Rattle.elf_source.specs.Source.{Counting, Reads}
 use Rattle.elf_source.proofs.ReadsLaws.{Faults-then, OverLimit-then}
-use Rattle.elf_table.specs.Sections.{bytes_of, checked, rows, table_of}
+use Rattle.elf_table.specs.Sections.{byte_rows, checked, rows, table_of}
 use Rattle.elf_table.specs.Tables.{Rows}
 use Rattle.elf_table.proofs.RelocationLaws.{passed_first}
 use Rattle.elf_listing.specs.Parts.{store_sections}
@@ -49,9 +49,9 @@ walk-is headers file_size type size bytes i first inside =
     ]) (sym first) ∙ rw inside refl
 
 -- bytes that are answered are in the file
-pub range-inside : (size offset n place : ℕ) (table : Rows) → (n == 0) ≡ false → bytes_of size offset n place ≡ Ok table
+pub range-inside : (size offset n place : ℕ) (table : Rows) → (n == 0) ≡ false → byte_rows size offset n place ≡ Ok table
     → (not (is_outside size offset n) ≡ true) × (rows offset n 1 ≡ table)
-range-inside size offset n place table some h = by_cases (is_outside size offset n) (rw (some, bytes_of) at h)
+range-inside size offset n place table some h = by_cases (is_outside size offset n) (rw (some, byte_rows) at h)
   where
     by_cases : (outside : Bool) → checked (refuse outside place TableOutside ∷ []) (rows offset n 1) ≡ Ok table → (not outside ≡ true) × (rows offset n 1 ≡ table)
     by_cases true h = cc
@@ -63,7 +63,7 @@ Says-account a b c (Refused refusal) n m k within p q = λ budget. let over = q 
 Says-account a b c (Source fault at) n m k within p q = (Faults-then a.seen b.seen c.seen fault p.keeps q.0, q.1)
 
 pub walk-cost : (store : Stored) (size i : ℕ) (kind : VersionKind) (type offset n place : ℕ) (table : Rows) → Some i ≡ first_typed (store_sections store) type
-    → type ≡ kind_type kind → offset ≡ sh_offset (row store i) 0 → n ≡ sh_size (row store i) 0 → (n == 0) ≡ false → bytes_of size offset n place ≡ Ok table
+    → type ≡ kind_type kind → offset ≡ sh_offset (row store i) 0 → n ≡ sh_size (row store i) 0 → (n == 0) ≡ false → byte_rows size offset n place ≡ Ok table
     → walk_cost (store_sections store) size (kind_type kind) (record_size kind) (bytes_each kind) ≡ most_records kind table.count * bytes_each kind
 walk-cost store size i kind type offset n place table first typed off len some h =
     let inside = range-inside size offset n place table some h in

@@ -8,7 +8,7 @@ use Rattle.std.specs.Result.{is_ok}
 use Rattle.elf_model.specs.Checks.{first_refusal, pass, table_checks_of}
 use Rattle.elf_model.specs.Cost.{cost_where, table_cost}
 use Rattle.elf_model.specs.HeaderTables.{HeaderTable, TableKind, file_sections, first_typed, header_field}
-use Rattle.elf_model.specs.Listing.{Item, Fault as FaultItem, each, fault_of}
+use Rattle.elf_model.specs.Listing.{ListingItem, Fault as FaultItem, each, fault_of}
 use Rattle.elf_model.specs.Names.{Shown, name_bytes, shown}
 use Rattle.elf_model.specs.Numbers.{SHT_GNU_VERDEF, SHT_GNU_VERNEED}
 use Rattle.elf_model.specs.Records.{e_shnum, sh_offset, sh_size, sh_type, section_at, versym}
@@ -28,7 +28,7 @@ use Rattle.elf_model.specs.declared.versions.VersionKind.{VersionKind}
 use Rattle.elf_model.specs.declared.versions.VersionKind.TheVariants.{Definition, File, Need}
 use Rattle.elf_model.proofs.VersionNameLaws.{IsDefinition, back-none, each-none, front-none, named-is, names_are_shown, table-kinds}
 use Rattle.elf_model.proofs.LookupSteps.{first_that-holds}
-use Rattle.elf_versions.specs.NumberNames.{NameIs, Names, name_at}
+use Rattle.elf_versions.specs.NumberNames.{IsNameOfRecord, NamesNumbers, name_at}
 use Rattle.elf_versions.specs.declared.number_names.NameAt.{NameAt}
 use Rattle.elf_versions.specs.declared.number_names.NameAt.TheVariants.{Nowhere, Defined, Needed}
 use Rattle.elf_table.specs.Tables.{Rows, Strings, strings_in}
@@ -46,13 +46,13 @@ use Rattle.elf_listing.proofs.RowLaws.{Ends-first, Front-none}
 use Rattle.elf_listing.proofs.ShowLaws.{Spent-then, Whole-none}
 use Rattle.elf_listing.proofs.SectionShown.{table_passes}
 use Rattle.elf_listing.specs.Numbered.{told_row, version_told}
-use Rattle.elf_listing.specs.SymbolVersions.{AreNumbered, IsNoCheck, IsWhole, versioned_items}
+use Rattle.elf_listing.specs.SymbolVersions.{AreNumbered, IsNoCheck, AreRecordsWhole, versioned_items}
 use Rattle.elf_listing.specs.Versions.{kind_type}
 use Rattle.elf_listing.specs.declared.numbered.Numbered.{Numbered}
 
 -- rows without a fault have checks that pass, and no record that is refused
-passes-none : (checks : Option Refusal) (members : List Item)
-    → fault_of (elim checks as (λ _. List Item) [ None ↦ members | Some refusal ↦ FaultItem refusal ∷ [] ]) ≡ None → (checks ≡ None) × (fault_of members ≡ None)
+passes-none : (checks : Option Refusal) (members : List ListingItem)
+    → fault_of (elim checks as (λ _. List ListingItem) [ None ↦ members | Some refusal ↦ FaultItem refusal ∷ [] ]) ≡ None → (checks ≡ None) × (fault_of members ≡ None)
 passes-none None members h = (refl, h)
 passes-none (Some refusal) members h = cc
 
@@ -70,20 +70,20 @@ section-whole kind table file style i at has rows h =
     let versions = section_versions kind file at in
     (passes.0, cut-none versions.cut (back-none (met_rows file style i (strings_of file at) versions.met) (end_rows versions.cut) none))
 
-pub definitions-whole : (file : List ℕ) (style : Style) → fault_of (records_rows file style) ≡ None → IsWhole file Definition
+pub definitions-whole : (file : List ℕ) (style : Style) → fault_of (records_rows file style) ≡ None → AreRecordsWhole file Definition
 unfolding kinds_rows version_definitions version_needs
 definitions-whole file style h = λ i first.
-    let rows : List Item = each (λ i. table_rows version_definitions file style i (section_at file i)) 0 (e_shnum file) in
-    let others : List Item = each (λ i. table_rows version_needs file style i (section_at file i)) 0 (e_shnum file) in
+    let rows : List ListingItem = each (λ i. table_rows version_definitions file style i (section_at file i)) 0 (e_shnum file) in
+    let others : List ListingItem = each (λ i. table_rows version_needs file style i (section_at file i)) 0 (e_shnum file) in
     let there = first_that-holds (λ i. header_field (file_sections file) sh_type i == SHT_GNU_VERDEF) 0 (e_shnum file) i first in
     let row = each-none (λ i. table_rows version_definitions file style i (section_at file i)) 0 (e_shnum file) i (front-none rows (others ++ []) h) there.1 there.2 in
     section-whole Definition version_definitions file style i (section_at file i) there.0 refl row
 
-pub needs-whole : (file : List ℕ) (style : Style) → fault_of (records_rows file style) ≡ None → IsWhole file File
+pub needs-whole : (file : List ℕ) (style : Style) → fault_of (records_rows file style) ≡ None → AreRecordsWhole file File
 unfolding kinds_rows version_definitions version_needs
 needs-whole file style h = λ i first.
-    let others : List Item = each (λ i. table_rows version_definitions file style i (section_at file i)) 0 (e_shnum file) in
-    let rows : List Item = each (λ i. table_rows version_needs file style i (section_at file i)) 0 (e_shnum file) in
+    let others : List ListingItem = each (λ i. table_rows version_definitions file style i (section_at file i)) 0 (e_shnum file) in
+    let rows : List ListingItem = each (λ i. table_rows version_needs file style i (section_at file i)) 0 (e_shnum file) in
     let there = first_that-holds (λ i. header_field (file_sections file) sh_type i == SHT_GNU_VERNEED) 0 (e_shnum file) i first in
     let row = each-none (λ i. table_rows version_needs file style i (section_at file i)) 0 (e_shnum file) i (front-none rows [] (back-none others (rows ++ []) h)) there.1 there.2 in
     section-whole File version_needs file style i (section_at file i) there.0 refl row
@@ -138,13 +138,13 @@ module _ (file : List ℕ) (style : Style) (numbered : Numbered) (are : AreNumbe
     | Needed index ↦ shown (strings_in file numbered.needed) index style.cap
   ]
 
-  abbrev listed : Option Met → List Item
+  abbrev listed : Option Met → List ListingItem
   listed named = elim named [
     | None ↦ refused_row entry VersionIndex
     | Some met ↦ named_row front (named_at file met) (shown (version_strings file met.kind) (name_index file met) style.cap)
   ]
 
-  by_name : (few : nat_lt number 2 ≡ false) (named : Option Met) → named_by file number all ≡ named → (name : NameAt) → NameIs file named name → named_row front entry (told name) ≡ listed named
+  by_name : (few : nat_lt number 2 ≡ false) (named : Option Met) → named_by file number all ≡ named → (name : NameAt) → IsNameOfRecord file named name → named_row front entry (told name) ≡ listed named
   unfolding all version_named version_of
   by_name few None is Nowhere fits = refl
   by_name few None is (Defined index) fits = absurd fits
@@ -178,7 +178,7 @@ entry-is file style numbered are no_fault section at index =
     (number-is file style numbered are no_fault (symbol_version_front style.format section index (versym file (sh_offset file at + 2 * index))) (sh_offset file at + 2 * index)
     (number_in (versym file (sh_offset file at + 2 * index))))
 
-each-equal : (row other : ℕ → List Item) (first count : ℕ) → ((i : ℕ) → row i ≡ other i) → each row first count ≡ each other first count
+each-equal : (row other : ℕ → List ListingItem) (first count : ℕ) → ((i : ℕ) → row i ≡ other i) → each row first count ≡ each other first count
 unfolding each
 each-equal row other first zero same = refl
 each-equal row other first (suc count) same = let one = same first in let more = each-equal row other (suc first) count same in cc
@@ -191,7 +191,7 @@ pub rows-are : (file : List ℕ) (style : Style) (numbered : Numbered) → AreNu
 unfolding symbol_version_rows versioned_items
 rows-are file style numbered are no_fault section at table symbols some place count linked =
     rw (some, place, count, linked)
-    (ap (λ (rows : List Item). rows ++ (if nat_lt (entry_count file at VERSYM_SIZE) (versioned_symbols file at) then refused_row at VersionCut else []))
+    (ap (λ (rows : List ListingItem). rows ++ (if nat_lt (entry_count file at VERSYM_SIZE) (versioned_symbols file at) then refused_row at VersionCut else []))
     (sym (each-equal (λ i. told_row file style numbered section (sh_offset file at + i * VERSYM_SIZE) i) (symbol_version_row file style section at) 0
     (min (entry_count file at VERSYM_SIZE) (versioned_symbols file at)) (entry-is file style numbered are no_fault section at))))
 
@@ -206,12 +206,12 @@ Lists-behind a b c y result n m k read shown within p q is = record {
 }
 
 -- a fault that is no check's stops before all items
-pub Stopped-no-check : (a : Written) (fault : Fault) (all : List Item) → IsNoCheck fault → Stopped a a (stop_of fault) all
+pub Stopped-no-check : (a : Written) (fault : Fault) (all : List ListingItem) → IsNoCheck fault → Stopped a a (stop_of fault) all
 Stopped-no-check a (Refused refusal) all is = Ends-first a refusal all (λ other. absurd (is other))
 Stopped-no-check a (Source fault at) all is = Front-none a all
 
 -- the refusal behind rows that were written
-pub Ends-behind : (a b : Written) (refusal : Refusal) (rows : List Item) → WroteItems a b rows → EndsRefused a b refusal (rows ++ FaultItem refusal ∷ [])
+pub Ends-behind : (a b : Written) (refusal : Refusal) (rows : List ListingItem) → WroteItems a b rows → EndsRefused a b refusal (rows ++ FaultItem refusal ∷ [])
 Ends-behind a b refusal rows wrote = record {
   front = record { front = rows; rest = FaultItem refusal ∷ []; split = refl; takes = wrote.takes; no_fault = wrote.no_fault };
   next = λ other. record { behind = []; is_next = refl };

@@ -1,6 +1,6 @@
 -- The rows of symbol versions, by what is left of a walk over their records.
 use Rattle.std.proofs.Common.{◌≡◌, ℕ, ◌+◌, ◌-◌, ◌*◌, ◌≤◌, List, [], ◌∷◌, ◌++◌, Option, None, Some, Ok, Err, refl, sym, ap, ◌∙◌, append_assoc, append-nil, arith}
-use Rattle.elf_model.specs.Listing.{Item, Fault as FaultItem}
+use Rattle.elf_model.specs.Listing.{ListingItem, Fault as FaultItem}
 use Rattle.elf_model.specs.Rows.{named_row}
 use Rattle.elf_model.specs.Names.{Shown, shown}
 use Rattle.elf_model.specs.Style.{Style}
@@ -15,7 +15,7 @@ use Rattle.elf_source.specs.Source.{Counting, Reads}
 use Rattle.elf_headers.specs.Ledger.{Did}
 use Rattle.elf_headers.specs.Permitted.{style_of}
 use Rattle.elf_headers.specs.declared.caps.Style.{Style as Shape}
-use Rattle.elf_versions.specs.Reading.{Agrees, GivesVersion, IsVersion, KeepsWalk, LeavesWalk, StepsIn, TellsVersion, Walking, unread, versions_left, why_stopped_now}
+use Rattle.elf_versions.specs.Reading.{IsCursorOf, GivesVersion, IsVersion, KeepsWalk, LeavesWalk, StepsIn, TellsVersion, Walking, unread, versions_left, why_stopped_now}
 use Rattle.elf_versions.proofs.TakenLaws.{going-did, unread-fewer}
 use Rattle.elf_versions.specs.declared.record.VersionRecord.{VersionRecord}
 use Rattle.elf_listing.specs.Notes.{WrittenBefore}
@@ -51,16 +51,16 @@ unfolding met_rows
 none_left file style section strings cut = refl
 
 -- behind the last record
-pub records_end : {a b : Written} (file : List ℕ) (style : Style) (section : ℕ) (strings : List ℕ) (all : List Item) (left : Versions) → left ≡ no_versions None
+pub records_end : {a b : Written} (file : List ℕ) (style : Style) (section : ℕ) (strings : List ℕ) (all : List ListingItem) (left : Versions) → left ≡ no_versions None
     → WrittenBefore a b all (versions_items file style section strings left) → WroteItems a b all
 records_end file style section strings all left none before =
     rw (before.split
-    ∙ ap (λ (x : List Item). before.done ++ x) (ap (versions_items file style section strings) none ∙ none_left file style section strings None)
+    ∙ ap (λ (x : List ListingItem). before.done ++ x) (ap (versions_items file style section strings) none ∙ none_left file style section strings None)
     ∙ append-nil before.done)
     before.whole
 
 -- a step over the next record failed: at a read, or where there is no record
-pub records_fault : (a b : Written) (fault : Fault) (file : List ℕ) (style : Style) (section : ℕ) (strings : List ℕ) (all : List Item) (left new : Versions)
+pub records_fault : (a b : Written) (fault : Fault) (file : List ℕ) (style : Style) (section : ℕ) (strings : List ℕ) (all : List ListingItem) (left new : Versions)
     → TellsVersion file left new (Err fault) → WrittenBefore a b all (versions_items file style section strings left) → Stopped a b (stop_of fault) all
 records_fault a b (Refused refusal) file style section strings all left new tells before = record {
   front = record { front = before.done; rest = versions_items file style section strings left; split = before.split; takes = before.whole.takes; no_fault = before.whole.no_fault };
@@ -78,11 +78,11 @@ pub record Given (a b : Counting) (old new : Walking) (given : VersionRecord) : 
   pub account : b.asked + unread new ≤ a.asked + unread old
   pub going : new.failed ≡ None
   pub less : new.left + 1 ≡ old.left
-  pub agrees : (file : List ℕ) → a.seen.file ≡ Some file → Agrees file old → Agrees file new
-  pub gives : (file : List ℕ) → a.seen.file ≡ Some file → Agrees file old → GivesVersion file (versions_left file old) (versions_left file new) given
+  pub agrees : (file : List ℕ) → a.seen.file ≡ Some file → IsCursorOf file old → IsCursorOf file new
+  pub gives : (file : List ℕ) → a.seen.file ≡ Some file → IsCursorOf file old → GivesVersion file (versions_left file old) (versions_left file new) given
 
 pub step_given : (a b : Counting) (old new : Walking) (given : VersionRecord) (answer : Option VersionRecord) → answer ≡ Some given → old.failed ≡ None
-    → Did a b (why_stopped_now old.failed (Ok answer)) (unread old - unread new) (λ file. Agrees file old → StepsIn file old new (Ok answer))
+    → Did a b (why_stopped_now old.failed (Ok answer)) (unread old - unread new) (λ file. IsCursorOf file old → StepsIn file old new (Ok answer))
     → KeepsWalk old new → LeavesWalk old new (Ok answer) → Given a b old new given
 step_given a b old new given answer is going did keeps leaves =
     let did = going-did old.failed (Ok answer) going did in
@@ -98,7 +98,7 @@ step_given a b old new given answer is going did keeps leaves =
     }
 
 -- the record that was next was shown, and then what is left behind it
-pub record_more : (a b c : Written) (file : List ℕ) (style now : Shape) (section : ℕ) (strings : List ℕ) (all : List Item) (old new : Versions) (given : VersionRecord)
+pub record_more : (a b c : Written) (file : List ℕ) (style now : Shape) (section : ℕ) (strings : List ℕ) (all : List ListingItem) (old new : Versions) (given : VersionRecord)
     → now ≡ style → GivesVersion file old new given → WrittenBefore a b all (versions_items file (style_of style) section strings old)
     → ((met : Met) → IsVersion file met given → WroteItems b c (version_row file (style_of now) section strings met))
     → WrittenBefore a c all (versions_items file (style_of style) section strings new)
@@ -107,7 +107,7 @@ record_more a b c file style now section strings all old new given same gives be
     (rw same at (shown gives.met gives.is))
 
 -- or its row stopped
-pub record_stopped : (a b c : Written) (stop : Stop) (file : List ℕ) (style now : Shape) (section : ℕ) (strings : List ℕ) (all : List Item) (old new : Versions) (given : VersionRecord)
+pub record_stopped : (a b c : Written) (stop : Stop) (file : List ℕ) (style now : Shape) (section : ℕ) (strings : List ℕ) (all : List ListingItem) (old new : Versions) (given : VersionRecord)
     → now ≡ style → GivesVersion file old new given → WrittenBefore a b all (versions_items file (style_of style) section strings old)
     → ((met : Met) → IsVersion file met given → Stopped b c stop (version_row file (style_of now) section strings met)) → Stopped a c stop all
 record_stopped a b c stop file style now section strings all old new given same gives before shown =

@@ -10,7 +10,7 @@ use Rattle.elf_model.specs.Style.{Style}
 use Rattle.elf_source.specs.Source.{Counting, Reads}
 use Rattle.elf_headers.specs.Load.{Belongs, Opened}
 use Rattle.elf_headers.specs.Store.{Stored}
-use Rattle.elf_listing.specs.Viewed.{IsViewed, needs_view, viewed}
+use Rattle.elf_listing.specs.Viewed.{IsViewed, needs_view, viewed_headers}
 
 pub still_viewed : {a b : Counting} {n : ℕ} (loaded : Opened) (store : Stored) → Reads a b n → IsViewed a.seen.file loaded store → IsViewed b.seen.file loaded store
 still_viewed loaded store p viewed = record { all = viewed.all; held = λ file is. viewed.held file (sym p.keeps.same_file ∙ is) }
@@ -53,6 +53,6 @@ module _ (file : List ℕ) (style : Style) (parts : ℕ) (loaded : Opened) (stor
       ∙ ap (λ (b : Bool). if b then overlap_checks file else []) asked
 
 -- and all of them are loaded
-pub all_viewed : (by : Bool) (parts : ℕ) (loaded : Opened) → by && needs_view parts loaded ≡ true → viewed parts loaded ≡ loaded.header.e_phnum
+pub all_viewed : (by : Bool) (parts : ℕ) (loaded : Opened) → by && needs_view parts loaded ≡ true → viewed_headers parts loaded ≡ loaded.header.e_phnum
 all_viewed true parts loaded h = ap (λ (b : Bool). if b then loaded.header.e_phnum else 0) h
 all_viewed false parts loaded h = cc

@@ -14,7 +14,7 @@ use Rattle.elf_table.specs.Tables.{Rows, Strings}
 use Rattle.elf_table.specs.declared.names.NameEnd.{NameEnd}
 use Rattle.elf_listing.specs.Parts.{name_cost, shown_in}
 use Rattle.elf_listing.specs.Shows.{Fetches}
-use Rattle.elf_listing.specs.Strings.{AreOf, ToldRead, strings_told, told_name}
+use Rattle.elf_listing.specs.Strings.{AreOf, ToldRead, strings_told, string_told}
 use Rattle.elf_listing.specs.declared.dynamic_row.EntryStrings.{EntryStrings}
 use Rattle.elf_listing.specs.declared.listing.Listing.{Listing}
 
@@ -34,4 +34,4 @@ pub record FetchesSymbol {S W : Type 0} {s : Sources S} {w : Sinks W} (old new :
 pub record FetchesString {S W : Type 0} {s : Sources S} {w : Sinks W} (old new : Listing S W s w) (result : Result NameEnd Fault) (entry : Dyn) (strings : EntryStrings) (at : ℕ) : Type 0 where
   pub fetches : Fetches old new result (name_bytes old.style.cap.bytes)
   pub read : (file : List ℕ) → old.src.now.seen.file ≡ Some file → AreOf file strings → IsDyn file at entry
-      → ToldRead at result new.name (told_name (strings_told strings file) file old.style.cap.bytes at)
+      → ToldRead at result new.name (string_told (strings_told strings file) file old.style.cap.bytes at)

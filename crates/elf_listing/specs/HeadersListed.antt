@@ -1,6 +1,6 @@
 -- What a call did that lists the tables of a file, part by part and header by header.
 use Rattle.std.specs.Prelude.{ℕ, ◌+◌, ◌++◌, List, Result}
-use Rattle.elf_model.specs.Listing.{Item, each, where_asked, SEGMENTS}
+use Rattle.elf_model.specs.Listing.{ListingItem, each, where_asked, SEGMENTS}
 use Rattle.elf_model.specs.Records.{e_phnum}
 use Rattle.elf_model.specs.Report.{table_items}
 use Rattle.elf_model.specs.Rows.{segment_row}
@@ -28,7 +28,7 @@ ListsPart part old new result =
     (Shows old new result (part_items part (style_of old.style) ((listed_by part).count old.file.store.now)))
 
 -- the items of a part, where the parts have it
-abbrev pub asked_items : ℕ → Part → Stored → Style → List ℕ → List Item
+abbrev pub asked_items : ℕ → Part → Stored → Style → List ℕ → List ListingItem
 asked_items parts part store style file = where_asked parts (listed_by part).bit (part_items part style ((listed_by part).count store) file)
 
 -- a part, where the parts have it

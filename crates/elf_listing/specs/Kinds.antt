@@ -7,7 +7,7 @@ use Rattle.elf_model.specs.Names.{name_bytes}
 use Rattle.elf_model.specs.Style.{Style}
 use Rattle.elf_headers.specs.Permitted.{style_of}
 use Rattle.elf_model.specs.Tables.{SYMBOL_SIZE, RELA_SIZE, DYNAMIC_SIZE, strings_of}
-use Rattle.elf_model.specs.Listing.{Item, each}
+use Rattle.elf_model.specs.Listing.{ListingItem, each}
 use Rattle.elf_model.specs.Rows.{segment_row, symbol_row, relocation_row, dynamic_row}
 use Rattle.elf_model.specs.Versions.{VERSYM_SIZE}
 use Rattle.elf_source.specs.declared.source.Source.{Ghosts as Sources}
@@ -20,12 +20,12 @@ use Rattle.elf_listing.specs.RowCursors.{rows_listed}
 use Rattle.elf_listing.specs.Shows.{Lists, Writes}
 use Rattle.elf_listing.specs.Strings.{strings_told, AreWithin, AreOf}
 use Rattle.elf_listing.specs.declared.listing.Listing.{Listing}
-use Rattle.elf_listing.specs.declared.rows.Kind.{Kind}
-use Rattle.elf_listing.specs.declared.rows.Kind.TheVariants.{Segments, Symbols, Relocations, Dynamic, Versions}
+use Rattle.elf_listing.specs.declared.rows.ListedAs.{ListedAs}
+use Rattle.elf_listing.specs.declared.rows.ListedAs.TheVariants.{Segments, Symbols, Relocations, Dynamic, Versions}
 use Rattle.elf_headers.specs.declared.stop.Stop.{Stop}
 
 -- the size of a row in bytes
-abbrev pub row_size : Kind → ℕ
+abbrev pub row_size : ListedAs → ℕ
 row_size Segments = 56
 row_size (Symbols section names) = SYMBOL_SIZE
 row_size (Relocations section linked) = RELA_SIZE
@@ -33,7 +33,7 @@ row_size (Dynamic strings) = DYNAMIC_SIZE
 row_size (Versions section numbered) = VERSYM_SIZE
 
 -- how many bytes a row asks for at most beside its own
-abbrev pub own_cost : Kind → ℕ → ℕ
+abbrev pub own_cost : ListedAs → ℕ → ℕ
 own_cost Segments cap = 0
 own_cost (Symbols section names) cap = name_bytes cap
 own_cost (Relocations section linked) cap = SYMBOL_SIZE + name_bytes cap
@@ -41,11 +41,11 @@ own_cost (Dynamic strings) cap = name_bytes cap
 own_cost (Versions section numbered) cap = name_bytes cap
 
 -- how many bytes the rows of a table ask for at most
-abbrev pub rows_cost : Kind → Rows → ℕ → ℕ
+abbrev pub rows_cost : ListedAs → Rows → ℕ → ℕ
 rows_cost kind table cap = table.count * (row_size kind + own_cost kind cap)
 
 -- the items of the row of an index, in a table at an offset
-abbrev pub row_items : Kind → List ℕ → Style → ℕ → ℕ → List Item
+abbrev pub row_items : ListedAs → List ℕ → Style → ℕ → ℕ → List ListingItem
 row_items Segments file style table_at index = segment_row file style index
 row_items (Symbols section names) file style table_at index = symbol_row file style section (section_at file section) index
 row_items (Relocations section linked) file style table_at index = relocation_row file style section (section_at file section) index
@@ -53,7 +53,7 @@ row_items (Dynamic strings) file style table_at index = dynamic_row file style (
 row_items (Versions section numbered) file style table_at index = told_row file style numbered.now section (table_at + index * VERSYM_SIZE) index
 
 -- the tables that a kind's names are read from lie within a source of this size
-abbrev pub KindWithin : ℕ → Kind → Type 0
+abbrev pub KindWithin : ℕ → ListedAs → Type 0
 KindWithin size Segments = Unit {0}
 KindWithin size (Symbols section names) = StringsWithin size names
 KindWithin size (Relocations section linked) = IfSome linked (SymbolsWithin size)
@@ -62,7 +62,7 @@ KindWithin size (Versions section numbered) = NumberedWithin size numbered.now
 
 -- a table at an offset is one of the file: it stands where the file's header or section tells, the tables that its names
 -- are read from are those that the section refers to
-abbrev pub KindOf : List ℕ → ℕ → Kind → Type 0
+abbrev pub KindOf : List ℕ → ℕ → ListedAs → Type 0
 KindOf file table_at Segments = table_at ≡ e_phoff file
 KindOf file table_at (Symbols section names) =
     (strings_in file names ≡ strings_of file (section_at file section)) × (table_at ≡ sh_offset file (section_at file section))
@@ -72,7 +72,7 @@ KindOf file table_at (Dynamic strings) = AreOf file strings
 KindOf file table_at (Versions section numbered) = Unit {0}
 
 -- an index of a kind's rows fits the column's type
-abbrev pub IndexFits : Kind → ℕ → Type 0
+abbrev pub IndexFits : ListedAs → ℕ → Type 0
 IndexFits Segments index = index < 2 ^ 16
 IndexFits (Symbols section names) index = Unit {0}
 IndexFits (Relocations section linked) index = Unit {0}
@@ -80,32 +80,32 @@ IndexFits (Dynamic strings) index = Unit {0}
 IndexFits (Versions section numbered) index = Unit {0}
 
 -- a table of the rows of a kind, which lies within a source of this size with what it refers to
-pub record IsTableOf (size : ℕ) (kind : Kind) (table : Rows) : Type 0 where
+pub record IsTableOf (size : ℕ) (kind : ListedAs) (table : Rows) : Type 0 where
   pub entry : table.entry ≡ row_size kind
   pub rows : RowsWithin size table
   pub names : KindWithin size kind
   pub fits : (index : ℕ) → index < table.count → IndexFits kind index
 
 -- a row is the one of its index in a file's table at an offset
-pub record IsRowOf (file : List ℕ) (table_at : ℕ) (kind : Kind) (row : Row) : Type 0 where
+pub record IsRowOf (file : List ℕ) (table_at : ℕ) (kind : ListedAs) (row : Row) : Type 0 where
   pub bytes : row.bytes.now ≡ slice file row.at (row_size kind)
   pub here : row.at ≡ table_at + row.index * row_size kind
 
 -- a row is one of a kind: it is whole, its index fits, and the tables that its names are read from lie within a source of this size
-pub record RowFits (size : ℕ) (kind : Kind) (row : Row) : Type 0 where
+pub record RowFits (size : ℕ) (kind : ListedAs) (row : Row) : Type 0 where
   pub whole : length row.bytes.now ≡ row_size kind
   pub within : KindWithin size kind
   pub fits : IndexFits kind row.index
 
 -- what a call did that shows a row: where the row is the file's, its items
-abbrev pub ListsRow : {S W X : Type 0} {s : Sources S} {w : Sinks W} → Listing S W s w → Listing S W s w → Result X Stop → Kind → Row → Type 0
+abbrev pub ListsRow : {S W X : Type 0} {s : Sources S} {w : Sinks W} → Listing S W s w → Listing S W s w → Result X Stop → ListedAs → Row → Type 0
 ListsRow old new result kind row =
     Lists old new result (own_cost kind old.style.cap.bytes)
     ((file : List ℕ) → old.src.now.seen.file ≡ Some file → (table_at : ℕ) → KindOf file table_at kind → IsRowOf file table_at kind row
     → Writes old.out.now new.out.now result (row_items kind file (style_of old.style) table_at row.index))
 
 -- what a call did that shows the rows of a table: where the table is the file's, the items of all that are listed
-abbrev pub ListsRows : {S W X : Type 0} {s : Sources S} {w : Sinks W} → Listing S W s w → Listing S W s w → Result X Stop → Kind → Rows → Type 0
+abbrev pub ListsRows : {S W X : Type 0} {s : Sources S} {w : Sinks W} → Listing S W s w → Listing S W s w → Result X Stop → ListedAs → Rows → Type 0
 ListsRows old new result kind table =
     Lists old new result (rows_cost kind table old.style.cap.bytes)
     ((file : List ℕ) → old.src.now.seen.file ≡ Some file → (0 < table.count → KindOf file table.at kind)

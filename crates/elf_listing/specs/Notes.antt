@@ -1,7 +1,7 @@
 -- The notes of a table, shown one after another.
 use Rattle.std.specs.Prelude.{ℕ, ◌≡◌, List, [], ◌∷◌, ◌++◌, length, take, Result}
 use Rattle.elf_model.specs.Lines.{SHOWN_DESCRIPTOR}
-use Rattle.elf_model.specs.Listing.{Item}
+use Rattle.elf_model.specs.Listing.{ListingItem}
 use Rattle.elf_model.specs.Bytes.{slice}
 use Rattle.elf_model.specs.Notes.{Note, Walk, note_align, note_shown, walked}
 use Rattle.elf_model.specs.Rows.{note_row, walk_rows}
@@ -18,7 +18,7 @@ use Rattle.elf_listing.specs.declared.listing.Listing.{Listing}
 use Rattle.elf_headers.specs.declared.stop.Stop.{Stop}
 
 -- a row shows a note: its head, its name as it is shown, the first bytes of its descriptor
-pub record IsNote (cap : ℕ) (note : Note) (row : NoteRow) (name : List ℕ) : Type 0 where
+pub record IsNoteRow (cap : ℕ) (note : Note) (row : NoteRow) (name : List ℕ) : Type 0 where
   pub named : NameIs row.name_end name (note_shown cap note)
   pub kind : row.head.kind ≡ note.kind
   pub namesz : row.head.namesz ≡ length note.name
@@ -29,7 +29,7 @@ pub record IsNote (cap : ℕ) (note : Note) (row : NoteRow) (name : List ℕ) : 
 abbrev pub ListsNote : {S W X : Type 0} {s : Sources S} {w : Sinks W} → Listing S W s w → Listing S W s w → Result X Stop → NoteRow → ℕ → Type 0
 ListsNote old new result row index =
     Lists old new result 0
-    ((note : Note) → IsNote old.style.cap.bytes note row old.name → Writes old.out.now new.out.now result (note_row (style_of old.style) index note ∷ []))
+    ((note : Note) → IsNoteRow old.style.cap.bytes note row old.name → Writes old.out.now new.out.now result (note_row (style_of old.style) index note ∷ []))
 
 -- what a call did that shows the notes of a table: the rows of all, up to the place where no note stands
 abbrev pub ListsNotes : {S W X : Type 0} {s : Sources S} {w : Sinks W} → Listing S W s w → Listing S W s w → Result X Stop → Rows → ℕ → ℕ → Type 0
@@ -38,11 +38,11 @@ ListsNotes old new result table align index =
     (Shows old new result (λ file. walk_rows (style_of old.style) index table.at (walked (note_align align) (slice file table.at table.count))))
 
 -- the rows of notes whose places are file offsets
-abbrev pub note_items : Style → ℕ → Walk → List Item
+abbrev pub note_items : Style → ℕ → Walk → List ListingItem
 note_items style index walk = walk_rows style index 0 walk
 
 -- all items are those that were written, without a fault, and those that are left
-pub record WrittenBefore (old new : Written) (all left : List Item) : Type 0 where
-  pub done : List Item
+pub record WrittenBefore (old new : Written) (all left : List ListingItem) : Type 0 where
+  pub done : List ListingItem
   pub split : all ≡ done ++ left
   pub whole : WroteItems old new done

@@ -1,6 +1,6 @@
 -- Where the names of the numbers of versions are.
 use Rattle.std.specs.Prelude.{ℕ, ◌≡◌, nat_lt, if◌then◌else◌, List, Some, Result, Err}
-use Rattle.elf_model.specs.Listing.{Item}
+use Rattle.elf_model.specs.Listing.{ListingItem}
 use Rattle.elf_model.specs.Names.{Shown, name_bytes, shown}
 use Rattle.elf_model.specs.Records.{versym}
 use Rattle.elf_model.specs.Rows.{named_row, no_name}
@@ -36,7 +36,7 @@ version_told numbered file cap number =
     ]
 
 -- the row of the version of a symbol, whose entry stands at an offset, with that name: its fault is at the entry
-unfoldable pub told_row : List ℕ → Style → Numbered → (section entry_at index : ℕ) → List Item
+unfoldable pub told_row : List ℕ → Style → Numbered → (section entry_at index : ℕ) → List ListingItem
 told_row file style numbered section entry_at index =
     let word = versym file entry_at in
     named_row (symbol_version_front style.format section index word) entry_at (version_told numbered file style.cap (number_in word))

@@ -1,7 +1,7 @@
 -- The parts of a listing behind the file header: what is listed of each section, and what it asks for.
 use Rattle.std.specs.Prelude.{ℕ, ◌+◌, ◌*◌, ◌==◌, ◌&&◌, ◌≡◌, not, true, List, Option, None, Some, Result}
 use Rattle.elf_model.specs.Cost.{sum_over, cost_where, table_cost}
-use Rattle.elf_model.specs.Listing.{Item, each, fault_of, has, SECTIONS, SEGMENTS, SYMBOLS, RELOCS, NOTES, DYNAMIC}
+use Rattle.elf_model.specs.Listing.{ListingItem, each, fault_of, has, SECTIONS, SEGMENTS, SYMBOLS, RELOCS, NOTES, DYNAMIC}
 use Rattle.elf_model.specs.Names.{Shown, shown, name_bytes}
 use Rattle.elf_model.specs.Records.{section_at, segment_at}
 use Rattle.elf_model.specs.Report.{table_rows}
@@ -23,7 +23,7 @@ use Rattle.elf_listing.specs.declared.parts.Part.TheVariants.{Headers, Segments,
 pub record PartListed : Type 0 where
   pub bit : ℕ
   pub count : Stored → ℕ
-  pub items : List ℕ → Style → ℕ → List Item
+  pub items : List ℕ → Style → ℕ → List ListingItem
   pub cost : Opened → Stored → ℕ → ℕ → ℕ
 
 -- the section headers in the store, and the program headers
@@ -51,16 +51,16 @@ of_segments kind = record {
 }
 
 -- the section headers, each with its name; and the program headers, which ask for nothing more
-abbrev pub section_headers : PartListed
-section_headers = record {
+abbrev pub part_of_section_headers : PartListed
+part_of_section_headers = record {
   bit = SECTIONS;
   count = λ store. store.loaded;
   items = λ file style i. section_row file style i;
   cost = λ loaded store cap i. cost_where (not (loaded.header.e_shstrndx == 0)) (name_bytes cap);
 }
 
-abbrev pub program_headers : PartListed
-program_headers = record {
+abbrev pub part_of_program_headers : PartListed
+part_of_program_headers = record {
   bit = SEGMENTS;
   count = λ store. store.segments;
   items = λ file style i. segment_row file style i;
@@ -69,8 +69,8 @@ program_headers = record {
 
 -- what each part lists
 abbrev pub listed_by : Part → PartListed
-listed_by Headers = section_headers
-listed_by Segments = program_headers
+listed_by Headers = part_of_section_headers
+listed_by Segments = part_of_program_headers
 listed_by Symbols = of_sections symbols
 listed_by Relocations = of_sections relocations
 listed_by SectionNotes = of_sections section_notes
@@ -92,7 +92,7 @@ abbrev pub AwaitsAsked : ℕ → Part → Option (List ℕ) → Style → Type 0
 AwaitsAsked parts part seen style = has parts (listed_by part).bit ≡ true → Awaits part seen style
 
 -- the items of so many headers
-abbrev pub part_items : Part → Style → ℕ → List ℕ → List Item
+abbrev pub part_items : Part → Style → ℕ → List ℕ → List ListingItem
 part_items part style count file = each ((listed_by part).items file style) 0 count
 
 -- the name that an index gives in a string table of the file, as it is shown; empty without a string table

@@ -7,8 +7,8 @@ use Rattle.elf_table.specs.Tables.{Rows, size_of}
 use Rattle.elf_headers.specs.declared.fault.Fault.{Fault}
 use Rattle.elf_listing.specs.declared.row_cursor.RowCursor.{RowCursor}
 use Rattle.elf_listing.specs.declared.row_cursor.RowCursor.TheVariants.{All, Entries}
-use Rattle.elf_listing.specs.declared.rows.Kind.{Kind}
-use Rattle.elf_listing.specs.declared.rows.Kind.TheVariants.{Segments, Symbols, Relocations, Dynamic, Versions}
+use Rattle.elf_listing.specs.declared.rows.ListedAs.{ListedAs}
+use Rattle.elf_listing.specs.declared.rows.ListedAs.TheVariants.{Segments, Symbols, Relocations, Dynamic, Versions}
 
 -- the cursor over the rows of the table
 abbrev pub reading : RowCursor → Reading
@@ -16,12 +16,12 @@ reading (All cursor) = cursor
 reading (Entries entries) = entries.cursor
 
 -- how many rows of a file it still gives
-abbrev pub rows_left : List ℕ → RowCursor → ℕ
-rows_left file (All cursor) = cursor.left
-rows_left file (Entries entries) = entries_left file entries
+abbrev pub rows_to_give : List ℕ → RowCursor → ℕ
+rows_to_give file (All cursor) = cursor.left
+rows_to_give file (Entries entries) = entries_left file entries
 
 -- how many rows of a table are listed
-abbrev pub rows_listed : Kind → List ℕ → Rows → ℕ
+abbrev pub rows_listed : ListedAs → List ℕ → Rows → ℕ
 rows_listed Segments file table = table.count
 rows_listed (Symbols section names) file table = table.count
 rows_listed (Relocations section linked) file table = table.count
@@ -29,25 +29,25 @@ rows_listed (Dynamic strings) file table = dynamic_count file table.at table.cou
 rows_listed (Versions section numbered) file table = table.count
 
 -- a cursor before the first row of a table
-pub record Begins (kind : Kind) (table : Rows) (cursor : RowCursor) : Type 0 where
+pub record BeginsTable (kind : ListedAs) (table : Rows) (cursor : RowCursor) : Type 0 where
   pub its_table : (reading cursor).table ≡ table
   pub index : (reading cursor).index ≡ 0
   pub left : (reading cursor).left ≡ table.count
   pub unread : (reading cursor).unread ≡ size_of table
   pub held : (reading cursor).held ≡ []
   pub failed : (reading cursor).failed ≡ None
-  pub rows : (file : List ℕ) → rows_left file cursor ≡ rows_listed kind file table
+  pub rows : (file : List ℕ) → rows_to_give file cursor ≡ rows_listed kind file table
 
 -- a step that gives the next row that is listed
 pub record GivesListed (file : Option (List ℕ)) (old new : RowCursor) : Type 0 where
   pub gives : GivesRow file (reading old) (reading new)
-  pub one_less : (bytes : List ℕ) → file ≡ Some bytes → HoldsRows bytes (reading old) → rows_left bytes old ≡ suc (rows_left bytes new)
+  pub one_less : (bytes : List ℕ) → file ≡ Some bytes → HoldsRows bytes (reading old) → rows_to_give bytes old ≡ suc (rows_to_give bytes new)
 
 -- a step behind the last of them
 pub record EndsListed (old new : RowCursor) : Type 0 where
   pub unchanged : new ≡ old
   pub not_failed : (reading old).failed ≡ None
-  pub none_left : (bytes : List ℕ) → rows_left bytes old ≡ 0
+  pub none_left : (bytes : List ℕ) → rows_to_give bytes old ≡ 0
 
 -- a step of a cursor, where it answers whether it gave a row
 abbrev pub AdvancesRows : Option (List ℕ) → RowCursor → RowCursor → Result Bool Fault → Type 0

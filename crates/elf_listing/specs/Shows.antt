@@ -2,7 +2,7 @@
 use Rattle.std.specs.Prelude.{ℕ, ◌≡◌, ◌+◌, Bool, true, false, List, ◌∷◌, ◌++◌, None, Some, Result, Ok, Err, IfErr}
 use Rattle.elf_model.specs.Budget.{IsBudget}
 use Rattle.elf_model.specs.Fields.{LineFront}
-use Rattle.elf_model.specs.Listing.{Item, Fault, lines_of, fault_of}
+use Rattle.elf_model.specs.Listing.{ListingItem, Fault, lines_of, fault_of}
 use Rattle.elf_model.specs.Names.{Shown}
 use Rattle.elf_model.specs.Rows.{named_row}
 use Rattle.elf_model.specs.declared.causes.Cause.{Cause}
@@ -12,7 +12,7 @@ use Rattle.elf_source.specs.Output.{Written, Takes, TakesFront, OutFails}
 use Rattle.elf_source.specs.Growth.{Grows}
 use Rattle.elf_source.specs.declared.source.Source.{Ghosts as Sources}
 use Rattle.elf_source.specs.declared.sink.Sink.{Ghosts as Sinks}
-use Rattle.elf_names.specs.Ahead.{Spends}
+use Rattle.elf_names.specs.Ahead.{SpendsCredit}
 use Rattle.elf_headers.specs.Faults.{RefusalSays, Says}
 use Rattle.elf_table.specs.NamesRead.{NameRead}
 use Rattle.elf_headers.specs.declared.fault.Fault.{Fault as Failure}
@@ -23,36 +23,36 @@ use Rattle.elf_headers.specs.declared.stop.Stop.{Stop}
 use Rattle.elf_headers.specs.declared.stop.Stop.TheVariants.{Refused, Source, Out}
 
 -- the lines of all items were written, and none is a fault
-pub record WroteItems (old new : Written) (items : List Item) : Type 0 where
+pub record WroteItems (old new : Written) (items : List ListingItem) : Type 0 where
   pub takes : Takes old new (lines_of items)
   pub no_fault : fault_of items ≡ None
 
 -- the lines of a front of the items were written, each whole, and none of the rest
-pub record Front (old new : Written) (items : List Item) : Type 0 where
-  pub front : List Item
-  pub rest : List Item
+pub record Front (old new : Written) (items : List ListingItem) : Type 0 where
+  pub front : List ListingItem
+  pub rest : List ListingItem
   pub split : items ≡ front ++ rest
   pub takes : Takes old new (lines_of front)
   pub no_fault : fault_of front ≡ None
 
 -- a refusal is the fault that the items begin with
-pub record IsNext (refusal : Refusal) (items : List Item) : Type 0 where
-  pub behind : List Item
+pub record IsNext (refusal : Refusal) (items : List ListingItem) : Type 0 where
+  pub behind : List ListingItem
   pub is_next : items ≡ Fault refusal ∷ behind
 
 -- the lines before the first fault were written, and this is the fault; where it is for want of budget, the lines of a front
-pub record EndsRefused (old new : Written) (refusal : Refusal) (items : List Item) : Type 0 where
+pub record EndsRefused (old new : Written) (refusal : Refusal) (items : List ListingItem) : Type 0 where
   pub front : Front old new items
   pub next : (IsBudget refusal → ⊥) → IsNext refusal front.rest
 
 -- what was written where a listing stops
-abbrev pub Stopped : Written → Written → Stop → List Item → Type 0
+abbrev pub Stopped : Written → Written → Stop → List ListingItem → Type 0
 Stopped old new (Refused refusal) items = EndsRefused old new refusal items
 Stopped old new (Source fault at) items = Front old new items
 Stopped old new (Out fault) items = TakesFront old new (lines_of items)
 
 -- a part of these items was written
-abbrev pub Writes : {X : Type 0} → Written → Written → Result X Stop → List Item → Type 0
+abbrev pub Writes : {X : Type 0} → Written → Written → Result X Stop → List ListingItem → Type 0
 Writes old new (Ok x) items = WroteItems old new items
 Writes old new (Err stop) items = Stopped old new stop items
 
@@ -82,7 +82,7 @@ pub record SameFile {S W : Type 0} {s : Sources S} {w : Sinks W} (old new : List
 -- what a call costs that has some credit before it, and some after it: it asked for no more than n bytes and what it took of
 -- the credit, and a stop says what is so
 abbrev pub Spent : {X : Type 0} → Counting → Counting → Written → ℕ → ℕ → Result X Stop → ℕ → Type 0
-Spent old new out before after result n = Spends old new before after n × IfErr result (StopSays old new out (before + n))
+Spent old new out before after result n = SpendsCredit old new before after n × IfErr result (StopSays old new out (before + n))
 
 -- WHAT A CALL OF A LISTING DID. For every source: what was written stays, the listing is still of the same file, and no more than
 -- n bytes were asked for. And what it showed
@@ -96,11 +96,11 @@ pub record Lists {S W X : Type 0} {s : Sources S} {w : Sinks W} (old new : Listi
 -- for, and a fault says what is so
 abbrev pub Fetches : {S W X : Type 0} {s : Sources S} {w : Sinks W} → Listing S W s w → Listing S W s w → Result X Failure → ℕ → Type 0
 Fetches old new result n =
-    SameFile old new × (new.out.now ≡ old.out.now) × Spends old.src.now new.src.now old.ahead.credit new.ahead.credit n
+    SameFile old new × (new.out.now ≡ old.out.now) × SpendsCredit old.src.now new.src.now old.ahead.credit new.ahead.credit n
     × IfErr result (Says old.src.now new.src.now (old.ahead.credit + n))
 
 -- WHAT IT WROTE: where the file of the source is known, its items
-abbrev pub Shows : {S W X : Type 0} {s : Sources S} {w : Sinks W} → Listing S W s w → Listing S W s w → Result X Stop → (List ℕ → List Item) → Type 0
+abbrev pub Shows : {S W X : Type 0} {s : Sources S} {w : Sinks W} → Listing S W s w → Listing S W s w → Result X Stop → (List ℕ → List ListingItem) → Type 0
 Shows old new result items = (file : List ℕ) → old.src.now.seen.file ≡ Some file → Writes old.out.now new.out.now result (items file)
 
 -- whether a name is cut

@@ -32,28 +32,28 @@ AreOf file (Linked names) = Unit {0}
 AreOf file (Mapped view told) = Views file view.loaded view.store.now
 
 -- a string table was found as it is told, or refused
-abbrev pub FoundAs : List ℕ → Result Strings Failure → Result (List ℕ) Refusal → Type 0
-FoundAs file (Ok names) (Ok table) = strings_in file names ≡ table
-FoundAs file (Ok names) (Err refusal) = ⊥
-FoundAs file (Err fault) (Ok table) = ⊥
-FoundAs file (Err fault) (Err refusal) = fault ≡ Refused refusal
+abbrev pub StringsFound : List ℕ → Result Strings Failure → Result (List ℕ) Refusal → Type 0
+StringsFound file (Ok names) (Ok table) = strings_in file names ≡ table
+StringsFound file (Ok names) (Err refusal) = ⊥
+StringsFound file (Err fault) (Ok table) = ⊥
+StringsFound file (Err fault) (Err refusal) = fault ≡ Refused refusal
 
 -- THE STRING TABLE OF AN ENTRY, which was looked for at its offset: the one that is told, or its refusal; it lies within the source,
 -- and a refusal is a check's
 pub record FindsStrings (strings : EntryStrings) (at : ℕ) (result : Result Strings Failure) : Type 0 where
-  pub told : (file : List ℕ) → AreOf file strings → FoundAs file result (strings_told strings file at)
+  pub told : (file : List ℕ) → AreOf file strings → StringsFound file result (strings_told strings file at)
   pub within : (size : ℕ) → AreWithin size strings → IfOk result (StringsWithin size)
   pub refusal : IfErr result IsOfCheck
 
 -- the string of the entry at an offset, as it is shown; the refusal where its string table is refused
-abbrev pub told_by : Bool → Result (List ℕ) Refusal → (List ℕ → Result Shown Cause) → Result (Result Shown Cause) Refusal
-told_by false table name = Ok no_name
-told_by true (Err refusal) name = Err refusal
-told_by true (Ok strings) name = Ok (name strings)
+abbrev pub string_told_by : Bool → Result (List ℕ) Refusal → (List ℕ → Result Shown Cause) → Result (Result Shown Cause) Refusal
+string_told_by false table name = Ok no_name
+string_told_by true (Err refusal) name = Err refusal
+string_told_by true (Ok strings) name = Ok (name strings)
 
-abbrev pub told_name : (ℕ → Result (List ℕ) Refusal) → List ℕ → ℕ → ℕ → Result (Result Shown Cause) Refusal
-told_name strings file cap entry_at =
-    told_by (is_string_tag (d_tag file entry_at)) (strings entry_at) (λ table. shown table (d_un file entry_at) cap)
+abbrev pub string_told : (ℕ → Result (List ℕ) Refusal) → List ℕ → ℕ → ℕ → Result (Result Shown Cause) Refusal
+string_told strings file cap entry_at =
+    string_told_by (is_string_tag (d_tag file entry_at)) (strings entry_at) (λ table. shown table (d_un file entry_at) cap)
 
 -- that string was read, or its string table is refused
 abbrev pub ToldRead : ℕ → Result NameEnd Failure → List ℕ → Result (Result Shown Cause) Refusal → Type 0

@@ -1,7 +1,7 @@
 -- The versions of symbols, shown one after another, and the names of their numbers.
 use Rattle.std.specs.Prelude.{ℕ, ◌≡◌, ◌+◌, ◌*◌, min, nat_lt, if◌then◌else◌, List, [], ◌++◌, None, Some, Result, Ok, Err, IfOk}
 use Rattle.elf_model.specs.Checks.{first_refusal}
-use Rattle.elf_model.specs.Listing.{Item, each}
+use Rattle.elf_model.specs.Listing.{ListingItem, each}
 use Rattle.elf_model.specs.Names.{name_bytes}
 use Rattle.elf_model.specs.Records.{section_at}
 use Rattle.elf_model.specs.Rows.{refused_row}
@@ -23,7 +23,7 @@ use Rattle.elf_headers.specs.declared.stop.Stop.{Stop}
 use Rattle.elf_source.specs.declared.source.Source.{Ghosts as Sources}
 use Rattle.elf_source.specs.declared.sink.Sink.{Ghosts as Sinks}
 use Rattle.elf_table.specs.Tables.{Rows, Strings, StringsWithin, strings_in}
-use Rattle.elf_versions.specs.NumberNames.{Names}
+use Rattle.elf_versions.specs.NumberNames.{NamesNumbers}
 use Rattle.elf_versions.specs.Reading.{bytes_each}
 use Rattle.elf_versions.specs.declared.number_names.NameAt.{NameAt}
 use Rattle.elf_listing.specs.Numbered.{NumberedWithin, told_row}
@@ -34,7 +34,7 @@ use Rattle.elf_listing.specs.declared.listing.Listing.{Listing}
 use Rattle.elf_listing.specs.declared.numbered.Numbered.{Numbered}
 
 -- the rows of so many entries of a table, for so many symbols: where a symbol has no entry any more the refusal stands at a place
-unfoldable pub versioned_items : List ℕ → Style → Numbered → (section : ℕ) → Rows → (symbols place : ℕ) → List Item
+unfoldable pub versioned_items : List ℕ → Style → Numbered → (section : ℕ) → Rows → (symbols place : ℕ) → List ListingItem
 versioned_items file style numbered section table symbols place =
     each (λ i. told_row file style numbered section (table.at + i * VERSYM_SIZE) i) 0 (min table.count symbols)
     ++ (if nat_lt table.count symbols then refused_row place VersionCut else [])
@@ -47,8 +47,8 @@ ListsVersioned old new result section table symbols numbered =
     → Writes old.out.now new.out.now result (versioned_items file (style_of old.style) numbered section table symbols (section_place old.file.loaded.header section)))
 
 -- the checks of the first section that holds records of a kind pass, and no record of it is refused
-abbrev pub IsWhole : List ℕ → VersionKind → Type 0
-IsWhole file kind =
+abbrev pub AreRecordsWhole : List ℕ → VersionKind → Type 0
+AreRecordsWhole file kind =
     (i : ℕ) → first_of_type file (kind_type kind) ≡ Some i
     → (first_refusal (all_checks version_table file (section_at file i)) ≡ None) × ((section_versions kind file (section_at file i)).cut ≡ None)
 
@@ -59,7 +59,7 @@ IsNoCheck (Source fault at) = Unit {0}
 
 -- the records of that section were taken in behind others, and their names are in these strings
 pub record TakenIn (file : List ℕ) (kind : VersionKind) (records : List Met) (after : List NameAt) (strings : Strings) : Type 0 where
-  pub names : Names file (records ++ first_versions kind (kind_type kind) file) after
+  pub names : NamesNumbers file (records ++ first_versions kind (kind_type kind) file) after
   pub named : (first_versions kind (kind_type kind) file ≡ [] → ⊥) → strings_in file strings ≡ first_strings (kind_type kind) file
 
 abbrev pub TakenOr : List ℕ → VersionKind → List Met → List NameAt → Result Strings Fault → Type 0
@@ -67,15 +67,15 @@ TakenOr file kind records after (Ok strings) = TakenIn file kind records after s
 TakenOr file kind records after (Err fault) = IsNoCheck fault
 
 -- what a call did that takes them in: where the section is whole they are taken in, unless a read fails
-pub record Takes {S W : Type 0} {s : Sources S} {w : Sinks W} (old new : Listing S W s w) (before after : List NameAt) (result : Result Strings Fault) (kind : VersionKind) : Type 0 where
+pub record TakesRecords {S W : Type 0} {s : Sources S} {w : Sinks W} (old new : Listing S W s w) (before after : List NameAt) (result : Result Strings Fault) (kind : VersionKind) : Type 0 where
   pub fetches : Fetches old new result (walk_cost (store_sections old.file.store.now) old.file.loaded.size (kind_type kind) (record_size kind) (bytes_each kind))
   pub within : IfOk result (StringsWithin old.src.now.seen.size)
-  pub taken : (file : List ℕ) → old.src.now.seen.file ≡ Some file → IsWhole file kind → (records : List Met) → Names file records before
+  pub taken : (file : List ℕ) → old.src.now.seen.file ≡ Some file → AreRecordsWhole file kind → (records : List Met) → NamesNumbers file records before
       → TakenOr file kind records after result
 
 -- the names of all numbers of a file
 pub record AreNumbered (file : List ℕ) (numbered : Numbered) : Type 0 where
-  pub names : Names file (first_versions Definition SHT_GNU_VERDEF file ++ first_versions File SHT_GNU_VERNEED file) numbered.names
+  pub names : NamesNumbers file (first_versions Definition SHT_GNU_VERDEF file ++ first_versions File SHT_GNU_VERNEED file) numbered.names
   pub defined : (first_versions Definition SHT_GNU_VERDEF file ≡ [] → ⊥) → strings_in file numbered.defined ≡ first_strings SHT_GNU_VERDEF file
   pub needed : (first_versions File SHT_GNU_VERNEED file ≡ [] → ⊥) → strings_in file numbered.needed ≡ first_strings SHT_GNU_VERNEED file
 
@@ -87,4 +87,4 @@ NumberedOr file (Err fault) = IsNoCheck fault
 pub record FetchesNumbers {S W : Type 0} {s : Sources S} {w : Sinks W} (old new : Listing S W s w) (result : Result Numbered Fault) : Type 0 where
   pub fetches : Fetches old new result (walks_cost (store_sections old.file.store.now) old.file.loaded.size)
   pub within : IfOk result (NumberedWithin old.src.now.seen.size)
-  pub read : (file : List ℕ) → old.src.now.seen.file ≡ Some file → IsWhole file Definition → IsWhole file File → NumberedOr file result
+  pub read : (file : List ℕ) → old.src.now.seen.file ≡ Some file → AreRecordsWhole file Definition → AreRecordsWhole file File → NumberedOr file result

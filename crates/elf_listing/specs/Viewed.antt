@@ -15,8 +15,8 @@ abbrev pub needs_view : ℕ → Opened → Bool
 needs_view parts loaded = loaded.header.e_shnum == 0 && (has parts SEGMENTS || (has parts NOTES || has parts DYNAMIC))
 
 -- how many program headers are loaded
-abbrev pub viewed : ℕ → Opened → ℕ
-viewed parts loaded = if needs_view parts loaded then loaded.header.e_phnum else 0
+abbrev pub viewed_headers : ℕ → Opened → ℕ
+viewed_headers parts loaded = if needs_view parts loaded then loaded.header.e_phnum else 0
 
 -- how many bytes that asks for
 abbrev pub view_cost : ℕ → Opened → ℕ
@@ -44,5 +44,5 @@ pub record AwaitsView (size : ℕ) (loaded : Opened) (store : Stored) : Type 0 w
 pub record IsReady (parts : ℕ) (src : Counting) (loaded : Opened) (store : Stored) : Type 0 where
   pub opened : IsOpen src loaded store
   pub whole : store.loaded ≡ loaded.header.e_shnum
-  pub counted : store.segments ≡ viewed parts loaded
+  pub counted : store.segments ≡ viewed_headers parts loaded
   pub viewed : IsViewed src.seen.file loaded store

@@ -3,10 +3,10 @@
 /// The size in bytes of all fixed buffers that [`crate::show`] holds, each once, at most 16,384:
 /// those of reading a file, of reading names and symbols ahead, of a note, and of putting a line
 /// together.
-pub const FIXED_BYTES: usize = elf_table::BUFFER_BYTES
-    + elf_names::BUFFER_BYTES
-    + elf_note::BUFFER_BYTES
-    + elf_lines::BUFFER_BYTES
+pub const FIXED_BYTES: usize = elf_table::TABLE_BUFFER_BYTES
+    + elf_names::NAMES_BUFFER_BYTES
+    + elf_note::NOTES_BUFFER_BYTES
+    + elf_lines::LINES_BUFFER_BYTES
     + DESCRIPTOR_TEXT_BYTES;
 
 /// The size in bytes of the digits of a note's descriptor, two for each byte that is shown.

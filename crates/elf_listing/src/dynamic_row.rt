@@ -7,18 +7,18 @@ ghost use Rattle.elf_listing.specs.Fetched.{FetchesString};
 ghost use Rattle.elf_listing.specs.Kinds.{ListsRow, RowFits};
 ghost use Rattle.elf_listing.specs.Strings.{AreWithin, FindsStrings};
 ghost use Rattle.elf_listing.specs.declared.dynamic_row.EntryStrings.TheVariants.{Mapped};
-ghost use Rattle.elf_listing.specs.declared.rows.Kind.TheVariants.{Dynamic};
+ghost use Rattle.elf_listing.specs.declared.rows.ListedAs.TheVariants.{Dynamic};
 
 use crate::listing::Listing;
 use crate::row::whole_row;
-use elf_headers::refused;
+use elf_headers::{Fault, Stop, Style, refused};
 use elf_lines::dynamic_front;
 use elf_names::NameIndex;
 use elf_note::DynStrings;
 use elf_record::numbers::{DT_NEEDED, DT_RPATH, DT_RUNPATH, DT_SONAME};
 use elf_record::{Cause, Dyn};
 use elf_source::{Sink, Source};
-use elf_table::{Fault, NameEnd, Names, Row, SegmentView, Stop, Style};
+use elf_table::{NameEnd, Names, Row, SegmentView};
 
 /// Where the strings of dynamic entries are looked for.
 #[derive(Clone, Copy)]

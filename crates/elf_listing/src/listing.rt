@@ -5,10 +5,11 @@ ghost use Rattle.elf_names.specs.Ahead.{AgreesWith};
 ghost use Rattle.elf_listing.specs.Viewed.{IsViewed};
 ghost use Rattle.elf_headers.specs.Load.{IsOpen};
 
-use elf_lines::Naming;
+use elf_headers::Style;
+use elf_lines::NumberNaming;
 use elf_names::ReadAhead;
 use elf_source::{Counted, Out, Sink, Source};
-use elf_table::{File, NameBuf, Style};
+use elf_table::{File, NameBuf};
 
 /// A source that is read, an output that is written, the file that was loaded, how its rows are
 /// shown, a buffer for a name, and the names and symbols that were read ahead. What shows
@@ -34,13 +35,13 @@ pub struct Listing<'s, 'o, 'f, S: Source, W: Sink> {
 
 impl<S: Source, W: Sink> Listing<'_, '_, '_, S, W> {
     /// How numbers are named in the file's lines.
-    pub(crate) fn naming(&self) -> Naming
+    pub(crate) fn naming(&self) -> NumberNaming
         ensures gnu { result.gnu ≡ self.now.style.gnu }
         ensures format { result.format ≡ self.now.style.format }
         ensures machine { (file : List ℕ) → self.now.src.now.seen.file ≡ Some file →
             result.machine ≡ e_machine file }
     {
-        Naming {
+        NumberNaming {
             gnu: self.style.gnu,
             machine: self.file.loaded.header().e_machine,
             format: self.style.format,

@@ -1,15 +1,15 @@
 //! The name of a symbol's version, by its number.
 ghost use Rattle.elf_listing.specs.Kinds.{ListsRow, RowFits};
 ghost use Rattle.elf_listing.specs.Numbered.{FetchesVersion, NumberedWithin};
-ghost use Rattle.elf_listing.specs.declared.rows.Kind.TheVariants.{Versions};
+ghost use Rattle.elf_listing.specs.declared.rows.ListedAs.TheVariants.{Versions};
 
 use crate::listing::Listing;
-use elf_headers::refused;
+use elf_headers::{Fault, Stop, refused};
 use elf_lines::symbol_version_front;
 use elf_names::NameIndex;
 use elf_record::{Cause, u16_at};
 use elf_source::{Sink, Source};
-use elf_table::{Fault, NameEnd, Names, Row, Stop};
+use elf_table::{NameEnd, Names, Row};
 use elf_versions::{NameAt, NumberNames};
 
 /// Where the names of the numbers of versions are.

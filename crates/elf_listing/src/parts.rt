@@ -4,14 +4,14 @@ ghost use Rattle.elf_listing.specs.HeadersListed.{ListsAsked, ListsPair};
 ghost use Rattle.elf_listing.specs.HeadersListed.{ListsSegments, ListsTables};
 ghost use Rattle.elf_headers.specs.Permitted.{style_of};
 ghost use Rattle.elf_listing.specs.Parts.{AwaitsAsked, listed_by};
-ghost use Rattle.elf_listing.specs.Viewed.{viewed};
+ghost use Rattle.elf_listing.specs.Viewed.{viewed_headers};
 
 use crate::listing::Listing;
-use crate::rows::Kind;
+use crate::rows::ListedAs;
 use bitflags::Flags;
+use elf_headers::Stop;
 use elf_record::Parts;
 use elf_source::{Sink, Source};
-use elf_table::Stop;
 
 /// A part of a listing that goes through the headers in the store: through the section headers, or
 /// through the program headers of a file that has none.
@@ -45,7 +45,7 @@ impl<S: Source, W: Sink> Listing<'_, '_, '_, S, W> {
     /// Shows the tables of the file in their order, as far as the parts have them, up to the first
     /// refusal.
     pub(crate) fn tables(&mut self, parts: Parts) -> Result<(), Stop>
-        requires { self.old.file.store.now.segments ≡ viewed parts.0 self.old.file.loaded }
+        requires { self.old.file.store.now.segments ≡ viewed_headers parts.0 self.old.file.loaded }
         ensures { ListsTables parts.0 self.old self.new result }
     {
         self.part(parts, Part::Headers)?;
@@ -83,7 +83,7 @@ impl<S: Source, W: Sink> Listing<'_, '_, '_, S, W> {
     /// Shows the program headers, where the parts have them: a `P` line each (gABI 5, Program
     /// Header). Those of a file without sections are in the store.
     fn segments(&mut self, parts: Parts) -> Result<(), Stop>
-        requires { self.old.file.store.now.segments ≡ viewed parts.0 self.old.file.loaded }
+        requires { self.old.file.store.now.segments ≡ viewed_headers parts.0 self.old.file.loaded }
         ensures { ListsSegments parts.0 self.old self.new result }
     {
         if !parts.contains(Parts::SEGMENTS) {
@@ -93,7 +93,7 @@ impl<S: Source, W: Sink> Listing<'_, '_, '_, S, W> {
             return self.headers(Part::Segments);
         }
         let table = self.file.segments();
-        self.rows(table, &Kind::Segments)
+        self.rows(table, &ListedAs::Segments)
     }
 }
 

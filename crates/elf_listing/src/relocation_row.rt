@@ -3,16 +3,16 @@ ghost use Rattle.std.specs.Prelude.{IfSome};
 ghost use Rattle.elf_table.specs.Tables.{SymbolsWithin};
 ghost use Rattle.elf_listing.specs.Fetched.{FetchesSymbol};
 ghost use Rattle.elf_listing.specs.Kinds.{ListsRow, RowFits};
-ghost use Rattle.elf_listing.specs.declared.rows.Kind.TheVariants.{Relocations};
+ghost use Rattle.elf_listing.specs.declared.rows.ListedAs.TheVariants.{Relocations};
 
 use crate::listing::Listing;
 use crate::row::whole_row;
-use elf_headers::refused;
+use elf_headers::{Fault, Stop, refused};
 use elf_lines::relocation_front;
 use elf_names::NameIndex;
 use elf_record::{Cause, Rela};
 use elf_source::{Sink, Source};
-use elf_table::{Fault, NameEnd, Names, Row, Stop, Table};
+use elf_table::{NameEnd, Names, Row, Table};
 
 /// Symbols with the string table of their names.
 type Linked = Option<(Table, Names)>;

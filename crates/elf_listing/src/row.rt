@@ -3,14 +3,15 @@ ghost use Rattle.std.specs.Prelude.{◌≡◌, ◌≤◌, length};
 ghost use Rattle.elf_lines.specs.Fronts.{front_of};
 ghost use Rattle.elf_listing.specs.Kinds.{ListsRow, RowFits};
 ghost use Rattle.elf_listing.specs.Shows.{ListsLine, cut_of};
-ghost use Rattle.elf_listing.specs.declared.rows.Kind.TheVariants.{Segments, Symbols};
+ghost use Rattle.elf_listing.specs.declared.rows.ListedAs.TheVariants.{Segments, Symbols};
 
 use crate::listing::Listing;
+use elf_headers::Stop;
 use elf_lines::{LineFront, segment_row, show_named, symbol_front};
 use elf_names::NameIndex;
 use elf_record::{Phdr, Sym};
 use elf_source::{Sink, Source};
-use elf_table::{NameEnd, Names, Row, Stop};
+use elf_table::{NameEnd, Names, Row};
 
 impl<S: Source, W: Sink> Listing<'_, '_, '_, S, W> {
     /// Shows the row of a program header: its `P` line.

@@ -5,12 +5,13 @@ ghost use Rattle.elf_table.specs.Cursors.{ShowsRow, unread_bytes};
 ghost use Rattle.elf_headers.specs.Faults.{Says};
 ghost use Rattle.elf_table.specs.Tables.{RowsWithin};
 ghost use Rattle.elf_listing.specs.Kinds.{row_size};
-ghost use Rattle.elf_listing.specs.RowCursors.{AdvancesRows, Begins, reading};
+ghost use Rattle.elf_listing.specs.RowCursors.{AdvancesRows, BeginsTable, reading};
 
-use crate::rows::Kind;
+use crate::rows::ListedAs;
+use elf_headers::Fault;
 use elf_note::{DynCursor, dynamic_rows};
 use elf_source::{Counted, Source};
-use elf_table::{Cursor, Fault, Row, Table};
+use elf_table::{Cursor, Row, Table};
 
 /// A cursor over the rows of a table that are listed.
 #[derive(Drop)]
@@ -23,12 +24,12 @@ pub enum RowCursor {
 
 impl RowCursor {
     /// A cursor before the first row of a table of a kind.
-    pub(crate) fn new(table: Table, kind: &Kind<'_>) -> RowCursor
+    pub(crate) fn new(table: Table, kind: &ListedAs<'_>) -> RowCursor
         requires { table.entry ≡ row_size kind.now }
-        ensures { Begins kind.now table result }
+        ensures { BeginsTable kind.now table result }
     {
         match kind {
-            Kind::Dynamic { .. } => RowCursor::Entries(dynamic_rows(table)),
+            ListedAs::Dynamic { .. } => RowCursor::Entries(dynamic_rows(table)),
             _ => RowCursor::All(Cursor::new(table)),
         }
     }

@@ -5,12 +5,13 @@ use crate::dynamic_row::EntryStrings;
 use crate::listing::Listing;
 use crate::numbered::Numbered;
 use crate::row_cursor::RowCursor;
+use elf_headers::Stop;
 use elf_source::{Sink, Source};
-use elf_table::{Names, Row, Stop, Table};
+use elf_table::{Names, Row, Table};
 
 /// What the rows of a table are listed as.
 #[derive(Clone, Copy)]
-pub enum Kind<'f> {
+pub enum ListedAs<'f> {
     /// Program headers, a `P` line each.
     Segments,
     /// The symbols of a section, a `Y` line each.
@@ -44,7 +45,7 @@ pub enum Kind<'f> {
 impl<S: Source, W: Sink> Listing<'_, '_, '_, S, W> {
     /// Shows the rows of a table that are listed one after another, up to the first that is
     /// refused.
-    pub(crate) fn rows(&mut self, table: Table, kind: &Kind<'_>) -> Result<(), Stop>
+    pub(crate) fn rows(&mut self, table: Table, kind: &ListedAs<'_>) -> Result<(), Stop>
         requires { IsTableOf self.old.src.now.seen.size kind.now table }
         ensures { ListsRows self.old self.new result kind.now table }
     {
@@ -56,16 +57,20 @@ impl<S: Source, W: Sink> Listing<'_, '_, '_, S, W> {
     }
 
     /// Shows one row.
-    fn row(&mut self, row: &Row<'_>, kind: &Kind<'_>) -> Result<(), Stop>
+    fn row(&mut self, row: &Row<'_>, kind: &ListedAs<'_>) -> Result<(), Stop>
         requires { RowFits self.old.src.now.seen.size kind.now row.now }
         ensures { ListsRow self.old self.new result kind.now row.now }
     {
         match kind {
-            Kind::Segments => self.segment_row(row),
-            Kind::Symbols { section, names } => self.symbol_row(row, *section, names),
-            Kind::Relocations { section, linked } => self.relocation_row(row, *section, *linked),
-            Kind::Dynamic { strings } => self.dynamic_row(row, strings),
-            Kind::Versions { section, numbered } => self.version_number(row, *section, numbered),
+            ListedAs::Segments => self.segment_row(row),
+            ListedAs::Symbols { section, names } => self.symbol_row(row, *section, names),
+            ListedAs::Relocations { section, linked } => self.relocation_row(
+                row, *section, *linked,
+            ),
+            ListedAs::Dynamic { strings } => self.dynamic_row(row, strings),
+            ListedAs::Versions { section, numbered } => self.version_number(
+                row, *section, numbered,
+            ),
         }
     }
 }

@@ -7,12 +7,13 @@ ghost use Rattle.elf_listing.specs.declared.parts.Part.TheVariants.{SectionNotes
 
 use crate::dynamic_row::EntryStrings;
 use crate::listing::Listing;
-use crate::rows::Kind;
+use crate::rows::ListedAs;
+use elf_headers::Stop;
 use elf_lines::section_front;
 use elf_record::numbers::{SHT_DYNAMIC, SHT_NOTE, SHT_RELA};
 use elf_record::sizes::DYNAMIC_BYTES;
 use elf_source::{Sink, Source};
-use elf_table::{Stop, holds_symbols};
+use elf_table::holds_symbols;
 
 impl<S: Source, W: Sink> Listing<'_, '_, '_, S, W> {
     /// Shows the row of a section header: its `S` line with its name, or the name's refusal at the
@@ -41,7 +42,7 @@ impl<S: Source, W: Sink> Listing<'_, '_, '_, S, W> {
         }
         let symbols = self.file.symbols(section)?;
         let (table, names) = symbols;
-        self.rows(table, &Kind::Symbols { section, names })
+        self.rows(table, &ListedAs::Symbols { section, names })
     }
 
     /// Shows the relocation entries of a section, where it holds them: an `R` line each, or the
@@ -56,7 +57,7 @@ impl<S: Source, W: Sink> Listing<'_, '_, '_, S, W> {
         }
         let found = self.file.relocations(section)?;
         let (table, linked) = found;
-        self.rows(table, &Kind::Relocations { section, linked })
+        self.rows(table, &ListedAs::Relocations { section, linked })
     }
 
     /// Shows the notes of a section, where it holds notes: an `N` line each, or the refusal of its
@@ -91,6 +92,6 @@ impl<S: Source, W: Sink> Listing<'_, '_, '_, S, W> {
         let table = self.file.table(section, DYNAMIC_BYTES)?;
         let names = self.file.strings(section)?;
         let strings = EntryStrings::Linked(names);
-        self.rows(table, &Kind::Dynamic { strings })
+        self.rows(table, &ListedAs::Dynamic { strings })
     }
 }

@@ -6,12 +6,13 @@ ghost use Rattle.elf_listing.specs.declared.parts.Part.TheVariants.{SegmentDynam
 
 use crate::dynamic_row::EntryStrings;
 use crate::listing::Listing;
-use crate::rows::Kind;
+use crate::rows::ListedAs;
+use elf_headers::Stop;
 use elf_lines::segment_row;
 use elf_note::dynamic_strings;
 use elf_record::numbers::{PT_DYNAMIC, PT_NOTE};
 use elf_source::{Sink, Source};
-use elf_table::{SegmentView, Stop};
+use elf_table::SegmentView;
 
 impl<'f, S: Source, W: Sink> Listing<'_, '_, 'f, S, W> {
     /// The file with its program headers, where they are loaded.
@@ -66,6 +67,6 @@ impl<'f, S: Source, W: Sink> Listing<'_, '_, 'f, S, W> {
         let table = view.dynamic(segment)?;
         let told = dynamic_strings(table, self.src)?;
         let strings = EntryStrings::Mapped { view, told };
-        self.rows(table, &Kind::Dynamic { strings })
+        self.rows(table, &ListedAs::Dynamic { strings })
     }
 }

@@ -22,12 +22,13 @@ use crate::listing::Listing;
 use crate::telling::show_stop;
 use crate::viewing::load_view;
 use bitflags::Flags;
+use elf_headers::{Caps, HeaderStore, Loaded, Stop, Style, header, load};
 use elf_lines::header_row;
 use elf_model::Format;
 use elf_names::ReadAhead;
 use elf_record::{Ehdr, Parts};
 use elf_source::{Counted, Out, Sink, Source};
-use elf_table::{Caps, File, HeaderStore, Loaded, NameBuf, Stop, Style, header, load};
+use elf_table::{File, NameBuf};
 
 /// All parts but the file header's.
 const TABLES: Parts = Parts(254);

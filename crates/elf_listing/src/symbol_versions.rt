@@ -6,18 +6,19 @@ ghost use Rattle.elf_table.specs.Tables.{RowsWithin};
 ghost use Rattle.elf_listing.specs.HeadersListed.{ListsHeader};
 ghost use Rattle.elf_listing.specs.Numbered.{NumberedWithin};
 ghost use Rattle.elf_listing.specs.Parts.{Awaits};
-ghost use Rattle.elf_listing.specs.SymbolVersions.{FetchesNumbers, ListsVersioned, Takes};
+ghost use Rattle.elf_listing.specs.SymbolVersions.{FetchesNumbers, ListsVersioned, TakesRecords};
 ghost use Rattle.elf_listing.specs.declared.parts.Part.TheVariants.{SymbolVersions};
 
 use crate::listing::Listing;
 use crate::numbered::Numbered;
-use crate::rows::Kind;
+use crate::rows::ListedAs;
 use crate::versions::section_type;
+use elf_headers::{Fault, Stop};
 use elf_record::gnu_numbers::SHT_GNU_VERSYM;
 use elf_record::sizes::SYMBOL_VERSION_BYTES;
 use elf_record::{Cause, Refusal, VersionKind};
 use elf_source::{Sink, Source};
-use elf_table::{Fault, Names, Stop, Table};
+use elf_table::{Names, Table};
 use elf_versions::{NumberNames, VersionCursor};
 
 impl<S: Source, W: Sink> Listing<'_, '_, '_, S, W> {
@@ -61,7 +62,7 @@ impl<S: Source, W: Sink> Listing<'_, '_, '_, S, W> {
     {
         let at = self.file.place(section);
         let rows = first_entries(&table, symbols);
-        self.rows(rows, &Kind::Versions { section, numbered })?;
+        self.rows(rows, &ListedAs::Versions { section, numbered })?;
         if table.len() < symbols {
             return Err(Stop::Refused(Refusal {
                 at,
@@ -90,7 +91,7 @@ impl<S: Source, W: Sink> Listing<'_, '_, '_, S, W> {
     /// table of their names; an empty one where there is no record.
     fn take_first(&mut self, names: &mut NumberNames, kind: VersionKind) -> Result<Names, Fault>
         requires kind { kind ≡ Need → ⊥ }
-        ensures { Takes self.old self.new names.old names.new result kind }
+        ensures { TakesRecords self.old self.new names.old names.new result kind }
     {
         let Some(section) = self.file.first(section_type(kind)) else {
             return Ok(Names::new(0, 0));

@@ -2,10 +2,10 @@
 ghost use Rattle.elf_source.specs.Growth.{Grows};
 ghost use Rattle.elf_listing.specs.Reports.{TellsStop};
 
+use elf_headers::Stop;
 use elf_lines::show_refusal;
 use elf_model::Format;
 use elf_source::{Out, Sink};
-use elf_table::Stop;
 
 /// Writes the line of a refusal that stopped a call, and of any other stop nothing. Answers the
 /// stop; or the output's fault where the line could not be written, with a front of it written.

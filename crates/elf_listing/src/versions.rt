@@ -7,12 +7,13 @@ ghost use Rattle.elf_listing.specs.Versions.{ListsRecord, ListsRecords, ListsVer
 ghost use Rattle.elf_listing.specs.declared.parts.Part.TheVariants.{Definitions, Needs};
 
 use crate::listing::Listing;
+use elf_headers::Stop;
 use elf_lines::version_front;
 use elf_names::NameIndex;
 use elf_record::VersionKind;
 use elf_record::gnu_numbers::{SHT_GNU_VERDEF, SHT_GNU_VERNEED};
 use elf_source::{Sink, Source};
-use elf_table::{Names, Stop};
+use elf_table::Names;
 use elf_versions::{VersionCursor, VersionRecord};
 
 impl<S: Source, W: Sink> Listing<'_, '_, '_, S, W> {

@@ -9,12 +9,13 @@ ghost use Rattle.elf_headers.specs.Load.{Belongs};
 ghost use Rattle.elf_headers.specs.Permitted.{style_of};
 ghost use Rattle.elf_headers.specs.Store.{HoldsSegments};
 ghost use Rattle.elf_table.specs.Views.{Decides};
-ghost use Rattle.elf_listing.specs.Viewed.{AwaitsView, ChecksView, needs_view, view_cost, viewed};
+ghost use Rattle.elf_listing.specs.Viewed.{AwaitsView, ChecksView, needs_view, view_cost, viewed_headers};
 
 use bitflags::Flags;
+use elf_headers::{Fault, HeaderStore, Loaded, Style};
 use elf_record::Parts;
 use elf_source::{Counted, Source};
-use elf_table::{Fault, HeaderStore, Loaded, SegmentView, Style};
+use elf_table::SegmentView;
 
 /// Loads the program headers of a file without sections, where the parts need them: to be shown, or
 /// because they tell where its notes and its dynamic entries are. Where the style finds tables by
@@ -33,7 +34,7 @@ pub(crate) fn load_view<S: Source>(
     requires { AwaitsView src.old.seen.size loaded.now store.old }
     ensures slots { store.new.slots ≡ store.old.slots }
     ensures loaded { store.new.loaded ≡ store.old.loaded }
-    ensures segments { OnOk result (store.new.segments ≡ viewed parts.0 loaded.now) }
+    ensures segments { OnOk result (store.new.segments ≡ viewed_headers parts.0 loaded.now) }
     ensures reads { Reads src.old src.new (view_cost parts.0 loaded.now) }
     ensures says { IfErr result (Says src.old src.new (view_cost parts.0 loaded.now)) }
     ensures held { (file : List ℕ) → src.old.seen.file ≡ Some file →
@@ -52,7 +53,7 @@ pub(crate) fn load_view<S: Source>(
 /// # Errors
 /// That of [`SegmentView::check_overlaps`].
 fn check_view(store: &HeaderStore, loaded: &Loaded, style: Style, parts: Parts) -> Result<(), Fault>
-    requires { store.now.segments ≡ viewed parts.0 loaded.now }
+    requires { store.now.segments ≡ viewed_headers parts.0 loaded.now }
     ensures checked { (file : List ℕ) → Belongs file loaded.now store.now →
         HoldsSegments file store.now → (style.by_segments ≡ true → e_shnum file ≡ 0) →
         Decides (view_checks file (style_of style) parts.0) result }
@@ -82,7 +83,7 @@ fn read_view<S: Source>(
     requires { AwaitsView src.old.seen.size loaded.now store.old }
     ensures slots { store.new.slots ≡ store.old.slots }
     ensures loaded { store.new.loaded ≡ store.old.loaded }
-    ensures segments { OnOk result (store.new.segments ≡ viewed parts.0 loaded.now) }
+    ensures segments { OnOk result (store.new.segments ≡ viewed_headers parts.0 loaded.now) }
     ensures reads { Reads src.old src.new (view_cost parts.0 loaded.now) }
     ensures says { IfErr result (Says src.old src.new (view_cost parts.0 loaded.now)) }
     ensures fault { IfErr result IsOfRead }

@@ -3,12 +3,12 @@ use Rattle.std.specs.Prelude.{◌≡◌, ◌⊎◌, List, codes, Option, None, S
 use Rattle.std.specs.Borrow.{Bor}
 use Rattle.clap.specs.Walk.{Row, Text, first_of}
 use Rattle.elf_listing_words.specs.Faults.{IsUnasked}
-use Rattle.elf_listing_words.specs.Options.{AreLimits, AreParts, IsStyle}
+use Rattle.elf_listing_words.specs.Options.{AreLimitOptions, AreParts, IsStyle}
 use Rattle.elf_listing_words.specs.Reading.{AreRead, AreRefused}
 use Rattle.elf_listing_words.specs.declared.faults.WordsFault.{WordsFault}
-use Rattle.elf_listing_words.specs.declared.listings.Listing.{Listing}
-use Rattle.elf_listing_words.specs.declared.listings.Shown.{Shown}
-use Rattle.elf_listing_words.specs.declared.listings.Shown.TheVariants.{Listed, Version}
+use Rattle.elf_listing_words.specs.declared.listings.ListingAsked.{ListingAsked}
+use Rattle.elf_listing_words.specs.declared.listings.ShowRequest.{ShowRequest}
+use Rattle.elf_listing_words.specs.declared.listings.ShowRequest.TheVariants.{Listed, Version}
 
 -- the file whose path stands among the values, or for `sample` none
 abbrev pub IsOfFile : Text → List Row → Option (Bor Text) → Type 0
@@ -16,13 +16,13 @@ IsOfFile command rows (Some path) = (command ≡ codes "show") × (first_of (cod
 IsOfFile command rows None = command ≡ codes "sample"
 
 -- a command with the values of its arguments asks for just this listing
-pub record IsListing (command : Text) (rows : List Row) (asked : Listing) : Type 0 where
+pub record IsListing (command : Text) (rows : List Row) (asked : ListingAsked) : Type 0 where
   pub of_file : IsOfFile command rows asked.file
-  pub limits : AreLimits rows asked.limits
+  pub limits : AreLimitOptions rows asked.limits
   pub style : IsStyle rows asked.style
   pub parts : AreParts rows asked.parts
 
-abbrev pub ListsBy : Option (Text × List Row) → Listing → Type 0
+abbrev pub ListsBy : Option (Text × List Row) → ListingAsked → Type 0
 ListsBy None asked = ⊥
 ListsBy (Some (command, rows)) asked = IsListing command rows asked
 
@@ -32,16 +32,16 @@ AsksVersion None = ⊥
 AsksVersion (Some (command, rows)) = command ≡ codes "version"
 
 -- a command with the values of its arguments asks for just this
-abbrev pub ShowsBy : Option (Text × List Row) → Shown → Type 0
+abbrev pub ShowsBy : Option (Text × List Row) → ShowRequest → Type 0
 ShowsBy matches (Listed listing) = ListsBy matches listing
 ShowsBy matches Version = AsksVersion matches
 
 -- neither a listing of one file is asked for nor the version
 abbrev pub NothingShown : Option (Text × List Row) → Type 0
-NothingShown matches = (asked : Shown) → ShowsBy matches asked → ⊥
+NothingShown matches = (asked : ShowRequest) → ShowsBy matches asked → ⊥
 
 -- WHAT IS TO BE SHOWN: the command line takes the words, and what it makes of them asks for this listing, or for the version
-abbrev pub WordsShow : List Text → Shown → Type 0
+abbrev pub WordsShow : List Text → ShowRequest → Type 0
 WordsShow words asked = (matches : Option (Text × List Row)) × AreRead words matches × ShowsBy matches asked
 
 -- WHY NOTHING IS: the command line refuses the words, or makes of them what asks for no listing of one file and for no version

@@ -39,29 +39,29 @@ HasNumber None value = value ≡ None
 HasNumber (Some text) value = SpellsNumber text × (value ≡ Some (decimal_value text))
 
 -- how many headers are permitted and how many bytes may be read, by the values of the options
-pub record AreLimits (rows : List Row) (limits : Limits) : Type 0 where
+pub record AreLimitOptions (rows : List Row) (limits : Limits) : Type 0 where
   pub headers : HasNumber (one_of (codes "headers") rows) (Some limits.headers)
   pub budget : HasNumber (one_of (codes "max-read") rows) limits.budget
 
 -- whether an option without a value is set, by its text among the rows
-abbrev pub is_set : Option Text → Bool
-is_set None = false
-is_set (Some text) = bytes_eq text (codes "true")
+abbrev pub is_option_set : Option Text → Bool
+is_option_set None = false
+is_option_set (Some text) = bytes_eq text (codes "true")
 
 -- whether listings of the GNU system are asked for
 abbrev pub asks_gnu : List Row → Bool
-asks_gnu rows = is_set (first_of (codes "gnu") rows)
+asks_gnu rows = is_option_set (first_of (codes "gnu") rows)
 
 -- whether the program headers alone are to be gone by, where only a loader's lookup does that and none is asked for
 abbrev pub lacks_gnu : List Row → Bool
-lacks_gnu rows = is_set (first_of (codes "by-segments") rows) && not (asks_gnu rows)
+lacks_gnu rows = is_option_set (first_of (codes "by-segments") rows) && not (asks_gnu rows)
 
 -- how rows are shown, by the values of the options
 pub record IsStyle (rows : List Row) (style : Style) : Type 0 where
   pub cap : HasNumber (one_of (codes "names") rows) (Some style.cap.bytes)
   pub gnu : style.gnu ≡ asks_gnu rows
-  pub by_segments : style.by_segments ≡ is_set (first_of (codes "by-segments") rows)
-  pub format : style.format ≡ (if is_set (first_of (codes "json") rows) then Object else Columns)
+  pub by_segments : style.by_segments ≡ is_option_set (first_of (codes "by-segments") rows)
+  pub format : style.format ≡ (if is_option_set (first_of (codes "json") rows) then Object else Columns)
 
 -- the part with this name, or without a name all, of listings of the GNU system or of the standards' alone
 abbrev pub ArePartsOf : Bool → Option Text → Parts → Type 0

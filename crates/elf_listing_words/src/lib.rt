@@ -8,7 +8,7 @@ mod options;
 mod reading;
 
 pub use faults::WordsFault;
-pub use listings::{Listing, Shown, listing_of, shown_asked};
+pub use listings::{ListingAsked, ShowRequest, listing_of, shown_asked};
 pub use nothing::unasked;
 pub use options::{
     asks_gnu, find_lacks_gnu, is_set, limits_of, parts_of, small_number_of, style_of, text_of,

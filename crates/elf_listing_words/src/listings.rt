@@ -7,8 +7,8 @@ ghost use Rattle.elf_headers.specs.declared.caps.Style.{Style};
 ghost use Rattle.elf_listing_words.specs.Faults.{IsUnasked};
 ghost use Rattle.elf_listing_words.specs.Listings.{IsListing, NothingShown, ShowsBy};
 ghost use Rattle.elf_listing_words.specs.Listings.{ShowsNothing, WordsShow};
-ghost use Rattle.elf_listing_words.specs.declared.listings.Listing.{Listing};
-ghost use Rattle.elf_listing_words.specs.Options.{AreLimits, AreParts, IsStyle};
+ghost use Rattle.elf_listing_words.specs.declared.listings.ListingAsked.{ListingAsked};
+ghost use Rattle.elf_listing_words.specs.Options.{AreLimitOptions, AreParts, IsStyle};
 ghost use Rattle.elf_record.specs.declared.parts.Parts.{Parts};
 
 use crate::faults::WordsFault;
@@ -24,7 +24,7 @@ use std::convert::AsStr;
 /// A listing that is asked for: of which file, how much of it may be read, which parts there are, and
 /// how rows are shown.
 #[derive(Clone, Copy, Drop)]
-pub struct Listing<'a> {
+pub struct ListingAsked<'a> {
     /// The file's path, or none for the sample, which is a file that the program carries.
     pub file: Option<&'a str>,
     /// How many headers are permitted, and how many bytes may be read.
@@ -37,9 +37,9 @@ pub struct Listing<'a> {
 
 /// What a program that only lists one file can be asked for.
 #[derive(Drop)]
-pub enum Shown<'a> {
+pub enum ShowRequest<'a> {
     /// A file is listed.
-    Listed(Listing<'a>),
+    Listed(ListingAsked<'a>),
     /// The version of the program is told.
     Version,
 }
@@ -49,7 +49,10 @@ pub enum Shown<'a> {
 ///
 /// # Errors
 /// `Told` for words that ask for neither, or for help; `Memory` where there is none for reading them.
-pub fn shown_asked<'a, S: AsStr>(alloc: Global, words: &'a [S]) -> Result<Shown<'a>, WordsFault>
+pub fn shown_asked<'a, S: AsStr>(
+    alloc: Global,
+    words: &'a [S],
+) -> Result<ShowRequest<'a>, WordsFault>
     ensures asked { IfOk result (WordsShow (map S.text words.entry.now)) }
     ensures refused { IfErr result (ShowsNothing (map S.text words.entry.now)) }
 {
@@ -63,7 +66,7 @@ pub fn shown_asked<'a, S: AsStr>(alloc: Global, words: &'a [S]) -> Result<Shown<
 ///
 /// # Errors
 /// They ask for no listing of one file, and not for the version.
-fn shown_by<'a>(alloc: Global, matches: &ArgMatches<'a>) -> Result<Shown<'a>, WordsFault>
+fn shown_by<'a>(alloc: Global, matches: &ArgMatches<'a>) -> Result<ShowRequest<'a>, WordsFault>
     ensures asked { IfOk result (ShowsBy (subcommand_rows_of matches.now)) }
     ensures refused { IfErr result (λ fault.
         IsUnasked fault × NothingShown (subcommand_rows_of matches.now)) }
@@ -80,24 +83,24 @@ fn shown_by<'a>(alloc: Global, matches: &ArgMatches<'a>) -> Result<Shown<'a>, Wo
 
 /// What a command with these arguments asks for, or None where it asks neither for a listing of one
 /// file nor for the version.
-fn shown_of<'a>(command: &str, options: &ArgMatches<'a>) -> Option<Shown<'a>>
+fn shown_of<'a>(command: &str, options: &ArgMatches<'a>) -> Option<ShowRequest<'a>>
     ensures some { IfSome result (ShowsBy (Some (command.now, rows_of (found_of options.now)))) }
     ensures none { result ≡ None →
         NothingShown (Some (command.now, rows_of (found_of options.now))) }
 {
     match command {
-        "version" => Some(Shown::Version),
+        "version" => Some(ShowRequest::Version),
         _ => match listing_of(command, options) {
-            Some(listing) => Some(Shown::Listed(listing)),
+            Some(listing) => Some(ShowRequest::Listed(listing)),
             None => None,
         },
     }
 }
 
 /// The listing of one file that a command with these arguments asks for, or None where it asks for none.
-pub fn listing_of<'a>(command: &str, options: &ArgMatches<'a>) -> Option<Listing<'a>>
+pub fn listing_of<'a>(command: &str, options: &ArgMatches<'a>) -> Option<ListingAsked<'a>>
     ensures some { IfSome result (IsListing command.now (rows_of (found_of options.now))) }
-    ensures none { result ≡ None → (listing : Listing)
+    ensures none { result ≡ None → (listing : ListingAsked)
         → IsListing command.now (rows_of (found_of options.now)) listing → ⊥ }
 {
     match command {
@@ -108,23 +111,23 @@ pub fn listing_of<'a>(command: &str, options: &ArgMatches<'a>) -> Option<Listing
 }
 
 /// The listing of a file, or of the sample where there is none, with the options that are asked for.
-fn options_of<'a>(file: Option<&'a str>, options: &ArgMatches<'a>) -> Option<Listing<'a>>
+fn options_of<'a>(file: Option<&'a str>, options: &ArgMatches<'a>) -> Option<ListingAsked<'a>>
     ensures file { IfSome result (λ listing. listing.file ≡ file.entry) }
     ensures limits { IfSome result (λ listing.
-        AreLimits (rows_of (found_of options.now)) listing.limits) }
+        AreLimitOptions (rows_of (found_of options.now)) listing.limits) }
     ensures style { IfSome result (λ listing.
         IsStyle (rows_of (found_of options.now)) listing.style) }
     ensures parts { IfSome result (λ listing.
         AreParts (rows_of (found_of options.now)) listing.parts) }
     ensures none { result ≡ None → (limits : Limits) (style : Style) (parts : Parts)
-        → AreLimits (rows_of (found_of options.now)) limits
+        → AreLimitOptions (rows_of (found_of options.now)) limits
         → IsStyle (rows_of (found_of options.now)) style
         → AreParts (rows_of (found_of options.now)) parts → ⊥ }
 {
     let limits = limits_of(options)?;
     let style = style_of(options)?;
     let parts = parts_of(options)?;
-    Some(Listing {
+    Some(ListingAsked {
         file,
         limits,
         parts,

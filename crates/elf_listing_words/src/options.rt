@@ -6,8 +6,8 @@ ghost use Rattle.clap.specs.Walk.{first_of, one_of, rows_of};
 ghost use Rattle.clap.specs.Words.{found_of};
 ghost use Rattle.elf_model.specs.Listing.{all_parts};
 ghost use Rattle.elf_model.specs.Text.{name_of};
-ghost use Rattle.elf_listing_words.specs.Options.{AreLimits, AreParts, HasNumber, IsStyle};
-ghost use Rattle.elf_listing_words.specs.Options.{asks_gnu, is_part, is_set, lacks_gnu, part_names};
+ghost use Rattle.elf_listing_words.specs.Options.{AreLimitOptions, AreParts, HasNumber, IsStyle};
+ghost use Rattle.elf_listing_words.specs.Options.{asks_gnu, is_part, is_option_set, lacks_gnu, part_names};
 ghost use Rattle.elf_record.specs.declared.parts.Parts.{Parts};
 ghost use Rattle.elf_headers.specs.declared.caps.Limits.{Limits};
 ghost use Rattle.elf_headers.specs.declared.caps.Style.{Style};
@@ -19,9 +19,9 @@ use elf_record::Parts;
 
 /// The limits that the options ask for.
 pub fn limits_of(options: &ArgMatches<'_>) -> Option<Limits>
-    ensures some { IfSome result (AreLimits (rows_of (found_of options.now))) }
+    ensures some { IfSome result (AreLimitOptions (rows_of (found_of options.now))) }
     ensures none { result ≡ None → (limits : Limits)
-        → AreLimits (rows_of (found_of options.now)) limits → ⊥ }
+        → AreLimitOptions (rows_of (found_of options.now)) limits → ⊥ }
 {
     let headers = small_number_of(options, "headers")?;
     let budget = number_of(options, "max-read")?;
@@ -47,7 +47,7 @@ pub fn style_of(options: &ArgMatches<'_>) -> Option<Style>
 
 /// How a line is written, by the options.
 fn format_of(options: &ArgMatches<'_>) -> Format
-    ensures { result ≡ (if is_set (first_of (codes "json") (rows_of (found_of options.now)))
+    ensures { result ≡ (if is_option_set (first_of (codes "json") (rows_of (found_of options.now)))
         then Object else Columns) }
 {
     if is_set(options, "json") {
@@ -59,7 +59,7 @@ fn format_of(options: &ArgMatches<'_>) -> Format
 
 /// Whether an option without a value is set.
 pub fn is_set(options: &ArgMatches<'_>, option: &str) -> bool
-    ensures { result ≡ is_set (first_of option.now (rows_of (found_of options.now))) }
+    ensures { result ≡ is_option_set (first_of option.now (rows_of (found_of options.now))) }
 {
     match text_of(options, option) {
         Some(text) => text == "true",

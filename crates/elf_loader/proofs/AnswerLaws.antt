@@ -2,7 +2,7 @@
 use Rattle.std.proofs.Common.{◌≡◌, ℕ, ◌<◌, ◌≤◌, nat_lt, Bool, true, false, List, Option, None, Some, Result, Ok, Err, refl, sym, ap, subst, ◌∙◌, arith}
 use Rattle.std.proofs.lemmas.Bool.Decides.{nat_tests}
 use Rattle.elf_model.specs.Bytes.{field}
-use Rattle.elf_model.specs.Loader.{Asked, Symbols as AreSymbolsOf, VersionWords as AreWordsOf, Wanted, answers, fits, is_offered, symbol_place, version_fits, version_word_at}
+use Rattle.elf_model.specs.Loader.{Asked, Symbols as AreSymbolsOf, VersionWords as AreWordsOf, Wanted, answers, fits, is_offered, symbol_offset, version_fits, version_word_at}
 use Rattle.elf_model.specs.Names.{same}
 use Rattle.elf_model.specs.Records.{st_name}
 use Rattle.elf_model.specs.declared.causes.Cause.TheVariants.{VersionCut}
@@ -18,7 +18,7 @@ use Rattle.elf_scope.specs.Symbols.{AreWords, IsSymbols}
 use Rattle.elf_scope.specs.declared.symbols.Symbols.{Symbols}
 use Rattle.elf_scope.specs.declared.symbols.VersionWords.{VersionWords}
 use Rattle.elf_hash.specs.Trials.{Tries}
-use Rattle.elf_hash.specs.declared.answer.Answer.{Answer}
+use Rattle.elf_hash.specs.declared.answer.TrialAnswer.{TrialAnswer}
 use Rattle.elf_loader.specs.Answering.{SaysOf, StandsAs, TellsAnswer, TellsFit}
 
 -- without words each version fits
@@ -55,16 +55,16 @@ fits-word file (Some told) words asked is_wanted y word are entry low is =
 -- of a symbol that is read
 module _ (file : List ℕ) (told : AreSymbolsOf) (symbols : Symbols) (wanted : Wanted) (is_wanted : ℕ → Bool) (index : ℕ) (symbol : Sym)
     (is : IsSymbols file told symbols) (entry : symbols.table.entry ≡ 24) (low : index < symbols.table.count) (stands : IsSym file (row_at symbols.table index) symbol) where
-  pub place-is : row_at symbols.table index ≡ symbol_place told index
+  pub place-is : row_at symbols.table index ≡ symbol_offset told index
   place-is = rw (entry, is.place) (omega arith)
 
-  pub symbol-is : IsSym file (symbol_place told index) symbol
+  pub symbol-is : IsSym file (symbol_offset told index) symbol
   symbol-is = subst (λ (at : ℕ). IsSym file at symbol) place-is stands
 
-  name-is : same told.strings (st_name file (symbol_place told index)) wanted.name ≡ same (strings_in file symbols.names) symbol.st_name wanted.name
+  name-is : same told.strings (st_name file (symbol_offset told index)) wanted.name ≡ same (strings_in file symbols.names) symbol.st_name wanted.name
   name-is =
       let names : strings_in file symbols.names ≡ told.strings = is.names (omega (arith, low)) in
-      let name : symbol.st_name ≡ st_name file (symbol_place told index) = symbol-is.st_name in
+      let name : symbol.st_name ≡ st_name file (symbol_offset told index) = symbol-is.st_name in
       rw (names, name) refl
 
   -- its name has a fault
@@ -75,7 +75,7 @@ module _ (file : List ℕ) (told : AreSymbolsOf) (symbols : Symbols) (wanted : W
   fault-answers place (Refused refusal) here tells = λ other.
       let t = tells other in
       let e = name-is ∙ t.1 in
-      let at : symbol_place told index ≡ refusal.at = sym place-is ∙ sym here ∙ sym t.0 in
+      let at : symbol_offset told index ≡ refusal.at = sym place-is ∙ sym here ∙ sym t.0 in
       rw (e, at, answers) refl
   fault-answers place (Source fault at) here tells = tt
 
@@ -86,14 +86,14 @@ module _ (file : List ℕ) (told : AreSymbolsOf) (symbols : Symbols) (wanted : W
 
   -- it is not offered
   pub unoffered-answers :
-      same (strings_in file symbols.names) symbol.st_name wanted.name ≡ Ok true → is_offered file (symbol_place told index) ≡ false
+      same (strings_in file symbols.names) symbol.st_name wanted.name ≡ Ok true → is_offered file (symbol_offset told index) ≡ false
       → answers file told wanted is_wanted index ≡ Ok false
   unfolding answers
   unoffered-answers tells none = let e = name-is ∙ tells in rw (e, none, answers) refl
 
   -- it is, and so its version decides
   pub offered-answers :
-      same (strings_in file symbols.names) symbol.st_name wanted.name ≡ Ok true → is_offered file (symbol_place told index) ≡ true
+      same (strings_in file symbols.names) symbol.st_name wanted.name ≡ Ok true → is_offered file (symbol_offset told index) ≡ true
       → answers file told wanted is_wanted index ≡ version_fits file told.words wanted.asked is_wanted index
   unfolding answers
   offered-answers tells offered = let e = name-is ∙ tells in rw (e, offered, answers) refl
@@ -105,7 +105,7 @@ fault-tells file symbols words index says version (Source fault at) e tells = tt
 
 -- what is told of a symbol is what the trial tells
 pub tries-as :
-    (file : List ℕ) (symbols : Symbols) (wanted : Wanted) (is_wanted : ℕ → Bool) (says : ℕ → Result Bool Refusal) (index : ℕ) (result : Result (Option Answer) Fault)
+    (file : List ℕ) (symbols : Symbols) (wanted : Wanted) (is_wanted : ℕ → Bool) (says : ℕ → Result Bool Refusal) (index : ℕ) (result : Result (Option TrialAnswer) Fault)
     → (is : SaysOf file symbols wanted is_wanted says) → TellsAnswer file symbols index (answers file is.told wanted is_wanted index) result
     → Tries (StandsAs file symbols) says index result
 tries-as file symbols wanted is_wanted says index (Ok (Some answer)) is tells = (ap (λ (s : ℕ → Result Bool Refusal). s index) is.says_so ∙ tells.0, tells.1)

@@ -11,7 +11,7 @@ use Rattle.elf_headers.proofs.LedgerLaws.{Charges-more}
 use Rattle.elf_scope.specs.Symbols.{AreWords}
 use Rattle.elf_scope.specs.declared.symbols.VersionWords.{VersionWords}
 use Rattle.elf_loader.specs.Comparing.{Collects, Compares}
-use Rattle.elf_loader.specs.NumberSets.{has}
+use Rattle.elf_loader.specs.NumberSets.{has_number}
 
 -- without words, or without a wanted version, there are none
 pub no-words : (file : List ℕ) (scope : Scope) (asked : Asked) → AreWords scope.symbols.words None → wanted_numbers file scope asked ≡ record { numbers = []; refused = None; read = 0 }
@@ -43,20 +43,20 @@ all-compared file scope asked version words n are = go scope.symbols.words refl 
 -- nothing is read
 pub collects-none :
     (c : Counting) (each : ℕ) (compared : Compared) (numbers : List ℕ) → compared ≡ record { numbers = []; refused = None; read = 0 }
-    → Charges c c None 0 → ((number : ℕ) → has numbers number ≡ false) → Collects c c each compared (Ok numbers)
+    → Charges c c None 0 → ((number : ℕ) → has_number numbers number ≡ false) → Collects c c each compared (Ok numbers)
 collects-none c each compared numbers is none empty =
     rw is (Charges-more (0 * each) (omega arith) none, refl, λ number. empty number)
 
 -- all is compared
 pub collects-all :
-    (a b : Counting) (each : ℕ) (file version old new : List ℕ) (compared all : Compared) → compared ≡ all → ((number : ℕ) → has old number ≡ false)
+    (a b : Counting) (each : ℕ) (file version old new : List ℕ) (compared all : Compared) → compared ≡ all → ((number : ℕ) → has_number old number ≡ false)
     → Compares a b each old new all (compared_with file version []) (Ok tt) → Collects a b each compared (Ok new)
 unfolding compared_with
 collects-all a b each file version old new compared all is empty done =
     rw is (
       Charges-more (all.read * each) (let read = done.2.read in rw read (rest-pays done.0 each)) done.1,
       done.2.refused,
-      λ number. let e = done.2.numbers number in let none = empty number in sym (or-none (has new number)) ∙ sym (rw none at e),
+      λ number. let e = done.2.numbers number in let none = empty number in sym (or-none (has_number new number)) ∙ sym (rw none at e),
     )
   where
     rest-pays : (n each : ℕ) → n * each ≤ (n + 0) * each

@@ -2,7 +2,7 @@
 use Rattle.std.proofs.Common.{◌≡◌, ℕ, suc, ◌+◌, ◌%◌, ◌^◌, ◌≤◌, ◌==◌, ◌||◌, nat_lt, length, Bool, true, false, List, ◌∷◌, Result, Ok, Err, Some, refl, sym, ap, ◌∙◌, arith}
 use Rattle.std.proofs.lemmas.Bool.Decides.{nat_tests}
 use Rattle.std.specs.List.{position_or_len}
-use Rattle.elf_model.specs.Loader.{Compared, Reading, Meets, Refuses, Misses, compared_until, compared_with, is_among, one_more, with_number}
+use Rattle.elf_model.specs.Loader.{Compared, RecordReading, Meets, Refuses, Misses, compared_until, compared_with, is_among, one_more, with_number}
 use Rattle.elf_model.specs.Names.{same}
 use Rattle.elf_model.specs.Versions.{Met, name_index, named_at, names_version, number_in, number_word}
 use Rattle.elf_model.specs.declared.causes.Cause.{Cause}
@@ -14,7 +14,7 @@ use Rattle.elf_table.specs.NamesRead.{Refuses as RefusesName}
 use Rattle.elf_versions.specs.Reading.{IsVersion}
 use Rattle.elf_versions.specs.declared.record.VersionRecord.{VersionRecord}
 use Rattle.elf_loader.specs.Comparing.{ComparedAs, ComparesOne}
-use Rattle.elf_loader.specs.NumberSets.{has}
+use Rattle.elf_loader.specs.NumberSets.{has_number}
 
 -- a number is one of some with another in front
 pub among-more : (n number : ℕ) (numbers : List ℕ) → is_among n (number ∷ numbers) ≡ (number == n || is_among n numbers)
@@ -30,7 +30,7 @@ among-more n number numbers = go (number == n) refl (nat_lt (position_or_len (λ
 
 -- a record that is met is read, whatever it holds
 pub compared-reads :
-    (file wanted strings : List ℕ) (met : Met) (others : List Reading) → 1 ≤ (compared_with file wanted (Meets strings met ∷ others)).read
+    (file wanted strings : List ℕ) (met : Met) (others : List RecordReading) → 1 ≤ (compared_with file wanted (Meets strings met ∷ others)).read
 compared-reads file wanted strings met others = go (names_version file met) refl (same strings (name_index file met) wanted) refl
   where
     go : (n : Bool) → names_version file met ≡ n → (e : Result Bool Cause) → same strings (name_index file met) wanted ≡ e
@@ -40,15 +40,15 @@ compared-reads file wanted strings met others = go (names_version file met) refl
     go true n (Ok b) is = let c = compared-is file wanted strings met others b n is in rw c (omega arith)
 
 -- so is one that is refused
-pub refused-reads : (file wanted : List ℕ) (refusal : Refusal) (others : List Reading) → 1 ≤ (compared_with file wanted (Refuses refusal ∷ others)).read
+pub refused-reads : (file wanted : List ℕ) (refusal : Refusal) (others : List RecordReading) → 1 ≤ (compared_with file wanted (Refuses refusal ∷ others)).read
 unfolding compared_with
 refused-reads file wanted refusal others = omega arith
 
-pub refused-refuses : (file wanted : List ℕ) (refusal : Refusal) (others : List Reading) → (compared_with file wanted (Refuses refusal ∷ others)).refused ≡ Some refusal
+pub refused-refuses : (file wanted : List ℕ) (refusal : Refusal) (others : List RecordReading) → (compared_with file wanted (Refuses refusal ∷ others)).refused ≡ Some refusal
 unfolding compared_with
 refused-refuses file wanted refusal others = refl
 
-pub missed-refuses : (file wanted : List ℕ) (refusal : Refusal) (others : List Reading) → (compared_with file wanted (Misses refusal ∷ others)).refused ≡ Some refusal
+pub missed-refuses : (file wanted : List ℕ) (refusal : Refusal) (others : List RecordReading) → (compared_with file wanted (Misses refusal ∷ others)).refused ≡ Some refusal
 unfolding compared_with
 missed-refuses file wanted refusal others = refl
 
@@ -73,9 +73,9 @@ as-other set number all left is = rw is (record { numbers = λ n. refl; refused 
 -- one with it
 pub as-wanted :
     (old new : List ℕ) (number : ℕ) (all left : Compared) → all ≡ one_more (with_number true number left)
-    → ((n : ℕ) → has new n ≡ (number == n || has old n)) → ComparedAs old new 1 all left
+    → ((n : ℕ) → has_number new n ≡ (number == n || has_number old n)) → ComparedAs old new 1 all left
 as-wanted old new number all left is more =
-    rw is (record { numbers = λ n. let m = more n in let a = among-more n number left.numbers in rw (m, a) (swap (has old n) (number == n) (is_among n left.numbers)); refused = refl; read = omega arith })
+    rw is (record { numbers = λ n. let m = more n in let a = among-more n number left.numbers in rw (m, a) (swap (has_number old n) (number == n) (is_among n left.numbers)); refused = refl; read = omega arith })
   where
     swap : (a b c : Bool) → (a || (b || c)) ≡ ((b || a) || c)
     swap true true c = refl
@@ -85,28 +85,28 @@ as-wanted old new number all left is more =
 
 -- a record as it is given: it names no version, another or the wanted one, or its name has a fault
 pub one-none :
-    (file wanted strings : List ℕ) (met : Met) (others : List Reading) (set : List ℕ) → names_version file met ≡ false
+    (file wanted strings : List ℕ) (met : Met) (others : List RecordReading) (set : List ℕ) → names_version file met ≡ false
     → ComparedAs set set 1 (compared_with file wanted (Meets strings met ∷ others)) (compared_with file wanted others)
 one-none file wanted strings met others set n = as-other set 0 _ _ (compared-none file wanted strings met others n)
 
 pub one-other :
-    (file wanted strings : List ℕ) (met : Met) (others : List Reading) (set : List ℕ) (given : VersionRecord) → IsVersion file met given
+    (file wanted strings : List ℕ) (met : Met) (others : List RecordReading) (set : List ℕ) (given : VersionRecord) → IsVersion file met given
     → names_version file met ≡ true → same strings given.name wanted ≡ Ok false
     → ComparedAs set set 1 (compared_with file wanted (Meets strings met ∷ others)) (compared_with file wanted others)
 one-other file wanted strings met others set given is n e =
     as-other set (number_in (number_word file met)) _ _ (compared-is file wanted strings met others false n (ap (λ (off : ℕ). same strings off wanted) (sym is.name) ∙ e))
 
 pub one-wanted :
-    (file wanted strings : List ℕ) (met : Met) (others : List Reading) (old new : List ℕ) (given : VersionRecord) → IsVersion file met given
+    (file wanted strings : List ℕ) (met : Met) (others : List RecordReading) (old new : List ℕ) (given : VersionRecord) → IsVersion file met given
     → names_version file met ≡ true → same strings given.name wanted ≡ Ok true
-    → ((n : ℕ) → has new n ≡ (given.number % 2 ^ 15 == n || has old n))
+    → ((n : ℕ) → has_number new n ≡ (given.number % 2 ^ 15 == n || has_number old n))
     → ComparedAs old new 1 (compared_with file wanted (Meets strings met ∷ others)) (compared_with file wanted others)
 one-wanted file wanted strings met others old new given is n e more =
     as-wanted old new (number_in (number_word file met)) _ _ (compared-is file wanted strings met others true n (ap (λ (off : ℕ). same strings off wanted) (sym is.name) ∙ e))
     (rw is.number at more)
 
 pub one-fault :
-    (file wanted strings : List ℕ) (met : Met) (others : List Reading) (old new : List ℕ) (given : VersionRecord) (fault : Fault) → IsVersion file met given
+    (file wanted strings : List ℕ) (met : Met) (others : List RecordReading) (old new : List ℕ) (given : VersionRecord) (fault : Fault) → IsVersion file met given
     → names_version file met ≡ true → RefusesName given.named_at fault (same strings given.name wanted)
     → ComparesOne old new (compared_with file wanted (Meets strings met ∷ others)) (compared_with file wanted others) (Err fault)
 one-fault file wanted strings met others old new given (Refused refusal) is n e = (

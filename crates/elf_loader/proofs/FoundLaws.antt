@@ -21,9 +21,9 @@ use Rattle.elf_headers.proofs.LedgerLaws.{Charges-more, Charges-none}
 use Rattle.elf_scope.specs.Symbols.{AreWords, IsWords}
 use Rattle.elf_scope.specs.declared.symbols.VersionWords.{VersionWords as Words}
 use Rattle.elf_table.specs.Cursors.{row_at}
-use Rattle.elf_loader.specs.Finding.{FindsVersion, FoundAs, Spends}
+use Rattle.elf_loader.specs.Finding.{FindsVersion, IsVersionFound, LookupSpends}
 use Rattle.elf_loader.specs.Lookups.{FindsWith, FoundWith}
-use Rattle.elf_loader.specs.Telling.{TellsName, told_bytes}
+use Rattle.elf_loader.specs.Telling.{TellsVersionName, told_bytes}
 use Rattle.elf_loader.specs.declared.found.FoundVersion.{FoundVersion}
 use Rattle.elf_loader.specs.declared.telling.ToldName.{ToldName}
 use Rattle.elf_loader.specs.declared.found.VersionName.TheVariants.{Wanted, Unnamed, Told}
@@ -55,15 +55,15 @@ unfolding found_in
 in-told file scope asked records y walked words n high = rw (n, high, found_in) refl
 
 -- what telling it reads, whatever it answers
-pub told-spends : (file : List ℕ) (scope : Scope) (words : VersionWords) (y : ℕ) (walked : Walked) (naming : Naming) → Spends (told_by file scope words y walked naming) walked naming.read (is_some naming.found)
+pub told-spends : (file : List ℕ) (scope : Scope) (words : VersionWords) (y : ℕ) (walked : Walked) (naming : Naming) → LookupSpends (told_by file scope words y walked naming) walked naming.read (is_some naming.found)
 unfolding told_by
 told-spends file scope words y walked naming = go naming.found refl naming.refused refl
   where
-    read : (found : List ℕ × Met) → naming.found ≡ Some found → (name : Result Shown Cause) → shown found.0 (name_index file found.1) TOLD_BYTES ≡ name → Spends (told_by file scope words y walked naming) walked naming.read (is_some naming.found)
+    read : (found : List ℕ × Met) → naming.found ≡ Some found → (name : Result Shown Cause) → shown found.0 (name_index file found.1) TOLD_BYTES ≡ name → LookupSpends (told_by file scope words y walked naming) walked naming.read (is_some naming.found)
     read found f (Ok name) n = rw (f, told_by) (rw (n, told_by) (record { tried = refl; chain_words = refl; records = refl; is_named = refl }))
     read found f (Err cause) n = rw (f, told_by) (rw (n, told_by) (record { tried = refl; chain_words = refl; records = refl; is_named = refl }))
 
-    go : (found : Option (List ℕ × Met)) → naming.found ≡ found → (refused : Option Refusal) → naming.refused ≡ refused → Spends (told_by file scope words y walked naming) walked naming.read (is_some naming.found)
+    go : (found : Option (List ℕ × Met)) → naming.found ≡ found → (refused : Option Refusal) → naming.refused ≡ refused → LookupSpends (told_by file scope words y walked naming) walked naming.read (is_some naming.found)
     go (Some found) f refused r = read found f (shown found.0 (name_index file found.1) TOLD_BYTES) refl
     go None f None r = rw (f, r, told_by) (record { tried = refl; chain_words = refl; records = refl; is_named = refl })
     go None f (Some refusal) r = rw (f, r, told_by) (record { tried = refl; chain_words = refl; records = refl; is_named = refl })
@@ -118,7 +118,7 @@ above number high = grind (arith, nat_tests)
 pub finds-told :
     (file : List ℕ) (scope : Scope) (asked : Asked) (words : VersionWords) (y word : ℕ) (told : List ℕ) (a b : Counting) (code : Words) (name : ToldName)
     → asked_name asked ≡ None → IsWords words code → word ≡ versym file (version_word_at words y) → 2 ≤ number_in word
-    → TellsName file scope words y (naming_of file (number_in word) (readings file scope.symbols.records)) a b told (Ok name)
+    → TellsVersionName file scope words y (naming_of file (number_in word) (readings file scope.symbols.records)) a b told (Ok name)
     → FindsVersion file scope asked words y a b told (Ok (record { index = code.index; word = word; name = Told name.end; name_at = name.at }))
 finds-told file scope asked words y word told a b code name n is here high tells =
     let naming = naming_of file (number_in word) (readings file scope.symbols.records) in
@@ -144,7 +144,7 @@ finds-told file scope asked words y word told a b code name n is here high tells
 pub finds-fault :
     (file : List ℕ) (scope : Scope) (asked : Asked) (words : VersionWords) (y word : ℕ) (told : List ℕ) (a b : Counting) (fault : Fault)
     → asked_name asked ≡ None → word ≡ versym file (version_word_at words y) → 2 ≤ number_in word
-    → TellsName file scope words y (naming_of file (number_in word) (readings file scope.symbols.records)) a b told (Err fault)
+    → TellsVersionName file scope words y (naming_of file (number_in word) (readings file scope.symbols.records)) a b told (Err fault)
     → FindsVersion file scope asked words y a b told (Err fault)
 finds-fault file scope asked words y word told a b fault n here high tells =
     let naming = naming_of file (number_in word) (readings file scope.symbols.records) in
@@ -167,12 +167,12 @@ finds-fault file scope asked words y word told a b fault n here high tells =
     naming : Naming
     naming = naming_of file (number_in word) (readings file scope.symbols.records)
 
-    paid : (fault : Fault) → TellsName file scope words y naming a b told (Err fault) → Charges a b (Some fault) (naming.read * 28 + cost_where (is_some naming.found) told_bytes)
+    paid : (fault : Fault) → TellsVersionName file scope words y naming a b told (Err fault) → Charges a b (Some fault) (naming.read * 28 + cost_where (is_some naming.found) told_bytes)
     paid (Refused refusal) t = t.0
     paid (Source fault at) t = t
 
-    refused : (fault : Fault) → TellsName file scope words y naming a b told (Err fault) → (walked : Walked) (lookup : LoaderLookup) → lookup ≡ told_by file scope words y walked naming
-        → FoundAs scope asked y told walked lookup (Err fault)
+    refused : (fault : Fault) → TellsVersionName file scope words y naming a b told (Err fault) → (walked : Walked) (lookup : LoaderLookup) → lookup ≡ told_by file scope words y walked naming
+        → IsVersionFound scope asked y told walked lookup (Err fault)
     refused (Refused refusal) t walked lookup e = λ other. let told_so = e ∙ t.1 other walked in rw told_so refl
     refused (Source fault at) t walked lookup e = tt
 
@@ -226,7 +226,7 @@ module _ {a b : Counting} (file : List ℕ) (scope : Scope) (asked : Asked) (y :
       → FindsWith file scope asked y told a b (Err fault)
   finds-failed fault finds = go scope.symbols.words refl are
     where
-      fails : (fault : Fault) (walked : Walked) (looked there : LoaderLookup) → looked ≡ there → FoundAs scope asked y told walked there (Err fault) → FoundWith scope asked y told walked looked (Err fault)
+      fails : (fault : Fault) (walked : Walked) (looked there : LoaderLookup) → looked ≡ there → IsVersionFound scope asked y told walked there (Err fault) → FoundWith scope asked y told walked looked (Err fault)
       fails (Refused refusal) walked looked there e found = λ other. ap (λ (l : LoaderLookup). l.lookup.answer) e ∙ found other
       fails (Source fault at) walked looked there e found = tt
 

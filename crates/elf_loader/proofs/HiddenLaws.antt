@@ -9,7 +9,7 @@ use Rattle.elf_headers.specs.Ledger.{Charges, Did, why_stopped}
 use Rattle.elf_headers.specs.declared.fault.Fault.{Fault}
 use Rattle.elf_headers.specs.declared.fault.Fault.TheVariants.{Refused, Source}
 use Rattle.elf_loader.specs.Lookups.{LooksUp}
-use Rattle.elf_loader.specs.declared.lookup.Lookup.{Lookup}
+use Rattle.elf_loader.specs.declared.lookup.SymbolLookup.{SymbolLookup}
 
 -- what a fault says
 says_hidden : {a b c d : Counting} (n : ℕ) (fault : Fault) → Hides a b true → Hides c d a.hides → Says b c n fault → Says a d n fault
@@ -33,7 +33,7 @@ none_shown true file h = refl
 none_shown false file h = cc
 
 -- a lookup in the file as it is
-module _ {headers : ℕ} {wanted : Wanted} {told : List ℕ} {result : Result Lookup Fault} (by_segments : Bool) where
+module _ {headers : ℕ} {wanted : Wanted} {told : List ℕ} {result : Result SymbolLookup Fault} (by_segments : Bool) where
   pub looked_as_it_is : {n : ℕ} {a b : Counting} → by_segments ≡ false
       → Did a b (why_stopped result) n (λ file. LooksUp file headers wanted told a b result)
       → Did a b (why_stopped result) n (λ file. LooksUp (looked_at by_segments file) headers wanted told a b result)

@@ -3,8 +3,8 @@ use Rattle.std.proofs.Common.{◌≡◌, ℕ, zero, suc, ◌+◌, ◌<◌, ◌�
 use Rattle.std.proofs.lemmas.Bool.{cases_Bool}
 use Rattle.std.proofs.lemmas.Bool.Decides.{nat_tests}
 use Rattle.elf_model.specs.Checks.{first_refusal}
-use Rattle.elf_model.specs.Loader.{RecordTable, Reading, Meets, Refuses, Misses, end_reading, has_record, meetings, readings_of, stand_after}
-use Rattle.elf_model.specs.Versions.{Met, Stand, Versions, behind, first_stand, met_at, met_from, most_records, no_versions, record_checks, record_size, versions_in, with_met}
+use Rattle.elf_model.specs.Loader.{RecordTable, RecordReading, Meets, Refuses, Misses, end_reading, has_record, meetings, readings_of, stand_after}
+use Rattle.elf_model.specs.Versions.{Met, Stand, Versions, next_stand, first_stand, met_at, met_from, most_records, no_versions, record_checks, record_size, versions_in, with_met}
 use Rattle.elf_model.specs.declared.causes.Cause.TheVariants.{VersionCut}
 use Rattle.elf_model.specs.declared.causes.Refusal.{Refusal}
 use Rattle.elf_model.proofs.ReadingLaws.{stands-next}
@@ -26,7 +26,7 @@ abbrev cut_of : Versions → Option Refusal
 cut_of versions = versions.cut
 
 -- what is left from where a walk stands, of so many records at most, in front of others
-unfoldable pub left_readings : List ℕ → List ℕ → (table size : ℕ) → Option Stand → ℕ → List Reading → List Reading
+unfoldable pub left_readings : List ℕ → List ℕ → (table size : ℕ) → Option Stand → ℕ → List RecordReading → List RecordReading
 left_readings file strings table size None left others = others
 left_readings file strings table size (Some stand) zero others = Misses (cut_at stand) ∷ others
 left_readings file strings table size (Some stand) (suc left) others =
@@ -34,7 +34,7 @@ left_readings file strings table size (Some stand) (suc left) others =
       | true ↦ Misses (cut_at stand) ∷ others
       | false ↦ elim (first_refusal (record_checks file table size stand)) [
         | Some refusal ↦ Refuses refusal ∷ others
-        | None ↦ Meets strings (met_at table stand) ∷ left_readings file strings table size (behind file table stand) left others
+        | None ↦ Meets strings (met_at table stand) ∷ left_readings file strings table size (next_stand file table stand) left others
       ]
     ]
 
@@ -45,13 +45,13 @@ unfolding record_checks
 past file table size stand far = rw far refl
 
 -- what is left, as the definitions have it: what is met, and how it ends
-left_as : List ℕ → (told : RecordTable) → (done : ℕ) → Versions → List Reading → List Reading
+left_as : List ℕ → (told : RecordTable) → (done : ℕ) → Versions → List RecordReading → List RecordReading
 left_as file told done versions others =
     meetings told.strings versions.met
     (end_reading (has_record told (done + length versions.met) (stand_after file told (done + length versions.met))) versions.cut ++ others)
 
 left-is :
-    (file : List ℕ) (told : RecordTable) (others : List Reading) (left done : ℕ) (stand : Option Stand)
+    (file : List ℕ) (told : RecordTable) (others : List RecordReading) (left done : ℕ) (stand : Option Stand)
     → done + left ≡ most_records told.kind told.size → stand_after file told done ≡ stand
     → left_as file told done (met_from file told.place told.size stand left) others
     ≡ left_readings file told.strings told.place told.size stand left others
@@ -71,13 +71,13 @@ left-is file told others (suc left) done (Some stand) most is =
           let room : nat_lt done (most_records told.kind told.size) ≡ true = grind (arith, nat_tests) in
           rw (e, none, is, room, far, left_readings) refl
       | inr near ↦
-          let rest = left-is file told others left (suc done) (behind file told.place stand) (omega (arith, most)) (stands-next file told done stand is) in
+          let rest = left-is file told others left (suc done) (next_stand file told.place stand) (omega (arith, most)) (stands-next file told done stand is) in
           go near rest (first_refusal (record_checks file told.place told.size stand)) refl
     ]
   where
     go : nat_lt told.size (stand.place + record_size stand.kind) ≡ false
-        → left_as file told (suc done) (met_from file told.place told.size (behind file told.place stand) left) others
-        ≡ left_readings file told.strings told.place told.size (behind file told.place stand) left others
+        → left_as file told (suc done) (met_from file told.place told.size (next_stand file told.place stand) left) others
+        ≡ left_readings file told.strings told.place told.size (next_stand file told.place stand) left others
         → (o : Option Refusal) → first_refusal (record_checks file told.place told.size stand) ≡ o
         → left_as file told done (met_from file told.place told.size (Some stand) (suc left)) others
         ≡ left_readings file told.strings told.place told.size (Some stand) (suc left) others
@@ -88,13 +88,13 @@ left-is file told others (suc left) done (Some stand) most is =
         rw (e, none, is, room, near, c, left_readings) refl
     go near rest None c =
         let e = met-record file told.place told.size stand left c in
-        let met = met_from file told.place told.size (behind file told.place stand) left in
+        let met = met_from file told.place told.size (next_stand file told.place stand) left in
         let count : done + suc (length met.met) ≡ suc done + length met.met = omega arith in
-        rw (e, near, c, count, left_readings) (ap (λ (more : List Reading). Meets told.strings (met_at told.place stand) ∷ more) rest)
+        rw (e, near, c, count, left_readings) (ap (λ (more : List RecordReading). Meets told.strings (met_at told.place stand) ∷ more) rest)
 
 -- all records of a table are left at first
 pub all-left :
-    (file : List ℕ) (told : RecordTable) (others : List Reading)
+    (file : List ℕ) (told : RecordTable) (others : List RecordReading)
     → readings_of file told others
     ≡ left_readings file told.strings told.place told.size (first_stand told.kind told.head told.size) (most_records told.kind told.size) others
 unfolding readings_of versions_in stand_after left_as
@@ -105,9 +105,9 @@ all-left file told others =
 
 -- a record that is met is the first that is left
 pub meets-left :
-    (file strings : List ℕ) (table size : ℕ) (standing : Option Standing) (left : ℕ) (next : Option Stand) (met : Met) (rest : Versions) (others : List Reading)
+    (file strings : List ℕ) (table size : ℕ) (standing : Option Standing) (left : ℕ) (next : Option Stand) (met : Met) (rest : Versions) (others : List RecordReading)
     → met_from file table size (option_map stand_of standing) (suc left) ≡ with_met met rest
-    → IfSome standing (λ s. next ≡ behind file table (stand_of s))
+    → IfSome standing (λ s. next ≡ next_stand file table (stand_of s))
     → left_readings file strings table size (option_map stand_of standing) (suc left) others
     ≡ Meets strings met ∷ left_readings file strings table size next left others
 unfolding left_readings
@@ -128,7 +128,7 @@ meets-left file strings table size (Some s) left next met rest others first lead
 
 -- where none is left to be met, and nothing is refused, the others are
 pub ended-left :
-    (file strings : List ℕ) (table size : ℕ) (standing : Option Standing) (left : ℕ) (others : List Reading)
+    (file strings : List ℕ) (table size : ℕ) (standing : Option Standing) (left : ℕ) (others : List RecordReading)
     → met_from file table size (option_map stand_of standing) left ≡ no_versions None
     → left_readings file strings table size (option_map stand_of standing) left others ≡ others
 unfolding left_readings
@@ -143,7 +143,7 @@ ended-left file strings table size (Some s) (suc left) others none = go (first_r
 
 -- what is refused is the first that is left
 pub refused-left :
-    (file strings : List ℕ) (table size : ℕ) (standing : Option Standing) (left : ℕ) (others : List Reading) (refusal : Refusal) (P : List Reading → Type 0)
+    (file strings : List ℕ) (table size : ℕ) (standing : Option Standing) (left : ℕ) (others : List RecordReading) (refusal : Refusal) (P : List RecordReading → Type 0)
     → met_from file table size (option_map stand_of standing) left ≡ no_versions (Some refusal)
     → P (Refuses refusal ∷ others) → P (Misses refusal ∷ others)
     → P (left_readings file strings table size (option_map stand_of standing) left others)
@@ -172,9 +172,9 @@ refused-left file strings table size (Some s) (suc left) others refusal P is rea
 
 -- a record that is in the table is read: it is met, or refused
 pub read-left :
-    (file strings : List ℕ) (table size : ℕ) (standing : Option Standing) (left : ℕ) (others : List Reading) (P : List Reading → Type 0)
+    (file strings : List ℕ) (table size : ℕ) (standing : Option Standing) (left : ℕ) (others : List RecordReading) (P : List RecordReading → Type 0)
     → 0 < left → MatchOption standing ⊥ (λ s. s.place + record_size s.kind ≤ size)
-    → ((refusal : Refusal) → P (Refuses refusal ∷ others)) → ((met : Met) (more : List Reading) → P (Meets strings met ∷ more))
+    → ((refusal : Refusal) → P (Refuses refusal ∷ others)) → ((met : Met) (more : List RecordReading) → P (Meets strings met ∷ more))
     → P (left_readings file strings table size (option_map stand_of standing) left others)
 unfolding left_readings
 read-left file strings table size None left others P some inside refused met = absurd inside
@@ -184,17 +184,17 @@ read-left file strings table size (Some s) (suc left) others P some inside refus
     rw (near, left_readings) (go (first_refusal (record_checks file table size (stand_of s))))
   where
     go : (o : Option Refusal)
-        → P (elim o [ Some refusal ↦ Refuses refusal ∷ others | None ↦ Meets strings (met_at table (stand_of s)) ∷ left_readings file strings table size (behind file table (stand_of s)) left others ])
+        → P (elim o [ Some refusal ↦ Refuses refusal ∷ others | None ↦ Meets strings (met_at table (stand_of s)) ∷ left_readings file strings table size (next_stand file table (stand_of s)) left others ])
     go (Some refusal) = refused refusal
-    go None = met (met_at table (stand_of s)) (left_readings file strings table size (behind file table (stand_of s)) left others)
+    go None = met (met_at table (stand_of s)) (left_readings file strings table size (next_stand file table (stand_of s)) left others)
 
 -- what is left of a cursor's walk, in the names of some strings and in front of others
-abbrev pub left_of : List ℕ → List ℕ → List Reading → Walking → List Reading
+abbrev pub left_of : List ℕ → List ℕ → List RecordReading → Walking → List RecordReading
 left_of file strings others c = left_readings file strings c.held.table.at c.held.table.count (option_map stand_of c.standing) c.left others
 
 -- at first all records of the table are
 pub start-left :
-    (file : List ℕ) (told : RecordTable) (records : Given) (others : List Reading) (c : Walking)
+    (file : List ℕ) (told : RecordTable) (records : Given) (others : List RecordReading) (c : Walking)
     → StartsVersions records.kind records.head records.table c → IsRecordTable file told records
     → readings_of file told others ≡ left_of file told.strings others c
 start-left file told records others c starts is =
@@ -209,7 +209,7 @@ start-left file told records others c starts is =
 
 -- then the record that is given is the first of them
 pub step-left :
-    (file strings : List ℕ) (others : List Reading) (old new : Walking) (given : VersionRecord) → new.held ≡ old.held → new.left + 1 ≡ old.left
+    (file strings : List ℕ) (others : List RecordReading) (old new : Walking) (given : VersionRecord) → new.held ≡ old.held → new.left + 1 ≡ old.left
     → (gives : GivesVersion file (versions_left file old) (versions_left file new) given) → LeadsOn file old new
     → left_of file strings others old ≡ Meets strings gives.met ∷ left_of file strings others new
 step-left file strings others old new given held fewer gives leads =

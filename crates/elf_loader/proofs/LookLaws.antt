@@ -4,7 +4,7 @@ use Rattle.std.proofs.Common.{◌≡◌, ℕ, ◌+◌, ◌*◌, ◌≤◌, Bool,
 use Rattle.elf_model.specs.Chains.{Walked as Walk}
 use Rattle.elf_model.specs.Checks.{before_headers, early_checks, first_refusal, header_checks, load_checks, section_name_checks}
 use Rattle.elf_model.specs.Cost.{cost_where}
-use Rattle.elf_model.specs.Loader.{Compared, Wanted, answers, asked_name, is_among, symbol_place}
+use Rattle.elf_model.specs.Loader.{Compared, Wanted, answers, asked_name, is_among, symbol_offset}
 use Rattle.elf_model.specs.LoaderFind.{LoaderLookup, counts_check, found_in, loaded_in, loader_cost, loader_looked, looked_by, lookup_asks, record_cost, refused_lookup, segments_asked, walk_in, wanted_numbers}
 use Rattle.elf_model.specs.LoaderScope.{Scope as IsScopeOf, scope_of}
 use Rattle.elf_model.specs.Records.{e_shnum}
@@ -18,30 +18,30 @@ use Rattle.elf_headers.specs.declared.fault.Fault.TheVariants.{Refused, Source}
 use Rattle.elf_headers.proofs.LedgerLaws.{Charges-more, Charges-none, Charges-then}
 use Rattle.elf_table.specs.Cursors.{row_at}
 use Rattle.elf_hash.specs.Scopes.{HasCounts, IsPlaceIn, counts_bytes, walked_in}
-use Rattle.elf_hash.specs.Walks.{Gives, Walks, walk_bytes}
-use Rattle.elf_hash.specs.declared.answer.Answer.{Answer}
+use Rattle.elf_hash.specs.Walks.{GivesWalked, Walks, walk_bytes}
+use Rattle.elf_hash.specs.declared.answer.TrialAnswer.{TrialAnswer}
 use Rattle.elf_hash.specs.declared.kind.HashKind.{HashKind}
 use Rattle.elf_hash.specs.declared.kind.HashKind.TheVariants.{Gnu, Sysv}
 use Rattle.elf_hash.specs.declared.table.HashTable.{HashTable}
 use Rattle.elf_hash.specs.declared.walked.Walked.{Walked}
 use Rattle.elf_hash.proofs.ScopeLaws.{walk_in_is}
 use Rattle.elf_scope.specs.Finding.{scope_cost}
-use Rattle.elf_scope.specs.Scopes.{Finds, IsScope}
+use Rattle.elf_scope.specs.Scopes.{IsScopeFound, IsScope}
 use Rattle.elf_scope.specs.declared.scope.Scope.{Scope}
 use Rattle.elf_loader.specs.Answering.{StandsAs}
 use Rattle.elf_loader.specs.Comparing.{Collects}
 use Rattle.elf_loader.specs.Lookups.{FindsWith, FoundWith, LooksBehind, LooksUp, TellsLookup, looked_with, trial_bytes}
-use Rattle.elf_loader.specs.NumberSets.{has}
+use Rattle.elf_loader.specs.NumberSets.{has_number}
 use Rattle.elf_loader.specs.Telling.{told_bytes}
 use Rattle.elf_loader.specs.declared.found.FoundVersion.{FoundVersion}
-use Rattle.elf_loader.specs.declared.lookup.Lookup.{Lookup}
-use Rattle.elf_loader.specs.declared.lookup.Lookup.TheVariants.{Found as IsFoundSymbol, Absent}
+use Rattle.elf_loader.specs.declared.lookup.SymbolLookup.{SymbolLookup}
+use Rattle.elf_loader.specs.declared.lookup.SymbolLookup.TheVariants.{Found as IsFoundSymbol, Absent}
 use Rattle.elf_loader.proofs.CollectLaws.{no-version}
 use Rattle.elf_loader.proofs.ReadLaws.{asks_all, asks_least, asks_records, by_absent, by_found, by_refused, looked_reads}
 
 -- one call behind another
 pub looks_then :
-    {file : List ℕ} {wanted : Wanted} {looked : LoaderLookup} {told : List ℕ} {a b c : Counting} {result : Result Lookup Fault} (n few before few_behind before_behind : ℕ)
+    {file : List ℕ} {wanted : Wanted} {looked : LoaderLookup} {told : List ℕ} {a b c : Counting} {result : Result SymbolLookup Fault} (n few before few_behind before_behind : ℕ)
     → before + n + few_behind ≤ before_behind + few → Charges a b None n → LooksBehind file wanted few_behind before_behind looked told b c result
     → LooksBehind file wanted few before looked told a c result
 looks_then n few before few_behind before_behind less first looks = record {
@@ -92,7 +92,7 @@ module _ (file : List ℕ) (told : IsScopeOf) (wanted : Wanted) (before : ℕ) (
     is_found : looked ≡ found_in file told wanted.asked before y walk told.symbols.words
     is_found = by_found file told wanted.asked before walk y e
 
-    pub looks_found : {a b : Counting} (name : List ℕ) (scope : Scope) (answer : Answer) (version : Option FoundVersion) (tried : ℕ)
+    pub looks_found : {a b : Counting} (name : List ℕ) (scope : Scope) (answer : TrialAnswer) (version : Option FoundVersion) (tried : ℕ)
         → IsScope file told scope → StandsAs file scope.symbols y answer → tried ≡ walk.tried → FindsWith file told wanted.asked y name a b (Ok version)
         → LooksBehind file wanted 0 asked_before looked name a b
         (Ok (IsFoundSymbol (record { section = scope.symbols.index; machine = scope.machine; index = y; symbol = answer.symbol; version = version; tried = tried })))
@@ -102,14 +102,14 @@ module _ (file : List ℕ) (told : IsScopeOf) (wanted : Wanted) (before : ℕ) (
         let entry = scope.symbols.rows in
         let place = is.symbols.place in
         let index = is.symbols.index in
-        let at : row_at scope.symbols.table y ≡ symbol_place told.symbols y = rw (entry, place) (omega arith) in
+        let at : row_at scope.symbols.table y ≡ symbol_offset told.symbols y = rw (entry, place) (omega arith) in
         let all = asks_all wanted looked walk before finds.records finds.is_named spends in
         record {
           spent = finds.records * 28 + cost_where finds.is_named told_bytes;
           costs = finds.costs;
           within = omega (arith, all);
           tells = (
-            symbol_place told.symbols y,
+            symbol_offset told.symbols y,
             rw (index, same) (ap (λ (l : LoaderLookup). l.lookup) here),
             subst (λ (p : ℕ). IsSym file p answer.symbol) at stands.0,
             ap (λ (l : LoaderLookup). l.version) here,
@@ -136,7 +136,7 @@ module _ (file : List ℕ) (told : IsScopeOf) (wanted : Wanted) (before : ℕ) (
         tells (Source fault at) found = tt
 
   -- a walk that gives no answer
-  pub looks_unwalked : {a b : Counting} {stands : ℕ → Answer → Type 0} (name : List ℕ) (fault : Fault) → Walks stands 12 (trial_bytes wanted) walk a b (Err fault)
+  pub looks_unwalked : {a b : Counting} {stands : ℕ → TrialAnswer → Type 0} (name : List ℕ) (fault : Fault) → Walks stands 12 (trial_bytes wanted) walk a b (Err fault)
       → LooksBehind file wanted 12 (before * record_cost wanted.asked) looked name a b (Err fault)
   looks_unwalked {stands = stands} name fault walks = record {
     spent = walk_bytes 12 walk.read walk.tried (trial_bytes wanted);
@@ -145,11 +145,11 @@ module _ (file : List ℕ) (told : IsScopeOf) (wanted : Wanted) (before : ℕ) (
     tells = tells fault walks.gives;
   }
     where
-      tells : (fault : Fault) → Gives stands walk (Err fault) → TellsLookup file wanted.asked name looked (Err fault)
+      tells : (fault : Fault) → GivesWalked stands walk (Err fault) → TellsLookup file wanted.asked name looked (Err fault)
       tells (Refused refusal) gives = λ other. ap (λ (l : LoaderLookup). l.lookup.answer) (by_refused file told wanted.asked before walk refusal (gives other))
       tells (Source fault at) gives = tt
 
-  pub looks_walked : {a b c : Counting} {stands : ℕ → Answer → Type 0} (name : List ℕ) (w : Walked) (result : Result Lookup Fault) → Walks stands 12 (trial_bytes wanted) walk a b (Ok w)
+  pub looks_walked : {a b c : Counting} {stands : ℕ → TrialAnswer → Type 0} (name : List ℕ) (w : Walked) (result : Result SymbolLookup Fault) → Walks stands 12 (trial_bytes wanted) walk a b (Ok w)
       → LooksBehind file wanted 0 asked_before looked name b c result → LooksBehind file wanted 12 (before * record_cost wanted.asked) looked name a c result
   looks_walked name w result walks looks =
       looks_then (walk_bytes 12 walk.read walk.tried (trial_bytes wanted)) 12 (before * record_cost wanted.asked) 0 asked_before (omega arith) walks.costs looks
@@ -182,11 +182,11 @@ module _ (file : List ℕ) (told : IsScopeOf) (wanted : Wanted) where
       let records = asks_records wanted (looked_with file told wanted compared) compared.read (with_reads compared.refused refl) in
       record { spent = compared.read * record_cost wanted.asked; costs = collects; within = omega (arith, records); tells = tt }
 
-  pub looks_numbered : {a b c : Counting} (name numbers : List ℕ) (result : Result Lookup Fault) → Collects a b (record_cost wanted.asked) compared (Ok numbers)
-      → LooksBehind file wanted 12 (compared.read * record_cost wanted.asked) (looked_by file told wanted.asked compared.read (walk_in file told wanted (has numbers))) name b c result
+  pub looks_numbered : {a b c : Counting} (name numbers : List ℕ) (result : Result SymbolLookup Fault) → Collects a b (record_cost wanted.asked) compared (Ok numbers)
+      → LooksBehind file wanted 12 (compared.read * record_cost wanted.asked) (looked_by file told wanted.asked compared.read (walk_in file told wanted (has_number numbers))) name b c result
       → LooksBehind file wanted 12 0 (looked_with file told wanted compared) name a c result
   looks_numbered name numbers result collects looks =
-      let same : has numbers ≡ (λ number. is_among number compared.numbers) = fun_ext collects.2 in
+      let same : has_number numbers ≡ (λ number. is_among number compared.numbers) = fun_ext collects.2 in
       let is = with_told file told wanted compared collects.1 in
       rw (is, ← same) (looks_then (compared.read * record_cost wanted.asked) 12 0 12 (compared.read * record_cost wanted.asked) (omega arith) collects.0 looks)
 
@@ -209,7 +209,7 @@ module _ (file : List ℕ) (told : IsScopeOf) (wanted : Wanted) (kind : HashKind
       tells (Refused refusal) counts = λ other. ap (λ (l : LoaderLookup). l.lookup.answer) (misshapen file told wanted refusal (counts other))
       tells (Source fault at) counts = tt
 
-  pub looks_counted : {a b c : Counting} (name : List ℕ) (table : HashTable) (result : Result Lookup Fault) → Charges a b None (counts_bytes kind) → HasCounts file told (Ok table)
+  pub looks_counted : {a b c : Counting} (name : List ℕ) (table : HashTable) (result : Result SymbolLookup Fault) → Charges a b None (counts_bytes kind) → HasCounts file told (Ok table)
       → LooksBehind file wanted 12 0 (looked_with file told wanted (wanted_numbers file told wanted.asked)) name b c result
       → LooksBehind file wanted 28 0 (loaded_in file told wanted) name a c result
   looks_counted name table result costs counts looks =
@@ -231,11 +231,11 @@ module _ (file : List ℕ) (headers : ℕ) (wanted : Wanted) where
   unfolding loader_looked
   looked_refused refusal e = rw (e, loader_looked) refl
 
-  pub looks_unscoped : {a b : Counting} (name : List ℕ) (fault : Fault) → Charges a b (Some fault) (scope_cost file headers) → Finds file (scope_of file headers) (Err fault)
+  pub looks_unscoped : {a b : Counting} (name : List ℕ) (fault : Fault) → Charges a b (Some fault) (scope_cost file headers) → IsScopeFound file (scope_of file headers) (Err fault)
       → LooksUp file headers wanted name a b (Err fault)
   looks_unscoped name fault costs finds = record { costs = Charges-more _ scope_within costs; tells = tells fault finds }
     where
-      tells : (fault : Fault) → Finds file (scope_of file headers) (Err fault) → TellsLookup file wanted.asked name (loader_looked file headers wanted) (Err fault)
+      tells : (fault : Fault) → IsScopeFound file (scope_of file headers) (Err fault) → TellsLookup file wanted.asked name (loader_looked file headers wanted) (Err fault)
       tells (Refused refusal) finds = λ other. ap (λ (l : LoaderLookup). l.lookup.answer) (looked_refused refusal (finds other))
       tells (Source fault at) finds = tt
 
@@ -266,7 +266,7 @@ module _ (file : List ℕ) (headers : ℕ) (wanted : Wanted) where
         let same = ap (lookup_asks wanted) looked_there in
         omega (arith, cost, scope, same)
 
-    pub looks_scoped : {a b c : Counting} (name : List ℕ) (result : Result Lookup Fault) → Charges a b None (scope_cost file headers)
+    pub looks_scoped : {a b c : Counting} (name : List ℕ) (result : Result SymbolLookup Fault) → Charges a b None (scope_cost file headers)
         → LooksBehind file wanted 28 0 (loaded_in file told wanted) name b c result → LooksUp file headers wanted name a c result
     looks_scoped name result costs looks =
         let within = looks.within in
@@ -278,6 +278,6 @@ module _ (file : List ℕ) (headers : ℕ) (wanted : Wanted) where
 
 -- the walk for the symbol that answers, as it is made
 pub walks_as :
-    {a b : Counting} {stands : ℕ → Answer → Type 0} (file : List ℕ) (told : IsScopeOf) (wanted : Wanted) (is_wanted : ℕ → Bool) (cost : ℕ) (result : Result Walked Fault)
+    {a b : Counting} {stands : ℕ → TrialAnswer → Type 0} (file : List ℕ) (told : IsScopeOf) (wanted : Wanted) (is_wanted : ℕ → Bool) (cost : ℕ) (result : Result Walked Fault)
     → Walks stands 12 cost (walked_in file told wanted.name (answers file told.symbols wanted is_wanted)) a b result → Walks stands 12 cost (walk_in file told wanted is_wanted) a b result
 walks_as file told wanted is_wanted cost result walks = rw (walk_in_is file told wanted is_wanted) walks

@@ -2,7 +2,7 @@
 use Rattle.std.proofs.Common.{◌≡◌, ℕ, ◌+◌, ◌-◌, ◌*◌, ◌≤◌, Bool, true, false, List, [], ◌∷◌, inl, inr, Option, None, Some, Result, Ok, Err, refl, ◌∙◌, arith}
 use Rattle.std.proofs.lemmas.Bool.{cases_lt}
 use Rattle.elf_model.specs.Budget.{IsBudget}
-use Rattle.elf_model.specs.Loader.{Meets, Misses, Naming, Reading, RecordTable, Refuses, naming_of, one_later, readings_of}
+use Rattle.elf_model.specs.Loader.{Meets, Misses, Naming, RecordReading, RecordTable, Refuses, naming_of, one_later, readings_of}
 use Rattle.elf_model.specs.Versions.{Met, names_number}
 use Rattle.elf_model.specs.declared.causes.Refusal.{Refusal}
 use Rattle.elf_source.specs.Source.{Counting}
@@ -12,35 +12,35 @@ use Rattle.elf_headers.specs.declared.fault.Fault.TheVariants.{Refused, Source}
 use Rattle.elf_headers.proofs.LedgerLaws.{Charges-more, Charges-then}
 use Rattle.elf_scope.specs.Symbols.{IsRecordTable}
 use Rattle.elf_scope.specs.declared.symbols.RecordTable.{RecordTable as Given}
-use Rattle.elf_versions.specs.Reading.{GivesVersion, LeadsOn, Spends, StartsVersions, TellsVersion, Walking, versions_left}
+use Rattle.elf_versions.specs.Reading.{GivesVersion, LeadsOn, SpendsRecord, StartsVersions, TellsVersion, Walking, versions_left}
 use Rattle.elf_versions.specs.declared.record.VersionRecord.{VersionRecord}
-use Rattle.elf_loader.specs.Naming.{NamedAs, Names, NamesBefore, NamesOf}
+use Rattle.elf_loader.specs.Naming.{NamedAs, FindsRecordInTable, NamesBefore, FindsRecordInTables}
 use Rattle.elf_loader.specs.declared.naming.NamedBy.{NamedBy}
 use Rattle.elf_loader.proofs.TablesLaws.{more-pays}
 use Rattle.elf_loader.proofs.LeftReadings.{ended-left, left_of, read-left, refused-left, start-left, step-left}
 
 -- a record that has the number, and one that has not
 naming-here :
-    (file strings : List ℕ) (number : ℕ) (met : Met) (others : List Reading) → names_number file number met ≡ true
+    (file strings : List ℕ) (number : ℕ) (met : Met) (others : List RecordReading) → names_number file number met ≡ true
     → naming_of file number (Meets strings met ∷ others) ≡ record { found = Some (strings, met); refused = None; read = 1 }
 unfolding naming_of
 naming-here file strings number met others n = rw (n, naming_of) refl
 
 naming-later :
-    (file strings : List ℕ) (number : ℕ) (met : Met) (others : List Reading) → names_number file number met ≡ false
+    (file strings : List ℕ) (number : ℕ) (met : Met) (others : List RecordReading) → names_number file number met ≡ false
     → naming_of file number (Meets strings met ∷ others) ≡ one_later (naming_of file number others)
 unfolding naming_of
 naming-later file strings number met others n = rw (n, naming_of) refl
 
 -- each that is met is read
-naming-reads : (file strings : List ℕ) (number : ℕ) (met : Met) (others : List Reading) → 1 ≤ (naming_of file number (Meets strings met ∷ others)).read
+naming-reads : (file strings : List ℕ) (number : ℕ) (met : Met) (others : List RecordReading) → 1 ≤ (naming_of file number (Meets strings met ∷ others)).read
 naming-reads file strings number met others = go (names_number file number met) refl
   where
     go : (n : Bool) → names_number file number met ≡ n → 1 ≤ (naming_of file number (Meets strings met ∷ others)).read
     go true n = let e = naming-here file strings number met others n in rw e (omega arith)
     go false n = let e = naming-later file strings number met others n in rw e (omega arith)
 
-refused-reads : (file : List ℕ) (number : ℕ) (refusal : Refusal) (others : List Reading) → 1 ≤ (naming_of file number (Refuses refusal ∷ others)).read
+refused-reads : (file : List ℕ) (number : ℕ) (refusal : Refusal) (others : List RecordReading) → 1 ≤ (naming_of file number (Refuses refusal ∷ others)).read
 unfolding naming_of
 refused-reads file number refusal others = omega arith
 
@@ -50,37 +50,37 @@ FaultNames left (Refused refusal) = (IsBudget refusal → ⊥) → (left.found �
 FaultNames left (Source fault at) = Unit {0}
 
 refused-names :
-    (file : List ℕ) (number : ℕ) (refusal : Refusal) (others : List Reading)
+    (file : List ℕ) (number : ℕ) (refusal : Refusal) (others : List RecordReading)
     → ((naming_of file number (Refuses refusal ∷ others)).found ≡ None) × ((naming_of file number (Refuses refusal ∷ others)).refused ≡ Some refusal)
 unfolding naming_of
 refused-names file number refusal others = (refl, refl)
 
 missed-names :
-    (file : List ℕ) (number : ℕ) (refusal : Refusal) (others : List Reading)
+    (file : List ℕ) (number : ℕ) (refusal : Refusal) (others : List RecordReading)
     → ((naming_of file number (Misses refusal ∷ others)).found ≡ None) × ((naming_of file number (Misses refusal ∷ others)).refused ≡ Some refusal)
 unfolding naming_of
 missed-names file number refusal others = (refl, refl)
 
 pub fault-left :
-    (file strings : List ℕ) (number : ℕ) (others : List Reading) (old new : Walking) (fault : Fault)
+    (file strings : List ℕ) (number : ℕ) (others : List RecordReading) (old new : Walking) (fault : Fault)
     → TellsVersion file (versions_left file old) (versions_left file new) (Err fault)
     → FaultNames (naming_of file number (left_of file strings others old)) fault
 fault-left file strings number others old new (Refused refusal) tells =
     λ other. refused-left file strings old.held.table.at old.held.table.count old.standing old.left others refusal
-    (λ (all : List Reading). ((naming_of file number all).found ≡ None) × ((naming_of file number all).refused ≡ Some refusal)) (tells other)
+    (λ (all : List RecordReading). ((naming_of file number all).found ≡ None) × ((naming_of file number all).refused ≡ Some refusal)) (tells other)
     (refused-names file number refusal others) (missed-names file number refusal others)
 fault-left file strings number others old new (Source fault at) tells = tt
 
 -- a step that gives none reads no more than is left to be read
 pub spent-read :
-    (file strings : List ℕ) (number : ℕ) (others : List Reading) (old new : Walking) → Spends old new
+    (file strings : List ℕ) (number : ℕ) (others : List RecordReading) (old new : Walking) → SpendsRecord old new
     → old.left - new.left ≤ (naming_of file number (left_of file strings others old)).read
 spent-read file strings number others old new spends =
     elim (cases_lt new.left old.left) [
       | inl fewer ↦
           let one : 1 ≤ (naming_of file number (left_of file strings others old)).read =
           read-left file strings old.held.table.at old.held.table.count old.standing old.left others
-          (λ (all : List Reading). 1 ≤ (naming_of file number all).read) (omega (arith, fewer)) (spends.there fewer)
+          (λ (all : List RecordReading). 1 ≤ (naming_of file number all).read) (omega (arith, fewer)) (spends.there fewer)
           (λ refusal. refused-reads file number refusal others) (λ met more. naming-reads file strings number met more) in
           omega (arith, one, spends.one)
       | inr same ↦ omega (arith, same)
@@ -88,7 +88,7 @@ spent-read file strings number others old new spends =
 
 -- before the first record none is read
 pub start-as :
-    (file : List ℕ) (number : ℕ) (told : RecordTable) (records : Given) (others : List Reading) (c : Walking) (done : ℕ) → done ≡ 0
+    (file : List ℕ) (number : ℕ) (told : RecordTable) (records : Given) (others : List RecordReading) (c : Walking) (done : ℕ) → done ≡ 0
     → StartsVersions records.kind records.head records.table c → IsRecordTable file told records
     → NamedAs done (naming_of file number (readings_of file told others)) (naming_of file number (left_of file told.strings others c))
 start-as file number told records others c done none starts is =
@@ -97,7 +97,7 @@ start-as file number told records others c done none starts is =
 
 -- a record more that has not the number
 pub later-as :
-    (file strings : List ℕ) (number : ℕ) (others : List Reading) (old new : Walking) (given : VersionRecord) (n k : ℕ) (all : Naming)
+    (file strings : List ℕ) (number : ℕ) (others : List RecordReading) (old new : Walking) (given : VersionRecord) (n k : ℕ) (all : Naming)
     → n + 1 ≡ k → new.held ≡ old.held → new.left + 1 ≡ old.left
     → (gives : GivesVersion file (versions_left file old) (versions_left file new) given) → LeadsOn file old new → names_number file number gives.met ≡ false
     → NamedAs n all (naming_of file number (left_of file strings others old)) → NamedAs k all (naming_of file number (left_of file strings others new))
@@ -109,7 +109,7 @@ later-as file strings number others old new given n k all sum held fewer gives l
 
 -- and one that has it
 pub here-as :
-    (file strings : List ℕ) (number : ℕ) (others : List Reading) (old new : Walking) (given : VersionRecord) (n : ℕ) (all : Naming)
+    (file strings : List ℕ) (number : ℕ) (others : List RecordReading) (old new : Walking) (given : VersionRecord) (n : ℕ) (all : Naming)
     → new.held ≡ old.held → new.left + 1 ≡ old.left
     → (gives : GivesVersion file (versions_left file old) (versions_left file new) given) → LeadsOn file old new → names_number file number gives.met ≡ true
     → NamedAs n all (naming_of file number (left_of file strings others old)) → (all.found ≡ Some (strings, gives.met)) × (all.read ≡ n + 1)
@@ -120,7 +120,7 @@ here-as file strings number others old new given n all held fewer gives leads he
     (b.found, b.read)
 
 pub ended-as :
-    (file strings : List ℕ) (number : ℕ) (others : List Reading) (old new : Walking) (records : ℕ) (all : Naming)
+    (file strings : List ℕ) (number : ℕ) (others : List RecordReading) (old new : Walking) (records : ℕ) (all : Naming)
     → TellsVersion file (versions_left file old) (versions_left file new) (Ok None)
     → NamedAs records all (naming_of file number (left_of file strings others old)) → NamedAs records all (naming_of file number others)
 ended-as file strings number others old new records all ends before =
@@ -131,7 +131,7 @@ ended-as file strings number others old new records all ends before =
 pub fault-names :
     {before after : Counting} {n : ℕ} (file strings : List ℕ) (records m : ℕ) (all left others : Naming) (fault : Fault)
     → NamedAs records all left → Charges before after (Some fault) n → n ≤ (records + m) * 28 → m ≤ left.read → FaultNames left fault
-    → Names file strings before after all others (Err fault)
+    → FindsRecordInTable file strings before after all others (Err fault)
 fault-names file strings records m all left others (Refused refusal) named charges few read is = (
   Charges-more (all.read * 28) (omega (arith, few, named.read, read)) charges,
   λ other. let r = is other in (named.found ∙ r.0, named.refused ∙ r.1),
@@ -145,27 +145,27 @@ names-none file c all none = (0, Charges-more (0 * 28) (omega arith) none, recor
 
 -- a fault says the same of a table and of all
 pub names-fault :
-    (file strings : List ℕ) (a b : Counting) (all left : Naming) (fault : Fault) → Names file strings a b all left (Err fault)
+    (file strings : List ℕ) (a b : Counting) (all left : Naming) (fault : Fault) → FindsRecordInTable file strings a b all left (Err fault)
     → NamesBefore file a b all left (Err fault)
 names-fault file strings a b all left (Refused refusal) p = p
 names-fault file strings a b all left (Source fault at) p = p
 
 pub fault-of :
     (file : List ℕ) (a b : Counting) (naming all left : Naming) (fault : Fault) → naming ≡ all → NamesBefore file a b all left (Err fault)
-    → NamesOf file a b naming (Err fault)
+    → FindsRecordInTables file a b naming (Err fault)
 fault-of file a b naming all left (Refused refusal) e p = rw e p
 fault-of file a b naming all left (Source fault at) e p = rw e p
 
 pub some-of :
     (file : List ℕ) (a b : Counting) (naming all left : Naming) (by : NamedBy) → naming ≡ all → NamesBefore file a b all left (Ok (Some by))
-    → NamesOf file a b naming (Ok (Some by))
+    → FindsRecordInTables file a b naming (Ok (Some by))
 some-of file a b naming all left by e p = rw e p
 
 -- the needs behind the definitions, none of which has the number
 pub names-then :
     (file : List ℕ) (a b c : Counting) (naming all mid left : Naming) (result : Result (Option NamedBy) Fault) → naming ≡ all
     → left ≡ record { found = None; refused = None; read = 0 }
-    → NamesBefore file a b all mid (Ok None) → NamesBefore file b c mid left result → NamesOf file a c naming result
+    → NamesBefore file a b all mid (Ok None) → NamesBefore file b c mid left result → FindsRecordInTables file a c naming result
 names-then file a b c naming all mid left (Ok (Some by)) e none p q =
     rw e (q.0, p.2.found ∙ q.1, q.2, Charges-then _ (more-pays p.0 28 all.read mid.read p.2.read) p.1 q.3)
 names-then file a b c naming all mid left (Ok None) e none p q =

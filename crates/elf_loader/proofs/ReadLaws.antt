@@ -18,8 +18,8 @@ use Rattle.elf_scope.specs.Symbols.{RecordsWithin, SymbolsLie}
 use Rattle.elf_scope.specs.declared.symbols.RecordTable.{RecordTable}
 use Rattle.elf_scope.specs.declared.symbols.Symbols.{Symbols}
 use Rattle.elf_loader.specs.Comparing.{comparing_bytes}
-use Rattle.elf_loader.specs.Finding.{Spends}
-use Rattle.elf_loader.specs.Lookups.{behind_bytes, trial_bytes}
+use Rattle.elf_loader.specs.Finding.{LookupSpends}
+use Rattle.elf_loader.specs.Lookups.{lookup_bytes, trial_bytes}
 use Rattle.elf_loader.specs.Tables.{most_of, most_versions}
 use Rattle.elf_loader.specs.Telling.{telling_bytes, told_bytes}
 use Rattle.elf_loader.proofs.FoundLaws.{in-told, in-unnamed, in-wanted, told-spends}
@@ -54,7 +54,7 @@ one_of_both asked most = go (asked_name asked) refl
 pub behind_within :
     (wanted : Wanted) (symbols : Symbols) (place table size : ℕ) → SymbolsLie size symbols → place + table ≤ size
     → comparing_bytes wanted.asked (most_versions symbols) + (walk_bytes 12 (table / 4) (table / 4) (trial_bytes wanted) + telling_bytes wanted.asked (most_versions symbols))
-    ≤ behind_bytes 12 size wanted
+    ≤ lookup_bytes 12 size wanted
 behind_within wanted symbols place table size lies within =
     let both = one_of_both wanted.asked (most_versions symbols) in
     let quarter : table / 4 ≤ size / 4 = omega (arith, within) in
@@ -63,7 +63,7 @@ behind_within wanted symbols place table size lies within =
     omega (arith, both, steps, records)
 
 -- and with the headers
-pub ceiling_is : (size headers : ℕ) (wanted : Wanted) → loader_ceiling size headers wanted ≡ 64 + 64 * headers + size + behind_bytes 28 size wanted
+pub ceiling_is : (size headers : ℕ) (wanted : Wanted) → loader_ceiling size headers wanted ≡ 64 + 64 * headers + size + lookup_bytes 28 size wanted
 unfolding loader_ceiling
 ceiling_is size headers wanted = omega arith
 
@@ -91,7 +91,7 @@ pub record ReadsWalk (looked : LoaderLookup) (walked : Walked) (before : ℕ) : 
   pub chain_words : looked.chain_words ≡ walked.read
   pub records : before ≤ looked.records
 
-spends_reads : (looked : LoaderLookup) (walked : Walked) (before records : ℕ) (is_named : Bool) → Spends looked walked records is_named → before ≤ records → ReadsWalk looked walked before
+spends_reads : (looked : LoaderLookup) (walked : Walked) (before records : ℕ) (is_named : Bool) → LookupSpends looked walked records is_named → before ≤ records → ReadsWalk looked walked before
 spends_reads looked walked before records is_named spends low =
     record { tried = spends.tried; chain_words = spends.chain_words; records = omega (arith, low, spends.records) }
 
@@ -149,7 +149,7 @@ least_each n more = omega arith
 both_each : (before records each : ℕ) → (before + records) * each ≡ before * each + records * each
 both_each before records each = omega arith
 
-pub asks_all : (wanted : Wanted) (looked : LoaderLookup) (walked : Walked) (before records : ℕ) (is_named : Bool) → Spends looked walked (before + records) is_named
+pub asks_all : (wanted : Wanted) (looked : LoaderLookup) (walked : Walked) (before records : ℕ) (is_named : Bool) → LookupSpends looked walked (before + records) is_named
     → walk_bytes (before * record_cost wanted.asked) walked.read walked.tried (trial_bytes wanted) + (records * 28 + cost_where is_named told_bytes) ≤ lookup_asks wanted looked
 asks_all wanted looked walked before records is_named spends =
     let each = least_each records (elim (asked_name wanted.asked) [ None ↦ 0 | Some version ↦ pad64 (length version + 1) ]) in

@@ -8,7 +8,7 @@ use Rattle.std.proofs.Math.ListN.{set}
 use Rattle.std.proofs.Math.Pow.{pow-lt}
 use Rattle.std.specs.Int.{bit_at}
 use Rattle.std.specs.Int.RustNames.{bit_or}
-use Rattle.elf_loader.specs.NumberSets.{has}
+use Rattle.elf_loader.specs.NumberSets.{has_number}
 
 -- a word with a bit more
 bit-more : (word j k : ℕ) → (bit_at (bit_or word (2 ^ j)) k == 1) ≡ (j == k || bit_at word k == 1)
@@ -35,8 +35,8 @@ differ-words number other apart = let e : number ≢ other = λ e. apart (ap (λ
 -- its word has one bit more, and the others are as they were
 pub has-more :
     (words : List ℕ) (number other : ℕ) → number / 64 < length words
-    → has (set words (number / 64) (bit_or (get_or words (number / 64) 0) (2 ^ (number % 64)))) other
-    ≡ (number == other || has words other)
+    → has_number (set words (number / 64) (bit_or (get_or words (number / 64) 0) (2 ^ (number % 64)))) other
+    ≡ (number == other || has_number words other)
 has-more words number other inside =
     elim (cases_eq (other / 64) (number / 64)) [
       | inl same ↦

@@ -2,7 +2,7 @@
 use Rattle.std.proofs.Common.{◌≡◌, ℕ, zero, suc, ◌+◌, ◌-◌, ◌*◌, ◌<◌, ◌≤◌, false, List, ◌∷◌, inl, inr, None, Some, Ok, Err, ◌∙◌, arith, mul-le-mul_right, suc-mul}
 use Rattle.std.proofs.lemmas.Bool.{cases_lt}
 use Rattle.elf_model.specs.Budget.{IsBudget}
-use Rattle.elf_model.specs.Loader.{Compared, Meets, Reading, RecordTable, compared_with, readings_of}
+use Rattle.elf_model.specs.Loader.{Compared, Meets, RecordReading, RecordTable, compared_with, readings_of}
 use Rattle.elf_model.specs.Versions.{Met, most_records}
 use Rattle.elf_model.specs.declared.versions.VersionKind.{VersionKind}
 use Rattle.elf_model.specs.declared.versions.VersionKind.TheVariants.{Definition, File, Need}
@@ -14,7 +14,7 @@ use Rattle.elf_headers.proofs.LedgerLaws.{Charges-more}
 use Rattle.elf_scope.specs.Symbols.{IsRecordTable}
 use Rattle.elf_scope.specs.declared.symbols.RecordTable.{RecordTable as Given}
 use Rattle.elf_table.specs.Tables.{strings_in}
-use Rattle.elf_versions.specs.Reading.{GivesVersion, Held, LeadsOn, Spends, StartsVersions, TellsVersion, Walking, bytes_each, unheld, versions_left}
+use Rattle.elf_versions.specs.Reading.{GivesVersion, HeldTable, LeadsOn, SpendsRecord, StartsVersions, TellsVersion, Walking, bytes_each, unheld, versions_left}
 use Rattle.elf_versions.specs.declared.record.VersionRecord.{VersionRecord}
 use Rattle.elf_loader.specs.Comparing.{ComparedAs, Compares, ComparesOne}
 use Rattle.elf_loader.proofs.CompareLaws.{as-none, as-then, compared-reads, missed-refuses, refused-reads, refused-refuses}
@@ -32,7 +32,7 @@ strings-known file told records left is some few = is.names (go records.table.co
 
 -- before the first record nothing is done
 pub start-as :
-    (file wanted set : List ℕ) (told : RecordTable) (records : Given) (others : List Reading) (c : Walking) (done : ℕ) → done ≡ 0
+    (file wanted set : List ℕ) (told : RecordTable) (records : Given) (others : List RecordReading) (c : Walking) (done : ℕ) → done ≡ 0
     → StartsVersions records.kind records.head records.table c → IsRecordTable file told records
     → ComparedAs set set done (compared_with file wanted (readings_of file told others)) (compared_with file wanted (left_of file told.strings others c))
 start-as file wanted set told records others c done none starts is =
@@ -41,7 +41,7 @@ start-as file wanted set told records others c done none starts is =
 
 -- then a record more is compared
 pub step-as :
-    (file wanted a b d strings : List ℕ) (told : RecordTable) (others : List Reading) (old new : Walking) (given : VersionRecord) (n k : ℕ) (all : Compared)
+    (file wanted a b d strings : List ℕ) (told : RecordTable) (others : List RecordReading) (old new : Walking) (given : VersionRecord) (n k : ℕ) (all : Compared)
     → n + 1 ≡ k → new.held ≡ old.held → new.left + 1 ≡ old.left
     → (gives : GivesVersion file (versions_left file old) (versions_left file new) given) → LeadsOn file old new → strings ≡ told.strings
     → ComparedAs a b n all (compared_with file wanted (left_of file told.strings others old))
@@ -76,14 +76,14 @@ fault-compares each records m old mid new all left others (Source fault at) comp
 
 -- a step that gives none reads no more than is left to be read
 pub spent-read :
-    (file wanted strings : List ℕ) (others : List Reading) (old new : Walking) → Spends old new
+    (file wanted strings : List ℕ) (others : List RecordReading) (old new : Walking) → SpendsRecord old new
     → old.left - new.left ≤ (compared_with file wanted (left_of file strings others old)).read
 spent-read file wanted strings others old new spends =
     elim (cases_lt new.left old.left) [
       | inl fewer ↦
           let one : 1 ≤ (compared_with file wanted (left_of file strings others old)).read =
           read-left file strings old.held.table.at old.held.table.count old.standing old.left others
-          (λ (all : List Reading). 1 ≤ (compared_with file wanted all).read) (omega (arith, fewer)) (spends.there fewer)
+          (λ (all : List RecordReading). 1 ≤ (compared_with file wanted all).read) (omega (arith, fewer)) (spends.there fewer)
           (λ refusal. refused-reads file wanted refusal others) (λ met more. compared-reads file wanted strings met more) in
           omega (arith, one, spends.one)
       | inr same ↦ omega (arith, same)
@@ -91,12 +91,12 @@ spent-read file wanted strings others old new spends =
 
 -- and its fault is that of what is left
 pub fault-left :
-    (file wanted strings : List ℕ) (others : List Reading) (old new : Walking) (fault : Fault)
+    (file wanted strings : List ℕ) (others : List RecordReading) (old new : Walking) (fault : Fault)
     → TellsVersion file (versions_left file old) (versions_left file new) (Err fault)
     → FaultIs (compared_with file wanted (left_of file strings others old)) fault
 fault-left file wanted strings others old new (Refused refusal) tells =
     λ other. refused-left file strings old.held.table.at old.held.table.count old.standing old.left others refusal
-    (λ (all : List Reading). (compared_with file wanted all).refused ≡ Some refusal) (tells other)
+    (λ (all : List RecordReading). (compared_with file wanted all).refused ≡ Some refusal) (tells other)
     (refused-refuses file wanted refusal others) (missed-refuses file wanted refusal others)
 fault-left file wanted strings others old new (Source fault at) tells = tt
 
@@ -107,7 +107,7 @@ fault-one old new all left (Refused refusal) one = one
 fault-one old new all left (Source fault at) one = (one, tt)
 
 pub fault-met :
-    (file wanted names strings old new : List ℕ) (met : Met) (all others : List Reading) (left : Compared) (fault : Fault) → names ≡ strings
+    (file wanted names strings old new : List ℕ) (met : Met) (all others : List RecordReading) (left : Compared) (fault : Fault) → names ≡ strings
     → all ≡ Meets strings met ∷ others → ComparesOne old new (compared_with file wanted (Meets names met ∷ others)) left (Err fault)
     → (1 ≤ (compared_with file wanted all).read) × FaultIs (compared_with file wanted all) fault
 fault-met file wanted names strings old new met all others left fault known first one =
@@ -120,7 +120,7 @@ one-more most new each pad few small =
     rw more (omega (arith, small, suc-mul new each, suc-mul (most - suc new) (28 + pad)))
 
 pub step-pays :
-    (h : Held) (most old new each pad : ℕ) → h.whole ≡ false → new + 1 ≡ old → old ≤ most → each ≤ 28
+    (h : HeldTable) (most old new each pad : ℕ) → h.whole ≡ false → new + 1 ≡ old → old ≤ most → each ≤ 28
     → (most - old) * (28 + pad) + (unheld h (old * each) - unheld h (new * each)) + pad ≤ (most - new) * (28 + pad)
 step-pays h most old new each pad alone one few small =
     let e : old ≡ suc new = omega (arith, one) in
@@ -135,7 +135,7 @@ one-spent most new each pad small =
     rw e (omega (arith, small, suc-mul new each, suc-mul (most - suc new) (28 + pad)))
 
 pub spent-pays :
-    (h : Held) (most old new each pad : ℕ) → h.whole ≡ false → old ≤ new + 1 → new ≤ old → each ≤ 28
+    (h : HeldTable) (most old new each pad : ℕ) → h.whole ≡ false → old ≤ new + 1 → new ≤ old → each ≤ 28
     → (most - old) * (28 + pad) + (unheld h (old * each) - unheld h (new * each)) ≤ ((most - old) + (old - new)) * (28 + pad)
 spent-pays h most old new each pad alone one fewer small =
     elim (cases_lt new old) [
@@ -158,7 +158,7 @@ each-small Need = omega arith
 
 -- a cursor that ends leaves the others
 pub ended-as :
-    (file wanted a b : List ℕ) (told : RecordTable) (others : List Reading) (old new : Walking) (records : ℕ) (all : Compared)
+    (file wanted a b : List ℕ) (told : RecordTable) (others : List RecordReading) (old new : Walking) (records : ℕ) (all : Compared)
     → TellsVersion file (versions_left file old) (versions_left file new) (Ok None)
     → ComparedAs a b records all (compared_with file wanted (left_of file told.strings others old))
     → ComparedAs a b records all (compared_with file wanted others)

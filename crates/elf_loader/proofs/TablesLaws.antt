@@ -1,6 +1,6 @@
 -- Tables of versions, one behind the other.
 use Rattle.std.proofs.Common.{◌≡◌, ℕ, ◌+◌, ◌*◌, ◌≤◌, List, [], ◌∷◌, ◌++◌, None, Result, Ok, Err, refl, ap, ◌∙◌, arith}
-use Rattle.elf_model.specs.Loader.{Compared, Reading, RecordTable as IsTableOf, compared_with, readings, readings_of}
+use Rattle.elf_model.specs.Loader.{Compared, RecordReading, RecordTable as IsTableOf, compared_with, readings, readings_of}
 use Rattle.elf_source.specs.Source.{Counting}
 use Rattle.elf_headers.specs.Ledger.{Charges}
 use Rattle.elf_headers.specs.declared.fault.Fault.{Fault}
@@ -47,7 +47,7 @@ read-parted file told first second p = ap (readings file) p.whole ∙ read-both 
 
 -- no table
 pub compared-no-table :
-    (file wanted set : List ℕ) (c : Counting) (each : ℕ) (told : List IsTableOf) (others : List Reading) → Charges c c None 0 → AreRecordTables file told []
+    (file wanted set : List ℕ) (c : Counting) (each : ℕ) (told : List IsTableOf) (others : List RecordReading) → Charges c c None 0 → AreRecordTables file told []
     → Compares c c each set set (compared_with file wanted (readings_before file told others)) (compared_with file wanted others) (Ok tt)
 unfolding readings_before
 compared-no-table file wanted set c each [] others none are = (0, Charges-more (0 * each) (omega arith) none, as-none set (compared_with file wanted others))
@@ -55,8 +55,8 @@ compared-no-table file wanted set c each (table ∷ told) others none are = absu
 
 -- one table
 pub compared-one-table :
-    (a b : Counting) (file wanted old new : List ℕ) (each : ℕ) (told : List IsTableOf) (others : List Reading) (records : RecordTable) (result : Result (Unit {0}) Fault)
-    → ((one : IsTableOf) (more : List Reading) → IsRecordTable file one records
+    (a b : Counting) (file wanted old new : List ℕ) (each : ℕ) (told : List IsTableOf) (others : List RecordReading) (records : RecordTable) (result : Result (Unit {0}) Fault)
+    → ((one : IsTableOf) (more : List RecordReading) → IsRecordTable file one records
     → Compares a b each old new (compared_with file wanted (readings_of file one more)) (compared_with file wanted more) result)
     → AreRecordTables file told (records ∷ [])
     → Compares a b each old new (compared_with file wanted (readings_before file told others)) (compared_with file wanted others) result
@@ -91,14 +91,14 @@ compares-fault a b each old mid new whole all between left (Source fault at) e p
 
 -- what is so of each table, and where there is none, is so of one if there is one
 pub none-before :
-    (file : List ℕ) (told : List IsTableOf) (others : List Reading) (P : List Reading → Type 0) → P others → AreRecordTables file told []
+    (file : List ℕ) (told : List IsTableOf) (others : List RecordReading) (P : List RecordReading → Type 0) → P others → AreRecordTables file told []
     → P (readings_before file told others)
 unfolding readings_before
 none-before file [] others P p are = p
 none-before file (table ∷ told) others P p are = absurd are
 
 pub one-before :
-    (file : List ℕ) (told : List IsTableOf) (others : List Reading) (records : RecordTable) (P : List Reading → Type 0)
+    (file : List ℕ) (told : List IsTableOf) (others : List RecordReading) (records : RecordTable) (P : List RecordReading → Type 0)
     → ((one : IsTableOf) → IsRecordTable file one records → P (readings_of file one others)) → AreRecordTables file told (records ∷ [])
     → P (readings_before file told others)
 unfolding readings_before

@@ -25,8 +25,8 @@ use Rattle.elf_table.specs.NamesRead.{NameRead}
 use Rattle.elf_table.specs.Tables.{Strings, strings_in}
 use Rattle.elf_table.specs.declared.names.NameEnd.{NameEnd}
 use Rattle.elf_table.specs.declared.names.NameEnd.TheVariants.{Whole, Cut}
-use Rattle.elf_loader.specs.Naming.{NamesOf}
-use Rattle.elf_loader.specs.Telling.{TellsName, told_bytes}
+use Rattle.elf_loader.specs.Naming.{FindsRecordInTables}
+use Rattle.elf_loader.specs.Telling.{TellsVersionName, told_bytes}
 use Rattle.elf_loader.specs.declared.naming.NamedBy.{NamedBy}
 
 -- the first record that has the number tells its name
@@ -62,7 +62,7 @@ told-refused file scope words y walked naming refusal found none = rw (found, no
 -- a fault before the record
 pub fault-tells :
     (file : List ℕ) (scope : Scope) (words : VersionWords) (y : ℕ) (naming : Naming) (a b : Counting) (name : List ℕ) (fault : Fault)
-    → NamesOf file a b naming (Err fault) → TellsName file scope words y naming a b name (Err fault)
+    → FindsRecordInTables file a b naming (Err fault) → TellsVersionName file scope words y naming a b name (Err fault)
 fault-tells file scope words y naming a b name (Refused refusal) p = (
   Charges-more _ (omega arith) p.0,
   λ other walked. let r = p.1 other in let none : is_some naming.found ≡ false = ap is_some r.0 in rw none (told-refused file scope words y walked naming refusal r.0 r.1),
@@ -75,8 +75,8 @@ stopped a b n at p = record { reads = p.reads; says = λ budget. absurd (cc) }
 -- no record
 pub none-tells :
     (file : List ℕ) (scope : Scope) (words : VersionWords) (y at : ℕ) (naming : Naming) (a b : Counting) (name : List ℕ)
-    → at ≡ version_word_at words y → NamesOf file a b naming (Ok None)
-    → TellsName file scope words y naming a b name (Err (Refused (record { at = at; cause = VersionIndex })))
+    → at ≡ version_word_at words y → FindsRecordInTables file a b naming (Ok None)
+    → TellsVersionName file scope words y naming a b name (Err (Refused (record { at = at; cause = VersionIndex })))
 none-tells file scope words y at naming a b name here p = (
   Charges-more _ (omega arith) (stopped a b (naming.read * 28) at p.0),
   λ other walked. let none : is_some naming.found ≡ false = ap is_some p.1 in rw (none, here) (told-none file scope words y walked naming p.1 p.2),
@@ -137,10 +137,10 @@ stands-there file strings off cap at name told ends is =
 -- its name is read, and stands there
 pub name-tells :
     (file : List ℕ) (scope : Scope) (words : VersionWords) (y at : ℕ) (naming : Naming) (a b c : Counting) (name : List ℕ) (by : NamedBy) (end : NameEnd)
-    → NamesOf file a b naming (Ok (Some by)) → Charges b c None told_bytes
+    → FindsRecordInTables file a b naming (Ok (Some by)) → Charges b c None told_bytes
     → NameRead by.«record».named_at (Ok end) name (shown (strings_in file by.names) by.«record».name TOLD_BYTES)
     → by.names.at + by.names.size < 2 ^ 64 → at ≡ min (by.names.at + by.«record».name) (2 ^ 64 - 1)
-    → TellsName file scope words y naming a c name (Ok (record { end = end; at = at }))
+    → TellsVersionName file scope words y naming a c name (Ok (record { end = end; at = at }))
 name-tells file scope words y at naming a b c name by Whole p pays reads ends is = (
   Charges-then _ (omega arith) p.3 pays,
   λ walked. told-shown file scope words y walked naming (strings_in file by.names) p.0 (ShownWhole name) p.1 (let e = p.2.name in rw e at reads),
@@ -155,9 +155,9 @@ name-tells file scope words y at naming a b c name by Cut p pays reads ends is =
 -- or it is not
 pub name-fails :
     (file : List ℕ) (scope : Scope) (words : VersionWords) (y : ℕ) (naming : Naming) (a b c : Counting) (name : List ℕ) (by : NamedBy) (fault : Fault)
-    → NamesOf file a b naming (Ok (Some by)) → Charges b c (Some fault) told_bytes
+    → FindsRecordInTables file a b naming (Ok (Some by)) → Charges b c (Some fault) told_bytes
     → NameRead by.«record».named_at (Err fault) name (shown (strings_in file by.names) by.«record».name TOLD_BYTES)
-    → TellsName file scope words y naming a c name (Err fault)
+    → TellsVersionName file scope words y naming a c name (Err fault)
 name-fails file scope words y naming a b c name by (Refused refusal) p pays reads =
     let some : is_some naming.found ≡ true = ap is_some p.1 in
     rw some (

@@ -9,7 +9,7 @@ use Rattle.elf_scope.specs.Symbols.{IsSymbols}
 use Rattle.elf_table.specs.Cursors.{row_at}
 use Rattle.elf_scope.specs.declared.symbols.Symbols.{Symbols}
 use Rattle.elf_scope.specs.declared.symbols.VersionWords.{VersionWords}
-use Rattle.elf_hash.specs.declared.answer.Answer.{Answer}
+use Rattle.elf_hash.specs.declared.answer.TrialAnswer.{TrialAnswer}
 use Rattle.elf_loader.specs.declared.fitting.Fit.{Fit}
 use Rattle.elf_headers.specs.declared.fault.Fault.{Fault}
 use Rattle.elf_headers.specs.declared.fault.Fault.TheVariants.{Refused, Source}
@@ -28,11 +28,11 @@ TellsFit file words index says (Err (Refused refusal)) = (IsBudget refusal → �
 TellsFit file words index says (Err (Source fault at)) = Unit {0}
 
 -- a symbol and the word of its version stand in the file
-abbrev pub StandsAs : List ℕ → Symbols → ℕ → Answer → Type 0
+abbrev pub StandsAs : List ℕ → Symbols → ℕ → TrialAnswer → Type 0
 StandsAs file symbols index answer = IsSym file (row_at symbols.table index) answer.symbol × IsWord file symbols.words index answer.version
 
 -- it is told whether a symbol answers, which is given then
-abbrev pub TellsAnswer : List ℕ → Symbols → ℕ → Result Bool Refusal → Result (Option Answer) Fault → Type 0
+abbrev pub TellsAnswer : List ℕ → Symbols → ℕ → Result Bool Refusal → Result (Option TrialAnswer) Fault → Type 0
 TellsAnswer file symbols index says (Ok (Some answer)) = (says ≡ Ok true) × StandsAs file symbols index answer
 TellsAnswer file symbols index says (Ok None) = says ≡ Ok false
 TellsAnswer file symbols index says (Err (Refused refusal)) = (IsBudget refusal → ⊥) → says ≡ Err refusal

@@ -7,7 +7,7 @@ use Rattle.elf_source.specs.Source.{Counting}
 use Rattle.elf_headers.specs.Ledger.{Charges}
 use Rattle.elf_headers.specs.declared.fault.Fault.{Fault}
 use Rattle.elf_headers.specs.declared.fault.Fault.TheVariants.{Refused, Source}
-use Rattle.elf_loader.specs.NumberSets.{has}
+use Rattle.elf_loader.specs.NumberSets.{has_number}
 
 -- how many bytes comparing so many records with the version that is asked for may ask for: none where none is
 abbrev pub comparing_bytes : Asked → ℕ → ℕ
@@ -15,7 +15,7 @@ comparing_bytes asked records = elim (asked_name asked) [ None ↦ 0 | Some vers
 
 -- SO MUCH OF COMPARING IS DONE: some records are read, and what they give is in the set; the others are left
 pub record ComparedAs (old new : List ℕ) (records : ℕ) (all left : Compared) : Type 0 where
-  pub numbers : (number : ℕ) → (has old number || is_among number all.numbers) ≡ (has new number || is_among number left.numbers)
+  pub numbers : (number : ℕ) → (has_number old number || is_among number all.numbers) ≡ (has_number new number || is_among number left.numbers)
   pub refused : all.refused ≡ left.refused
   pub read : all.read ≡ records + left.read
 
@@ -37,7 +37,7 @@ ComparesOne old new all left (Err (Source fault at)) = 1 ≤ all.read
 -- what the whole of it gives: the set of the numbers of the wanted version; or that it is refused, unless a read failed
 abbrev pub Collects : Counting → Counting → ℕ → Compared → Result (List ℕ) Fault → Type 0
 Collects before after each compared (Ok numbers) =
-    Charges before after None (compared.read * each) × (compared.refused ≡ None) × ((number : ℕ) → has numbers number ≡ is_among number compared.numbers)
+    Charges before after None (compared.read * each) × (compared.refused ≡ None) × ((number : ℕ) → has_number numbers number ≡ is_among number compared.numbers)
 Collects before after each compared (Err (Refused refusal)) =
     Charges before after (Some (Refused refusal)) (compared.read * each) × ((IsBudget refusal → ⊥) → compared.refused ≡ Some refusal)
 Collects before after each compared (Err (Source fault at)) = Charges before after (Some (Source fault at)) (compared.read * each)

@@ -13,7 +13,8 @@ use Rattle.elf_source.specs.Source.{Counting}
 use Rattle.elf_headers.specs.Ledger.{Charges, why_stopped}
 use Rattle.elf_headers.specs.declared.fault.Fault.{Fault}
 use Rattle.elf_headers.specs.declared.fault.Fault.TheVariants.{Refused, Source}
-use Rattle.elf_loader.specs.Telling.{shown_by, told_bytes}
+use Rattle.elf_table.specs.NamesRead.{shown_by}
+use Rattle.elf_loader.specs.Telling.{told_bytes}
 use Rattle.elf_loader.specs.declared.found.FoundVersion.{FoundVersion}
 use Rattle.elf_loader.specs.declared.found.VersionName.{VersionName}
 use Rattle.elf_loader.specs.declared.found.VersionName.TheVariants.{Wanted, Unnamed, Told}
@@ -36,18 +37,18 @@ StandsTold file told at Unnamed = at ≡ 0
 StandsTold file told at (Told end) = StandsAt file at told
 
 -- what a lookup reads: what its walk does, and so many records, and a name or none
-pub record Spends (lookup : LoaderLookup) (walked : Walked) (read : ℕ) (named : Bool) : Type 0 where
+pub record LookupSpends (lookup : LoaderLookup) (walked : Walked) (read : ℕ) (named : Bool) : Type 0 where
   pub tried : lookup.lookup.compared ≡ walked.tried
   pub chain_words : lookup.chain_words ≡ walked.read
   pub records : lookup.records ≡ read
   pub is_named : lookup.is_named ≡ named
 
 -- its answer is this version, of the symbol of an index; or the refusal, unless a read failed
-abbrev pub FoundAs : Scope → IsAsked → ℕ → List ℕ → Walked → LoaderLookup → Result FoundVersion Fault → Type 0
-FoundAs scope asked y told walked lookup (Ok version) =
+abbrev pub IsVersionFound : Scope → IsAsked → ℕ → List ℕ → Walked → LoaderLookup → Result FoundVersion Fault → Type 0
+IsVersionFound scope asked y told walked lookup (Ok version) =
     lookup ≡ found_lookup scope y walked lookup.records lookup.is_named (Some (version_found asked told version))
-FoundAs scope asked y told walked lookup (Err (Refused refusal)) = (IsBudget refusal → ⊥) → lookup.lookup.answer ≡ IsRefused refusal
-FoundAs scope asked y told walked lookup (Err (Source fault at)) = Unit {0}
+IsVersionFound scope asked y told walked lookup (Err (Refused refusal)) = (IsBudget refusal → ⊥) → lookup.lookup.answer ≡ IsRefused refusal
+IsVersionFound scope asked y told walked lookup (Err (Source fault at)) = Unit {0}
 
 -- THE VERSION OF A SYMBOL THAT A WALK FINDS IS TOLD: so many records are read, and a name or none, beside those that were read
 -- before to tell the numbers of a wanted version
@@ -55,6 +56,6 @@ pub record FindsVersion (file : List ℕ) (scope : Scope) (asked : IsAsked) (wor
   pub records : ℕ
   pub is_named : Bool
   pub costs : Charges old new (why_stopped result) (records * 28 + cost_where is_named told_bytes)
-  pub spends : (walked : Walked) (before : ℕ) → (asked_name asked ≡ None → before ≡ 0) → Spends (found_in file scope asked before y walked (Some words)) walked (before + records) is_named
-  pub finds : (walked : Walked) (before : ℕ) → (asked_name asked ≡ None → before ≡ 0) → FoundAs scope asked y told walked (found_in file scope asked before y walked (Some words)) result
+  pub spends : (walked : Walked) (before : ℕ) → (asked_name asked ≡ None → before ≡ 0) → LookupSpends (found_in file scope asked before y walked (Some words)) walked (before + records) is_named
+  pub finds : (walked : Walked) (before : ℕ) → (asked_name asked ≡ None → before ≡ 0) → IsVersionFound scope asked y told walked (found_in file scope asked before y walked (Some words)) result
   pub stands : IfOk result (λ version. StandsTold file told version.name_at version.name)

@@ -14,11 +14,11 @@ use Rattle.elf_source.specs.Source.{Counting}
 use Rattle.elf_headers.specs.Ledger.{Charges, why_stopped}
 use Rattle.elf_headers.specs.declared.fault.Fault.{Fault}
 use Rattle.elf_headers.specs.declared.fault.Fault.TheVariants.{Refused, Source}
-use Rattle.elf_loader.specs.Finding.{Spends, StandsTold, version_found}
+use Rattle.elf_loader.specs.Finding.{LookupSpends, StandsTold, version_found}
 use Rattle.elf_loader.specs.Telling.{told_bytes}
 use Rattle.elf_loader.specs.declared.found.FoundVersion.{FoundVersion}
-use Rattle.elf_loader.specs.declared.lookup.Lookup.{Lookup}
-use Rattle.elf_loader.specs.declared.lookup.Lookup.TheVariants.{Found, Absent}
+use Rattle.elf_loader.specs.declared.lookup.SymbolLookup.{SymbolLookup}
+use Rattle.elf_loader.specs.declared.lookup.SymbolLookup.TheVariants.{Found, Absent}
 
 -- neither the name nor a version that is asked for has more than 4,096 bytes
 abbrev pub AreShort : Wanted → Type 0
@@ -30,37 +30,37 @@ trial_bytes wanted = 26 + pad64 (length wanted.name + 1)
 
 -- a few bytes and what is asked for behind them in a source of this size, whatever its bytes are: a chain word and a symbol for
 -- each word that has room there, the records of versions, and the name of one
-abbrev pub behind_bytes : (few size : ℕ) → Wanted → ℕ
-behind_bytes few size wanted = few + size / 4 * (4 + trial_bytes wanted) + size / 8 * record_cost wanted.asked + told_bytes
+abbrev pub lookup_bytes : (few size : ℕ) → Wanted → ℕ
+lookup_bytes few size wanted = few + size / 4 * (4 + trial_bytes wanted) + size / 8 * record_cost wanted.asked + told_bytes
 
 -- an answer is the one that a lookup gives: the symbol that is found, with its version and the file's machine, or that there is
 -- none; and how many symbols are tried. The name of a version is told in these bytes, and stands where it says
-abbrev pub AnswersLookup : List ℕ → Asked → List ℕ → LoaderLookup → Lookup → Type 0
-AnswersLookup file asked told looked (Found found) =
+abbrev pub AnswersLoaderLookup : List ℕ → Asked → List ℕ → LoaderLookup → SymbolLookup → Type 0
+AnswersLoaderLookup file asked told looked (Found found) =
     (at : ℕ)
     × (looked.lookup ≡ record { answer = IsFound found.section found.index at; compared = found.tried })
     × IsSym file at found.symbol
     × (looked.version ≡ option_map (version_found asked told) found.version)
     × (found.machine ≡ e_machine file)
     × IfSome found.version (λ version. StandsTold file told version.name_at version.name)
-AnswersLookup file asked told looked (Absent tried) = looked.lookup ≡ record { answer = IsAbsent; compared = tried }
+AnswersLoaderLookup file asked told looked (Absent tried) = looked.lookup ≡ record { answer = IsAbsent; compared = tried }
 
 -- what a lookup tells: its answer; or its refusal, unless that is for want of budget
-abbrev pub TellsLookup : List ℕ → Asked → List ℕ → LoaderLookup → Result Lookup Fault → Type 0
-TellsLookup file asked told looked (Ok lookup) = AnswersLookup file asked told looked lookup
+abbrev pub TellsLookup : List ℕ → Asked → List ℕ → LoaderLookup → Result SymbolLookup Fault → Type 0
+TellsLookup file asked told looked (Ok lookup) = AnswersLoaderLookup file asked told looked lookup
 TellsLookup file asked told looked (Err (Refused refusal)) = (IsBudget refusal → ⊥) → looked.lookup.answer ≡ IsRefused refusal
 TellsLookup file asked told looked (Err (Source fault at)) = Unit {0}
 
 -- WHAT IS LEFT OF A LOOKUP DOES in a known file, where so many bytes of what it reads were asked for before: it asks for the
 -- others and a few, and tells what the lookup gives
-pub record LooksBehind (file : List ℕ) (wanted : Wanted) (few before : ℕ) (looked : LoaderLookup) (told : List ℕ) (old new : Counting) (result : Result Lookup Fault) : Type 0 where
+pub record LooksBehind (file : List ℕ) (wanted : Wanted) (few before : ℕ) (looked : LoaderLookup) (told : List ℕ) (old new : Counting) (result : Result SymbolLookup Fault) : Type 0 where
   pub spent : ℕ
   pub costs : Charges old new (why_stopped result) spent
   pub within : before + spent ≤ few + lookup_asks wanted looked
   pub tells : TellsLookup file wanted.asked told looked result
 
 -- WHAT A LOADER'S LOOKUP DOES in a known file: it costs no more than the definition's, and tells what that gives
-pub record LooksUp (file : List ℕ) (headers : ℕ) (wanted : Wanted) (told : List ℕ) (old new : Counting) (result : Result Lookup Fault) : Type 0 where
+pub record LooksUp (file : List ℕ) (headers : ℕ) (wanted : Wanted) (told : List ℕ) (old new : Counting) (result : Result SymbolLookup Fault) : Type 0 where
   pub costs : Charges old new (why_stopped result) (loader_cost file headers wanted)
   pub tells : TellsLookup file wanted.asked told (loader_looked file headers wanted) result
 
@@ -83,6 +83,6 @@ pub record FindsWith (file : List ℕ) (scope : Scope) (asked : Asked) (y : ℕ)
   pub records : ℕ
   pub is_named : Bool
   pub costs : Charges old new (why_stopped result) (records * 28 + cost_where is_named told_bytes)
-  pub spends : (walked : Walked) (before : ℕ) → (asked_name asked ≡ None → before ≡ 0) → Spends (found_in file scope asked before y walked scope.symbols.words) walked (before + records) is_named
+  pub spends : (walked : Walked) (before : ℕ) → (asked_name asked ≡ None → before ≡ 0) → LookupSpends (found_in file scope asked before y walked scope.symbols.words) walked (before + records) is_named
   pub finds : (walked : Walked) (before : ℕ) → (asked_name asked ≡ None → before ≡ 0) → FoundWith scope asked y told walked (found_in file scope asked before y walked scope.symbols.words) result
   pub stands : IfOk result (λ found. IfSome found (λ version. StandsTold file told version.name_at version.name))

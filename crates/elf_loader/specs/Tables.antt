@@ -1,12 +1,12 @@
 -- Tables of versions, one behind the other.
 use Rattle.std.specs.Prelude.{ℕ, ◌+◌, List, [], ◌∷◌, Option, None, Some}
-use Rattle.elf_model.specs.Loader.{RecordTable as IsTableOf, Reading, readings_of}
+use Rattle.elf_model.specs.Loader.{RecordTable as IsTableOf, RecordReading, readings_of}
 use Rattle.elf_model.specs.Versions.{most_records}
 use Rattle.elf_scope.specs.declared.symbols.RecordTable.{RecordTable}
 use Rattle.elf_scope.specs.declared.symbols.Symbols.{Symbols}
 
 -- the records that a walk over some tables reads, in front of others
-unfoldable pub readings_before : List ℕ → List IsTableOf → List Reading → List Reading
+unfoldable pub readings_before : List ℕ → List IsTableOf → List RecordReading → List RecordReading
 readings_before file [] others = others
 readings_before file (table ∷ tables) others = readings_of file table (readings_before file tables others)
 

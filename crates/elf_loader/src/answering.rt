@@ -2,7 +2,7 @@
 ghost use Rattle.std.specs.Prelude.{◌≡◌, ◌+◌, ◌<◌, ◌≤◌, length};
 ghost use Rattle.elf_headers.specs.Ledger.{Did, why_stopped};
 ghost use Rattle.elf_loader.specs.Answering.{SaysOf, StandsAs, TellsAnswer};
-ghost use Rattle.elf_loader.specs.NumberSets.{has};
+ghost use Rattle.elf_loader.specs.NumberSets.{has_number};
 ghost use Rattle.elf_wanted.specs.Wants.{the_wanted};
 ghost use Rattle.elf_model.specs.Loader.{Symbols as AreSymbolsOf, answers};
 ghost use Rattle.elf_model.specs.Names.{pad64};
@@ -11,7 +11,7 @@ ghost use Rattle.elf_scope.specs.Symbols.{IsSymbols, SymbolsLie};
 use crate::fitting::version_fits;
 use crate::number_set::NumberSet;
 use crate::offered::is_offered;
-use elf_hash::{Answer, Trial};
+use elf_hash::{Trial, TrialAnswer};
 use elf_headers::Fault;
 use elf_scope::Symbols;
 use elf_source::{Counted, Source};
@@ -40,9 +40,13 @@ impl<'a> Trial for WantedTrial<'a> {
         SymbolsLie size t.symbols.now × (length t.wanted.now.name.now ≤ 4096) };
 
     ghost is_of = { λ t file says.
-        SaysOf file t.symbols.now (the_wanted t.wanted.now) (has t.numbers.now) says };
+        SaysOf file t.symbols.now (the_wanted t.wanted.now) (has_number t.numbers.now) says };
 
-    fn tried<S: Source>(&self, src: &mut Counted<S>, index: u64) -> Result<Option<Answer>, Fault> {
+    fn tried<S: Source>(
+        &self,
+        src: &mut Counted<S>,
+        index: u64,
+    ) -> Result<Option<TrialAnswer>, Fault> {
         answering(src, self.symbols, self.wanted, self.numbers, index)
     }
 }
@@ -61,14 +65,14 @@ fn answering<S: Source>(
     wanted: &Wanted<'_>,
     numbers: &NumberSet,
     index: u64,
-) -> Result<Option<Answer>, Fault>
+) -> Result<Option<TrialAnswer>, Fault>
     requires most { length wanted.now.name.now ≤ 4096 }
     requires below { index < symbols.now.table.count }
     requires lies { SymbolsLie src.old.seen.size symbols.now }
     ensures { Did src.old src.new (why_stopped result) (26 + pad64 (length wanted.now.name.now + 1))
         (λ file. (told : AreSymbolsOf) → IsSymbols file told symbols.now →
         TellsAnswer file symbols.now index
-        (answers file told (the_wanted wanted.now) (has numbers.now) index) result) }
+        (answers file told (the_wanted wanted.now) (has_number numbers.now) index) result) }
 {
     let symbol = symbols.table.symbol(src, index)?;
     let place = symbols.table.place(index);
@@ -83,7 +87,7 @@ fn answering<S: Source>(
     if !fit.fits {
         return Ok(None);
     }
-    Ok(Some(Answer {
+    Ok(Some(TrialAnswer {
         symbol,
         version: fit.version,
     }))

@@ -4,11 +4,11 @@ ghost use Rattle.elf_headers.specs.Ledger.{Did, why_stopped};
 ghost use Rattle.elf_loader.specs.Comparing.{Collects, Compares, comparing_bytes};
 ghost use Rattle.elf_loader.specs.Tables.{most_of, most_versions, readings_before};
 ghost use Rattle.elf_wanted.specs.Wants.{asked_of};
-ghost use Rattle.elf_model.specs.Loader.{Reading, RecordTable as IsTableOf, asked_name, compared_with, readings};
+ghost use Rattle.elf_model.specs.Loader.{RecordReading, RecordTable as IsTableOf, asked_name, compared_with, readings};
 ghost use Rattle.elf_model.specs.LoaderFind.{record_cost, wanted_numbers};
 ghost use Rattle.elf_model.specs.LoaderScope.{Scope as IsScopeOf};
 ghost use Rattle.elf_model.specs.Names.{pad64};
-ghost use Rattle.elf_scope.specs.Symbols.{AreRecordTables, IsSymbols, RecordsWithin, SymbolsLie, one_table};
+ghost use Rattle.elf_scope.specs.Symbols.{AreRecordTables, IsSymbols, RecordsWithin, SymbolsLie, table_if_any};
 
 use crate::comparing::compare_table;
 use crate::number_set::NumberSet;
@@ -28,8 +28,8 @@ fn compare_any<S: Source>(
     requires within { IfSome records.now (RecordsWithin src.old.seen.size) }
     ensures { Did src.old src.new (why_stopped result)
         (most_of records.now * (28 + pad64 (length version.now + 1)))
-        (λ file. (told : List IsTableOf) (others : List Reading) →
-        AreRecordTables file told (one_table records.now) →
+        (λ file. (told : List IsTableOf) (others : List RecordReading) →
+        AreRecordTables file told (table_if_any records.now) →
         Compares src.old src.new (28 + pad64 (length version.now + 1)) numbers.old numbers.new
         (compared_with file version.now (readings_before file told others))
         (compared_with file version.now others) result) }
@@ -52,7 +52,8 @@ fn compare_all<S: Source>(
     ensures { Did src.old src.new (why_stopped result)
         (most_versions symbols.now * (28 + pad64 (length version.now + 1)))
         (λ file. (told : List IsTableOf) →
-        AreRecordTables file told (one_table symbols.now.definitions ++ one_table symbols.now.needs) →
+        AreRecordTables file told
+        (table_if_any symbols.now.definitions ++ table_if_any symbols.now.needs) →
         Compares src.old src.new (28 + pad64 (length version.now + 1)) numbers.old numbers.new
         (compared_with file version.now (readings file told))
         (compared_with file version.now []) result) }

@@ -2,7 +2,7 @@
 ghost use Rattle.std.specs.Prelude.{◌≡◌, ℕ, ◌+◌, ◌*◌, ◌<◌, ◌≤◌, ◌∷◌, List, length};
 ghost use Rattle.elf_headers.specs.Ledger.{Did, why_stopped};
 ghost use Rattle.elf_loader.specs.Comparing.{Compares, ComparesOne};
-ghost use Rattle.elf_model.specs.Loader.{Reading, Meets, RecordTable as IsTableOf, compared_with, readings_of};
+ghost use Rattle.elf_model.specs.Loader.{RecordReading, Meets, RecordTable as IsTableOf, compared_with, readings_of};
 ghost use Rattle.elf_model.specs.Names.{pad64};
 ghost use Rattle.elf_model.specs.Versions.{Met, VERSION_NUMBERS, most_records, number_in};
 ghost use Rattle.elf_scope.specs.Symbols.{IsRecordTable, RecordsWithin};
@@ -31,7 +31,8 @@ pub(crate) fn compare_table<S: Source>(
     requires within { RecordsWithin src.old.seen.size records.now }
     ensures { Did src.old src.new (why_stopped result)
         (most_records records.now.kind records.now.table.count * (28 + pad64 (length version.now + 1)))
-        (λ file. (told : IsTableOf) (others : List Reading) → IsRecordTable file told records.now →
+        (λ file. (told : IsTableOf) (others : List RecordReading) →
+        IsRecordTable file told records.now →
         Compares src.old src.new (28 + pad64 (length version.now + 1)) numbers.old numbers.new
         (compared_with file version.now (readings_of file told others))
         (compared_with file version.now others) result) }
@@ -55,7 +56,7 @@ fn compare_record<S: Source>(
     requires within { StringsWithin src.old.seen.size names.now }
     requires small { number_in given.now.number < VERSION_NUMBERS }
     ensures { Did src.old src.new (why_stopped result) (pad64 (length version.now + 1))
-        (λ file. (met : Met) (others : List Reading) → IsVersion file met given.now →
+        (λ file. (met : Met) (others : List RecordReading) → IsVersion file met given.now →
         ComparesOne numbers.old numbers.new
         (compared_with file version.now (Meets (strings_in file names.now) met ∷ others))
         (compared_with file version.now others) result) }

@@ -2,7 +2,7 @@
 ghost use Rattle.std.specs.Prelude.{◌≡◌, ℕ, ◌+◌, ◌≤◌, List, IfSome};
 ghost use Rattle.elf_headers.specs.Ledger.{Did, IsRead, why_stopped};
 ghost use Rattle.elf_loader.specs.Answering.{TellsFit};
-ghost use Rattle.elf_loader.specs.NumberSets.{has};
+ghost use Rattle.elf_loader.specs.NumberSets.{has_number};
 ghost use Rattle.elf_wanted.specs.Wants.{asked_of};
 ghost use Rattle.elf_model.specs.Bytes.{field, slice};
 ghost use Rattle.elf_model.specs.Loader.{VersionWords as AreWordsOf, fits, version_fits};
@@ -46,7 +46,7 @@ pub(crate) fn version_fits<S: Source>(
     ensures { Did src.old src.new (why_stopped result) 2 (λ file. (told : Option AreWordsOf) →
         AreWords told words.now →
         TellsFit file words.now index
-        (version_fits file told (asked_of asked.now) (has numbers.now) index) result) }
+        (version_fits file told (asked_of asked.now) (has_number numbers.now) index) result) }
 {
     let Some(words) = words else {
         return Ok(Fit {
@@ -67,7 +67,7 @@ pub(crate) fn version_fits<S: Source>(
 // Whether a version, by its word, fits what is asked for.
 #[tactic(auto, unfolding(elf_model::specs::Loader::fits))]
 fn fits(asked: &Asked<'_>, numbers: &NumberSet, word: u16) -> bool
-    ensures { result ≡ fits (asked_of asked.now) (has numbers.now) word }
+    ensures { result ≡ fits (asked_of asked.now) (has_number numbers.now) word }
 {
     let number = word % HIDDEN;
     let is_hidden = word != number;

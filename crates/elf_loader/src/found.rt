@@ -13,7 +13,7 @@ ghost use Rattle.elf_model.specs.Records.{versym};
 ghost use Rattle.elf_scope.specs.Symbols.{IsSymbols, IsWords, SymbolsLie};
 
 use crate::telling::told_name;
-use elf_hash::Found;
+use elf_hash::FoundInChain;
 use elf_headers::Fault;
 use elf_scope::{Symbols, VersionWords};
 use elf_source::{Counted, Source};
@@ -54,7 +54,7 @@ pub(crate) fn version_of<S: Source>(
     src: &mut Counted<S>,
     symbols: &Symbols,
     asked: &Asked<'_>,
-    found: &Found,
+    found: &FoundInChain,
     name: &mut NameBuf,
 ) -> Result<Option<FoundVersion>, Fault>
     requires lies { SymbolsLie src.old.seen.size symbols.now }

@@ -16,5 +16,5 @@ mod telling;
 
 pub use found::{FoundVersion, VersionName};
 pub use looking::look_up;
-pub use lookup::{FoundSymbol, Lookup};
+pub use lookup::{FoundSymbol, SymbolLookup};
 pub use offered::is_offered;

@@ -1,11 +1,11 @@
 //! The call that looks a name up as a loader does.
 ghost use Rattle.std.specs.Prelude.{◌≡◌, ℕ, ◌+◌, ◌*◌, ◌/◌, None, Ok};
 ghost use Rattle.elf_headers.specs.Ledger.{Did, why_stopped};
-ghost use Rattle.elf_hash.specs.Scopes.{IsTable, place_of};
-ghost use Rattle.elf_hash.specs.Walks.{Gives, walk_bytes};
+ghost use Rattle.elf_hash.specs.Scopes.{IsTable, place_of_table};
+ghost use Rattle.elf_hash.specs.Walks.{GivesWalked, walk_bytes};
 ghost use Rattle.elf_loader.specs.Answering.{StandsAs};
-ghost use Rattle.elf_loader.specs.Lookups.{AreShort, LooksBehind, LooksUp, behind_bytes, looked_with, trial_bytes};
-ghost use Rattle.elf_loader.specs.NumberSets.{has};
+ghost use Rattle.elf_loader.specs.Lookups.{AreShort, LooksBehind, LooksUp, lookup_bytes, looked_with, trial_bytes};
+ghost use Rattle.elf_loader.specs.NumberSets.{has_number};
 ghost use Rattle.elf_loader.specs.Tables.{most_versions};
 ghost use Rattle.elf_loader.specs.Telling.{telling_bytes};
 ghost use Rattle.elf_model.specs.Chains.{Walked as Walk};
@@ -19,7 +19,7 @@ ghost use Rattle.elf_wanted.specs.Wants.{asked_of, the_wanted};
 use crate::answering::WantedTrial;
 use crate::collecting::wanted_numbers;
 use crate::found::version_of;
-use crate::lookup::{FoundSymbol, Lookup};
+use crate::lookup::{FoundSymbol, SymbolLookup};
 use crate::number_set::NumberSet;
 use elf_hash::{HashTable, Walked, counts, walk};
 use elf_headers::{Fault, HeaderStore};
@@ -58,7 +58,7 @@ pub fn look_up<S: Source>(
     wanted: &Wanted<'_>,
     by_segments: bool,
     name: &mut NameBuf,
-) -> Result<Lookup, Fault>
+) -> Result<SymbolLookup, Fault>
     requires { AreShort (the_wanted wanted.now) }
     ensures did { Did src.old src.new (why_stopped result)
         (loader_ceiling src.old.seen.size store.old.slots (the_wanted wanted.now))
@@ -85,7 +85,7 @@ fn look_up_shown<S: Source>(
     store: &mut HeaderStore,
     wanted: &Wanted<'_>,
     name: &mut NameBuf,
-) -> Result<Lookup, Fault>
+) -> Result<SymbolLookup, Fault>
     requires { AreShort (the_wanted wanted.now) }
     ensures did { Did src.old src.new (why_stopped result)
         (loader_ceiling src.old.seen.size store.old.slots (the_wanted wanted.now))
@@ -106,11 +106,11 @@ fn look_in<S: Source>(
     scope: &Scope,
     wanted: &Wanted<'_>,
     name: &mut NameBuf,
-) -> Result<Lookup, Fault>
+) -> Result<SymbolLookup, Fault>
     requires short { AreShort (the_wanted wanted.now) }
     requires lies { ScopeLies src.old.seen.size scope.now }
     ensures { Did src.old src.new (why_stopped result)
-        (behind_bytes 28 src.old.seen.size (the_wanted wanted.now))
+        (lookup_bytes 28 src.old.seen.size (the_wanted wanted.now))
         (λ file. (told : IsScopeOf) → IsScope file told scope.now →
         LooksBehind file (the_wanted wanted.now) 28 0 (loaded_in file told (the_wanted wanted.now))
         name.new src.old src.new result) }
@@ -130,12 +130,12 @@ fn look_in_table<S: Source>(
     table: &HashTable,
     wanted: &Wanted<'_>,
     name: &mut NameBuf,
-) -> Result<Lookup, Fault>
+) -> Result<SymbolLookup, Fault>
     requires short { AreShort (the_wanted wanted.now) }
     requires lies { ScopeLies src.old.seen.size scope.now }
-    requires place { place_of table.now ≡ scope.now.hash }
+    requires place { place_of_table table.now ≡ scope.now.hash }
     ensures { Did src.old src.new (why_stopped result)
-        (behind_bytes 12 src.old.seen.size (the_wanted wanted.now))
+        (lookup_bytes 12 src.old.seen.size (the_wanted wanted.now))
         (λ file. (told : IsScopeOf) → IsScope file told scope.now → IsTable file told table.now →
         LooksBehind file (the_wanted wanted.now) 12 0 (looked_with file told (the_wanted wanted.now)
         (wanted_numbers file told (the_wanted wanted.now).asked)) name.new src.old src.new result) }
@@ -155,10 +155,10 @@ fn look_along<S: Source>(
     wanted: &Wanted<'_>,
     numbers: &NumberSet,
     name: &mut NameBuf,
-) -> Result<Lookup, Fault>
+) -> Result<SymbolLookup, Fault>
     requires short { AreShort (the_wanted wanted.now) }
     requires lies { ScopeLies src.old.seen.size scope.now }
-    requires place { place_of table.now ≡ scope.now.hash }
+    requires place { place_of_table table.now ≡ scope.now.hash }
     ensures { Did src.old src.new (why_stopped result)
         (walk_bytes 12 (scope.now.hash.size / 4) (scope.now.hash.size / 4)
         (trial_bytes (the_wanted wanted.now))
@@ -167,7 +167,8 @@ fn look_along<S: Source>(
         IsTable file told table.now → (asked_name (asked_of wanted.now.asked) ≡ None → before ≡ 0) →
         LooksBehind file (the_wanted wanted.now) 12 (before * record_cost (asked_of wanted.now.asked))
         (looked_by file told (asked_of wanted.now.asked) before
-        (walk_in file told (the_wanted wanted.now) (has numbers.now))) name.new src.old src.new result) }
+        (walk_in file told (the_wanted wanted.now) (has_number numbers.now))) name.new src.old
+        src.new result) }
 {
     let trial = WantedTrial {
         symbols: &scope.symbols,
@@ -188,12 +189,12 @@ fn answer_of<S: Source>(
     wanted: &Wanted<'_>,
     walked: &Walked,
     name: &mut NameBuf,
-) -> Result<Lookup, Fault>
+) -> Result<SymbolLookup, Fault>
     requires { ScopeLies src.old.seen.size scope.now }
     ensures { Did src.old src.new (why_stopped result)
         (telling_bytes (asked_of wanted.now.asked) (most_versions scope.now.symbols))
         (λ file. (told : IsScopeOf) (walk : Walk) (before : ℕ) → IsScope file told scope.now →
-        Gives (StandsAs file scope.now.symbols) walk (Ok walked.now) →
+        GivesWalked (StandsAs file scope.now.symbols) walk (Ok walked.now) →
         (asked_name (asked_of wanted.now.asked) ≡ None → before ≡ 0) →
         LooksBehind file (the_wanted wanted.now) 0
         (walk_bytes (before * record_cost (asked_of wanted.now.asked)) walk.read walk.tried
@@ -202,12 +203,12 @@ fn answer_of<S: Source>(
         name.new src.old src.new result) }
 {
     let Some(found) = walked.found else {
-        return Ok(Lookup::Absent {
+        return Ok(SymbolLookup::Absent {
             tried: walked.tried,
         });
     };
     let version = version_of(src, &scope.symbols, &wanted.asked, &found, name)?;
-    Ok(Lookup::Found(FoundSymbol {
+    Ok(SymbolLookup::Found(FoundSymbol {
         section: scope.symbols.index,
         machine: scope.machine,
         index: found.index,

@@ -22,7 +22,7 @@ pub struct FoundSymbol {
 /// What a lookup answers, with the number of symbols that were tried: those of the hash of the wanted
 /// name in the name's chain.
 #[derive(Clone, Copy)]
-pub enum Lookup {
+pub enum SymbolLookup {
     /// The first symbol of the chain that answers.
     Found(FoundSymbol),
     /// None does.

@@ -1,11 +1,11 @@
 //! The record that names the version of a number.
 ghost use Rattle.std.specs.Prelude.{◌≡◌, ℕ, ◌*◌, ◌++◌, List, IfOk, IfSome};
 ghost use Rattle.elf_headers.specs.Ledger.{Did, why_stopped};
-ghost use Rattle.elf_loader.specs.Naming.{Names as NamesOne, NamesBefore, NamesOf};
+ghost use Rattle.elf_loader.specs.Naming.{FindsRecordInTable as NamesOne, NamesBefore, FindsRecordInTables};
 ghost use Rattle.elf_loader.specs.Tables.{most_of, most_versions, readings_before};
-ghost use Rattle.elf_model.specs.Loader.{Reading, RecordTable as IsTableOf, naming_of, readings, readings_of};
+ghost use Rattle.elf_model.specs.Loader.{RecordReading, RecordTable as IsTableOf, naming_of, readings, readings_of};
 ghost use Rattle.elf_model.specs.Versions.{Met, most_records, names_number};
-ghost use Rattle.elf_scope.specs.Symbols.{AreRecordTables, IsRecordTable, RecordsWithin, SymbolsLie, one_table};
+ghost use Rattle.elf_scope.specs.Symbols.{AreRecordTables, IsRecordTable, RecordsWithin, SymbolsLie, table_if_any};
 ghost use Rattle.elf_table.specs.Tables.{StringsWithin, strings_in};
 ghost use Rattle.elf_versions.specs.Reading.{IsVersion};
 
@@ -37,7 +37,8 @@ pub(crate) fn name_in_table<S: Source>(
     requires within { RecordsWithin src.old.seen.size records.now }
     ensures { Did src.old src.new (why_stopped result)
         (most_records records.now.kind records.now.table.count * 28)
-        (λ file. (told : IsTableOf) (others : List Reading) → IsRecordTable file told records.now →
+        (λ file. (told : IsTableOf) (others : List RecordReading) →
+        IsRecordTable file told records.now →
         NamesOne file (strings_in file records.now.names) src.old src.new
         (naming_of file number (readings_of file told others)) (naming_of file number others) result) }
 {
@@ -63,8 +64,10 @@ pub(crate) fn name_of<S: Source>(
     requires lies { SymbolsLie src.old.seen.size symbols.now }
     ensures did { Did src.old src.new (why_stopped result) (most_versions symbols.now * 28)
         (λ file. (told : List IsTableOf) →
-        AreRecordTables file told (one_table symbols.now.definitions ++ one_table symbols.now.needs) →
-        NamesOf file src.old src.new (naming_of file number (readings file told)) result) }
+        AreRecordTables file told
+        (table_if_any symbols.now.definitions ++ table_if_any symbols.now.needs) →
+        FindsRecordInTables file src.old src.new
+        (naming_of file number (readings file told)) result) }
     ensures lies { IfOk result (λ named. IfSome named (λ by.
         StringsWithin src.old.seen.size by.names)) }
 {
@@ -82,8 +85,8 @@ fn name_in_any<S: Source>(
 ) -> Result<Option<NamedBy>, Fault>
     requires within { IfSome records.now (RecordsWithin src.old.seen.size) }
     ensures did { Did src.old src.new (why_stopped result) (most_of records.now * 28)
-        (λ file. (told : List IsTableOf) (others : List Reading) →
-        AreRecordTables file told (one_table records.now) →
+        (λ file. (told : List IsTableOf) (others : List RecordReading) →
+        AreRecordTables file told (table_if_any records.now) →
         NamesBefore file src.old src.new (naming_of file number (readings_before file told others))
         (naming_of file number others) result) }
     ensures lies { IfOk result (λ named. IfSome named (λ by.

@@ -1,6 +1,6 @@
 //! A set of numbers of versions.
 ghost use Rattle.std.specs.Prelude.{◌≡◌, ℕ, ◌<◌, ◌==◌, ◌||◌, false};
-ghost use Rattle.elf_loader.specs.NumberSets.{has};
+ghost use Rattle.elf_loader.specs.NumberSets.{has_number};
 
 use std::marker::Model;
 
@@ -28,14 +28,14 @@ impl Model for NumberSet {
 impl NumberSet {
     /// No number.
     pub(crate) fn new() -> NumberSet
-        ensures { (number : ℕ) → has result number ≡ false }
+        ensures { (number : ℕ) → has_number result number ≡ false }
     {
         NumberSet { words: [0; WORDS] }
     }
 
     /// Whether a number is in the set.
     pub(crate) fn contains(&self, number: u16) -> bool
-        ensures { result ≡ has self.now number }
+        ensures { result ≡ has_number self.now number }
     {
         number < NUMBERS && self.words[usize::from(number / 64)] >> (number % 64) & 1 == 1
     }
@@ -43,7 +43,8 @@ impl NumberSet {
     /// Puts a number below 1,024 into the set.
     pub(crate) fn insert(&mut self, number: u16)
         requires { number < 1024 }
-        ensures { (other : ℕ) → has self.new other ≡ (number == other || has self.old other) }
+        ensures { (other : ℕ) → has_number self.new other
+            ≡ (number == other || has_number self.old other) }
     {
         self.words[usize::from(number / 64)] |= 1 << (number % 64);
     }

@@ -2,7 +2,7 @@
 ghost use Rattle.std.specs.Prelude.{◌≡◌, ℕ, ◌+◌, ◌*◌};
 ghost use Rattle.elf_headers.specs.Ledger.{Did, why_stopped};
 ghost use Rattle.elf_loader.specs.Tables.{most_versions};
-ghost use Rattle.elf_loader.specs.Telling.{TellsName, told_bytes};
+ghost use Rattle.elf_loader.specs.Telling.{TellsVersionName, told_bytes};
 ghost use Rattle.elf_model.specs.Loader.{VersionWords as AreWordsOf, naming_of, readings, version_word_at};
 ghost use Rattle.elf_model.specs.LoaderScope.{Scope as IsScopeOf};
 ghost use Rattle.elf_scope.specs.Symbols.{IsSymbols, SymbolsLie};
@@ -46,7 +46,8 @@ pub(crate) fn told_name<S: Source>(
         (most_versions symbols.now * 28 + told_bytes)
         (λ file. (scope : IsScopeOf) (words : AreWordsOf) (y : ℕ) →
         IsSymbols file scope.symbols symbols.now → at ≡ version_word_at words y →
-        TellsName file scope words y (naming_of file number (readings file scope.symbols.records))
+        TellsVersionName file scope words y
+        (naming_of file number (readings file scope.symbols.records))
         src.old src.new name.new result) }
 {
     let Some(named) = name_of(src, symbols, number)? else {

@@ -7,9 +7,9 @@ use Rattle.std.specs.Ordering.{is_gt, is_lt, nat_cmp, ordering_reverse}
 use Rattle.std.specs.Cmp.Lexicographic.{slice_cmp}
 use Rattle.std.specs.declared.cmp.Ordering.{Ordering}
 use Rattle.std.specs.declared.cmp.Ordering.TheVariants.{Less, Equal, Greater}
-use Rattle.elf_many.specs.Kept.{CutAt, IsFront}
+use Rattle.elf_many.specs.Kept.{IsCutFront, IsFront}
 use Rattle.elf_many.specs.Order.{order, put_by}
-use Rattle.elf_many.specs.Passes.{AreBehind, Ascends, behind, in_order}
+use Rattle.elf_many.specs.Passes.{AreBehind, Ascends, names_after, in_order}
 use Rattle.elf_many.proofs.AscendLaws.{order_ascends}
 use Rattle.elf_many.proofs.MemberLaws.{stays}
 use Rattle.elf_many.proofs.OrderLaws.{put_less, put_equal, put_greater}
@@ -26,12 +26,12 @@ back_of_greater x y greater = total.antisymm y x ∙ ap ordering_reverse greater
 
 -- THE NAMES BEHIND ONE, WITH ONE MORE
 
-one_filtered : (low name : List ℕ) (names : List (List ℕ)) → behind low (names ++ name ∷ []) ≡ behind low names ++ cond (is_gt (order name low)) (name ∷ []) []
+one_filtered : (low name : List ℕ) (names : List (List ℕ)) → names_after low (names ++ name ∷ []) ≡ names_after low names ++ cond (is_gt (order name low)) (name ∷ []) []
 one_filtered low name [] = refl
 one_filtered low name (x ∷ xs) = by (is_gt (order x low)) (one_filtered low name xs)
   where
-    by : (b : Bool) → behind low (xs ++ name ∷ []) ≡ behind low xs ++ cond (is_gt (order name low)) (name ∷ []) []
-        → cond b (x ∷ behind low (xs ++ name ∷ [])) (behind low (xs ++ name ∷ [])) ≡ cond b (x ∷ behind low xs) (behind low xs) ++ cond (is_gt (order name low)) (name ∷ []) []
+    by : (b : Bool) → names_after low (xs ++ name ∷ []) ≡ names_after low xs ++ cond (is_gt (order name low)) (name ∷ []) []
+        → cond b (x ∷ names_after low (xs ++ name ∷ [])) (names_after low (xs ++ name ∷ [])) ≡ cond b (x ∷ names_after low xs) (names_after low xs) ++ cond (is_gt (order name low)) (name ∷ []) []
     by true ih = ap (λ l. x ∷ l) ih
     by false ih = ih
 
@@ -39,14 +39,14 @@ nothing_more : (names : List (List ℕ)) → names ++ [] ≡ names
 nothing_more [] = refl
 nothing_more (x ∷ xs) = ap (λ l. x ∷ l) (nothing_more xs)
 
-pub not_behind : (low name : List ℕ) (names : List (List ℕ)) → is_gt (order name low) ≡ false → in_order (behind low (names ++ name ∷ [])) ≡ in_order (behind low names)
+pub not_behind : (low name : List ℕ) (names : List (List ℕ)) → is_gt (order name low) ≡ false → in_order (names_after low (names ++ name ∷ [])) ≡ in_order (names_after low names)
 not_behind low name names is =
-    ap in_order (one_filtered low name names ∙ ap (λ b. behind low names ++ cond b (name ∷ []) []) is ∙ nothing_more (behind low names))
+    ap in_order (one_filtered low name names ∙ ap (λ b. names_after low names ++ cond b (name ∷ []) []) is ∙ nothing_more (names_after low names))
 
 pub one_behind : (low name : List ℕ) (names : List (List ℕ)) → is_gt (order name low) ≡ true
-    → in_order (behind low (names ++ name ∷ [])) ≡ put_by (λ n. n) name (in_order (behind low names))
+    → in_order (names_after low (names ++ name ∷ [])) ≡ put_by (λ n. n) name (in_order (names_after low names))
 one_behind low name names is =
-    ap in_order (one_filtered low name names ∙ ap (λ b. behind low names ++ cond b (name ∷ []) []) is) ∙ all_more (behind low names) name []
+    ap in_order (one_filtered low name names ∙ ap (λ b. names_after low names ++ cond b (name ∷ []) []) is) ∙ all_more (names_after low names) name []
 
 -- A NAME IS PUT
 
@@ -80,19 +80,19 @@ passes_front name limit (x ∷ xs) rest up high =
     ∙ ap (λ l. x ∷ l) (passes_front name limit xs rest up.1 high)
 
 still_cut : (limit : List ℕ) (front kept all : List (List ℕ)) (name next : List ℕ) (rest : List (List ℕ)) → kept ≡ front ++ limit ∷ []
-    → all ≡ front ++ limit ∷ put_by (λ n. n) name (next ∷ rest) → CutAt limit kept all
+    → all ≡ front ++ limit ∷ put_by (λ n. n) name (next ∷ rest) → IsCutFront limit kept all
 unfolding put_by
 still_cut limit front kept all name next rest are is = by (order name next) is
   where
     by : (o : Ordering)
         → all ≡ front ++ limit ∷ elim o as (λ _. List (List ℕ)) [ Less ↦ name ∷ next ∷ rest | Equal ↦ next ∷ rest | Greater ↦ next ∷ put_by (λ n. n) name rest ]
-        → CutAt limit kept all
+        → IsCutFront limit kept all
     by Less e = record { front = front; next = name; rest = next ∷ rest; kept_is = are; all_is = e }
     by Equal e = record { front = front; next = next; rest = rest; kept_is = are; all_is = e }
     by Greater e = record { front = front; next = next; rest = put_by (λ n. n) name rest; kept_is = are; all_is = e }
 
-behind_limit : (name limit : List ℕ) (kept all : List (List ℕ)) → Ascends all → CutAt limit kept all
-    → (o : Ordering) → o ≡ order name limit → is_lt o ≡ false → CutAt limit kept (put_by (λ n. n) name all)
+behind_limit : (name limit : List ℕ) (kept all : List (List ℕ)) → Ascends all → IsCutFront limit kept all
+    → (o : Ordering) → o ≡ order name limit → is_lt o ≡ false → IsCutFront limit kept (put_by (λ n. n) name all)
 behind_limit name limit kept all up cut Less is high = absurd (both_ways true high refl)
 behind_limit name limit kept all up cut Equal is high =
     let passed = passes_front name limit cut.front (cut.next ∷ cut.rest) (subst Ascends cut.all_is up) (rw (sym is) refl) in
@@ -143,7 +143,7 @@ taken [] k d within = absurd (omega arith)
 taken (x ∷ xs) zero d within = refl
 taken (x ∷ xs) (suc k) d within = ap (λ l. x ∷ l) (taken xs k d (omega arith))
 
-cut_of : (names all rest : List (List ℕ)) (k : ℕ) (d : List ℕ) → suc k < length names → all ≡ names ++ rest → CutAt (get_or names k d) (take (suc k) names) all
+cut_of : (names all rest : List (List ℕ)) (k : ℕ) (d : List ℕ) → suc k < length names → all ≡ names ++ rest → IsCutFront (get_or names k d) (take (suc k) names) all
 cut_of names all rest k d within is = record {
   front = take k names;
   next = get_or names (suc k) d;
@@ -153,7 +153,7 @@ cut_of names all rest k d within is = record {
 }
 
 pub front_cut : (names all : List (List ℕ)) (limit : List ℕ) (more : Bool) (k : ℕ) (d : List ℕ) → suc k < length names → IsFront limit more names all
-    → CutAt (get_or names k d) (take (suc k) names) all
+    → IsCutFront (get_or names k d) (take (suc k) names) all
 front_cut names all limit false k d within front = cut_of names all [] k d within (sym front ∙ sym (nothing_more names))
 front_cut names all limit true k d within front =
     cut_of names all (front.next ∷ front.rest) k d within
@@ -163,19 +163,19 @@ front_cut names all limit true k d within front =
 
 pub keeps_unwanted : (names : List (List ℕ)) (name low limit : List ℕ) (kept : List (List ℕ)) (more : Bool) (b : Bool) → b ≡ is_gt (order name low)
     → (b && (not more || is_lt (order name limit))) ≡ false
-    → IsFront limit more kept (in_order (behind low names)) → IsFront limit more kept (in_order (behind low (names ++ name ∷ [])))
+    → IsFront limit more kept (in_order (names_after low names)) → IsFront limit more kept (in_order (names_after low (names ++ name ∷ [])))
 keeps_unwanted names name low limit kept more true gt is front =
     subst (λ l. IsFront limit more kept l) (sym (one_behind low name names (sym gt)))
-    (front_unwanted name limit kept (in_order (behind low names)) more (order_ascends (behind low names) [] tt) is front)
+    (front_unwanted name limit kept (in_order (names_after low names)) more (order_ascends (names_after low names) [] tt) is front)
 keeps_unwanted names name low limit kept more false gt is front =
     subst (λ l. IsFront limit more kept l) (sym (not_behind low name names (sym gt))) front
 
 pub keeps_wanted : (names : List (List ℕ)) (name low limit : List ℕ) (kept : List (List ℕ)) (more : Bool) (b : Bool) → b ≡ is_gt (order name low)
     → (b && (not more || is_lt (order name limit))) ≡ true
-    → IsFront limit more kept (in_order (behind low names)) → IsFront limit more (put_by (λ n. n) name kept) (in_order (behind low (names ++ name ∷ [])))
+    → IsFront limit more kept (in_order (names_after low names)) → IsFront limit more (put_by (λ n. n) name kept) (in_order (names_after low (names ++ name ∷ [])))
 keeps_wanted names name low limit kept more true gt is front =
     subst (λ l. IsFront limit more (put_by (λ n. n) name kept) l) (sym (one_behind low name names (sym gt)))
-    (front_wanted name limit kept (in_order (behind low names)) more is front)
+    (front_wanted name limit kept (in_order (names_after low names)) more is front)
 keeps_wanted names name low limit kept more false gt is front = absurd (both_ways false refl is)
 
 -- NAMES ARE PUT IN ORDER, AND THE LAST ARE DROPPED
@@ -214,10 +214,10 @@ whole_front names spare new all limit more is whole front =
 
 pub cut_front : (names spare new all : List (List ℕ)) (limit last : List ℕ) (more : Bool) → spare ≡ in_order names
     → new ≡ take (length new) spare → 0 < length new → length new < length spare → ((most : ℕ) → length new ≡ suc most → last ≡ get_or new most [])
-    → IsFront limit more (in_order names) all → CutAt last (in_order new) all
+    → IsFront limit more (in_order names) all → IsCutFront last (in_order new) all
 cut_front names spare new all limit last more is front some fewer ends before = by (length new) refl
   where
-    by : (n : ℕ) → n ≡ length new → CutAt last (in_order new) all
+    by : (n : ℕ) → n ≡ length new → IsCutFront last (in_order new) all
     by zero e = absurd (omega arith)
     by (suc k) e =
         let new_is : new ≡ take (suc k) (in_order names) = front ∙ ap (λ l. take (length new) l) is ∙ ap (λ n. take n (in_order names)) (sym e) in

@@ -20,7 +20,7 @@ use Rattle.elf_source.specs.Source.{Seen}
 use Rattle.elf_headers.specs.declared.caps.Caps.{Caps}
 use Rattle.elf_headers.specs.declared.stop.Stop.TheVariants.{Refused as StopRefused}
 use Rattle.elf_listing.specs.Reports.{Reports}
-use Rattle.elf_many.specs.Checked.{Finds}
+use Rattle.elf_many.specs.Checked.{FindsState}
 
 -- the refusal of a file that is too short
 abbrev pub short_of : List ℕ → Refusal
@@ -100,7 +100,7 @@ refused file caps parts old new refusal found long reports is = record {
 
 -- a state that is that of the listing is found
 pub finds : (caps : Caps) (parts : ℕ) (file : List ℕ) (found : FileState)
-    → IsStateOf caps.limits.budget file caps.limits.headers (style_of caps.style) parts found → Finds caps parts file found
+    → IsStateOf caps.limits.budget file caps.limits.headers (style_of caps.style) parts found → FindsState caps parts file found
 finds caps parts file state.Ok is = is
 finds caps parts file (state.Refused refusal) is = is
 finds caps parts file state.NoElf is = is

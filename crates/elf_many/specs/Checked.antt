@@ -11,9 +11,9 @@ use Rattle.elf_source.specs.Source.{Counting, IsHonest}
 use Rattle.elf_headers.specs.declared.caps.Caps.{Caps}
 
 -- THE STATE that is found of a file: that of its listing within the budget, unless a read failed
-abbrev pub Finds : Caps → ℕ → List ℕ → FileState → Type 0
-Finds caps parts file state.Unread = ⊤
-Finds caps parts file found = IsStateOf caps.limits.budget file caps.limits.headers (style_of caps.style) parts found
+abbrev pub FindsState : Caps → ℕ → List ℕ → FileState → Type 0
+FindsState caps parts file state.Unread = ⊤
+FindsState caps parts file found = IsStateOf caps.limits.budget file caps.limits.headers (style_of caps.style) parts found
 
 -- a file that was not read: a read of it failed, or its source isn't honest; a check takes no memory, so none is wanted
 abbrev pub FailsRead : Counting → Counting → FileState → Type 0

@@ -10,5 +10,5 @@ abbrev pub needs_slash : List ℕ → Bool
 needs_slash path = not (length path == 0) && not (slice_index path (length path - 1) == SLASH)
 
 -- the path of a name in a folder
-abbrev pub joined : List ℕ → List ℕ → List ℕ
-joined path name = if needs_slash path then path ++ SLASH ∷ name else path ++ name
+abbrev pub joined_path : List ℕ → List ℕ → List ℕ
+joined_path path name = if needs_slash path then path ++ SLASH ∷ name else path ++ name

@@ -3,11 +3,11 @@ use Rattle.std.specs.Prelude.{ℕ, ◌≡◌, ◌≤◌, Bool, true, false, not,
 use Rattle.std.specs.Ordering.{is_gt, is_lt}
 use Rattle.elf_many.specs.Held.{IsEnough, IsWithinRoom}
 use Rattle.elf_many.specs.Order.{order}
-use Rattle.elf_many.specs.Passes.{in_order, behind}
+use Rattle.elf_many.specs.Passes.{in_order, names_after}
 
 -- the most bytes of a name in a folder
-abbrev pub NAME_BYTES : ℕ
-NAME_BYTES = 255
+abbrev pub FOLDER_NAME_BYTES : ℕ
+FOLDER_NAME_BYTES = 255
 
 -- what is kept of a folder: its first names behind another one, in order; the same as they lie; that other one; whether the
 -- folder has more of them, and the last that is kept then
@@ -24,10 +24,10 @@ is_dots name = bytes_eq name (codes ".") || bytes_eq name (codes "..")
 
 -- a name that can be told
 abbrev pub IsNameable : List ℕ → Type 0
-IsNameable name = IsUtf8 name × (length name ≤ NAME_BYTES)
+IsNameable name = IsUtf8 name × (length name ≤ FOLDER_NAME_BYTES)
 
 -- some names are a front of others, and do not have all of them
-pub record CutAt (limit : List ℕ) (kept all : List (List ℕ)) : Type 0 where
+pub record IsCutFront (limit : List ℕ) (kept all : List (List ℕ)) : Type 0 where
   pub front : List (List ℕ)
   pub next : List ℕ
   pub rest : List (List ℕ)
@@ -37,11 +37,11 @@ pub record CutAt (limit : List ℕ) (kept all : List (List ℕ)) : Type 0 where
 -- some names are all of others, or where there are more a front of them that ends with the limit
 abbrev pub IsFront : List ℕ → Bool → List (List ℕ) → List (List ℕ) → Type 0
 IsFront limit false kept all = kept ≡ all
-IsFront limit true kept all = CutAt limit kept all
+IsFront limit true kept all = IsCutFront limit kept all
 
 -- WHAT IS KEPT of the names that were put: the first of those behind `after` in the order of their bytes, each once
-abbrev pub Keeps : List (List ℕ) → Kept → Type 0
-Keeps names kept = IsFront kept.limit kept.more kept.names (in_order (behind kept.after names))
+abbrev pub KeepsFirst : List (List ℕ) → Kept → Type 0
+KeepsFirst names kept = IsFront kept.limit kept.more kept.names (in_order (names_after kept.after names))
 
 -- a name has its place among those that are kept
 abbrev pub wants : List ℕ → Kept → Bool

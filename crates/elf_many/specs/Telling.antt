@@ -1,7 +1,7 @@
 -- What is told of one file among many.
 use Rattle.std.specs.Prelude.{ℕ, ◌≡◌, List, max, Some, Result, OnOk, OnErr}
 use Rattle.elf_headers.specs.declared.caps.Caps.{Caps}
-use Rattle.elf_many.specs.Checked.{FailsRead, Finds}
+use Rattle.elf_many.specs.Checked.{FailsRead, FindsState}
 use Rattle.elf_many.specs.Statuses.{state_status}
 use Rattle.elf_model.specs.Checking.{check_line}
 use Rattle.elf_model.specs.declared.states.FileState.{FileState}
@@ -34,7 +34,7 @@ pub record TellsLine {X : Type 0} (state : FileState) (path : List ℕ) (result 
 -- is known, unread only where a read failed; and the status is at least what this calls for
 pub record TellsOf {X : Type 0} (path : List ℕ) (before after : Counting) (result : Result X OutFault) (old new : Tally) : Type 0 where
   pub state : FileState
-  pub found : (file : List ℕ) → before.seen.file ≡ Some file → Finds old.caps old.parts file state
+  pub found : (file : List ℕ) → before.seen.file ≡ Some file → FindsState old.caps old.parts file state
   pub read : FailsRead before after state
   pub tells : TellsLine state path result old new
 

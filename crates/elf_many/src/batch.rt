@@ -2,11 +2,11 @@
 ghost use Rattle.std.specs.Prelude.{◌≡◌, ◌<◌, ◌++◌, ◌∷◌, List, ℕ, suc, slice_index_or, true, false, IfOk, IfSome, IsNone, OnOk, Ok, [], length, take};
 ghost use Rattle.std.specs.List.Sorted.{IsSorted};
 ghost use Rattle.elf_many.specs.Held.{IsEnough, IsWithinKept, LeavesRoom, IsSettled};
-ghost use Rattle.elf_many.specs.Kept.{HoldsWithin, IsFront, IsNameable, Keeps, is_dots, wants};
+ghost use Rattle.elf_many.specs.Kept.{HoldsWithin, IsFront, IsNameable, KeepsFirst, is_dots, wants};
 ghost use Rattle.elf_many.specs.Order.{order};
 ghost use Rattle.elf_many.specs.Passes.{in_order};
 
-use crate::names::{NAME_BYTES, Names};
+use crate::names::{FOLDER_NAME_BYTES, FolderNames};
 use arrayvec::ArrayVec;
 use std::alloc::{AllocError, Global};
 use std::cmp::Ordering;
@@ -14,18 +14,18 @@ use std::marker::Model;
 use std::str;
 
 /// A name in a folder.
-pub type Name = ArrayVec<u8, 255>;
+pub type FolderName = ArrayVec<u8, 255>;
 
 /// The first names of a folder behind another one, in the order of their bytes, each once: as many as
 /// there is room for. A pass over the folder puts each name that it has; where there are more than are
 /// kept, another pass follows.
 #[derive(Drop)]
 pub struct Batch {
-    kept: Names,
+    kept: FolderNames,
     /// Where names are put in order.
-    spare: Names,
-    after: Name,
-    limit: Name,
+    spare: FolderNames,
+    after: FolderName,
+    limit: FolderName,
     more: bool,
 }
 
@@ -59,21 +59,21 @@ impl Batch {
     /// # Errors
     /// Where memory is refused.
     pub fn new(alloc: Global) -> Result<Batch, AllocError>
-        ensures { IfOk result (λ batch. Keeps [] batch) }
+        ensures { IfOk result (λ batch. KeepsFirst [] batch) }
     {
         Ok(Batch {
-            kept: Names::new(alloc)?,
-            spare: Names::new(alloc)?,
-            after: Name::new(),
-            limit: Name::new(),
+            kept: FolderNames::new(alloc)?,
+            spare: FolderNames::new(alloc)?,
+            after: FolderName::new(),
+            limit: FolderName::new(),
             more: false,
         })
     }
 
     /// Begins a pass that wants the names behind another one, which is empty in the first pass over a
     /// folder.
-    pub fn begin(&mut self, after: &Name)
-        ensures keeps { Keeps [] self.new }
+    pub fn begin(&mut self, after: &FolderName)
+        ensures keeps { KeepsFirst [] self.new }
         ensures after { self.new.after ≡ after.now.items }
         ensures more { self.new.more ≡ false }
         ensures room { HoldsWithin self.new }
@@ -104,8 +104,8 @@ impl Batch {
         ensures named { result ≡ Ok Put.Placed → is_dots name.now ≡ false →
             IsNameable name.now }
         ensures keeps { is_dots name.now ≡ false → IsNameable name.now →
-            OnOk result ((names : List (List ℕ)) → Keeps names self.old →
-            Keeps (names ++ name.now ∷ []) self.new) }
+            OnOk result ((names : List (List ℕ)) → KeepsFirst names self.old →
+            KeepsFirst (names ++ name.now ∷ []) self.new) }
         ensures room { OnOk result (HoldsWithin self.old → HoldsWithin self.new) }
         ensures after { self.new.after ≡ self.old.after }
     {
@@ -124,8 +124,8 @@ impl Batch {
     /// # Errors
     /// Where memory is refused.
     fn hold(&mut self, name: &[u8]) -> Result<(), AllocError>
-        ensures keeps { OnOk result ((names : List (List ℕ)) → Keeps names self.old →
-            Keeps (names ++ name.now ∷ []) self.new) }
+        ensures keeps { OnOk result ((names : List (List ℕ)) → KeepsFirst names self.old →
+            KeepsFirst (names ++ name.now ∷ []) self.new) }
         ensures room { OnOk result (HoldsWithin self.old → HoldsWithin self.new) }
         ensures after { self.new.after ≡ self.old.after }
     {
@@ -141,8 +141,8 @@ impl Batch {
     /// # Errors
     /// Where memory is refused.
     fn make_room(&mut self) -> Result<(), AllocError>
-        ensures keeps { OnOk result ((names : List (List ℕ)) → Keeps names self.old →
-            Keeps names self.new) }
+        ensures keeps { OnOk result ((names : List (List ℕ)) → KeepsFirst names self.old →
+            KeepsFirst names self.new) }
         ensures enough { OnOk result (HoldsWithin self.old → self.new.more ≡ true →
             IsEnough self.new.names) }
         ensures room { OnOk result (LeavesRoom self.new.held) }
@@ -168,8 +168,8 @@ impl Batch {
     /// Where memory is refused.
     pub fn end(&mut self) -> Result<(), AllocError>
         ensures names { OnOk result (self.new.held ≡ self.new.names) }
-        ensures keeps { OnOk result ((names : List (List ℕ)) → Keeps names self.old →
-            Keeps names self.new) }
+        ensures keeps { OnOk result ((names : List (List ℕ)) → KeepsFirst names self.old →
+            KeepsFirst names self.new) }
         ensures within { OnOk result (IsWithinKept self.new.held) }
         ensures enough { OnOk result (HoldsWithin self.old → self.new.more ≡ true →
             IsEnough self.new.names) }
@@ -184,7 +184,7 @@ impl Batch {
     }
 
     /// The names that are kept, as they lie: in order once the pass has ended.
-    pub fn names(&self) -> &Names
+    pub fn names(&self) -> &FolderNames
         ensures { result.now ≡ self.now.held }
     {
         &self.kept
@@ -203,7 +203,7 @@ fn is_nameable(name: &[u8]) -> bool
     ensures nameable { result ≡ true → IsNameable name.now }
     ensures unnameable { result ≡ false → ¬ (IsNameable name.now) }
 {
-    str::from_utf8(name).is_ok() && name.len() <= NAME_BYTES
+    str::from_utf8(name).is_ok() && name.len() <= FOLDER_NAME_BYTES
 }
 
 /// Puts names in order, and drops the last ones where there are many: then the limit is the last that is
@@ -212,9 +212,9 @@ fn is_nameable(name: &[u8]) -> bool
 /// # Errors
 /// Where memory is refused.
 fn settle(
-    kept: &mut Names,
-    spare: &mut Names,
-    limit: &mut Name,
+    kept: &mut FolderNames,
+    spare: &mut FolderNames,
+    limit: &mut FolderName,
     more: &mut bool,
 ) -> Result<(), AllocError>
     ensures front { OnOk result ((all : List (List ℕ)) →
@@ -239,7 +239,7 @@ fn settle(
 ///
 /// # Errors
 /// Where memory is refused.
-fn put_each_once(from: &Names, to: &mut Names) -> Result<(), AllocError>
+fn put_each_once(from: &FolderNames, to: &mut FolderNames) -> Result<(), AllocError>
     requires sorted { IsSorted order from.now }
     requires empty { to.old ≡ [] }
     ensures { OnOk result (to.new ≡ in_order from.now) }
@@ -260,7 +260,7 @@ fn put_each_once(from: &Names, to: &mut Names) -> Result<(), AllocError>
 ///
 /// # Errors
 /// Where memory is refused.
-fn put_first(from: &Names, to: &mut Names) -> Result<bool, AllocError>
+fn put_first(from: &FolderNames, to: &mut FolderNames) -> Result<bool, AllocError>
     requires empty { to.old ≡ [] }
     ensures whole { result ≡ Ok true → to.new ≡ from.now }
     ensures front { result ≡ Ok false → (to.new ≡ take (length to.new) from.now)
@@ -281,11 +281,11 @@ fn put_first(from: &Names, to: &mut Names) -> Result<bool, AllocError>
 }
 
 /// The last of some names; where there are none the empty one.
-fn last_of(names: &Names) -> Name
+fn last_of(names: &FolderNames) -> FolderName
     ensures { (most : ℕ) → length names.now ≡ suc most →
         result.items ≡ slice_index_or names.now most [] }
 {
-    let mut last = Name::new();
+    let mut last = FolderName::new();
     if let Some(name) = names.get(names.len().saturating_sub(1)) {
         let _ = last.try_extend_from_slice(name);
     }
@@ -293,10 +293,10 @@ fn last_of(names: &Names) -> Name
 }
 
 /// The same name once more.
-fn copied(name: &Name) -> Name
+fn copied(name: &FolderName) -> FolderName
     ensures { result.items ≡ name.now.items }
 {
-    let mut copy = Name::new();
+    let mut copy = FolderName::new();
     let _ = copy.try_extend_from_slice(name);
     copy
 }

@@ -3,15 +3,15 @@ ghost use Rattle.elf_headers.specs.Permitted.{style_of};
 ghost use Rattle.std.specs.Prelude.{◌≡◌, ◌+◌, ◌≤◌, ◌^◌, ℕ, List, Some, if◌then◌else◌};
 ghost use Rattle.elf_model.specs.Checking.{is_not_elf};
 ghost use Rattle.elf_model.specs.declared.states.FileState.TheVariants.{NoElf, Refused};
-ghost use Rattle.elf_many.specs.Checked.{AsksFor, FailsRead, Finds, check_cost};
+ghost use Rattle.elf_many.specs.Checked.{AsksFor, FailsRead, FindsState, check_cost};
 ghost use Rattle.elf_listing.specs.Reports.{Leaves};
 
 use crate::short::check_short;
+use elf_headers::{Caps, HeaderStore, Stop};
 use elf_listing::show;
 use elf_model::{Cause, FileState, Refusal};
 use elf_record::Parts;
 use elf_source::{Counted, NullSink, Out, Source};
-use elf_table::{Caps, HeaderStore, Stop};
 
 /// How many bytes a file header has.
 const HEADER_BYTES: u64 = 64;
@@ -31,7 +31,7 @@ pub fn check<S: Source>(
     ensures slots { store.new.slots ≡ store.old.slots }
     ensures leaves { Leaves src.old src.new }
     ensures state { (file : List ℕ) → src.old.seen.file ≡ Some file →
-        Finds caps parts.0 file result }
+        FindsState caps parts.0 file result }
     ensures cost { (file : List ℕ) → src.old.seen.file ≡ Some file →
         src.new.asked ≤ src.old.asked
         + check_cost file caps.limits.headers (style_of caps.style) parts.0 }

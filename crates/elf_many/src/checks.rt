@@ -8,11 +8,11 @@ ghost use Rattle.elf_source.specs.Output.{Puts};
 
 use crate::checking::check;
 use crate::statuses::worse;
+use elf_headers::{Caps, HeaderStore};
 use elf_lines::{show_check, show_unnamed};
 use elf_model::FileState;
 use elf_record::Parts;
 use elf_source::{Counted, Out, OutFault, Sink, Source};
-use elf_table::{Caps, HeaderStore};
 use std::io::Write;
 use std::marker::Model;
 

@@ -19,15 +19,15 @@ mod stack;
 mod statuses;
 mod walk;
 
-pub use batch::{Batch, Name, Put};
+pub use batch::{Batch, FolderName, Put};
 pub use checking::check;
 pub use checks::Checks;
 pub use entries::{ends_at, entry_end};
 pub use laws::{all_names, order_ascends, pass_keeps};
 pub use lists::{ListFault, check_list};
-pub use names::{KEPT_BYTES, KEPT_NAMES, NAME_BYTES, Names};
+pub use names::{FOLDER_NAME_BYTES, FolderNames, KEPT_BYTES, KEPT_NAMES};
 pub use path::{PATH_BYTES, PathText, join};
 pub use paths::check_path;
 pub use stack::{STACK_BYTES, Stack, count_within};
 pub use statuses::{status, worse};
-pub use walk::{DEPTH, Walk};
+pub use walk::{DEPTH, FolderWalk};

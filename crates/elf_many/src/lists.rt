@@ -2,7 +2,7 @@
 use crate::checks::Checks;
 use crate::entries::entry_end;
 use crate::paths::check_path;
-use crate::walk::Walk;
+use crate::walk::FolderWalk;
 use elf_source::{OutFault, Sink};
 use std::io::{ErrorKind, Read, Write};
 use std::os::unix::fs::FileExt;
@@ -36,7 +36,7 @@ enum Place {
 pub fn check_list<R: Files, W: Sink, E: Write + Drop, I: Read>(
     rt: &R,
     checks: &mut Checks<'_, W, E>,
-    walk: &mut Walk,
+    walk: &mut FolderWalk,
     list: &mut I,
     room: &mut [u8],
 ) -> Result<(), ListFault>
@@ -75,7 +75,7 @@ fn keep_rest(room: &mut [u8], used: usize, end: usize) -> usize {
 fn check_entries<R: Files, W: Sink, E: Write + Drop>(
     rt: &R,
     checks: &mut Checks<'_, W, E>,
-    walk: &mut Walk,
+    walk: &mut FolderWalk,
     bytes: &[u8],
     place: &mut Place,
 ) -> Result<usize, ListFault>
@@ -99,7 +99,7 @@ where
 fn check_last<R: Files, W: Sink, E: Write + Drop>(
     rt: &R,
     checks: &mut Checks<'_, W, E>,
-    walk: &mut Walk,
+    walk: &mut FolderWalk,
     rest: &[u8],
     place: Place,
 ) -> Result<(), ListFault>
@@ -116,7 +116,7 @@ where
 fn check_entry<R: Files, W: Sink, E: Write + Drop>(
     rt: &R,
     checks: &mut Checks<'_, W, E>,
-    walk: &mut Walk,
+    walk: &mut FolderWalk,
     entry: &[u8],
     place: Place,
 ) -> Result<(), ListFault>

@@ -8,7 +8,7 @@ use std::alloc::{AllocError, Global};
 use std::marker::Model;
 
 /// The most bytes of a name in a folder.
-pub const NAME_BYTES: usize = 255;
+pub const FOLDER_NAME_BYTES: usize = 255;
 
 /// How many names are held at once.
 const MOST_NAMES: usize = 32_768;
@@ -24,7 +24,7 @@ pub const KEPT_BYTES: usize = 589_824;
 
 /// Names one behind the other.
 #[derive(Drop)]
-pub struct Names {
+pub struct FolderNames {
     bytes: Vec<u8>,
     places: Vec<Place>,
 }
@@ -36,7 +36,7 @@ struct Place {
     len: u8,
 }
 
-impl Model for Names {
+impl Model for FolderNames {
     ghost use Rattle.std.specs.Prelude.{◌≡◌, ◌≤◌, ◌+◌, ℕ, List, map, All, length, sum_by};
     ghost use Rattle.elf_many.specs.Held.{piece};
 
@@ -48,17 +48,17 @@ impl Model for Names {
         × (sum_by (λ p. p.len) n.places.items ≡ length n.bytes.items) };
 }
 
-impl Names {
+impl FolderNames {
     /// No name. The memory is taken from `alloc` here.
     ///
     /// # Errors
     /// Where memory is refused.
-    pub(crate) fn new(alloc: Global) -> Result<Names, AllocError>
+    pub(crate) fn new(alloc: Global) -> Result<FolderNames, AllocError>
         ensures { IfOk result (λ names. names ≡ []) }
     {
         let bytes = Vec::with_capacity(alloc, MOST_BYTES)?;
         let places = Vec::with_capacity(alloc, MOST_NAMES)?;
-        Ok(Names { bytes, places })
+        Ok(FolderNames { bytes, places })
     }
 
     /// Forgets all names.
@@ -99,7 +99,7 @@ impl Names {
     pub(crate) fn is_full(&self) -> bool
         ensures { result ≡ false → LeavesRoom self.now }
     {
-        self.len() >= MOST_NAMES || self.size() > MOST_BYTES - NAME_BYTES
+        self.len() >= MOST_NAMES || self.size() > MOST_BYTES - FOLDER_NAME_BYTES
     }
 
     /// Whether these are as many names as are kept where there are more.

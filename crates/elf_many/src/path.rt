@@ -1,7 +1,7 @@
 //! A path that is put together of names.
 ghost use Rattle.std.specs.Prelude.{◌≡◌, ◌+◌, ◌≤◌, ◌<◌, length, true, false};
 ghost use Rattle.arrayvec.specs.ArrayVec.{array_vec_len};
-ghost use Rattle.elf_many.specs.Joined.{joined, needs_slash};
+ghost use Rattle.elf_many.specs.Joined.{joined_path, needs_slash};
 
 use arrayvec::ArrayVec;
 
@@ -14,7 +14,7 @@ pub type PathText = ArrayVec<u8, 4096>;
 /// Puts a name behind a folder's path, with a slash between the two unless the path is empty or ends in
 /// one. Answers whether there is room for it: else nothing changes.
 pub fn join(path: &mut PathText, name: &[u8]) -> bool
-    ensures joined { result ≡ true → path.new.items ≡ joined path.old.items name.now }
+    ensures joined { result ≡ true → path.new.items ≡ joined_path path.old.items name.now }
     ensures full { result ≡ false → path.new ≡ path.old }
     ensures room { array_vec_len path.old + length name.now < 4096 → result ≡ true }
 {

@@ -1,7 +1,7 @@
 //! A path that is asked for.
 use crate::checks::Checks;
 use crate::opening::{check_file, unopened};
-use crate::walk::Walk;
+use crate::walk::FolderWalk;
 use elf_model::FileState;
 use elf_source::{OutFault, Sink};
 use std::fs;
@@ -17,7 +17,7 @@ use std::rt::Files;
 pub fn check_path<R: Files, W: Sink, E: Write + Drop>(
     rt: &R,
     checks: &mut Checks<'_, W, E>,
-    walk: &mut Walk,
+    walk: &mut FolderWalk,
     path: &str,
 ) -> Result<(), OutFault>
 where

@@ -3,13 +3,13 @@ ghost use Rattle.std.specs.Prelude.{◌≡◌, ◌+◌, ◌<◌, ◌≤◌, ◌^
 ghost use Rattle.elf_model.specs.Checking.{permits_magic};
 ghost use Rattle.elf_model.specs.Records.{begins_as_elf};
 ghost use Rattle.elf_source.specs.Source.{Faults, Fills};
-ghost use Rattle.elf_many.specs.Checked.{FailsRead, Finds};
+ghost use Rattle.elf_many.specs.Checked.{FailsRead, FindsState};
 ghost use Rattle.elf_listing.specs.Reports.{Leaves};
 
+use elf_headers::Caps;
 use elf_model::{Cause, FileState, Refusal};
 use elf_record::word;
 use elf_source::{Counted, Source, SourceFault};
-use elf_table::Caps;
 
 /// The number of the magic number's four bytes (gABI 4, ELF Identification).
 const MAGIC: u32 = 0x464c_457f;
@@ -27,7 +27,7 @@ pub(crate) fn check_short<S: Source>(src: &mut Counted<S>, caps: Caps) -> FileSt
     ensures asks { src.new.asked ≤ src.old.asked + 4 }
     ensures budget { IfSome caps.limits.budget (λ bytes. src.new.asked ≤ src.old.asked + bytes) }
     ensures state { (file : List ℕ) (parts : ℕ) → src.old.seen.file ≡ Some file →
-        Finds caps parts file result }
+        FindsState caps parts file result }
 {
     src.limit(None);
     let at = src.length();

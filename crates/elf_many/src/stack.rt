@@ -2,8 +2,8 @@
 ghost use Rattle.std.specs.Prelude.{◌≡◌, ◌≤◌, ◌<◌, List, ℕ, IfOk, IfSome, OnOk, [], take, length, true, false};
 ghost use Rattle.elf_many.specs.Stacked.{pushed, stacked};
 
-use crate::batch::Name;
-use crate::names::Names;
+use crate::batch::FolderName;
+use crate::names::FolderNames;
 use std::alloc::{AllocError, Global};
 use std::marker::Model;
 
@@ -74,7 +74,7 @@ impl Stack {
     ///
     /// # Errors
     /// Where memory is refused.
-    pub fn push_first(&mut self, names: &Names, count: usize) -> Result<(), AllocError>
+    pub fn push_first(&mut self, names: &FolderNames, count: usize) -> Result<(), AllocError>
         requires { count ≤ length names.now }
         ensures { OnOk result (self.new ≡ stacked (take count names.now) self.old) }
     {
@@ -90,7 +90,7 @@ impl Stack {
     }
 
     /// Takes the last name.
-    pub fn pop(&mut self) -> Option<Name>
+    pub fn pop(&mut self) -> Option<FolderName>
         ensures { (below name : List ℕ) → self.old ≡ pushed below name → length name ≤ 255 →
             IfSome result (λ last. last.items ≡ name) × (self.new ≡ below) }
     {
@@ -101,7 +101,7 @@ impl Stack {
         let Some(start) = last.checked_sub(len) else {
             return None;
         };
-        let mut name = Name::new();
+        let mut name = FolderName::new();
         let _ = name.try_extend_from_slice(&self.bytes[start..last]);
         self.bytes.truncate(start);
         Some(name)
@@ -109,7 +109,7 @@ impl Stack {
 }
 
 /// How many of the first of some names there is room for in so many bytes, one at least.
-pub fn count_within(names: &Names, room: usize) -> usize
+pub fn count_within(names: &FolderNames, room: usize) -> usize
     ensures within { result ≤ length names.now }
     ensures some { 0 < length names.now → 0 < result }
 {

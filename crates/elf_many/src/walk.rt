@@ -1,5 +1,5 @@
 //! Folders, gone through in the order of their names.
-use crate::batch::{Batch, Name};
+use crate::batch::{Batch, FolderName};
 use crate::checks::Checks;
 use crate::folders::gather;
 use crate::opening::{check_file, unopened};
@@ -25,7 +25,7 @@ const LEVEL_BYTES: usize = 4_096;
 /// What a walk over folders needs, taken once: where the names of a folder are put in order, where those
 /// of each folder on the way wait, a path, and where names are read.
 #[derive(Drop)]
-pub struct Walk {
+pub struct FolderWalk {
     batch: Batch,
     /// The names that wait, those of the innermost folder last.
     stack: Stack,
@@ -41,7 +41,7 @@ pub struct Walk {
 #[derive(Drop)]
 struct Level {
     /// The last of its names that a pass kept; before the first pass no name.
-    after: Name,
+    after: FolderName,
     /// Whether it has names behind that one.
     has_more: bool,
     /// How many bytes the names of those above it take.
@@ -63,7 +63,7 @@ enum Found {
 }
 
 /// What comes next in a folder.
-enum Next {
+enum NextName {
     /// The path has the next name behind the folder's.
     Named,
     /// The path of the next name is too long.
@@ -74,23 +74,23 @@ enum Next {
     Nothing,
 }
 
-impl Walk {
+impl FolderWalk {
     /// A walk over folders. All memory that it needs is taken here.
     ///
     /// # Errors
     /// Where memory is refused.
-    pub fn new(alloc: Global) -> Result<Walk, AllocError> {
+    pub fn new(alloc: Global) -> Result<FolderWalk, AllocError> {
         let mut levels = Vec::with_capacity(alloc, DEPTH)?;
         for _level in 0..DEPTH {
             levels.push(Level {
-                after: Name::new(),
+                after: FolderName::new(),
                 has_more: false,
                 base: 0,
                 end: 0,
             })?;
         }
         let room = vec![in alloc; 0u8; ROOM_BYTES]?;
-        Ok(Walk {
+        Ok(FolderWalk {
             batch: Batch::new(alloc)?,
             stack: Stack::new(alloc)?,
             levels,
@@ -144,13 +144,13 @@ impl Walk {
     {
         let innermost = self.depth.saturating_sub(1);
         match next_name(&self.levels, innermost, &mut self.stack, &mut self.path) {
-            Next::Named => self.visit(rt, checks),
-            Next::TooLong => {
+            NextName::Named => self.visit(rt, checks),
+            NextName::TooLong => {
                 checks.count_unnamed(1);
                 Ok(())
             }
-            Next::Pass => self.pass(rt, checks, innermost),
-            Next::Nothing => {
+            NextName::Pass => self.pass(rt, checks, innermost),
+            NextName::Nothing => {
                 self.depth = innermost;
                 Ok(())
             }
@@ -266,21 +266,26 @@ fn share(taken: usize, at: usize) -> usize {
 }
 
 /// Puts the next name of the innermost folder behind its path.
-fn next_name(levels: &[Level], innermost: usize, stack: &mut Stack, path: &mut PathText) -> Next {
+fn next_name(
+    levels: &[Level],
+    innermost: usize,
+    stack: &mut Stack,
+    path: &mut PathText,
+) -> NextName {
     let Some(level) = levels.get(innermost) else {
-        return Next::Nothing;
+        return NextName::Nothing;
     };
     path.truncate(level.end);
     if stack.len() <= level.base {
         return if level.has_more {
-            Next::Pass
+            NextName::Pass
         } else {
-            Next::Nothing
+            NextName::Nothing
         };
     }
     match stack.pop() {
-        Some(name) if join(path, &name) => Next::Named,
-        _ => Next::TooLong,
+        Some(name) if join(path, &name) => NextName::Named,
+        _ => NextName::TooLong,
     }
 }
 

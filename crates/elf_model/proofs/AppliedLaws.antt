@@ -1,6 +1,6 @@
 -- How long a section is with its relocations applied.
 use Rattle.std.proofs.Common.{◌≡◌, ℕ, List, length, Option, None, Some, Result, Ok, Err, refl}
-use Rattle.elf_model.specs.Apply.{Patch, target_of, held_bytes, before_entries, changes_of, patches_of, patched, applied}
+use Rattle.elf_model.specs.Apply.{StoredBytes, target_of, held_bytes, before_entries, changes_of, patches_of, patched, applied}
 use Rattle.elf_model.specs.ApplyLaws.{AllInside, AppliedKeepsLength}
 use Rattle.elf_model.specs.Checks.{first_refusal}
 use Rattle.elf_model.specs.Records.{section_at}
@@ -9,7 +9,7 @@ use Rattle.elf_model.proofs.ChangeLaws.{changes_inside}
 use Rattle.elf_model.proofs.PatchLaws.{length_kept}
 
 patched_length :
-    (base text : List ℕ) (found : Result (List Patch) Refusal) → ((patches : List Patch) → found ≡ Ok patches → AllInside (length base) patches)
+    (base text : List ℕ) (found : Result (List StoredBytes) Refusal) → ((patches : List StoredBytes) → found ≡ Ok patches → AllInside (length base) patches)
     → ◌≡◌ {A = Result (List ℕ) Refusal} (elim found [ Err refusal ↦ Err refusal | Ok patches ↦ Ok (patched patches base) ]) (Ok text)
     → length text ≡ length base
 patched_length base text (Err refusal) inside e = absurd (cc)

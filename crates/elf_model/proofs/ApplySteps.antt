@@ -1,7 +1,7 @@
 -- Applying stage by stage: the answer, the section's bytes, the order of the offsets and the cost.
 use Rattle.std.proofs.Common.{◌≡◌, ℕ, ◌+◌, ◌*◌, ◌==◌, inl, inr, true, false, List, [], ◌∷◌, ◌++◌, None, Some, Ok, Err, refl, ap}
 use Rattle.std.proofs.lemmas.Bool.{cases_Bool}
-use Rattle.elf_model.specs.Apply.{Patch, patches_of, patched, changes_of, target_of, held_bytes, before_entries, applied}
+use Rattle.elf_model.specs.Apply.{StoredBytes, patches_of, patched, changes_of, target_of, held_bytes, before_entries, applied}
 use Rattle.elf_model.specs.ApplyCost.{offsets_at, offsets_never_fall, cost_of_passes, cost_with, apply_cost, apply_cost_in_order, apply_cost_by_order}
 use Rattle.elf_model.specs.Checks.{first_refusal, header_checks, early_checks}
 use Rattle.elf_model.specs.Placing.{Layout}
@@ -25,7 +25,7 @@ module _ (file : List ℕ) (headers section : ℕ) (layout : Layout) where
   applied-fault refusal e f = rw (e, applied) (rw (f, applied) refl)
 
   pub applied-patched :
-      (patches : List Patch) → first_refusal (before_entries file headers section) ≡ None
+      (patches : List StoredBytes) → first_refusal (before_entries file headers section) ≡ None
       → patches_of (changes_of (target_of file section layout)) ≡ Ok patches
       → applied file headers section layout ≡ Ok (patched patches (held_bytes file (section_at file section)))
   unfolding applied

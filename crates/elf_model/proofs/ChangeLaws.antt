@@ -3,7 +3,7 @@ use Rattle.std.proofs.Common.{◌≡◌, ℕ, zero, suc, ◌+◌, ◌/◌, ◌�
 use Rattle.std.proofs.lemmas.Bool.{cases_Bool, ltb-false}
 use Rattle.std.proofs.lemmas.List.Elements.{All-nil, All-cons, All-append, All-head, All-tail}
 use Rattle.elf_model.specs.Bytes.{little}
-use Rattle.elf_model.specs.Apply.{Patch, Change, Put, Fails, Target, named_value, symbol_checks, value_checks, terms_of, entry_checks, change_of, where_based, entry_changes, applies_to, relocation_entries, section_headers, section_changes, changes_of, and_patches, patches_of}
+use Rattle.elf_model.specs.Apply.{StoredBytes, Change, Put, Fails, Target, named_value, symbol_checks, value_checks, terms_of, entry_checks, change_of, where_based, entry_changes, applies_to, relocation_entries, section_headers, section_changes, changes_of, and_patches, patches_of}
 use Rattle.elf_model.specs.ApplyLaws.{IsInside, AllInside, EntryStoresValue, ChangesInside}
 use Rattle.elf_model.specs.Checks.{refuse, first_refusal}
 use Rattle.elf_model.specs.Placing.{has_base, place_value}
@@ -117,19 +117,19 @@ module _ (target : Target) (at rela : ℕ) where
       ]
 
   stored :
-      (type : RelocationType) (patch : Patch) (refusal : Option Refusal) → first_refusal (entry_checks target at rela type) ≡ refusal
+      (type : RelocationType) (patch : StoredBytes) (refusal : Option Refusal) → first_refusal (entry_checks target at rela type) ≡ refusal
       → change_of target at rela (Some type) ≡ Put patch
       → (patch.at ≡ r_offset target.file rela) × (patch_of type (terms_of target at rela type) ≡ Ok patch.bytes)
   unfolding change_of patch_of
   stored type patch (Some refusal) e is =
       let here : change_of target at rela (Some type) ≡ Fails refusal = rw (e, change_of) refl in absurd (cc)
   stored type patch None e is =
-      let put : Patch = record { at = r_offset target.file rela; bytes = low_bytes type (terms_of target at rela type) } in
+      let put : StoredBytes = record { at = r_offset target.file rela; bytes = low_bytes type (terms_of target at rela type) } in
       let here : change_of target at rela (Some type) ≡ Put put = rw (e, change_of) refl in
       let same : put ≡ patch = cc in
       let fits = in_range type e in
       let value_is : patch_of type (terms_of target at rela type) ≡ Ok (low_bytes type (terms_of target at rela type)) = rw (fits, patch_of) refl in
-      (ap (λ (p : Patch). p.at) (sym same), value_is ∙ ap (λ (p : Patch). Ok p.bytes) same)
+      (ap (λ (p : StoredBytes). p.at) (sym same), value_is ∙ ap (λ (p : StoredBytes). Ok p.bytes) same)
 
   where_based-some : (type : RelocationType) → has_base target.layout type.base ≡ true → where_based target.layout (Some type) ≡ Some type
   unfolding where_based
@@ -140,7 +140,7 @@ module _ (target : Target) (at rela : ℕ) where
   where_based-none type none = rw (none, where_based) refl
 
   value_stored :
-      (type : Option RelocationType) (patch : Patch) → kind_of (r_type target.file rela) ≡ type
+      (type : Option RelocationType) (patch : StoredBytes) → kind_of (r_type target.file rela) ≡ type
       → change_of target at rela (where_based target.layout type) ≡ Put patch
       → (type : RelocationType)
       × (kind_of (r_type target.file rela) ≡ Some type)
@@ -170,8 +170,8 @@ entry_stores_value target at rela patch e =
 
 -- where no change is a fault, the patches are what the changes store
 stored_inside :
-    (size : ℕ) (patch : Patch) (patches : List Patch) (rest : Result (List Patch) Refusal)
-    → IsInside size patch → ((ps : List Patch) → rest ≡ Ok ps → AllInside size ps)
+    (size : ℕ) (patch : StoredBytes) (patches : List StoredBytes) (rest : Result (List StoredBytes) Refusal)
+    → IsInside size patch → ((ps : List StoredBytes) → rest ≡ Ok ps → AllInside size ps)
     → and_patches patch rest ≡ Ok patches → AllInside size patches
 unfolding and_patches
 stored_inside size patch patches (Err refusal) first others e = absurd (cc)
@@ -180,7 +180,7 @@ stored_inside size patch patches (Ok ps) first others e =
     rw (← same) (All-cons (IsInside size) patch ps first (others ps refl))
 
 patches_inside :
-    (size : ℕ) (changes : List Change) (patches : List Patch) → All (IsInsideChange size) changes
+    (size : ℕ) (changes : List Change) (patches : List StoredBytes) → All (IsInsideChange size) changes
     → patches_of changes ≡ Ok patches → AllInside size patches
 unfolding patches_of IsInsideChange
 patches_inside size [] patches inside e = let same : [] ≡ patches = cc in rw (← same) (All-nil (IsInside size))

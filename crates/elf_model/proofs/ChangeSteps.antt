@@ -1,6 +1,6 @@
 -- Changes row by row and section by section, and what they store.
 use Rattle.std.proofs.Common.{◌≡◌, ℕ, zero, suc, List, ◌∷◌, ◌++◌, length, Result, Ok, Err, refl, ap}
-use Rattle.elf_model.specs.Apply.{Patch, places_from, and_patches}
+use Rattle.elf_model.specs.Apply.{StoredBytes, places_from, and_patches}
 use Rattle.elf_model.specs.declared.causes.Refusal.{Refusal}
 
 -- as many places as entries
@@ -10,22 +10,22 @@ length-places_from place i zero = refl
 length-places_from place i (suc n) = ap suc (length-places_from place (suc i) n)
 
 -- patches before what further changes give
-abbrev pub before_more : List Patch → Result (List Patch) Refusal → Result (List Patch) Refusal
+abbrev pub before_more : List StoredBytes → Result (List StoredBytes) Refusal → Result (List StoredBytes) Refusal
 before_more first (Err refusal) = Err refusal
 before_more first (Ok second) = Ok (first ++ second)
 
-record Parted (patch : Patch) (rest : Result (List Patch) Refusal) (all : List Patch) : Type 0 where
-  others : List Patch
+record Parted (patch : StoredBytes) (rest : Result (List StoredBytes) Refusal) (all : List StoredBytes) : Type 0 where
+  others : List StoredBytes
   rest_is : rest ≡ Ok others
   all_are : all ≡ patch ∷ others
 
-parted : (patch : Patch) (rest : Result (List Patch) Refusal) (all : List Patch) → and_patches patch rest ≡ Ok all → Parted patch rest all
+parted : (patch : StoredBytes) (rest : Result (List StoredBytes) Refusal) (all : List StoredBytes) → and_patches patch rest ≡ Ok all → Parted patch rest all
 unfolding and_patches
 parted patch (Err refusal) all e = absurd (cc)
 parted patch (Ok others) all e = record { others = others; rest_is = refl; all_are = cc }
 
 -- a fault is the answer, whatever stands behind it
-faulty : (patch : Patch) (rest : Result (List Patch) Refusal) (refusal : Refusal) → and_patches patch rest ≡ Err refusal → rest ≡ Err refusal
+faulty : (patch : StoredBytes) (rest : Result (List StoredBytes) Refusal) (refusal : Refusal) → and_patches patch rest ≡ Err refusal → rest ≡ Err refusal
 unfolding and_patches
 faulty patch (Err other) refusal e = cc
 faulty patch (Ok others) refusal e = absurd (cc)

@@ -6,7 +6,7 @@ use Rattle.elf_model.specs.Cost.{behind_header, listing_cost}
 use Rattle.std.proofs.Common.{◌≡◌, ℕ, suc, zero, ◌+◌, ◌==◌, Bool, true, false, List, [], ◌∷◌, ◌++◌, Some, None, arith, refl, ap, sym, ◌∙◌, append-nil, append_assoc, add-zero, zero-add}
 use Rattle.elf_model.specs.Checks.{Check, first_refusal, header_checks, load_checks}
 use Rattle.elf_model.specs.Lines.{header_line, refusal_line}
-use Rattle.elf_model.specs.Listing.{Item, Line, Fault, lines_of, fault_of, report_of, guarded, where_asked, each, has, has_tables, all_parts, known_parts, file_header_items, HEADER}
+use Rattle.elf_model.specs.Listing.{ListingItem, Line, Fault, lines_of, fault_of, report_of, guarded, where_asked, each, has, has_tables, all_parts, known_parts, file_header_items, HEADER}
 use Rattle.elf_model.specs.Style.{Style, viewed}
 use Rattle.elf_model.specs.Report.{listing, load_items, loaded_items}
 use Rattle.elf_model.specs.declared.causes.Refusal.{Refusal}
@@ -30,15 +30,15 @@ last_row row first count =
     rows_split row first count 1 ∙ ap (λ rest. each row first count ++ rest) (append-nil (row (first + count)))
 
 -- a check that fails stands in the place of the items
-pub guarded-fault : (checks : List Check) (members : List Item) (refusal : Refusal) → first_refusal checks ≡ Some refusal
+pub guarded-fault : (checks : List Check) (members : List ListingItem) (refusal : Refusal) → first_refusal checks ≡ Some refusal
     → guarded checks members ≡ Fault refusal ∷ []
 guarded-fault checks members refusal h = rw (h, guarded) refl
 
 -- where all checks pass, the items stand
-pub guarded-passes : (checks : List Check) (members : List Item) → first_refusal checks ≡ None → guarded checks members ≡ members
+pub guarded-passes : (checks : List Check) (members : List ListingItem) → first_refusal checks ≡ None → guarded checks members ≡ members
 guarded-passes checks members h = rw (h, guarded) refl
 
-pub asked-true : (parts part : ℕ) (members : List Item) → has parts part ≡ true → where_asked parts part members ≡ members
+pub asked-true : (parts part : ℕ) (members : List ListingItem) → has parts part ≡ true → where_asked parts part members ≡ members
 asked-true parts part members h = rw (h, where_asked) refl
 
 pub load_none : (file : List ℕ) (headers : ℕ) (style : Style) (parts : ℕ) → has_tables parts ≡ false → load_items file headers style parts ≡ []
@@ -46,7 +46,7 @@ unfolding load_items
 load_none file headers style parts h = by_cases (has_tables parts) h
   where
     by_cases : (b : Bool) → b ≡ false
-        → elim b as (λ _. List Item) [ true ↦ guarded (load_checks file headers) (loaded_items file style parts) | false ↦ [] ] ≡ []
+        → elim b as (λ _. List ListingItem) [ true ↦ guarded (load_checks file headers) (loaded_items file style parts) | false ↦ [] ] ≡ []
     by_cases false h = refl
     by_cases true h = cc
 
@@ -55,14 +55,14 @@ pub load_some : (file : List ℕ) (headers : ℕ) (style : Style) (parts : ℕ) 
 unfolding load_items
 load_some file headers style parts h = by_cases (has_tables parts) (guarded (load_checks file headers) (loaded_items file style parts)) h
   where
-    by_cases : (b : Bool) (members : List Item) → b ≡ true → elim b as (λ _. List Item) [ true ↦ members | false ↦ [] ] ≡ members
+    by_cases : (b : Bool) (members : List ListingItem) → b ≡ true → elim b as (λ _. List ListingItem) [ true ↦ members | false ↦ [] ] ≡ members
     by_cases false members h = cc
     by_cases true members h = refl
 
 pub header_alone : HeaderAloneIsListed
 unfolding listing file_header_items
 header_alone file headers style parts h =
-    let line : List Item = where_asked parts HEADER (Line (header_line style.format file) ∷ []) in
+    let line : List ListingItem = where_asked parts HEADER (Line (header_line style.format file) ∷ []) in
     ap (guarded (header_checks file)) (ap (λ more. line ++ more) (load_none (viewed style file) headers style (known_parts style parts) h) ∙ append-nil line)
 
 pub header_fault : HeaderFaultIsListedAlone
@@ -77,7 +77,7 @@ unfolding listing
 load_fault file headers style parts refusal h l p t =
     let view : List ℕ = viewed style file in
     let known : ℕ = known_parts style parts in
-    let line : List Item = where_asked parts HEADER (Line (header_line style.format file) ∷ []) in
+    let line : List ListingItem = where_asked parts HEADER (Line (header_line style.format file) ∷ []) in
     let passes : listing file headers style parts ≡ line ++ load_items view headers style known =
     guarded-passes (header_checks file) (line ++ load_items view headers style known) h in
     let fault : load_items view headers style known ≡ Fault refusal ∷ [] =
@@ -122,8 +122,8 @@ listing_known : (file : List ℕ) (headers : ℕ) (style : Style) (parts : ℕ)
 unfolding listing
 listing_known file headers style parts =
     let view : List ℕ = viewed style file in
-    let line : List Item = Line (header_line style.format file) ∷ [] in
-    ap (λ asked. guarded (header_checks file) ((elim asked as (λ _. List Item) [ true ↦ line | false ↦ [] ]) ++ load_items view headers style (known_parts style (known_parts style parts))))
+    let line : List ListingItem = Line (header_line style.format file) ∷ [] in
+    ap (λ asked. guarded (header_checks file) ((elim asked as (λ _. List ListingItem) [ true ↦ line | false ↦ [] ]) ++ load_items view headers style (known_parts style (known_parts style parts))))
     (header_known style parts)
     ∙ ap (λ known. guarded (header_checks file) (where_asked parts HEADER line ++ load_items view headers style known)) (known_once style parts)
 

@@ -13,7 +13,7 @@ use Rattle.elf_model.specs.LoaderLaws.{LoaderCostIsWithinCeiling}
 use Rattle.elf_model.specs.LoaderScope.{HashKind, GnuTable, SysvTable, Scope, scope_of, dynamic_segment_index}
 use Rattle.elf_model.specs.Records.{e_shnum, e_phnum, p_offset, p_filesz, segment_at, versym}
 use Rattle.elf_model.specs.Tables.{segment_dynamic_checks}
-use Rattle.elf_model.specs.Loader.{Wanted, Asked, asked_name, VersionWords, version_word_at, answers, is_among, Reading, Meets, Refuses, Misses, RecordTable, Naming, stand_after, has_record, end_reading, meetings, readings_of, readings, compared_with, naming_of}
+use Rattle.elf_model.specs.Loader.{Wanted, Asked, asked_name, VersionWords, version_word_at, answers, is_among, RecordReading, Meets, Refuses, Misses, RecordTable, Naming, stand_after, has_record, end_reading, meetings, readings_of, readings, compared_with, naming_of}
 use Rattle.elf_model.specs.Names.{Shown, same, shown, pad64}
 use Rattle.elf_model.specs.Versions.{Met, Stand, number_in, names_version, names_number, name_index, most_records, versions_in}
 use Rattle.elf_model.specs.declared.causes.Cause.{Cause}
@@ -25,7 +25,7 @@ use Rattle.elf_model.proofs.SysvWalkLaws.{sysv_walk_is_bounded}
 use Rattle.elf_model.proofs.VersionLaws.{records_are_bounded}
 
 -- how many records are read
-count_of : List Reading → ℕ
+count_of : List RecordReading → ℕ
 count_of [] = 0
 count_of (Meets strings met ∷ others) = suc (count_of others)
 count_of (Refuses refusal ∷ others) = suc (count_of others)
@@ -33,7 +33,7 @@ count_of (Misses refusal ∷ others) = count_of others
 
 module _ (file : List ℕ) where
   -- comparing reads no more
-  compared_few : (wanted : List ℕ) (all : List Reading) → (compared_with file wanted all).read ≤ count_of all
+  compared_few : (wanted : List ℕ) (all : List RecordReading) → (compared_with file wanted all).read ≤ count_of all
   unfolding compared_with count_of
   compared_few wanted [] = omega arith
   compared_few wanted (Refuses refusal ∷ others) = omega arith
@@ -48,7 +48,7 @@ module _ (file : List ℕ) where
       go true (Ok is) n e few = rw (n, e, compared_with) (omega arith)
 
   -- and neither does naming
-  naming_few : (number : ℕ) (all : List Reading) → (naming_of file number all).read ≤ count_of all
+  naming_few : (number : ℕ) (all : List RecordReading) → (naming_of file number all).read ≤ count_of all
   unfolding naming_of count_of
   naming_few number [] = omega arith
   naming_few number (Refuses refusal ∷ others) = omega arith
@@ -60,12 +60,12 @@ module _ (file : List ℕ) where
       go true n few = rw (n, naming_of) (omega arith)
       go false n few = rw (n, naming_of) (omega arith)
 
-  count_meetings : (strings : List ℕ) (mets : List Met) (others : List Reading) → count_of (meetings strings mets others) ≡ length mets + count_of others
+  count_meetings : (strings : List ℕ) (mets : List Met) (others : List RecordReading) → count_of (meetings strings mets others) ≡ length mets + count_of others
   unfolding meetings count_of
   count_meetings strings [] others = omega arith
   count_meetings strings (met ∷ mets) others = omega (arith, count_meetings strings mets others)
 
-  count_end : (stands : Bool) (cut : Option Refusal) (others : List Reading) (met most : ℕ) → met ≤ most → (stands ≡ true → met < most)
+  count_end : (stands : Bool) (cut : Option Refusal) (others : List RecordReading) (met most : ℕ) → met ≤ most → (stands ≡ true → met < most)
       → met + count_of (end_reading stands cut ++ others) ≤ most + count_of others
   unfolding count_of
   count_end stands None others met most le lt = omega arith

@@ -5,7 +5,7 @@ use Rattle.elf_model.specs.Chains.{Walked}
 use Rattle.elf_model.specs.Checks.{first_refusal}
 use Rattle.elf_model.specs.GnuHash.{gnu_hash}
 use Rattle.elf_model.specs.Hash.{sysv_hash, Found, Refused}
-use Rattle.elf_model.specs.Loader.{Wanted, Asked, asked_name, VersionWords, version_word_at, Symbols, symbol_place, is_offered, version_fits, answers, Naming, is_among}
+use Rattle.elf_model.specs.Loader.{Wanted, Asked, asked_name, VersionWords, version_word_at, Symbols, symbol_offset, is_offered, version_fits, answers, Naming, is_among}
 use Rattle.elf_model.specs.LoaderFind.{counts_check, walk_in, told_by, found_in, looked_by, wanted_numbers, loaded_in, loader_looked, TOLD_BYTES}
 use Rattle.elf_model.specs.LoaderLaws.{IsTaken, LoaderFoundIsTaken}
 use Rattle.elf_model.specs.LoaderScope.{HashKind, GnuTable, SysvTable, Scope, scope_of}
@@ -21,10 +21,10 @@ use Rattle.elf_model.proofs.SysvWalkLaws.{sysv_found_answers}
 record IsSymbol (scope : Scope) (y section index symbol : ℕ) : Type 0 where
   section_is : section ≡ scope.symbols.index
   index_is : index ≡ y
-  symbol_is : symbol ≡ symbol_place scope.symbols y
+  symbol_is : symbol ≡ symbol_offset scope.symbols y
 
 is_symbol : (scope : Scope) (y section index symbol : ℕ)
-    → Found scope.symbols.index y (symbol_place scope.symbols y) ≡ Found section index symbol → IsSymbol scope y section index symbol
+    → Found scope.symbols.index y (symbol_offset scope.symbols y) ≡ Found section index symbol → IsSymbol scope y section index symbol
 is_symbol scope y section index symbol e = record { section_is = cc; index_is = cc; symbol_is = cc }
 
 not_refused : (refusal : Refusal) (section index symbol : ℕ) → Refused refusal ≡ Found section index symbol → ⊥
@@ -33,13 +33,13 @@ not_refused refusal section index symbol e = cc
 -- what makes a symbol answer
 module _ (file : List ℕ) (symbols : Symbols) (wanted : Wanted) (is_wanted : ℕ → Bool) (y : ℕ) where
   record Parts : Type 0 where
-    named : same symbols.strings (st_name file (symbol_place symbols y)) wanted.name ≡ Ok true
-    offered : is_offered file (symbol_place symbols y) ≡ true
+    named : same symbols.strings (st_name file (symbol_offset symbols y)) wanted.name ≡ Ok true
+    offered : is_offered file (symbol_offset symbols y) ≡ true
     fitting : version_fits file symbols.words wanted.asked is_wanted y ≡ Ok true
 
   parts_by :
-      (equal : Result Bool Cause) (offered : Bool) → same symbols.strings (st_name file (symbol_place symbols y)) wanted.name ≡ equal
-      → is_offered file (symbol_place symbols y) ≡ offered → answers file symbols wanted is_wanted y ≡ Ok true → Parts
+      (equal : Result Bool Cause) (offered : Bool) → same symbols.strings (st_name file (symbol_offset symbols y)) wanted.name ≡ equal
+      → is_offered file (symbol_offset symbols y) ≡ offered → answers file symbols wanted is_wanted y ≡ Ok true → Parts
   unfolding answers
   parts_by (Err cause) offered n o e = absurd (let a = rw (n, answers) at e in cc)
   parts_by (Ok false) offered n o e = absurd (let a = rw (n, answers) at e in cc)
@@ -109,7 +109,7 @@ module _ (file : List ℕ) (scope : Scope) (asked : Asked) (records y : ℕ) (wa
 record FoundBy (scope : Scope) (walked : Walked) (section index symbol : ℕ) : Type 0 where
   gives : walked.answer ≡ Ok (Some index)
   section_is : section ≡ scope.symbols.index
-  symbol_is : symbol ≡ symbol_place scope.symbols index
+  symbol_is : symbol ≡ symbol_offset scope.symbols index
 
 module _ (file : List ℕ) (scope : Scope) (asked : Asked) (records : ℕ) (walked : Walked) where
   found_by :

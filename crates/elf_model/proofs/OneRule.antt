@@ -4,7 +4,7 @@ use Rattle.std.proofs.lemmas.Bool.{cases_Bool}
 use Rattle.std.specs.Option.{option_map}
 use Rattle.elf_model.specs.Dynamic.{dynamic_at, dynamic_count, dynamic_value}
 use Rattle.elf_model.specs.Find.{first_that}
-use Rattle.elf_model.specs.Loader.{Naming, Reading, RecordTable, meetings, naming_of, readings, readings_of}
+use Rattle.elf_model.specs.Loader.{Naming, RecordReading, RecordTable, meetings, naming_of, readings, readings_of}
 use Rattle.elf_model.specs.LoaderLaws.{FirstEntriesAreAlike, NumbersAreNamedAlike, records_in}
 use Rattle.elf_model.specs.LoaderScope.{tagged_row}
 use Rattle.elf_model.specs.Records.{d_tag, d_un, p_filesz, p_offset}
@@ -18,7 +18,7 @@ record_of naming = option_map (λ found. found.1) naming.found
 
 -- of records that are met the first that names the number names it, and else one of those behind them
 named-meetings :
-    (file : List ℕ) (number : ℕ) (strings : List ℕ) (met : List Met) (others : List Reading) (rest : List Met)
+    (file : List ℕ) (number : ℕ) (strings : List ℕ) (met : List Met) (others : List RecordReading) (rest : List Met)
     → record_of (naming_of file number others) ≡ named_by file number rest
     → record_of (naming_of file number (meetings strings met others)) ≡ named_by file number (met ++ rest)
 unfolding meetings naming_of
@@ -33,7 +33,7 @@ named-meetings file number strings (m ∷ met) others rest alike =
 
 -- a walk that comes to its end reads the records that are met, and no more
 readings-met :
-    (file : List ℕ) (table : RecordTable) (others : List Reading) → (records_in file table).cut ≡ None
+    (file : List ℕ) (table : RecordTable) (others : List RecordReading) → (records_in file table).cut ≡ None
     → readings_of file table others ≡ meetings table.strings (records_in file table).met others
 unfolding readings_of
 readings-met file table others whole = rw (whole, readings_of) refl

@@ -6,7 +6,7 @@ use Rattle.std.proofs.lemmas.Nat.{le-div}
 use Rattle.elf_model.specs.Checks.{Check, pass, first_refusal, header_checks, load_checks}
 use Rattle.elf_model.specs.Cost.{needs_segments}
 use Rattle.elf_model.specs.Lines.{header_line, refusal_line}
-use Rattle.elf_model.specs.Listing.{Item, Line, Fault, report_of, where_asked, known_parts, HEADER}
+use Rattle.elf_model.specs.Listing.{ListingItem, Line, Fault, report_of, where_asked, known_parts, HEADER}
 use Rattle.elf_model.specs.Overlaps.{takes_memory, first_page, page_behind, loads_from, overlaps_from, overlap_checks}
 use Rattle.elf_model.specs.Records.{e_phnum, p_vaddr, p_memsz, segment_at}
 use Rattle.elf_model.specs.Report.{listing, load_items, loaded_items, table_items, view_checks}
@@ -141,7 +141,7 @@ unfolding listing loaded_items
 overlap_second file headers style parts refusal h l b n o p t =
     let view : List ℕ = viewed style file in
     let known : ℕ = known_parts style parts in
-    let line : List Item = where_asked parts HEADER (Line (header_line style.format file) ∷ []) in
+    let line : List ListingItem = where_asked parts HEADER (Line (header_line style.format file) ∷ []) in
     let passes : listing file headers style parts ≡ line ++ load_items view headers style known =
     guarded-passes (header_checks file) (line ++ load_items view headers style known) h in
     let loaded : loaded_items view style known ≡ Fault refusal ∷ [] =

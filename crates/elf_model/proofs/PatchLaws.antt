@@ -4,16 +4,16 @@ use Rattle.std.proofs.lemmas.Bool.{cases_lt, le-leb, lt-leb, lt-ltb, le-ltb, and
 use Rattle.std.proofs.lemmas.List.{get_or_append_left, get_or-append_right, get_or-take, get_or-drop, ext_get_or, take-append-le}
 use Rattle.std.proofs.lemmas.Slice.{drop-put_mid}
 use Rattle.std.proofs.lemmas.List.Elements.{All-head, All-tail}
-use Rattle.elf_model.specs.Apply.{Patch, put, patched}
+use Rattle.elf_model.specs.Apply.{StoredBytes, put, patched}
 use Rattle.elf_model.specs.ApplyLaws.{IsInside, AllInside, byte_with, byte_after, clipped, LengthKept, BytePatched, WindowPatched, FinalBelow, KeptAbove}
 use Rattle.elf_model.specs.Bytes.{slice}
 use Rattle.elf_model.proofs.Slices.{slice-size, get_or-slice}
 
-pub length-put : (patch : Patch) (base : List ℕ) → IsInside (length base) patch → length (put patch base) ≡ length base
+pub length-put : (patch : StoredBytes) (base : List ℕ) → IsInside (length base) patch → length (put patch base) ≡ length base
 unfolding put
 length-put patch base inside = simp (length-append, length-take, length-drop) (omega arith)
 
-module _ (patch : Patch) (i byte : ℕ) where
+module _ (patch : StoredBytes) (i byte : ℕ) where
   byte_with_low : i < patch.at → byte_with patch i byte ≡ byte
   unfolding byte_with
   byte_with_low low =
@@ -36,7 +36,7 @@ module _ (patch : Patch) (i byte : ℕ) where
       = and_from _ _ (le-leb patch.at i from) (lt-ltb i (patch.at + length patch.bytes) high) in
       rw (yes, byte_with) refl
 
-module _ (patch : Patch) (base : List ℕ) (i : ℕ) (inside : IsInside (length base) patch) where
+module _ (patch : StoredBytes) (base : List ℕ) (i : ℕ) (inside : IsInside (length base) patch) where
   first_part : length (take patch.at base) ≡ patch.at
   first_part = simp length-take (omega arith)
 
@@ -78,7 +78,7 @@ module _ (patch : Patch) (base : List ℕ) (i : ℕ) (inside : IsInside (length 
 
 -- patches that lie within a list lie within it once one is stored
 inside_after :
-    (patch : Patch) (patches : List Patch) (base : List ℕ)
+    (patch : StoredBytes) (patches : List StoredBytes) (base : List ℕ)
     → AllInside (length base) (patch ∷ patches) → AllInside (length (put patch base)) patches
 inside_after patch patches base inside =
     rw (length-put patch base (All-head (IsInside (length base)) patch patches inside))
@@ -99,7 +99,7 @@ byte_patched (patch ∷ patches) base i inside =
     ∙ ap (byte_after patches i) (byte_put patch base i (All-head (IsInside (length base)) patch patches inside))
 
 -- The part of a patch that falls into a window.
-module _ (patch : Patch) (low n : ℕ) where
+module _ (patch : StoredBytes) (low n : ℕ) where
   length-clipped : length (clipped low n patch).bytes ≡ min (n - (patch.at - low)) (length patch.bytes - (low - patch.at))
   unfolding clipped
   length-clipped = simp (length-take, length-drop)
@@ -143,7 +143,7 @@ module _ (patch : Patch) (low n : ℕ) where
 
 -- a window once a patch is stored
 pub window_put :
-    (patch : Patch) (base : List ℕ) (low n : ℕ) → IsInside (length base) patch → low + n ≤ length base
+    (patch : StoredBytes) (base : List ℕ) (low n : ℕ) → IsInside (length base) patch → low + n ≤ length base
     → slice (put patch base) low n ≡ put (clipped low n patch) (slice base low n)
 window_put patch base low n inside fits =
     let kept = length-put patch base inside in
@@ -171,7 +171,7 @@ window_patched (patch ∷ patches) base low n inside fits =
     window_patched patches (put patch base) low n (inside_after patch patches base inside) (omega arith)
     ∙ ap (patched (map (clipped low n) patches)) (window_put patch base low n first fits)
 
-take-put : (patch : Patch) (base : List ℕ) (low : ℕ) → IsInside (length base) patch → low ≤ patch.at → take low (put patch base) ≡ take low base
+take-put : (patch : StoredBytes) (base : List ℕ) (low : ℕ) → IsInside (length base) patch → low ≤ patch.at → take low (put patch base) ≡ take low base
 unfolding put
 take-put patch base low inside before =
     let l : low ≤ length (take patch.at base) = simp length-take (omega arith) in
@@ -188,7 +188,7 @@ final_below (patch ∷ patches) base low inside behind =
     (All-head (λ p. low ≤ p.at) patch patches behind)
 
 drop-put :
-    (patch : Patch) (base : List ℕ) (high : ℕ) → IsInside (length base) patch → patch.at + length patch.bytes ≤ high
+    (patch : StoredBytes) (base : List ℕ) (high : ℕ) → IsInside (length base) patch → patch.at + length patch.bytes ≤ high
     → drop high (put patch base) ≡ drop high base
 unfolding put
 drop-put patch base high inside before =

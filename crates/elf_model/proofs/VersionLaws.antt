@@ -4,7 +4,7 @@ use Rattle.std.proofs.lemmas.Bool.{cases_Bool}
 use Rattle.std.proofs.lemmas.List.Elements.{All-nil, All-cons}
 use Rattle.elf_model.specs.Checks.{first_refusal}
 use Rattle.elf_model.specs.declared.causes.Refusal.{Refusal}
-use Rattle.elf_model.specs.Versions.{VERSION_NUMBERS, number_in, number_word, Met, Stand, record_checks, behind, met_at, met_from, versions_in, first_stand, most_records, names_number, named_by}
+use Rattle.elf_model.specs.Versions.{VERSION_NUMBERS, number_in, number_word, Met, Stand, record_checks, next_stand, met_at, met_from, versions_in, first_stand, most_records, names_number, named_by}
 use Rattle.elf_model.specs.VersionLaws.{RecordsAreBounded, StandsInTable, RecordsStand, NamedIsFirst, UnnamedHasNone, FirstListNamesFirst, NumbersAreSmall}
 use Rattle.elf_model.proofs.VersionSteps.{met-ended, met-most, met-record, met-refused, ends-inside, number-small}
 
@@ -13,9 +13,9 @@ bounded : (file : List ℕ) (table size most : ℕ) (stand : Option Stand) → l
 bounded file table size most None = rw (met-ended file table size most) zero-le
 bounded file table size zero (Some stand) = rw (met-most file table size stand) zero-le
 bounded file table size (suc most) (Some stand) =
-    go (bounded file table size most (behind file table stand)) (first_refusal (record_checks file table size stand)) refl
+    go (bounded file table size most (next_stand file table stand)) (first_refusal (record_checks file table size stand)) refl
   where
-    go : length (met_from file table size (behind file table stand) most).met ≤ most
+    go : length (met_from file table size (next_stand file table stand) most).met ≤ most
         → (refusal : Option Refusal) → first_refusal (record_checks file table size stand) ≡ refusal
         → length (met_from file table size (Some stand) (suc most)).met ≤ suc most
     go more (Some refusal) h = rw (met-refused file table size stand most refusal h) zero-le
@@ -30,16 +30,16 @@ inside : (file : List ℕ) (table size most : ℕ) (stand : Option Stand) → Al
 inside file table size most None = rw (met-ended file table size most) (All-nil (StandsInTable table size))
 inside file table size zero (Some stand) = rw (met-most file table size stand) (All-nil (StandsInTable table size))
 inside file table size (suc most) (Some stand) =
-    go (inside file table size most (behind file table stand)) (first_refusal (record_checks file table size stand)) refl
+    go (inside file table size most (next_stand file table stand)) (first_refusal (record_checks file table size stand)) refl
   where
-    go : All (StandsInTable table size) (met_from file table size (behind file table stand) most).met
+    go : All (StandsInTable table size) (met_from file table size (next_stand file table stand) most).met
         → (refusal : Option Refusal) → first_refusal (record_checks file table size stand) ≡ refusal
         → All (StandsInTable table size) (met_from file table size (Some stand) (suc most)).met
     go more (Some refusal) h = rw (met-refused file table size stand most refusal h) (All-nil (StandsInTable table size))
     go more None h =
         let ends = ends-inside file table size stand h in
         rw (met-record file table size stand most h)
-        (All-cons (StandsInTable table size) (met_at table stand) (met_from file table size (behind file table stand) most).met
+        (All-cons (StandsInTable table size) (met_at table stand) (met_from file table size (next_stand file table stand) most).met
         (record { begins = omega arith; ends = omega arith }) more)
 
 pub records_stand : RecordsStand
@@ -52,16 +52,16 @@ small : (file : List ℕ) (table size most : ℕ) (stand : Option Stand)
 small file table size most None = rw (met-ended file table size most) (All-nil _)
 small file table size zero (Some stand) = rw (met-most file table size stand) (All-nil _)
 small file table size (suc most) (Some stand) =
-    go (small file table size most (behind file table stand)) (first_refusal (record_checks file table size stand)) refl
+    go (small file table size most (next_stand file table stand)) (first_refusal (record_checks file table size stand)) refl
   where
-    go : All (λ (m : Met). number_in (number_word file m) < VERSION_NUMBERS) (met_from file table size (behind file table stand) most).met
+    go : All (λ (m : Met). number_in (number_word file m) < VERSION_NUMBERS) (met_from file table size (next_stand file table stand) most).met
         → (refusal : Option Refusal) → first_refusal (record_checks file table size stand) ≡ refusal
         → All (λ (m : Met). number_in (number_word file m) < VERSION_NUMBERS) (met_from file table size (Some stand) (suc most)).met
     go more (Some refusal) h = rw (met-refused file table size stand most refusal h) (All-nil _)
     go more None h =
         rw (met-record file table size stand most h)
         (All-cons (λ (m : Met). number_in (number_word file m) < VERSION_NUMBERS) (met_at table stand)
-        (met_from file table size (behind file table stand) most).met (number-small file table size stand h) more)
+        (met_from file table size (next_stand file table stand) most).met (number-small file table size stand h) more)
 
 pub numbers_are_small : NumbersAreSmall
 unfolding versions_in

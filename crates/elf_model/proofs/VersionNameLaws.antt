@@ -5,7 +5,7 @@ use Rattle.std.proofs.lemmas.List.Elements.{All-nil, All-cons, All-head, All-tai
 use Rattle.std.specs.Result.{is_ok}
 use Rattle.elf_model.specs.Checks.{Check, first_refusal}
 use Rattle.elf_model.specs.HeaderTables.{TableKind, file_sections, header_field}
-use Rattle.elf_model.specs.Listing.{Item, Line, Fault, fault_of, guarded, each}
+use Rattle.elf_model.specs.Listing.{ListingItem, Line, Fault, fault_of, guarded, each}
 use Rattle.elf_model.specs.Names.{Shown, shown}
 use Rattle.elf_model.specs.Numbers.{SHT_GNU_VERDEF, SHT_GNU_VERNEED}
 use Rattle.elf_model.specs.Records.{e_shnum, sh_type, sh_offset, sh_size, section_at, vn_aux, vn_next}
@@ -16,7 +16,7 @@ use Rattle.elf_model.specs.Style.{Style}
 use Rattle.elf_model.specs.Tables.{all_checks, strings_of}
 use Rattle.elf_model.specs.VersionLaws.{NamesOfNumbersAreShown, records_rows}
 use Rattle.elf_model.specs.VersionRows.{version_row, met_rows, versions_rows, end_rows, section_versions, first_of_type, first_versions, first_strings, version_named, version_strings, version_definitions, version_needs}
-use Rattle.elf_model.specs.Versions.{Met, Stand, along, along_needs, behind, met_at, met_from, versions_in, first_stand, most_records, names_number, named_by, name_index, named_at, next_word, record_checks, version_of}
+use Rattle.elf_model.specs.Versions.{Met, Stand, along, along_needs, next_stand, met_at, met_from, versions_in, first_stand, most_records, names_number, named_by, name_index, named_at, next_word, record_checks, version_of}
 use Rattle.elf_model.specs.declared.causes.Cause.{Cause}
 use Rattle.elf_model.specs.declared.causes.Refusal.{Refusal}
 use Rattle.elf_model.specs.declared.versions.VersionKind.{VersionKind}
@@ -27,15 +27,15 @@ use Rattle.elf_model.proofs.VersionLaws.{named-here, named-later, named-none}
 use Rattle.elf_model.proofs.VersionSteps.{met-ended, met-most, met-record, met-refused}
 
 -- items without a fault have none in their parts
-pub front-none : (front back : List Item) → fault_of (front ++ back) ≡ None → fault_of front ≡ None
+pub front-none : (front back : List ListingItem) → fault_of (front ++ back) ≡ None → fault_of front ≡ None
 front-none [] back h = refl
 front-none (Line text ∷ front) back h = front-none front back h
 front-none (Fault refusal ∷ front) back h = cc
 
-pub back-none : (front back : List Item) → fault_of (front ++ back) ≡ None → fault_of back ≡ None
+pub back-none : (front back : List ListingItem) → fault_of (front ++ back) ≡ None → fault_of back ≡ None
 back-none front back h = sym (listings_append front back (front-none front back h)).1 ∙ h
 
-pub each-none : (row : ℕ → List Item) (first count i : ℕ) → fault_of (each row first count) ≡ None → first ≤ i → i < first + count → fault_of (row i) ≡ None
+pub each-none : (row : ℕ → List ListingItem) (first count i : ℕ) → fault_of (each row first count) ≡ None → first ≤ i → i < first + count → fault_of (row i) ≡ None
 unfolding each
 each-none row first zero i h low high = absurd (omega arith)
 each-none row first (suc count) i h low high =
@@ -45,11 +45,11 @@ each-none row first (suc count) i h low high =
     ]
 
 -- behind checks that have none
-guarded-none : (checks : List Check) (members : List Item) → fault_of (guarded checks members) ≡ None → fault_of members ≡ None
+guarded-none : (checks : List Check) (members : List ListingItem) → fault_of (guarded checks members) ≡ None → fault_of members ≡ None
 guarded-none checks members h = by_first (first_refusal checks) h
   where
     by_first : (first : Option Refusal)
-        → fault_of (elim first as (λ _. List Item) [ None ↦ members | Some refusal ↦ Fault refusal ∷ [] ]) ≡ None → fault_of members ≡ None
+        → fault_of (elim first as (λ _. List ListingItem) [ None ↦ members | Some refusal ↦ Fault refusal ∷ [] ]) ≡ None → fault_of members ≡ None
     by_first None h = h
     by_first (Some refusal) h = cc
 
@@ -73,8 +73,8 @@ rows-shown : (file : List ℕ) (style : Style) (section : ℕ) (strings : List �
 unfolding met_rows version_row
 rows-shown file style section strings [] h = All-nil _
 rows-shown file style section strings (met ∷ others) h =
-    let row : List Item = version_row file style section strings met in
-    let more : List Item = met_rows file style section strings others in
+    let row : List ListingItem = version_row file style section strings met in
+    let more : List ListingItem = met_rows file style section strings others in
     All-cons (IsShown file style.cap strings) met others (row-shown _ (named_at file met) _ (front-none row more h))
     (rows-shown file style section strings others (back-none row more h))
 
@@ -111,8 +111,8 @@ needs-stand table place distance owner files = by_end (distance == 0)
     by_end true = along-stands false table File owner files 0 refl
     by_end false = along-stands false table Need place distance owner refl
 
-behind-stands : (file : List ℕ) (table : ℕ) (stand : Stand) → StandsOn (IsDefinition stand.kind) (behind file table stand)
-unfolding behind
+behind-stands : (file : List ℕ) (table : ℕ) (stand : Stand) → StandsOn (IsDefinition stand.kind) (next_stand file table stand)
+unfolding next_stand
 behind-stands file table stand = by_kind stand.kind
   where
     by_kind : (kind : VersionKind) → StandsOn (IsDefinition kind) (elim kind as (λ _. Option Stand) [
@@ -130,16 +130,16 @@ of-one-kind : (file : List ℕ) (table size most : ℕ) (stand : Option Stand) (
 of-one-kind file table size most None definition is = rw (met-ended file table size most) (All-nil _)
 of-one-kind file table size zero (Some stand) definition is = rw (met-most file table size stand) (All-nil _)
 of-one-kind file table size (suc most) (Some stand) definition is =
-    let next : StandsOn definition (behind file table stand) = rw is at (behind-stands file table stand) in
-    go (of-one-kind file table size most (behind file table stand) definition next) (first_refusal (record_checks file table size stand)) refl
+    let next : StandsOn definition (next_stand file table stand) = rw is at (behind-stands file table stand) in
+    go (of-one-kind file table size most (next_stand file table stand) definition next) (first_refusal (record_checks file table size stand)) refl
   where
-    go : All (λ (m : Met). IsDefinition m.kind ≡ definition) (met_from file table size (behind file table stand) most).met
+    go : All (λ (m : Met). IsDefinition m.kind ≡ definition) (met_from file table size (next_stand file table stand) most).met
         → (refusal : Option Refusal) → first_refusal (record_checks file table size stand) ≡ refusal
         → All (λ (m : Met). IsDefinition m.kind ≡ definition) (met_from file table size (Some stand) (suc most)).met
     go more (Some refusal) h = rw (met-refused file table size stand most refusal h) (All-nil _)
     go more None h =
         rw (met-record file table size stand most h)
-        (All-cons (λ (m : Met). IsDefinition m.kind ≡ definition) (met_at table stand) (met_from file table size (behind file table stand) most).met is more)
+        (All-cons (λ (m : Met). IsDefinition m.kind ≡ definition) (met_at table stand) (met_from file table size (next_stand file table stand) most).met is more)
 
 first-stands : (kind : VersionKind) (head size : ℕ) → StandsOn (IsDefinition kind) (first_stand kind head size)
 first-stands kind head size = by_size (size == 0)
@@ -230,8 +230,8 @@ pub records-none : (file : List ℕ) (style : Style)
     → fault_of (records_rows file style) ≡ None
 unfolding kinds_rows version_definitions version_needs
 records-none file style definitions needs =
-    let first : List Item = each (λ i. table_rows version_definitions file style i (section_at file i)) 0 (e_shnum file) in
-    let second : List Item = each (λ i. table_rows version_needs file style i (section_at file i)) 0 (e_shnum file) in
+    let first : List ListingItem = each (λ i. table_rows version_definitions file style i (section_at file i)) 0 (e_shnum file) in
+    let second : List ListingItem = each (λ i. table_rows version_needs file style i (section_at file i)) 0 (e_shnum file) in
     (listings_append first (second ++ []) definitions).1 ∙ (listings_append second [] needs).1
 
 strings-definition : (file : List ℕ) → version_strings file Definition ≡ first_strings SHT_GNU_VERDEF file
@@ -245,8 +245,8 @@ strings-need file = refl
 pub names_are_shown : NamesOfNumbersAreShown
 unfolding version_named kinds_rows version_definitions version_needs
 names_are_shown file style number met h named =
-    let first : List Item = each (λ i. table_rows version_definitions file style i (section_at file i)) 0 (e_shnum file) in
-    let second : List Item = each (λ i. table_rows version_needs file style i (section_at file i)) 0 (e_shnum file) in
+    let first : List ListingItem = each (λ i. table_rows version_definitions file style i (section_at file i)) 0 (e_shnum file) in
+    let second : List ListingItem = each (λ i. table_rows version_needs file style i (section_at file i)) 0 (e_shnum file) in
     let definitions = first-named file style Definition SHT_GNU_VERDEF version_definitions (λ at. refl) (λ i at. refl) (strings-definition file)
     (front-none first (second ++ []) h) in
     let needs = first-named file style File SHT_GNU_VERNEED version_needs (λ at. refl) (λ i at. refl) (strings-need file)

@@ -2,7 +2,7 @@
 use Rattle.std.proofs.Common.{◌≡◌, ℕ, zero, suc, ◌+◌, ◌<◌, ◌≤◌, min, nat_lt, true, false, List, [], ◌++◌, length, length-append, Option, None, Some, Result, Ok, Err, refl, ◌∙◌, arith, inl, inr}
 use Rattle.std.proofs.lemmas.Bool.{cases_Bool}
 use Rattle.std.proofs.lemmas.Bool.Decides.{nat_tests}
-use Rattle.elf_model.specs.Listing.{Item, each}
+use Rattle.elf_model.specs.Listing.{ListingItem, each}
 use Rattle.elf_model.specs.Names.{Shown}
 use Rattle.elf_model.specs.Fields.{LineFront}
 use Rattle.elf_model.specs.Rows.{named_row, refused_row}
@@ -36,7 +36,7 @@ numbered-one file style front entry number =
 
 -- as many rows as there are entries, where each is one member
 each-one :
-    (row : ℕ → List Item) → ((i : ℕ) → length (row i) ≡ 1) → (first count : ℕ) → length (each row first count) ≡ count
+    (row : ℕ → List ListingItem) → ((i : ℕ) → length (row i) ≡ 1) → (first count : ℕ) → length (each row first count) ≡ count
 unfolding each
 each-one row one first zero = refl
 each-one row one first (suc count) =
@@ -44,10 +44,10 @@ each-one row one first (suc count) =
     ∙ (let here = one first in let more = each-one row one (suc first) count in omega arith)
 
 -- as many rows as the smaller of two numbers, and one more where that is the first
-one-more : (rows last : List Item) (a b : ℕ) → length rows ≡ min a b → length last ≡ 1 → nat_lt a b ≡ true → length (rows ++ last) ≡ a + 1
+one-more : (rows last : List ListingItem) (a b : ℕ) → length rows ≡ min a b → length last ≡ 1 → nat_lt a b ≡ true → length (rows ++ last) ≡ a + 1
 one-more rows last a b n one few = let l = length-append rows last in let t : a < b = grind (arith, nat_tests) in omega arith
 
-no-more : (rows : List Item) (a b : ℕ) → length rows ≡ min a b → nat_lt a b ≡ false → length (rows ++ []) ≡ b
+no-more : (rows : List ListingItem) (a b : ℕ) → length rows ≡ min a b → nat_lt a b ≡ false → length (rows ++ []) ≡ b
 no-more rows a b n many = let l = length-append rows [] in let t : b ≤ a = grind (arith, nat_tests) in omega arith
 
 pub rows_are_symbols : RowsAreSymbols

@@ -5,7 +5,7 @@ use Rattle.std.proofs.lemmas.Bool.Decides.{nat_tests}
 use Rattle.elf_model.specs.Checks.{Check, refuse, first_refusal}
 use Rattle.elf_model.specs.declared.causes.Cause.TheVariants.{BadVersion, VersionCut, VersionIndex}
 use Rattle.elf_model.specs.declared.causes.Refusal.{Refusal}
-use Rattle.elf_model.specs.Versions.{Stand, record_size, word_checks, record_checks, behind, met_at, met_from, no_versions, with_met, VERSION_NUMBERS, number_in, number_word, version_word, name_end}
+use Rattle.elf_model.specs.Versions.{Stand, record_size, word_checks, record_checks, next_stand, met_at, met_from, no_versions, with_met, VERSION_NUMBERS, number_in, number_word, version_word, name_end}
 use Rattle.elf_model.specs.VersionLaws.{RecordIsMet, RecordIsRefused}
 
 -- a walk that has ended meets nothing more
@@ -23,7 +23,7 @@ met-most file table size stand = refl
 pub met-record :
     (file : List ℕ) (table size : ℕ) (stand : Stand) (most : ℕ) → first_refusal (record_checks file table size stand) ≡ None
     → met_from file table size (Some stand) (suc most)
-    ≡ with_met (met_at table stand) (met_from file table size (behind file table stand) most)
+    ≡ with_met (met_at table stand) (met_from file table size (next_stand file table stand) most)
 unfolding met_from
 met-record file table size stand most h = rw (h, met_from) refl
 

@@ -1,11 +1,11 @@
 -- The walk over a note table, one note at a time.
 use Rattle.std.proofs.Common.{min, ◌≡◌, ℕ, suc, zero, ◌+◌, ◌<◌, ◌≤◌, List, [], ◌∷◌, ◌++◌, length, drop, Some, None, refl, ap, sym, ◌∙◌, arith, length-append, length-drop, add-zero}
 use Rattle.std.proofs.lemmas.List.{drop_at, append_assoc}
-use Rattle.elf_model.specs.Notes.{Note, Padded, AllPadded, Next, Ends, Broken, OneNote, Walk, to_next, padded_size, first_end, next_note, walk_from, with_note}
+use Rattle.elf_model.specs.Notes.{Note, Padded, AllPadded, NextNote, Ends, Broken, OneNote, Walk, to_next, padded_size, first_end, next_note, walk_from, with_note}
 use Rattle.elf_model.proofs.Spellings.{NextView, ends, tails, past, found, next_view, next-spelt, spelt-size}
 
 -- one turn of the walk
-abbrev turn : ℕ → List ℕ → (ℕ → List ℕ → Walk) → Next → Walk
+abbrev turn : ℕ → List ℕ → (ℕ → List ℕ → Walk) → NextNote → Walk
 turn place rest more Ends = record { notes = []; cut = None }
 turn place rest more Broken = record { notes = []; cut = Some place }
 turn place rest more (OneNote note size) = with_note note (more (place + size) (drop size rest))
@@ -14,7 +14,7 @@ walk_from-suc : (a most place : ℕ) (rest : List ℕ) → walk_from a (suc most
 unfolding walk_from
 walk_from-suc a most place rest = go (next_note a rest) refl
   where
-    go : (next : Next) → next_note a rest ≡ next → walk_from a (suc most) place rest ≡ turn place rest (walk_from a most) next
+    go : (next : NextNote) → next_note a rest ≡ next → walk_from a (suc most) place rest ≡ turn place rest (walk_from a most) next
     go Ends e = rw (e, walk_from) refl
     go Broken e = rw (e, walk_from) refl
     go (OneNote note size) e = rw (e, walk_from) refl
@@ -41,7 +41,7 @@ walk-enough a (suc f) (suc g) place rest p q = step (λ n xs. walk-enough a f g 
         → walk_from a (suc f) place rest ≡ walk_from a (suc g) place rest
     step more = rw (walk_from-suc a f place rest, walk_from-suc a g place rest) (go (next_note a rest) refl)
       where
-        go : (next : Next) → next_note a rest ≡ next → turn place rest (walk_from a f) next ≡ turn place rest (walk_from a g) next
+        go : (next : NextNote) → next_note a rest ≡ next → turn place rest (walk_from a f) next ≡ turn place rest (walk_from a g) next
         go Ends e = refl
         go Broken e = refl
         go (OneNote note size) e =

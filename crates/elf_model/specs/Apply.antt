@@ -80,13 +80,13 @@ entry_checks target at rela type =
     ∷ []
 
 -- bytes that are stored at an offset of a section
-pub record Patch : Type 0 where
+pub record StoredBytes : Type 0 where
   pub at : ℕ
   pub bytes : List ℕ
 
 -- what an entry does to the section: bytes are stored, or it is refused
 pub data Change : Type 0 where
-  Put : Patch → Change
+  Put : StoredBytes → Change
   Fails : Refusal → Change
 
 -- what an entry does: before all other checks it is refused if its type is none that stores a value
@@ -144,22 +144,22 @@ unfoldable pub changes_of : Target → List Change
 changes_of target = flat_map (section_changes target) (section_headers target.file)
 
 -- a patch before others, unless there is a refusal among those
-unfoldable pub and_patches : Patch → Result (List Patch) Refusal → Result (List Patch) Refusal
+unfoldable pub and_patches : StoredBytes → Result (List StoredBytes) Refusal → Result (List StoredBytes) Refusal
 and_patches patch (Err refusal) = Err refusal
 and_patches patch (Ok patches) = Ok (patch ∷ patches)
 
 -- all that is stored, or the first refusal
-unfoldable pub patches_of : List Change → Result (List Patch) Refusal
+unfoldable pub patches_of : List Change → Result (List StoredBytes) Refusal
 patches_of [] = Ok []
 patches_of (Fails refusal ∷ changes) = Err refusal
 patches_of (Put patch ∷ changes) = and_patches patch (patches_of changes)
 
 -- bytes are stored
-unfoldable pub put : Patch → List ℕ → List ℕ
+unfoldable pub put : StoredBytes → List ℕ → List ℕ
 put patch base = take patch.at base ++ (patch.bytes ++ drop (patch.at + length patch.bytes) base)
 
 -- bytes are stored one after another, so that the later of two that overlap stands
-unfoldable pub patched : List Patch → List ℕ → List ℕ
+unfoldable pub patched : List StoredBytes → List ℕ → List ℕ
 patched [] base = base
 patched (patch ∷ patches) base = patched patches (put patch base)
 

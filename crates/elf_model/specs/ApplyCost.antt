@@ -4,7 +4,7 @@ use Rattle.elf_model.specs.Apply.{applies_to, before_entries, held_size, relocat
 use Rattle.elf_model.specs.Checks.{first_refusal, before_headers, table_checks}
 use Rattle.elf_model.specs.Names.{pad64}
 use Rattle.elf_model.specs.Numbers.{R_X86_64_NONE}
-use Rattle.elf_model.specs.Placing.{Layout, Lookup, Compared, Searched}
+use Rattle.elf_model.specs.Placing.{Layout, NameSearch, Compared, Searched}
 use Rattle.elf_model.specs.Records.{FILE_HEADER_SIZE, SECTION_HEADER_SIZE, e_shnum, r_offset, r_type}
 use Rattle.elf_model.specs.Tables.{SYMBOL_SIZE, RELA_SIZE}
 
@@ -49,7 +49,7 @@ longest (item ∷ items) = max (length item.0) (longest items)
 
 -- what a lookup among some names of a layout may cost: each of them, with its NUL; or the longest, and nothing where there is
 -- none
-unfoldable pub lookup_cost : Lookup → List (List ℕ × ℕ) → ℕ
+unfoldable pub lookup_cost : NameSearch → List (List ℕ × ℕ) → ℕ
 lookup_cost Compared items = sum_by (λ item. pad64 (length item.0 + 1)) items
 lookup_cost Searched [] = 0
 lookup_cost Searched (item ∷ items) = pad64 (longest (item ∷ items) + 1)

@@ -7,7 +7,7 @@ use Rattle.elf_model.specs.Checks.{Check, refuse}
 use Rattle.elf_model.specs.Fields.{Fields, LineFront, front}
 use Rattle.elf_model.specs.Fields.Field.{Decimal, Hexadecimal}
 use Rattle.elf_model.specs.Lines.{named_line, refusal_line}
-use Rattle.elf_model.specs.Listing.{Item, Line, Fault, fault_of, guarded, report_of, known_parts}
+use Rattle.elf_model.specs.Listing.{ListingItem, Line, Fault, fault_of, guarded, report_of, known_parts}
 use Rattle.elf_model.specs.Names.{Shown}
 use Rattle.elf_model.specs.Names.Shown.{Cut}
 use Rattle.elf_model.specs.Notes.{capped}
@@ -295,39 +295,39 @@ abbrev pub is_elf : List ℕ → Bool
 is_elf content = nat_le ELF_MAGIC_SIZE (length content) && begins_as_elf content
 
 -- the listing of a member that is an ELF file: that of the file that its data are
-abbrev pub member_listing : List ℕ → ℕ → Style → ℕ → Member → List Item
+abbrev pub member_listing : List ℕ → ℕ → Style → ℕ → Member → List ListingItem
 member_listing file headers style parts m =
     let content = bytes_in file m.extent in
     if lists_members style parts && is_elf content then listing content headers style parts else []
 
 -- items with the line of their first fault in the place of it and of all behind it: the fault of a member's listing ends that
 -- listing alone
-abbrev pub told : Format → List Item → List Item
+abbrev pub told : Format → List ListingItem → List ListingItem
 told format [] = []
 told format (Line text ∷ rest) = Line text ∷ told format rest
 told format (Fault refusal ∷ rest) = Line (refusal_line format refusal) ∷ []
 
 -- what is listed of a member: its line, and behind it its listing
-abbrev pub member_items : List ℕ → ℕ → Style → ℕ → Member → List Item
+abbrev pub member_items : List ℕ → ℕ → Style → ℕ → Member → List ListingItem
 member_items file headers style parts m = Line (member_line style.format m) ∷ told style.format (member_listing file headers style parts m)
 
 -- what is listed of members
-unfoldable pub members_items : List ℕ → ℕ → Style → ℕ → List Member → List Item
+unfoldable pub members_items : List ℕ → ℕ → Style → ℕ → List Member → List ListingItem
 members_items file headers style parts [] = []
 members_items file headers style parts (m ∷ ms) =
     member_items file headers style parts m ++ members_items file headers style parts ms
 
 -- the end of an archive's listing: the refusal where no member stands
-abbrev pub end_items : Option Refusal → List Item
+abbrev pub end_items : Option Refusal → List ListingItem
 end_items None = []
 end_items (Some refusal) = Fault refusal ∷ []
 
 -- what is listed of members, and of the place where none stands
-unfoldable pub walk_items : List ℕ → ℕ → Style → ℕ → Members → List Item
+unfoldable pub walk_items : List ℕ → ℕ → Style → ℕ → Members → List ListingItem
 walk_items file headers style parts walk = members_items file headers style parts walk.members ++ end_items walk.refusal
 
 -- what is listed of an archive
-unfoldable pub archive_items : List ℕ → ℕ → Style → ℕ → List Item
+unfoldable pub archive_items : List ℕ → ℕ → Style → ℕ → List ListingItem
 archive_items file headers style parts =
     guarded (archive_checks file) (walk_items file headers style parts (members_of file style.cap))
 

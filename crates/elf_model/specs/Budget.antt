@@ -2,7 +2,7 @@
 use Rattle.std.specs.Prelude.{ℕ, ◌≡◌, ◌<◌, List, ◌++◌, length, Option, None, Some, ◌⊎◌}
 use Rattle.elf_model.specs.Cost.{listing_cost}
 use Rattle.elf_model.specs.Lines.{refusal_line}
-use Rattle.elf_model.specs.Listing.{Item, lines_of, fault_of, report_of}
+use Rattle.elf_model.specs.Listing.{ListingItem, lines_of, fault_of, report_of}
 use Rattle.elf_model.specs.Report.{listing}
 use Rattle.elf_model.specs.Style.{Style}
 use Rattle.elf_model.specs.declared.causes.Refusal.{Refusal}
@@ -14,15 +14,15 @@ abbrev pub IsBudget : Refusal → Type 0
 IsBudget refusal = refusal.cause ≡ Budget
 
 -- a text is the whole report of the items, and a fault is their first
-pub record IsReport (format : Format) (items : List Item) (text : List ℕ) (fault : Option Refusal) : Type 0 where
+pub record IsReport (format : Format) (items : List ListingItem) (text : List ℕ) (fault : Option Refusal) : Type 0 where
   pub text_is : text ≡ report_of format items
   pub fault_is : fault ≡ fault_of items
 
 -- a text is a front of the items, each a line and whole, and then the line of a refusal for want of budget, whose offset is
 -- below the file's length
-pub record IsCut (format : Format) (size : ℕ) (items : List Item) (text : List ℕ) (fault : Option Refusal) : Type 0 where
-  pub front : List Item
-  pub rest : List Item
+pub record IsCut (format : Format) (size : ℕ) (items : List ListingItem) (text : List ℕ) (fault : Option Refusal) : Type 0 where
+  pub front : List ListingItem
+  pub rest : List ListingItem
   pub split : items ≡ front ++ rest
   pub no_fault : fault_of front ≡ None
   pub refusal : Refusal

@@ -15,8 +15,8 @@ use Rattle.elf_model.specs.declared.causes.Cause.{Cause}
 use Rattle.elf_model.specs.declared.causes.Cause.TheVariants.{Unplaced, Undefined, Unsupported}
 use Rattle.elf_model.specs.declared.causes.Refusal.{Refusal}
 use Rattle.elf_model.specs.declared.missing.Missing.{Missing}
-use Rattle.elf_model.specs.declared.missing.Wanted.{Wanted}
-use Rattle.elf_model.specs.declared.missing.Wanted.TheVariants.{Place, Named, Entry}
+use Rattle.elf_model.specs.declared.missing.LayoutAddress.{LayoutAddress}
+use Rattle.elf_model.specs.declared.missing.LayoutAddress.TheVariants.{Place, Named, Entry}
 use Rattle.elf_model.specs.declared.relocation_types.Base.{Base}
 use Rattle.elf_model.specs.declared.relocation_types.Base.TheVariants.{Symbol, Linkage, Table, Thread}
 use Rattle.elf_model.specs.declared.relocation_types.Formula.{Formula}
@@ -27,22 +27,22 @@ abbrev pub is_unplaced : Layout → ℕ → Bool
 is_unplaced layout section = is_none (address_in layout.sections section)
 
 -- the symbol's section, where its index is one of a section, and it has no address
-unfoldable pub symbol_place : Layout → Option (ℕ × ℕ) → Option Wanted
+unfoldable pub symbol_place : Layout → Option (ℕ × ℕ) → Option LayoutAddress
 symbol_place layout None = None
 symbol_place layout (Some symbol) =
     if not (symbol.0 == SHN_UNDEF) && nat_lt symbol.0 SHN_LORESERVE && is_unplaced layout symbol.0 then Some (Place symbol.0) else None
 
 -- what a symbol's name wants: nothing where the entry names symbol 0
-unfoldable pub name_wanted : Base → Option (ℕ × ℕ) → Option Wanted
+unfoldable pub name_wanted : Base → Option (ℕ × ℕ) → Option LayoutAddress
 name_wanted base None = None
 name_wanted base (Some symbol) = Some (Named base)
 
 -- what S of a system-specific type wants: of an indirect function its procedure linkage table entry; nothing helps with another
-unfoldable pub system_wanted : ℕ → Option Wanted
+unfoldable pub system_wanted : ℕ → Option LayoutAddress
 system_wanted type = if type == STT_GNU_IFUNC then Some Entry else None
 
 -- the entry of a symbol that is wanted where the relocation entry is not applied without: that of the base, where S has none
-unfoldable pub entry_wanted : Base → Option (ℕ × ℕ) → Option Wanted
+unfoldable pub entry_wanted : Base → Option (ℕ × ℕ) → Option LayoutAddress
 entry_wanted base None = None
 entry_wanted Symbol (Some symbol) = system_wanted symbol.1
 entry_wanted Linkage (Some symbol) = Some Entry
@@ -50,7 +50,7 @@ entry_wanted Table (Some symbol) = Some (Named Table)
 entry_wanted Thread (Some symbol) = Some (Named Thread)
 
 -- the section without an address: that which is relocated where the formula takes P, else the symbol's
-unfoldable pub place_wanted : Formula → Layout → ℕ → Option (ℕ × ℕ) → Option Wanted
+unfoldable pub place_wanted : Formula → Layout → ℕ → Option (ℕ × ℕ) → Option LayoutAddress
 place_wanted formula layout section symbol =
     elim (takes_place formula && is_unplaced layout section) [ true ↦ Some (Place section) | false ↦ symbol_place layout symbol ]
 
@@ -58,14 +58,14 @@ place_wanted formula layout section symbol =
 -- or none for symbol 0. For want of a section's address: that of the section that is relocated where the formula takes P and
 -- it has none, else that of the symbol's section. For want of a name's: what the type's base tells of it; for want of an
 -- entry: that.
-unfoldable pub wanted : Cause → RelocationType → Layout → ℕ → Option (ℕ × ℕ) → Option Wanted
+unfoldable pub wanted : Cause → RelocationType → Layout → ℕ → Option (ℕ × ℕ) → Option LayoutAddress
 wanted Unplaced type layout section symbol = place_wanted type.formula layout section symbol
 wanted Undefined type layout section symbol = name_wanted type.base symbol
 wanted Unsupported type layout section symbol = entry_wanted type.base symbol
 wanted _ type layout section symbol = None
 
 -- that, with the number of the type and the symbol's name
-unfoldable pub missing_of : ℕ → ℕ → Option Wanted → Option Missing
+unfoldable pub missing_of : ℕ → ℕ → Option LayoutAddress → Option Missing
 missing_of kind name None = None
 missing_of kind name (Some wanted) = Some (record { kind = kind; name = name; wanted = wanted })
 
@@ -106,8 +106,8 @@ abbrev pub ITEM_NAME_SIZE : ℕ
 ITEM_NAME_SIZE = 255
 
 -- the name of a symbol as it is told: where st_name is 0 it has none (gABI 4, Symbol Table)
-unfoldable pub told_name : List ℕ → ℕ → Result Shown Cause
-told_name strings index = elim (index == 0) [ true ↦ Ok (Whole []) | false ↦ shown strings index ITEM_NAME_SIZE ]
+unfoldable pub told_symbol_name : List ℕ → ℕ → Result Shown Cause
+told_symbol_name strings index = elim (index == 0) [ true ↦ Ok (Whole []) | false ↦ shown strings index ITEM_NAME_SIZE ]
 
 -- what is missing, and the name of the entry's symbol
 pub record Lack : Type 0 where
@@ -122,7 +122,7 @@ lack_with missing (Err cause) = None
 -- the same of an entry in a section of entries with this header, where something is missing
 unfoldable pub lack_of : List ℕ → ℕ → Option Missing → Option Lack
 lack_of file header None = None
-lack_of file header (Some missing) = lack_with missing (told_name (strings_of file (linked_at file header)) missing.name)
+lack_of file header (Some missing) = lack_with missing (told_symbol_name (strings_of file (linked_at file header)) missing.name)
 
 -- WHAT A LAYOUT LACKS where a section, by its index, was refused: by the section of entries that the refusal points into
 unfoldable pub explained : List ℕ → ℕ → Layout → Refusal → Option Lack

@@ -6,8 +6,8 @@ use Rattle.elf_model.specs.NameTables.{relocation_type_text}
 use Rattle.elf_model.specs.Names.{Shown}
 use Rattle.elf_model.specs.Names.Shown.{Whole, Cut}
 use Rattle.elf_model.specs.Numbers.{EM_X86_64}
-use Rattle.elf_model.specs.declared.missing.Wanted.{Wanted}
-use Rattle.elf_model.specs.declared.missing.Wanted.TheVariants.{Place, Named, Entry}
+use Rattle.elf_model.specs.declared.missing.LayoutAddress.{LayoutAddress}
+use Rattle.elf_model.specs.declared.missing.LayoutAddress.TheVariants.{Place, Named, Entry}
 use Rattle.elf_model.specs.declared.relocation_types.Base.{Base}
 use Rattle.elf_model.specs.declared.relocation_types.Base.TheVariants.{Symbol, Linkage, Table, Thread}
 
@@ -61,7 +61,7 @@ abbrev pub where_named : Shown → List ℕ → List ℕ
 where_named name items = elim (has_no_item name) [ true ↦ codes "no item can name it\n" | false ↦ items ]
 
 -- the item that would help
-unfoldable pub help_text : Wanted → Shown → List ℕ
+unfoldable pub help_text : LayoutAddress → Shown → List ℕ
 help_text (Place section) name = place_text section
 help_text (Named base) name = where_named name (items_text base (name_text name))
 help_text Entry name = where_named name (entry_item_text (name_text name))

@@ -47,8 +47,8 @@ unfoldable pub versioned_hash : List ℕ
 versioned_hash =
     words (2 ∷ 2 ∷ 1 ∷ 6 ∷ []) ++ little 8 0x01003800 ++ words (2 ∷ 3 ∷ 0x2b60d ∷ 0x2b60a ∷ 0x2b60a ∷ 0x2b60d ∷ [])
 
-unfoldable pub versioned_symbols : List ℕ
-versioned_symbols =
+unfoldable pub symbols_with_versions : List ℕ
+symbols_with_versions =
     symbol 0 0 0 0 0 ++ symbol 1 0x12 0 0 0 ++ symbol 6 0xa1 7 0x2a0 8 ++ symbol 8 0x12 7 0x2a8 1 ++ symbol 8 0x12 7 0x2a9 1
     ++ symbol 10 0x1a 7 0x2aa 1
 
@@ -74,7 +74,7 @@ versioned_dynamic =
 
 unfoldable pub versioned_body : List ℕ
 versioned_body =
-    versioned_segments ++ versioned_hash ++ versioned_symbols ++ versioned_strings ++ versioned_records ++ versioned_dynamic
+    versioned_segments ++ versioned_hash ++ symbols_with_versions ++ versioned_strings ++ versioned_records ++ versioned_dynamic
 
 -- its section headers, 0x2f0: the hash table, the symbols, their strings, their versions, the definitions, the needs, the
 -- dynamic entries

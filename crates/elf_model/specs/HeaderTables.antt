@@ -1,7 +1,7 @@
 -- Tables of headers (gABI 4, Section Header; gABI 5, Program Header), and the kinds of tables that a header describes.
 use Rattle.std.specs.Prelude.{ℕ, ◌*◌, ◌==◌, Bool, List, Option}
 use Rattle.elf_model.specs.Find.{first_that}
-use Rattle.elf_model.specs.Listing.{Item}
+use Rattle.elf_model.specs.Listing.{ListingItem}
 use Rattle.elf_model.specs.Records.{e_shnum, e_phnum, sh_type, section_at, segment_at}
 use Rattle.elf_model.specs.Style.{Style}
 use Rattle.elf_model.specs.Tables.{TableChecks}
@@ -39,7 +39,7 @@ pub record TableKind : Type 0 where
   pub has_table : List ℕ → ℕ → Bool
   pub checks : TableChecks
   pub asks : HeaderTable → (index file_size cap : ℕ) → ℕ
-  pub rows : List ℕ → Style → ℕ → ℕ → List Item
+  pub rows : List ℕ → Style → ℕ → ℕ → List ListingItem
 
 -- as many entries as a header tells of ask for so many bytes each
 abbrev pub each_entry : (List ℕ → ℕ → ℕ) → (ℕ → ℕ) → HeaderTable → (index file_size cap : ℕ) → ℕ

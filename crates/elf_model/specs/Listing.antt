@@ -8,18 +8,18 @@ use Rattle.elf_model.specs.declared.causes.Refusal.{Refusal}
 use Rattle.elf_model.specs.declared.formats.Format.{Format}
 
 -- a member of a listing: a line, or a fault
-pub data Item : Type 0 where
-  Line : List ℕ → Item
-  Fault : Refusal → Item
+pub data ListingItem : Type 0 where
+  Line : List ℕ → ListingItem
+  Fault : Refusal → ListingItem
 
 -- the lines before the first fault
-abbrev pub lines_of : List Item → List ℕ
+abbrev pub lines_of : List ListingItem → List ℕ
 lines_of [] = []
 lines_of (Line text ∷ items) = text ++ lines_of items
 lines_of (Fault refusal ∷ items) = []
 
 -- the first fault
-abbrev pub fault_of : List Item → Option Refusal
+abbrev pub fault_of : List ListingItem → Option Refusal
 fault_of [] = None
 fault_of (Line text ∷ items) = fault_of items
 fault_of (Fault refusal ∷ items) = Some refusal
@@ -30,15 +30,15 @@ end_text format None = []
 end_text format (Some refusal) = refusal_line format refusal
 
 -- the text of a listing: the lines before the first fault, and the fault's line
-abbrev pub report_of : Format → List Item → List ℕ
+abbrev pub report_of : Format → List ListingItem → List ℕ
 report_of format items = lines_of items ++ end_text format (fault_of items)
 
 -- the first check that fails is a fault in the place of the items, which mean nothing then
-abbrev pub guarded : List Check → List Item → List Item
+abbrev pub guarded : List Check → List ListingItem → List ListingItem
 guarded checks items = elim (first_refusal checks) [ None ↦ items | Some refusal ↦ Fault refusal ∷ [] ]
 
 -- the items of so many rows, or tables, from a first one on
-unfoldable pub each : (ℕ → List Item) → ℕ → ℕ → List Item
+unfoldable pub each : (ℕ → List ListingItem) → ℕ → ℕ → List ListingItem
 each row first zero = []
 each row first (suc count) = row first ++ each row (suc first) count
 
@@ -96,10 +96,10 @@ abbrev pub has_tables : ℕ → Bool
 has_tables parts = not (bit_and parts TABLES == 0)
 
 -- the items of a part, where the parts have it
-abbrev pub where_asked : ℕ → ℕ → List Item → List Item
+abbrev pub where_asked : ℕ → ℕ → List ListingItem → List ListingItem
 where_asked parts part items = elim (has parts part) [ true ↦ items | false ↦ [] ]
 
 -- the file header's part: the first of its checks that fails, else its line where the parts have it
-unfoldable pub file_header_items : Format → List ℕ → ℕ → List Item
+unfoldable pub file_header_items : Format → List ℕ → ℕ → List ListingItem
 file_header_items format file parts =
     guarded (header_checks file) (where_asked parts HEADER (Line (header_line format file) ∷ []))

@@ -3,7 +3,7 @@ use Rattle.std.specs.Prelude.{◌≡◌, ℕ, ◌+◌, ◌≤◌, true, false, L
 use Rattle.elf_model.specs.Budget.{IsReport, IsBudgeted}
 use Rattle.elf_model.specs.Checks.{first_refusal, header_checks, load_checks}
 use Rattle.elf_model.specs.Lines.{header_line, refusal_line}
-use Rattle.elf_model.specs.Listing.{Item, each, lines_of, fault_of, has, report_of, has_tables, file_header_items, known_parts, HEADER}
+use Rattle.elf_model.specs.Listing.{ListingItem, each, lines_of, fault_of, has, report_of, has_tables, file_header_items, known_parts, HEADER}
 use Rattle.elf_model.specs.Cost.{listing_cost}
 use Rattle.elf_model.specs.Report.{listing}
 use Rattle.elf_model.specs.Style.{Style, viewed}
@@ -12,12 +12,12 @@ use Rattle.elf_model.specs.declared.causes.Refusal.{Refusal}
 -- the last row of so many stands behind the others
 abbrev pub LastRowIsLast : Type 0
 LastRowIsLast =
-    (row : ℕ → List Item) → (first count : ℕ) → each row first (count + 1) ≡ each row first count ++ row (first + count)
+    (row : ℕ → List ListingItem) → (first count : ℕ) → each row first (count + 1) ≡ each row first count ++ row (first + count)
 
 -- so many rows are some of them, and the others behind these
 abbrev pub RowsSplit : Type 0
 RowsSplit =
-    (row : ℕ → List Item) → (first count more : ℕ)
+    (row : ℕ → List ListingItem) → (first count more : ℕ)
     → each row first (count + more) ≡ each row first count ++ each row (first + count) more
 
 -- with no part that the style knows but the file header's the listing is the file header's
@@ -47,13 +47,13 @@ LoadFaultIsListedSecond =
 -- what stands behind the first fault of a listing is not shown
 abbrev pub NothingBehindTheFault : Type 0
 NothingBehindTheFault =
-    (front back : List Item) → (refusal : Refusal) → fault_of front ≡ Some refusal
+    (front back : List ListingItem) → (refusal : Refusal) → fault_of front ≡ Some refusal
     → (lines_of (front ++ back) ≡ lines_of front) × (fault_of (front ++ back) ≡ Some refusal)
 
 -- two listings one behind the other, the first without a fault
 abbrev pub ListingsAppend : Type 0
 ListingsAppend =
-    (front back : List Item) → fault_of front ≡ None
+    (front back : List ListingItem) → fault_of front ≡ None
     → (lines_of (front ++ back) ≡ lines_of front ++ lines_of back) × (fault_of (front ++ back) ≡ fault_of back)
 
 -- bits outside the parts that a style knows mean nothing

@@ -5,7 +5,7 @@ use Rattle.elf_model.specs.Names.{same}
 use Rattle.elf_model.specs.Numbers.{SHN_UNDEF, SHN_ABS, STB_GLOBAL, STB_WEAK, STB_GNU_UNIQUE, STT_NOTYPE, STT_OBJECT, STT_FUNC, STT_COMMON, STT_TLS, STT_GNU_IFUNC, STV_DEFAULT, STV_PROTECTED}
 use Rattle.elf_model.specs.Records.{st_name, st_shndx, st_value, st_type, st_bind, st_visibility, versym}
 use Rattle.elf_model.specs.Tables.{SYMBOL_SIZE}
-use Rattle.elf_model.specs.Versions.{VERSYM_SIZE, Met, Stand, number_in, number_word, named_at, name_index, names_version, names_number, record_size, most_records, first_stand, behind, versions_in}
+use Rattle.elf_model.specs.Versions.{VERSYM_SIZE, Met, Stand, number_in, number_word, named_at, name_index, names_version, names_number, record_size, most_records, first_stand, next_stand, versions_in}
 use Rattle.elf_model.specs.declared.causes.Cause.TheVariants.{VersionCut}
 use Rattle.elf_model.specs.declared.causes.Refusal.{Refusal}
 use Rattle.elf_model.specs.declared.versions.VersionKind.{VersionKind}
@@ -106,8 +106,8 @@ pub record Symbols : Type 0 where
   pub records : List RecordTable
 
 -- where a symbol stands in the file
-abbrev pub symbol_place : Symbols → ℕ → ℕ
-symbol_place symbols y = symbols.place + SYMBOL_SIZE * y
+abbrev pub symbol_offset : Symbols → ℕ → ℕ
+symbol_offset symbols y = symbols.place + SYMBOL_SIZE * y
 
 -- whether the version of a symbol fits: without words of versions each does; a symbol without a word is refused at what tells
 -- of these
@@ -121,7 +121,7 @@ version_fits file (Some words) asked is_wanted y =
 -- a fault, at the symbol, or the symbol has no word of a version
 unfoldable pub answers : List ℕ → Symbols → Wanted → (ℕ → Bool) → ℕ → Result Bool Refusal
 answers file symbols wanted is_wanted y =
-    let at = symbol_place symbols y in
+    let at = symbol_offset symbols y in
     elim (same symbols.strings (st_name file at) wanted.name) [
       | Err cause ↦ Err (record { at = at; cause = cause })
       | Ok false ↦ Ok false
@@ -133,15 +133,15 @@ answers file symbols wanted is_wanted y =
 
 -- A RECORD OF VERSIONS THAT A WALK READS: one that is met, with the strings of its name; one that is refused; or that none
 -- stands where one is to come, so that nothing is read
-pub data Reading : Type 0 where
-  Meets : List ℕ → Met → Reading
-  Refuses : Refusal → Reading
-  Misses : Refusal → Reading
+pub data RecordReading : Type 0 where
+  Meets : List ℕ → Met → RecordReading
+  Refuses : Refusal → RecordReading
+  Misses : Refusal → RecordReading
 
 -- where the walk over a table stands once so many records are met
 unfoldable pub stand_after : List ℕ → RecordTable → ℕ → Option Stand
 stand_after file table zero = first_stand table.kind table.head table.size
-stand_after file table (suc n) = elim (stand_after file table n) [ None ↦ None | Some stand ↦ behind file table.place stand ]
+stand_after file table (suc n) = elim (stand_after file table n) [ None ↦ None | Some stand ↦ next_stand file table.place stand ]
 
 -- a record stands there: no more are met than there is room for, and its bytes are in the table
 abbrev pub has_record : RecordTable → ℕ → Option Stand → Bool
@@ -150,17 +150,17 @@ has_record table met (Some stand) =
     nat_lt met (most_records table.kind table.size) && not (nat_lt table.size (stand.place + record_size stand.kind))
 
 -- how the records of a table end, once so many are met: they do, or the next is refused
-abbrev pub end_reading : Bool → Option Refusal → List Reading
+abbrev pub end_reading : Bool → Option Refusal → List RecordReading
 end_reading stands None = []
 end_reading stands (Some refusal) = if stands then Refuses refusal ∷ [] else Misses refusal ∷ []
 
 -- met records in front of those behind them
-unfoldable pub meetings : List ℕ → List Met → List Reading → List Reading
+unfoldable pub meetings : List ℕ → List Met → List RecordReading → List RecordReading
 meetings strings [] others = others
 meetings strings (met ∷ more) others = Meets strings met ∷ meetings strings more others
 
 -- the records that a walk over a table reads, in front of others
-unfoldable pub readings_of : List ℕ → RecordTable → List Reading → List Reading
+unfoldable pub readings_of : List ℕ → RecordTable → List RecordReading → List RecordReading
 readings_of file table others =
     let versions = versions_in table.kind file table.head table.place table.size in
     let count = length versions.met in
@@ -168,7 +168,7 @@ readings_of file table others =
     (end_reading (has_record table count (stand_after file table count)) versions.cut ++ others)
 
 -- the records that a walk over some tables reads; behind a refusal none is read
-unfoldable pub readings : List ℕ → List RecordTable → List Reading
+unfoldable pub readings : List ℕ → List RecordTable → List RecordReading
 readings file [] = []
 readings file (table ∷ tables) = readings_of file table (readings file tables)
 
@@ -193,7 +193,7 @@ abbrev pub compared_until : ℕ → Refusal → Compared
 compared_until read refusal = record { numbers = []; refused = Some refusal; read = read }
 
 -- the records that name a version are compared with the wanted one; a fault of a name is at the record that holds it
-unfoldable pub compared_with : List ℕ → List ℕ → List Reading → Compared
+unfoldable pub compared_with : List ℕ → List ℕ → List RecordReading → Compared
 compared_with file wanted [] = record { numbers = []; refused = None; read = 0 }
 compared_with file wanted (Misses refusal ∷ others) = compared_until 0 refusal
 compared_with file wanted (Refuses refusal ∷ others) = compared_until 1 refusal
@@ -220,7 +220,7 @@ one_later naming = record { found = naming.found; refused = naming.refused; read
 abbrev pub named_until : ℕ → Refusal → Naming
 named_until read refusal = record { found = None; refused = Some refusal; read = read }
 
-unfoldable pub naming_of : List ℕ → ℕ → List Reading → Naming
+unfoldable pub naming_of : List ℕ → ℕ → List RecordReading → Naming
 naming_of file number [] = record { found = None; refused = None; read = 0 }
 naming_of file number (Misses refusal ∷ others) = named_until 0 refusal
 naming_of file number (Refuses refusal ∷ others) = named_until 1 refusal

@@ -6,7 +6,7 @@ use Rattle.elf_model.specs.Checks.{Check, refuse, first_refusal, before_headers,
 use Rattle.elf_model.specs.Cost.{cost_where}
 use Rattle.elf_model.specs.GnuHash.{gnu_hash, gnu_nbucket, gnu_nbloom, gnu_shift, before_chains, gnu_looked_up}
 use Rattle.elf_model.specs.Hash.{sysv_hash, sysv_nbucket, sysv_nchain, Found, Absent, Refused, Lookup}
-use Rattle.elf_model.specs.Loader.{Wanted, Asked, asked_name, VersionWords, version_word_at, symbol_place, answers, readings, Compared, compared_with, Naming, naming_of, is_among}
+use Rattle.elf_model.specs.Loader.{Wanted, Asked, asked_name, VersionWords, version_word_at, symbol_offset, answers, readings, Compared, compared_with, Naming, naming_of, is_among}
 use Rattle.elf_model.specs.Names.{Shown, shown, pad64}
 use Rattle.elf_model.specs.Names.Shown.{Whole}
 use Rattle.elf_model.specs.Records.{FILE_HEADER_SIZE, SECTION_HEADER_SIZE, PROGRAM_HEADER_SIZE, e_shnum, e_phnum, p_filesz, segment_at, versym}
@@ -76,7 +76,7 @@ TOLD_BYTES = 256
 -- the symbol that is found, where a walk gives it, and its version
 abbrev pub found_lookup : Scope → ℕ → Walked → (records : ℕ) → Bool → Option FoundVersion → LoaderLookup
 found_lookup scope y walked records is_named version = record {
-  lookup = record { answer = Found scope.symbols.index y (symbol_place scope.symbols y); compared = walked.tried };
+  lookup = record { answer = Found scope.symbols.index y (symbol_offset scope.symbols y); compared = walked.tried };
   version = version;
   chain_words = walked.read;
   records = records;

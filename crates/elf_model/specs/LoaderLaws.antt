@@ -5,7 +5,7 @@ use Rattle.elf_model.specs.Checks.{first_refusal}
 use Rattle.elf_model.specs.Dynamic.{listed_value}
 use Rattle.elf_model.specs.Tables.{DYNAMIC_SIZE}
 use Rattle.elf_model.specs.Hash.{Found}
-use Rattle.elf_model.specs.Loader.{Meets, Misses, Reading, RecordTable, Refuses, Wanted, compared_with, symbol_place, is_offered, naming_of, readings, stand_after, version_fits, is_among}
+use Rattle.elf_model.specs.Loader.{Meets, Misses, RecordReading, RecordTable, Refuses, Wanted, compared_with, symbol_offset, is_offered, naming_of, readings, stand_after, version_fits, is_among}
 use Rattle.elf_model.specs.LoaderFind.{wanted_numbers, loader_looked, loader_cost, loader_ceiling}
 use Rattle.elf_model.specs.LoaderScope.{Scope, scope_of, tagged_row}
 use Rattle.elf_model.specs.Names.{same}
@@ -20,7 +20,7 @@ pub record IsTaken (file : List ℕ) (headers : ℕ) (wanted : Wanted) (section 
   pub scope : Scope
   pub is_scope : scope_of file headers ≡ Ok scope
   pub told_by : section ≡ scope.symbols.index
-  pub place : symbol ≡ symbol_place scope.symbols index
+  pub place : symbol ≡ symbol_offset scope.symbols index
   pub named : same scope.symbols.strings (st_name file symbol) wanted.name ≡ Ok true
   pub offered : is_offered file symbol ≡ true
   pub fitting :
@@ -82,7 +82,7 @@ WalksStandAtTheirEnd =
     StandsAtItsEnd file table (length walk.met) walk.cut (stand_after file table (length walk.met))
 
 -- how the records of a walk end that are read: with what is refused, once its bytes are read or before
-abbrev pub EndsReadings : Option Refusal → List Reading → Type 0
+abbrev pub EndsReadings : Option Refusal → List RecordReading → Type 0
 EndsReadings None last = last ≡ []
 EndsReadings (Some refusal) last = (last ≡ Refuses refusal ∷ []) ⊎ (last ≡ Misses refusal ∷ [])
 
@@ -93,7 +93,7 @@ ReadingsAreRecords =
     (file : List ℕ)
     → (readings file [] ≡ [])
     × ((table : RecordTable) (others : List RecordTable)
-    → (last : List Reading)
+    → (last : List RecordReading)
     × EndsReadings (records_in file table).cut last
     × (readings file (table ∷ others) ≡ map (Meets table.strings) (records_in file table).met ++ (last ++ readings file others)))
 
@@ -124,7 +124,7 @@ ComparedNumbersAreRecords =
     × (compared.read ≡ length (records_in file definitions).met + length (records_in file needs).met)
 
 -- comparing is refused at a record: it is refused itself, or it names a version and the name has a fault
-abbrev pub RefusesToCompare : List ℕ → (wanted : List ℕ) → Refusal → Reading → Type 0
+abbrev pub RefusesToCompare : List ℕ → (wanted : List ℕ) → Refusal → RecordReading → Type 0
 RefusesToCompare file wanted refusal (Refuses other) = refusal ≡ other
 RefusesToCompare file wanted refusal (Misses other) = refusal ≡ other
 RefusesToCompare file wanted refusal (Meets strings met) =
@@ -132,19 +132,19 @@ RefusesToCompare file wanted refusal (Meets strings met) =
     × ((cause : Cause) × (same strings (name_index file met) wanted ≡ Err cause) × (refusal ≡ record { at = named_at file met; cause = cause }))
 
 -- and goes on behind others
-abbrev pub IsComparable : List ℕ → (wanted : List ℕ) → Reading → Type 0
+abbrev pub IsComparable : List ℕ → (wanted : List ℕ) → RecordReading → Type 0
 IsComparable file wanted reading = (refusal : Refusal) → RefusesToCompare file wanted refusal reading → ⊥
 
 -- how many records are read there: one, but where none stands
-abbrev pub records_read : Reading → ℕ
+abbrev pub records_read : RecordReading → ℕ
 records_read (Misses refusal) = 0
 records_read _ = 1
 
 -- the first of some records at which comparing is refused, once so many are read
-pub record IsRefusedAt (file wanted : List ℕ) (refusal : Refusal) (all : List Reading) (read : ℕ) : Type 0 where
-  pub before : List Reading
-  pub last : Reading
-  pub others : List Reading
+pub record IsRefusedAt (file wanted : List ℕ) (refusal : Refusal) (all : List RecordReading) (read : ℕ) : Type 0 where
+  pub before : List RecordReading
+  pub last : RecordReading
+  pub others : List RecordReading
   pub parts : all ≡ before ++ last ∷ others
   pub refuses : RefusesToCompare file wanted refusal last
   pub goes_on : All (IsComparable file wanted) before
@@ -153,6 +153,6 @@ pub record IsRefusedAt (file wanted : List ℕ) (refusal : Refusal) (all : List 
 -- comparing that is refused is refused at the first such record
 abbrev pub ComparingEndsAtTheFirst : Type 0
 ComparingEndsAtTheFirst =
-    (file wanted : List ℕ) (all : List Reading) (refusal : Refusal)
+    (file wanted : List ℕ) (all : List RecordReading) (refusal : Refusal)
     → (compared_with file wanted all).refused ≡ Some refusal
     → IsRefusedAt file wanted refusal all (compared_with file wanted all).read

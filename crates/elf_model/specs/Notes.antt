@@ -129,10 +129,10 @@ note_shown cap note = capped cap (before_nul note.name)
 
 -- what stands at the start of the bytes that are left of a table: its end, nothing that is a note, or a note
 -- and its size with its padding
-pub data Next : Type 0 where
-  Ends : Next
-  Broken : Next
-  OneNote : Note → ℕ → Next
+pub data NextNote : Type 0 where
+  Ends : NextNote
+  Broken : NextNote
+  OneNote : Note → ℕ → NextNote
 
 -- the note whose head stands at the start of some bytes
 abbrev pub first_note : ℕ → List ℕ → Note
@@ -149,7 +149,7 @@ first_end a rest = descriptor_start a (n_namesz rest 0) (n_descsz rest 0) + n_de
 
 -- fewer than 12 bytes are the table's end where all are zero; a note ends within the bytes, but its padding may
 -- be missing
-unfoldable pub next_note : ℕ → List ℕ → Next
+unfoldable pub next_note : ℕ → List ℕ → NextNote
 next_note a rest =
     if nat_lt (length rest) 12 then (if are_zeros rest then Ends else Broken)
     else if nat_lt (length rest) (first_end a rest) then Broken

@@ -12,14 +12,14 @@ use Rattle.elf_model.specs.declared.relocation_types.Base.TheVariants.{Symbol, L
 
 -- how a symbol's name is looked for among names of a layout: each of these is compared with it in the file, or as much of it
 -- is read as the longest of them has, and searched for
-pub data Lookup : Type 0 where
-  Compared : Lookup
-  Searched : Lookup
+pub data NameSearch : Type 0 where
+  Compared : NameSearch
+  Searched : NameSearch
 
 -- sections by their index; by their name definitions, procedure linkage table entries, global offset table entries, and
 -- those of offsets from the thread pointer; each with its address, in the order in which they were given
 pub record Layout : Type 0 where
-  pub lookup : Lookup
+  pub lookup : NameSearch
   pub sections : List (ℕ × ℕ)
   pub definitions : List (List ℕ × ℕ)
   pub linkage : List (List ℕ × ℕ)
@@ -133,3 +133,7 @@ has_base layout Thread = not (length layout.thread == 0)
 -- P, the place of the bytes that are relocated: their offset from their section's address
 unfoldable pub place_value : List ℕ → Layout → ℕ → ℕ → Result ℕ Refusal
 place_value file layout section rela = placed_at rela (address_in layout.sections section) (r_offset file rela)
+
+-- a layout without an item
+abbrev pub no_items : Layout
+no_items = record { lookup = Compared; sections = []; definitions = []; linkage = []; table = []; thread = [] }

@@ -11,17 +11,17 @@ use Rattle.elf_model.specs.Checks.{first_refusal}
 use Rattle.elf_model.specs.Fields.{LineFront}
 use Rattle.elf_model.specs.LineFronts.{section_front, symbol_front, relocation_front, note_front, dynamic_front}
 use Rattle.elf_model.specs.Lines.{named_line, note_line, segment_line}
-use Rattle.elf_model.specs.Listing.{Item, Line, Fault}
+use Rattle.elf_model.specs.Listing.{ListingItem, Line, Fault}
 use Rattle.elf_model.specs.declared.causes.Cause.{Cause}
 use Rattle.elf_model.specs.declared.causes.Cause.TheVariants.{NoteCut}
 use Rattle.elf_model.specs.declared.causes.Refusal.{Refusal}
 
 -- a row that is refused, at an offset
-abbrev pub refused_row : ℕ → Cause → List Item
+abbrev pub refused_row : ℕ → Cause → List ListingItem
 refused_row at cause = Fault (record { at = at; cause = cause }) ∷ []
 
 -- a row that ends in a name: its line, or the name's fault, at the entry that holds the name's index
-abbrev pub named_row : LineFront → ℕ → Result Shown Cause → List Item
+abbrev pub named_row : LineFront → ℕ → Result Shown Cause → List ListingItem
 named_row front at (Ok name) = Line (named_line front name) ∷ []
 named_row front at (Err cause) = refused_row at cause
 
@@ -36,17 +36,17 @@ section_name file at cap =
     else shown (section_bytes file (section_at file (e_shstrndx file))) (sh_name file at) cap
 
 -- the row of a section
-unfoldable pub section_row : List ℕ → Style → ℕ → List Item
+unfoldable pub section_row : List ℕ → Style → ℕ → List ListingItem
 section_row file style index =
     let at = section_at file index in
     named_row (section_front style.format style.gnu (e_machine file) file at index) at (section_name file at style.cap)
 
 -- the row of a program header
-unfoldable pub segment_row : List ℕ → Style → ℕ → List Item
+unfoldable pub segment_row : List ℕ → Style → ℕ → List ListingItem
 segment_row file style index = Line (segment_line style.format style.gnu file (segment_at file index) index) ∷ []
 
 -- the row of a symbol of the symbol table that a section header describes
-unfoldable pub symbol_row : List ℕ → Style → ℕ → ℕ → ℕ → List Item
+unfoldable pub symbol_row : List ℕ → Style → ℕ → ℕ → ℕ → List ListingItem
 symbol_row file style section at index =
     let symbol_at = entry_at file at SYMBOL_SIZE index in
     let front = symbol_front style.format style.gnu (e_machine file) file symbol_at section index in
@@ -66,30 +66,30 @@ symbol_named file cap header_at rela_at symbol =
     ]
 
 -- the row of a relocation entry with the name of its symbol
-unfoldable pub relocation_row : List ℕ → Style → ℕ → ℕ → ℕ → List Item
+unfoldable pub relocation_row : List ℕ → Style → ℕ → ℕ → ℕ → List ListingItem
 relocation_row file style section at index =
     let rela_at = entry_at file at RELA_SIZE index in
     let symbol = symbol_named file style.cap at rela_at (r_sym file rela_at) in
     named_row (relocation_front style.format style.gnu (e_machine file) file rela_at section) symbol.0 symbol.1
 
 -- the row of a note
-unfoldable pub note_row : Style → ℕ → Note → Item
+unfoldable pub note_row : Style → ℕ → Note → ListingItem
 note_row style index note =
     let front = note_front style.format index note.kind (length note.name) (length note.descriptor) in
     Line (note_line front (note_shown style.cap note) note.descriptor)
 
 -- the rows of notes
-unfoldable pub notes_rows : Style → ℕ → List Note → List Item
+unfoldable pub notes_rows : Style → ℕ → List Note → List ListingItem
 notes_rows style index [] = []
 notes_rows style index (note ∷ notes) = note_row style index note ∷ notes_rows style index notes
 
 -- the end of a table of notes at an offset: a fault at the place where it is cut
-abbrev pub cut_rows : ℕ → Option ℕ → List Item
+abbrev pub cut_rows : ℕ → Option ℕ → List ListingItem
 cut_rows table_at None = []
 cut_rows table_at (Some place) = refused_row (table_at + place) NoteCut
 
 -- the rows of a table of notes at an offset, up to the place where it is cut, if it is
-unfoldable pub walk_rows : Style → ℕ → ℕ → Walk → List Item
+unfoldable pub walk_rows : Style → ℕ → ℕ → Walk → List ListingItem
 walk_rows style index table_at walk = notes_rows style index walk.notes ++ cut_rows table_at walk.cut
 
 -- the value of an entry with this tag is a string table index (gABI 5, Dynamic Section)
@@ -98,7 +98,7 @@ is_string_tag tag = tag == DT_NEEDED || tag == DT_SONAME || tag == DT_RPATH || t
 
 -- the row of the dynamic entry of an index at an offset, with its string where its value is a string table index: only
 -- there the string table is looked for, which may be refused
-unfoldable pub dynamic_row : List ℕ → Style → (ℕ → Result (List ℕ) Refusal) → ℕ → ℕ → List Item
+unfoldable pub dynamic_row : List ℕ → Style → (ℕ → Result (List ℕ) Refusal) → ℕ → ℕ → List ListingItem
 dynamic_row file style strings dynamic_at index =
     let front = dynamic_front style.format style.gnu file dynamic_at index in
     elim (is_string_tag (d_tag file dynamic_at)) [

@@ -5,7 +5,7 @@ use Rattle.elf_model.specs.Bytes.{slice}
 use Rattle.elf_model.specs.Checks.{range_checks_of, is_symbol_table}
 use Rattle.elf_model.specs.Dynamic.{dynamic_count, dynamic_at}
 use Rattle.elf_model.specs.HeaderTables.{HeaderTable, TableKind, each_entry, file_sections, file_segments}
-use Rattle.elf_model.specs.Listing.{Item, each, SYMBOLS, RELOCS, NOTES, DYNAMIC}
+use Rattle.elf_model.specs.Listing.{ListingItem, each, SYMBOLS, RELOCS, NOTES, DYNAMIC}
 use Rattle.elf_model.specs.Mapped.{mapped_strings}
 use Rattle.elf_model.specs.Names.{name_bytes}
 use Rattle.elf_model.specs.Style.{Style}
@@ -39,7 +39,7 @@ relocations = record {
 
 -- the rows of dynamic entries (gABI 5, Dynamic Section), so many from an offset on, up to and with the first that is
 -- DT_NULL: where the strings of so many are told for the entry at an offset
-abbrev pub dynamic_rows : List ℕ → Style → (offset entries : ℕ) → (ℕ → ℕ → Result (List ℕ) Refusal) → List Item
+abbrev pub dynamic_rows : List ℕ → Style → (offset entries : ℕ) → (ℕ → ℕ → Result (List ℕ) Refusal) → List ListingItem
 dynamic_rows file style offset entries strings =
     let count = dynamic_count file offset entries in
     each (λ i. dynamic_row file style (strings count) (dynamic_at offset i) i) 0 count

@@ -44,11 +44,11 @@ abbrev pub is_signed : ℕ → ℕ → Bool
 is_signed bits value = nat_lt value (2 ^ (bits - 1)) || not (nat_lt value (2 ^ 64 - 2 ^ (bits - 1)))
 
 -- a value modulo 2^64 is in the range, for so many bytes
-unfoldable pub fits : Range → ℕ → ℕ → Bool
-fits Any width value = true
-fits Unsigned width value = is_unsigned (8 * width) value
-fits Signed width value = is_signed (8 * width) value
-fits Either width value = is_unsigned (8 * width) value || is_signed (8 * width) value
+unfoldable pub fits_in_range : Range → ℕ → ℕ → Bool
+fits_in_range Any width value = true
+fits_in_range Unsigned width value = is_unsigned (8 * width) value
+fits_in_range Signed width value = is_signed (8 * width) value
+fits_in_range Either width value = is_unsigned (8 * width) value || is_signed (8 * width) value
 
 -- a relocation type by its width, base, formula and range
 abbrev pub kind : ℕ → Base → Formula → Range → RelocationType
@@ -87,7 +87,7 @@ value_of type terms = modulo_2_64 (whole type.formula terms)
 
 -- the value is outside the type's range
 abbrev pub overflows : RelocationType → Terms → Bool
-overflows type terms = not (fits type.range type.width (value_of type terms))
+overflows type terms = not (fits_in_range type.range type.width (value_of type terms))
 
 -- the bytes of the value: its low ones
 abbrev pub low_bytes : RelocationType → Terms → List ℕ

@@ -5,7 +5,7 @@ use Rattle.std.specs.List.{All}
 use Rattle.std.specs.Result.{is_ok}
 use Rattle.elf_model.specs.Checks.{first_refusal, pass}
 use Rattle.elf_model.specs.HeaderTables.{file_sections}
-use Rattle.elf_model.specs.Listing.{Item, VERSIONS, fault_of}
+use Rattle.elf_model.specs.Listing.{ListingItem, VERSIONS, fault_of}
 use Rattle.elf_model.specs.Names.{shown}
 use Rattle.elf_model.specs.Records.{section_at, sh_size}
 use Rattle.elf_model.specs.Report.{kinds_rows}
@@ -13,7 +13,7 @@ use Rattle.elf_model.specs.Style.{Style}
 use Rattle.elf_model.specs.Tables.{all_checks, entry_count}
 use Rattle.elf_model.specs.VersionCost.{has_symbol_table}
 use Rattle.elf_model.specs.VersionRows.{symbol_version_rows, symbol_versions, version_definitions, version_named, version_needs, version_strings, versioned_symbols}
-use Rattle.elf_model.specs.Versions.{VERSYM_SIZE, Met, Stand, most_records, record_size, record_checks, behind, met_at, met_from, name_index, no_versions, with_met, versions_in, names_number, named_by, VERSION_NUMBERS, number_in, number_word}
+use Rattle.elf_model.specs.Versions.{VERSYM_SIZE, Met, Stand, most_records, record_size, record_checks, next_stand, met_at, met_from, name_index, no_versions, with_met, versions_in, names_number, named_by, VERSION_NUMBERS, number_in, number_word}
 use Rattle.elf_model.specs.declared.causes.Refusal.{Refusal}
 use Rattle.elf_model.specs.declared.versions.VersionKind.{VersionKind}
 
@@ -46,7 +46,7 @@ RecordIsMet =
     (file : List ℕ) (table size : ℕ) (stand : Stand) (most : ℕ)
     → first_refusal (record_checks file table size stand) ≡ None
     → met_from file table size (Some stand) (suc most)
-    ≡ with_met (met_at table stand) (met_from file table size (behind file table stand) most)
+    ≡ with_met (met_at table stand) (met_from file table size (next_stand file table stand) most)
 
 -- at a record of which a check fails it is cut
 abbrev pub RecordIsRefused : Type 0
@@ -90,7 +90,7 @@ RowsAreSymbols =
     else versioned_symbols file at)
 
 -- the rows of all definitions and needs of a file
-abbrev pub records_rows : List ℕ → Style → List Item
+abbrev pub records_rows : List ℕ → Style → List ListingItem
 records_rows file style =
     kinds_rows (version_definitions ∷ version_needs ∷ []) (file_sections file) file style VERSIONS
 

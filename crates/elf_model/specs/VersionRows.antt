@@ -4,7 +4,7 @@ use Rattle.elf_model.specs.Checks.{Check, refuse, range_checks_of, strings_check
 use Rattle.elf_model.specs.Fields.{Fields, LineFront, front}
 use Rattle.elf_model.specs.Fields.Field.{Decimal, Hexadecimal, Word}
 use Rattle.elf_model.specs.HeaderTables.{TableKind, each_entry, file_sections, first_typed}
-use Rattle.elf_model.specs.Listing.{Item, Fault, VERSIONS, each}
+use Rattle.elf_model.specs.Listing.{ListingItem, Fault, VERSIONS, each}
 use Rattle.elf_model.specs.Names.{shown, name_bytes}
 use Rattle.elf_model.specs.Numbers.{SHT_GNU_VERDEF, SHT_GNU_VERNEED, SHT_GNU_VERSYM}
 use Rattle.elf_model.specs.Records.{sh_type, sh_offset, sh_size, sh_link, section_at, versym}
@@ -43,19 +43,19 @@ version_front format kind section number flags hash =
     front format (codes "name") (version_fields kind section number flags hash)
 
 -- the row of a met record, with its name in a string table
-unfoldable pub version_row : List ℕ → Style → (section : ℕ) → (strings : List ℕ) → Met → List Item
+unfoldable pub version_row : List ℕ → Style → (section : ℕ) → (strings : List ℕ) → Met → List ListingItem
 version_row file style section strings met =
     named_row (version_front style.format met.kind section (number_word file met) (flags_word file met) (hash_word file met))
     (named_at file met) (shown strings (name_index file met) style.cap)
 
 -- the rows of met records
-unfoldable pub met_rows : List ℕ → Style → (section : ℕ) → (strings : List ℕ) → List Met → List Item
+unfoldable pub met_rows : List ℕ → Style → (section : ℕ) → (strings : List ℕ) → List Met → List ListingItem
 met_rows file style section strings [] = []
 met_rows file style section strings (met ∷ others) =
     version_row file style section strings met ++ met_rows file style section strings others
 
 -- the end of a walk: the refusal of what is no record, if there is one
-abbrev pub end_rows : Option Refusal → List Item
+abbrev pub end_rows : Option Refusal → List ListingItem
 end_rows None = []
 end_rows (Some refusal) = Fault refusal ∷ []
 
@@ -64,7 +64,7 @@ abbrev pub section_versions : VersionKind → List ℕ → ℕ → Versions
 section_versions kind file at = versions_in kind file at (sh_offset file at) (sh_size file at)
 
 -- their rows, with the names in the string table that the section links to
-unfoldable pub versions_rows : VersionKind → List ℕ → Style → ℕ → ℕ → List Item
+unfoldable pub versions_rows : VersionKind → List ℕ → Style → ℕ → ℕ → List ListingItem
 versions_rows kind file style section at =
     let versions = section_versions kind file at in
     met_rows file style section (strings_of file at) versions.met ++ end_rows versions.cut
@@ -116,7 +116,7 @@ symbol_version_front format section index word = front format (codes "name") (sy
 
 -- the row of a version of a number, which an entry at an offset holds: a number that a record names has its name, 0 and 1 have
 -- none, and any other is refused at the entry
-unfoldable pub numbered_row : List ℕ → Style → (front : LineFront) → (entry_at number : ℕ) → List Item
+unfoldable pub numbered_row : List ℕ → Style → (front : LineFront) → (entry_at number : ℕ) → List ListingItem
 numbered_row file style front entry_at number =
     if nat_lt number 2 then named_row front entry_at no_name
     else elim (version_named file number) [
@@ -125,7 +125,7 @@ numbered_row file style front entry_at number =
     ]
 
 -- the row of a symbol's version in the section whose header stands at an offset
-unfoldable pub symbol_version_row : List ℕ → Style → (section at : ℕ) → ℕ → List Item
+unfoldable pub symbol_version_row : List ℕ → Style → (section at : ℕ) → ℕ → List ListingItem
 symbol_version_row file style section at index =
     let entry_at = entry_at file at VERSYM_SIZE index in
     let word = versym file entry_at in
@@ -140,7 +140,7 @@ abbrev pub versioned_count : List ℕ → ℕ → ℕ
 versioned_count file at = min (entry_count file at VERSYM_SIZE) (versioned_symbols file at)
 
 -- the rows of symbols' versions, and where a symbol has no entry any more its refusal; a section of no bytes has none
-unfoldable pub symbol_version_rows : List ℕ → Style → ℕ → ℕ → List Item
+unfoldable pub symbol_version_rows : List ℕ → Style → ℕ → ℕ → List ListingItem
 symbol_version_rows file style section at =
     if sh_size file at == 0 then []
     else

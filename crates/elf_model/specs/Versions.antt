@@ -125,8 +125,8 @@ along_needs table place distance owner files =
 
 -- where a record leads: a definition to the next; a needed file to its first version; a version to the next of its file, and
 -- the last of them to the next file
-unfoldable pub behind : List ℕ → ℕ → Stand → Option Stand
-behind file table stand =
+unfoldable pub next_stand : List ℕ → ℕ → Stand → Option Stand
+next_stand file table stand =
     let met = met_at table stand in
     elim stand.kind [
       | Definition ↦ along table Definition stand.place (next_word file met) 0
@@ -155,7 +155,7 @@ met_from file table size (Some stand) zero = no_versions (Some (record { at = st
 met_from file table size (Some stand) (suc most) =
     elim (first_refusal (record_checks file table size stand)) [
       | Some refusal ↦ no_versions (Some refusal)
-      | None ↦ with_met (met_at table stand) (met_from file table size (behind file table stand) most)
+      | None ↦ with_met (met_at table stand) (met_from file table size (next_stand file table stand) most)
     ]
 
 -- where the walk over a table begins: at its first byte, to which what tells of the table led, at an offset of the file;

@@ -29,7 +29,7 @@ mod versions;
 
 pub use causes::{Cause, Refusal};
 pub use formats::Format;
-pub use missing::{Missing, Wanted};
+pub use missing::{LayoutAddress, Missing};
 pub use relocation_types::{Base, Formula, Range, RelocationType};
 pub use states::FileState;
 pub use versions::VersionKind;

@@ -3,7 +3,7 @@ use crate::relocation_types::Base;
 
 /// An address that a layout may have.
 #[derive(Clone, Copy)]
-pub enum Wanted {
+pub enum LayoutAddress {
     /// That of the section of an index.
     Place(u16),
     /// That which a base tells of a symbol's name.
@@ -20,5 +20,5 @@ pub struct Missing {
     /// Where the name of its symbol begins in the string table; 0 of symbol 0.
     pub name: u32,
     /// The address that the layout has not.
-    pub wanted: Wanted,
+    pub wanted: LayoutAddress,
 }

@@ -4,10 +4,10 @@ use Rattle.elf_model.specs.Bytes.{slice}
 use Rattle.elf_model.proofs.Slices.{slice-slice}
 use Rattle.elf_source.specs.Source.{Counting, Reads}
 use Rattle.elf_headers.specs.declared.fault.Fault.{Fault}
-use Rattle.elf_names.specs.Ahead.{Held, HeldAhead, IsOf, AgreesWith, ReadsAhead, reach}
+use Rattle.elf_names.specs.Ahead.{HeldStretch, HeldAhead, IsOf, AgreesWith, ReadsAhead, reach}
 
 -- a part of what is held is the file's
-pub part-of_file : (file part : List ℕ) (h : Held) (at count : ℕ) → IsOf file h → h.at ≤ at → at + count ≤ reach h → part ≡ slice h.bytes (at - h.at) count
+pub part-of_file : (file part : List ℕ) (h : HeldStretch) (at count : ℕ) → IsOf file h → h.at ≤ at → at + count ≤ reach h → part ≡ slice h.bytes (at - h.at) count
     → part ≡ slice file at count
 part-of_file file part h at count agrees begins ends is =
     is ∙ ap (λ (x : List ℕ). slice x (at - h.at) count) agrees
@@ -15,7 +15,7 @@ part-of_file file part h at count agrees begins ends is =
     ∙ ap (λ (x : ℕ). slice file x count) (omega arith)
 
 -- the part from an offset on, as far as it is held
-pub piece-of_file : (file part : List ℕ) (h : Held) (at place most : ℕ) → IsOf file h → place ≡ at → h.at ≤ place → place ≤ reach h
+pub piece-of_file : (file part : List ℕ) (h : HeldStretch) (at place most : ℕ) → IsOf file h → place ≡ at → h.at ≤ place → place ≤ reach h
     → length part ≡ min most (reach h - place) → part ≡ slice h.bytes (place - h.at) (min most (reach h - place)) → part ≡ slice file at (length part)
 piece-of_file file part h at place most agrees same begins ends size is =
     part-of_file file part h place (length part) agrees begins (omega arith) (is ∙ ap (slice h.bytes (place - h.at)) (sym size))

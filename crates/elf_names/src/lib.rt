@@ -7,6 +7,6 @@ mod name_index;
 mod read_ahead;
 mod stretch;
 
-pub use buffers::BUFFER_BYTES;
+pub use buffers::NAMES_BUFFER_BYTES;
 pub use name_index::NameIndex;
 pub use read_ahead::ReadAhead;

@@ -12,11 +12,11 @@ ghost use Rattle.elf_names.specs.Ahead.{LosesAt, ReadsAhead, WhereAgrees};
 
 use crate::name_index::NameIndex;
 use crate::stretch::Stretch;
-use elf_headers::refused;
+use elf_headers::{Cap, Fault, refused};
 use elf_record::sizes::SYMBOL_BYTES;
 use elf_record::{Cause, Sym};
 use elf_source::{Counted, Source};
-use elf_table::{Cap, Fault, NameBuf, NameEnd, Table, find_nul};
+use elf_table::{NameBuf, NameEnd, Table, find_nul};
 use std::marker::Model;
 
 /// How many bytes of names are held at most.

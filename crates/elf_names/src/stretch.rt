@@ -3,8 +3,8 @@ ghost use Rattle.std.specs.Prelude.{◌≡◌, ℕ, ◌+◌, ◌-◌, ◌^◌, �
 ghost use Rattle.elf_model.specs.Bytes.{slice};
 ghost use Rattle.elf_names.specs.Ahead.{BringsHeld, LosesAt, OnCredit, StaysOf, reach};
 
+use elf_headers::{Fault, fill};
 use elf_source::{Counted, Source};
-use elf_table::{Fault, fill};
 use std::marker::Model;
 
 /// How many bytes behind a stretch a wanted byte still counts as the next.
@@ -26,9 +26,9 @@ pub(crate) struct Stretch<const N: usize> {
 
 impl<const N: usize> Model for Stretch<N> {
     ghost use Rattle.std.specs.Prelude.{◌+◌, ◌^◌, ◌<◌, ◌≤◌, take};
-    ghost use Rattle.elf_names.specs.Ahead.{Held};
+    ghost use Rattle.elf_names.specs.Ahead.{HeldStretch};
 
-    ghost Value = { Held };
+    ghost Value = { HeldStretch };
 
     ghost view = { λ s. record { at = s.at; bytes = take s.held s.bytes } };
 

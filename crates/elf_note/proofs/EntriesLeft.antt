@@ -9,7 +9,7 @@ use Rattle.elf_model.proofs.DynamicLaws.{count-zero, count-null, count-more, val
 use Rattle.elf_model.proofs.Slices.{field-slice}
 use Rattle.elf_table.specs.Cursors.{Reading, GivesRow, Advances, next_row}
 use Rattle.elf_table.specs.Tables.{Rows}
-use Rattle.elf_note.specs.DynCursors.{Entries, AdvancesEntries, GivesEntry, EndsEntries, entries_left, first_value, value_here}
+use Rattle.elf_note.specs.DynCursors.{EntryReading, AdvancesEntries, GivesEntry, EndsEntries, entries_left, first_value, value_here}
 
 is-same : (x y : ℕ) → (x == y) ≡ true → x ≡ y
 is-same x y t = grind (arith, nat_tests)
@@ -18,15 +18,15 @@ is-other : (x y : ℕ) → (x == y) ≡ false → x ≢ y
 is-other x y t = grind (arith, nat_tests)
 
 -- behind the last entry none is left
-pub left-ended : (file : List ℕ) (d : Entries) → d.ended ≡ true → entries_left file d ≡ 0
+pub left-ended : (file : List ℕ) (d : EntryReading) → d.ended ≡ true → entries_left file d ≡ 0
 left-ended file d e = rw e refl
 
 -- else those are left that the table has
-left-more : (file : List ℕ) (d : Entries) → d.ended ≡ false → entries_left file d ≡ dynamic_count file (next_row d.cursor) d.cursor.left
+left-more : (file : List ℕ) (d : EntryReading) → d.ended ≡ false → entries_left file d ≡ dynamic_count file (next_row d.cursor) d.cursor.left
 left-more file d e = rw e refl
 
 -- behind the last row none is left
-left-none : (file : List ℕ) (d : Entries) → d.ended ≡ false → d.cursor.left ≡ 0 → entries_left file d ≡ 0
+left-none : (file : List ℕ) (d : EntryReading) → d.ended ≡ false → d.cursor.left ≡ 0 → entries_left file d ≡ 0
 left-none file d e z = left-more file d e ∙ ap (dynamic_count file (next_row d.cursor)) z ∙ count-zero file (next_row d.cursor)
 
 -- the next entry stands behind the one that a step gives
@@ -37,7 +37,7 @@ next-place file old new g e =
     ap (λ (t : Rows). t.at + new.index * t.entry) g.same_table ∙ ap (λ (x : ℕ). old.table.at + new.index * x) e ∙ moved
     ∙ ap (λ (x : ℕ). old.table.at + old.index * x + 16) (sym e)
 
-one-less : (file : List ℕ) (old new : Entries) → old.ended ≡ false → new.ended ≡ (d_tag file (next_row old.cursor) == DT_NULL)
+one-less : (file : List ℕ) (old new : EntryReading) → old.ended ≡ false → new.ended ≡ (d_tag file (next_row old.cursor) == DT_NULL)
     → new.cursor.left + 1 ≡ old.cursor.left → next_row new.cursor ≡ next_row old.cursor + 16 → entries_left file old ≡ suc (entries_left file new)
 one-less file old new e n l p =
     let more : old.cursor.left ≡ suc new.cursor.left = omega arith in
@@ -51,7 +51,7 @@ one-less file old new e n l p =
         ∙ ap suc (ap (λ (x : ℕ). dynamic_count file x new.cursor.left) (sym p) ∙ sym (left-more file new (n ∙ t)))
 
 -- a step over a row gives its entry
-pub gives-entry : (file : Option (List ℕ)) (old new : Entries) (b : Bool) → b ≡ true → Advances file old.cursor new.cursor (Ok b) → old.cursor.table.entry ≡ 16
+pub gives-entry : (file : Option (List ℕ)) (old new : EntryReading) (b : Bool) → b ≡ true → Advances file old.cursor new.cursor (Ok b) → old.cursor.table.entry ≡ 16
     → old.ended ≡ false → new.ended ≡ (d_tag new.cursor.row 0 == DT_NULL) → GivesEntry file old new
 gives-entry file old new false t s size e n = cc
 gives-entry file old new true t s size e n = record {
@@ -67,7 +67,7 @@ gives-entry file old new true t s size e n = record {
 }
 
 -- a step past the last row
-pub ends-entries : (file : Option (List ℕ)) (old : Entries) (later : Reading) (b : Bool) → b ≡ false → Advances file old.cursor later (Ok b) → old.ended ≡ false
+pub ends-entries : (file : Option (List ℕ)) (old : EntryReading) (later : Reading) (b : Bool) → b ≡ false → Advances file old.cursor later (Ok b) → old.ended ≡ false
     → EndsEntries old (record { cursor = later; ended = old.ended })
 ends-entries file old later true t s e = cc
 ends-entries file old later false t s e = record {
@@ -92,7 +92,7 @@ value-suc file at n tag = go (d_tag file at == tag) refl
     go false t = ap (λ (x : Option ℕ). first_value x (dynamic_value file (at + 16) n tag)) (here-none file at tag t) ∙ sym (value-more file at n tag (is-other (d_tag file at) tag t))
 
 -- a value that is looked for in the entry that a step gives, and then in those that are left
-pub value-step : (file : List ℕ) (old new : Entries) (tag : ℕ) (found : Option ℕ) → entries_left file old ≡ suc (entries_left file new)
+pub value-step : (file : List ℕ) (old new : EntryReading) (tag : ℕ) (found : Option ℕ) → entries_left file old ≡ suc (entries_left file new)
     → next_row new.cursor ≡ next_row old.cursor + 16
     → first_value (first_value found (value_here file (next_row old.cursor) tag)) (dynamic_value file (next_row new.cursor) (entries_left file new) tag)
     ≡ first_value found (dynamic_value file (next_row old.cursor) (entries_left file old) tag)
@@ -103,17 +103,17 @@ value-step file old new tag None less next =
     ∙ ap (λ (n : ℕ). dynamic_value file (next_row old.cursor) n tag) (sym less)
 
 -- where no entry is left, a value is what was found
-pub value-end : (file : List ℕ) (d : Entries) (tag : ℕ) (found : Option ℕ) → entries_left file d ≡ 0
+pub value-end : (file : List ℕ) (d : EntryReading) (tag : ℕ) (found : Option ℕ) → entries_left file d ≡ 0
     → first_value found (dynamic_value file (next_row d.cursor) (entries_left file d) tag) ≡ found
 value-end file d tag (Some value) z = refl
 value-end file d tag None z = ap (λ (n : ℕ). dynamic_value file (next_row d.cursor) n tag) z ∙ value-none file (next_row d.cursor) tag
 
 -- a step that answered an entry gave it
-pub given : (file : Option (List ℕ)) (old new : Entries) (b : Bool) → b ≡ true → AdvancesEntries file old new (Ok b) → GivesEntry file old new
+pub given : (file : Option (List ℕ)) (old new : EntryReading) (b : Bool) → b ≡ true → AdvancesEntries file old new (Ok b) → GivesEntry file old new
 given file old new true t s = s
 given file old new false t s = cc
 
 -- a step that answered none ended
-pub ended : (file : Option (List ℕ)) (old new : Entries) (b : Bool) → b ≡ false → AdvancesEntries file old new (Ok b) → EndsEntries old new
+pub ended : (file : Option (List ℕ)) (old new : EntryReading) (b : Bool) → b ≡ false → AdvancesEntries file old new (Ok b) → EndsEntries old new
 ended file old new false t s = s
 ended file old new true t s = cc

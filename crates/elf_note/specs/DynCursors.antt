@@ -12,16 +12,16 @@ use Rattle.elf_table.specs.declared.row.Row.{Row}
 use Rattle.elf_note.specs.declared.string_values.DynStrings.{DynStrings}
 
 -- a cursor over the rows of a table, and whether it has given the entry that ends them
-pub record Entries : Type 0 where
+pub record EntryReading : Type 0 where
   pub cursor : Reading
   pub ended : Bool
 
 -- how many entries of a file a cursor still gives: those up to and with the first DT_NULL, or all
-abbrev pub entries_left : List ℕ → Entries → ℕ
+abbrev pub entries_left : List ℕ → EntryReading → ℕ
 entries_left file d = if d.ended then 0 else dynamic_count file (next_row d.cursor) d.cursor.left
 
 -- a cursor before the first entry of a table
-pub record StartsEntries (table : Rows) (d : Entries) : Type 0 where
+pub record StartsEntries (table : Rows) (d : EntryReading) : Type 0 where
   pub its_table : d.cursor.table ≡ table
   pub index : d.cursor.index ≡ 0
   pub left : d.cursor.left ≡ table.count
@@ -32,38 +32,38 @@ pub record StartsEntries (table : Rows) (d : Entries) : Type 0 where
   pub entries : (file : List ℕ) → entries_left file d ≡ dynamic_count file table.at table.count
 
 -- what every step keeps, fault or not: what was asked for, onward, is no longer unread; a cursor that had failed is as it was
-pub record KeepsEntries (one_read : Seen → ℕ → ℕ → Seen → Type 0) (before after : Counting) (old new : Entries) : Type 0 where
+pub record KeepsEntries (one_read : Seen → ℕ → ℕ → Seen → Type 0) (before after : Counting) (old new : EntryReading) : Type 0 where
   pub account : after.asked + unread_bytes new.cursor ≤ before.asked + unread_bytes old.cursor
   pub onward : ReadsOnward one_read before.source after.source (asked_to old.cursor) (asked_to new.cursor)
   pub unchanged : (fault : Fault) → old.cursor.failed ≡ Some fault → new ≡ old
 
 -- a step that gives the next entry; it is the last where its tag is DT_NULL
-pub record GivesEntry (file : Option (List ℕ)) (old new : Entries) : Type 0 where
+pub record GivesEntry (file : Option (List ℕ)) (old new : EntryReading) : Type 0 where
   pub gives : GivesRow file old.cursor new.cursor
   pub not_ended : old.ended ≡ false
   pub ends_with : new.ended ≡ (d_tag new.cursor.row 0 == DT_NULL)
   pub one_less : (bytes : List ℕ) → file ≡ Some bytes → HoldsRows bytes old.cursor → entries_left bytes old ≡ suc (entries_left bytes new)
 
 -- a step behind the last entry
-pub record EndsEntries (old new : Entries) : Type 0 where
+pub record EndsEntries (old new : EntryReading) : Type 0 where
   pub unchanged : new ≡ old
   pub not_failed : old.cursor.failed ≡ None
   pub behind : (old.ended ≡ true) ⊎ (old.cursor.left ≡ 0)
   pub none_left : (bytes : List ℕ) → entries_left bytes old ≡ 0
 
 -- a step that fails, as that of a cursor over rows does
-pub record FailsEntries (old new : Entries) (fault : Fault) : Type 0 where
+pub record FailsEntries (old new : EntryReading) (fault : Fault) : Type 0 where
   pub fails : FailsRows old.cursor new.cursor fault
   pub same_end : new.ended ≡ old.ended
 
 -- a step of a cursor, where it answers whether it gave an entry
-abbrev pub AdvancesEntries : Option (List ℕ) → Entries → Entries → Result Bool Fault → Type 0
+abbrev pub AdvancesEntries : Option (List ℕ) → EntryReading → EntryReading → Result Bool Fault → Type 0
 AdvancesEntries file old new (Ok true) = GivesEntry file old new
 AdvancesEntries file old new (Ok false) = EndsEntries old new
 AdvancesEntries file old new (Err fault) = FailsEntries old new fault
 
 -- a step of a cursor, where it answers the entry's row
-abbrev pub StepsEntries : Option (List ℕ) → Entries → Entries → Result (Option Row) Fault → Type 0
+abbrev pub StepsEntries : Option (List ℕ) → EntryReading → EntryReading → Result (Option Row) Fault → Type 0
 StepsEntries file old new (Ok (Some row)) = GivesEntry file old new × ShowsRow new.cursor row
 StepsEntries file old new (Ok None) = EndsEntries old new
 StepsEntries file old new (Err fault) = FailsEntries old new fault

@@ -15,7 +15,7 @@ use Rattle.elf_headers.specs.declared.fault.Fault.{Fault}
 use Rattle.elf_headers.specs.declared.fault.Fault.TheVariants.{Refused}
 use Rattle.elf_table.specs.declared.names.NameEnd.{NameEnd}
 use Rattle.elf_table.specs.declared.names.NameEnd.TheVariants.{Whole, Cut}
-use Rattle.elf_note.specs.declared.note.Found.{Found}
+use Rattle.elf_note.specs.declared.note.FoundNote.{FoundNote}
 use Rattle.elf_note.specs.declared.row.NoteRow.{NoteRow}
 
 -- a cursor: its table, the alignment of its notes, the bytes of the table that are left, the note that it shows with the
@@ -24,7 +24,7 @@ pub record NoteReading : Type 0 where
   pub table : Rows
   pub align : ℕ
   pub ahead : Ahead
-  pub found : Found
+  pub found : FoundNote
   pub descriptor : List ℕ
   pub failed : Option Fault
 
@@ -75,7 +75,7 @@ note_size a namesz descsz left =
     min (size + to_next a size) left
 
 -- a note at an offset as it is found, with its name as it is shown and the first bytes of its descriptor
-pub record IsFound (a cap at : ℕ) (note : Note) (found : Found) (name descriptor : List ℕ) : Type 0 where
+pub record IsNoteFound (a cap at : ℕ) (note : Note) (found : FoundNote) (name descriptor : List ℕ) : Type 0 where
   pub its_place : found.at ≡ at
   pub namesz : found.head.namesz ≡ length note.name
   pub descsz : found.head.descsz ≡ length note.descriptor
@@ -85,17 +85,17 @@ pub record IsFound (a cap at : ℕ) (note : Note) (found : Found) (name descript
   pub first_bytes : descriptor ≡ take SHOWN_DESCRIPTOR note.descriptor
 
 -- the notes that were left are a note, as it is found, and those that are left
-abbrev pub GivesNote : ℕ → ℕ → ℕ → List ℕ → List ℕ → Walk → Walk → Found → Type 0
-GivesNote a cap at name descriptor old new found = (note : Note) × (old ≡ with_note note new) × IsFound a cap at note found name descriptor
+abbrev pub GivesNote : ℕ → ℕ → ℕ → List ℕ → List ℕ → Walk → Walk → FoundNote → Type 0
+GivesNote a cap at name descriptor old new found = (note : Note) × (old ≡ with_note note new) × IsNoteFound a cap at note found name descriptor
 
 -- what a step over the next note says of the notes that were left and are left
-abbrev pub TellsNote : ℕ → ℕ → ℕ → List ℕ → List ℕ → Walk → Walk → Result (Option Found) Fault → Type 0
+abbrev pub TellsNote : ℕ → ℕ → ℕ → List ℕ → List ℕ → Walk → Walk → Result (Option FoundNote) Fault → Type 0
 TellsNote a cap at name bytes old new (Ok (Some found)) = GivesNote a cap at name (take found.shown bytes) old new found
 TellsNote a cap at name bytes old new (Ok None) = old ≡ no_notes
 TellsNote a cap at name bytes old new (Err fault) = fault ≡ note_cut at → old ≡ cut_at at
 
 -- a note takes at least its head, and at the end nothing is left
-abbrev pub PassesNote : ℕ → ℕ → Option Found → Type 0
+abbrev pub PassesNote : ℕ → ℕ → Option FoundNote → Type 0
 PassesNote before after (Some found) = (after + 12 ≤ before) × (found.at + 12 < 2 ^ 64) × (found.shown ≤ 32)
 PassesNote before after None = after ≡ 0
 

@@ -4,11 +4,12 @@ ghost use Rattle.elf_table.specs.Tables.{RowsWithin};
 ghost use Rattle.elf_note.specs.NoteCursors.{AdvancesNote, KeepsNotes, ShowsNote, StartsNotes};
 ghost use Rattle.elf_note.specs.Steps.{StepReads};
 
-use crate::note::{Found, SHOWN_DESCRIPTOR, next_note};
+use crate::note::{FoundNote, SHOWN_DESCRIPTOR, next_note};
 use crate::row::NoteRow;
+use elf_headers::{Cap, Fault};
 use elf_record::NoteHead;
 use elf_source::{Counted, Source};
-use elf_table::{Cap, Fault, NameBuf, NameEnd, Table, WINDOW_BYTES, Window};
+use elf_table::{NameBuf, NameEnd, Table, WINDOW_BYTES, Window};
 use std::marker::Model;
 
 /// A cursor over the notes of a table (gABI 5, Note Section). It reads at most 4,096 bytes at once,
@@ -19,7 +20,7 @@ pub struct NoteCursor {
     table: Table,
     align: u64,
     window: Window<WINDOW_BYTES>,
-    found: Found,
+    found: FoundNote,
     descriptor: [u8; SHOWN_DESCRIPTOR],
     failed: Option<Fault>,
 }
@@ -106,7 +107,7 @@ impl NoteCursor {
         ensures shows { ShowsNote self.now result }
         ensures few { length result.desc.now ≤ 32 }
     {
-        let Found {
+        let FoundNote {
             at,
             head,
             name_end,
@@ -159,11 +160,11 @@ impl NoteCursor {
 }
 
 // What a cursor shows before its first step.
-fn no_note() -> Found
+fn no_note() -> FoundNote
     ensures at { result.at ≡ 0 }
     ensures shown { result.shown ≡ 0 }
 {
-    Found {
+    FoundNote {
         at: 0,
         head: NoteHead {
             namesz: 0,

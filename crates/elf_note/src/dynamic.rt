@@ -9,10 +9,11 @@ ghost use Rattle.elf_table.specs.Tables.{RowsWithin};
 ghost use Rattle.elf_note.specs.DynCursors.{AdvancesEntries, KeepsEntries, StartsEntries};
 ghost use Rattle.elf_note.specs.Steps.{StepReads};
 
+use elf_headers::Fault;
 use elf_record::Dyn;
 use elf_record::numbers::DT_NULL;
 use elf_source::{Counted, Source};
-use elf_table::{Cursor, Fault, Row, Table};
+use elf_table::{Cursor, Row, Table};
 use std::marker::Model;
 
 /// A cursor over the dynamic entries of a table, of a section or of a segment (gABI 5, Dynamic
@@ -26,9 +27,9 @@ pub struct DynCursor {
 
 impl Model for DynCursor {
     ghost use Rattle.std.specs.Prelude.{◌≡◌, true, None};
-    ghost use Rattle.elf_note.specs.DynCursors.{Entries};
+    ghost use Rattle.elf_note.specs.DynCursors.{EntryReading};
 
-    ghost Value = { Entries };
+    ghost Value = { EntryReading };
 
     ghost view = { λ d. record { cursor = d.cursor; ended = d.ended } };
 

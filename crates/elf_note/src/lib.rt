@@ -12,7 +12,7 @@ mod string_values;
 mod tail;
 mod taking;
 
-pub use buffers::BUFFER_BYTES;
+pub use buffers::NOTES_BUFFER_BYTES;
 pub use cursor::NoteCursor;
 pub use dynamic::{DynCursor, dynamic_rows, entry_in};
 pub use row::NoteRow;

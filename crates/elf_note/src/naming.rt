@@ -7,8 +7,9 @@ ghost use Rattle.elf_table.specs.Windows.{HoldsBytes};
 ghost use Rattle.elf_note.specs.NoteCursors.{NameIs};
 ghost use Rattle.elf_note.specs.WindowCalls.{HasLeft, Through};
 
+use elf_headers::{Cap, Fault};
 use elf_source::{Counted, Source};
-use elf_table::{Cap, Fault, NameBuf, NameEnd, WINDOW_BYTES, Window, search_name};
+use elf_table::{NameBuf, NameEnd, WINDOW_BYTES, Window, search_name};
 
 /// Passes over the next `size` bytes, a note's name, and leaves in `name` what is shown of it with
 /// at most `cap` bytes: those before its first NUL, or all.

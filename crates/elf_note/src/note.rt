@@ -12,9 +12,10 @@ use crate::naming::read_name;
 use crate::sizes::{gap_between, padding};
 use crate::tail::ends_in_zeros;
 use crate::taking::take;
+use elf_headers::{Cap, Fault};
 use elf_record::{Cause, NoteHead, Refusal};
 use elf_source::{Counted, Source};
-use elf_table::{Cap, Fault, NameBuf, NameEnd, WINDOW_BYTES, Window};
+use elf_table::{NameBuf, NameEnd, WINDOW_BYTES, Window};
 
 /// The size of a note's head in bytes.
 pub(crate) const HEAD_BYTES: usize = 12;
@@ -23,7 +24,7 @@ pub(crate) const SHOWN_DESCRIPTOR: usize = 32;
 
 /// What is known of a note beside its name and its descriptor.
 #[derive(Clone, Copy)]
-pub(crate) struct Found {
+pub(crate) struct FoundNote {
     /// The file offset of its head.
     pub(crate) at: u64,
     /// Its head.
@@ -48,7 +49,7 @@ pub(crate) fn next_note<S: Source>(
     cap: Cap,
     name: &mut NameBuf,
     desc: &mut [u8; SHOWN_DESCRIPTOR],
-) -> Result<Option<Found>, Fault>
+) -> Result<Option<FoundNote>, Fault>
     requires aligned { 0 < align }
     requires small { align ≤ 8 }
     requires page { 32 ≤ window.old.page }
@@ -80,7 +81,7 @@ pub(crate) fn next_note<S: Source>(
     let shown = u64::from(head.descsz).min(SHOWN_DESCRIPTOR as u64);
     let first = &mut desc[..shown as usize];
     read_rest(window, src, align, desc_at - at, head.descsz, first)?;
-    Ok(Some(Found {
+    Ok(Some(FoundNote {
         at,
         head,
         name_end,

@@ -9,10 +9,11 @@ ghost use Rattle.elf_table.specs.Tables.{RowsWithin, size_of};
 ghost use Rattle.elf_note.specs.DynCursors.{AreStrings, first_value, value_here};
 
 use crate::dynamic::{dynamic_rows, entry_in};
+use elf_headers::Fault;
 use elf_record::Dyn;
 use elf_record::numbers::{DT_STRSZ, DT_STRTAB};
 use elf_source::{Counted, Source};
-use elf_table::{Fault, Table};
+use elf_table::Table;
 
 /// Where the string table of dynamic entries is in memory, as they say (gABI 5, Dynamic Section).
 #[derive(Clone, Copy)]

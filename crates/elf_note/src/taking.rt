@@ -5,8 +5,9 @@ ghost use Rattle.elf_headers.specs.Faults.{IsOfRead};
 ghost use Rattle.elf_table.specs.Windows.{HoldsBytes};
 ghost use Rattle.elf_note.specs.WindowCalls.{HasLeft, Through};
 
+use elf_headers::Fault;
 use elf_source::{Counted, Source};
-use elf_table::{Fault, WINDOW_BYTES, Window};
+use elf_table::{WINDOW_BYTES, Window};
 
 /// Fills `out` with the next bytes of a window, and passes over them.
 ///

@@ -12,7 +12,7 @@ use std::io::{BufWriter, Write};
 pub const OUTPUT_BYTES: usize = 65_536;
 
 /// How many bytes of what is told on standard error are kept before they are written.
-pub const TOLD_BYTES: usize = 4_096;
+pub const ERROR_LINE_BYTES: usize = 4_096;
 
 /// How a run ended, before what is left of its output is written.
 #[derive(Clone, Copy)]

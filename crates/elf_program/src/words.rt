@@ -2,7 +2,7 @@
 ghost use Rattle.std.specs.Prelude.{◌≡◌, ◌⊎◌, IfErr, [], codes};
 
 use crate::endings::{BAD_WORDS, Ending, NOT_UTF8, OUT_OF_MEMORY};
-use crate::outputs::{TOLD_BYTES, write_rest};
+use crate::outputs::{ERROR_LINE_BYTES, write_rest};
 use elf_lines::show_told;
 use elf_listing_words::{WordsFault, matches_of};
 use elf_source::{Out, OutFault, Sink, WriteSink};
@@ -58,7 +58,7 @@ fn tell(
 ) -> Result<(), AllocError> {
     let text = format!(in alloc; "{told}")?;
     let marked = marked_text(alloc, words)?;
-    let Ok(errors) = BufWriter::with_capacity(alloc, TOLD_BYTES, errors) else {
+    let Ok(errors) = BufWriter::with_capacity(alloc, ERROR_LINE_BYTES, errors) else {
         return Err(AllocError);
     };
     let mut out = Out::new(WriteSink::new(errors));

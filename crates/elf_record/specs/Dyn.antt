@@ -3,7 +3,7 @@ use Rattle.std.specs.Prelude.{ℕ, ◌≡◌, ◌+◌, ◌^◌, ◌<◌, List, [
 use Rattle.std.specs.Int.{cast_unsigned, w64}
 use Rattle.elf_model.specs.Bytes.{field}
 use Rattle.elf_model.specs.Records.{twos_complement}
-use Rattle.elf_record.specs.Parts.{Part, Number}
+use Rattle.elf_record.specs.Parts.{RecordField, Number}
 use Rattle.elf_record.specs.declared.dyn_entry.Dyn.{Dyn}
 
 -- at an offset stands a dynamic entry with these fields, each at its place, and its tag also by its 64 bits (gABI 5, Dynamic
@@ -15,5 +15,5 @@ pub record IsDyn (file : List ℕ) (at : ℕ) (r : Dyn) : Type 0 where
   pub d_un : r.d_un ≡ field file (at + 8) 8
 
 -- a dynamic entry's parts, in their order; a signed number stands by its bits
-abbrev pub dyn_parts : Dyn → List Part
+abbrev pub dyn_parts : Dyn → List RecordField
 dyn_parts r = Number 8 (cast_unsigned w64 r.d_tag) ∷ Number 8 r.d_un ∷ []

@@ -3,7 +3,7 @@ use Rattle.std.specs.Prelude.{ℕ, ◌≡◌, ◌+◌, List, [], ◌∷◌, None
 use Rattle.elf_model.specs.Bytes.{field, slice}
 use Rattle.elf_model.specs.Checks.{first_refusal, ident_checks}
 use Rattle.elf_model.specs.declared.causes.Refusal.{Refusal}
-use Rattle.elf_record.specs.Parts.{Part, Number, Raw}
+use Rattle.elf_record.specs.Parts.{RecordField, Number, Raw}
 use Rattle.elf_record.specs.declared.ehdr.Ehdr.{Ehdr}
 
 -- at an offset stands a file header with these fields, each at its place (gABI 4, ELF Header)
@@ -30,7 +30,7 @@ pub record IsEhdr (file : List ℕ) (at : ℕ) (r : Ehdr) : Type 0 where
   pub e_shstrndx : r.e_shstrndx ≡ field file (at + 62) 2
 
 -- a file header's parts, in their order
-abbrev pub ehdr_parts : Ehdr → List Part
+abbrev pub ehdr_parts : Ehdr → List RecordField
 ehdr_parts r =
     Raw 4 r.ident_magic ∷ Number 1 r.ident_class ∷ Number 1 r.ident_data ∷ Number 1 r.ident_version
     ∷ Number 1 r.ident_osabi ∷ Number 1 r.ident_abi_version ∷ Raw 7 r.ident_padding

@@ -4,22 +4,22 @@ use Rattle.std.specs.Prelude.{ℕ, zero, suc, ◌≡◌, ◌+◌, ◌^◌, ◌<�
 use Rattle.elf_model.specs.Bytes.{field, slice, little}
 
 -- a number in a field of so many bytes, or bytes as they are
-pub data Part : Type 0 where
-  Number : (width value : ℕ) → Part
-  Raw : (width : ℕ) → (bytes : List ℕ) → Part
+pub data RecordField : Type 0 where
+  Number : (width value : ℕ) → RecordField
+  Raw : (width : ℕ) → (bytes : List ℕ) → RecordField
 
 -- how many bytes a part has
-abbrev pub width_of : Part → ℕ
+abbrev pub width_of : RecordField → ℕ
 width_of (Number width value) = width
 width_of (Raw width bytes) = width
 
 -- a part's bytes
-abbrev pub part_spelling : Part → List ℕ
+abbrev pub part_spelling : RecordField → List ℕ
 part_spelling (Number width value) = little width value
 part_spelling (Raw width bytes) = bytes
 
 -- a part has room in its bytes
-abbrev pub PartFits : Part → Type 0
+abbrev pub PartFits : RecordField → Type 0
 PartFits (Number width value) = value < 256 ^ width
 PartFits (Raw width bytes) = length bytes ≡ width
 
@@ -29,32 +29,32 @@ place at zero = at
 place at (suc k) = at + suc k
 
 -- a part stands in a file at an offset
-abbrev pub PartStands : List ℕ → ℕ → Part → Type 0
+abbrev pub PartStands : List ℕ → ℕ → RecordField → Type 0
 PartStands file at (Number width value) = value ≡ field file at width
 PartStands file at (Raw width bytes) = bytes ≡ slice file at width
 
 -- the same of parts one behind the other
-abbrev pub spelling : List Part → List ℕ
+abbrev pub spelling : List RecordField → List ℕ
 spelling [] = []
 spelling (part ∷ parts) = part_spelling part ++ spelling parts
 
 -- the same, as bytes are put behind those that stand already
-abbrev pub joined_onto : List ℕ → List Part → List ℕ
+abbrev pub joined_onto : List ℕ → List RecordField → List ℕ
 joined_onto front [] = front
 joined_onto front (part ∷ parts) = joined_onto (front ++ part_spelling part) parts
 
-abbrev pub joined : List Part → List ℕ
+abbrev pub joined : List RecordField → List ℕ
 joined parts = joined_onto [] parts
 
-abbrev pub total_width : List Part → ℕ
+abbrev pub total_width : List RecordField → ℕ
 total_width [] = 0
 total_width (part ∷ parts) = width_of part + total_width parts
 
-abbrev pub AllFit : List Part → Type 0
+abbrev pub AllFit : List RecordField → Type 0
 AllFit [] = Unit {0}
 AllFit (part ∷ parts) = PartFits part × AllFit parts
 
 -- parts stand one behind the other in a file, the first of them so far behind an offset
-abbrev pub AllStand : List ℕ → ℕ → ℕ → List Part → Type 0
+abbrev pub AllStand : List ℕ → ℕ → ℕ → List RecordField → Type 0
 AllStand file at k [] = Unit {0}
 AllStand file at k (part ∷ parts) = PartStands file (place at k) part × AllStand file at (k + width_of part) parts

@@ -1,7 +1,7 @@
 -- The program header as a record of fields.
 use Rattle.std.specs.Prelude.{ℕ, ◌≡◌, ◌+◌, List, [], ◌∷◌}
 use Rattle.elf_model.specs.Bytes.{field}
-use Rattle.elf_record.specs.Parts.{Part, Number}
+use Rattle.elf_record.specs.Parts.{RecordField, Number}
 use Rattle.elf_record.specs.declared.phdr.Phdr.{Phdr}
 
 -- at an offset stands a program header with these fields, each at its place (gABI 5, Program Header)
@@ -16,7 +16,7 @@ pub record IsPhdr (file : List ℕ) (at : ℕ) (r : Phdr) : Type 0 where
   pub p_align : r.p_align ≡ field file (at + 48) 8
 
 -- a program header's parts, in their order
-abbrev pub phdr_parts : Phdr → List Part
+abbrev pub phdr_parts : Phdr → List RecordField
 phdr_parts r =
     Number 4 r.p_type ∷ Number 4 r.p_flags ∷ Number 8 r.p_offset ∷ Number 8 r.p_vaddr ∷ Number 8 r.p_paddr
     ∷ Number 8 r.p_filesz ∷ Number 8 r.p_memsz ∷ Number 8 r.p_align ∷ []

@@ -3,7 +3,7 @@ use Rattle.std.specs.Prelude.{ℕ, ◌≡◌, ◌+◌, List, [], ◌∷◌}
 use Rattle.std.specs.Int.{cast_unsigned, w64}
 use Rattle.elf_model.specs.Bytes.{field}
 use Rattle.elf_model.specs.Records.{twos_complement}
-use Rattle.elf_record.specs.Parts.{Part, Number}
+use Rattle.elf_record.specs.Parts.{RecordField, Number}
 use Rattle.elf_record.specs.declared.rela.Rela.{Rela}
 
 -- at an offset stands a relocation entry with these fields, each at its place (gABI 4, Relocation)
@@ -13,5 +13,5 @@ pub record IsRela (file : List ℕ) (at : ℕ) (r : Rela) : Type 0 where
   pub r_addend : r.r_addend ≡ twos_complement (field file (at + 16) 8)
 
 -- a relocation entry's parts, in their order; a signed number stands by its bits
-abbrev pub rela_parts : Rela → List Part
+abbrev pub rela_parts : Rela → List RecordField
 rela_parts r = Number 8 r.r_offset ∷ Number 8 r.r_info ∷ Number 8 (cast_unsigned w64 r.r_addend) ∷ []

@@ -1,7 +1,7 @@
 -- The section header as a record of fields.
 use Rattle.std.specs.Prelude.{ℕ, ◌≡◌, ◌+◌, List, [], ◌∷◌}
 use Rattle.elf_model.specs.Bytes.{field}
-use Rattle.elf_record.specs.Parts.{Part, Number}
+use Rattle.elf_record.specs.Parts.{RecordField, Number}
 use Rattle.elf_record.specs.declared.shdr.Shdr.{Shdr}
 
 -- at an offset stands a section header with these fields, each at its place (gABI 4, Section Header)
@@ -18,7 +18,7 @@ pub record IsShdr (file : List ℕ) (at : ℕ) (r : Shdr) : Type 0 where
   pub sh_entsize : r.sh_entsize ≡ field file (at + 56) 8
 
 -- a section header's parts, in their order
-abbrev pub shdr_parts : Shdr → List Part
+abbrev pub shdr_parts : Shdr → List RecordField
 shdr_parts r =
     Number 4 r.sh_name ∷ Number 4 r.sh_type ∷ Number 8 r.sh_flags ∷ Number 8 r.sh_addr ∷ Number 8 r.sh_offset
     ∷ Number 8 r.sh_size ∷ Number 4 r.sh_link ∷ Number 4 r.sh_info ∷ Number 8 r.sh_addralign

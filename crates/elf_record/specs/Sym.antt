@@ -2,7 +2,7 @@
 use Rattle.std.specs.Prelude.{ℕ, ◌≡◌, ◌+◌, ◌<◌, ◌≤◌, ◌≢◌, List, [], ◌∷◌}
 use Rattle.elf_model.specs.Bytes.{field}
 use Rattle.elf_model.specs.Numbers.{SHN_UNDEF, SHN_LORESERVE, SHN_ABS, SHN_COMMON}
-use Rattle.elf_record.specs.Parts.{Part, Number}
+use Rattle.elf_record.specs.Parts.{RecordField, Number}
 use Rattle.elf_record.specs.declared.sym.Sym.{Sym}
 use Rattle.elf_record.specs.declared.sym.Place.{Place}
 use Rattle.elf_record.specs.declared.sym.Place.TheVariants.{Undefined, Section, Absolute, Common, Reserved}
@@ -17,7 +17,7 @@ pub record IsSym (file : List ℕ) (at : ℕ) (r : Sym) : Type 0 where
   pub st_size : r.st_size ≡ field file (at + 16) 8
 
 -- a symbol's parts, in their order
-abbrev pub sym_parts : Sym → List Part
+abbrev pub sym_parts : Sym → List RecordField
 sym_parts r =
     Number 4 r.st_name ∷ Number 1 r.st_info ∷ Number 1 r.st_other ∷ Number 2 r.st_shndx
     ∷ Number 8 r.st_value ∷ Number 8 r.st_size ∷ []

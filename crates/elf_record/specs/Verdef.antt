@@ -1,7 +1,7 @@
 -- A version definition as a record of fields.
 use Rattle.std.specs.Prelude.{ℕ, ◌≡◌, ◌+◌, List, [], ◌∷◌}
 use Rattle.elf_model.specs.Bytes.{field}
-use Rattle.elf_record.specs.Parts.{Part, Number}
+use Rattle.elf_record.specs.Parts.{RecordField, Number}
 use Rattle.elf_record.specs.declared.verdef.Verdef.{Verdef}
 
 -- at an offset stands a version definition with these fields, each at its place (Linux Standard Base Core, Symbol Versioning)
@@ -15,6 +15,6 @@ pub record IsVerdef (file : List ℕ) (at : ℕ) (r : Verdef) : Type 0 where
   pub vd_next : r.vd_next ≡ field file (at + 16) 4
 
 -- a version definition's parts, in their order
-abbrev pub verdef_parts : Verdef → List Part
+abbrev pub verdef_parts : Verdef → List RecordField
 verdef_parts r =
     Number 2 r.vd_version ∷ Number 2 r.vd_flags ∷ Number 2 r.vd_ndx ∷ Number 2 r.vd_cnt ∷ Number 4 r.vd_hash ∷ Number 4 r.vd_aux ∷ Number 4 r.vd_next ∷ []

@@ -1,7 +1,7 @@
 -- A version that is needed of a file as a record of fields.
 use Rattle.std.specs.Prelude.{ℕ, ◌≡◌, ◌+◌, List, [], ◌∷◌}
 use Rattle.elf_model.specs.Bytes.{field}
-use Rattle.elf_record.specs.Parts.{Part, Number}
+use Rattle.elf_record.specs.Parts.{RecordField, Number}
 use Rattle.elf_record.specs.declared.vernaux.Vernaux.{Vernaux}
 
 -- at an offset stands a needed version with these fields, each at its place (Linux Standard Base Core, Symbol Versioning)
@@ -13,6 +13,6 @@ pub record IsVernaux (file : List ℕ) (at : ℕ) (r : Vernaux) : Type 0 where
   pub vna_next : r.vna_next ≡ field file (at + 12) 4
 
 -- a needed version's parts, in their order
-abbrev pub vernaux_parts : Vernaux → List Part
+abbrev pub vernaux_parts : Vernaux → List RecordField
 vernaux_parts r =
     Number 4 r.vna_hash ∷ Number 2 r.vna_flags ∷ Number 2 r.vna_other ∷ Number 4 r.vna_name ∷ Number 4 r.vna_next ∷ []

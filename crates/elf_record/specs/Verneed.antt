@@ -1,7 +1,7 @@
 -- A file of which versions are needed as a record of fields.
 use Rattle.std.specs.Prelude.{ℕ, ◌≡◌, ◌+◌, List, [], ◌∷◌}
 use Rattle.elf_model.specs.Bytes.{field}
-use Rattle.elf_record.specs.Parts.{Part, Number}
+use Rattle.elf_record.specs.Parts.{RecordField, Number}
 use Rattle.elf_record.specs.declared.verneed.Verneed.{Verneed}
 
 -- at an offset stands a file of which versions are needed with these fields, each at its place (Linux Standard Base Core, Symbol Versioning)
@@ -13,6 +13,6 @@ pub record IsVerneed (file : List ℕ) (at : ℕ) (r : Verneed) : Type 0 where
   pub vn_next : r.vn_next ≡ field file (at + 12) 4
 
 -- a needed file's parts, in their order
-abbrev pub verneed_parts : Verneed → List Part
+abbrev pub verneed_parts : Verneed → List RecordField
 verneed_parts r =
     Number 2 r.vn_version ∷ Number 2 r.vn_cnt ∷ Number 4 r.vn_file ∷ Number 4 r.vn_aux ∷ Number 4 r.vn_next ∷ []

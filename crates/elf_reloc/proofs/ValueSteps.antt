@@ -5,7 +5,7 @@ use Rattle.std.proofs.lemmas.Bool.{ne_eqb}
 use Rattle.std.specs.Int.{cast_signed, cast_unsigned, w64}
 use Rattle.elf_model.specs.Bytes.{little}
 use Rattle.elf_model.specs.Numbers.{R_X86_64_NONE}
-use Rattle.elf_model.specs.Values.{Terms, kind_of, fits, patch_of, value_of, address_by, value}
+use Rattle.elf_model.specs.Values.{Terms, kind_of, fits_in_range, patch_of, value_of, address_by, value}
 use Rattle.elf_model.specs.declared.causes.Cause.{Cause}
 use Rattle.elf_model.specs.declared.causes.Cause.TheVariants.{Unsupported, Overflow}
 use Rattle.elf_model.specs.declared.relocation_types.RelocationType.{RelocationType}
@@ -23,7 +23,7 @@ value_is n s l a p other = let f : (n == R_X86_64_NONE) ≡ false = ne_eqb n R_X
 abbrev pub patch_in : RelocationType → ℕ → Bool → Result (List ℕ) Cause
 patch_in type number in_range = elim (not in_range) [ true ↦ Err Overflow | false ↦ Ok (little type.width number) ]
 
-patch_is : (type : RelocationType) (given : Terms) → patch_in type (value_of type given) (fits type.range type.width (value_of type given)) ≡ patch_of type given
+patch_is : (type : RelocationType) (given : Terms) → patch_in type (value_of type given) (fits_in_range type.range type.width (value_of type given)) ≡ patch_of type given
 unfolding patch_of
 patch_is type given = refl
 
@@ -38,10 +38,10 @@ unsupported n s l a p other is = ap (stored_of s l a p) is ∙ value_is n s l a 
 
 pub patch_by :
     (b : ℕ) (a : ℤ) (p : ℕ) (type : RelocationType) (number : ℕ) (in_range : Bool) → SFits w64 a
-    → number ≡ value_of type (terms b (cast_signed w64 (cast_unsigned w64 a)) p) → in_range ≡ fits type.range type.width number
+    → number ≡ value_of type (terms b (cast_signed w64 (cast_unsigned w64 a)) p) → in_range ≡ fits_in_range type.range type.width number
     → patch_in type number in_range ≡ patch_of type (terms b a p)
 patch_by b a p type number in_range small same ranged =
-    ap (patch_in type number) ranged ∙ ap (λ m. patch_in type m (fits type.range type.width m)) (same ∙ ap (λ z. value_of type (terms b z p)) (to_z-of_z small))
+    ap (patch_in type number) ranged ∙ ap (λ m. patch_in type m (fits_in_range type.range type.width m)) (same ∙ ap (λ z. value_of type (terms b z p)) (to_z-of_z small))
     ∙ patch_is type (terms b a p)
 
 pub found :

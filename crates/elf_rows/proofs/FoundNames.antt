@@ -6,8 +6,8 @@ use Rattle.elf_model.specs.Names.{IsNamed, Name, nul_in}
 use Rattle.elf_model.proofs.NameLemmas.{inside-full, inside-below}
 use Rattle.elf_model.proofs.Nuls.{free-none, free-take, some-free, split_at_nul}
 use Rattle.elf_model.proofs.Slices.{slice-rest}
-use Rattle.elf_rows.specs.Names.{FindsName, bytes_of, name_size}
-use Rattle.elf_rows.specs.declared.name.Range.{Range}
+use Rattle.elf_rows.specs.Names.{FindsName, bytes_in_range, name_size}
+use Rattle.elf_rows.specs.declared.name.ByteRange.{ByteRange}
 
 -- they are a name with its NUL behind it
 named : (table : List ℕ) (index place : ℕ) → nul_in (drop index table) ≡ Some place → IsNamed table index (take place (drop index table))
@@ -39,7 +39,7 @@ found_name file at size index place below h =
     inl (rw same (named table index place h))
 
 -- WHERE IT LIES, by the search of all bytes behind the index
-pub named_there : (file : List ℕ) (strings : Range) (index place : ℕ) (table : List ℕ) → table ≡ bytes_of file strings → index < length table
+pub named_there : (file : List ℕ) (strings : ByteRange) (index place : ℕ) (table : List ℕ) → table ≡ bytes_in_range file strings → index < length table
     → nul_in (take (length table - index) (drop index table)) ≡ Some place → FindsName file strings index (Ok (Some (record { at = strings.at + index; len = place })))
 named_there file strings index place table is below h =
     let whole : take (length table - index) (drop index table) ≡ drop index table =
@@ -47,4 +47,4 @@ named_there file strings index place table is below h =
     let all = rw whole at h in
     let inside = rw is at below in
     let nul = rw is at all in
-    (refl, sized (bytes_of file strings) index place inside nul, found_name file strings.at strings.len index place inside nul)
+    (refl, sized (bytes_in_range file strings) index place inside nul, found_name file strings.at strings.len index place inside nul)

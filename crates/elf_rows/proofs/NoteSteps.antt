@@ -10,9 +10,9 @@ use Rattle.elf_record.specs.NoteHead.{IsNoteHead}
 use Rattle.elf_record.specs.declared.note_head.NoteHead.{NoteHead}
 use Rattle.elf_note.specs.NoteCursors.{notes_from, no_notes, cut_at, note_size}
 use Rattle.elf_note.proofs.Stepping.{size-parts}
-use Rattle.elf_rows.specs.NoteRows.{IsNote}
+use Rattle.elf_rows.specs.NoteRows.{IsNoteAt}
 use Rattle.elf_rows.specs.declared.notes.Note.{Note as Row}
-use Rattle.elf_rows.specs.declared.notes.Notes.{Notes}
+use Rattle.elf_rows.specs.declared.notes.NotesLeft.{NotesLeft}
 
 pub ends : (a at : ℕ) (bytes : List ℕ) → length bytes < 12 → are_zeros bytes ≡ true → notes_from a at bytes ≡ no_notes
 ends a at bytes few z = walk-ends a at bytes (next-ends a bytes few z)
@@ -45,10 +45,10 @@ found a file at left head s many fits whole size sized =
     ∙ ap (λ (x : List ℕ). with_note (first_note a bytes) (walk a (at + size) x)) behind
 
 -- its name and its descriptor stand where the row tells
-pub tells : (a : ℕ) (file : List ℕ) (old : Notes) (head : NoteHead) (row : Row) → IsNoteHead (slice file old.at old.left) 0 head
+pub tells : (a : ℕ) (file : List ℕ) (old : NotesLeft) (head : NoteHead) (row : Row) → IsNoteHead (slice file old.at old.left) 0 head
     → descriptor_start a head.namesz head.descsz + head.descsz ≤ length (slice file old.at old.left) → length (slice file old.at old.left) ≤ old.left
     → row.at ≡ old.at → row.header ≡ old.header → row.kind ≡ head.kind → row.namesz ≡ head.namesz → row.descsz ≡ head.descsz → row.name_at ≡ old.at + 12
-    → row.desc_at ≡ old.at + descriptor_start a head.namesz head.descsz → IsNote file old (first_note a (slice file old.at old.left)) row
+    → row.desc_at ≡ old.at + descriptor_start a head.namesz head.descsz → IsNoteAt file old (first_note a (slice file old.at old.left)) row
 tells a file old head row s fits whole place header kind namesz descsz name_at desc_at =
     let bytes : List ℕ = slice file old.at old.left in
     let start : ℕ = descriptor_start a head.namesz head.descsz in

@@ -6,7 +6,7 @@ use Rattle.elf_model.specs.Records.{p_vaddr}
 use Rattle.elf_model.specs.declared.causes.Cause.TheVariants.{TableOutside}
 use Rattle.elf_model.specs.declared.causes.Refusal.{Refusal}
 use Rattle.elf_rows.specs.Checked.{first_refused}
-use Rattle.elf_rows.specs.declared.name.Range.{Range}
+use Rattle.elf_rows.specs.declared.name.ByteRange.{ByteRange}
 
 -- the place of the first program header that holds so many bytes from an address on, within the file and not above the address;
 -- or there is none
@@ -16,7 +16,7 @@ FindsMapping file address size None = mapped_at file address size ≡ None
 
 -- WHAT A CALLER HAS of an address: where so many bytes from it on lie in the file, by the first program header that holds them;
 -- that none does; or the first check that fails, at the last that they end past the end of the file
-abbrev pub ReadsMapped : List ℕ → ℕ → ℕ → Result (Option Range) Refusal → Type 0
+abbrev pub ReadsMapped : List ℕ → ℕ → ℕ → Result (Option ByteRange) Refusal → Type 0
 ReadsMapped file address size (Ok (Some range)) =
     (first_refused file ≡ None)
     × ((at : ℕ) × (mapped_at file address size ≡ Some at) × (is_outside (length file) (mapped_offset file at address) size ≡ false)

@@ -5,28 +5,28 @@ use Rattle.elf_model.specs.Names.{Name, nul_in, is_empty_at_zero}
 use Rattle.elf_model.specs.declared.causes.Cause.{Cause}
 use Rattle.elf_model.specs.declared.causes.Cause.TheVariants.{NameOutside, NameUnended}
 use Rattle.elf_model.specs.declared.causes.Refusal.{Refusal}
-use Rattle.elf_rows.specs.declared.name.Range.{Range}
+use Rattle.elf_rows.specs.declared.name.ByteRange.{ByteRange}
 
 -- the bytes of a range, as far as they lie within a file
-abbrev pub bytes_of : List ℕ → Range → List ℕ
-bytes_of file range = slice file range.at range.len
+abbrev pub bytes_in_range : List ℕ → ByteRange → List ℕ
+bytes_in_range file range = slice file range.at range.len
 
 -- a name ends before a NUL
-abbrev pub before_nul : Option ℕ → Result ℕ Cause
-before_nul None = Err NameUnended
-before_nul (Some place) = Ok place
+abbrev pub name_end_or_cause : Option ℕ → Result ℕ Cause
+name_end_or_cause None = Err NameUnended
+name_end_or_cause (Some place) = Ok place
 
 -- how many bytes the name at an index of a string table has, or why there is none
 abbrev pub name_size : List ℕ → ℕ → Result ℕ Cause
 name_size table index =
     if is_empty_at_zero table index then Ok 0
-    else if nat_lt index (length table) then before_nul (nul_in (drop index table))
+    else if nat_lt index (length table) then name_end_or_cause (nul_in (drop index table))
     else Err NameOutside
 
 -- WHERE A NAME LIES: bytes of the file that are the name at that index of the string table; or why it has none
-abbrev pub FindsName : List ℕ → Range → ℕ → Result (Option Range) Refusal → Type 0
+abbrev pub FindsName : List ℕ → ByteRange → ℕ → Result (Option ByteRange) Refusal → Type 0
 FindsName file strings index (Ok (Some name)) =
-    (name.at ≡ strings.at + index) × (name_size (bytes_of file strings) index ≡ Ok name.len) × Name (bytes_of file strings) index (bytes_of file name)
+    (name.at ≡ strings.at + index) × (name_size (bytes_in_range file strings) index ≡ Ok name.len) × Name (bytes_in_range file strings) index (bytes_in_range file name)
 FindsName file strings index (Ok None) = ⊥
 FindsName file strings index (Err refusal) =
-    (refusal.at ≡ min (strings.at + index) (2 ^ 64 - 1)) × (name_size (bytes_of file strings) index ≡ Err refusal.cause)
+    (refusal.at ≡ min (strings.at + index) (2 ^ 64 - 1)) × (name_size (bytes_in_range file strings) index ≡ Err refusal.cause)

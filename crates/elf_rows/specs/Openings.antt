@@ -12,11 +12,11 @@ use Rattle.elf_table.specs.Relocations.{AreRelocations, Relocates}
 use Rattle.elf_table.specs.Sections.{symbols_at, section_names}
 use Rattle.elf_table.specs.Tables.{Rows as Table, Strings}
 use Rattle.elf_rows.specs.DynamicTables.{IsDynamicTable, listed_table}
-use Rattle.elf_rows.specs.Rows.{rows_of}
-use Rattle.elf_rows.specs.declared.kind.Kind.{Kind}
-use Rattle.elf_rows.specs.declared.kind.Kind.TheVariants.{Symbols, Relocations, Dynamic}
-use Rattle.elf_rows.specs.declared.name.Range.{Range}
-use Rattle.elf_rows.specs.declared.rows.Rows.{Rows}
+use Rattle.elf_rows.specs.Rows.{rows_from_first}
+use Rattle.elf_rows.specs.declared.kind.RowKind.{RowKind}
+use Rattle.elf_rows.specs.declared.kind.RowKind.TheVariants.{Symbols, Relocations, Dynamic}
+use Rattle.elf_rows.specs.declared.name.ByteRange.{ByteRange}
+use Rattle.elf_rows.specs.declared.rows.RowsLeft.{RowsLeft}
 
 -- the first check that fails until a file's section headers are loaded, where so many headers are permitted
 abbrev pub load_refused : List ℕ → ℕ → Option Refusal
@@ -28,59 +28,59 @@ LoadsFile file (Ok loaded) store = (load_refused file store.slots ≡ None) × B
 LoadsFile file (Err refusal) store = load_refused file store.slots ≡ Some refusal
 
 -- a section whose header stands at an offset holds rows of a kind, by its type
-abbrev pub holds : Kind → List ℕ → ℕ → Bool
+abbrev pub holds : RowKind → List ℕ → ℕ → Bool
 holds Symbols file at = is_symbol_table file at
 holds Relocations file at = sh_type file at == SHT_RELA
 holds Dynamic file at = sh_type file at == SHT_DYNAMIC
 
 -- the string table of the symbols that relocation entries refer to; no bytes where they refer to none
-abbrev pub names_of : Option (Table × Strings) → Strings
-names_of None = record { at = 0; size = 0 }
-names_of (Some symbols) = symbols.1
+abbrev pub linked_names : Option (Table × Strings) → Strings
+linked_names None = record { at = 0; size = 0 }
+linked_names (Some symbols) = symbols.1
 
 -- the rows of a kind of the section with this header, whose checks pass: symbols with their string table; relocation entries with
 -- the string table of the symbols that they refer to; dynamic entries up to and with the first DT_NULL, with their string table
-abbrev pub AreRows : Kind → List ℕ → ℕ → Rows → Type 0
-AreRows Symbols file at rows = (table : Table) × (names : Strings) × (symbols_at file at ≡ Ok (table, names)) × (rows ≡ rows_of table names)
-AreRows Relocations file at rows =
-    (table : Table) × (linked : Option (Table × Strings)) × (table.entry ≡ 24) × AreRelocations file at table linked × (rows ≡ rows_of table (names_of linked))
-AreRows Dynamic file at rows =
-    (table : Table) × (names : Strings) × IsDynamicTable file at (Ok (table, names)) × (rows ≡ rows_of (listed_table file table) names)
+abbrev pub AreOpenedRows : RowKind → List ℕ → ℕ → RowsLeft → Type 0
+AreOpenedRows Symbols file at rows = (table : Table) × (names : Strings) × (symbols_at file at ≡ Ok (table, names)) × (rows ≡ rows_from_first table names)
+AreOpenedRows Relocations file at rows =
+    (table : Table) × (linked : Option (Table × Strings)) × (table.entry ≡ 24) × AreRelocations file at table linked × (rows ≡ rows_from_first table (linked_names linked))
+AreOpenedRows Dynamic file at rows =
+    (table : Table) × (names : Strings) × IsDynamicTable file at (Ok (table, names)) × (rows ≡ rows_from_first (listed_table file table) names)
 
 -- the first check of such a table that fails
-abbrev pub RefusesRows : Kind → List ℕ → ℕ → Fault → Type 0
+abbrev pub RefusesRows : RowKind → List ℕ → ℕ → Fault → Type 0
 RefusesRows Symbols file at fault = symbols_at file at ≡ Err fault
 RefusesRows Relocations file at fault = Relocates file at (Err fault)
 RefusesRows Dynamic file at fault = IsDynamicTable file at (Err fault)
 
 -- those rows, or that check
-abbrev pub Opens : Kind → List ℕ → ℕ → Result Rows Fault → Type 0
-Opens kind file at (Ok rows) = AreRows kind file at rows
-Opens kind file at (Err fault) = RefusesRows kind file at fault
+abbrev pub OpensTable : RowKind → List ℕ → ℕ → Result RowsLeft Fault → Type 0
+OpensTable kind file at (Ok rows) = AreOpenedRows kind file at rows
+OpensTable kind file at (Err fault) = RefusesRows kind file at fault
 
 -- the file has a section of this index, and it holds rows of a kind
-abbrev pub HasRows : Kind → List ℕ → ℕ → Type 0
+abbrev pub HasRows : RowKind → List ℕ → ℕ → Type 0
 HasRows kind file section = (section < e_shnum file) × (holds kind file (section_at file section) ≡ true)
 
 -- it has none, or that holds no such rows
-abbrev pub LacksRows : Kind → List ℕ → ℕ → Type 0
+abbrev pub LacksRows : RowKind → List ℕ → ℕ → Type 0
 LacksRows kind file section = (e_shnum file ≤ section) ⊎ (holds kind file (section_at file section) ≡ false)
 
 -- WHAT A CALLER HAS of a section of rows of a kind: its rows, whose checks pass; that there is no such section; or the first check
 -- that fails, until the section headers are loaded or of the table
-abbrev pub ReadsRows : Kind → List ℕ → ℕ → ℕ → Result (Option Rows) Refusal → Type 0
-ReadsRows kind file headers section (Ok (Some rows)) = (load_refused file headers ≡ None) × HasRows kind file section × AreRows kind file (section_at file section) rows
+abbrev pub ReadsRows : RowKind → List ℕ → ℕ → ℕ → Result (Option RowsLeft) Refusal → Type 0
+ReadsRows kind file headers section (Ok (Some rows)) = (load_refused file headers ≡ None) × HasRows kind file section × AreOpenedRows kind file (section_at file section) rows
 ReadsRows kind file headers section (Ok None) = (load_refused file headers ≡ None) × LacksRows kind file section
 ReadsRows kind file headers section (Err refusal) =
     (load_refused file headers ≡ Some refusal)
     ⊎ ((load_refused file headers ≡ None) × HasRows kind file section × RefusesRows kind file (section_at file section) (Refused refusal))
 
 -- the range that a string table is
-abbrev pub range_of : Strings → Range
+abbrev pub range_of : Strings → ByteRange
 range_of names = record { at = names.at; len = names.size }
 
 -- WHAT A CALLER HAS of the section names: their string table; that there is none; or the first check that fails until the
 -- section headers are loaded
-abbrev pub ReadsNames : List ℕ → ℕ → Result (Option Range) Refusal → Type 0
-ReadsNames file headers (Ok found) = (load_refused file headers ≡ None) × (found ≡ option_map range_of (section_names file))
-ReadsNames file headers (Err refusal) = load_refused file headers ≡ Some refusal
+abbrev pub ReadsSectionNames : List ℕ → ℕ → Result (Option ByteRange) Refusal → Type 0
+ReadsSectionNames file headers (Ok found) = (load_refused file headers ≡ None) × (found ≡ option_map range_of (section_names file))
+ReadsSectionNames file headers (Err refusal) = load_refused file headers ≡ Some refusal

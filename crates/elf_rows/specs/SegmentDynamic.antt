@@ -7,10 +7,10 @@ use Rattle.elf_model.specs.Records.{e_phnum, p_type, p_offset, p_filesz, segment
 use Rattle.elf_model.specs.Tables.{segment_dynamic_checks}
 use Rattle.elf_model.specs.declared.causes.Refusal.{Refusal}
 use Rattle.elf_rows.specs.Checked.{first_refused}
-use Rattle.elf_rows.specs.declared.rows.Rows.{Rows}
+use Rattle.elf_rows.specs.declared.rows.RowsLeft.{RowsLeft}
 
 -- a place before the first of the entries in so many bytes at an offset, up to and with the first DT_NULL; without strings
-abbrev pub entries_at : List ℕ → ℕ → ℕ → Rows
+abbrev pub entries_at : List ℕ → ℕ → ℕ → RowsLeft
 entries_at file at bytes = record {
   at = at;
   count = dynamic_count file at (bytes / 16);
@@ -21,11 +21,11 @@ entries_at file at bytes = record {
 }
 
 -- those, where they are whole entries within the file; the refusal names a place
-abbrev pub AreEntries : List ℕ → ℕ → ℕ → ℕ → Result (Option Rows) Refusal → Type 0
-AreEntries file place at bytes (Ok (Some rows)) =
+abbrev pub AreSegmentEntries : List ℕ → ℕ → ℕ → ℕ → Result (Option RowsLeft) Refusal → Type 0
+AreSegmentEntries file place at bytes (Ok (Some rows)) =
     (first_refusal (unless_empty bytes (whole_checks_of (length file) at bytes place 16)) ≡ None) × (rows ≡ entries_at file at bytes)
-AreEntries file place at bytes (Ok None) = ⊥
-AreEntries file place at bytes (Err refusal) =
+AreSegmentEntries file place at bytes (Ok None) = ⊥
+AreSegmentEntries file place at bytes (Err refusal) =
     first_refusal (unless_empty bytes (whole_checks_of (length file) at bytes place 16)) ≡ Some refusal
 
 -- the file has a segment of this index, of type DYNAMIC
@@ -34,7 +34,7 @@ HasEntries file index = (index < e_phnum file) × (p_type file (segment_at file 
 
 -- WHAT A CALLER HAS of the dynamic entries of a segment: a place before the first, in a table whose checks pass; that the file
 -- has no such segment, or that it holds none; or the first check that fails
-abbrev pub ReadsSegmentDynamic : List ℕ → ℕ → Result (Option Rows) Refusal → Type 0
+abbrev pub ReadsSegmentDynamic : List ℕ → ℕ → Result (Option RowsLeft) Refusal → Type 0
 ReadsSegmentDynamic file index (Ok (Some rows)) =
     (first_refused file ≡ None) × HasEntries file index
     × (first_refusal (segment_dynamic_checks file (segment_at file index)) ≡ None)

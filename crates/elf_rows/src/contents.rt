@@ -4,7 +4,7 @@ ghost use Rattle.elf_model.specs.Apply.{has_no_bytes};
 ghost use Rattle.elf_rows.specs.Headers.{IsSection};
 ghost use Rattle.elf_rows.specs.SectionBytes.{ReadsSectionBytes};
 
-use crate::name::Range;
+use crate::name::ByteRange;
 use crate::section::{Section, section_at, section_place};
 use elf_headers::ends_outside;
 use elf_record::numbers::{SHT_NOBITS, SHT_NULL};
@@ -18,7 +18,7 @@ use elf_record::{Cause, Refusal};
 /// The first check that fails of those that a listing makes before it reads the headers, as many of
 /// them permitted as can be; then `TableOutside` at the section header where the section ends past
 /// the end of the file.
-pub fn section_bytes(file: &[u8], section: u16) -> Result<Option<Range>, Refusal>
+pub fn section_bytes(file: &[u8], section: u16) -> Result<Option<ByteRange>, Refusal>
     ensures { ReadsSectionBytes file.now section result }
 {
     let Some(place) = section_place(file, section)? else {
@@ -34,7 +34,7 @@ pub fn section_bytes(file: &[u8], section: u16) -> Result<Option<Range>, Refusal
             cause: Cause::TableOutside,
         });
     }
-    Ok(Some(Range {
+    Ok(Some(ByteRange {
         at: header.offset,
         len: header.size,
     }))

@@ -6,7 +6,7 @@ ghost use Rattle.elf_rows.specs.Rows.{StepsRows, next_at};
 ghost use Rattle.elf_rows.specs.declared.dynamic.Dynamic.{Dynamic as IsOne};
 
 use crate::bytes::chunk_at;
-use crate::rows::Rows;
+use crate::rows::RowsLeft;
 use elf_record::Dyn;
 
 /// A dynamic entry, field by field (gABI 5, Dynamic Section).
@@ -21,7 +21,7 @@ pub struct Dynamic {
 
 /// Reads the next dynamic entries to the front of `out`, as many as there are and as it has room
 /// for, steps over them, and answers how many (gABI 5, Dynamic Section).
-pub fn next_dynamic(file: &[u8], rows: &mut Rows, out: &mut [Dynamic]) -> usize
+pub fn next_dynamic(file: &[u8], rows: &mut RowsLeft, out: &mut [Dynamic]) -> usize
     ensures steps { StepsRows (length file.now) 16 rows.old rows.new (length out.old) result }
     ensures read { (k : ℕ) (none : IsOne) → k < result →
         IsDynamic file.now (next_at rows.old 16 k) (slice_index_or out.new k none) }

@@ -7,10 +7,10 @@ ghost use Rattle.elf_headers.specs.Faults.{IsOfCheck};
 ghost use Rattle.elf_headers.specs.Load.{Belongs};
 ghost use Rattle.elf_table.specs.Tables.{RowsWithin};
 ghost use Rattle.elf_rows.specs.DynamicTables.{IsDynamicTable, listed_table};
-ghost use Rattle.elf_rows.specs.Rows.{rows_of};
+ghost use Rattle.elf_rows.specs.Rows.{rows_from_first};
 
 use crate::bytes::chunk_at;
-use crate::rows::Rows;
+use crate::rows::RowsLeft;
 use elf_headers::Fault;
 use elf_record::Dyn;
 use elf_record::numbers::DT_NULL;
@@ -38,12 +38,12 @@ pub(crate) fn dynamic_table(found: &File<'_>, section: u16) -> Result<(Table, Na
 }
 
 /// A place before the first entry, with as many as are listed.
-pub(crate) fn listed_rows(file: &[u8], table: Table, names: Names) -> Rows
+pub(crate) fn listed_rows(file: &[u8], table: Table, names: Names) -> RowsLeft
     requires within { RowsWithin (length file.now) table }
     requires entry { table.entry ≡ 16 }
-    ensures { result ≡ rows_of (listed_table file.now table) names }
+    ensures { result ≡ rows_from_first (listed_table file.now table) names }
 {
-    let mut rows = Rows::of(table, names);
+    let mut rows = RowsLeft::of(table, names);
     rows.count = listed(file, rows.at, rows.count);
     rows
 }

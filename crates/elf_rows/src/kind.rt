@@ -9,7 +9,7 @@ use elf_table::holds_symbols;
 
 /// A kind of rows that a section may have.
 #[derive(Clone, Copy)]
-pub enum Kind {
+pub enum RowKind {
     /// Symbols, of a section of type SYMTAB or DYNSYM (gABI 4, Symbol Table).
     Symbols,
     /// Relocation entries with addends, of one of type RELA (gABI 4, Relocation).
@@ -19,13 +19,13 @@ pub enum Kind {
 }
 
 /// Whether a section holds rows of a kind, by its type.
-pub(crate) fn holds(header: &Shdr, kind: Kind) -> bool
+pub(crate) fn holds(header: &Shdr, kind: RowKind) -> bool
     ensures { (file : List ℕ) (at : ℕ) → IsShdr file at header.now →
         result ≡ holds kind file at }
 {
     match kind {
-        Kind::Symbols => holds_symbols(header),
-        Kind::Relocations => header.sh_type == SHT_RELA,
-        Kind::Dynamic => header.sh_type == SHT_DYNAMIC,
+        RowKind::Symbols => holds_symbols(header),
+        RowKind::Relocations => header.sh_type == SHT_RELA,
+        RowKind::Dynamic => header.sh_type == SHT_DYNAMIC,
     }
 }

@@ -8,7 +8,7 @@ ghost use Rattle.elf_rows.specs.Headers.{IsSegment};
 ghost use Rattle.elf_rows.specs.MappedBytes.{FindsMapping, ReadsMapped};
 
 use crate::checked::checked_counts;
-use crate::name::Range;
+use crate::name::ByteRange;
 use crate::segment::{Segment, segment_at};
 use elf_record::numbers::PT_LOAD;
 use elf_record::{Cause, Ehdr, Refusal};
@@ -21,7 +21,7 @@ use elf_record::{Cause, Ehdr, Refusal};
 /// The first check that fails of those that a listing makes before it reads the headers, as many of
 /// them permitted as can be; then `TableOutside` at that program header where they end past the end
 /// of the file.
-pub fn find_mapped(file: &[u8], address: u64, size: u64) -> Result<Option<Range>, Refusal>
+pub fn find_mapped(file: &[u8], address: u64, size: u64) -> Result<Option<ByteRange>, Refusal>
     ensures { ReadsMapped file.now address size result }
 {
     let header = checked_counts(file)?;
@@ -36,7 +36,7 @@ pub fn find_mapped(file: &[u8], address: u64, size: u64) -> Result<Option<Range>
             cause: Cause::TableOutside,
         });
     }
-    Ok(Some(Range {
+    Ok(Some(ByteRange {
         at: offset as u64,
         len: size,
     }))

@@ -9,7 +9,7 @@ use elf_table::find_nul;
 /// Bytes of a file.
 #[repr(C)]
 #[derive(Clone, Copy)]
-pub struct Range {
+pub struct ByteRange {
     /// The file offset of the first.
     pub at: u64,
     /// How many there are.
@@ -23,12 +23,12 @@ pub struct Range {
 /// # Errors
 /// `NameOutside` where the offset is not below the table's size, `NameUnended` where no NUL is
 /// behind it. The offset that is named is that where the name was to begin, at most 2^64 - 1.
-pub fn find_name(file: &[u8], strings: Range, offset: u64) -> Result<Option<Range>, Refusal>
+pub fn find_name(file: &[u8], strings: ByteRange, offset: u64) -> Result<Option<ByteRange>, Refusal>
     ensures { FindsName file.now strings offset result }
 {
     let table = bytes_of(file, strings);
     if table.is_empty() && offset == 0 {
-        return Ok(Some(Range {
+        return Ok(Some(ByteRange {
             at: strings.at,
             len: 0,
         }));
@@ -41,7 +41,7 @@ pub fn find_name(file: &[u8], strings: Range, offset: u64) -> Result<Option<Rang
         });
     }
     match find_nul(&table[offset as usize..]) {
-        Some(len) => Ok(Some(Range {
+        Some(len) => Ok(Some(ByteRange {
             at: strings.at + offset,
             len: len as u64,
         })),
@@ -53,7 +53,7 @@ pub fn find_name(file: &[u8], strings: Range, offset: u64) -> Result<Option<Rang
 }
 
 /// The bytes of a range, as far as they lie within the file.
-pub fn bytes_of(file: &[u8], range: Range) -> &[u8]
+pub fn bytes_of(file: &[u8], range: ByteRange) -> &[u8]
     ensures bytes { result.now ≡ slice file.now range.at range.len }
     ensures within { 0 < length result.now → range.at + length result.now ≤ length file.now }
 {

@@ -1,18 +1,18 @@
 //! Notes, and steps over them.
 ghost use Rattle.std.specs.Prelude.{◌≡◌, ◌<◌};
 ghost use Rattle.elf_model.specs.Notes.{note_align};
-ghost use Rattle.elf_rows.specs.NoteRows.{StepsNote};
+ghost use Rattle.elf_rows.specs.NoteRows.{TakesNote};
 ghost use Rattle.elf_model.specs.declared.causes.Cause.TheVariants.{NoteCut};
 
 use crate::bytes::chunk_at;
-use crate::name::{Range, bytes_of};
+use crate::name::{ByteRange, bytes_of};
 use elf_note::{are_zeros, gap_between, padding};
 use elf_record::{Cause, NoteHead, Refusal};
 
 /// A place in a table of notes: plain numbers, as [`Rows`](crate::Rows) are.
 #[repr(C)]
 #[derive(Clone, Copy)]
-pub struct Notes {
+pub struct NotesLeft {
     /// The file offset of the next note.
     pub at: u64,
     /// How many bytes of the table are left from there on.
@@ -50,10 +50,10 @@ pub struct Note {
 ///
 /// # Errors
 /// `NoteCut` at the offset of the next note where none stands there. Then the place is as it was.
-pub fn next_note(file: &[u8], notes: &mut Notes) -> Result<Option<Note>, Refusal>
-    ensures { StepsNote file.now notes.old notes.new result }
+pub fn next_note(file: &[u8], notes: &mut NotesLeft) -> Result<Option<Note>, Refusal>
+    ensures { TakesNote file.now notes.old notes.new result }
 {
-    let range = Range {
+    let range = ByteRange {
         at: notes.at,
         len: notes.left,
     };

@@ -6,7 +6,7 @@ ghost use Rattle.elf_rows.specs.Rows.{StepsRows, next_at};
 ghost use Rattle.elf_rows.specs.declared.relocations.Relocation.{Relocation as IsOne};
 
 use crate::bytes::chunk_at;
-use crate::rows::Rows;
+use crate::rows::RowsLeft;
 use elf_record::Rela;
 
 /// A relocation entry with an addend, field by field (gABI 4, Relocation).
@@ -24,7 +24,7 @@ pub struct Relocation {
 
 /// Reads the next relocation entries to the front of `out`, as many as there are and as it has room
 /// for, steps over them, and answers how many (gABI 4, Relocation).
-pub fn next_relocations(file: &[u8], rows: &mut Rows, out: &mut [Relocation]) -> usize
+pub fn next_relocations(file: &[u8], rows: &mut RowsLeft, out: &mut [Relocation]) -> usize
     ensures steps { StepsRows (length file.now) 24 rows.old rows.new (length out.old) result }
     ensures read { (k : ℕ) (none : IsOne) → k < result →
         IsRelocation file.now (next_at rows.old 24 k) (slice_index_or out.new k none) }

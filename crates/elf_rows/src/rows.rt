@@ -1,6 +1,6 @@
 //! A place in a table of a file in memory.
 ghost use Rattle.std.specs.Prelude.{◌≡◌, ◌<◌, min};
-ghost use Rattle.elf_rows.specs.Rows.{rows_left, rows_of};
+ghost use Rattle.elf_rows.specs.Rows.{rows_left, rows_from_first};
 
 use elf_table::{Names, Table};
 
@@ -8,7 +8,7 @@ use elf_table::{Names, Table};
 /// tests them again, so that no numbers are wrong ones.
 #[repr(C)]
 #[derive(Clone, Copy)]
-pub struct Rows {
+pub struct RowsLeft {
     /// The file offset of the table's first byte.
     pub at: u64,
     /// How many entries there are.
@@ -23,12 +23,12 @@ pub struct Rows {
     pub strings_len: u64,
 }
 
-impl Rows {
+impl RowsLeft {
     /// A place before the first row of a table, with its string table.
-    pub(crate) fn of(table: Table, names: Names) -> Rows
-        ensures { result ≡ rows_of table names }
+    pub(crate) fn of(table: Table, names: Names) -> RowsLeft
+        ensures { result ≡ rows_from_first table names }
     {
-        Rows {
+        RowsLeft {
             at: table.at(),
             count: table.len(),
             index: 0,

@@ -1,10 +1,10 @@
 //! The dynamic entries of a segment that are listed.
 ghost use Rattle.std.specs.Prelude.{ℕ};
-ghost use Rattle.elf_rows.specs.SegmentDynamic.{AreEntries, ReadsSegmentDynamic};
+ghost use Rattle.elf_rows.specs.SegmentDynamic.{AreSegmentEntries, ReadsSegmentDynamic};
 ghost use Rattle.elf_rows.specs.declared.segment.Segment.{Segment as IsOne};
 
 use crate::dynamic_table::listed;
-use crate::rows::Rows;
+use crate::rows::RowsLeft;
 use crate::segment::{Segment, segment_at, segment_place};
 use elf_headers::ends_outside;
 use elf_record::numbers::PT_DYNAMIC;
@@ -21,7 +21,7 @@ use elf_record::{Cause, Refusal};
 /// them permitted as can be; then, at the program header and of a segment that has bytes in the file,
 /// `SizeNotWhole` where p_filesz is no multiple of 16, `TableOutside` where the segment ends past the
 /// end of the file.
-pub fn segment_dynamic(file: &[u8], segment: u16) -> Result<Option<Rows>, Refusal>
+pub fn segment_dynamic(file: &[u8], segment: u16) -> Result<Option<RowsLeft>, Refusal>
     ensures { ReadsSegmentDynamic file.now segment result }
 {
     let Some(place) = segment_place(file, segment)? else {
@@ -35,8 +35,8 @@ pub fn segment_dynamic(file: &[u8], segment: u16) -> Result<Option<Rows>, Refusa
 }
 
 /// The dynamic entries that a program header tells of, where its checks pass. Refusals name `place`.
-fn entries(file: &[u8], place: u64, header: &Segment) -> Result<Option<Rows>, Refusal>
-    ensures { AreEntries file.now place header.now.offset header.now.filesz result }
+fn entries(file: &[u8], place: u64, header: &Segment) -> Result<Option<RowsLeft>, Refusal>
+    ensures { AreSegmentEntries file.now place header.now.offset header.now.filesz result }
 {
     let (at, bytes) = (header.offset, header.filesz);
     if bytes % DYNAMIC_BYTES != 0 {
@@ -51,7 +51,7 @@ fn entries(file: &[u8], place: u64, header: &Segment) -> Result<Option<Rows>, Re
             cause: Cause::TableOutside,
         });
     }
-    Ok(Some(Rows {
+    Ok(Some(RowsLeft {
         at,
         count: listed(file, at, bytes / DYNAMIC_BYTES),
         index: 0,

@@ -5,13 +5,13 @@ ghost use Rattle.elf_rows.specs.Symbols.{IsSymbol};
 ghost use Rattle.elf_rows.specs.declared.symbol.Symbol.{Symbol as IsOne};
 
 use crate::bytes::chunk_at;
-use crate::rows::Rows;
+use crate::rows::RowsLeft;
 use crate::symbol::Symbol;
 use elf_record::Sym;
 
 /// Reads the next symbols to the front of `out`, as many as there are and as it has room for, steps
 /// over them, and answers how many (gABI 4, Symbol Table).
-pub fn next_symbols(file: &[u8], rows: &mut Rows, out: &mut [Symbol]) -> usize
+pub fn next_symbols(file: &[u8], rows: &mut RowsLeft, out: &mut [Symbol]) -> usize
     ensures steps { StepsRows (length file.now) 24 rows.old rows.new (length out.old) result }
     ensures read { (k : ℕ) (none : IsOne) → k < result →
         IsSymbol file.now (next_at rows.old 24 k) (slice_index_or out.new k none) }

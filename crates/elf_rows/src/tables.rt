@@ -3,12 +3,12 @@ ghost use Rattle.std.specs.Prelude.{◌≡◌, ◌<◌, ℕ, List, IfErr, length
 ghost use Rattle.elf_model.specs.Records.{section_at};
 ghost use Rattle.elf_headers.specs.Faults.{IsOfCheck};
 ghost use Rattle.elf_headers.specs.Load.{Belongs};
-ghost use Rattle.elf_rows.specs.Openings.{Opens, ReadsRows, names_of};
+ghost use Rattle.elf_rows.specs.Openings.{OpensTable, ReadsRows, linked_names};
 
 use crate::dynamic_table::{dynamic_table, listed_rows};
-use crate::kind::{Kind, holds};
+use crate::kind::{RowKind, holds};
 use crate::loading::load_file;
-use crate::rows::Rows;
+use crate::rows::RowsLeft;
 use elf_headers::{Fault, HeaderStore};
 use elf_record::Refusal;
 use elf_table::{File, Names, Table};
@@ -25,8 +25,8 @@ pub fn rows_in(
     file: &[u8],
     store: &mut HeaderStore,
     section: u16,
-    kind: Kind,
-) -> Result<Option<Rows>, Refusal>
+    kind: RowKind,
+) -> Result<Option<RowsLeft>, Refusal>
     ensures { ReadsRows kind file.now store.old.slots section result }
 {
     let loaded = load_file(file, store)?;
@@ -46,22 +46,22 @@ pub fn rows_in(
 ///
 /// # Errors
 /// The first check of its table that fails.
-fn opened(file: &[u8], found: &File<'_>, section: u16, kind: Kind) -> Result<Rows, Fault>
+fn opened(file: &[u8], found: &File<'_>, section: u16, kind: RowKind) -> Result<RowsLeft, Fault>
     requires below { section < found.now.store.now.loaded }
     requires same { Belongs file.now found.now.loaded found.now.store.now }
-    ensures opens { Opens kind file.now (section_at file.now section) result }
+    ensures opens { OpensTable kind file.now (section_at file.now section) result }
     ensures refusal { IfErr result IsOfCheck }
 {
     match kind {
-        Kind::Symbols => {
+        RowKind::Symbols => {
             let (table, names) = found.symbols(section)?;
-            Ok(Rows::of(table, names))
+            Ok(RowsLeft::of(table, names))
         }
-        Kind::Relocations => {
+        RowKind::Relocations => {
             let (table, linked) = found.relocations(section)?;
-            Ok(Rows::of(table, names_of(linked)))
+            Ok(RowsLeft::of(table, names_of(linked)))
         }
-        Kind::Dynamic => {
+        RowKind::Dynamic => {
             let (table, names) = dynamic_table(found, section)?;
             Ok(listed_rows(file, table, names))
         }
@@ -70,7 +70,7 @@ fn opened(file: &[u8], found: &File<'_>, section: u16, kind: Kind) -> Result<Row
 
 /// The string table of symbols; no bytes where there are no symbols.
 fn names_of(symbols: Option<(Table, Names)>) -> Names
-    ensures { result ≡ names_of symbols }
+    ensures { result ≡ linked_names symbols }
 {
     match symbols {
         Some((_, names)) => names,

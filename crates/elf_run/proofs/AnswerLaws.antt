@@ -4,7 +4,7 @@ use Rattle.std.specs.Prelude.{IfErr}
 use Rattle.elf_model.specs.Answer.{Answer, status_of, show_answer_by}
 use Rattle.elf_model.specs.Budget.{IsBudget, IsBudgeted, IsReport}
 use Rattle.elf_model.specs.Cost.{listing_cost}
-use Rattle.elf_model.specs.Listing.{Item, end_text, lines_of, report_of}
+use Rattle.elf_model.specs.Listing.{ListingItem, end_text, lines_of, report_of}
 use Rattle.elf_model.specs.Report.{listing}
 use Rattle.elf_model.specs.Style.{Style}
 use Rattle.elf_headers.specs.Permitted.{style_of}
@@ -17,7 +17,7 @@ use Rattle.elf_headers.specs.declared.caps.Caps.{Caps}
 use Rattle.elf_headers.specs.declared.stop.Stop.{Stop}
 use Rattle.elf_headers.specs.declared.stop.Stop.TheVariants.{Refused, Source, Out}
 use Rattle.elf_listing.specs.Reports.{Reports, AsksWithin, FaultSays, Leaves, Wrote}
-use Rattle.elf_run.specs.Answers.{EndsIn, WholeOrUsedUp, WroteAnswer}
+use Rattle.elf_run.specs.Answers.{EndsInRefusal, WholeOrUsedUp, WroteAnswer}
 use Rattle.elf_run.specs.Requests.{RunsShow}
 
 abbrev answer_of : List ℕ → Option Refusal → Answer
@@ -36,12 +36,12 @@ whole_report (Some budget) file headers style parts text fault (inl is) other = 
 whole_report (Some budget) file headers style parts text fault (inr is) other = absurd (other is.1.refusal is.1.fault_is is.1.for_budget)
 
 -- the line of its fault ends a report
-report_ends : (format : Format) (all : List Item) (text : List ℕ) (fault : Option Refusal) (refusal : Refusal) → Some refusal ≡ fault → IsReport format all text fault → EndsIn refusal text
+report_ends : (format : Format) (all : List ListingItem) (text : List ℕ) (fault : Option Refusal) (refusal : Refusal) → Some refusal ≡ fault → IsReport format all text fault → EndsInRefusal refusal text
 report_ends format all text fault refusal some is =
     (format, lines_of all, is.text_is ∙ ap (λ end. lines_of all ++ end_text format end) (sym (some ∙ is.fault_is)))
 
 ends_in : (budget : Option ℕ) (file : List ℕ) (headers : ℕ) (style : Style) (parts : ℕ) (text : List ℕ) (fault : Option Refusal) (refusal : Refusal) → Some refusal ≡ fault
-    → IsBudgeted budget file headers style parts text fault → EndsIn refusal text
+    → IsBudgeted budget file headers style parts text fault → EndsInRefusal refusal text
 ends_in None file headers style parts text fault refusal some is = report_ends style.format (listing file headers style parts) text fault refusal some is
 ends_in (Some budget) file headers style parts text fault refusal some (inl is) = report_ends style.format (listing file headers style parts) text fault refusal some is
 ends_in (Some budget) file headers style parts text fault refusal some (inr is) =

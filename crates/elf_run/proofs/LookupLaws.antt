@@ -16,14 +16,14 @@ use Rattle.elf_source.specs.Growth.{Grows}
 use Rattle.elf_source.specs.Output.{Puts, Takes, Written}
 use Rattle.elf_source.specs.declared.faults.OutFault.{OutFault}
 use Rattle.elf_source.proofs.PutsLaws.{Takes-then, TakesFront-then}
-use Rattle.elf_source.specs.Source.{Counting, Limits, Seen}
+use Rattle.elf_source.specs.Source.{Counting, SetsLimit, Seen}
 use Rattle.elf_source.proofs.LimitLaws.{within_budget}
 use Rattle.elf_headers.specs.Ledger.{Charges}
 use Rattle.elf_headers.specs.Stops.{stop_of}
 use Rattle.elf_headers.specs.declared.fault.Fault.{Fault}
 use Rattle.elf_headers.specs.declared.fault.Fault.TheVariants.{Refused as Refuses, Source as Unread}
 use Rattle.elf_headers.specs.declared.stop.Stop.{Stop}
-use Rattle.elf_hash.specs.Lookups.{Walks}
+use Rattle.elf_hash.specs.Lookups.{GivesLookup}
 use Rattle.elf_listing.specs.Reports.{TellsStop}
 use Rattle.elf_listing.specs.Shows.{IsOfOutput}
 use Rattle.elf_listing.proofs.AskLaws.{told_says}
@@ -39,7 +39,7 @@ abbrev GivesAnswer : Option ℕ → (s0 s3 : Counting) (cost : List ℕ → ℕ)
 GivesAnswer budget s0 s3 cost whole a b result file =
     Answers a b result (IsAnswered budget (length file) (cost file) (whole file)) (WholeOrUsedUp budget s0 s3 result (whole file))
 
-module _ {a b : Written} (budget : Option ℕ) (s0 s1 s2 s3 : Counting) (most : ℕ → ℕ) (cost : List ℕ → ℕ) (whole : List ℕ → Answer) (set : Limits s0 s1 budget) (unset : Limits s2 s3 None) where
+module _ {a b : Written} (budget : Option ℕ) (s0 s1 s2 s3 : Counting) (most : ℕ → ℕ) (cost : List ℕ → ℕ) (whole : List ℕ → Answer) (set : SetsLimit s0 s1 budget) (unset : SetsLimit s2 s3 None) where
   -- its answer was written, or a front of that
   pub lookup_answers : (result : Result ℕ Stop) → Charges s1 s2 None (most s1.seen.size) → Grows a b → IfErr result (IsOfOutput b)
       → ((file : List ℕ) → s1.seen.file ≡ Some file → Charges s1 s2 None (cost file) × WroteAnswer a b result (whole file))
@@ -100,7 +100,7 @@ unfolding found_version_line
 version_line index version = refl
 
 -- a refusal of a lookup is its answer
-pub find_refuses : (file : List ℕ) (headers : ℕ) (wanted : List ℕ) (fault : Fault) → Walks file (looked file headers wanted) (Err fault) → RefusesAs (find_answer file headers wanted) fault
+pub find_refuses : (file : List ℕ) (headers : ℕ) (wanted : List ℕ) (fault : Fault) → GivesLookup file (looked file headers wanted) (Err fault) → RefusesAs (find_answer file headers wanted) fault
 find_refuses file headers wanted (Refuses refusal) walks = λ other. rw (walks other) refl
 find_refuses file headers wanted (Unread fault at) walks = tt
 

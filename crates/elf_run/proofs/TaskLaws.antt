@@ -12,7 +12,7 @@ use Rattle.elf_model.specs.declared.causes.Cause.TheVariants.{Budget}
 use Rattle.elf_model.specs.declared.causes.Refusal.{Refusal}
 use Rattle.elf_model.proofs.BudgetLaws.{is_budget}
 use Rattle.elf_source.specs.Growth.{Grows}
-use Rattle.elf_source.specs.Source.{Counting, Keeps, Limits, counted}
+use Rattle.elf_source.specs.Source.{Counting, Keeps, SetsLimit, counted}
 use Rattle.elf_source.specs.Output.{Written, Takes, TakesFront}
 use Rattle.elf_source.proofs.LimitLaws.{budget_below, late_budget}
 use Rattle.elf_source.proofs.PutsLaws.{Takes-nothing, TakesFront-all, TakesFront-more, TakesFront-then}
@@ -64,7 +64,7 @@ answered_whole budget size cost whole result wrote holds =
     record { answer = whole; permitted = whole_answered budget size cost whole; wrote = wrote; holds = holds }
 
 -- a refusal for want of budget is one that the budget is too small for
-over_answered : (budget : Option ℕ) (size cost : ℕ) (whole : Answer) (refusal : Refusal) (s0 s1 : Counting) → s0.asked ≤ 2 ^ 127 → Limits s0 s1 budget → size ≡ s1.seen.size
+over_answered : (budget : Option ℕ) (size cost : ℕ) (whole : Answer) (refusal : Refusal) (s0 s1 : Counting) → s0.asked ≤ 2 ^ 127 → SetsLimit s0 s1 budget → size ≡ s1.seen.size
     → IsOver s1 cost refusal → IsBudget refusal → IsAnswered budget size cost whole (refused_answer refusal)
 over_answered None size cost whole refusal s0 s1 small set sized over is =
     let none = set.most in
@@ -88,7 +88,7 @@ told_refusal a b refusal (Out fault) tells = tells.1
 
 -- a task stopped, and what was told of that
 pub answered_stop : {a c : Written} {Holds : Answer → Type 0} (b : Written) (budget : Option ℕ) (size cost : ℕ) (whole : Answer) (stop told : Stop) (s0 s1 : Counting) → s0.asked ≤ 2 ^ 127
-    → Limits s0 s1 budget → size ≡ s1.seen.size → StopsIn s1 cost a b whole stop → TellsStop Columns b c stop told
+    → SetsLimit s0 s1 budget → size ≡ s1.seen.size → StopsIn s1 cost a b whole stop → TellsStop Columns b c stop told
     → ((answer : Answer) → ((refusal : Refusal) → stop ≡ Refused refusal → (IsBudget refusal → ⊥) → answer ≡ whole) → Holds answer)
     → Answers a c (Err told) (IsAnswered budget size cost whole) Holds
 answered_stop {a} {c} {Holds} b budget size cost whole (Refused refusal) told s0 s1 small set sized stops tells holds = by_cause (is_budget refusal.cause)
@@ -113,7 +113,7 @@ answered_stop b budget size cost whole (Out fault) told s0 s1 small set sized st
 
 -- what a task did, by what was asked for behind the limit
 pub runs :
-    {a b : Written} {Gives : List ℕ → Type 0} {result : Result ℕ Stop} (budget : Option ℕ) (s0 s1 s3 : Counting) (n : ℕ) (cost : List ℕ → ℕ) → Limits s0 s1 budget → Grows a b
+    {a b : Written} {Gives : List ℕ → Type 0} {result : Result ℕ Stop} (budget : Option ℕ) (s0 s1 s3 : Counting) (n : ℕ) (cost : List ℕ → ℕ) → SetsLimit s0 s1 budget → Grows a b
     → Keeps s1.seen s3.seen → s3.most ≡ None → s3.asked ≤ s1.asked + n → IfSome budget (λ bytes. s3.asked ≤ s0.asked + bytes) → IfErr result (FaultSays s0 s3 b)
     → ((file : List ℕ) → s1.seen.file ≡ Some file → (s3.asked ≤ s1.asked + cost file) × Gives file)
     → Runs s0 s3 a b result (AsksUpTo budget s0 s3 n) cost Gives
@@ -148,8 +148,8 @@ lookup_stops s1 s2 a n (Refuses refusal) whole says refuses =
 lookup_stops s1 s2 a n (Unread fault at) whole says refuses = TakesFront-all [] _ (Takes-nothing a)
 
 -- a lookup's budget is used up where its refusal is for want of it, and the refusal names the read that it had no room for
-pub lookup_used : (a b : Written) (budget : Option ℕ) (s0 s1 s2 s3 : Counting) (n : ℕ) (fault : Fault) (told : Stop) (whole answer : Answer) → s0.asked ≤ 2 ^ 127 → Limits s0 s1 budget
-    → Limits s2 s3 None → Says s1 s2 n fault → TellsStop Columns a b (stop_of fault) told → ((refusal : Refusal) → stop_of fault ≡ Refused refusal → (IsBudget refusal → ⊥) → answer ≡ whole)
+pub lookup_used : (a b : Written) (budget : Option ℕ) (s0 s1 s2 s3 : Counting) (n : ℕ) (fault : Fault) (told : Stop) (whole answer : Answer) → s0.asked ≤ 2 ^ 127 → SetsLimit s0 s1 budget
+    → SetsLimit s2 s3 None → Says s1 s2 n fault → TellsStop Columns a b (stop_of fault) told → ((refusal : Refusal) → stop_of fault ≡ Refused refusal → (IsBudget refusal → ⊥) → answer ≡ whole)
     → WholeOrUsedUp budget s0 s3 (Err told) whole answer
 lookup_used a b budget s0 s1 s2 s3 n (Unread cause at) told whole answer small set unset says tells other = rw (tells.1) tt
 lookup_used a b budget s0 s1 s2 s3 n (Refuses first) (Source cause at) whole answer small set unset says tells other = tt
@@ -176,7 +176,7 @@ section_stops entries s1 s2 a b out file headers section layout n cost (Source f
 section_stops entries s1 s2 a b out file headers section layout n cost (Out fault) says wants wrote = front_of_answer (applied file headers section layout) wrote
 
 -- what was told of a stop says of the source and the output what the stop did
-pub section_says : (s0 s1 s2 : Counting) (b c : Written) (n : ℕ) (budget : Option ℕ) (stop told : Stop) → Limits s0 s1 budget → ApplySays s1 s2 b n stop → TellsStop Columns b c stop told → FaultSays s0 s2 c told
+pub section_says : (s0 s1 s2 : Counting) (b c : Written) (n : ℕ) (budget : Option ℕ) (stop told : Stop) → SetsLimit s0 s1 budget → ApplySays s1 s2 b n stop → TellsStop Columns b c stop told → FaultSays s0 s2 c told
 section_says s0 s1 s2 b c n budget (Refused refusal) (Refused same) set says tells = tt
 section_says s0 s1 s2 b c n budget (Refused refusal) (Source fault at) set says tells = absurd tells
 section_says s0 s1 s2 b c n budget (Refused refusal) (Out fault) set says tells = tells.0

@@ -13,13 +13,13 @@ use Rattle.elf_words.specs.declared.requests.RequestFault.{RequestFault}
 use Rattle.elf_words.specs.declared.requests.RequestFault.TheVariants.{Words, BadName, BadItem, LayoutFull, LayoutRepeat, Memory}
 
 -- a text ends in the line of a refusal
-abbrev pub EndsIn : Refusal → List ℕ → Type 0
-EndsIn refusal text = (format : Format) × (lines : List ℕ) × (text ≡ lines ++ refusal_line format refusal)
+abbrev pub EndsInRefusal : Refusal → List ℕ → Type 0
+EndsInRefusal refusal text = (format : Format) × (lines : List ℕ) × (text ≡ lines ++ refusal_line format refusal)
 
 -- an answer was written and its status given, which is 1 where the refusal of its last line is; or a front of its text was written
 abbrev pub WroteAnswer : Written → Written → Result ℕ Stop → Answer → Type 0
 WroteAnswer old new (Ok status) answer = Takes old new answer.text × (status ≡ answer.status)
-WroteAnswer old new (Err (Refused refusal)) answer = Takes old new answer.text × (1 ≡ answer.status) × EndsIn refusal answer.text
+WroteAnswer old new (Err (Refused refusal)) answer = Takes old new answer.text × (1 ≡ answer.status) × EndsInRefusal refusal answer.text
 WroteAnswer old new (Err (Source fault at)) answer = TakesFront old new answer.text
 WroteAnswer old new (Err (Out fault)) answer = TakesFront old new answer.text
 

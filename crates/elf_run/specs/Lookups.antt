@@ -7,8 +7,8 @@ use Rattle.elf_model.specs.LoaderAnswer.{loader_text}
 use Rattle.elf_model.specs.LoaderFind.{LoaderLookup}
 
 -- the text and the status of what a lookup gives
-abbrev pub lookup_answer : List ℕ → List ℕ → Lookup → Answer
-lookup_answer file wanted looked =
+abbrev pub answer_of_lookup : List ℕ → List ℕ → Lookup → Answer
+answer_of_lookup file wanted looked =
     record { text = lookup_text file wanted looked.answer looked.compared; status = lookup_status looked.answer }
 
 -- the same of what a loader's lookup of a name gives

@@ -5,11 +5,11 @@ ghost use Rattle.elf_run.specs.Requests.{RunsShow, RunsTask};
 use crate::applying::write_applied;
 use crate::finding::look_up;
 use crate::resolving::resolve;
+use elf_headers::{Caps, HeaderStore, Stop};
 use elf_layout::Addresses;
 use elf_listing::show;
 use elf_record::Parts;
 use elf_source::{Counted, Out, Sink, Source};
-use elf_table::{Caps, HeaderStore, Stop};
 use elf_words::{Request, Task};
 
 /// Carries out a request on a source: writes its text and answers its status, 0 where the file was

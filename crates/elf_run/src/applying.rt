@@ -3,11 +3,11 @@ ghost use Rattle.std.specs.Prelude.{◌≡◌, ◌^◌, ◌≤◌};
 ghost use Rattle.elf_run.specs.Requests.{RunsApply};
 
 use elf_apply::apply_with;
+use elf_headers::{HeaderStore, Limits, Stop};
 use elf_layout::Addresses;
 use elf_listing::show_stop;
 use elf_model::Format;
 use elf_source::{Counted, Out, Sink, Source};
-use elf_table::{HeaderStore, Limits, Stop};
 
 /// Writes a section's bytes with its relocations applied, and answers the status 0; or the line of
 /// the refusal. Where there is a budget no more is read; afterwards no limit is set.

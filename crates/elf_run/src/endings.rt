@@ -3,8 +3,8 @@ ghost use Rattle.std.specs.Prelude.{◌≡◌, ◌≤◌, IfOk};
 ghost use Rattle.elf_run.specs.Answers.{refused_line, refused_status};
 ghost use Rattle.elf_run.specs.ArchiveAnswers.{refused_by};
 
+use elf_headers::Stop;
 use elf_program::{BAD_WORDS, Ending, OUT_OF_MEMORY};
-use elf_table::Stop;
 use elf_words::RequestFault;
 
 /// The word is no name that can be looked up.

@@ -1,18 +1,18 @@
 //! A name looked up.
 ghost use Rattle.std.specs.Prelude.{◌≡◌, ◌^◌, ◌≤◌, ℕ, List, length, IfErr};
-ghost use Rattle.elf_hash.specs.Lookups.{AnswersLookup as Looks};
+ghost use Rattle.elf_hash.specs.Lookups.{AnswersSysvLookup as Looks};
 ghost use Rattle.elf_model.specs.Hash.{Lookup as Looked};
 ghost use Rattle.elf_source.specs.Growth.{Grows};
 ghost use Rattle.elf_listing.specs.Shows.{IsOfOutput};
 ghost use Rattle.elf_run.specs.Answers.{WroteAnswer};
-ghost use Rattle.elf_run.specs.Lookups.{lookup_answer};
+ghost use Rattle.elf_run.specs.Lookups.{answer_of_lookup};
 ghost use Rattle.elf_run.specs.Requests.{RunsFind};
 
 use elf_hash::{Lookup, find};
+use elf_headers::{HeaderStore, Limits, Stop};
 use elf_listing::{show_steps, show_stop, show_symbol};
 use elf_model::Format;
 use elf_source::{Counted, Out, Sink, Source};
-use elf_table::{HeaderStore, Limits, Stop};
 
 /// Looks a name up in a file by its hash table: writes the symbol's line and how many names were
 /// compared, or that number alone where there is no such symbol, or the line of the refusal. Answers
@@ -52,7 +52,7 @@ fn show_lookup<W: Sink>(lookup: &Lookup, wanted: &[u8], out: &mut Out<W>) -> Res
     ensures grows { Grows out.old out.new }
     ensures fails { IfErr result (IsOfOutput out.new) }
     ensures text { (file : List ℕ) (looked : Looked) → Looks file looked lookup.now →
-        WroteAnswer out.old out.new result (lookup_answer file wanted.now looked) }
+        WroteAnswer out.old out.new result (answer_of_lookup file wanted.now looked) }
 {
     match lookup {
         Lookup::Found {

@@ -3,7 +3,7 @@ ghost use Rattle.std.specs.Prelude.{◌≡◌, ◌^◌, ◌≤◌, ◌++◌, ℕ
 ghost use Rattle.elf_lines.specs.Pieces.{shown_as};
 ghost use Rattle.elf_listing.specs.Shows.{IsOfOutput};
 ghost use Rattle.elf_loader.specs.Finding.{name_shown, version_found};
-ghost use Rattle.elf_loader.specs.Lookups.{AnswersLookup};
+ghost use Rattle.elf_loader.specs.Lookups.{AnswersLoaderLookup};
 ghost use Rattle.elf_model.specs.LineFronts.{symbol_front};
 ghost use Rattle.elf_model.specs.Lines.{named_line};
 ghost use Rattle.elf_model.specs.declared.formats.Format.TheVariants.{Columns};
@@ -20,12 +20,13 @@ ghost use Rattle.elf_run.specs.Lookups.{resolved_answer};
 ghost use Rattle.elf_run.specs.Requests.{RunsResolve};
 ghost use Rattle.elf_wanted.specs.Wants.{asked_of};
 
-use elf_lines::{Naming, show_named, symbol_front, symbol_version_front};
+use elf_headers::{HeaderStore, Limits, Stop};
+use elf_lines::{NumberNaming, show_named, symbol_front, symbol_version_front};
 use elf_listing::{show_steps, show_stop};
-use elf_loader::{FoundSymbol, FoundVersion, Lookup, VersionName, look_up};
+use elf_loader::{FoundSymbol, FoundVersion, SymbolLookup, VersionName, look_up};
 use elf_model::Format;
 use elf_source::{Counted, Out, OutFault, Sink, Source};
-use elf_table::{HeaderStore, Limits, NameBuf, NameEnd, Stop};
+use elf_table::{NameBuf, NameEnd};
 use elf_wanted::{Asked, Wanted, wanted_of};
 
 /// Looks a name up in a file as a loader does, alone or with a version: `text` is NAME, NAME@VERSION
@@ -68,7 +69,7 @@ pub(crate) fn resolve<S: Source, W: Sink>(
 /// # Errors
 /// A fault of the output, with a front of the lines written.
 fn show_resolved<W: Sink>(
-    lookup: &Lookup,
+    lookup: &SymbolLookup,
     wanted: &Wanted<'_>,
     name: &NameBuf,
     out: &mut Out<W>,
@@ -76,16 +77,16 @@ fn show_resolved<W: Sink>(
     ensures grows { Grows out.old out.new }
     ensures fails { IfErr result (IsOfOutput out.new) }
     ensures text { (file : List ℕ) (looked : LoaderLookup) →
-        AnswersLookup file (asked_of wanted.now.asked) name.now looked lookup.now →
+        AnswersLoaderLookup file (asked_of wanted.now.asked) name.now looked lookup.now →
         WroteAnswer out.old out.new result (resolved_answer file wanted.now.name.now looked) }
 {
     match lookup {
-        Lookup::Found(found) => {
+        SymbolLookup::Found(found) => {
             show_found(found, wanted, name, out)?;
             show_steps(true, found.tried, Format::Columns, out)?;
             Ok(0)
         }
-        Lookup::Absent { tried } => {
+        SymbolLookup::Absent { tried } => {
             show_steps(false, *tried, Format::Columns, out)?;
             Ok(1)
         }
@@ -111,7 +112,7 @@ fn show_found<W: Sink>(
         Puts out.old out.new result
         (named_line front (Whole wanted.now.name.now) ++ found_version_line found.now.index version) }
 {
-    let naming = Naming {
+    let naming = NumberNaming {
         gnu: true,
         machine: found.machine,
         format: Format::Columns,

@@ -1,9 +1,9 @@
 //! What is left of an output: it is tried once, and the program ends as that goes.
 
 use elf_fakes::{Printer, Script, Trouble};
+use elf_headers::Stop;
 use elf_program::{Ending, end_answer};
 use elf_source::{OutFault, SourceFault};
-use elf_table::Stop;
 use std::io::{BufWriter, ErrorKind, Write};
 use std::process::Abort;
 

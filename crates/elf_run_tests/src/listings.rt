@@ -5,9 +5,9 @@ use elf_fakes::Pieces;
 use elf_fixtures::{
     hash_with_cycle, library_without_sections, note_segment, one_call, one_symbol_table,
 };
+use elf_headers::HeaderRoom;
 use elf_listing::FIXED_BYTES;
 use elf_source::{MemorySource, StreamSource};
-use elf_table::HeaderRoom;
 use std::process::Abort;
 use std::test::Fail;
 

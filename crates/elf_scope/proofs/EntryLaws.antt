@@ -9,18 +9,18 @@ use Rattle.elf_model.specs.Tables.{DYNAMIC_SIZE}
 use Rattle.elf_record.specs.Dyn.{IsDyn}
 use Rattle.elf_record.specs.declared.dyn_entry.Dyn.{Dyn}
 use Rattle.elf_table.specs.Tables.{Rows}
-use Rattle.elf_scope.specs.Entries.{AreEntries, AreListed, EachTag, TakesEntry, entry_at, entry_here, first_entry, listed_entry, no_entries, tagged_entry}
-use Rattle.elf_scope.specs.declared.entry.Entries.{Entries}
+use Rattle.elf_scope.specs.Entries.{AreTaggedEntries, AreListed, EachTag, TakesEntry, dynamic_entry_at, entry_here, first_entry, listed_entry, no_entries, tagged_entry}
+use Rattle.elf_scope.specs.declared.entry.TaggedEntries.{TaggedEntries}
 use Rattle.elf_scope.specs.declared.entry.Entry.{Entry}
 
 module _ (file : List ℕ) (tag : ℕ) where
-  here_some : (at : ℕ) → (d_tag file at == tag) ≡ true → entry_here file at tag ≡ Some (entry_at file at)
+  here_some : (at : ℕ) → (d_tag file at == tag) ≡ true → entry_here file at tag ≡ Some (dynamic_entry_at file at)
   here_some at t = rw (t, entry_here) refl
 
   here_none : (at : ℕ) → (d_tag file at == tag) ≡ false → entry_here file at tag ≡ None
   here_none at t = rw (t, entry_here) refl
 
-  tagged_here : (at n : ℕ) → (d_tag file at == tag) ≡ true → tagged_entry file at (suc n) tag ≡ Some (entry_at file at)
+  tagged_here : (at n : ℕ) → (d_tag file at == tag) ≡ true → tagged_entry file at (suc n) tag ≡ Some (dynamic_entry_at file at)
   unfolding tagged_entry
   tagged_here at n t = rw (t, tagged_entry) refl
 
@@ -51,7 +51,7 @@ module _ (file : List ℕ) (tag : ℕ) where
   -- the entry of a row that is found
   abbrev row_entry : Option ℕ → ℕ → Option Entry
   row_entry None base = None
-  row_entry (Some i) base = Some (entry_at file (dynamic_at base i))
+  row_entry (Some i) base = Some (dynamic_entry_at file (dynamic_at base i))
 
   abbrev has_tag : ℕ → ℕ → Bool
   has_tag base i = d_tag file (dynamic_at base i) == tag
@@ -87,7 +87,7 @@ module _ (file : List ℕ) (tag : ℕ) where
 
   -- so it stands where the definitions say
   listed_is : (at : ℕ) (table : Rows) → table.at ≡ p_offset file at → table.count ≡ p_filesz file at / DYNAMIC_SIZE
-      → listed_entry file table tag ≡ option_map (entry_at file) (tagged_row file at tag)
+      → listed_entry file table tag ≡ option_map (dynamic_entry_at file) (tagged_row file at tag)
   unfolding tagged_row
   listed_is at table place count =
       let n = dynamic_count file (p_offset file at) (p_filesz file at / DYNAMIC_SIZE) in
@@ -99,13 +99,13 @@ module _ (file : List ℕ) (tag : ℕ) where
       go : (found : Option ℕ)
           → first_that (has_tag (p_offset file at)) 0 (dynamic_count file (p_offset file at) (p_filesz file at / DYNAMIC_SIZE)) ≡ found
           → row_entry (first_that (has_tag (p_offset file at)) 0 (dynamic_count file (p_offset file at) (p_filesz file at / DYNAMIC_SIZE))) (p_offset file at)
-          ≡ option_map (entry_at file) (tagged_row file at tag)
+          ≡ option_map (dynamic_entry_at file) (tagged_row file at tag)
       go None e = rw (e, tagged_row) refl
       go (Some i) e = rw (e, tagged_row) refl
 
 -- of each tag
-pub entries_are : (file : List ℕ) (at : ℕ) (table : Rows) (found : Entries) → table.at ≡ p_offset file at → table.count ≡ p_filesz file at / DYNAMIC_SIZE
-    → AreListed file table found → AreEntries file at found
+pub entries_are : (file : List ℕ) (at : ℕ) (table : Rows) (found : TaggedEntries) → table.at ≡ p_offset file at → table.count ≡ p_filesz file at / DYNAMIC_SIZE
+    → AreListed file table found → AreTaggedEntries file at found
 entries_are file at table found place count l = record {
   hash = l.hash ∙ listed_is file _ at table place count;
   gnu_hash = l.gnu_hash ∙ listed_is file _ at table place count;
@@ -117,7 +117,7 @@ entries_are file at table found place count l = record {
   verneed = l.verneed ∙ listed_is file _ at table place count;
 }
 
-module _ (file : List ℕ) (table : Rows) (at n before next : ℕ) (old new : Entries) (less : before ≡ suc n) (there : next ≡ at + 16) (t : TakesEntry file at old new)
+module _ (file : List ℕ) (table : Rows) (at n before next : ℕ) (old new : TaggedEntries) (less : before ≡ suc n) (there : next ≡ at + 16) (t : TakesEntry file at old new)
     (e : EachTag (λ entry tag. first_entry entry (tagged_entry file at before tag) ≡ listed_entry file table tag) old) where
   taken : (one other : Option Entry) (tag : ℕ) → one ≡ first_entry other (entry_here file at tag) → first_entry other (tagged_entry file at before tag) ≡ listed_entry file table tag
       → first_entry one (tagged_entry file next n tag) ≡ listed_entry file table tag
@@ -135,7 +135,7 @@ module _ (file : List ℕ) (table : Rows) (at n before next : ℕ) (old new : En
     verneed = taken _ _ _ t.verneed e.verneed;
   }
 
-module _ (file : List ℕ) (table : Rows) (at n : ℕ) (found : Entries) (none : n ≡ 0)
+module _ (file : List ℕ) (table : Rows) (at n : ℕ) (found : TaggedEntries) (none : n ≡ 0)
     (e : EachTag (λ entry tag. first_entry entry (tagged_entry file at n tag) ≡ listed_entry file table tag) found) where
   pub each_end : AreListed file table found
   each_end = record {
@@ -155,7 +155,7 @@ pub each_start : (file : List ℕ) (table : Rows) (at n : ℕ) → at ≡ table.
 each_start file table at n place count = rw (place, count) (record { hash = refl; gnu_hash = refl; symtab = refl; strtab = refl; strsz = refl; versym = refl; verdef = refl; verneed = refl })
 
 -- an entry that is taken in stands at an offset that is told in other words
-pub takes_at : (file : List ℕ) (at there : ℕ) (entry : Dyn) (old new : Entries) → there ≡ at → (IsDyn file there entry → TakesEntry file there old new) → IsDyn file at entry
+pub takes_at : (file : List ℕ) (at there : ℕ) (entry : Dyn) (old new : TaggedEntries) → there ≡ at → (IsDyn file there entry → TakesEntry file there old new) → IsDyn file at entry
     → TakesEntry file at old new
 takes_at file at there entry old new is gives stands =
     subst (λ (x : ℕ). TakesEntry file x old new) is (gives (subst (λ (x : ℕ). IsDyn file x entry) (sym is) stands))

@@ -18,7 +18,7 @@ use Rattle.elf_table.specs.Relocations.{RefusedBy}
 use Rattle.elf_table.specs.Sections.{rows}
 use Rattle.elf_table.specs.Tables.{Rows, RowsWithin, size_of}
 use Rattle.elf_table.specs.Views.{dynamic_table_at, first_of_kind}
-use Rattle.elf_scope.specs.Scopes.{Finds}
+use Rattle.elf_scope.specs.Scopes.{IsScopeFound}
 use Rattle.elf_scope.specs.Segments.{entries_asked, scope_by_entries}
 use Rattle.elf_scope.specs.declared.scope.Scope.{Scope}
 use Rattle.elf_scope.proofs.SettleLaws.{checked_fails, checked_passes}
@@ -39,17 +39,17 @@ size_within table size h = fits_in table.count table.entry table.at size h
 
 module _ (file : List ℕ) where
   -- a LOAD segment lies over another, or none does
-  pub overlap_refused : (fault : Fault) → RefusedBy (overlap_checks file) fault → Finds file (scope_by_segments file) (Err fault)
+  pub overlap_refused : (fault : Fault) → RefusedBy (overlap_checks file) fault → IsScopeFound file (scope_by_segments file) (Err fault)
   unfolding scope_by_segments
   overlap_refused (Refused refusal) r = λ other. rw (r, scope_by_segments) refl
   overlap_refused (Source fault at) r = tt
 
   pub apart_finds : first_refusal (overlap_checks file) ≡ None → (result : Result Scope Fault)
-      → Finds file (scope_in_segments file) result → Finds file (scope_by_segments file) result
+      → IsScopeFound file (scope_in_segments file) result → IsScopeFound file (scope_by_segments file) result
   unfolding scope_by_segments
   apart_finds none result f =
       let is : scope_by_segments file ≡ scope_in_segments file = rw (none, scope_by_segments) refl in
-      subst (λ r. Finds file r result) (sym is) f
+      subst (λ r. IsScopeFound file r result) (sym is) f
 
   pub index_is : dynamic_segment_index file ≡ first_of_kind file PT_DYNAMIC
   unfolding dynamic_segment_index
@@ -60,7 +60,7 @@ module _ (file : List ℕ) where
   segments_none e = rw (e, scope_in_segments) refl
 
   -- a fault of a read tells nothing
-  pub read_finds : (fault : Fault) → IsOfRead fault → Finds file (scope_in_segments file) (Err fault)
+  pub read_finds : (fault : Fault) → IsOfRead fault → IsScopeFound file (scope_in_segments file) (Err fault)
   read_finds (Refused refusal) budget = λ other. absurd (other budget)
   read_finds (Source fault at) budget = tt
 
@@ -69,16 +69,16 @@ module _ (file : List ℕ) where
     unfolding scope_in_segments
     segments_are = rw (e, scope_in_segments) refl
 
-    segment_fails : (fault : Fault) → RefusedBy (segment_dynamic_checks file (segment_at file index)) fault → Finds file (scope_in_segment file index (segment_at file index)) (Err fault)
+    segment_fails : (fault : Fault) → RefusedBy (segment_dynamic_checks file (segment_at file index)) fault → IsScopeFound file (scope_in_segment file index (segment_at file index)) (Err fault)
     unfolding scope_in_segment
     segment_fails (Refused refusal) r = λ other. rw (r, scope_in_segment) refl
     segment_fails (Source fault at) r = tt
 
-    pub dynamic_refused : (fault : Fault) → Err fault ≡ dynamic_table_at file (segment_at file index) → Finds file (scope_in_segments file) (Err fault)
+    pub dynamic_refused : (fault : Fault) → Err fault ≡ dynamic_table_at file (segment_at file index) → IsScopeFound file (scope_in_segments file) (Err fault)
     dynamic_refused fault h =
         let at = segment_at file index in
         let refused = checked_fails (segment_dynamic_checks file at) (rows (p_offset file at) (p_filesz file at / 16) 16) fault h in
-        subst (λ r. Finds file r (Err fault)) (sym segments_are) (segment_fails fault refused)
+        subst (λ r. IsScopeFound file r (Err fault)) (sym segments_are) (segment_fails fault refused)
 
     module _ (table : Rows) (h : Ok table ≡ dynamic_table_at file (segment_at file index)) where
       pub dynamic_is : (first_refusal (segment_dynamic_checks file (segment_at file index)) ≡ None)
@@ -99,5 +99,5 @@ module _ (file : List ℕ) where
       unfolding scope_in_segment
       in_segment = rw (dynamic_is.0, scope_in_segment) refl
 
-      pub segment_finds : (result : Result Scope Fault) → Finds file (scope_by_entries file index (segment_at file index)) result → Finds file (scope_in_segments file) result
-      segment_finds result f = subst (λ r. Finds file r result) (sym (segments_are ∙ in_segment)) f
+      pub segment_finds : (result : Result Scope Fault) → IsScopeFound file (scope_by_entries file index (segment_at file index)) result → IsScopeFound file (scope_in_segments file) result
+      segment_finds result f = subst (λ r. IsScopeFound file r result) (sym (segments_are ∙ in_segment)) f

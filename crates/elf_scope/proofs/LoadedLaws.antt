@@ -19,34 +19,34 @@ use Rattle.elf_headers.specs.declared.fault.Fault.{Fault}
 use Rattle.elf_headers.specs.declared.fault.Fault.TheVariants.{Refused, Source}
 use Rattle.elf_headers.proofs.LoadLaws.{early_is, load_most}
 use Rattle.elf_scope.specs.Finding.{scope_cost, scope_loaded, segments_bytes}
-use Rattle.elf_scope.specs.Scopes.{Finds}
+use Rattle.elf_scope.specs.Scopes.{IsScopeFound}
 use Rattle.elf_scope.specs.Segments.{entries_asked}
 use Rattle.elf_scope.specs.declared.scope.Scope.{Scope}
 
 -- a fault of a read tells nothing
-pub read_tells : (file : List ℕ) (found : Result IsScopeOf Refusal) (fault : Fault) → IsOfRead fault → Finds file found (Err fault)
+pub read_tells : (file : List ℕ) (found : Result IsScopeOf Refusal) (fault : Fault) → IsOfRead fault → IsScopeFound file found (Err fault)
 read_tells file found (Refused refusal) budget = λ other. absurd (other budget)
 read_tells file found (Source fault at) budget = tt
 
 -- a refusal of the file
-told_refused : (file : List ℕ) (found : Result IsScopeOf Refusal) (refusal : Refusal) → ((IsBudget refusal → ⊥) → found ≡ Err refusal) → Finds file found (Err (Refused refusal))
+told_refused : (file : List ℕ) (found : Result IsScopeOf Refusal) (refusal : Refusal) → ((IsBudget refusal → ⊥) → found ≡ Err refusal) → IsScopeFound file found (Err (Refused refusal))
 told_refused file found refusal h = h
 
 module _ (file : List ℕ) where
-  pub loaded_sections : (result : Result Scope Fault) → (e_shnum file ≡ 0 → ⊥) → Finds file (scope_by_sections file) result → Finds file (scope_loaded file) result
+  pub loaded_sections : (result : Result Scope Fault) → (e_shnum file ≡ 0 → ⊥) → IsScopeFound file (scope_by_sections file) result → IsScopeFound file (scope_loaded file) result
   loaded_sections result some f =
       let other : (e_shnum file == 0) ≡ false = ne_eqb (e_shnum file) 0 some in
       let is : scope_loaded file ≡ scope_by_sections file = rw (other, scope_loaded) refl in
-      subst (λ r. Finds file r result) (sym is) f
+      subst (λ r. IsScopeFound file r result) (sym is) f
 
   module _ (none : e_shnum file ≡ 0) where
     zero_is : (e_shnum file == 0) ≡ true
     zero_is = eq-eqb (e_shnum file) 0 none
 
-    pub loaded_segments : (result : Result Scope Fault) → Finds file (scope_by_segments file) result → Finds file (scope_loaded file) result
+    pub loaded_segments : (result : Result Scope Fault) → IsScopeFound file (scope_by_segments file) result → IsScopeFound file (scope_loaded file) result
     loaded_segments result f =
         let is : scope_loaded file ≡ scope_by_segments file = rw (zero_is, scope_loaded) refl in
-        subst (λ r. Finds file r result) (sym is) f
+        subst (λ r. IsScopeFound file r result) (sym is) f
 
     pub segments_cost : segments_asked file ≡ 56 * e_phnum file + entries_asked file
     unfolding segments_asked
@@ -61,22 +61,22 @@ module _ (file : List ℕ) (headers : ℕ) where
   unfolding scope_of
   scope_passed e = rw (e, scope_of) refl
 
-  pub tells_header : (fault : Fault) → HeaderRead file (Err fault) → Finds file (scope_of file headers) (Err fault)
+  pub tells_header : (fault : Fault) → HeaderRead file (Err fault) → IsScopeFound file (scope_of file headers) (Err fault)
   tells_header (Refused refusal) read = λ other. scope_refused refusal (first_refusal-some (header_checks file) (load_checks file headers) refusal (read other))
   tells_header (Source fault at) read = tt
 
   pub tells_load : (fault : Fault) (store : Stored) → first_refusal (header_checks file) ≡ None → store.slots ≡ headers → LoadedAs file (Err fault) store
-      → Finds file (scope_of file headers) (Err fault)
+      → IsScopeFound file (scope_of file headers) (Err fault)
   tells_load (Refused refusal) store passed slots loads = λ other.
       let fails = ap (λ (n : ℕ). first_refusal (load_checks file n)) (sym slots) ∙ loads other in
       scope_refused refusal (first_refusal-none (header_checks file) (load_checks file headers) passed ∙ fails)
   tells_load (Source fault at) store passed slots loads = tt
 
   pub tells_loaded : (result : Result Scope Fault) → first_refusal (header_checks file) ≡ None → first_refusal (load_checks file headers) ≡ None
-      → Finds file (scope_loaded file) result → Finds file (scope_of file headers) result
+      → IsScopeFound file (scope_loaded file) result → IsScopeFound file (scope_of file headers) result
   tells_loaded result header load f =
       let is = scope_passed (first_refusal-none (header_checks file) (load_checks file headers) header ∙ load) in
-      subst (λ r. Finds file r result) (sym is) f
+      subst (λ r. IsScopeFound file r result) (sym is) f
 
   -- what it costs: the file header at least, and where the early checks pass the headers
   pub scope_least : 64 ≤ scope_cost file headers

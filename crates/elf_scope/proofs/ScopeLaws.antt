@@ -16,22 +16,22 @@ use Rattle.elf_table.specs.Relocations.{RefusedBy}
 use Rattle.elf_table.specs.Sections.{strings}
 use Rattle.elf_table.specs.Tables.{Rows, Strings, strings_in}
 use Rattle.elf_table.specs.Views.{rest_mapped, strings_mapped}
-use Rattle.elf_scope.specs.Entries.{AreEntries, entry_at}
-use Rattle.elf_hash.specs.Kinds.{kind_of}
-use Rattle.elf_scope.specs.Scopes.{Finds, IsScope}
+use Rattle.elf_scope.specs.Entries.{AreTaggedEntries, dynamic_entry_at}
+use Rattle.elf_hash.specs.Kinds.{hash_kind_of}
+use Rattle.elf_scope.specs.Scopes.{IsScopeFound, IsScope}
 use Rattle.elf_scope.specs.Segments.{AreRowsSymbols, IsRest, TellSymbols, rows_records, scope_by_entries, version_rows}
 use Rattle.elf_scope.specs.Versions.{AreVersions}
-use Rattle.elf_scope.specs.declared.entry.Entries.{Entries}
+use Rattle.elf_scope.specs.declared.entry.TaggedEntries.{TaggedEntries}
 use Rattle.elf_scope.specs.declared.entry.Entry.{Entry}
 use Rattle.elf_scope.specs.declared.scope.Scope.{Scope}
 use Rattle.elf_scope.specs.declared.symbols.Symbols.{Symbols}
-use Rattle.elf_scope.specs.declared.versions.Versions.{Versions}
+use Rattle.elf_scope.specs.declared.versions.VersionTables.{VersionTables}
 use Rattle.elf_scope.proofs.SettleLaws.{checked_fails, checked_passes, passed_both, refused_back, refused_front}
 use Rattle.elf_scope.proofs.SegmentLaws.{entry_passes, entry_refused, row_some}
 
 -- whether an entry is there
 module _ (file : List ℕ) where
-  none_map : (row : Option ℕ) → is_none (option_map (entry_at file) row) ≡ is_none row
+  none_map : (row : Option ℕ) → is_none (option_map (dynamic_entry_at file) row) ≡ is_none row
   none_map None = refl
   none_map (Some at) = refl
 
@@ -60,7 +60,7 @@ module _ (file : List ℕ) (at row : ℕ) where
   unfolding rows_checks
   rows_are = refl
 
-  pub symbols_missing : (found : Entries) → AreEntries file at found → TellSymbols found None → RefusedBy (rows_checks file at row) (Refused (record { at = row; cause = Unmapped }))
+  pub symbols_missing : (found : TaggedEntries) → AreTaggedEntries file at found → TellSymbols found None → RefusedBy (rows_checks file at row) (Refused (record { at = row; cause = Unmapped }))
   symbols_missing found are none =
       let s = ap is_none are.symtab ∙ none_map file (tagged_row file at DT_SYMTAB) in
       let t = ap is_none are.strtab ∙ none_map file (tagged_row file at DT_STRTAB) in
@@ -71,7 +71,7 @@ module _ (file : List ℕ) (at row : ℕ) where
       (refused_front (missing_rows ++ symbol_rows ++ string_rows) (version_rows file at) fault
       (refused_front (missing_rows ++ symbol_rows) string_rows fault (refused_front missing_rows symbol_rows fault first)))
 
-  module _ (found : Entries) (symtab strtab strsz : Entry) (are : AreEntries file at found) (told : TellSymbols found (Some (symtab, strtab, strsz))) where
+  module _ (found : TaggedEntries) (symtab strtab strsz : Entry) (are : AreTaggedEntries file at found) (told : TellSymbols found (Some (symtab, strtab, strsz))) where
     symtab_here : (tagged_row file at DT_SYMTAB ≡ Some symtab.at) × (d_un file symtab.at ≡ symtab.value)
     symtab_here = row_some file _ symtab (sym told.0 ∙ are.symtab)
 
@@ -133,7 +133,7 @@ module _ (file : List ℕ) (at row : ℕ) where
         pub versions_refuse : (fault : Fault) → RefusedBy (version_rows file at) fault → RefusedBy (rows_checks file at row) fault
         versions_refuse fault r = rw rows_are (refused_back (missing_rows ++ symbol_rows ++ string_rows) (version_rows file at) fault strings_pass r)
 
-        pub symbols_settle : (index : ℕ) (symbols : Symbols) (versions : Versions)
+        pub symbols_settle : (index : ℕ) (symbols : Symbols) (versions : VersionTables)
             → Settles (version_rows file at) (AreVersions file (segment_words file index at) (rows_records file at)) (Ok versions)
             → symbols.index ≡ index → symbols.table.at ≡ table.at → symbols.table.count ≡ table.count / 24 → symbols.names ≡ names
             → symbols.words ≡ versions.words → symbols.definitions ≡ versions.definitions → symbols.needs ≡ versions.needs
@@ -208,7 +208,7 @@ module _ (file : List ℕ) (kind : IsHashKind) (index at : ℕ) (entry : Entry) 
       rows_refuse fault r = rw all_are (refused_back (rest_checks file entry.at ++ shape) (rows_checks file at entry.at) fault shape_passes r)
 
       pub scope_settles : (scope : Scope) → Settles (rows_checks file at entry.at) (AreRowsSymbols file index at) (Ok scope.symbols)
-          → scope.machine ≡ e_machine file → kind_of scope.hash.kind ≡ kind → scope.hash.head ≡ entry.at → scope.hash.at ≡ table.at → scope.hash.size ≡ table.count
+          → scope.machine ≡ e_machine file → hash_kind_of scope.hash.kind ≡ kind → scope.hash.head ≡ entry.at → scope.hash.at ≡ table.at → scope.hash.size ≡ table.count
           → scope.hash.symbols ≡ scope.symbols.table.count
           → Settles (segment_checks file kind at entry.at) (IsScope file (segment_scope file kind index at entry.at)) (Ok scope)
       unfolding segment_scope
@@ -232,7 +232,7 @@ module _ (file : List ℕ) (index at : ℕ) where
 
   pub entries_find : (found : IsHashKind × ℕ) → hash_row file at ≡ Some found → (result : Result Scope Fault)
       → Settles (segment_checks file found.0 at found.1) (IsScope file (segment_scope file found.0 index at found.1)) result
-      → Finds file (scope_by_entries file index at) result
+      → IsScopeFound file (scope_by_entries file index at) result
   entries_find found e (Ok scope) s = (segment_scope file found.0 index at found.1, rw (e, s.0, scope_by_entries) refl, s.1)
   entries_find found e (Err (Refused refusal)) s = λ other. rw (e, s, scope_by_entries) refl
   entries_find found e (Err (Source fault offset)) s = absurd s

@@ -11,11 +11,11 @@ use Rattle.elf_headers.specs.declared.fault.Fault.{Fault}
 use Rattle.elf_headers.specs.declared.fault.Fault.TheVariants.{Refused, Source}
 use Rattle.elf_table.specs.HashSections.{AreHashed, Settles}
 use Rattle.elf_table.specs.Tables.{Rows, Strings, strings_in}
-use Rattle.elf_hash.specs.Kinds.{kind_of}
-use Rattle.elf_scope.specs.Scopes.{Finds, IsScope}
+use Rattle.elf_hash.specs.Kinds.{hash_kind_of}
+use Rattle.elf_scope.specs.Scopes.{IsScopeFound, IsScope}
 use Rattle.elf_scope.specs.Versions.{AreVersions}
 use Rattle.elf_scope.specs.declared.scope.Scope.{Scope}
-use Rattle.elf_scope.specs.declared.versions.Versions.{Versions}
+use Rattle.elf_scope.specs.declared.versions.VersionTables.{VersionTables}
 use Rattle.elf_scope.proofs.SettleLaws.{passed_both}
 
 -- the first section with a hash table
@@ -38,17 +38,17 @@ module _ (file : List ℕ) where
   sections_none e = rw (e, scope_by_sections) refl
 
   pub sections_find : (found : IsHashKind × ℕ) → hash_section file ≡ Some found → (result : Result Scope Fault)
-      → Settles (section_checks file found.0 found.1) (IsScope file (section_scope file found.0 found.1)) result → Finds file (scope_by_sections file) result
+      → Settles (section_checks file found.0 found.1) (IsScope file (section_scope file found.0 found.1)) result → IsScopeFound file (scope_by_sections file) result
   unfolding scope_by_sections
   sections_find found e (Ok scope) s = (section_scope file found.0 found.1, rw (e, s.0, scope_by_sections) refl, s.1)
   sections_find found e (Err (Refused refusal)) s = λ other. rw (e, s, scope_by_sections) refl
   sections_find found e (Err (Source fault at)) s = absurd s
 
 -- what a section with a hash table answers, once its checks pass
-pub section_is : (file : List ℕ) (kind : IsHashKind) (at : ℕ) (scope : Scope) (found : ℕ × (Rows × Strings)) (versions : Versions)
+pub section_is : (file : List ℕ) (kind : IsHashKind) (at : ℕ) (scope : Scope) (found : ℕ × (Rows × Strings)) (versions : VersionTables)
     → Settles (hash_checks_from (least_size kind) file at) (AreHashed file at) (Ok found)
     → Settles (version_checks file at) (AreVersions file (section_words file) (records_of_type file SHT_GNU_VERDEF Definition (records_of_type file SHT_GNU_VERNEED File []))) (Ok versions)
-    → scope.machine ≡ e_machine file → kind_of scope.hash.kind ≡ kind → scope.hash.head ≡ at → scope.hash.at ≡ sh_offset file at → scope.hash.size ≡ sh_size file at
+    → scope.machine ≡ e_machine file → hash_kind_of scope.hash.kind ≡ kind → scope.hash.head ≡ at → scope.hash.at ≡ sh_offset file at → scope.hash.size ≡ sh_size file at
     → scope.hash.symbols ≡ found.1.0.count → scope.symbols.index ≡ found.0 → scope.symbols.table ≡ found.1.0 → scope.symbols.names ≡ found.1.1
     → scope.symbols.words ≡ versions.words → scope.symbols.definitions ≡ versions.definitions → scope.symbols.needs ≡ versions.needs
     → Settles (section_checks file kind at) (IsScope file (section_scope file kind at)) (Ok scope)

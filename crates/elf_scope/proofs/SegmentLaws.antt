@@ -17,28 +17,28 @@ use Rattle.elf_table.specs.Relocations.{RefusedBy}
 use Rattle.elf_table.specs.Sections.{rows}
 use Rattle.elf_table.specs.Tables.{Rows, strings_in}
 use Rattle.elf_table.specs.Views.{rest_mapped, rest_of}
-use Rattle.elf_scope.specs.Entries.{AreEntries, entry_at}
+use Rattle.elf_scope.specs.Entries.{AreTaggedEntries, dynamic_entry_at}
 use Rattle.elf_scope.specs.Segments.{IsRest, TellsHash, rows_records, version_rows}
 use Rattle.elf_scope.specs.Symbols.{AreWords, IsRecordTable, IsWords}
 use Rattle.elf_scope.specs.Versions.{AreInFront, AreVersions}
-use Rattle.elf_scope.specs.declared.entry.Entries.{Entries}
+use Rattle.elf_scope.specs.declared.entry.TaggedEntries.{TaggedEntries}
 use Rattle.elf_scope.specs.declared.entry.Entry.{Entry}
 use Rattle.elf_hash.specs.declared.kind.HashKind.TheVariants.{Gnu, Sysv}
 use Rattle.elf_scope.specs.declared.symbols.RecordTable.{RecordTable}
 use Rattle.elf_scope.specs.declared.symbols.VersionWords.{VersionWords}
-use Rattle.elf_scope.specs.declared.versions.Versions.{Versions}
+use Rattle.elf_scope.specs.declared.versions.VersionTables.{VersionTables}
 use Rattle.elf_scope.proofs.SettleLaws.{checked_fails, checked_passes, passed_both, refused_back, refused_front}
 use Rattle.elf_scope.proofs.VersionLaws.{both_in_front, records_kept}
 
 -- an entry that is told of, and its row
 module _ (file : List ℕ) where
-  pub row_some : (row : Option ℕ) (entry : Entry) → Some entry ≡ option_map (entry_at file) row → (row ≡ Some entry.at) × (d_un file entry.at ≡ entry.value)
+  pub row_some : (row : Option ℕ) (entry : Entry) → Some entry ≡ option_map (dynamic_entry_at file) row → (row ≡ Some entry.at) × (d_un file entry.at ≡ entry.value)
   row_some None entry h = absurd (cc)
   row_some (Some at) entry h =
-      let is : entry ≡ entry_at file at = cc in
+      let is : entry ≡ dynamic_entry_at file at = cc in
       (ap Some (sym (ap (λ (e : Entry). e.at) is)), ap (d_un file) (ap (λ (e : Entry). e.at) is) ∙ sym (ap (λ (e : Entry). e.value) is))
 
-  pub row_none : (row : Option ℕ) → None ≡ option_map (entry_at file) row → row ≡ None
+  pub row_none : (row : Option ℕ) → None ≡ option_map (dynamic_entry_at file) row → row ≡ None
   row_none None h = refl
   row_none (Some at) h = absurd (cc)
 
@@ -98,26 +98,26 @@ module _ (file : List ℕ) (at : ℕ) where
   unfolding hash_row
   no_row none e = rw (none, e, hash_row) refl
 
-  pub tells_gnu : (found : Entries) (entry : Entry) → AreEntries file at found → found.gnu_hash ≡ Some entry → TellsHash file at (Some (Gnu, entry))
+  pub tells_gnu : (found : TaggedEntries) (entry : Entry) → AreTaggedEntries file at found → found.gnu_hash ≡ Some entry → TellsHash file at (Some (Gnu, entry))
   tells_gnu found entry are is = let r = row_some file _ entry (sym is ∙ are.gnu_hash) in (gnu_row entry.at r.0, r.1)
 
-  pub tells_sysv : (found : Entries) (entry : Entry) → AreEntries file at found → found.gnu_hash ≡ None → found.hash ≡ Some entry → TellsHash file at (Some (Sysv, entry))
+  pub tells_sysv : (found : TaggedEntries) (entry : Entry) → AreTaggedEntries file at found → found.gnu_hash ≡ None → found.hash ≡ Some entry → TellsHash file at (Some (Sysv, entry))
   tells_sysv found entry are none is =
       let r = row_some file _ entry (sym is ∙ are.hash) in (sysv_row entry.at (row_none file _ (sym none ∙ are.gnu_hash)) r.0, r.1)
 
-  pub tells_none : (found : Entries) → AreEntries file at found → found.gnu_hash ≡ None → found.hash ≡ None → TellsHash file at None
+  pub tells_none : (found : TaggedEntries) → AreTaggedEntries file at found → found.gnu_hash ≡ None → found.hash ≡ None → TellsHash file at None
   tells_none found are none other = no_row (row_none file _ (sym none ∙ are.gnu_hash)) (row_none file _ (sym other ∙ are.hash))
 
 -- the records at an entry
 module _ (file : List ℕ) (at tag : ℕ) (kind : VersionKind) where
-  pub tag_none : (entry : Option Entry) → entry ≡ option_map (entry_at file) (tagged_row file at tag) → entry ≡ None
+  pub tag_none : (entry : Option Entry) → entry ≡ option_map (dynamic_entry_at file) (tagged_row file at tag) → entry ≡ None
       → Settles (checks_of_row (tagged_row file at tag) (rest_checks file)) (AreInFront file (records_of_tag file at tag kind)) (Ok None)
   tag_none entry is none =
       let e = row_none file (tagged_row file at tag) (sym none ∙ is) in
       let same : (others : List IsTableOf) → records_of_tag file at tag kind others ≡ others = λ others. rw (e, records_of_tag) refl in
       (ap (λ (r : Option ℕ). first_refusal (checks_of_row r (rest_checks file))) e, λ others tables h. rw (same others) h)
 
-  module _ (option : Option Entry) (entry : Entry) (is : option ≡ option_map (entry_at file) (tagged_row file at tag)) (some : option ≡ Some entry) where
+  module _ (option : Option Entry) (entry : Entry) (is : option ≡ option_map (dynamic_entry_at file) (tagged_row file at tag)) (some : option ≡ Some entry) where
     here : (tagged_row file at tag ≡ Some entry.at) × (d_un file entry.at ≡ entry.value)
     here = row_some file (tagged_row file at tag) entry (sym some ∙ is)
 
@@ -145,12 +145,12 @@ none_is (Some entry) false h = refl
 
 -- the entry of the words of versions
 module _ (file : List ℕ) (at : ℕ) where
-  none_map : (row : Option ℕ) → is_none (option_map (entry_at file) row) ≡ is_none row
+  none_map : (row : Option ℕ) → is_none (option_map (dynamic_entry_at file) row) ≡ is_none row
   none_map None = refl
   none_map (Some at) = refl
 
-  words_by : (found : Entries) (none : Bool) → AreEntries file at found → (is_none found.verdef && is_none found.verneed) ≡ none
-      → (elim none as (λ _. Option Entry) [ true ↦ None | false ↦ found.versym ]) ≡ option_map (entry_at file) (words_row file at)
+  words_by : (found : TaggedEntries) (none : Bool) → AreTaggedEntries file at found → (is_none found.verdef && is_none found.verneed) ≡ none
+      → (elim none as (λ _. Option Entry) [ true ↦ None | false ↦ found.versym ]) ≡ option_map (dynamic_entry_at file) (words_row file at)
   unfolding words_row
   words_by found none are n =
       let d = ap is_none are.verdef ∙ none_map (tagged_row file at DT_VERDEF) in
@@ -159,19 +159,19 @@ module _ (file : List ℕ) (at : ℕ) where
       go none rows
     where
       go : (b : Bool) → (is_none (tagged_row file at DT_VERDEF) && is_none (tagged_row file at DT_VERNEED)) ≡ b
-          → (elim b as (λ _. Option Entry) [ true ↦ None | false ↦ found.versym ]) ≡ option_map (entry_at file) (words_row file at)
+          → (elim b as (λ _. Option Entry) [ true ↦ None | false ↦ found.versym ]) ≡ option_map (dynamic_entry_at file) (words_row file at)
       go true e = rw (e, words_row) refl
       go false e = rw (e, words_row) are.versym
 
-  pub words_missing : (found : Entries) → AreEntries file at found → is_none found.verdef ≡ true → is_none found.verneed ≡ true
-      → None ≡ option_map (entry_at file) (words_row file at)
+  pub words_missing : (found : TaggedEntries) → AreTaggedEntries file at found → is_none found.verdef ≡ true → is_none found.verneed ≡ true
+      → None ≡ option_map (dynamic_entry_at file) (words_row file at)
   words_missing found are d n = words_by found true are (rw (d, n) refl)
 
-  pub words_defined : (found : Entries) → AreEntries file at found → is_none found.verdef ≡ false → found.versym ≡ option_map (entry_at file) (words_row file at)
+  pub words_defined : (found : TaggedEntries) → AreTaggedEntries file at found → is_none found.verdef ≡ false → found.versym ≡ option_map (dynamic_entry_at file) (words_row file at)
   words_defined found are d = words_by found false are (rw d refl)
 
-  pub words_needed : (found : Entries) → AreEntries file at found → is_none found.verdef ≡ true → is_none found.verneed ≡ false
-      → found.versym ≡ option_map (entry_at file) (words_row file at)
+  pub words_needed : (found : TaggedEntries) → AreTaggedEntries file at found → is_none found.verdef ≡ true → is_none found.verneed ≡ false
+      → found.versym ≡ option_map (dynamic_entry_at file) (words_row file at)
   words_needed found are d n = words_by found false are (rw (d, n) refl)
 
 -- the tables of versions
@@ -182,7 +182,7 @@ module _ (file : List ℕ) (index at : ℕ) where
   abbrev need_rows : List Check
   need_rows = checks_of_row (tagged_row file at DT_VERNEED) (rest_checks file)
 
-  pub rows_none : (option : Option Entry) (versions : Versions) → option ≡ option_map (entry_at file) (words_row file at) → option ≡ None
+  pub rows_none : (option : Option Entry) (versions : VersionTables) → option ≡ option_map (dynamic_entry_at file) (words_row file at) → option ≡ None
       → versions.words ≡ None → versions.definitions ≡ None → versions.needs ≡ None
       → Settles (version_rows file at) (AreVersions file (segment_words file index at) (rows_records file at)) (Ok versions)
   unfolding segment_words
@@ -192,7 +192,7 @@ module _ (file : List ℕ) (index at : ℕ) where
       let words : segment_words file index at ≡ None = rw (e, segment_words) refl in
       (ap first_refusal checks, record { words = rw (words, w) tt; records = rw (words, d, n) tt })
 
-  module _ (option : Option Entry) (entry : Entry) (is : option ≡ option_map (entry_at file) (words_row file at)) (some : option ≡ Some entry) where
+  module _ (option : Option Entry) (entry : Entry) (is : option ≡ option_map (dynamic_entry_at file) (words_row file at)) (some : option ≡ Some entry) where
     words_here : (words_row file at ≡ Some entry.at) × (d_un file entry.at ≡ entry.value)
     words_here = row_some file (words_row file at) entry (sym some ∙ is)
 
@@ -219,7 +219,7 @@ module _ (file : List ℕ) (index at : ℕ) where
         rw rows_are (refused_back (rest_checks file entry.at ++ definition_rows) need_rows fault
         (passed_both (rest_checks file entry.at) definition_rows (words_rest rest h).0 d) r)
 
-    pub rows_versions : (rest : Rows) (words : VersionWords) (versions : Versions) → Ok rest ≡ rest_mapped file entry.value entry.at
+    pub rows_versions : (rest : Rows) (words : VersionWords) (versions : VersionTables) → Ok rest ≡ rest_mapped file entry.value entry.at
         → words.words.at ≡ rest.at → words.words.count ≡ rest.count / 2 → words.head ≡ entry.at → words.index ≡ index → versions.words ≡ Some words
         → Settles definition_rows (AreInFront file (records_of_tag file at DT_VERDEF Definition)) (Ok versions.definitions)
         → Settles need_rows (AreInFront file (records_of_tag file at DT_VERNEED File)) (Ok versions.needs)

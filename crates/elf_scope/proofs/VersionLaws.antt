@@ -15,14 +15,14 @@ use Rattle.elf_model.specs.declared.versions.VersionKind.TheVariants.{Definition
 use Rattle.elf_headers.specs.declared.fault.Fault.{Fault}
 use Rattle.elf_table.specs.HashSections.{Settles}
 use Rattle.elf_table.specs.Relocations.{RefusedBy}
-use Rattle.elf_table.specs.Sections.{bytes_of, rows, string_table_at, table_at}
+use Rattle.elf_table.specs.Sections.{byte_rows, rows, string_table_at, table_at}
 use Rattle.elf_table.specs.Tables.{Rows, strings_in}
 use Rattle.elf_table.proofs.RelocationLaws.{table-fails, table-passes}
-use Rattle.elf_scope.specs.Symbols.{AreRecordTables, AreWords, IsRecordTable, IsWords, one_table}
+use Rattle.elf_scope.specs.Symbols.{AreRecordTables, AreWords, IsRecordTable, IsWords, table_if_any}
 use Rattle.elf_scope.specs.Versions.{AreInFront, AreVersions, records_at, words_checks}
 use Rattle.elf_scope.specs.declared.symbols.RecordTable.{RecordTable}
 use Rattle.elf_scope.specs.declared.symbols.VersionWords.{VersionWords}
-use Rattle.elf_scope.specs.declared.versions.Versions.{Versions}
+use Rattle.elf_scope.specs.declared.versions.VersionTables.{VersionTables}
 use Rattle.elf_scope.proofs.SettleLaws.{checked_fails, checked_passes, none_refused, passed_both, refused_back, refused_front}
 
 -- the words of a section: its own checks
@@ -99,7 +99,7 @@ module _ (file : List ℕ) (at : ℕ) where
 
 -- the records of a section
 module _ (file : List ℕ) (at : ℕ) where
-  pub strings_refused : (table : Rows) (fault : Fault) → Ok table ≡ bytes_of (length file) (sh_offset file at) (sh_size file at) at → 0 < table.count
+  pub strings_refused : (table : Rows) (fault : Fault) → Ok table ≡ byte_rows (length file) (sh_offset file at) (sh_size file at) at → 0 < table.count
       → Err fault ≡ string_table_at file at → RefusedBy (all_checks version_table file at) fault
   strings_refused table fault h some s =
       let p = table-passes (sh_size file at == 0) (rows (sh_offset file at) 0 1) (rows (sh_offset file at) (sh_size file at) 1) table (range_own file at) (sym h) in
@@ -111,7 +111,7 @@ module _ (file : List ℕ) (at : ℕ) where
             rw full (refused_back (range_own file at) (strings_checks file at) fault (rw full at p.0) (checked_fails (strings_checks file at) _ fault s))
       ]
 
-  pub records_are : (kind : VersionKind) (records : RecordTable) → Ok records.table ≡ bytes_of (length file) (sh_offset file at) (sh_size file at) at
+  pub records_are : (kind : VersionKind) (records : RecordTable) → Ok records.table ≡ byte_rows (length file) (sh_offset file at) (sh_size file at) at
       → records.kind ≡ kind → records.head ≡ at → (0 < records.table.count → Ok records.names ≡ string_table_at file at)
       → Settles (all_checks version_table file at) (IsRecordTable file (records_at file kind at)) (Ok records)
   records_are kind records h same head named =
@@ -172,17 +172,17 @@ module _ (file : List ℕ) (type : ℕ) (kind : VersionKind) where
         (ap first_refusal first_checks ∙ s.0, λ others tables h. rw (same others) (s.1, h))
 
 -- nothing behind
-one_alone : (found : Option RecordTable) → one_table found ++ [] ≡ one_table found
+one_alone : (found : Option RecordTable) → table_if_any found ++ [] ≡ table_if_any found
 one_alone None = refl
 one_alone (Some table) = refl
 
 -- both tables of records, one in front of the other
 pub both_in_front : (file : List ℕ) (front back : List IsTableOf → List IsTableOf) (one other : Option RecordTable) → AreInFront file front one → AreInFront file back other
-    → AreRecordTables file (front (back [])) (one_table one ++ one_table other)
+    → AreRecordTables file (front (back [])) (table_if_any one ++ table_if_any other)
 both_in_front file front back one other f b =
-    let alone : AreRecordTables file (back []) (one_table other ++ []) = b [] [] tt in
-    let behind : AreRecordTables file (back []) (one_table other) = rw (one_alone other) at alone in
-    f (back []) (one_table other) behind
+    let alone : AreRecordTables file (back []) (table_if_any other ++ []) = b [] [] tt in
+    let behind : AreRecordTables file (back []) (table_if_any other) = rw (one_alone other) at alone in
+    f (back []) (table_if_any other) behind
 
 -- the records that stand with words
 pub records_kept : (told : Option IsWordsOf) (words : VersionWords) (records : List IsTableOf) → AreWords told (Some words) → records_with told records ≡ records
@@ -223,7 +223,7 @@ module _ (file : List ℕ) (at : ℕ) where
           absurd (none_refused fault (rw none at r))
       go (Some i) e = rw (all_of_them i e) (refused_front (words_checks file at ++ definitions) needs fault (refused_front (words_checks file at) definitions fault r))
 
-  pub no_versions : (versions : Versions) → AreWords (section_words file) None → versions.words ≡ None → versions.definitions ≡ None → versions.needs ≡ None
+  pub no_versions : (versions : VersionTables) → AreWords (section_words file) None → versions.words ≡ None → versions.definitions ≡ None → versions.needs ≡ None
       → Settles (version_checks file at) (AreVersions file (section_words file) told) (Ok versions)
   unfolding section_words
   no_versions versions h w d n = go (words_section file) refl
@@ -243,7 +243,7 @@ module _ (file : List ℕ) (at : ℕ) where
     needs_refuse fault d r =
         rw (found_words (words_section file) words refl w.1) (refused_back (words_checks file at ++ definitions) needs fault (passed_both (words_checks file at) definitions w.0 d) r)
 
-    pub versions_are : (versions : Versions) → versions.words ≡ Some words
+    pub versions_are : (versions : VersionTables) → versions.words ≡ Some words
         → Settles definitions (AreInFront file (records_of_type file SHT_GNU_VERDEF Definition)) (Ok versions.definitions)
         → Settles needs (AreInFront file (records_of_type file SHT_GNU_VERNEED File)) (Ok versions.needs)
         → Settles (version_checks file at) (AreVersions file (section_words file) told) (Ok versions)

@@ -10,7 +10,7 @@ use Rattle.elf_record.specs.declared.ehdr.Ehdr.{Ehdr}
 use Rattle.elf_source.specs.Source.{Counting}
 use Rattle.elf_headers.specs.Ledger.{Charges, why_stopped}
 use Rattle.elf_headers.specs.declared.fault.Fault.{Fault}
-use Rattle.elf_scope.specs.Scopes.{Finds}
+use Rattle.elf_scope.specs.Scopes.{IsScopeFound}
 use Rattle.elf_scope.specs.declared.scope.Scope.{Scope}
 
 -- what a lookup is made in, in a file whose load checks pass
@@ -20,7 +20,7 @@ scope_loaded file = elim (e_shnum file == 0) [ true ↦ scope_by_segments file |
 -- WHAT A LOADED FILE TELLS, where it is known, within what tells of its tables where it has no sections
 pub record FindsLoaded (file : List ℕ) (old new : Counting) (result : Result Scope Fault) : Type 0 where
   pub costs : Charges old new (why_stopped result) (segments_asked file)
-  pub finds : Finds file (scope_loaded file) result
+  pub finds : IsScopeFound file (scope_loaded file) result
 
 -- how many bytes it may ask for, with so many headers permitted: the file header, and where the early checks pass the headers
 abbrev pub scope_cost : List ℕ → ℕ → ℕ
@@ -32,7 +32,7 @@ scope_cost file headers = elim (first_refusal (before_headers file headers)) [
 -- WHAT A FILE TELLS of what a lookup is made in, where it is known
 pub record FindsScope (file : List ℕ) (headers : ℕ) (old new : Counting) (result : Result Scope Fault) : Type 0 where
   pub costs : Charges old new (why_stopped result) (scope_cost file headers)
-  pub finds : Finds file (scope_of file headers) result
+  pub finds : IsScopeFound file (scope_of file headers) result
 
 -- how many bytes are asked for behind the section headers in a file of this size: the program headers and the dynamic entries,
 -- where there are no sections

@@ -6,14 +6,14 @@ use Rattle.elf_model.specs.Records.{e_machine}
 use Rattle.elf_model.specs.declared.causes.Refusal.{Refusal}
 use Rattle.elf_headers.specs.declared.fault.Fault.{Fault}
 use Rattle.elf_headers.specs.declared.fault.Fault.TheVariants.{Refused, Source}
-use Rattle.elf_hash.specs.Kinds.{kind_of}
+use Rattle.elf_hash.specs.Kinds.{hash_kind_of}
 use Rattle.elf_scope.specs.Symbols.{IsSymbols, SymbolsLie}
 use Rattle.elf_scope.specs.declared.scope.Scope.{Scope}
 
 -- WHAT A LOOKUP IS MADE IN is what the definitions tell, and the machine is the file's
 pub record IsScope (file : List ℕ) (told : IsScopeOf) (scope : Scope) : Type 0 where
   pub machine : scope.machine ≡ e_machine file
-  pub kind : kind_of scope.hash.kind ≡ told.kind
+  pub kind : hash_kind_of scope.hash.kind ≡ told.kind
   pub head : scope.hash.head ≡ told.head
   pub place : scope.hash.at ≡ told.table.place
   pub size : scope.hash.size ≡ told.table.size
@@ -27,7 +27,7 @@ pub record ScopeLies (size : ℕ) (scope : Scope) : Type 0 where
   pub symbols : SymbolsLie size scope.symbols
 
 -- what the definitions find is what the code has, or its refusal, unless that is for want of budget
-abbrev pub Finds : List ℕ → Result IsScopeOf Refusal → Result Scope Fault → Type 0
-Finds file found (Ok scope) = (told : IsScopeOf) × (found ≡ Ok told) × IsScope file told scope
-Finds file found (Err (Refused refusal)) = (IsBudget refusal → ⊥) → found ≡ Err refusal
-Finds file found (Err (Source fault at)) = Unit {0}
+abbrev pub IsScopeFound : List ℕ → Result IsScopeOf Refusal → Result Scope Fault → Type 0
+IsScopeFound file found (Ok scope) = (told : IsScopeOf) × (found ≡ Ok told) × IsScope file told scope
+IsScopeFound file found (Err (Refused refusal)) = (IsBudget refusal → ⊥) → found ≡ Err refusal
+IsScopeFound file found (Err (Source fault at)) = Unit {0}

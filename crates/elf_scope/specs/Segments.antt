@@ -14,10 +14,10 @@ use Rattle.elf_source.specs.Source.{Counting}
 use Rattle.elf_headers.specs.Ledger.{Charges, why_stopped}
 use Rattle.elf_headers.specs.declared.fault.Fault.{Fault}
 use Rattle.elf_table.specs.Tables.{Rows}
-use Rattle.elf_hash.specs.Kinds.{kind_of}
-use Rattle.elf_scope.specs.Scopes.{Finds}
+use Rattle.elf_hash.specs.Kinds.{hash_kind_of}
+use Rattle.elf_scope.specs.Scopes.{IsScopeFound}
 use Rattle.elf_scope.specs.Symbols.{IsSymbols}
-use Rattle.elf_scope.specs.declared.entry.Entries.{Entries}
+use Rattle.elf_scope.specs.declared.entry.TaggedEntries.{TaggedEntries}
 use Rattle.elf_scope.specs.declared.entry.Entry.{Entry}
 use Rattle.elf_hash.specs.declared.kind.HashKind.{HashKind}
 use Rattle.elf_scope.specs.declared.scope.Scope.{Scope}
@@ -31,10 +31,10 @@ pub record IsRest (file : List ℕ) (row : ℕ) (table : Rows) : Type 0 where
 -- the entry that tells of the hash table, and the kind of that
 abbrev pub TellsHash : List ℕ → ℕ → Option (HashKind × Entry) → Type 0
 TellsHash file at None = hash_row file at ≡ None
-TellsHash file at (Some found) = (hash_row file at ≡ Some (kind_of found.0, found.1.at)) × (d_un file found.1.at ≡ found.1.value)
+TellsHash file at (Some found) = (hash_row file at ≡ Some (hash_kind_of found.0, found.1.at)) × (d_un file found.1.at ≡ found.1.value)
 
 -- the entries that tell of symbols and their strings, if none is missing
-abbrev pub TellSymbols : Entries → Option (Entry × Entry × Entry) → Type 0
+abbrev pub TellSymbols : TaggedEntries → Option (Entry × Entry × Entry) → Type 0
 TellSymbols found None = (is_none found.symtab || is_none found.strtab || is_none found.strsz) ≡ true
 TellSymbols found (Some told) = (found.symtab ≡ Some told.0) × (found.strtab ≡ Some told.1) × (found.strsz ≡ Some told.2)
 
@@ -87,4 +87,4 @@ entries_asked file = elim (dynamic_segment_index file) [
 -- WHAT THE PROGRAM HEADERS TELL of a known file: within the bytes of the dynamic entries, what a lookup is made in
 pub record FindsSegments (file : List ℕ) (told : Result IsScopeOf Refusal) (old new : Counting) (result : Result Scope Fault) : Type 0 where
   pub costs : Charges old new (why_stopped result) (entries_asked file)
-  pub finds : Finds file told result
+  pub finds : IsScopeFound file told result

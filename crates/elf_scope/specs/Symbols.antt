@@ -29,9 +29,9 @@ pub record IsRecordTable (file : List ℕ) (told : IsTableOf) (records : RecordT
   pub names : 0 < records.table.count → strings_in file records.names ≡ told.strings
 
 -- the one, if there is one
-abbrev pub one_table : Option RecordTable → List RecordTable
-one_table None = []
-one_table (Some table) = table ∷ []
+abbrev pub table_if_any : Option RecordTable → List RecordTable
+table_if_any None = []
+table_if_any (Some table) = table ∷ []
 
 -- tables of records, one behind the other
 abbrev pub AreRecordTables : List ℕ → List IsTableOf → List RecordTable → Type 0
@@ -46,7 +46,7 @@ pub record IsSymbols (file : List ℕ) (told : AreSymbolsOf) (symbols : Symbols)
   pub place : symbols.table.at ≡ told.place
   pub names : 0 < symbols.table.count → strings_in file symbols.names ≡ told.strings
   pub words : AreWords told.words symbols.words
-  pub records : AreRecordTables file told.records (one_table symbols.definitions ++ one_table symbols.needs)
+  pub records : AreRecordTables file told.records (table_if_any symbols.definitions ++ table_if_any symbols.needs)
 
 -- a table of records lies within a source of this size
 pub record RecordsWithin (size : ℕ) (records : RecordTable) : Type 0 where

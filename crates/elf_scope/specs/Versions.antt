@@ -9,9 +9,9 @@ use Rattle.elf_model.specs.Versions.{VERSYM_SIZE}
 use Rattle.elf_model.specs.declared.causes.Cause.TheVariants.{BadLink}
 use Rattle.elf_model.specs.declared.versions.VersionKind.{VersionKind}
 use Rattle.elf_table.specs.Tables.{RowsWithin}
-use Rattle.elf_scope.specs.Symbols.{AreWords, AreRecordTables, RecordsWithin, one_table}
+use Rattle.elf_scope.specs.Symbols.{AreWords, AreRecordTables, RecordsWithin, table_if_any}
 use Rattle.elf_scope.specs.declared.symbols.RecordTable.{RecordTable}
-use Rattle.elf_scope.specs.declared.versions.Versions.{Versions}
+use Rattle.elf_scope.specs.declared.versions.VersionTables.{VersionTables}
 
 -- the checks of the words of symbols' versions, for the symbols of the hash table's section
 abbrev pub words_checks : List ℕ → ℕ → List Check
@@ -29,15 +29,15 @@ records_at file kind at =
 abbrev pub AreInFront : List ℕ → (List IsTableOf → List IsTableOf) → Option RecordTable → Type 0
 AreInFront file told found =
     (others : List IsTableOf) (tables : List RecordTable) → AreRecordTables file others tables
-    → AreRecordTables file (told others) (one_table found ++ tables)
+    → AreRecordTables file (told others) (table_if_any found ++ tables)
 
 -- the tables of versions are those that are told
-pub record AreVersions (file : List ℕ) (told : Option IsWordsOf) (told_records : List IsTableOf) (versions : Versions) : Type 0 where
+pub record AreVersions (file : List ℕ) (told : Option IsWordsOf) (told_records : List IsTableOf) (versions : VersionTables) : Type 0 where
   pub words : AreWords told versions.words
-  pub records : AreRecordTables file (records_with told told_records) (one_table versions.definitions ++ one_table versions.needs)
+  pub records : AreRecordTables file (records_with told told_records) (table_if_any versions.definitions ++ table_if_any versions.needs)
 
 -- they lie within a source of this size
-pub record VersionsLie (size : ℕ) (versions : Versions) : Type 0 where
+pub record VersionsLie (size : ℕ) (versions : VersionTables) : Type 0 where
   pub words : IfSome versions.words (λ words. RowsWithin size words.words)
   pub definitions : IfSome versions.definitions (RecordsWithin size)
   pub needs : IfSome versions.needs (RecordsWithin size)

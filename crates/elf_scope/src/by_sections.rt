@@ -6,19 +6,19 @@ ghost use Rattle.elf_model.specs.Records.{section_at};
 ghost use Rattle.elf_headers.specs.Faults.{IsOfCheck};
 ghost use Rattle.elf_headers.specs.Load.{Belongs};
 ghost use Rattle.elf_table.specs.HashSections.{Settles};
-ghost use Rattle.elf_hash.specs.Kinds.{kind_of};
+ghost use Rattle.elf_hash.specs.Kinds.{hash_kind_of};
 ghost use Rattle.elf_scope.specs.Kinds.{found_at};
-ghost use Rattle.elf_scope.specs.Scopes.{Finds, IsScope, ScopeLies};
+ghost use Rattle.elf_scope.specs.Scopes.{IsScopeFound, IsScope, ScopeLies};
 
 use crate::scope::Scope;
 use crate::section_versions::section_versions;
 use crate::symbols::Symbols;
 use elf_hash::{HashKind, HashPlace};
-use elf_headers::refused;
+use elf_headers::{Fault, refused};
 use elf_record::Cause;
 use elf_record::gnu_numbers::SHT_GNU_HASH;
 use elf_record::numbers::SHT_HASH;
-use elf_table::{Fault, File};
+use elf_table::File;
 
 /// What a lookup is made in by the section headers. No bytes are read.
 ///
@@ -29,7 +29,7 @@ use elf_table::{Fault, File};
 pub(crate) fn by_sections(file: &File<'_>) -> Result<Scope, Fault>
     requires small { file.now.loaded.size < 2 ^ 63 }
     ensures held { (bytes : List ℕ) → Belongs bytes file.now.loaded file.now.store.now →
-        Finds bytes (scope_by_sections bytes) result }
+        IsScopeFound bytes (scope_by_sections bytes) result }
     ensures within { IfOk result (ScopeLies file.now.loaded.size) }
     ensures refusal { IfErr result IsOfCheck }
 {
@@ -62,8 +62,9 @@ fn section_scope(file: &File<'_>, kind: HashKind, section: u16) -> Result<Scope,
     requires below { section < file.now.store.now.loaded }
     requires small { file.now.loaded.size < 2 ^ 63 }
     ensures held { (bytes : List ℕ) → Belongs bytes file.now.loaded file.now.store.now →
-        Settles (section_checks bytes (kind_of kind) (section_at bytes section))
-        (IsScope bytes (section_scope bytes (kind_of kind) (section_at bytes section))) result }
+        Settles (section_checks bytes (hash_kind_of kind) (section_at bytes section))
+        (IsScope bytes (section_scope bytes (hash_kind_of kind) (section_at bytes section)))
+        result }
     ensures within { IfOk result (ScopeLies file.now.loaded.size) }
     ensures refusal { IfErr result IsOfCheck }
 {

@@ -6,21 +6,21 @@ ghost use Rattle.elf_headers.specs.Faults.{IsOfCheck};
 ghost use Rattle.elf_headers.specs.Ledger.{Did, why_stopped};
 ghost use Rattle.elf_headers.specs.Load.{Views};
 ghost use Rattle.elf_table.specs.HashSections.{Settles};
-ghost use Rattle.elf_scope.specs.Entries.{AreEntries};
-ghost use Rattle.elf_hash.specs.Kinds.{kind_of};
-ghost use Rattle.elf_scope.specs.Scopes.{Finds, IsScope, ScopeLies};
+ghost use Rattle.elf_scope.specs.Entries.{AreTaggedEntries};
+ghost use Rattle.elf_hash.specs.Kinds.{hash_kind_of};
+ghost use Rattle.elf_scope.specs.Scopes.{IsScopeFound, IsScope, ScopeLies};
 ghost use Rattle.elf_scope.specs.Segments.{FindsSegments, TellsHash, scope_by_entries};
 
 use crate::entries::first_entries;
-use crate::entry::{Entries, Entry};
+use crate::entry::{Entry, TaggedEntries};
 use crate::scope::Scope;
 use crate::segment_symbols::segment_symbols;
 use elf_hash::{HashKind, HashPlace};
-use elf_headers::refused;
+use elf_headers::{Fault, refused};
 use elf_record::Cause;
 use elf_record::numbers::{EM_ALPHA, PT_DYNAMIC};
 use elf_source::{Counted, Source};
-use elf_table::{Fault, SegmentView};
+use elf_table::SegmentView;
 
 /// What a lookup is made in by the program headers: by the dynamic entries of the first segment of
 /// such, which are read, each byte at most once.
@@ -63,12 +63,12 @@ fn in_segments<S: Source>(src: &mut Counted<S>, view: &SegmentView<'_>) -> Resul
 }
 
 /// What a lookup is made in by the entries of a segment.
-fn by_entries(view: &SegmentView<'_>, segment: u16, found: &Entries) -> Result<Scope, Fault>
+fn by_entries(view: &SegmentView<'_>, segment: u16, found: &TaggedEntries) -> Result<Scope, Fault>
     requires below { segment < view.now.store.now.segments }
     requires small { view.now.loaded.size < 2 ^ 63 }
     ensures held { (bytes : List ℕ) → Views bytes view.now.loaded view.now.store.now →
-        AreEntries bytes (segment_at bytes segment) found.now →
-        Finds bytes (scope_by_entries bytes segment (segment_at bytes segment)) result }
+        AreTaggedEntries bytes (segment_at bytes segment) found.now →
+        IsScopeFound bytes (scope_by_entries bytes segment (segment_at bytes segment)) result }
     ensures within { IfOk result (ScopeLies view.now.loaded.size) }
     ensures refusal { IfErr result IsOfCheck }
 {
@@ -79,8 +79,8 @@ fn by_entries(view: &SegmentView<'_>, segment: u16, found: &Entries) -> Result<S
 }
 
 /// The entry that tells of a hash table: of the GNU system's, else of the gABI's.
-fn hash_entry(found: &Entries) -> Option<(HashKind, Entry)>
-    ensures { (bytes : List ℕ) (at : ℕ) → AreEntries bytes at found.now →
+fn hash_entry(found: &TaggedEntries) -> Option<(HashKind, Entry)>
+    ensures { (bytes : List ℕ) (at : ℕ) → AreTaggedEntries bytes at found.now →
         TellsHash bytes at result }
 {
     if let Some(row) = found.gnu_hash {
@@ -100,18 +100,19 @@ fn hash_entry(found: &Entries) -> Option<(HashKind, Entry)>
 fn segment_scope(
     view: &SegmentView<'_>,
     segment: u16,
-    found: &Entries,
+    found: &TaggedEntries,
     kind: HashKind,
     row: &Entry,
 ) -> Result<Scope, Fault>
     requires below { segment < view.now.store.now.segments }
     requires small { view.now.loaded.size < 2 ^ 63 }
     ensures held { (bytes : List ℕ) → Views bytes view.now.loaded view.now.store.now →
-        AreEntries bytes (segment_at bytes segment) found.now →
+        AreTaggedEntries bytes (segment_at bytes segment) found.now →
         d_un bytes row.now.at ≡ row.now.value →
-        Settles (segment_checks bytes (kind_of kind) (segment_at bytes segment) row.now.at)
+        Settles (segment_checks bytes (hash_kind_of kind) (segment_at bytes segment) row.now.at)
         (IsScope bytes
-        (segment_scope bytes (kind_of kind) segment (segment_at bytes segment) row.now.at)) result }
+        (segment_scope bytes (hash_kind_of kind) segment (segment_at bytes segment) row.now.at))
+        result }
     ensures within { IfOk result (ScopeLies view.now.loaded.size) }
     ensures refusal { IfErr result IsOfCheck }
 {
@@ -138,7 +139,7 @@ fn segment_scope(
 /// entry tells of another size.
 fn has_wide_words(view: &SegmentView<'_>, kind: HashKind) -> bool
     ensures { (bytes : List ℕ) → Views bytes view.now.loaded view.now.store.now →
-        result ≡ has_wide_kind bytes (kind_of kind) }
+        result ≡ has_wide_kind bytes (hash_kind_of kind) }
 {
     match kind {
         HashKind::Gnu => false,

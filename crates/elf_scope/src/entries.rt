@@ -6,13 +6,14 @@ ghost use Rattle.elf_headers.specs.Faults.{IsOfRead, Says};
 ghost use Rattle.elf_table.specs.Tables.{RowsWithin, size_of};
 ghost use Rattle.elf_scope.specs.Entries.{AreListed, TakesEntry, entry_here, first_entry, no_entries};
 
-use crate::entry::{Entries, Entry};
+use crate::entry::{Entry, TaggedEntries};
+use elf_headers::Fault;
 use elf_note::{dynamic_rows, entry_in};
 use elf_record::Dyn;
 use elf_record::gnu_numbers::{DT_GNU_HASH, DT_VERDEF, DT_VERNEED, DT_VERSYM};
 use elf_record::numbers::{DT_HASH, DT_STRSZ, DT_STRTAB, DT_SYMTAB};
 use elf_source::{Counted, Source};
-use elf_table::{Fault, Table};
+use elf_table::Table;
 
 /// Goes over the dynamic entries of a table, whose rows have 16 bytes, up to and with the first
 /// DT_NULL, and answers the first entry with each of the tags that tell of a lookup's tables. It asks
@@ -20,7 +21,10 @@ use elf_table::{Fault, Table};
 ///
 /// # Errors
 /// A fault of a read, or a refusal for want of budget, at an entry's offset.
-pub(crate) fn first_entries<S: Source>(src: &mut Counted<S>, table: Table) -> Result<Entries, Fault>
+pub(crate) fn first_entries<S: Source>(
+    src: &mut Counted<S>,
+    table: Table,
+) -> Result<TaggedEntries, Fault>
     requires rows { table.entry ≡ 16 }
     requires within { RowsWithin src.old.seen.size table }
     ensures reads { Reads src.old src.new (size_of table) }
@@ -39,10 +43,10 @@ pub(crate) fn first_entries<S: Source>(src: &mut Counted<S>, table: Table) -> Re
 }
 
 /// No entry.
-fn nothing() -> Entries
+fn nothing() -> TaggedEntries
     ensures { result ≡ no_entries }
 {
-    Entries {
+    TaggedEntries {
         hash: None,
         gnu_hash: None,
         symtab: None,
@@ -55,10 +59,10 @@ fn nothing() -> Entries
 }
 
 /// The first entries, with one behind those that they are of.
-fn with_entry(found: &Entries, at: u64, entry: &Dyn) -> Entries
+fn with_entry(found: &TaggedEntries, at: u64, entry: &Dyn) -> TaggedEntries
     ensures { (file : List ℕ) → IsDyn file at entry.now → TakesEntry file at found.now result }
 {
-    Entries {
+    TaggedEntries {
         hash: first_of(found.hash, DT_HASH, at, entry),
         gnu_hash: first_of(found.gnu_hash, DT_GNU_HASH, at, entry),
         symtab: first_of(found.symtab, DT_SYMTAB, at, entry),

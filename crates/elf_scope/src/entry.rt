@@ -11,7 +11,7 @@ pub(crate) struct Entry {
 
 /// The first entries with the tags that tell of a lookup's tables, where there are such.
 #[derive(Clone, Copy)]
-pub(crate) struct Entries {
+pub(crate) struct TaggedEntries {
     /// DT_HASH: the hash table of the gABI.
     pub hash: Option<Entry>,
     /// DT_GNU_HASH: that of the GNU system.

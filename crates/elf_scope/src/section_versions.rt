@@ -15,12 +15,12 @@ ghost use Rattle.elf_scope.specs.Symbols.{AreWords, IsRecordTable, RecordsWithin
 ghost use Rattle.elf_scope.specs.Versions.{AreInFront, AreVersions, VersionsLie, records_at, words_checks};
 
 use crate::symbols::{RecordTable, VersionWords};
-use crate::versions::Versions;
-use elf_headers::refused;
+use crate::versions::VersionTables;
+use elf_headers::{Fault, refused};
 use elf_record::gnu_numbers::{SHT_GNU_VERDEF, SHT_GNU_VERNEED, SHT_GNU_VERSYM};
 use elf_record::sizes::SYMBOL_VERSION_BYTES;
 use elf_record::{Cause, VersionKind};
-use elf_table::{Fault, File, Names, Table};
+use elf_table::{File, Names, Table};
 
 /// The tables of versions of the symbols that the section of a hash table links to: of the first
 /// sections of their types, the words, the definitions and the needs; nothing where there are no
@@ -28,7 +28,7 @@ use elf_table::{Fault, File, Names, Table};
 ///
 /// # Errors
 /// The first check that fails: those of the words, of the definitions, of the needs.
-pub(crate) fn section_versions(file: &File<'_>, link: u32) -> Result<Versions, Fault>
+pub(crate) fn section_versions(file: &File<'_>, link: u32) -> Result<VersionTables, Fault>
     requires small { file.now.loaded.size < 2 ^ 63 }
     ensures held { (bytes : List ℕ) (at : ℕ) → Belongs bytes file.now.loaded file.now.store.now →
         sh_link bytes at ≡ link → Settles (version_checks bytes at)
@@ -39,7 +39,7 @@ pub(crate) fn section_versions(file: &File<'_>, link: u32) -> Result<Versions, F
     ensures refusal { IfErr result IsOfCheck }
 {
     let Some(words) = section_words(file, link)? else {
-        return Ok(Versions {
+        return Ok(VersionTables {
             words: None,
             definitions: None,
             needs: None,
@@ -47,7 +47,7 @@ pub(crate) fn section_versions(file: &File<'_>, link: u32) -> Result<Versions, F
     };
     let definitions = first_records(file, SHT_GNU_VERDEF, VersionKind::Definition)?;
     let needs = first_records(file, SHT_GNU_VERNEED, VersionKind::File)?;
-    Ok(Versions {
+    Ok(VersionTables {
         words: Some(words),
         definitions,
         needs,

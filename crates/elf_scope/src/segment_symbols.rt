@@ -7,18 +7,18 @@ ghost use Rattle.elf_headers.specs.Faults.{IsOfCheck};
 ghost use Rattle.elf_headers.specs.Load.{Views};
 ghost use Rattle.elf_table.specs.HashSections.{Settles};
 ghost use Rattle.elf_table.specs.Tables.{StringsWithin, strings_in};
-ghost use Rattle.elf_scope.specs.Entries.{AreEntries, entry_at};
+ghost use Rattle.elf_scope.specs.Entries.{AreTaggedEntries, dynamic_entry_at};
 ghost use Rattle.elf_scope.specs.Segments.{AreRowsSymbols, TellSymbols, rows_records, version_rows};
 ghost use Rattle.elf_scope.specs.Symbols.{RecordsWithin, SymbolsLie};
 ghost use Rattle.elf_scope.specs.Versions.{AreInFront, AreVersions, VersionsLie};
 
-use crate::entry::{Entries, Entry};
+use crate::entry::{Entry, TaggedEntries};
 use crate::symbols::{RecordTable, Symbols, VersionWords};
-use crate::versions::Versions;
-use elf_headers::refused;
+use crate::versions::VersionTables;
+use elf_headers::{Fault, refused};
 use elf_record::sizes::{SYMBOL_BYTES, SYMBOL_VERSION_BYTES};
 use elf_record::{Cause, VersionKind};
-use elf_table::{Fault, Names, SegmentView, Table};
+use elf_table::{Names, SegmentView, Table};
 
 /// The symbols that the entries of a segment tell of, with their names and versions. `row` is the
 /// file offset of the entry of the hash table.
@@ -30,12 +30,12 @@ use elf_table::{Fault, Names, SegmentView, Table};
 pub(crate) fn segment_symbols(
     view: &SegmentView<'_>,
     segment: u16,
-    found: &Entries,
+    found: &TaggedEntries,
     row: u64,
 ) -> Result<Symbols, Fault>
     requires small { view.now.loaded.size < 2 ^ 63 }
     ensures held { (bytes : List ℕ) (at : ℕ) → Views bytes view.now.loaded view.now.store.now →
-        AreEntries bytes at found.now →
+        AreTaggedEntries bytes at found.now →
         Settles (rows_checks bytes at row) (AreRowsSymbols bytes segment at) result }
     ensures within { IfOk result (SymbolsLie view.now.loaded.size) }
     ensures refusal { IfErr result IsOfCheck }
@@ -57,7 +57,7 @@ pub(crate) fn segment_symbols(
 }
 
 /// The entries that tell of symbols, of their strings and of the size of these.
-fn symbol_entries(found: &Entries) -> Option<(Entry, Entry, Entry)>
+fn symbol_entries(found: &TaggedEntries) -> Option<(Entry, Entry, Entry)>
     ensures { TellSymbols found.now result }
 {
     let Some(symtab) = found.symtab else {
@@ -90,20 +90,20 @@ fn rows_in(bytes: Table, entry: u64) -> Table
 fn segment_versions(
     view: &SegmentView<'_>,
     segment: u16,
-    found: &Entries,
+    found: &TaggedEntries,
     names: Names,
-) -> Result<Versions, Fault>
+) -> Result<VersionTables, Fault>
     requires small { view.now.loaded.size < 2 ^ 63 }
     requires names { StringsWithin view.now.loaded.size names }
     ensures held { (bytes : List ℕ) (at : ℕ) → Views bytes view.now.loaded view.now.store.now →
-        AreEntries bytes at found.now → strings_in bytes names ≡ segment_strings bytes at →
+        AreTaggedEntries bytes at found.now → strings_in bytes names ≡ segment_strings bytes at →
         Settles (version_rows bytes at)
         (AreVersions bytes (segment_words bytes segment at) (rows_records bytes at)) result }
     ensures within { IfOk result (VersionsLie view.now.loaded.size) }
     ensures refusal { IfErr result IsOfCheck }
 {
     let Some(entry) = words_entry(found) else {
-        return Ok(Versions {
+        return Ok(VersionTables {
             words: None,
             definitions: None,
             needs: None,
@@ -117,7 +117,7 @@ fn segment_versions(
         head: entry.at,
         index: segment,
     };
-    Ok(Versions {
+    Ok(VersionTables {
         words: Some(words),
         definitions,
         needs,
@@ -126,9 +126,9 @@ fn segment_versions(
 
 /// The entry of the words of symbols' versions, where there is one of the definitions or of the needs.
 /// Without them no word names a version, and a loader does not look at the words.
-fn words_entry(found: &Entries) -> Option<Entry>
-    ensures { (bytes : List ℕ) (at : ℕ) → AreEntries bytes at found.now →
-        result ≡ option_map (entry_at bytes) (words_row bytes at) }
+fn words_entry(found: &TaggedEntries) -> Option<Entry>
+    ensures { (bytes : List ℕ) (at : ℕ) → AreTaggedEntries bytes at found.now →
+        result ≡ option_map (dynamic_entry_at bytes) (words_row bytes at) }
 {
     if found.verdef.is_none() && found.verneed.is_none() {
         return None;
@@ -151,7 +151,7 @@ fn segment_records(
     requires names { StringsWithin view.now.loaded.size names }
     ensures held { (bytes : List ℕ) (at tag : ℕ) →
         Views bytes view.now.loaded view.now.store.now →
-        entry ≡ option_map (entry_at bytes) (tagged_row bytes at tag) →
+        entry ≡ option_map (dynamic_entry_at bytes) (tagged_row bytes at tag) →
         strings_in bytes names ≡ segment_strings bytes at →
         Settles (checks_of_row (tagged_row bytes at tag) (rest_checks bytes))
         (AreInFront bytes (records_of_tag bytes at tag kind)) result }

@@ -5,7 +5,7 @@ use crate::symbols::{RecordTable, VersionWords};
 
 /// The tables of the versions of symbols.
 #[derive(Clone, Copy)]
-pub(crate) struct Versions {
+pub(crate) struct VersionTables {
     /// The words of the symbols' versions, if there are such.
     pub words: Option<VersionWords>,
     /// The definitions, where there are words and definitions.

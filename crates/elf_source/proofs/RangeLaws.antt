@@ -4,7 +4,7 @@ use Rattle.std.proofs.lemmas.List.{drop-take}
 use Rattle.std.proofs.Math.Seq.{take-length}
 use Rattle.std.specs.Prelude.{OnOk}
 use Rattle.elf_source.specs.Source.{Seen}
-use Rattle.elf_source.specs.Ranges.{IsWhole, Range, file_within, seen_range}
+use Rattle.elf_source.specs.Ranges.{IsWholeRange, RangeOf, file_within, seen_range}
 
 -- a slice of a slice
 slice_within : (bytes : List ℕ) (start size at n : ℕ) → at + n ≤ size → take n (drop at (take size (drop start bytes))) ≡ take n (drop (start + at) bytes)
@@ -22,7 +22,7 @@ read_of (Some bytes) file out start size at n h is read =
     let same : take size (drop start bytes) ≡ file = cc in
     read bytes refl ∙ sym (ap (λ l. take n (drop at l)) (sym same) ∙ slice_within bytes start size at n h)
 
-pub range_slice : {X E : Type 0} (result : Result X E) (r : Range) (file out : List ℕ) (at n : ℕ) → at + n ≤ r.size → file_within r.below.file r.start r.size ≡ Some file
+pub range_slice : {X E : Type 0} (result : Result X E) (r : RangeOf) (file out : List ℕ) (at n : ℕ) → at + n ≤ r.size → file_within r.below.file r.start r.size ≡ Some file
     → ((bytes : List ℕ) → r.below.file ≡ Some bytes → OnOk result (out ≡ take n (drop (r.start + at) bytes))) → OnOk result (out ≡ take n (drop at file))
 range_slice (Ok x) r file out at n h is read = read_of r.below.file file out r.start r.size at n h is read
 range_slice (Err fault) r file out at n h is read = tt
@@ -36,7 +36,7 @@ pub whole_file : (seen : Seen) → file_within seen.file 0 seen.size ≡ seen.fi
 whole_file seen = all_of seen.file seen.size seen.sized
 
 -- a range that begins at the start and has the size of what it is a range of is whole
-pub is_whole : (r : Range) → r.start ≡ 0 → r.size ≡ r.below.size → IsWhole (seen_range r)
+pub is_whole : (r : RangeOf) → r.start ≡ 0 → r.size ≡ r.below.size → IsWholeRange (seen_range r)
 is_whole r first all =
     let same : file_within r.below.file r.start r.size ≡ r.below.file =
     ap (λ start. file_within r.below.file start r.size) first ∙ (ap (file_within r.below.file 0) all ∙ whole_file r.below) in

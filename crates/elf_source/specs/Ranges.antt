@@ -7,7 +7,7 @@ abbrev pub file_within : Option (List ℕ) → ℕ → ℕ → Option (List ℕ)
 file_within file start size = option_map (λ bytes. take size (drop start bytes)) file
 
 -- a range: what is seen of the source that it is a range of, where it starts and how many bytes it has
-pub record Range : Type 0 where
+pub record RangeOf : Type 0 where
   pub below : Seen
   pub start : ℕ
   pub size : ℕ
@@ -15,7 +15,7 @@ pub record Range : Type 0 where
   pub sized : (bytes : List ℕ) → file_within below.file start size ≡ Some bytes → length bytes ≡ size
 
 -- what is seen of it: its own size, and the slice of the other's file; what fails below is a failure of its own
-abbrev pub seen_range : Range → Seen
+abbrev pub seen_range : RangeOf → Seen
 seen_range r = record {
   size = r.size;
   failures = r.below.failures;
@@ -25,8 +25,8 @@ seen_range r = record {
 }
 
 -- a source is a range of all bytes of another
-abbrev pub IsWhole : Seen → Type 0
-IsWhole seen = seen.whole ≡ Some (record { size = seen.size; file = seen.file })
+abbrev pub IsWholeRange : Seen → Type 0
+IsWholeRange seen = seen.whole ≡ Some (record { size = seen.size; file = seen.file })
 
 -- so many bytes from an offset on lie within what a source is a range of
 abbrev pub LiesWithin : Seen → ℕ → ℕ → Type 0
@@ -45,7 +45,7 @@ pub record Narrows (old new : Counting) (start size : ℕ) : Type 0 where
 
 -- a range was set to all bytes of what it is a range of, nothing of it is hidden, and of the account nothing changed
 pub record Widens (old new : Counting) : Type 0 where
-  pub is_whole : IsWhole new.seen
+  pub is_whole : IsWholeRange new.seen
   pub same_whole : new.seen.whole ≡ old.seen.whole
   pub same_failures : new.seen.failures ≡ old.seen.failures
   pub same_asked : new.asked ≡ old.asked

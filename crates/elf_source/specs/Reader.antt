@@ -13,7 +13,7 @@ IsTurn old new (Err Interrupted) = new ≤ old + 1
 IsTurn old new (Err Failed) = new ≤ old
 
 -- a read at an offset of a file gave so many bytes: they are the file's, and none only at its end
-pub record Gives (file : List ℕ) (at : ℕ) (out : List ℕ) (count : ℕ) : Type 0 where
+pub record GivesFileBytes (file : List ℕ) (at : ℕ) (out : List ℕ) (count : ℕ) : Type 0 where
   pub bytes : take count out ≡ take count (drop at file)
   pub ends : count ≡ 0 → 0 < length out → length file ≤ at
 
@@ -42,10 +42,10 @@ pub record Stream (Seen R : Type 0) : Type 0 where
 
 -- where what reads and seeks stands after a read at an offset, as far as it is known: behind what it gave, or at the
 -- offset if it was interrupted
-abbrev pub Stands : ℕ → Option ℕ → Result ℕ ReaderFault → Type 0
-Stands at place (Ok count) = IfSome place (λ n. (n ≡ at + count) × (0 < count))
-Stands at place (Err Interrupted) = IfSome place (λ n. n ≡ at)
-Stands at place (Err Failed) = place ≡ None
+abbrev pub StandsAfter : ℕ → Option ℕ → Result ℕ ReaderFault → Type 0
+StandsAfter at place (Ok count) = IfSome place (λ n. (n ≡ at + count) × (0 < count))
+StandsAfter at place (Err Interrupted) = IfSome place (λ n. n ≡ at)
+StandsAfter at place (Err Failed) = place ≡ None
 
 -- a read at an offset of what reads and seeks, by the position and the bytes left that it may tell: it sought the offset,
 -- unless it stood there, and read

@@ -94,7 +94,7 @@ abbrev pub counted : ℕ → ℕ → ℕ
 counted asked n = min (asked + n) (2 ^ 128 - 1)
 
 -- a limit was set or taken away, and nothing else changed
-pub record Limits (old new : Counting) (bytes : Option ℕ) : Type 0 where
+pub record SetsLimit (old new : Counting) (bytes : Option ℕ) : Type 0 where
   pub seen : new.seen ≡ old.seen
   pub asked : new.asked ≡ old.asked
   pub most : new.most ≡ option_map (counted old.asked) bytes

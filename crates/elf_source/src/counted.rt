@@ -1,6 +1,6 @@
 //! A source whose reads are counted.
 ghost use Rattle.std.specs.Prelude.{◌≡◌, ℕ, ◌+◌, ◌-◌, ◌^◌, ◌<◌, ◌≤◌, List, length, take, drop, false, None, Some, IfErr, OnOk};
-ghost use Rattle.elf_source.specs.Source.{Reads, Faults, Blames, Asks, AsksOnce, Stops, Fills, Hides, IsReadable, IsWithin, Keeps, Limits, SameView, left};
+ghost use Rattle.elf_source.specs.Source.{Reads, Faults, Blames, Asks, AsksOnce, Stops, Fills, Hides, IsReadable, IsWithin, Keeps, SetsLimit, SameView, left};
 
 use crate::faults::{AskFault, SourceFault};
 use crate::hiding::hide;
@@ -112,7 +112,7 @@ impl<S: Source> Counted<S> {
 
     /// Sets how many bytes [`Counted::ask`] may ask for from now on; with None the limit is taken away.
     pub fn limit(&mut self, bytes: Option<u64>)
-        ensures { Limits self.old self.new bytes }
+        ensures { SetsLimit self.old self.new bytes }
     {
         self.most = match bytes {
             None => None,

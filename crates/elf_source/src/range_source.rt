@@ -1,7 +1,7 @@
 //! A source over a range of another source.
 ghost use Rattle.std.specs.Prelude.{◌≡◌, ℕ, ◌+◌, ◌^◌, ◌<◌, ◌≤◌, List, length, take, drop, Some, IfErr, OnOk, ⊤};
 ghost use Rattle.elf_source.specs.Source.{Keeps, Faults};
-ghost use Rattle.elf_source.specs.Ranges.{IsWhole, LiesWithin, Narrows, Widens, file_within, seen_range};
+ghost use Rattle.elf_source.specs.Ranges.{IsWholeRange, LiesWithin, Narrows, Widens, file_within, seen_range};
 
 use crate::counted::Counted;
 use crate::faults::SourceFault;
@@ -22,9 +22,9 @@ pub struct RangeSource<S: Source> {
 }
 
 impl<S: Source> Model for RangeSource<S> {
-    ghost use Rattle.elf_source.specs.Ranges.{Range};
+    ghost use Rattle.elf_source.specs.Ranges.{RangeOf};
 
-    ghost Value = { Range };
+    ghost Value = { RangeOf };
 
     ghost view = { λ r. record {
       below = S.seen r.source;
@@ -41,7 +41,7 @@ impl<S: Source> RangeSource<S> {
         ensures below { result.below ≡ S.seen source }
         ensures start { result.start ≡ 0 }
         ensures size { result.size ≡ (S.seen source).size }
-        ensures whole { IsWhole (seen_range result) }
+        ensures whole { IsWholeRange (seen_range result) }
         ensures file { (seen_range result).file ≡ (S.seen source).file }
     {
         let size = source.length();

@@ -1,6 +1,6 @@
 //! What a reader below a stream promises.
 ghost use Rattle.std.specs.Prelude.{◌≡◌, ℕ, ◌≤◌, List, Option, Some, length, IfOk};
-ghost use Rattle.elf_source.specs.Reader.{IsTurn, Gives};
+ghost use Rattle.elf_source.specs.Reader.{IsTurn, GivesFileBytes};
 
 use crate::faults::ReaderFault;
 
@@ -40,5 +40,5 @@ pub trait Reader {
         ensures once { one_turn self.old at (length out.old) self.new }
         ensures within { IfOk result (λ count. count ≤ length out.old) }
         ensures gives { (bytes : List ℕ) → file self.old ≡ Some bytes → IfOk result
-            (Gives bytes at out.new) };
+            (GivesFileBytes bytes at out.new) };
 }

@@ -2,7 +2,7 @@
 ghost use Rattle.std.specs.Prelude.{◌≡◌, ◌≤◌, ◌↔◌, ⊤, pos, length, None, Some, Ok, IfOk, IfErr};
 ghost use Rattle.std.specs.IoError.{error_kind};
 ghost use Rattle.std.specs.Io.Seek.{MovesTo, SeekMoves};
-ghost use Rattle.elf_source.specs.Reader.{Stands, SeeksAndReads};
+ghost use Rattle.elf_source.specs.Reader.{StandsAfter, SeeksAndReads};
 
 use crate::faults::ReaderFault;
 use crate::reader::Reader;
@@ -71,7 +71,7 @@ impl<R: Read + Seek> Reader for SeekReader<R> {
     /// bytes.
     fn read_at(&mut self, at: u64, out: &mut [u8]) -> Result<usize, ReaderFault>
         ensures within { IfOk result (λ count. count ≤ length out.old) }
-        ensures place { Stands at self.new.place result }
+        ensures place { StandsAfter at self.new.place result }
         ensures bytes { SeeksAndReads R.stream_position R.remaining self.old.place self.old.inner
             self.new.inner at out.new result }
     {

@@ -8,9 +8,9 @@ use Rattle.elf_source.specs.Onward.{ReadsOnward}
 use Rattle.elf_source.specs.Source.{Seen}
 use Rattle.elf_source.proofs.OnwardLaws.{onward_more, onward_none, onward_then}
 use Rattle.elf_table.specs.Tables.{Rows, size_of}
-use Rattle.elf_table.specs.Cursors.{Reading, GivesRow, Stands, page_of, row_at}
+use Rattle.elf_table.specs.Cursors.{Reading, GivesRow, StandsAtRow, page_of, row_at}
 use Rattle.elf_headers.specs.Faults.{IsAt}
-use Rattle.elf_table.specs.Windows.{Ahead, HoldsBytes, StillHolds, Holds, frontier, bytes_left, range_end}
+use Rattle.elf_table.specs.Windows.{Ahead, HoldsBytes, StillHolds, HoldsCount, frontier, bytes_left, range_end}
 use Rattle.elf_headers.specs.declared.fault.Fault.{Fault}
 use Rattle.elf_table.proofs.Paging.{Agrees-skip, held-front}
 
@@ -20,7 +20,7 @@ mul-split d r u entry e = omega (arith, ap (λ (x : ℕ). x * entry) e)
 
 -- the row that was shown is passed over
 pub Stands-skip : (table : Rows) (index shown : ℕ) (old new : Ahead) → new.at ≡ old.at + shown → new.held ≡ drop shown old.held
-    → Stands table index shown old → Stands table index 0 new
+    → StandsAtRow table index shown old → StandsAtRow table index 0 new
 Stands-skip table index shown old new at held s = record {
   its_place = let p = s.its_place in omega arith;
   rows = s.rows;
@@ -33,7 +33,7 @@ no_rows zero entry few = omega arith
 no_rows (suc rows) entry few = absurd (omega arith)
 
 -- a window that holds no whole row stands where it reads
-pub fault_at_row : (table : Rows) (index : ℕ) (w : Ahead) (fault : Fault) → Stands table index 0 w → length w.held < table.entry → IsAt (frontier w) fault
+pub fault_at_row : (table : Rows) (index : ℕ) (w : Ahead) (fault : Fault) → StandsAtRow table index 0 w → length w.held < table.entry → IsAt (frontier w) fault
     → IsAt (row_at table index) fault
 fault_at_row table index w fault s few is =
     let p = s.its_place in
@@ -59,7 +59,7 @@ some_rows : (entry : ℕ) → 0 < entry → entry ≤ 4096 → 0 < 4096 / entry
 some_rows entry some small = grind (arith, common_steps)
 
 -- the bytes that are left are those of the rows that are left
-left_rows : (table : Rows) (index : ℕ) (w : Ahead) → index ≤ table.count → Stands table index 0 w → range_end w ≡ table.at + size_of table
+left_rows : (table : Rows) (index : ℕ) (w : Ahead) → index ≤ table.count → StandsAtRow table index 0 w → range_end w ≡ table.at + size_of table
     → bytes_left w ≡ (table.count - index) * table.entry
 left_rows table index w below s ends =
     let p = s.its_place in
@@ -68,7 +68,7 @@ left_rows table index w below s ends =
 
 -- a window that was to hold a row holds whole rows
 pub Stands-next : (table : Rows) (index entry : ℕ) (old new : Ahead) → entry ≡ table.entry → 0 < entry → entry ≤ 4096 → index < table.count → old.page ≡ page_of table.entry
-    → range_end old ≡ table.at + size_of table → Stands table index 0 old → Holds old new entry → Stands table (index + 1) entry new
+    → range_end old ≡ table.at + size_of table → StandsAtRow table index 0 old → HoldsCount old new entry → StandsAtRow table (index + 1) entry new
 Stands-next table index entry old new e some small below page ends s h =
     let more = go (cases_lt (length old.held) entry) in
     record {
@@ -103,7 +103,7 @@ reading table index shown failed w = record {
 
 -- a window that passed over a row and holds the next gives it
 pub Gives-next : (file : Option (List ℕ)) (table : Rows) (index shown entry : ℕ) (failed : Option Fault) (old passed new : Ahead) → entry ≡ table.entry → failed ≡ None
-    → index < table.count → passed.at ≡ old.at + shown → passed.held ≡ drop shown old.held → Stands table index 0 passed → Holds passed new entry
+    → index < table.count → passed.at ≡ old.at + shown → passed.held ≡ drop shown old.held → StandsAtRow table index 0 passed → HoldsCount passed new entry
     → StillHolds file passed new → GivesRow file (reading table index shown failed old) (reading table (index + 1) entry failed new)
 Gives-next file table index shown entry failed old passed new e nf below at held s h agrees =
     let place : new.at ≡ row_at table index = h.stays ∙ let p = s.its_place in omega arith in

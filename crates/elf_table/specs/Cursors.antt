@@ -31,7 +31,7 @@ abbrev pub page_of : ℕ → ℕ
 page_of entry = 4096 / entry * entry
 
 -- a window stands at the row that is shown, which has so many bytes, and holds whole rows behind it
-pub record Stands (table : Rows) (index shown : ℕ) (w : Ahead) : Type 0 where
+pub record StandsAtRow (table : Rows) (index shown : ℕ) (w : Ahead) : Type 0 where
   pub its_place : w.at + shown ≡ row_at table index
   pub rows : ℕ
   pub whole : length w.held ≡ shown + rows * table.entry

@@ -22,9 +22,9 @@ NameRead at (Ok Cut) bytes answer = answer ≡ Ok (ShownCut bytes)
 NameRead at (Err fault) bytes answer = Refuses at fault answer
 
 -- a comparison answers whether the name is the wanted one, or refuses for its cause
-abbrev pub Compared : ℕ → Result Bool Fault → Result Bool Cause → Type 0
-Compared at (Ok equal) answer = answer ≡ Ok equal
-Compared at (Err fault) answer = Refuses at fault answer
+abbrev pub ComparesName : ℕ → Result Bool Fault → Result Bool Cause → Type 0
+ComparesName at (Ok equal) answer = answer ≡ Ok equal
+ComparesName at (Err fault) answer = Refuses at fault answer
 
 -- bytes were searched for a NUL, and so much of them is kept
 abbrev pub Searched : List ℕ → ℕ → Result Bool Fault → List ℕ → Type 0
@@ -44,3 +44,8 @@ abbrev pub Matched : List ℕ → List ℕ → Result Bool Fault → Type 0
 Matched front wanted (Ok true) = SameBelow (length front) front wanted
 Matched front wanted (Ok false) = DifferBelow (length front) front wanted
 Matched front wanted (Err fault) = Unit {0}
+
+-- a name as it is shown, by how its bytes end
+abbrev pub shown_by : NameEnd → List ℕ → Shown
+shown_by Whole bytes = ShownWhole bytes
+shown_by Cut bytes = ShownCut bytes

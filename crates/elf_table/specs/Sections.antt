@@ -64,8 +64,8 @@ abbrev pub section_names : List ℕ → Option Strings
 section_names file = elim (has_section_names file) [ true ↦ Some (names_at file (section_at file (e_shstrndx file))) | false ↦ None ]
 
 -- so many bytes of the file as rows of one byte; none has no check
-abbrev pub bytes_of : ℕ → ℕ → ℕ → ℕ → Result Rows Fault
-bytes_of file_size offset size place =
+abbrev pub byte_rows : ℕ → ℕ → ℕ → ℕ → Result Rows Fault
+byte_rows file_size offset size place =
     elim (size == 0) [
       | true ↦ Ok (rows offset 0 1)
       | false ↦ checked (refuse (is_outside file_size offset size) place TableOutside ∷ []) (rows offset size 1)

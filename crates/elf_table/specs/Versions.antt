@@ -28,7 +28,7 @@ pub record LinksToSymbols (f : File) (section : ℕ) : Type 0 where
   pub linked : (links (sections_in f) section && is_symbol_table (row f.store.now (sh_link (row f.store.now section) 0)) 0) ≡ true
 
 -- THE VERSIONS OF SYMBOLS of a section that is not empty, and the symbols that it links to, by the headers in the store
-pub record Counts (f : File) (section : ℕ) (table : Rows) (count : ℕ) : Type 0 where
+pub record CountsVersions (f : File) (section : ℕ) (table : Rows) (count : ℕ) : Type 0 where
   pub entry : table.entry ≡ VERSYM_SIZE
   pub counted : table.count ≡ header_field (sections_in f) sh_size section / VERSYM_SIZE
   pub linked : (header_field (sections_in f) sh_size section == 0) ≡ false → has_symbol_table (sections_in f) section f.loaded.size ≡ true

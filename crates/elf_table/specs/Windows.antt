@@ -45,7 +45,7 @@ pub record MovesOn (old new : Ahead) (before after : ℕ) : Type 0 where
   pub account : after + new.unread ≤ before + old.unread
 
 -- a window that holds so many bytes: it is as it was where it held them, and else it holds a page, or all that are left
-pub record Holds (old new : Ahead) (count : ℕ) : Type 0 where
+pub record HoldsCount (old new : Ahead) (count : ℕ) : Type 0 where
   pub stays : new.at ≡ old.at
   pub long : count ≤ length new.held
   pub unchanged : count ≤ length old.held → new ≡ old
@@ -53,5 +53,5 @@ pub record Holds (old new : Ahead) (count : ℕ) : Type 0 where
 
 -- a window was to hold so many bytes. A fault is of a read of bytes that it did not hold, at the first of them
 abbrev pub Brings : {X : Type 0} → Ahead → Ahead → ℕ → Result X Fault → Type 0
-Brings old new count (Ok x) = Holds old new count
+Brings old new count (Ok x) = HoldsCount old new count
 Brings old new count (Err fault) = (length old.held < count) × IsAt (frontier old) fault

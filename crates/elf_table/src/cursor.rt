@@ -27,7 +27,7 @@ pub struct Cursor {
 
 impl Model for Cursor {
     ghost use Rattle.std.specs.Prelude.{◌≡◌, ◌+◌, ◌-◌, ◌≤◌, length, take, drop, None};
-    ghost use Rattle.elf_table.specs.Cursors.{Reading, Stands, page_of};
+    ghost use Rattle.elf_table.specs.Cursors.{Reading, StandsAtRow, page_of};
     ghost use Rattle.elf_table.specs.Tables.{size_of};
     ghost use Rattle.elf_table.specs.Windows.{range_end};
 
@@ -46,7 +46,7 @@ impl Model for Cursor {
     ghost invariant = { λ c. (c.index ≤ c.table.count) × (c.shown ≤ length c.window.held)
         × (c.window.page ≡ page_of c.table.entry)
         × (range_end c.window ≡ c.table.at + size_of c.table)
-        × (c.failed ≡ None → Stands c.table c.index c.shown c.window) };
+        × (c.failed ≡ None → StandsAtRow c.table c.index c.shown c.window) };
 }
 
 impl Cursor {

@@ -20,7 +20,7 @@ mod segments;
 mod table;
 mod window;
 
-pub use buffers::BUFFER_BYTES;
+pub use buffers::TABLE_BUFFER_BYTES;
 pub use checks::holds_symbols;
 pub use cursor::Cursor;
 pub use elf_headers::{

@@ -5,7 +5,7 @@ ghost use Rattle.elf_model.specs.Bytes.{slice};
 ghost use Rattle.elf_model.specs.Names.{shown, same, pad64, name_bytes};
 ghost use Rattle.elf_source.specs.Source.{Reads};
 ghost use Rattle.elf_headers.specs.Faults.{IsOfRead, Says};
-ghost use Rattle.elf_table.specs.NamesRead.{NameRead, Compared, Matched};
+ghost use Rattle.elf_table.specs.NamesRead.{NameRead, ComparesName, Matched};
 ghost use Rattle.elf_table.specs.Tables.{StringsWithin, strings_in};
 
 use crate::name_buf::NameBuf;
@@ -146,7 +146,7 @@ impl Names {
         ensures says { IfErr result (Says src.old src.new (pad64 (length wanted.now + 1))) }
         ensures not_past { src.new.asked ≤ src.old.asked + (self.now.size - off) }
         ensures compared { (file : List ℕ) → src.old.seen.file ≡ Some file →
-            Compared at result (same (strings_in file self.now) off wanted.now) }
+            ComparesName at result (same (strings_in file self.now) off wanted.now) }
     {
         let size = self.size();
         if size == 0 && off == 0 {

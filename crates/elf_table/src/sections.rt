@@ -5,10 +5,10 @@ ghost use Rattle.elf_record.specs.Shdr.{IsShdr};
 ghost use Rattle.elf_headers.specs.Load.{Belongs, Passes, section_place};
 ghost use Rattle.elf_headers.specs.Faults.{IsOfCheck};
 ghost use Rattle.elf_table.specs.Files.{Tells, program_headers, table_in, size_in};
-ghost use Rattle.elf_table.specs.Sections.{bytes_of, table_at, string_table_at, section_names};
+ghost use Rattle.elf_table.specs.Sections.{byte_rows, table_at, string_table_at, section_names};
 ghost use Rattle.elf_table.specs.Sections.{symbols_at};
 ghost use Rattle.elf_table.specs.Relocations.{Links, Relocates};
-ghost use Rattle.elf_table.specs.Versions.{Counts, LinksToSymbols, Versioned, has_names, sections_in};
+ghost use Rattle.elf_table.specs.Versions.{CountsVersions, LinksToSymbols, Versioned, has_names, sections_in};
 ghost use Rattle.elf_model.specs.HeaderTables.{file_sections, first_typed};
 ghost use Rattle.elf_model.specs.Records.{sh_link};
 ghost use Rattle.elf_model.specs.Tables.{has_symbols};
@@ -65,7 +65,7 @@ impl File<'_> {
     /// # Errors
     /// `TableOutside` at `at` where they end past the end of the file.
     pub fn bytes(&self, offset: u64, size: u64, at: u64) -> Result<Table, Fault>
-        ensures value { result ≡ bytes_of self.now.loaded.size offset size at }
+        ensures value { result ≡ byte_rows self.now.loaded.size offset size at }
         ensures within { IfOk result (RowsWithin self.now.loaded.size) }
     {
         if size != 0 && ends_outside(self.loaded.size(), offset, size) {
@@ -251,7 +251,7 @@ impl File<'_> {
             Versioned file (section_at file section) result }
         ensures table { IfOk result (λ found. Ok found.0 ≡ table_in self.now section 2) }
         ensures within { IfOk result (λ found. RowsWithin self.now.loaded.size found.0) }
-        ensures counts { IfOk result (λ found. Counts self.now section found.0 found.1) }
+        ensures counts { IfOk result (λ found. CountsVersions self.now section found.0 found.1) }
         ensures refusal { IfErr result IsOfCheck }
     {
         let table = self.table(section, SYMBOL_VERSION_BYTES)?;

@@ -1,8 +1,9 @@
 //! How often a source is read for names and symbols, in order, with gaps, again and scattered.
 use elf_fakes::Planned;
+use elf_headers::{Cap, Fault};
 use elf_names::{NameIndex, ReadAhead};
 use elf_source::Counted;
-use elf_table::{Cap, Fault, NameBuf, NameEnd, Names, Table};
+use elf_table::{NameBuf, NameEnd, Names, Table};
 use std::process::Abort;
 
 /// The size of the string tables here: names of seven bytes, each with its NUL.

@@ -2,10 +2,10 @@
 
 use elf_apply::apply;
 use elf_fixtures::{falling_relocations, rising_relocations};
+use elf_headers::{HeaderRoom, Stop};
 use elf_layout::Layout;
 use elf_record::{Cause, Refusal};
 use elf_source::{Counted, Out, SliceSink, Source, SourceFault};
-use elf_table::{HeaderRoom, Stop};
 use std::test::Fail;
 
 /// A file for some reads, and then another of the same length.

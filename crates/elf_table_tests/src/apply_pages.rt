@@ -3,9 +3,9 @@
 use elf_apply::apply;
 use elf_fakes::{Planned, Printer, Script};
 use elf_fixtures::{rising_relocations, with_bytes};
+use elf_headers::HeaderRoom;
 use elf_layout::Layout;
 use elf_source::{Counted, Out, WriteSink};
-use elf_table::HeaderRoom;
 use std::process::Abort;
 use std::test::Fail;
 

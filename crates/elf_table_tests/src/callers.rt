@@ -3,11 +3,12 @@ ghost use Rattle.std.specs.Prelude.{◌≡◌};
 ghost use Rattle.elf_table.specs.Tables.{RowsWithin};
 
 use elf_fixtures::{build_note, repeated_tags};
+use elf_headers::{Cap, Caps, Fault};
 use elf_note::{DynCursor, NoteCursor, dynamic_rows};
 use elf_record::numbers::{R_X86_64_32, R_X86_64_COPY, R_X86_64_PC32, R_X86_64_PLT32};
 use elf_reloc::{ValueFault, value};
 use elf_source::{Counted, MemorySource, Source};
-use elf_table::{Cap, Caps, Fault, NameBuf, Table};
+use elf_table::{NameBuf, Table};
 use std::process::Abort;
 use std::test::Fail;
 

@@ -4,9 +4,9 @@ ghost use Rattle.std.specs.Prelude.{◌<◌};
 use elf_fakes::Planned;
 use elf_fixtures::bare_header;
 use elf_hash::find;
+use elf_headers::HeaderRoom;
 use elf_record::{Ehdr, Shdr, Sym};
 use elf_source::Counted;
-use elf_table::HeaderRoom;
 use std::process::Abort;
 use std::test::Fail;
 

@@ -1,8 +1,8 @@
 //! What no clause says of a load: that the store can be made, and how much each read takes.
 use elf_fakes::Planned;
 use elf_fixtures::tables_over_headers;
+use elf_headers::{Fault, HeaderRoom, HeaderStore, Loaded, header, load};
 use elf_source::{Counted, Source, SourceFault};
-use elf_table::{Fault, HeaderRoom, HeaderStore, Loaded, header, load};
 use std::test::Fail;
 
 /// Reads the header and loads the section headers.

@@ -3,9 +3,10 @@ ghost use Rattle.std.specs.Prelude.{◌≡◌};
 ghost use Rattle.elf_table.specs.Tables.{RowsWithin};
 
 use elf_fakes::Planned;
+use elf_headers::{Cap, Fault};
 use elf_note::NoteCursor;
 use elf_source::{Counted, Source};
-use elf_table::{Cap, Fault, NameBuf, Table};
+use elf_table::{NameBuf, Table};
 use std::process::Abort;
 
 /// How many notes a cursor gives.

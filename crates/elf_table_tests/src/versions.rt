@@ -4,9 +4,10 @@ ghost use Rattle.elf_table.specs.Tables.{RowsWithin};
 
 use elf_fakes::Planned;
 use elf_fixtures::versioned_library;
+use elf_headers::Fault;
 use elf_record::{Cause, Refusal, VersionKind};
 use elf_source::{Counted, Source};
-use elf_table::{Fault, Table};
+use elf_table::Table;
 use elf_versions::VersionCursor;
 use std::process::Abort;
 

@@ -8,8 +8,8 @@ use Rattle.elf_model.specs.declared.causes.Refusal.{Refusal}
 use Rattle.elf_model.proofs.VersionSteps.{met-most, met-record, met-refused}
 use Rattle.elf_headers.specs.declared.fault.Fault.{Fault}
 use Rattle.elf_headers.specs.declared.fault.Fault.TheVariants.{Refused, Source}
-use Rattle.elf_versions.specs.Reading.{Held, IsStep, ReadsRecord, TellsMet, stand_of, unheld}
-use Rattle.elf_versions.specs.declared.reading.Step.{Step}
+use Rattle.elf_versions.specs.Reading.{HeldTable, IsStep, ReadsRecord, TellsMet, stand_of, unheld}
+use Rattle.elf_versions.specs.declared.reading.RecordStep.{RecordStep}
 use Rattle.elf_versions.specs.declared.stepping.Standing.{Standing}
 
 -- a record that is not in the table
@@ -30,7 +30,7 @@ cut-here file table size stand (suc left) (inr far) = met-refused file table siz
 
 -- a record that is read is met
 pub step-met :
-    (file : List ℕ) (table size : ℕ) (stand : Stand) (left : ℕ) (step : Step) → 0 < left → IsStep file table size stand step
+    (file : List ℕ) (table size : ℕ) (stand : Stand) (left : ℕ) (step : RecordStep) → 0 < left → IsStep file table size stand step
     → met_from file table size (Some stand) left
     ≡ with_met (met_at table stand) (met_from file table size (option_map stand_of step.next) (left - 1))
 step-met file table size stand zero step some is = absurd (omega arith)
@@ -57,7 +57,7 @@ step-refused file table size standing s left new (Source fault at) is some reads
 
 -- a step asks for no more than is no longer unread
 pub step-pays :
-    (h : Held) (left each b : ℕ) → 0 < left → b ≤ each
+    (h : HeldTable) (left each b : ℕ) → 0 < left → b ≤ each
     → unheld h b ≤ unheld h (left * each) - unheld h ((left - 1) * each)
 step-pays h left each b some less = go h.whole left some
   where

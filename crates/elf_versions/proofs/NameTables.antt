@@ -6,7 +6,7 @@ use Rattle.std.proofs.lemmas.List.{get_or-replicate, get_or-set_other, get_or-se
 use Rattle.std.proofs.Math.ListN.{set}
 use Rattle.elf_model.specs.Versions.{Met, named_by, names_number, names_version, number_in, number_word}
 use Rattle.elf_model.proofs.VersionLaws.{first_list_names_first, named-here, named-later, named-none}
-use Rattle.elf_versions.specs.NumberNames.{GivesName, NameIs, Names, name_at}
+use Rattle.elf_versions.specs.NumberNames.{GivesName, IsNameOfRecord, NamesNumbers, name_at}
 use Rattle.elf_versions.specs.declared.number_names.NameAt.{NameAt}
 use Rattle.elf_versions.specs.declared.number_names.NameAt.TheVariants.{Nowhere, Defined, Needed}
 
@@ -47,13 +47,13 @@ now-named file number records met none here =
     behind-none file number records (met ∷ []) none ∙ named-here file number met [] here
 
 -- a name that is nowhere is that of no record, and any other is one's
-pub nowhere-none : (file : List ℕ) (o : Option Met) (name : NameAt) → NameIs file o name → name ≡ Nowhere → o ≡ None
+pub nowhere-none : (file : List ℕ) (o : Option Met) (name : NameAt) → IsNameOfRecord file o name → name ≡ Nowhere → o ≡ None
 nowhere-none file None name is e = refl
 nowhere-none file (Some met) Nowhere is e = absurd is
 nowhere-none file (Some met) (Defined index) is e = cc
 nowhere-none file (Some met) (Needed index) is e = cc
 
-pub somewhere-some : (file : List ℕ) (o : Option Met) (name : NameAt) → NameIs file o name → (name ≡ Nowhere → ⊥) → (met : Met) × (o ≡ Some met)
+pub somewhere-some : (file : List ℕ) (o : Option Met) (name : NameAt) → IsNameOfRecord file o name → (name ≡ Nowhere → ⊥) → (met : Met) × (o ≡ Some met)
 somewhere-some file None Nowhere is other = absurd (other refl)
 somewhere-some file None (Defined index) is other = absurd is
 somewhere-some file None (Needed index) is other = absurd is
@@ -72,7 +72,7 @@ own-number false own number same = refl
 gives-here :
     (file : List ℕ) (number : ℕ) (records : List Met) (met : Met) (name : NameAt) (version : Bool) → names_version file met ≡ version
     → number_in (number_word file met) ≡ number → named_by file number records ≡ None → GivesName file met version name
-    → NameIs file (named_by file number (records ++ met ∷ [])) name
+    → IsNameOfRecord file (named_by file number (records ++ met ∷ [])) name
 gives-here file number records met name true is own none gives =
     let named = now-named file number records met none (own-number (names_version file met) _ number own ∙ is) in
     rw named gives
@@ -84,7 +84,7 @@ gives-here file number records met name false is own none gives =
 pub take-new :
     (file : List ℕ) (records : List Met) (met : Met) (names : List NameAt) (own : ℕ) (name : NameAt) → own < length names
     → number_in (number_word file met) ≡ own → name_at names own ≡ Nowhere → GivesName file met (names_version file met) name
-    → Names file records names → Names file (records ++ met ∷ []) (set names own name)
+    → NamesNumbers file records names → NamesNumbers file (records ++ met ∷ []) (set names own name)
 take-new file records met names own name inside is nowhere gives before number =
     elim (cases_eq own number) [
       | inl same ↦
@@ -102,7 +102,7 @@ take-new file records met names own name inside is nowhere gives before number =
 pub take-old :
     (file : List ℕ) (records : List Met) (met : Met) (names : List NameAt) (own : ℕ)
     → number_in (number_word file met) ≡ own → (name_at names own ≡ Nowhere → ⊥)
-    → Names file records names → Names file (records ++ met ∷ []) names
+    → NamesNumbers file records names → NamesNumbers file (records ++ met ∷ []) names
 take-old file records met names own is somewhere before number =
     elim (cases_eq own number) [
       | inl same ↦
@@ -115,7 +115,7 @@ take-old file records met names own is somewhere before number =
     ]
 
 -- no number has a name where there is no record
-pub none-names : (file : List ℕ) (count number : ℕ) → NameIs file (named_by file number []) (name_at (replicate count Nowhere) number)
+pub none-names : (file : List ℕ) (count number : ℕ) → IsNameOfRecord file (named_by file number []) (name_at (replicate count Nowhere) number)
 none-names file count number =
     let none = named-none file number in
     elim (cases_lt number count) [
@@ -127,8 +127,8 @@ none-names file count number =
 
 -- a number behind the last has no name
 pub behind-last :
-    (file : List ℕ) (o : Option Met) (names : List NameAt) (number : ℕ) → length names ≤ number → NameIs file o (name_at names number)
-    → NameIs file o Nowhere
+    (file : List ℕ) (o : Option Met) (names : List NameAt) (number : ℕ) → length names ≤ number → IsNameOfRecord file o (name_at names number)
+    → IsNameOfRecord file o Nowhere
 behind-last file o names number far is =
     let none : name_at names number ≡ Nowhere = get_or_past names number Nowhere far in
-    subst (NameIs file o) none is
+    subst (IsNameOfRecord file o) none is

@@ -6,12 +6,12 @@ use Rattle.elf_source.specs.Source.{Counting}
 use Rattle.elf_headers.specs.Ledger.{Did, why_stopped}
 use Rattle.elf_headers.specs.declared.fault.Fault.{Fault}
 use Rattle.elf_headers.specs.declared.fault.Fault.TheVariants.{Refused, Source}
-use Rattle.elf_versions.specs.NumberNames.{Names, ReadsNames, behind_all}
-use Rattle.elf_versions.specs.Reading.{Held, KeepsWalk, TellsVersion, Walking, unheld, unread, why_stopped_now}
+use Rattle.elf_versions.specs.NumberNames.{NamesNumbers, ReadsNumberNames, behind_all}
+use Rattle.elf_versions.specs.Reading.{HeldTable, KeepsWalk, TellsVersion, Walking, unheld, unread, why_stopped_now}
 use Rattle.elf_versions.specs.declared.number_names.NameAt.{NameAt}
 
 -- what may still be asked for grows with the records that are left
-less-unheld : (h : Held) (new old each : ℕ) → new ≤ old → unheld h (new * each) ≤ unheld h (old * each)
+less-unheld : (h : HeldTable) (new old each : ℕ) → new ≤ old → unheld h (new * each) ≤ unheld h (old * each)
 less-unheld h new old each fewer = go h.whole
   where
     go : (whole : Bool) → (if whole then 0 else (new * each)) ≤ (if whole then 0 else (old * each))
@@ -25,14 +25,14 @@ unread-fewer old new keeps =
     rw (held, each) (less-unheld old.held new.left old.left old.each keeps.fewer)
 
 -- before the first step none was met
-pub met-none : (file : List ℕ) (records : List Met) (all : Versions) (names : List NameAt) → Names file records names
-    → (seen : List Met) × (all ≡ behind_all seen all) × Names file (records ++ seen) names
-met-none file records all names is = ([], refl, subst (λ (met : List Met). Names file met names) (sym (append-nil records)) is)
+pub met-none : (file : List ℕ) (records : List Met) (all : Versions) (names : List NameAt) → NamesNumbers file records names
+    → (seen : List Met) × (all ≡ behind_all seen all) × NamesNumbers file (records ++ seen) names
+met-none file records all names is = ([], refl, subst (λ (met : List Met). NamesNumbers file met names) (sym (append-nil records)) is)
 
 -- a step that is refused refuses all
 pub stops-all :
     (file : List ℕ) (records seen : List Met) (all left new : Versions) (names : List NameAt) (fault : Fault) → all ≡ behind_all seen left
-    → TellsVersion file left new (Err fault) → ReadsNames file records all names (Err fault)
+    → TellsVersion file left new (Err fault) → ReadsNumberNames file records all names (Err fault)
 stops-all file records seen all left new names (Refused refusal) before tells =
     λ other. ap (λ (v : Versions). v.cut) (before ∙ ap (behind_all seen) (tells other))
 stops-all file records seen all left new names (Source fault at) before tells = tt
@@ -47,9 +47,9 @@ behind-more seen met all left new before first =
 
 -- and their names
 pub names-more :
-    (file : List ℕ) (records seen : List Met) (met : Met) (names : List NameAt) → Names file ((records ++ seen) ++ met ∷ []) names
-    → Names file (records ++ (seen ++ met ∷ [])) names
-names-more file records seen met names is = subst (λ (all : List Met). Names file all names) (append_assoc records seen (met ∷ [])) is
+    (file : List ℕ) (records seen : List Met) (met : Met) (names : List NameAt) → NamesNumbers file ((records ++ seen) ++ met ∷ []) names
+    → NamesNumbers file (records ++ (seen ++ met ∷ [])) names
+names-more file records seen met names is = subst (λ (all : List Met). NamesNumbers file all names) (append_assoc records seen (met ∷ [])) is
 
 -- at the end all were met
 pub end-cut : (seen : List Met) (all left : Versions) → all ≡ behind_all seen left → left ≡ no_versions None → all.cut ≡ None
@@ -57,10 +57,10 @@ end-cut seen all left before none = ap (λ (v : Versions). v.cut) (before ∙ ap
 
 pub end-names :
     (file : List ℕ) (records seen : List Met) (all left : Versions) (names : List NameAt) → all ≡ behind_all seen left
-    → left ≡ no_versions None → Names file (records ++ seen) names → Names file (records ++ all.met) names
+    → left ≡ no_versions None → NamesNumbers file (records ++ seen) names → NamesNumbers file (records ++ all.met) names
 end-names file records seen all left names before none is =
     let met : all.met ≡ seen = ap (λ (v : Versions). v.met) (before ∙ ap (behind_all seen) none) ∙ append-nil seen in
-    subst (λ (m : List Met). Names file (records ++ m) names) (sym met) is
+    subst (λ (m : List Met). NamesNumbers file (records ++ m) names) (sym met) is
 
 -- a cursor that had not failed read as it says
 pub going-did :

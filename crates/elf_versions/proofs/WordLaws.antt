@@ -9,10 +9,10 @@ use Rattle.elf_model.specs.declared.versions.VersionKind.TheVariants.{Definition
 use Rattle.elf_headers.specs.Faults.{IsOfRead}
 use Rattle.elf_headers.specs.declared.fault.Fault.{Fault}
 use Rattle.elf_headers.specs.declared.fault.Fault.TheVariants.{Refused, Source}
-use Rattle.elf_versions.specs.Words.{HoldsName, HoldsWords, aux_word, checks_of, distance_of_name, end_of_name}
-use Rattle.elf_versions.specs.Reading.{Fits, Held, ReadsRecord, bytes_each, index_bytes, stand_of, unheld}
+use Rattle.elf_versions.specs.Words.{HoldsName, HoldsWords, aux_word, checks_of, distance_of_name, end_of_named_record}
+use Rattle.elf_versions.specs.Reading.{Fits, HeldTable, ReadsRecord, bytes_each, index_bytes, stand_of, unheld}
 use Rattle.elf_versions.specs.declared.stepping.Standing.{Standing}
-use Rattle.elf_versions.specs.declared.words.Words.{Words}
+use Rattle.elf_versions.specs.declared.words.RecordWords.{RecordWords}
 
 pub distance-is : (file : List ℕ) (kind : VersionKind) (at : ℕ) → distance_of_name kind (aux_word file (record { kind = kind; at = at })) ≡ name_distance file (record { kind = kind; at = at })
 unfolding distance_of_name aux_word name_distance
@@ -20,35 +20,35 @@ distance-is file Definition at = refl
 distance-is file File at = refl
 distance-is file Need at = refl
 
-pub end-is : (file : List ℕ) (kind : VersionKind) (at : ℕ) → end_of_name kind (aux_word file (record { kind = kind; at = at })) ≡ name_end file (record { kind = kind; at = at })
-unfolding end_of_name aux_word name_end
+pub end-is : (file : List ℕ) (kind : VersionKind) (at : ℕ) → end_of_named_record kind (aux_word file (record { kind = kind; at = at })) ≡ name_end file (record { kind = kind; at = at })
+unfolding end_of_named_record aux_word name_end
 end-is file Definition at = refl
 end-is file File at = refl
 end-is file Need at = refl
 
 -- where the name is
-pub named-where : (file : List ℕ) (kind : VersionKind) (at : ℕ) (words : Words) → HoldsWords file (record { kind = kind; at = at }) words
+pub named-where : (file : List ℕ) (kind : VersionKind) (at : ℕ) (words : RecordWords) → HoldsWords file (record { kind = kind; at = at }) words
     → distance_of_name kind words.aux ≡ name_distance file (record { kind = kind; at = at })
 named-where file kind at words h = ap (distance_of_name kind) h.aux ∙ distance-is file kind at
 
 -- the checks of the words are those of the record
-pub checks-are : (file : List ℕ) (kind : VersionKind) (at size place : ℕ) (words : Words) → HoldsWords file (record { kind = kind; at = at }) words
+pub checks-are : (file : List ℕ) (kind : VersionKind) (at size place : ℕ) (words : RecordWords) → HoldsWords file (record { kind = kind; at = at }) words
     → checks_of kind size place at words ≡ word_checks file size place (record { kind = kind; at = at })
 checks-are file kind at size place words h =
-    let ends : end_of_name kind words.aux ≡ name_end file (record { kind = kind; at = at }) = ap (end_of_name kind) h.aux ∙ end-is file kind at in
+    let ends : end_of_named_record kind words.aux ≡ name_end file (record { kind = kind; at = at }) = ap (end_of_named_record kind) h.aux ∙ end-is file kind at in
     let version = h.version in
     let number = h.number in
     rw (version, number, ends) refl
 
 -- what holds the name ends behind where it begins
-pub distance-inside : (kind : VersionKind) (aux : ℕ) → distance_of_name kind aux ≤ end_of_name kind aux
-unfolding distance_of_name end_of_name
+pub distance-inside : (kind : VersionKind) (aux : ℕ) → distance_of_name kind aux ≤ end_of_named_record kind aux
+unfolding distance_of_name end_of_named_record
 distance-inside Definition aux = omega arith
 distance-inside File aux = omega arith
 distance-inside Need aux = omega arith
 
 -- what a record may ask for
-pub asks-words : (h : Held) (kind : VersionKind) → unheld h (record_size kind) ≤ unheld h (bytes_each kind)
+pub asks-words : (h : HeldTable) (kind : VersionKind) → unheld h (record_size kind) ≤ unheld h (bytes_each kind)
 asks-words h kind = go h.whole kind
   where
     go : (whole : Bool) (kind : VersionKind) → (if whole then 0 else record_size kind) ≤ (if whole then 0 else bytes_each kind)
@@ -57,7 +57,7 @@ asks-words h kind = go h.whole kind
     go false File = omega arith
     go false Need = omega arith
 
-pub asks-name : (h : Held) (kind : VersionKind) → unheld h (record_size kind) + unheld h (index_bytes kind) ≤ unheld h (bytes_each kind)
+pub asks-name : (h : HeldTable) (kind : VersionKind) → unheld h (record_size kind) + unheld h (index_bytes kind) ≤ unheld h (bytes_each kind)
 asks-name h kind = go h.whole kind
   where
     go : (whole : Bool) (kind : VersionKind)
@@ -69,7 +69,7 @@ asks-name h kind = go h.whole kind
 
 -- the checks of a record that is in the table are those of its words
 pub record-checked :
-    (file : List ℕ) (table size : ℕ) (s : Standing) (words : Words) → s.place + record_size s.kind ≤ size
+    (file : List ℕ) (table size : ℕ) (s : Standing) (words : RecordWords) → s.place + record_size s.kind ≤ size
     → HoldsWords file (met_at table (stand_of s)) words
     → first_refusal (record_checks file table size (stand_of s)) ≡ first_refusal (checks_of s.kind size s.place (table + s.place) words)
 unfolding record_checks
@@ -90,13 +90,13 @@ fits-all size each (Some s) near owner pays = record { near = near; owner = owne
 
 -- the index of a name: behind a definition, and in any other record
 pub definition-index :
-    (file : List ℕ) (at : ℕ) (words : Words) → HoldsWords file (record { kind = Definition; at = at }) words
+    (file : List ℕ) (at : ℕ) (words : RecordWords) → HoldsWords file (record { kind = Definition; at = at }) words
     → field file (at + words.aux) 4 ≡ name_index file (record { kind = Definition; at = at })
 unfolding name_index name_distance aux_word
 definition-index file at words h = ap (λ (x : ℕ). field file (at + x) 4) h.aux
 
 pub own-index :
-    (file : List ℕ) (kind : VersionKind) (at : ℕ) (words : Words) → (kind ≡ File) ⊎ (kind ≡ Need)
+    (file : List ℕ) (kind : VersionKind) (at : ℕ) (words : RecordWords) → (kind ≡ File) ⊎ (kind ≡ Need)
     → HoldsWords file (record { kind = kind; at = at }) words → words.name ≡ name_index file (record { kind = kind; at = at })
 unfolding name_index HoldsName
 own-index file Definition at words (inl is) h = cc

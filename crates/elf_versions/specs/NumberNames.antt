@@ -13,17 +13,17 @@ abbrev pub name_at : List NameAt → ℕ → NameAt
 name_at names number = slice_index_or names number Nowhere
 
 -- the name is that of a record, if one names the number
-abbrev pub NameIs : List ℕ → Option Met → NameAt → Type 0
-NameIs file None Nowhere = Unit {0}
-NameIs file None (Defined index) = ⊥
-NameIs file None (Needed index) = ⊥
-NameIs file (Some met) Nowhere = ⊥
-NameIs file (Some met) (Defined index) = (met.kind ≡ Definition) × (index ≡ name_index file met)
-NameIs file (Some met) (Needed index) = (met.kind ≡ Need) × (index ≡ name_index file met)
+abbrev pub IsNameOfRecord : List ℕ → Option Met → NameAt → Type 0
+IsNameOfRecord file None Nowhere = Unit {0}
+IsNameOfRecord file None (Defined index) = ⊥
+IsNameOfRecord file None (Needed index) = ⊥
+IsNameOfRecord file (Some met) Nowhere = ⊥
+IsNameOfRecord file (Some met) (Defined index) = (met.kind ≡ Definition) × (index ≡ name_index file met)
+IsNameOfRecord file (Some met) (Needed index) = (met.kind ≡ Need) × (index ≡ name_index file met)
 
 -- THE NAMES ARE THOSE OF SOME RECORDS: of each number that of the first record that names it
-abbrev pub Names : List ℕ → List Met → List NameAt → Type 0
-Names file records names = (number : ℕ) → NameIs file (named_by file number records) (name_at names number)
+abbrev pub NamesNumbers : List ℕ → List Met → List NameAt → Type 0
+NamesNumbers file records names = (number : ℕ) → IsNameOfRecord file (named_by file number records) (name_at names number)
 
 -- some records in front of those that are left
 abbrev pub behind_all : List Met → Versions → Versions
@@ -31,12 +31,12 @@ behind_all records left = record { met = records ++ left.met; cut = left.cut }
 
 -- what a walk to the end says: all records that were left were met, and the names are those of them too; or what was left is
 -- refused behind some of them
-abbrev pub ReadsNames : List ℕ → List Met → Versions → List NameAt → Result (Unit {0}) Fault → Type 0
-ReadsNames file records left names (Ok x) = (left.cut ≡ None) × Names file (records ++ left.met) names
-ReadsNames file records left names (Err (Refused refusal)) = (IsBudget refusal → ⊥) → left.cut ≡ Some refusal
-ReadsNames file records left names (Err (Source fault at)) = Unit {0}
+abbrev pub ReadsNumberNames : List ℕ → List Met → Versions → List NameAt → Result (Unit {0}) Fault → Type 0
+ReadsNumberNames file records left names (Ok x) = (left.cut ≡ None) × NamesNumbers file (records ++ left.met) names
+ReadsNumberNames file records left names (Err (Refused refusal)) = (IsBudget refusal → ⊥) → left.cut ≡ Some refusal
+ReadsNumberNames file records left names (Err (Source fault at)) = Unit {0}
 
 -- the name that a record gives its number: none, unless it names a version
 abbrev pub GivesName : List ℕ → Met → Bool → NameAt → Type 0
-GivesName file met true name = NameIs file (Some met) name
+GivesName file met true name = IsNameOfRecord file (Some met) name
 GivesName file met false name = name ≡ Nowhere

@@ -3,7 +3,7 @@ use Rattle.std.specs.Prelude.{ℕ, ◌≡◌, ◌+◌, ◌*◌, ◌^◌, IfOk, I
 use Rattle.elf_model.specs.Budget.{IsBudget}
 use Rattle.elf_model.specs.Bytes.{slice}
 use Rattle.elf_model.specs.Records.{vn_next}
-use Rattle.elf_model.specs.Versions.{DEFINITION_SIZE, DEFINED_NAME_SIZE, NEED_SIZE, VERSION_NUMBERS, Met, Stand, Versions, number_in, number_word, flags_word, hash_word, named_at, name_index, no_versions, with_met, met_from, met_at, record_checks, behind, first_stand, most_records, record_size}
+use Rattle.elf_model.specs.Versions.{DEFINITION_SIZE, DEFINED_NAME_SIZE, NEED_SIZE, VERSION_NUMBERS, Met, Stand, Versions, number_in, number_word, flags_word, hash_word, named_at, name_index, no_versions, with_met, met_from, met_at, record_checks, next_stand, first_stand, most_records, record_size}
 use Rattle.elf_model.specs.declared.versions.VersionKind.{VersionKind}
 use Rattle.elf_model.specs.declared.versions.VersionKind.TheVariants.{Definition, File, Need}
 use Rattle.elf_headers.specs.Faults.{IsOfRead}
@@ -12,24 +12,24 @@ use Rattle.elf_headers.specs.declared.fault.Fault.TheVariants.{Refused, Source}
 use Rattle.elf_table.specs.Tables.{Rows}
 use Rattle.elf_headers.specs.Ledger.{why_stopped}
 use Rattle.elf_versions.specs.Words.{HoldsWords}
-use Rattle.elf_versions.specs.declared.words.Words.{Words}
+use Rattle.elf_versions.specs.declared.words.RecordWords.{RecordWords}
 use Rattle.elf_versions.specs.declared.record.VersionRecord.{VersionRecord}
 use Rattle.elf_versions.specs.declared.stepping.Standing.{Standing}
-use Rattle.elf_versions.specs.declared.reading.Step.{Step}
+use Rattle.elf_versions.specs.declared.reading.RecordStep.{RecordStep}
 use Rattle.elf_model.specs.Checks.{first_refusal}
 
 -- a table whose bytes are held, all of them, or are read piece by piece
-pub record Held : Type 0 where
+pub record HeldTable : Type 0 where
   pub table : Rows
   pub whole : Bool
   pub bytes : List ℕ
 
 -- what is held is the file's
-abbrev pub IsHeld : List ℕ → Held → Type 0
-IsHeld file h = h.whole ≡ true → h.bytes ≡ slice file h.table.at h.table.count
+abbrev pub IsHeldOf : List ℕ → HeldTable → Type 0
+IsHeldOf file h = h.whole ≡ true → h.bytes ≡ slice file h.table.at h.table.count
 
 -- how many bytes are asked for, of so many that are wanted
-abbrev pub unheld : Held → ℕ → ℕ
+abbrev pub unheld : HeldTable → ℕ → ℕ
 unheld h n = if h.whole then 0 else n
 
 -- a read gives bytes of the file, or its fault
@@ -52,7 +52,7 @@ KnowsAhead file table (Some s) = KnowsFiles file table s
 -- a cursor: its table with what is held of it, where the walk stands, how many records may still be met, how many bytes each
 -- may ask for, and the fault where it failed
 pub record Walking : Type 0 where
-  pub held : Held
+  pub held : HeldTable
   pub standing : Option Standing
   pub left : ℕ
   pub each : ℕ
@@ -63,8 +63,8 @@ abbrev pub unread : Walking → ℕ
 unread c = unheld c.held (c.left * c.each)
 
 -- what a cursor has is the file's
-pub record Agrees (file : List ℕ) (c : Walking) : Type 0 where
-  pub held : IsHeld file c.held
+pub record IsCursorOf (file : List ℕ) (c : Walking) : Type 0 where
+  pub held : IsHeldOf file c.held
   pub ahead : KnowsAhead file c.held.table.at c.standing
 
 -- the records of a file that are still to be met, up to the refusal of what is none
@@ -109,16 +109,16 @@ TellsVersion file old new (Err (Source fault at)) = Unit {0}
 
 -- where a record that is met leads is where the walk stands from then on
 abbrev pub LeadsOn : List ℕ → Walking → Walking → Type 0
-LeadsOn file old new = IfSome old.standing (λ s. option_map stand_of new.standing ≡ behind file old.held.table.at (stand_of s))
+LeadsOn file old new = IfSome old.standing (λ s. option_map stand_of new.standing ≡ next_stand file old.held.table.at (stand_of s))
 
 -- a step of a cursor in a file: what it has stays the file's, and what it tells is so
 pub record StepsIn (file : List ℕ) (old new : Walking) (result : Result (Option VersionRecord) Fault) : Type 0 where
-  pub agrees : Agrees file new
+  pub agrees : IsCursorOf file new
   pub tells : old.failed ≡ None → TellsVersion file (versions_left file old) (versions_left file new) result
   pub leads : IfOk result (λ step. IfSome step (λ given. LeadsOn file old new))
 
 -- a step that gives no record may have read one, which is in the table; from then on one fewer is left
-pub record Spends (old new : Walking) : Type 0 where
+pub record SpendsRecord (old new : Walking) : Type 0 where
   pub one : old.left ≤ new.left + 1
   pub there : new.left < old.left → MatchOption old.standing ⊥ (λ s. s.place + record_size s.kind ≤ old.held.table.count)
 
@@ -127,7 +127,7 @@ abbrev pub LeavesWalk : Walking → Walking → Result (Option VersionRecord) Fa
 LeavesWalk old new (Ok (Some given)) =
     (old.failed ≡ None) × (new.failed ≡ None) × (new.left + 1 ≡ old.left) × (number_in given.number < VERSION_NUMBERS)
 LeavesWalk old new (Ok None) = (old.failed ≡ None) × (new ≡ old)
-LeavesWalk old new (Err fault) = (new.failed ≡ Some fault) × Spends old new
+LeavesWalk old new (Err fault) = (new.failed ≡ Some fault) × SpendsRecord old new
 
 -- why a step stopped, if it did: a cursor that had failed reads nothing, and its fault says nothing of the source
 abbrev pub why_stopped_now : {X : Type 0} → Option Fault → Result X Fault → Option Fault
@@ -139,18 +139,18 @@ abbrev pub index_bytes : VersionKind → ℕ
 index_bytes kind = elim kind [ Definition ↦ 4 | File ↦ 0 | Need ↦ 0 ]
 
 -- a read gives the words of a record, or its fault
-abbrev pub WordsRead : List ℕ → Met → Result Words Fault → Type 0
+abbrev pub WordsRead : List ℕ → Met → Result RecordWords Fault → Type 0
 WordsRead file met (Ok words) = HoldsWords file met words
 WordsRead file met (Err fault) = IsOfRead fault
 
 -- a record of a table that is read, and where it leads: its checks pass, and it is the file's; or the first check that fails
-pub record IsStep (file : List ℕ) (table size : ℕ) (stand : Stand) (step : Step) : Type 0 where
+pub record IsStep (file : List ℕ) (table size : ℕ) (stand : Stand) (step : RecordStep) : Type 0 where
   pub passes : first_refusal (record_checks file table size stand) ≡ None
   pub is : IsVersion file (met_at table stand) step.record
-  pub leads : option_map stand_of step.next ≡ behind file table stand
+  pub leads : option_map stand_of step.next ≡ next_stand file table stand
   pub knows : KnowsAhead file table step.next
 
-abbrev pub ReadsRecord : List ℕ → ℕ → ℕ → Stand → Result Step Fault → Type 0
+abbrev pub ReadsRecord : List ℕ → ℕ → ℕ → Stand → Result RecordStep Fault → Type 0
 ReadsRecord file table size stand (Ok step) = IsStep file table size stand step
 ReadsRecord file table size stand (Err (Refused refusal)) = (IsBudget refusal → ⊥) → first_refusal (record_checks file table size stand) ≡ Some refusal
 ReadsRecord file table size stand (Err (Source fault at)) = Unit {0}
@@ -163,7 +163,7 @@ pub record Fits (size each : ℕ) (s : Standing) : Type 0 where
   pub pays : bytes_each s.kind ≤ each
 
 -- of any table a record's number is small, and where it leads fits
-pub record StepFits (size each : ℕ) (step : Step) : Type 0 where
+pub record StepFits (size each : ℕ) (step : RecordStep) : Type 0 where
   pub number : number_in step.record.number < VERSION_NUMBERS
   pub next : IfSome step.next (Fits size each)
 
@@ -174,13 +174,13 @@ TellsMet file old new (Err (Refused refusal)) = (IsBudget refusal → ⊥) → o
 TellsMet file old new (Err (Source fault at)) = Unit {0}
 
 pub record MeetsIn (file : List ℕ) (old new : Walking) (result : Result VersionRecord Fault) : Type 0 where
-  pub agrees : Agrees file new
+  pub agrees : IsCursorOf file new
   pub tells : TellsMet file (versions_left file old) (versions_left file new) result
   pub leads : IfOk result (λ given. LeadsOn file old new)
 
 abbrev pub LeavesMet : Walking → Walking → Result VersionRecord Fault → Type 0
 LeavesMet old new (Ok given) = (new.failed ≡ None) × (new.left + 1 ≡ old.left) × (number_in given.number < VERSION_NUMBERS)
-LeavesMet old new (Err fault) = (new.failed ≡ None) × Spends old new
+LeavesMet old new (Err fault) = (new.failed ≡ None) × SpendsRecord old new
 
 -- what every step keeps, fault or not: the table and what is held of it; a cursor that had failed is as it was
 pub record KeepsWalk (old new : Walking) : Type 0 where

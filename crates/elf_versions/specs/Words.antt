@@ -6,7 +6,7 @@ use Rattle.elf_model.specs.Versions.{DEFINED_NAME_SIZE, NEED_SIZE, VERSION_NUMBE
 use Rattle.elf_model.specs.declared.causes.Cause.TheVariants.{BadVersion, VersionCut, VersionIndex}
 use Rattle.elf_model.specs.declared.versions.VersionKind.{VersionKind}
 use Rattle.elf_model.specs.declared.versions.VersionKind.TheVariants.{Definition, File, Need}
-use Rattle.elf_versions.specs.declared.words.Words.{Words}
+use Rattle.elf_versions.specs.declared.words.RecordWords.{RecordWords}
 
 -- the distance that a record holds beside that to the next of its kind: to its name, or to its first version
 unfoldable pub aux_word : List ℕ → Met → ℕ
@@ -17,7 +17,7 @@ unfoldable pub HoldsName : List ℕ → Met → ℕ → Type 0
 HoldsName file met name = elim met.kind as (λ _. Type 0) [ Definition ↦ Unit {0} | File ↦ name ≡ vn_file file met.at | Need ↦ name ≡ vna_name file met.at ]
 
 -- words are those of a record of a file
-pub record HoldsWords (file : List ℕ) (met : Met) (words : Words) : Type 0 where
+pub record HoldsWords (file : List ℕ) (met : Met) (words : RecordWords) : Type 0 where
   pub version : words.version ≡ version_word file met
   pub number : words.number ≡ number_word file met
   pub flags : words.flags ≡ flags_word file met
@@ -30,13 +30,13 @@ pub record HoldsWords (file : List ℕ) (met : Met) (words : Words) : Type 0 whe
 unfoldable pub distance_of_name : VersionKind → ℕ → ℕ
 distance_of_name kind aux = elim kind [ Definition ↦ aux | File ↦ 0 | Need ↦ 0 ]
 
-unfoldable pub end_of_name : VersionKind → ℕ → ℕ
-end_of_name kind aux = elim kind [ Definition ↦ aux + DEFINED_NAME_SIZE | File ↦ NEED_SIZE | Need ↦ NEED_SIZE ]
+unfoldable pub end_of_named_record : VersionKind → ℕ → ℕ
+end_of_named_record kind aux = elim kind [ Definition ↦ aux + DEFINED_NAME_SIZE | File ↦ NEED_SIZE | Need ↦ NEED_SIZE ]
 
 -- the checks of words, of a record that stands in the file at an offset and at a place of its table of some bytes
-abbrev pub checks_of : VersionKind → (size place at : ℕ) → Words → List Check
+abbrev pub checks_of : VersionKind → (size place at : ℕ) → RecordWords → List Check
 checks_of kind size place at words =
     refuse (not (words.version == 1)) at BadVersion
     ∷ refuse (not (nat_lt (number_in words.number) VERSION_NUMBERS)) at VersionIndex
-    ∷ refuse (nat_lt size (place + end_of_name kind words.aux)) at VersionCut
+    ∷ refuse (nat_lt size (place + end_of_named_record kind words.aux)) at VersionCut
     ∷ []

@@ -6,17 +6,17 @@ ghost use Rattle.elf_headers.specs.declared.fault.Fault.{Fault};
 ghost use Rattle.elf_table.specs.Tables.{RowsWithin};
 ghost use Rattle.elf_model.specs.Versions.{most_records};
 ghost use Rattle.elf_model.specs.declared.versions.VersionKind.TheVariants.{Need};
-ghost use Rattle.elf_versions.specs.Reading.{Agrees, KeepsWalk, LeavesMet, LeavesWalk, MeetsIn};
+ghost use Rattle.elf_versions.specs.Reading.{IsCursorOf, KeepsWalk, LeavesMet, LeavesWalk, MeetsIn};
 ghost use Rattle.elf_versions.specs.Reading.{StartsVersions, StepsIn, bytes_each, unread, why_stopped_now};
 
 use crate::reading::read_record;
 use crate::record::VersionRecord;
 use crate::stepping::{Standing, bytes_each, first, record_bytes};
 use crate::table_bytes::TableBytes;
-use elf_headers::refused;
+use elf_headers::{Fault, refused};
 use elf_record::{Cause, VersionKind};
 use elf_source::{Counted, Source};
-use elf_table::{Fault, Table};
+use elf_table::Table;
 use std::marker::Model;
 
 /// A cursor over the records of a table of definitions, or of needs (Linux Standard Base Core, Symbol
@@ -69,7 +69,8 @@ impl VersionCursor {
         requires kind { kind ≡ Need → ⊥ }
         requires within { RowsWithin src.old.seen.size table }
         ensures did { Did src.old src.new (why_stopped result)
-            (most_records kind table.count * bytes_each kind) (λ file. IfOk result (Agrees file)) }
+            (most_records kind table.count * bytes_each kind)
+            (λ file. IfOk result (IsCursorOf file)) }
         ensures fault { IfErr result IsOfRead }
         ensures account { IfOk result (λ c. src.new.asked + unread c
             ≤ src.old.asked + most_records kind table.count * bytes_each kind) }
@@ -95,7 +96,7 @@ impl VersionCursor {
         requires kind { kind ≡ Need → ⊥ }
         ensures starts { StartsVersions kind head table result }
         ensures alone { result.held.whole ≡ false }
-        ensures agrees { (file : List ℕ) → Agrees file result }
+        ensures agrees { (file : List ℕ) → IsCursorOf file result }
     {
         let size = table.len();
         VersionCursor {
@@ -123,7 +124,7 @@ impl VersionCursor {
         requires { RowsWithin src.old.seen.size self.old.held.table }
         ensures did { Did src.old src.new (why_stopped_now self.old.failed result)
             (unread self.old - unread self.new)
-            (λ file. Agrees file self.old → StepsIn file self.old self.new result) }
+            (λ file. IsCursorOf file self.old → StepsIn file self.old self.new result) }
         ensures keeps { KeepsWalk self.old self.new }
         ensures leaves { LeavesWalk self.old self.new result }
     {
@@ -152,7 +153,7 @@ impl VersionCursor {
         requires stands { self.old.standing ≡ Some stand.now }
         requires going { self.old.failed ≡ None }
         ensures did { Did src.old src.new (why_stopped result) (unread self.old - unread self.new)
-            (λ file. Agrees file self.old → MeetsIn file self.old self.new result) }
+            (λ file. IsCursorOf file self.old → MeetsIn file self.old self.new result) }
         ensures keeps { KeepsWalk self.old self.new }
         ensures leaves { LeavesMet self.old self.new result }
     {

@@ -3,14 +3,14 @@ ghost use Rattle.std.specs.Prelude.{◌≡◌, ℕ, ◌<◌, List, [], ◌∷◌
 ghost use Rattle.elf_headers.specs.Ledger.{Did, why_stopped};
 ghost use Rattle.elf_table.specs.Tables.{RowsWithin};
 ghost use Rattle.elf_model.specs.Versions.{Met, VERSION_NUMBERS, named_by, names_version, number_in};
-ghost use Rattle.elf_versions.specs.NumberNames.{GivesName, NameIs, Names, ReadsNames, name_at};
-ghost use Rattle.elf_versions.specs.Reading.{Agrees, IsVersion, unread, versions_left};
+ghost use Rattle.elf_versions.specs.NumberNames.{GivesName, IsNameOfRecord, NamesNumbers, ReadsNumberNames, name_at};
+ghost use Rattle.elf_versions.specs.Reading.{IsCursorOf, IsVersion, unread, versions_left};
 
 use crate::cursor::VersionCursor;
 use crate::record::VersionRecord;
+use elf_headers::Fault;
 use elf_record::VersionKind;
 use elf_source::{Counted, Source};
-use elf_table::Fault;
 use std::marker::Model;
 
 /// How many numbers versions may have, below which they are.
@@ -52,7 +52,7 @@ impl Model for NumberNames {
 impl NumberNames {
     /// No number has a name.
     pub fn new() -> NumberNames
-        ensures { (file : List ℕ) → Names file [] result }
+        ensures { (file : List ℕ) → NamesNumbers file [] result }
     {
         NumberNames {
             names: [NameAt::Nowhere; NUMBERS],
@@ -62,8 +62,8 @@ impl NumberNames {
     /// Where the name of a number is.
     pub fn name(&self, number: u16) -> NameAt
         ensures is { result ≡ name_at self.now number }
-        ensures named { (file : List ℕ) (records : List Met) → Names file records self.now →
-            NameIs file (named_by file number records) result }
+        ensures named { (file : List ℕ) (records : List Met) → NamesNumbers file records self.now →
+            IsNameOfRecord file (named_by file number records) result }
     {
         if usize::from(number) < NUMBERS {
             self.names[usize::from(number)]
@@ -77,7 +77,7 @@ impl NumberNames {
     pub fn take(&mut self, given: &VersionRecord)
         requires { number_in given.now.number < VERSION_NUMBERS }
         ensures { (file : List ℕ) (records : List Met) (met : Met) → IsVersion file met given.now →
-            Names file records self.old → Names file (records ++ met ∷ []) self.new }
+            NamesNumbers file records self.old → NamesNumbers file (records ++ met ∷ []) self.new }
     {
         let number = usize::from(given.number % (1 << 15));
         if self.names[number] == NameAt::Nowhere {
@@ -98,8 +98,9 @@ impl NumberNames {
         requires going { cursor.old.failed ≡ None }
         requires within { RowsWithin src.old.seen.size cursor.old.held.table }
         ensures { Did src.old src.new (why_stopped result) (unread cursor.old)
-            (λ file. Agrees file cursor.old → (records : List Met) → Names file records self.old →
-            ReadsNames file records (versions_left file cursor.old) self.new result) }
+            (λ file. IsCursorOf file cursor.old → (records : List Met) →
+            NamesNumbers file records self.old →
+            ReadsNumberNames file records (versions_left file cursor.old) self.new result) }
     {
         'records: while let Some(given) = cursor.advance(src)? {
             self.take(&given);

@@ -3,20 +3,20 @@ ghost use Rattle.std.specs.Prelude.{◌≡◌, ℕ, ◌+◌, ◌^◌, ◌<◌, �
 ghost use Rattle.elf_headers.specs.Ledger.{Did, IsRead, why_stopped};
 ghost use Rattle.elf_table.specs.Tables.{RowsWithin};
 ghost use Rattle.elf_model.specs.Versions.{met_at, name_index, record_size};
-ghost use Rattle.elf_versions.specs.Reading.{IsHeld, IsVersion, KnowsFiles, ReadsRecord, StepFits, WordsRead, bytes_each, index_bytes, stand_of, unheld};
-ghost use Rattle.elf_versions.specs.Words.{HoldsWords, distance_of_name, end_of_name};
+ghost use Rattle.elf_versions.specs.Reading.{IsHeldOf, IsVersion, KnowsFiles, ReadsRecord, StepFits, WordsRead, bytes_each, index_bytes, stand_of, unheld};
+ghost use Rattle.elf_versions.specs.Words.{HoldsWords, distance_of_name, end_of_named_record};
 
 use crate::record::VersionRecord;
 use crate::stepping::{Standing, behind, name_distance, refused_words};
 use crate::table_bytes::TableBytes;
-use crate::words::{Words, of_definition, of_file, of_need};
+use crate::words::{RecordWords, of_definition, of_file, of_need};
+use elf_headers::Fault;
 use elf_record::{Verdef, Vernaux, Verneed, VersionKind, word};
 use elf_source::{Counted, Source};
-use elf_table::Fault;
 
 /// A record, and where it leads a walk.
 #[derive(Clone, Copy)]
-pub(crate) struct Step {
+pub(crate) struct RecordStep {
     /// The record.
     pub(crate) record: VersionRecord,
     /// Where it leads.
@@ -31,12 +31,12 @@ pub(crate) fn read_record<S: Source>(
     held: &TableBytes,
     src: &mut Counted<S>,
     stand: &Standing,
-) -> Result<Step, Fault>
+) -> Result<RecordStep, Fault>
     requires within { RowsWithin src.old.seen.size held.now.table }
     requires inside { stand.now.place + record_size stand.now.kind ≤ held.now.table.count }
     requires owner { stand.now.owner ≤ held.now.table.count }
     ensures did { Did src.old src.new (why_stopped result) (unheld held.now (bytes_each stand.now.kind))
-        (λ file. IsHeld file held.now → KnowsFiles file held.now.table.at stand.now →
+        (λ file. IsHeldOf file held.now → KnowsFiles file held.now.table.at stand.now →
         ReadsRecord file held.now.table.at held.now.table.count (stand_of stand.now) result) }
     ensures fits { IfOk result (StepFits held.now.table.count (bytes_each stand.now.kind)) }
 {
@@ -47,7 +47,7 @@ pub(crate) fn read_record<S: Source>(
         return Err(Fault::Refused(refusal));
     }
     let name = read_name(held, src, stand, &words)?;
-    Ok(Step {
+    Ok(RecordStep {
         record: given(stand, at, &words, name),
         next: behind(table.at(), stand, &words),
     })
@@ -58,13 +58,13 @@ fn read_words<S: Source>(
     held: &TableBytes,
     src: &mut Counted<S>,
     stand: &Standing,
-) -> Result<Words, Fault>
+) -> Result<RecordWords, Fault>
     requires within { RowsWithin src.old.seen.size held.now.table }
     requires inside { stand.now.place + record_size stand.now.kind ≤ held.now.table.count }
     requires low { held.now.table.count < 2 ^ 64 }
     ensures did { Did src.old src.new (why_stopped result)
         (unheld held.now (record_size stand.now.kind))
-        (λ file. IsHeld file held.now →
+        (λ file. IsHeldOf file held.now →
         WordsRead file (met_at held.now.table.at (stand_of stand.now)) result) }
 {
     match stand.kind {
@@ -92,15 +92,15 @@ fn read_name<S: Source>(
     held: &TableBytes,
     src: &mut Counted<S>,
     stand: &Standing,
-    words: &Words,
+    words: &RecordWords,
 ) -> Result<u32, Fault>
     requires within { RowsWithin src.old.seen.size held.now.table }
-    requires inside { stand.now.place + end_of_name stand.now.kind words.now.aux
+    requires inside { stand.now.place + end_of_named_record stand.now.kind words.now.aux
         ≤ held.now.table.count }
     requires low { held.now.table.count < 2 ^ 64 }
     ensures did { Did src.old src.new (why_stopped result)
         (unheld held.now (index_bytes stand.now.kind))
-        (λ file. IsHeld file held.now →
+        (λ file. IsHeldOf file held.now →
         HoldsWords file (met_at held.now.table.at (stand_of stand.now)) words.now →
         IsRead result (name_index file (met_at held.now.table.at (stand_of stand.now)))) }
 {
@@ -116,7 +116,7 @@ fn read_name<S: Source>(
 }
 
 // A record at a file offset as it is given, by its words and the index of its name.
-fn given(stand: &Standing, at: u64, words: &Words, name: u32) -> VersionRecord
+fn given(stand: &Standing, at: u64, words: &RecordWords, name: u32) -> VersionRecord
     requires { at + distance_of_name stand.now.kind words.now.aux < 2 ^ 64 }
     ensures is { (file : List ℕ) (table : ℕ) → at ≡ table + stand.now.place →
         HoldsWords file (met_at table (stand_of stand.now)) words.now →

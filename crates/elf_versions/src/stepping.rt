@@ -2,12 +2,12 @@
 ghost use Rattle.std.specs.Prelude.{◌≡◌, ℕ, ◌+◌, ◌^◌, ◌<◌, ◌≤◌, List, Some, IfSome, MatchOption, option_map};
 ghost use Rattle.elf_model.specs.Budget.{IsBudget};
 ghost use Rattle.elf_model.specs.Checks.{first_refusal};
-ghost use Rattle.elf_model.specs.Versions.{record_size, along, behind, first_stand, number_in};
+ghost use Rattle.elf_model.specs.Versions.{record_size, along, next_stand, first_stand, number_in};
 ghost use Rattle.elf_model.specs.declared.versions.VersionKind.TheVariants.{Need};
 ghost use Rattle.elf_versions.specs.Reading.{KnowsAhead, KnowsFiles, bytes_each, stand_of};
-ghost use Rattle.elf_versions.specs.Words.{HoldsWords, checks_of, distance_of_name, end_of_name};
+ghost use Rattle.elf_versions.specs.Words.{HoldsWords, checks_of, distance_of_name, end_of_named_record};
 
-use crate::words::Words;
+use crate::words::RecordWords;
 use elf_record::sizes::{VERSION_DEFINITION_BYTES, VERSION_NAME_BYTES, VERSION_NEED_BYTES};
 use elf_record::{Cause, Refusal, VersionKind};
 
@@ -87,11 +87,16 @@ pub(crate) fn name_distance(kind: VersionKind, aux: u32) -> u64
 
 /// The first check of a record's words that fails: the version of its layout, its number, and its
 /// name, which is in the table.
-pub(crate) fn refused_words(size: u64, stand: &Standing, at: u64, words: &Words) -> Option<Refusal>
+pub(crate) fn refused_words(
+    size: u64,
+    stand: &Standing,
+    at: u64,
+    words: &RecordWords,
+) -> Option<Refusal>
     requires { stand.now.place < 2 ^ 64 }
     ensures is { result ≡ first_refusal (checks_of stand.now.kind size stand.now.place at words.now) }
     ensures passes { MatchOption result
-        ((stand.now.place + end_of_name stand.now.kind words.now.aux ≤ size)
+        ((stand.now.place + end_of_named_record stand.now.kind words.now.aux ≤ size)
         × (number_in words.now.number < 1024)) (λ refusal. IsBudget refusal → ⊥) }
 {
     if words.version != 1 {
@@ -107,9 +112,9 @@ pub(crate) fn refused_words(size: u64, stand: &Standing, at: u64, words: &Words)
 }
 
 // The distance from a record to the end of what holds its name.
-#[tactic(auto, unfolding(crate::specs::Words::end_of_name))]
+#[tactic(auto, unfolding(crate::specs::Words::end_of_named_record))]
 fn name_end(kind: VersionKind, aux: u32) -> u64
-    ensures value { result ≡ end_of_name kind aux }
+    ensures value { result ≡ end_of_named_record kind aux }
     ensures small { result < 2 ^ 33 }
 {
     match kind {
@@ -126,14 +131,14 @@ fn refused(at: u64, cause: Cause) -> Option<Refusal>
 }
 
 /// Where a record leads a walk.
-#[tactic(auto, unfolding(elf_model::specs::Versions::behind, elf_model::specs::Versions::next_word, crate::specs::Words::aux_word))]
-pub(crate) fn behind(table: u64, stand: &Standing, words: &Words) -> Option<Standing>
+#[tactic(auto, unfolding(elf_model::specs::Versions::next_stand, elf_model::specs::Versions::next_word, crate::specs::Words::aux_word))]
+pub(crate) fn behind(table: u64, stand: &Standing, words: &RecordWords) -> Option<Standing>
     requires low { stand.now.place < 2 ^ 64 }
     requires ends { table + stand.now.place < 2 ^ 64 }
     requires owned { table + stand.now.owner < 2 ^ 64 }
     ensures leads { (file : List ℕ) → KnowsFiles file table stand.now →
         HoldsWords file (record { kind = stand.now.kind; at = table + stand.now.place }) words.now →
-        (option_map stand_of result ≡ behind file table (stand_of stand.now))
+        (option_map stand_of result ≡ next_stand file table (stand_of stand.now))
         × KnowsAhead file table result }
     ensures near { IfSome result (λ s. s.place < 2 ^ 64 + 2 ^ 32) }
     ensures pays { IfSome result (λ s. bytes_each s.kind ≡ bytes_each stand.now.kind) }

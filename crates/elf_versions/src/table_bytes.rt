@@ -4,28 +4,29 @@ ghost use Rattle.elf_model.specs.Bytes.{slice};
 ghost use Rattle.elf_headers.specs.Faults.{IsOfRead};
 ghost use Rattle.elf_headers.specs.Ledger.{Did, why_stopped};
 ghost use Rattle.elf_table.specs.Tables.{RowsWithin};
-ghost use Rattle.elf_versions.specs.Reading.{GivesBytes, IsHeld, unheld};
+ghost use Rattle.elf_versions.specs.Reading.{GivesBytes, IsHeldOf, unheld};
 
+use elf_headers::{Fault, fill};
 use elf_source::{Counted, Source};
-use elf_table::{Fault, Table, fill};
+use elf_table::Table;
 use std::marker::Model;
 
 /// How many bytes of a table are held at most.
-pub const BUFFER_BYTES: usize = 4096;
+pub const VERSIONS_BUFFER_BYTES: usize = 4096;
 
 /// The bytes of a table whose rows are single bytes: all of them are held, or none.
 #[derive(Drop)]
 pub(crate) struct TableBytes {
     table: Table,
     whole: bool,
-    bytes: [u8; BUFFER_BYTES],
+    bytes: [u8; VERSIONS_BUFFER_BYTES],
 }
 
 impl Model for TableBytes {
     ghost use Rattle.std.specs.Prelude.{◌≡◌, ◌+◌, ◌^◌, ◌<◌, ◌≤◌, true, take};
-    ghost use Rattle.elf_versions.specs.Reading.{Held};
+    ghost use Rattle.elf_versions.specs.Reading.{HeldTable};
 
-    ghost Value = { Held };
+    ghost Value = { HeldTable };
 
     ghost view = { λ t. record {
       table = t.table;
@@ -51,7 +52,7 @@ impl TableBytes {
         requires bytes { table.entry ≡ 1 }
         requires within { RowsWithin src.old.seen.size table }
         ensures did { Did src.old src.new (why_stopped result) most
-            (λ file. IfOk result (IsHeld file)) }
+            (λ file. IfOk result (IsHeldOf file)) }
         ensures fault { IfErr result IsOfRead }
         ensures account { IfOk result (λ held.
             src.new.asked + unheld held most ≤ src.old.asked + most) }
@@ -59,10 +60,10 @@ impl TableBytes {
     {
         let _ = table.entry();
         let size = table.len();
-        if size > most || size > BUFFER_BYTES as u64 {
+        if size > most || size > VERSIONS_BUFFER_BYTES as u64 {
             return Ok(TableBytes::unread(table));
         }
-        let mut bytes = [0; BUFFER_BYTES];
+        let mut bytes = [0; VERSIONS_BUFFER_BYTES];
         if size > 0 {
             fill(src, table.at(), &mut bytes[..size as usize])?;
         }
@@ -83,7 +84,7 @@ impl TableBytes {
         TableBytes {
             table,
             whole: false,
-            bytes: [0; BUFFER_BYTES],
+            bytes: [0; VERSIONS_BUFFER_BYTES],
         }
     }
 
@@ -114,7 +115,7 @@ impl TableBytes {
         requires within { RowsWithin src.old.seen.size self.now.table }
         ensures did { Did src.old src.new (why_stopped result)
             (unheld self.now (length out.old))
-            (λ file. IsHeld file self.now →
+            (λ file. IsHeldOf file self.now →
             GivesBytes (slice file (self.now.table.at + place) (length out.old)) out.new result) }
     {
         if self.whole {

@@ -4,10 +4,10 @@ use Rattle.std.specs.Prelude.{Bool, IfSome}
 use Rattle.std.specs.Borrow.{Bor}
 use Rattle.clap.specs.Walk.{Row, Text, first_of, one_of}
 use Rattle.elf_headers.specs.declared.caps.Limits.{Limits}
-use Rattle.elf_model.specs.Placing.{Layout}
-use Rattle.elf_listing_words.specs.Options.{AreLimits, HasNumber, is_set}
+use Rattle.elf_model.specs.Placing.{Layout, no_items}
+use Rattle.elf_listing_words.specs.Options.{AreLimitOptions, HasNumber, is_option_set}
 use Rattle.elf_words.specs.Asked.{AsksNothing, ComesTo, HasFault, IsApplying, IsFileNamed, IsTask, item_words}
-use Rattle.elf_words.specs.Layouts.{Lays, no_items}
+use Rattle.elf_words.specs.Layouts.{LaysWords}
 use Rattle.elf_words.specs.declared.requests.Request.{Request}
 use Rattle.elf_words.specs.declared.requests.RequestFault.{RequestFault}
 use Rattle.elf_words.specs.declared.requests.RequestFault.TheVariants.{Memory, BadName, BadItem, LayoutFull, LayoutRepeat, Words as Told}
@@ -17,7 +17,7 @@ use Rattle.elf_words.proofs.LayoutLaws.{never_refused}
 use Rattle.elf_words.proofs.OnceLaws.{laid}
 
 -- words of which one is refused
-pub refused : (rows : List Row) (fault : RequestFault) → Lays no_items (item_words rows) (Err fault) → HasFault (Some (codes "apply", rows)) fault
+pub refused : (rows : List Row) (fault : RequestFault) → LaysWords no_items (item_words rows) (Err fault) → HasFault (Some (codes "apply", rows)) fault
 refused rows BadName lays = absurd (never_refused BadName (λ word old refuses. refuses) (item_words rows) no_items lays)
 refused rows BadItem lays = (refl, lays)
 refused rows LayoutFull lays = (refl, lays)
@@ -26,7 +26,7 @@ refused rows Memory lays = (refl, lays)
 refused rows (Told told) lays = (refl, lays)
 
 -- words that give a layout have no fault
-faultless : (rows : List Row) (layout : Layout) → Lays no_items (item_words rows) (Ok layout) → (fault : RequestFault)
+faultless : (rows : List Row) (layout : Layout) → LaysWords no_items (item_words rows) (Ok layout) → (fault : RequestFault)
     → HasFault (Some (codes "apply", rows)) fault → ⊥
 faultless rows layout lays BadName (is, name) = cc
 faultless rows layout lays BadItem has = laid (item_words rows) no_items layout BadItem lays has.1
@@ -46,7 +46,7 @@ only_applying rows file (Apply section layout explain) is = (section, layout.now
 only_applying rows file (Place section addresses explain) is = absurd is
 
 -- there is no section with the index that is given
-pub no_section : (rows : List Row) (layout : Layout) → Lays no_items (item_words rows) (Ok layout)
+pub no_section : (rows : List Row) (layout : Layout) → LaysWords no_items (item_words rows) (Ok layout)
     → ((value : ℕ) → value < 2 ^ 16 → HasNumber (one_of (codes "SECTION") rows) (Some value) → ⊥) → AsksNothing (Some (codes "apply", rows))
 no_section rows layout lays none = record {
   nothing = λ request asks.
@@ -56,11 +56,11 @@ no_section rows layout lays none = record {
 }
 
 -- what an applying comes to, by whether there are a file and limits
-pub applied : (rows : List Row) (section : ℕ) (layout : Bor Layout) (explain : Bool) (r : Option Request) → Lays no_items (item_words rows) (Ok layout.now) → section < 2 ^ 16
-    → HasNumber (one_of (codes "SECTION") rows) (Some section) → explain ≡ is_set (first_of (codes "explain") rows)
+pub applied : (rows : List Row) (section : ℕ) (layout : Bor Layout) (explain : Bool) (r : Option Request) → LaysWords no_items (item_words rows) (Ok layout.now) → section < 2 ^ 16
+    → HasNumber (one_of (codes "SECTION") rows) (Some section) → explain ≡ is_option_set (first_of (codes "explain") rows)
     → IfSome r (λ request. request.task ≡ Apply section layout explain)
-    → IfSome r (λ request. IsFileNamed rows request.file) → IfSome r (λ request. AreLimits rows request.limits)
-    → (r ≡ None → (file : Option (Bor Text)) (limits : Limits) → IsFileNamed rows file → AreLimits rows limits → ⊥)
+    → IfSome r (λ request. IsFileNamed rows request.file) → IfSome r (λ request. AreLimitOptions rows request.limits)
+    → (r ≡ None → (file : Option (Bor Text)) (limits : Limits) → IsFileNamed rows file → AreLimitOptions rows limits → ⊥)
     → ComesTo (Some (codes "apply", rows)) (Ok r)
 applied rows section layout explain None lays small index told task file limits none = record {
   nothing = λ request asks.

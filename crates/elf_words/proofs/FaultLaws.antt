@@ -5,15 +5,15 @@ use Rattle.std.specs.Prelude.{Option, Some, None, Err}
 use Rattle.elf_listing_words.specs.Faults.{IsUnasked}
 use Rattle.elf_listing_words.specs.declared.faults.WordsFault.{WordsFault}
 use Rattle.elf_listing_words.specs.declared.faults.WordsFault.TheVariants.{Told, Memory as NoMemory}
-use Rattle.elf_words.specs.Answered.{IsRefusal, unread}
+use Rattle.elf_words.specs.Answered.{IsRefusal, unread_words}
 use Rattle.elf_words.specs.Checks.{Becomes, NothingAsked}
-use Rattle.elf_words.specs.Layouts.{no_items}
+use Rattle.elf_model.specs.Placing.{no_items}
 use Rattle.elf_words.specs.declared.requests.RequestFault.{RequestFault}
 use Rattle.elf_words.specs.declared.requests.RequestFault.TheVariants.{Memory, BadName, BadItem, LayoutFull, LayoutRepeat, Words}
 use Rattle.elf_words.proofs.LayoutLaws.{never_refused}
 
 -- words that ask for nothing
-pub unasked_told : (matches : Option (Text × List Row)) (fault : WordsFault) → IsUnasked fault → NothingAsked matches → IsRefusal matches (unread fault)
+pub unasked_told : (matches : Option (Text × List Row)) (fault : WordsFault) → IsUnasked fault → NothingAsked matches → IsRefusal matches (unread_words fault)
 unasked_told matches NoMemory is nothing = tt
 unasked_told matches (Told told) is nothing = (is, nothing)
 

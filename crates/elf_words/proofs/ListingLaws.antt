@@ -4,8 +4,8 @@ use Rattle.std.specs.Borrow.{Bor}
 use Rattle.clap.specs.Walk.{Row, Text}
 use Rattle.elf_headers.specs.declared.caps.Limits.{Limits}
 use Rattle.elf_listing_words.specs.Listings.{IsListing}
-use Rattle.elf_listing_words.specs.Options.{AreLimits}
-use Rattle.elf_listing_words.specs.declared.listings.Listing.{Listing}
+use Rattle.elf_listing_words.specs.Options.{AreLimitOptions}
+use Rattle.elf_listing_words.specs.declared.listings.ListingAsked.{ListingAsked}
 use Rattle.elf_words.specs.Asked.{AsksNothing, HasFault, IsTask}
 use Rattle.elf_words.specs.declared.requests.RequestFault.{RequestFault}
 use Rattle.elf_words.specs.declared.requests.RequestFault.TheVariants.{Memory, BadName, BadItem, LayoutFull, LayoutRepeat, Words}
@@ -13,8 +13,8 @@ use Rattle.elf_words.specs.declared.requests.Task.{Task}
 use Rattle.elf_words.specs.declared.requests.Task.TheVariants.{Show, Find, Resolve, Apply, Place}
 
 module _ (command : Text) (rows : List Row) (not_apply : command ≢ codes "apply") (not_find : command ≢ codes "find") where
-  no_task : ((listing : Listing) → IsListing command rows listing → ⊥) → (file : Option (Bor Text)) (limits : Limits) (task : Task)
-      → AreLimits rows limits → IsTask command rows file task → ⊥
+  no_task : ((listing : ListingAsked) → IsListing command rows listing → ⊥) → (file : Option (Bor Text)) (limits : Limits) (task : Task)
+      → AreLimitOptions rows limits → IsTask command rows file task → ⊥
   no_task none file limits (Show parts style) are (styled, parted, of_file) =
       none (record { file = file; limits = limits; parts = parts; style = style }) record { of_file = of_file; limits = are; style = styled; parts = parted }
   no_task none file limits (Find wanted) are is = not_find is.find
@@ -31,5 +31,5 @@ module _ (command : Text) (rows : List Row) (not_apply : command ≢ codes "appl
   no_fault (Words told) has = not_apply has.0
 
   -- where no listing is asked for, nothing is
-  pub nothing_listed : ((listing : Listing) → IsListing command rows listing → ⊥) → AsksNothing (Some (command, rows))
+  pub nothing_listed : ((listing : ListingAsked) → IsListing command rows listing → ⊥) → AsksNothing (Some (command, rows))
   nothing_listed none = record { nothing = λ request asks. no_task none request.file request.limits request.task asks.0 asks.1; faultless = no_fault }

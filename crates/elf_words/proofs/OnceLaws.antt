@@ -8,7 +8,7 @@ use Rattle.elf_layout.specs.declared.layout.LayoutFault.TheVariants.{Full, Repea
 use Rattle.elf_model.specs.Placing.{Layout}
 use Rattle.elf_layout.specs.Spelled.{Spells}
 use Rattle.elf_layout.proofs.ItemLaws.{SameItem, one_item}
-use Rattle.elf_words.specs.Layouts.{Lays, RefusesItem}
+use Rattle.elf_words.specs.Layouts.{LaysWords, RefusesItem}
 use Rattle.elf_words.specs.declared.requests.RequestFault.{RequestFault}
 use Rattle.elf_words.specs.declared.requests.RequestFault.TheVariants.{Memory, BadName, BadItem, LayoutFull, LayoutRepeat, Words as Told}
 
@@ -87,10 +87,10 @@ not_refused word x old new Memory spells put refuses = refuses
 not_refused word x old new (Told told) spells put refuses = refuses
 
 -- words that give a layout have no fault
-pub laid : (words : List Text) (old layout : Layout) (fault : RequestFault) → Lays old words (Ok layout) → Lays old words (Err fault) → ⊥
+pub laid : (words : List Text) (old layout : Layout) (fault : RequestFault) → LaysWords old words (Ok layout) → LaysWords old words (Err fault) → ⊥
 laid [] old layout fault gives fails = cc
 laid (word ∷ words) old layout fault (inl (new, (x, is, put), gives)) (inl (other, (y, spells, push), fails)) =
     let same = one_push x y old new other (one_item word x y is spells) put push in
-    laid words other layout fault (subst (λ l. Lays l words (Ok layout)) same gives) fails
+    laid words other layout fault (subst (λ l. LaysWords l words (Ok layout)) same gives) fails
 laid (word ∷ words) old layout fault (inl (new, (x, is, put), gives)) (inr (told, e, refuses)) = not_refused word x old new told is put refuses
 laid (word ∷ words) old layout fault (inr (told, e, refuses)) fails = cc

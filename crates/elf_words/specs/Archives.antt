@@ -5,7 +5,7 @@ use Rattle.clap.specs.Walk.{Row, Text, first_of}
 use Rattle.elf_model.specs.Listing.{all_parts}
 use Rattle.elf_model.specs.Text.{name_of as name_in_table}
 use Rattle.elf_record.specs.declared.parts.Parts.{Parts}
-use Rattle.elf_listing_words.specs.Options.{AreLimits, IsStyle, asks_gnu, member_part_names}
+use Rattle.elf_listing_words.specs.Options.{AreLimitOptions, IsStyle, asks_gnu, member_part_names}
 use Rattle.elf_words.specs.declared.checks.Archiving.{Archiving}
 
 -- whether a text is the name of a part of an archive
@@ -25,7 +25,7 @@ AreMemberParts rows = AreMemberPartsOf (asks_gnu rows) (first_of (codes "only") 
 pub record IsArchiving (command : Text) (rows : List Row) (asked : Archiving) : Type 0 where
   pub archive : command ≡ codes "archive"
   pub path : first_of (codes "FILE") rows ≡ Some asked.file.now
-  pub limits : AreLimits rows asked.limits
+  pub limits : AreLimitOptions rows asked.limits
   pub style : IsStyle rows asked.style
   pub parts : AreMemberParts rows asked.parts
 

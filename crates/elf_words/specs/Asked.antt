@@ -4,15 +4,15 @@ use Rattle.std.specs.Borrow.{Bor}
 use Rattle.clap.specs.Walk.{Row, Text, all_of, first_of, one_of}
 use Rattle.elf_model.specs.Loader.{is_complete, wanted_of}
 use Rattle.elf_model.specs.NameLaws.{IsWanted}
-use Rattle.elf_model.specs.Placing.{Layout}
+use Rattle.elf_model.specs.Placing.{Layout, no_items}
 use Rattle.elf_listing_words.specs.Listings.{IsOfFile}
-use Rattle.elf_listing_words.specs.Options.{AreLimits, AreParts, HasNumber, IsStyle, asks_gnu, is_set, lacks_gnu}
-use Rattle.elf_words.specs.Layouts.{Lays, no_items}
+use Rattle.elf_listing_words.specs.Options.{AreLimitOptions, AreParts, HasNumber, IsStyle, asks_gnu, is_option_set, lacks_gnu}
+use Rattle.elf_words.specs.Layouts.{LaysWords}
 use Rattle.elf_words.specs.declared.requests.Request.{Request}
 use Rattle.elf_words.specs.declared.requests.RequestFault.{RequestFault}
 use Rattle.elf_words.specs.declared.requests.RequestFault.TheVariants.{BadName}
 use Rattle.elf_words.specs.declared.requests.Task.{Task}
-use Rattle.elf_words.specs.declared.requests.Wanted.{Wanted}
+use Rattle.elf_words.specs.declared.requests.WantedName.{WantedName}
 use Rattle.elf_words.specs.declared.requests.WantedSymbol.{WantedSymbol}
 use Rattle.elf_words.specs.declared.requests.Task.TheVariants.{Show, Find, Resolve, Apply, Place}
 
@@ -30,7 +30,7 @@ pub record IsText (gnu : Bool) (text : Text) : Type 0 where
 
 -- a lookup in the file whose path stands among the values, of the text that stands there too, and by whether it is one of a
 -- loader of the GNU system, as it is where the program headers alone are to be gone by
-pub record IsLookup (command : Text) (rows : List Row) (file : Option (Bor Text)) (gnu : Bool) (text : Text) : Type 0 where
+pub record AsksLookup (command : Text) (rows : List Row) (file : Option (Bor Text)) (gnu : Bool) (text : Text) : Type 0 where
   pub find : command ≡ codes "find"
   pub by_gnu : asks_gnu rows ≡ gnu
   pub allowed : lacks_gnu rows ≡ false
@@ -38,20 +38,20 @@ pub record IsLookup (command : Text) (rows : List Row) (file : Option (Bor Text)
   pub word : first_of (codes "NAME") rows ≡ Some text
 
 -- a name is looked up in the file's own SysV hash table
-abbrev pub IsFinding : Text → List Row → Option (Bor Text) → Wanted → Type 0
-IsFinding command rows file wanted = IsLookup command rows file false wanted.bytes.now
+abbrev pub IsFinding : Text → List Row → Option (Bor Text) → WantedName → Type 0
+IsFinding command rows file wanted = AsksLookup command rows file false wanted.bytes.now
 
 -- a symbol is looked up as a loader of the GNU system does it, by the program headers alone or not
 pub record IsResolving (command : Text) (rows : List Row) (file : Option (Bor Text)) (wanted : WantedSymbol) (by_segments : Bool) : Type 0 where
-  pub lookup : IsLookup command rows file true wanted.text.now
-  pub viewed : by_segments ≡ is_set (first_of (codes "by-segments") rows)
+  pub lookup : AsksLookup command rows file true wanted.text.now
+  pub viewed : by_segments ≡ is_option_set (first_of (codes "by-segments") rows)
 
 -- a task looks a text up, as a loader of the GNU system does it, by the program headers alone or not, or in the file's own SysV
 -- hash table
-abbrev pub LooksUp : (gnu by_segments : Bool) → Text → Task → Type 0
-LooksUp gnu by_segments text (Find wanted) = (gnu ≡ false) × (wanted.bytes.now ≡ text)
-LooksUp gnu by_segments text (Resolve wanted viewed) = (gnu ≡ true) × (wanted.text.now ≡ text) × (viewed ≡ by_segments)
-LooksUp gnu by_segments text _ = ⊥
+abbrev pub IsLookupTask : (gnu by_segments : Bool) → Text → Task → Type 0
+IsLookupTask gnu by_segments text (Find wanted) = (gnu ≡ false) × (wanted.bytes.now ≡ text)
+IsLookupTask gnu by_segments text (Resolve wanted viewed) = (gnu ≡ true) × (wanted.text.now ≡ text) × (viewed ≡ by_segments)
+IsLookupTask gnu by_segments text _ = ⊥
 
 -- the words for the items of a layout
 abbrev pub item_words : List Row → List Text
@@ -64,8 +64,8 @@ pub record IsApplying (command : Text) (rows : List Row) (file : Option (Bor Tex
   pub path : IsFileNamed rows file
   pub index : HasNumber (one_of (codes "SECTION") rows) (Some section)
   pub small : section < 2 ^ 16
-  pub items : Lays no_items (item_words rows) (Ok layout)
-  pub explained : explain ≡ is_set (first_of (codes "explain") rows)
+  pub items : LaysWords no_items (item_words rows) (Ok layout)
+  pub explained : explain ≡ is_option_set (first_of (codes "explain") rows)
 
 -- a task with its file, by the values of the options; no words give addresses that are kept otherwise
 abbrev pub IsTask : Text → List Row → Option (Bor Text) → Task → Type 0
@@ -79,7 +79,7 @@ IsTask command rows file (Place section addresses explain) = ⊥
 -- a command with the values of its arguments asks for just this
 abbrev pub AsksBy : Option (Text × List Row) → Request → Type 0
 AsksBy None request = ⊥
-AsksBy (Some (command, rows)) request = AreLimits rows request.limits × IsTask command rows request.file request.task
+AsksBy (Some (command, rows)) request = AreLimitOptions rows request.limits × IsTask command rows request.file request.task
 
 -- a lookup of a text that can't be looked up
 abbrev pub NamesBadly : Text → List Row → Type 0
@@ -89,7 +89,7 @@ NamesBadly command rows =
 
 -- a section to be written, in a layout of which the first word that is refused has this fault
 abbrev pub LaysBadly : Text → List Row → RequestFault → Type 0
-LaysBadly command rows fault = (command ≡ codes "apply") × Lays no_items (item_words rows) (Err fault)
+LaysBadly command rows fault = (command ≡ codes "apply") × LaysWords no_items (item_words rows) (Err fault)
 
 -- a command with the values of its arguments asks for something, and has this fault in its words for it
 abbrev pub HasFault : Option (Text × List Row) → RequestFault → Type 0

@@ -2,10 +2,10 @@
 use Rattle.std.specs.Prelude.{⊤, ◌≡◌, List, [], Result, Ok, Err, codes, Option, None, Some, option_map, unwrap_or}
 use Rattle.clap.specs.Walk.{Row, Text, all_of, first_of, texts}
 use Rattle.elf_listing_words.specs.Listings.{AsksVersion}
-use Rattle.elf_listing_words.specs.Options.{AreLimits, AreParts, IsStyle}
+use Rattle.elf_listing_words.specs.Options.{AreLimitOptions, AreParts, IsStyle}
 use Rattle.elf_words.specs.Asked.{AsksBy, AsksNothing, HasFault}
-use Rattle.elf_words.specs.declared.checks.Asked.{Asked}
-use Rattle.elf_words.specs.declared.checks.Asked.TheVariants.{File, Laid, Check, Archive, Version}
+use Rattle.elf_words.specs.declared.checks.AskedCommand.{AskedCommand}
+use Rattle.elf_words.specs.declared.checks.AskedCommand.TheVariants.{File, Laid, Check, Archive, Version}
 use Rattle.elf_words.specs.Archives.{ArchivesBy, NothingArchived}
 use Rattle.elf_words.specs.declared.checks.Checking.{Checking}
 use Rattle.elf_words.specs.declared.requests.RequestFault.{RequestFault}
@@ -22,7 +22,7 @@ pub record IsChecking (command : Text) (rows : List Row) (asked : Checking) : Ty
   pub paths : texts asked.paths.items ≡ path_words rows
   pub list : option_map (λ path. path.now) asked.list ≡ first_of (codes "files0-from") rows
   pub some : path_words rows ≡ [] → first_of (codes "files0-from") rows ≡ None → ⊥
-  pub limits : AreLimits rows asked.limits
+  pub limits : AreLimitOptions rows asked.limits
   pub style : IsStyle rows asked.style
   pub parts : AreParts rows asked.parts
 
@@ -42,7 +42,7 @@ HasList None list = ⊥
 HasList (Some (command, rows)) list = (command ≡ codes "apply") × (first_of (codes "layout") rows ≡ Some list)
 
 -- a command with the values of its arguments asks for just this
-abbrev pub IsAsked : Option (Text × List Row) → Asked → Type 0
+abbrev pub IsAsked : Option (Text × List Row) → AskedCommand → Type 0
 IsAsked matches (File request) = AsksBy matches request × LacksList matches
 IsAsked matches (Laid laying) = AsksBy matches laying.request × HasList matches laying.list.now
 IsAsked matches (Check asked) = ChecksBy matches asked
@@ -58,7 +58,7 @@ abbrev pub NothingAsked : Option (Text × List Row) → Type 0
 NothingAsked matches = AsksNothing matches × NothingChecked matches × NothingArchived matches × (AsksVersion matches → ⊥)
 
 -- what a command with the values of its arguments comes to: what is asked for, nothing, or a fault
-abbrev pub Becomes : Option (Text × List Row) → Result (Option Asked) RequestFault → Type 0
+abbrev pub Becomes : Option (Text × List Row) → Result (Option AskedCommand) RequestFault → Type 0
 Becomes matches (Ok (Some asked)) = IsAsked matches asked
 Becomes matches (Ok None) = NothingAsked matches
 Becomes matches (Err Memory) = ⊤

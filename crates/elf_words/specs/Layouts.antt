@@ -9,10 +9,6 @@ use Rattle.elf_layout.specs.Spelled.{Spells}
 use Rattle.elf_words.specs.declared.requests.RequestFault.{RequestFault}
 use Rattle.elf_words.specs.declared.requests.RequestFault.TheVariants.{BadItem, LayoutFull, LayoutRepeat}
 
--- a layout without an item
-abbrev pub no_items : Layout
-no_items = record { lookup = Compared; sections = []; definitions = []; linkage = []; table = []; thread = [] }
-
 -- a word spells an item, which is put behind those of its sort
 abbrev pub PutsItem : Text → Layout → Layout → Type 0
 PutsItem word old new = (item : Item) × Spells word item × Pushes {X = Unit {0}} item old new (Ok tt)
@@ -26,8 +22,8 @@ RefusesItem word old _ = ⊥
 
 -- THE LAYOUT that words give behind the items of another, from the first word to the last; the first word that is refused
 -- decides
-abbrev pub Lays : Layout → List Text → Result Layout RequestFault → Type 0
-Lays old [] result = result ≡ Ok old
-Lays old (word ∷ words) result =
-    ((new : Layout) × PutsItem word old new × Lays new words result)
+abbrev pub LaysWords : Layout → List Text → Result Layout RequestFault → Type 0
+LaysWords old [] result = result ≡ Ok old
+LaysWords old (word ∷ words) result =
+    ((new : Layout) × PutsItem word old new × LaysWords new words result)
     ⊎ ((fault : RequestFault) × (result ≡ Err fault) × RefusesItem word old fault)

@@ -9,7 +9,7 @@ ghost use Rattle.elf_listing_words.specs.Options.{member_part_names};
 ghost use Rattle.elf_words.specs.Archives.{is_member_part};
 ghost use Rattle.elf_words.specs.Checks.{Becomes};
 
-use crate::checks::{Archiving, Asked};
+use crate::checks::{Archiving, AskedCommand};
 use clap::ArgMatches;
 use elf_listing_words::{asks_gnu, limits_of, style_of, text_of, whole};
 use elf_record::Parts;
@@ -18,11 +18,11 @@ use elf_record::Parts;
 const NO_PART: Parts = Parts(0);
 
 /// What `archive` with these arguments asks for, or None where they ask for nothing.
-pub(crate) fn archive_asked<'a>(options: &ArgMatches<'a>) -> Option<Asked<'a>>
+pub(crate) fn archive_asked<'a>(options: &ArgMatches<'a>) -> Option<AskedCommand<'a>>
     ensures { Becomes (Some (codes "archive", rows_of (found_of options.now))) (Ok result) }
 {
     match archiving_of(options) {
-        Some(asked) => Some(Asked::Archive(asked)),
+        Some(asked) => Some(AskedCommand::Archive(asked)),
         None => None,
     }
 }

@@ -2,10 +2,10 @@
 ghost use Rattle.std.specs.Prelude.{◌≡◌, IfOk, IfSome, Some, None, codes};
 ghost use Rattle.clap.specs.Walk.{first_of, rows_of, texts};
 ghost use Rattle.clap.specs.Words.{found_of};
-ghost use Rattle.elf_listing_words.specs.Options.{AreLimits, AreParts, IsStyle};
+ghost use Rattle.elf_listing_words.specs.Options.{AreLimitOptions, AreParts, IsStyle};
 ghost use Rattle.elf_words.specs.Checks.{Becomes, IsChecking, NothingChecked, path_words};
 
-use crate::checks::{Asked, Checking};
+use crate::checks::{AskedCommand, Checking};
 use crate::requests::RequestFault;
 use clap::ArgMatches;
 use elf_listing_words::{limits_of, parts_of, style_of, text_of};
@@ -19,14 +19,14 @@ use std::alloc::{AllocError, Global};
 pub(crate) fn check_asked<'a>(
     alloc: Global,
     options: &ArgMatches<'a>,
-) -> Result<Option<Asked<'a>>, RequestFault>
+) -> Result<Option<AskedCommand<'a>>, RequestFault>
     ensures { Becomes (Some (codes "check", rows_of (found_of options.now))) result }
 {
     let Ok(paths) = paths_of(alloc, options) else {
         return Err(RequestFault::Memory);
     };
     match checking_of(options, paths) {
-        Some(asked) => Ok(Some(Asked::Check(asked))),
+        Some(asked) => Ok(Some(AskedCommand::Check(asked))),
         None => Ok(None),
     }
 }

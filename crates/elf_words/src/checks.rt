@@ -7,7 +7,7 @@ use elf_record::Parts;
 
 /// What is asked for.
 #[derive(Drop)]
-pub enum Asked<'a> {
+pub enum AskedCommand<'a> {
     /// Something is done with one file.
     File(Request<'a>),
     /// A section is applied, with the items of a file too.

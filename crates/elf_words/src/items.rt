@@ -1,6 +1,7 @@
 //! Items of a layout, as words spell them.
 ghost use Rattle.std.specs.Prelude.{◌≡◌, IfErr, IfOk, Ok, Err};
-ghost use Rattle.elf_words.specs.Layouts.{Lays, PutsItem, RefusesItem, no_items};
+ghost use Rattle.elf_model.specs.Placing.{no_items};
+ghost use Rattle.elf_words.specs.Layouts.{LaysWords, PutsItem, RefusesItem};
 ghost use Rattle.clap.specs.Walk.{texts};
 
 use crate::requests::RequestFault;
@@ -14,8 +15,8 @@ use elf_layout::{Layout, LayoutFault, item};
 /// definitions or 32 entries of its sort before it. The first such word decides; the layout is left with the
 /// items before it.
 pub fn lay(layout: &mut Layout, words: &[&str]) -> Result<(), RequestFault>
-    ensures laid { IfOk result (λ _. Lays no_items (texts words.now) (Ok layout.new)) }
-    ensures refused { IfErr result (λ fault. Lays no_items (texts words.now) (Err fault)) }
+    ensures laid { IfOk result (λ _. LaysWords no_items (texts words.now) (Ok layout.new)) }
+    ensures refused { IfErr result (λ fault. LaysWords no_items (texts words.now) (Err fault)) }
 {
     *layout = Layout::new();
     for word in words {

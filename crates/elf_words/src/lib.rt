@@ -9,7 +9,7 @@ mod names;
 mod requests;
 mod words;
 
-pub use checks::{Archiving, Asked, Checking, Laying};
+pub use checks::{Archiving, AskedCommand, Checking, Laying};
 pub use names::{checked_name, checked_symbol};
-pub use requests::{Request, RequestFault, Task, Wanted, WantedSymbol};
+pub use requests::{Request, RequestFault, Task, WantedName, WantedSymbol};
 pub use words::request;

@@ -4,7 +4,7 @@ ghost use Rattle.elf_model.specs.Names.{nul_in};
 ghost use Rattle.elf_model.specs.NameLaws.{IsWanted};
 ghost use Rattle.elf_words.specs.Asked.{IsText};
 
-use crate::requests::{Wanted, WantedSymbol};
+use crate::requests::{WantedName, WantedSymbol};
 use elf_wanted::wanted_of;
 use memchr::memchr;
 
@@ -13,12 +13,12 @@ const MOST_BYTES: usize = 4_096;
 
 /// A name that can be looked for: a word of 1 to 4,096 bytes, none of them NUL. None for another
 /// word.
-pub fn checked_name(word: &str) -> Option<Wanted<'_>>
+pub fn checked_name(word: &str) -> Option<WantedName<'_>>
     ensures named { IfSome result (λ name. name.bytes.now ≡ word.now) }
     ensures unnamed { IsNone result → IsWanted word.now → length word.now ≤ 4096 → ⊥ }
 {
     match name_bytes(word) {
-        Some(bytes) => Some(Wanted { bytes }),
+        Some(bytes) => Some(WantedName { bytes }),
         None => None,
     }
 }

@@ -30,7 +30,7 @@ pub enum Task<'a> {
         style: Style,
     },
     /// A name is looked up in it.
-    Find(Wanted<'a>),
+    Find(WantedName<'a>),
     /// A symbol is looked up in it as a loader of the GNU system looks it up.
     Resolve {
         /// The symbol.
@@ -60,7 +60,7 @@ pub enum Task<'a> {
 
 /// A name that can be looked for, of 1 to 4,096 bytes, none of them NUL.
 #[derive(Clone, Copy)]
-pub struct Wanted<'a> {
+pub struct WantedName<'a> {
     /// The name's bytes.
     pub bytes: &'a [u8],
     pub ghost is_name: { IsWanted bytes.now },

@@ -4,16 +4,17 @@ ghost use Rattle.std.specs.Prelude.{Option, Some, codes, map};
 ghost use Rattle.std.specs.Borrow.{Bor};
 ghost use Rattle.clap.specs.Walk.{Text, rows_of};
 ghost use Rattle.clap.specs.Words.{found_of, subcommand_rows_of};
-ghost use Rattle.elf_listing_words.specs.Options.{AreLimits};
-ghost use Rattle.elf_words.specs.Asked.{AsksBy, ComesTo, IsFileNamed, IsText, LooksUp, item_words};
-ghost use Rattle.elf_words.specs.Answered.{IsRefusal, WordsAsk, WordsRefused, unread};
+ghost use Rattle.elf_listing_words.specs.Options.{AreLimitOptions};
+ghost use Rattle.elf_words.specs.Asked.{AsksBy, ComesTo, IsFileNamed, IsText, IsLookupTask, item_words};
+ghost use Rattle.elf_words.specs.Answered.{IsRefusal, WordsAsk, WordsRefused, unread_words};
 ghost use Rattle.elf_words.specs.Checks.{Becomes, IsAsked};
-ghost use Rattle.elf_words.specs.Layouts.{Lays, no_items};
+ghost use Rattle.elf_model.specs.Placing.{no_items};
+ghost use Rattle.elf_words.specs.Layouts.{LaysWords};
 ghost use Rattle.elf_headers.specs.declared.caps.Limits.{Limits};
 
 use crate::archive_words::archive_asked;
 use crate::check_words::check_asked;
-use crate::checks::{Asked, Laying};
+use crate::checks::{AskedCommand, Laying};
 use crate::items::lay;
 use crate::names::{checked_name, checked_symbol};
 use crate::requests::{Request, RequestFault, Task};
@@ -37,7 +38,7 @@ pub fn request<'a, S: AsStr>(
     alloc: Global,
     words: &'a [S],
     layout: &'a mut Layout,
-) -> Result<Asked<'a>, RequestFault>
+) -> Result<AskedCommand<'a>, RequestFault>
     ensures asked { IfOk result (WordsAsk (map S.text words.entry.now)) }
     ensures refused { IfErr result (WordsRefused (map S.text words.entry.now)) }
 {
@@ -49,7 +50,7 @@ pub fn request<'a, S: AsStr>(
 
 /// The fault of a request whose words are not read.
 fn of_words(fault: WordsFault) -> RequestFault
-    ensures { result ≡ unread fault }
+    ensures { result ≡ unread_words fault }
 {
     match fault {
         WordsFault::Told(error) => RequestFault::Words(error),
@@ -62,7 +63,7 @@ fn answered<'a>(
     alloc: Global,
     matches: &ArgMatches<'a>,
     layout: &'a mut Layout,
-) -> Result<Asked<'a>, RequestFault>
+) -> Result<AskedCommand<'a>, RequestFault>
     ensures asked { IfOk result (IsAsked (subcommand_rows_of matches.now)) }
     ensures refused { IfErr result (IsRefusal (subcommand_rows_of matches.now)) }
 {
@@ -78,7 +79,7 @@ fn asked<'a>(
     alloc: Global,
     matches: &ArgMatches<'a>,
     layout: &'a mut Layout,
-) -> Result<Option<Asked<'a>>, RequestFault>
+) -> Result<Option<AskedCommand<'a>>, RequestFault>
     ensures { Becomes (subcommand_rows_of matches.now) result }
 {
     match matches.subcommand() {
@@ -93,14 +94,14 @@ fn asked_by<'a>(
     command: &str,
     options: &ArgMatches<'a>,
     layout: &'a mut Layout,
-) -> Result<Option<Asked<'a>>, RequestFault>
+) -> Result<Option<AskedCommand<'a>>, RequestFault>
     ensures { Becomes (Some (command.now, rows_of (found_of options.now))) result }
 {
     match command {
         "check" => check_asked(alloc, options),
         "archive" => Ok(archive_asked(options)),
         "apply" => apply_asked(options, layout),
-        "version" => Ok(Some(Asked::Version)),
+        "version" => Ok(Some(AskedCommand::Version)),
         _ => file_asked(command, options),
     }
 }
@@ -109,7 +110,7 @@ fn asked_by<'a>(
 fn apply_asked<'a>(
     options: &ArgMatches<'a>,
     layout: &'a mut Layout,
-) -> Result<Option<Asked<'a>>, RequestFault>
+) -> Result<Option<AskedCommand<'a>>, RequestFault>
     ensures { Becomes (Some (codes "apply", rows_of (found_of options.now))) result }
 {
     match applying(options, layout) {
@@ -120,13 +121,13 @@ fn apply_asked<'a>(
 }
 
 /// A request to apply, with the file of items that is named, if any.
-fn with_list<'a>(options: &ArgMatches<'a>, request: Request<'a>) -> Asked<'a>
+fn with_list<'a>(options: &ArgMatches<'a>, request: Request<'a>) -> AskedCommand<'a>
     requires { AsksBy (Some (codes "apply", rows_of (found_of options.now))) request }
     ensures { IsAsked (Some (codes "apply", rows_of (found_of options.now))) result }
 {
     match text_of(options, "layout") {
-        Some(list) => Asked::Laid(Laying { request, list }),
-        None => Asked::File(request),
+        Some(list) => AskedCommand::Laid(Laying { request, list }),
+        None => AskedCommand::File(request),
     }
 }
 
@@ -134,13 +135,13 @@ fn with_list<'a>(options: &ArgMatches<'a>, request: Request<'a>) -> Asked<'a>
 fn file_asked<'a>(
     command: &str,
     options: &ArgMatches<'a>,
-) -> Result<Option<Asked<'a>>, RequestFault>
+) -> Result<Option<AskedCommand<'a>>, RequestFault>
     requires { (command.now ≢ codes "check") × (command.now ≢ codes "archive")
         × (command.now ≢ codes "version") × (command.now ≢ codes "apply") }
     ensures { Becomes (Some (command.now, rows_of (found_of options.now))) result }
 {
     match of_file(command, options) {
-        Ok(Some(request)) => Ok(Some(Asked::File(request))),
+        Ok(Some(request)) => Ok(Some(AskedCommand::File(request))),
         Ok(None) => Ok(None),
         Err(fault) => Err(fault),
     }
@@ -196,7 +197,7 @@ fn lookup<'a>(options: &ArgMatches<'a>) -> Result<Option<Request<'a>>, RequestFa
 /// The lookup of a text, as a loader of the GNU system does it (`gnu`), by the program headers alone
 /// or not, or by the file's SysV hash table. None where the text is none that can be looked up so.
 fn lookup_of(text: &str, gnu: bool, by_segments: bool) -> Option<Task<'_>>
-    ensures some { IfSome result (LooksUp gnu by_segments text.now) }
+    ensures some { IfSome result (IsLookupTask gnu by_segments text.now) }
     ensures none { result ≡ None → IsText gnu text.now → ⊥ }
 {
     if gnu {
@@ -235,9 +236,9 @@ fn layout_asked<'a>(
     layout: &'a mut Layout,
 ) -> Result<&'a Layout, RequestFault>
     ensures laid { IfOk result (λ layout.
-        Lays no_items (item_words (rows_of (found_of options.now))) (Ok layout.now)) }
+        LaysWords no_items (item_words (rows_of (found_of options.now))) (Ok layout.now)) }
     ensures refused { IfErr result (λ fault.
-        Lays no_items (item_words (rows_of (found_of options.now))) (Err fault)) }
+        LaysWords no_items (item_words (rows_of (found_of options.now))) (Err fault)) }
 {
     lay_asked(options, layout)?;
     Ok(layout)
@@ -246,9 +247,9 @@ fn layout_asked<'a>(
 /// Lays out the items that are asked for, and no other items.
 fn lay_asked(options: &ArgMatches<'_>, layout: &mut Layout) -> Result<(), RequestFault>
     ensures laid { IfOk result (λ _.
-        Lays no_items (item_words (rows_of (found_of options.now))) (Ok layout.new)) }
+        LaysWords no_items (item_words (rows_of (found_of options.now))) (Ok layout.new)) }
     ensures refused { IfErr result (λ fault.
-        Lays no_items (item_words (rows_of (found_of options.now))) (Err fault)) }
+        LaysWords no_items (item_words (rows_of (found_of options.now))) (Err fault)) }
 {
     match options.get_strs("ITEM") {
         Some(words) => lay(layout, words),
@@ -262,10 +263,10 @@ fn in_file<'a>(options: &ArgMatches<'a>, task: Task<'a>) -> Option<Request<'a>>
     ensures file { IfSome result (λ request.
         IsFileNamed (rows_of (found_of options.now)) request.file) }
     ensures limits { IfSome result (λ request.
-        AreLimits (rows_of (found_of options.now)) request.limits) }
+        AreLimitOptions (rows_of (found_of options.now)) request.limits) }
     ensures none { result ≡ None → (file : Option (Bor Text)) (limits : Limits)
         → IsFileNamed (rows_of (found_of options.now)) file
-        → AreLimits (rows_of (found_of options.now)) limits → ⊥ }
+        → AreLimitOptions (rows_of (found_of options.now)) limits → ⊥ }
 {
     let path = text_of(options, "FILE")?;
     let limits = limits_of(options)?;

@@ -2,10 +2,10 @@
 ghost use Rattle.std.specs.Prelude.{◌≡◌};
 
 use elf_archive::show_archive;
+use elf_headers::{Caps, HeaderRoom, HeaderStore};
 use elf_program::{Ending, OUT_OF_MEMORY, OUTPUT_BYTES, end_answer, open};
 use elf_run::archive_status;
 use elf_source::{Counted, Out, RangeSource, Source, WriteSink};
-use elf_table::{Caps, HeaderRoom, HeaderStore};
 use elf_words::Archiving;
 use std::io::{self, BufWriter, Write};
 use std::os::unix::fs::FileExt;

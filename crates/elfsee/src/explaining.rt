@@ -1,11 +1,12 @@
 //! What would help behind a refusal of a section, told on standard error.
 use elf_explain::explain;
+use elf_headers::HeaderStore;
 use elf_layout::Addresses;
 use elf_lines::show_lack;
-use elf_program::{TOLD_BYTES, write_rest};
+use elf_program::{ERROR_LINE_BYTES, write_rest};
 use elf_record::Refusal;
 use elf_source::{Counted, Out, Sink, Source, WriteSink};
-use elf_table::{HeaderStore, NameBuf, NameEnd};
+use elf_table::{NameBuf, NameEnd};
 use elf_words::{Request, Task};
 use std::alloc::Global;
 use std::io::{BufWriter, Stderr};
@@ -22,7 +23,7 @@ pub fn tell_why<S: Source>(
     errors: Stderr,
 ) {
     if asks_why(request) {
-        if let Ok(errors) = BufWriter::with_capacity(alloc, TOLD_BYTES, errors) {
+        if let Ok(errors) = BufWriter::with_capacity(alloc, ERROR_LINE_BYTES, errors) {
             tell_into(request, refusal, src, store, errors);
         }
     }

@@ -12,6 +12,7 @@ ghost use Rattle.elf_words.specs.declared.requests.RequestFault.{RequestFault};
 
 use archives::list_archive;
 use elf_fixtures::sample;
+use elf_headers::{HeaderRoom, HeaderStore, Stop};
 use elf_layout::Layout;
 use elf_program::{
     Ending, OUT_OF_MEMORY, OUTPUT_BYTES, end_answer, exit, open, read_words, tell_version,
@@ -19,8 +20,7 @@ use elf_program::{
 };
 use elf_run::{refused, run};
 use elf_source::{Counted, MemorySource, Out, Source, WriteSink};
-use elf_table::{HeaderRoom, HeaderStore, Stop};
-use elf_words::{Asked, Request, RequestFault, request};
+use elf_words::{AskedCommand, Request, RequestFault, request};
 use explaining::tell_why;
 use layouts::apply_laid;
 use many::check_many;
@@ -69,7 +69,7 @@ where
 /// Carries out what is asked for.
 fn carry_out<R: Files + Print + Input + AllocGlobal>(
     rt: &R,
-    asked: &Asked<'_>,
+    asked: &AskedCommand<'_>,
     errors: Stderr,
     terminal: Option<Stderr>,
 ) -> Result<Ending, Ending>
@@ -77,11 +77,11 @@ where
     R::File: FileExt,
 {
     match asked {
-        Asked::File(request) => answer_request(rt, request, errors),
-        Asked::Laid(laying) => apply_laid(rt, laying, errors),
-        Asked::Check(checking) => check_many(rt, checking, terminal),
-        Asked::Archive(archiving) => list_archive(rt, archiving),
-        Asked::Version => tell_version(rt),
+        AskedCommand::File(request) => answer_request(rt, request, errors),
+        AskedCommand::Laid(laying) => apply_laid(rt, laying, errors),
+        AskedCommand::Check(checking) => check_many(rt, checking, terminal),
+        AskedCommand::Archive(archiving) => list_archive(rt, archiving),
+        AskedCommand::Version => tell_version(rt),
     }
 }
 
@@ -142,7 +142,7 @@ fn read_request<'a>(
     words: &'a [String],
     layout: &'a mut Layout,
     errors: Stderr,
-) -> Result<Asked<'a>, Ending>
+) -> Result<AskedCommand<'a>, Ending>
     ensures { IfErr result (λ ending. (fault : RequestFault)
         × (ending.0 ≡ refused_status fault) × (ending.1.now ≡ refused_line fault)) }
 {

@@ -1,10 +1,10 @@
 //! The check of many files.
 ghost use Rattle.std.specs.Prelude.{◌≡◌};
 
-use elf_many::{Checks, ListFault, Walk, check_list, check_path};
+use elf_headers::{Caps, HeaderRoom, HeaderStore};
+use elf_many::{Checks, FolderWalk, ListFault, check_list, check_path};
 use elf_program::{CANNOT_OPEN, Ended, Ending, OUT_OF_MEMORY, OUTPUT_BYTES, READ_FAULT, end_run};
 use elf_source::{Out, OutFault, Sink, WriteSink};
-use elf_table::{Caps, HeaderRoom, HeaderStore};
 use elf_words::Checking;
 use std::fs;
 use std::io::{self, BufWriter, Input, Stderr, Write};
@@ -30,7 +30,7 @@ where
     let Ok(mut room) = HeaderRoom::new(rt.alloc(), asked.headers()) else {
         return Err(OUT_OF_MEMORY);
     };
-    let Ok(mut walk) = Walk::new(rt.alloc()) else {
+    let Ok(mut walk) = FolderWalk::new(rt.alloc()) else {
         return Err(OUT_OF_MEMORY);
     };
     check_within(rt, asked, room.store(), &mut walk, terminal)
@@ -42,7 +42,7 @@ fn check_within<R: Files + Print + Input + AllocGlobal>(
     rt: &R,
     asked: &Checking<'_>,
     store: HeaderStore<'_>,
-    walk: &mut Walk,
+    walk: &mut FolderWalk,
     terminal: Option<Stderr>,
 ) -> Result<Ending, Ending>
 where
@@ -63,7 +63,7 @@ fn check_into<R: Files + Input, W: Write + Drop>(
     rt: &R,
     asked: &Checking<'_>,
     store: HeaderStore<'_>,
-    walk: &mut Walk,
+    walk: &mut FolderWalk,
     entries: &mut [u8],
     output: BufWriter<W>,
     terminal: Option<Stderr>,
@@ -106,7 +106,7 @@ fn check_all<R: Files + Input, W: Sink>(
     rt: &R,
     asked: &Checking<'_>,
     checks: &mut Checks<'_, W, Stderr>,
-    walk: &mut Walk,
+    walk: &mut FolderWalk,
     entries: &mut [u8],
 ) -> Result<u8, Ended>
 where
@@ -133,7 +133,7 @@ where
 fn check_paths<R: Files, W: Sink>(
     rt: &R,
     checks: &mut Checks<'_, W, Stderr>,
-    walk: &mut Walk,
+    walk: &mut FolderWalk,
     paths: &[&str],
 ) -> Result<(), OutFault>
 where
@@ -154,7 +154,7 @@ where
 fn check_listed<R: Files + Input, W: Sink>(
     rt: &R,
     checks: &mut Checks<'_, W, Stderr>,
-    walk: &mut Walk,
+    walk: &mut FolderWalk,
     list: &str,
     entries: &mut [u8],
 ) -> Result<(), Ended>

@@ -6,7 +6,7 @@ use Rattle.elf_model.specs.ApplyCost.{apply_cost_by_order}
 use Rattle.elf_model.specs.Placing.{Layout}
 use Rattle.elf_model.specs.declared.causes.Refusal.{Refusal}
 use Rattle.elf_source.specs.Output.{Written}
-use Rattle.elf_source.specs.Source.{Counting, Limits, honest, seen_by}
+use Rattle.elf_source.specs.Source.{Counting, SetsLimit, honest, seen_by}
 use Rattle.elf_headers.specs.declared.stop.Stop.{Stop}
 use Rattle.elf_headers.specs.declared.stop.Stop.TheVariants.{Refused, Source, Out}
 use Rattle.elf_apply.specs.Applied.{Applies, ApplySays, WantsBudget, text_of}
@@ -41,7 +41,7 @@ module _ (file : List ℕ) (headers section : ℕ) (budget : Option ℕ) (layout
   -- WHAT STANDS IN THE MEMORY once a section is written to it
   pub stands : (name other len entries n : ℕ) (out bytes : List ℕ) (spare : Option ℕ) (failed : Bool) (old new : Written) (s0 s1 t : Counting) (result : Result Applied Stop)
       → old.taken ≡ Some (name ∷ []) → Some (other ∷ (take len out ++ spared spare)) ≡ new.taken → failed ≡ new.failed → (IsSome spare → len ≡ length out)
-      → (IsTrue failed → IsSome spare) → honest bytes ≡ t.source → Limits s0 s1 budget → s0.asked ≡ 0 → length file ≡ s1.seen.size → IfErr result (ApplySays s1 t new n)
+      → (IsTrue failed → IsSome spare) → honest bytes ≡ t.source → SetsLimit s0 s1 budget → s0.asked ≡ 0 → length file ≡ s1.seen.size → IfErr result (ApplySays s1 t new n)
       → IfErr result (WantsBudget s1 (apply_cost_by_order file headers section layout)) → Applies old new result entries (applied file headers section layout)
       → AppliesFor file headers budget section layout out len (told_from result (is_some spare))
   stands name other len entries n out bytes None failed old new s0 s1 t (Ok done) before after fails full over is set first sized says wants wrote =

@@ -15,7 +15,7 @@ use Rattle.elf_headers.specs.declared.stop.Stop.{Stop}
 use Rattle.elf_headers.specs.declared.stop.Stop.TheVariants.{Refused, Source, Out}
 use Rattle.elf_listing.specs.Reports.{Reports, FaultSays}
 use Rattle.elfsee_c.specs.Lent.{spared}
-use Rattle.elfsee_c.specs.Shown.{Lists}
+use Rattle.elfsee_c.specs.Shown.{ListsInMemory}
 use Rattle.elfsee_c.specs.Told.{told_from}
 
 -- a name and the bytes behind it, to which some bytes are appended
@@ -70,7 +70,7 @@ module _ (file : List ℕ) (caps : Caps) (parts : ℕ) where
   pub lists : {X : Type 0} (name other len : ℕ) (out bytes : List ℕ) (spare : Option ℕ) (failed : Bool) (old new : Written) (s t : Counting) (result : Result X Stop)
       → old.taken ≡ Some (name ∷ []) → Some (other ∷ (take len out ++ spared spare)) ≡ new.taken → failed ≡ new.failed → (IsSome spare → len ≡ length out)
       → (IsTrue failed → IsSome spare) → honest bytes ≡ t.source → IfErr result (FaultSays s t new) → Reports file caps parts old new result
-      → Lists file caps parts out len (told_from result (is_some spare))
+      → ListsInMemory file caps parts out len (told_from result (is_some spare))
   lists name other len out bytes None failed old new s t (Ok x) before after fails full over is says reports =
       told Is reports.text (take len out) reports.fault None (sym (append-nil (take len out)) ∙ took name other _ old.taken new.taken reports.text before after reports.wrote.0.appends) reports.wrote.1 reports.listed
   lists name other len out bytes None failed old new s t (Err (Refused refusal)) before after fails full over is says reports =

@@ -3,15 +3,15 @@ use Rattle.std.specs.Prelude.{ℕ, ◌≡◌, ◌<◌, ◌≤◌, ◌^◌, List,
 use Rattle.elf_model.specs.Apply.{applied}
 use Rattle.elf_model.specs.ApplyCost.{apply_cost_by_order}
 use Rattle.elf_model.specs.Budget.{IsBudget}
-use Rattle.elf_model.specs.Placing.{Layout}
-use Rattle.elfsee_c.specs.Items.{Lays, no_items}
-use Rattle.elfsee_c.specs.Limits.{AreLimits, budget_of, headers_of}
+use Rattle.elf_model.specs.Placing.{Layout, no_items}
+use Rattle.elfsee_c.specs.Items.{LaysItems}
+use Rattle.elfsee_c.specs.Limits.{AreInRange, budget_of, headers_of}
 use Rattle.elfsee_c.specs.Told.{IsStatus, Untouched}
 use Rattle.elfsee_c.specs.Wants.{IsWanting}
-use Rattle.elfsee_c.specs.declared.applied.Wanted.{Wanted}
+use Rattle.elfsee_c.specs.declared.applied.WantedSection.{WantedSection}
 use Rattle.elfsee_c.specs.declared.applying.Job.{Job}
 use Rattle.elfsee_c.specs.declared.end.End.{End}
-use Rattle.elfsee_c.specs.declared.limits.Limits.{Limits}
+use Rattle.elfsee_c.specs.declared.limits.CallerLimits.{CallerLimits}
 use Rattle.elfsee_c.specs.declared.told.Told.{Told}
 use Rattle.elfsee_c.specs.declared.told.Told.TheVariants.{Done, Refused, Full, BadCall}
 
@@ -27,18 +27,18 @@ AppliesFor file headers budget section layout out written Full =
 AppliesFor file headers budget section layout out written BadCall = ⊥
 
 -- the same by what is wanted
-abbrev pub AppliesIn : List ℕ → ℕ → Wanted → List ℕ → ℕ → Told → Type 0
+abbrev pub AppliesIn : List ℕ → ℕ → WantedSection → List ℕ → ℕ → Told → Type 0
 AppliesIn file headers wanted out written told = AppliesFor file headers wanted.budget wanted.section wanted.layout.now out written told
 
 -- limits, room and a section's index in their ranges, and items that give this layout
-pub record IsGood (limits : Limits) (room : ℕ) (job : Job) (layout : Layout) : Type 0 where
-  pub permitted : AreLimits limits room
+pub record IsGood (limits : CallerLimits) (room : ℕ) (job : Job) (layout : Layout) : Type 0 where
+  pub permitted : AreInRange limits room
   pub index : job.section < 2 ^ 16
-  pub lays : Lays no_items job.items.now layout
+  pub lays : LaysItems no_items job.items.now layout
 
 -- what a call did with its arguments: within the cost and the budget it gives the section for the layout that the items give, and
 -- where it is refused no byte counts as written
-pub record Gave (file : List ℕ) (limits : Limits) (job : Job) (room : ℕ) (out : List ℕ) (end : End) (told : Told) : Type 0 where
+pub record Gave (file : List ℕ) (limits : CallerLimits) (job : Job) (room : ℕ) (out : List ℕ) (end : End) (told : Told) : Type 0 where
   pub layout : Layout
   pub good : IsGood limits room job layout
   pub section : AppliesFor file (headers_of limits room) (budget_of limits) job.section layout out end.written told
@@ -46,15 +46,15 @@ pub record Gave (file : List ℕ) (limits : Limits) (job : Job) (room : ℕ) (ou
   pub budget : IfSome (budget_of limits) (λ bytes. end.asked ≤ bytes)
 
 -- or its arguments are outside their ranges, and nothing is asked for and written
-abbrev pub Applies : List ℕ → Limits → Job → ℕ → List ℕ → List ℕ → End → Told → Type 0
-Applies file limits job room before out end Done = Gave file limits job room out end Done
-Applies file limits job room before out end (Refused refusal) = Gave file limits job room out end (Refused refusal) × (end.written ≡ 0)
-Applies file limits job room before out end Full = Gave file limits job room out end Full
-Applies file limits job room before out end BadCall = ((layout : Layout) → IsGood limits room job layout → ⊥) × Untouched before out end
+abbrev pub AppliesInMemory : List ℕ → CallerLimits → Job → ℕ → List ℕ → List ℕ → End → Told → Type 0
+AppliesInMemory file limits job room before out end Done = Gave file limits job room out end Done
+AppliesInMemory file limits job room before out end (Refused refusal) = Gave file limits job room out end (Refused refusal) × (end.written ≡ 0)
+AppliesInMemory file limits job room before out end Full = Gave file limits job room out end Full
+AppliesInMemory file limits job room before out end BadCall = ((layout : Layout) → IsGood limits room job layout → ⊥) × Untouched before out end
 
 -- WHAT A CALLER HAS of a section, with so many bytes of room: what was told, as the memory and the numbers have it
-pub record IsApplied (file : List ℕ) (limits : Limits) (job : Job) (room status : ℕ) (before out : List ℕ) (end : End) : Type 0 where
+pub record IsApplied (file : List ℕ) (limits : CallerLimits) (job : Job) (room status : ℕ) (before out : List ℕ) (end : End) : Type 0 where
   pub told : Told
-  pub applies : Applies file limits job room before out end told
+  pub applies : AppliesInMemory file limits job room before out end told
   pub status_is : IsStatus status end told
   pub within : end.written ≤ length out

@@ -5,31 +5,31 @@ use Rattle.std.specs.Prelude.{ℕ, ◌≡◌, ◌≤◌, ◌/◌, ◌==◌, min,
 use Rattle.elf_headers.specs.Permitted.{AreHeaders, AreNameBytes}
 use Rattle.elf_headers.specs.declared.caps.Caps.{Caps}
 use Rattle.elf_headers.specs.declared.caps.Limits.{Limits as Permitted}
-use Rattle.elfsee_c.specs.declared.limits.Limits.{Limits}
+use Rattle.elfsee_c.specs.declared.limits.CallerLimits.{CallerLimits}
 
 -- the read budget, where there is one
-abbrev pub budget_of : Limits → Option ℕ
+abbrev pub budget_of : CallerLimits → Option ℕ
 budget_of limits = elim (limits.has_budget == 0) [ true ↦ None | false ↦ Some limits.budget ]
 
 -- how many headers are permitted: as many as the limits say, or as many as so many bytes of room hold, 64 bytes each
-abbrev pub headers_of : Limits → ℕ → ℕ
+abbrev pub headers_of : CallerLimits → ℕ → ℕ
 headers_of limits room = min limits.headers (room / 64)
 
 -- limits in their range, and room for a header
-abbrev pub AreLimits : Limits → ℕ → Type 0
-AreLimits limits room = AreHeaders limits.headers × (64 ≤ room)
+abbrev pub AreInRange : CallerLimits → ℕ → Type 0
+AreInRange limits room = AreHeaders limits.headers × (64 ≤ room)
 
 -- the same for a listing, which looks at the bytes of a name too
-abbrev pub AreCaps : Limits → ℕ → Type 0
-AreCaps limits room = AreLimits limits room × AreNameBytes limits.name
+abbrev pub AreCaps : CallerLimits → ℕ → Type 0
+AreCaps limits room = AreInRange limits room × AreNameBytes limits.name
 
 -- what limits and room permit is given where they are in their ranges, and not else
-abbrev pub GivesLimits : Limits → ℕ → Option Permitted → Type 0
-GivesLimits limits room None = AreLimits limits room → ⊥
-GivesLimits limits room (Some permitted) = AreLimits limits room × (permitted.headers ≡ headers_of limits room) × (permitted.budget ≡ budget_of limits)
+abbrev pub GivesLimits : CallerLimits → ℕ → Option Permitted → Type 0
+GivesLimits limits room None = AreInRange limits room → ⊥
+GivesLimits limits room (Some permitted) = AreInRange limits room × (permitted.headers ≡ headers_of limits room) × (permitted.budget ≡ budget_of limits)
 
 -- the same for a listing
-abbrev pub GivesCaps : Limits → ℕ → Option Caps → Type 0
+abbrev pub GivesCaps : CallerLimits → ℕ → Option Caps → Type 0
 GivesCaps limits room None = AreCaps limits room → ⊥
 GivesCaps limits room (Some caps) =
     AreCaps limits room × (caps.limits.headers ≡ headers_of limits room) × (caps.limits.budget ≡ budget_of limits)

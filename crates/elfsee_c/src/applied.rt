@@ -4,17 +4,17 @@ ghost use Rattle.elf_model.specs.ApplyCost.{apply_cost_by_order};
 ghost use Rattle.elfsee_c.specs.Applied.{AppliesIn};
 
 use crate::lent_sink::LentSink;
-use crate::listing::Outcome;
+use crate::listing::CallOutcome;
 use crate::told::told_from;
 use elf_apply::apply;
+use elf_headers::HeaderStore;
 use elf_layout::Layout;
 use elf_source::{Counted, MemorySource, Out};
-use elf_table::HeaderStore;
 
 /// A section that is to be written, the layout that it is written for, and how many bytes may be read,
 /// where that is limited.
 #[derive(Clone, Copy)]
-pub(crate) struct Wanted<'a> {
+pub(crate) struct WantedSection<'a> {
     pub(crate) section: u16,
     pub(crate) layout: &'a Layout,
     pub(crate) budget: Option<u64>,
@@ -24,9 +24,9 @@ pub(crate) struct Wanted<'a> {
 pub(crate) fn write_section(
     file: &[u8],
     store: &mut HeaderStore,
-    wanted: &Wanted<'_>,
+    wanted: &WantedSection<'_>,
     out: &mut [u8],
-    outcome: &mut Outcome,
+    outcome: &mut CallOutcome,
 ) -> usize
     ensures within { result ≤ length out.new }
     ensures text { AppliesIn file.now store.old.slots wanted.now out.new result outcome.new.told }
@@ -47,9 +47,9 @@ pub(crate) fn write_section(
 fn write_to_sink<'a>(
     file: &[u8],
     store: &mut HeaderStore,
-    wanted: &Wanted<'_>,
+    wanted: &WantedSection<'_>,
     out: &'a mut [u8],
-    outcome: &mut Outcome,
+    outcome: &mut CallOutcome,
 ) -> LentSink<'a>
     ensures same { result.buffer.ghost_name ≡ out.entry.ghost_name }
     ensures text { AppliesIn file.now store.old.slots wanted.now result.buffer.now result.len

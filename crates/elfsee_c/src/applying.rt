@@ -1,16 +1,16 @@
 //! The export that writes a section of a file in memory with its relocations applied.
 ghost use Rattle.std.specs.Prelude.{◌≡◌, ◌≤◌, length};
-ghost use Rattle.elfsee_c.specs.Applied.{Applies, IsApplied};
+ghost use Rattle.elfsee_c.specs.Applied.{AppliesInMemory, IsApplied};
 
-use crate::applied::{Wanted, write_section};
+use crate::applied::{WantedSection, write_section};
 use crate::counts::short;
 use crate::end::End;
-use crate::items::{Item, lay_out};
-use crate::limits::{Limits, limits_of};
-use crate::listing::Outcome;
+use crate::items::{CallerItem, lay_out};
+use crate::limits::{CallerLimits, limits_of};
+use crate::listing::CallOutcome;
 use crate::told::{Told, tell};
+use elf_headers::HeaderStore;
 use elf_layout::Layout;
-use elf_table::HeaderStore;
 
 /// The largest index of a section.
 const LAST_INDEX: u32 = 65_535;
@@ -20,7 +20,7 @@ const LAST_INDEX: u32 = 65_535;
 #[derive(Clone, Copy)]
 pub struct Job<'a> {
     /// The addresses: of at most 64 sections, 32 definitions and 32 entries of each kind, none twice.
-    pub items: &'a [Item<'a>],
+    pub items: &'a [CallerItem<'a>],
     /// The index of the section, up to 65,535.
     pub section: u32,
     /// It is not looked at.
@@ -36,7 +36,7 @@ pub struct Job<'a> {
 #[unsafe(no_mangle)]
 pub extern "C" fn elfsee_apply(
     file: &[u8],
-    limits: &Limits,
+    limits: &CallerLimits,
     job: &Job<'_>,
     room: &mut [u8],
     out: &mut [u8],
@@ -52,13 +52,13 @@ pub extern "C" fn elfsee_apply(
 /// Writes the section, and answers how that ended. The counts are written to `end`.
 fn apply_to(
     file: &[u8],
-    limits: &Limits,
+    limits: &CallerLimits,
     job: &Job<'_>,
     room: &mut [u8],
     out: &mut [u8],
     end: &mut End,
 ) -> Told
-    ensures applies { Applies file.now limits.now job.now (length room.old) out.old out.new
+    ensures applies { AppliesInMemory file.now limits.now job.now (length room.old) out.old out.new
         end.new result }
     ensures within { end.new.written ≤ length out.new }
     ensures clear { (end.new.cause ≡ 0) × (end.new.at ≡ 0) × (end.new.none ≡ 0) }
@@ -72,12 +72,12 @@ fn apply_to(
         return Told::BadCall;
     }
     let mut store = HeaderStore::over(room, limits.headers);
-    let wanted = Wanted {
+    let wanted = WantedSection {
         section: job.section as u16,
         layout: &layout,
         budget: limits.budget,
     };
-    let mut outcome = Outcome {
+    let mut outcome = CallOutcome {
         told: Told::BadCall,
         asked: 0,
     };

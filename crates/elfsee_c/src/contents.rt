@@ -4,7 +4,7 @@ ghost use Rattle.elfsee_c.specs.Ends.{TellsRead};
 
 use crate::end::End;
 use crate::tell::tell;
-use elf_rows::{Range, section_bytes};
+use elf_rows::{ByteRange, section_bytes};
 
 /// Tells where the bytes of a section lie in a file that lies in memory. No other section header is
 /// looked at (gABI 4, Section Header).
@@ -17,7 +17,7 @@ use elf_rows::{Range, section_bytes};
 pub extern "C" fn elfsee_section_bytes(
     file: &[u8],
     section: u16,
-    range: &mut Range,
+    range: &mut ByteRange,
     end: &mut End,
 ) -> u32
     ensures { TellsRead (ReadsSectionBytes file.now section) result range.old range.new end.new }

@@ -4,13 +4,13 @@ ghost use Rattle.elf_model.specs.Cost.{ceiling};
 ghost use Rattle.elfsee_c.specs.Costs.{IsCost};
 
 use crate::counts::short;
-use crate::limits::Limits;
+use crate::limits::CallerLimits;
 use elf_headers::Caps;
 
 /// How many bytes of a file of `file_len` bytes a listing asks for at most, whatever the bytes are:
 /// at most 2^64 - 1, and that where a limit is outside its range.
 #[unsafe(no_mangle)]
-pub extern "C" fn elfsee_cost(file_len: u64, limits: &Limits) -> u64
+pub extern "C" fn elfsee_cost(file_len: u64, limits: &CallerLimits) -> u64
     ensures { IsCost file_len limits.now result }
 {
     match Caps::new(limits.headers, limits.name) {

@@ -1,21 +1,21 @@
 //! The export that looks a name up in a file in memory.
 ghost use Rattle.std.specs.Prelude.{◌≡◌, ◌≤◌, IfSome, length};
 ghost use Rattle.elf_model.specs.Find.{find_cost};
-ghost use Rattle.elfsee_c.specs.Found.{IsFound, Looks, LooksIn, TellsLooked, nothing_behind};
+ghost use Rattle.elfsee_c.specs.Found.{HasLookup, CallLooks, LooksIn, TellsLooked, nothing_behind};
 ghost use Rattle.elfsee_c.specs.Ends.{TellsNone};
 ghost use Rattle.elfsee_c.specs.Limits.{budget_of, headers_of};
 
 use crate::counts::short;
 use crate::end::End;
-use crate::found::{Found, Looked};
-use crate::limits::{Limits, limits_of};
+use crate::found::{Looked, LookupNumbers};
+use crate::limits::{CallerLimits, limits_of};
 use elf_hash::{Lookup, find};
+use elf_headers::{Fault, HeaderStore};
 use elf_rows::Symbol;
 use elf_source::{Counted, MemorySource};
-use elf_table::{Fault, HeaderStore};
 
 /// The most bytes of a name that is looked up.
-const NAME_BYTES: usize = 4_096;
+const WANTED_NAME_BYTES: usize = 4_096;
 
 /// Looks a name up by the hash table of a file that lies in memory. The name has no NUL at its end.
 /// `room` is where the file's headers lie meanwhile.
@@ -26,13 +26,13 @@ const NAME_BYTES: usize = 4_096;
 #[unsafe(no_mangle)]
 pub extern "C" fn elfsee_find(
     file: &[u8],
-    limits: &Limits,
+    limits: &CallerLimits,
     room: &mut [u8],
     name: &[u8],
-    found: &mut Found,
+    found: &mut LookupNumbers,
     end: &mut End,
 ) -> u32
-    ensures { IsFound file.now limits.now (length room.old) name.now result found.new end.new }
+    ensures { HasLookup file.now limits.now (length room.old) name.now result found.new end.new }
 {
     end.clear();
     found.clear();
@@ -41,9 +41,15 @@ pub extern "C" fn elfsee_find(
 }
 
 /// Looks the name up. The count of bytes that were asked for is written to `end`.
-fn look_up(file: &[u8], limits: &Limits, room: &mut [u8], name: &[u8], end: &mut End) -> Looked
+fn look_up(
+    file: &[u8],
+    limits: &CallerLimits,
+    room: &mut [u8],
+    name: &[u8],
+    end: &mut End,
+) -> Looked
     requires { end.old.asked ≡ 0 }
-    ensures looks { Looks file.now limits.now (length room.old) name.now end.new.asked result }
+    ensures looks { CallLooks file.now limits.now (length room.old) name.now end.new.asked result }
     ensures cost { end.new.asked ≤ find_cost file.now (headers_of limits.now (length room.old))
         name.now }
     ensures budget { IfSome (budget_of limits.now) (λ bytes. end.new.asked ≤ bytes) }
@@ -54,7 +60,7 @@ fn look_up(file: &[u8], limits: &Limits, room: &mut [u8], name: &[u8], end: &mut
     let Some(limits) = limits_of(limits, room.len()) else {
         return Looked::BadCall;
     };
-    if name.len() > NAME_BYTES {
+    if name.len() > WANTED_NAME_BYTES {
         return Looked::BadCall;
     }
     let mut store = HeaderStore::over(room, limits.headers);
@@ -87,7 +93,7 @@ fn look_in(
 }
 
 /// Tells what was found as numbers, and answers the status.
-fn tell_found(looked: &Looked, found: &mut Found, end: &mut End) -> u32
+fn tell_found(looked: &Looked, found: &mut LookupNumbers, end: &mut End) -> u32
     requires nothing { found.old ≡ nothing_behind 0 }
     requires none { TellsNone end.old }
     ensures tells { TellsLooked result found.new end.new looked.now }

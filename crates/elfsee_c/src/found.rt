@@ -9,7 +9,7 @@ use elf_rows::Symbol;
 /// What a lookup found; all 0 where it found nothing, but for the steps.
 #[repr(C)]
 #[derive(Clone, Copy)]
-pub struct Found {
+pub struct LookupNumbers {
     /// The symbol.
     pub symbol: Symbol,
     /// Its index in its section.
@@ -24,12 +24,12 @@ pub struct Found {
     pub none_behind: u32,
 }
 
-impl Found {
+impl LookupNumbers {
     /// Nothing was found, and no name compared.
     pub(crate) fn clear(&mut self)
         ensures { self.new ≡ nothing_behind 0 }
     {
-        *self = Found {
+        *self = LookupNumbers {
             symbol: Symbol {
                 value: 0,
                 size: 0,

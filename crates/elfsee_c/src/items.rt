@@ -2,7 +2,7 @@
 ghost use Rattle.std.specs.Prelude.{MatchBool};
 ghost use Rattle.elf_layout.specs.Layouts.{IsName};
 ghost use Rattle.elf_model.specs.Placing.{Layout as Placed};
-ghost use Rattle.elfsee_c.specs.Items.{Gives, LaysOut, Puts};
+ghost use Rattle.elfsee_c.specs.Items.{GivesItem, LaysOut, LaysItem};
 
 use elf_layout::Layout;
 
@@ -18,14 +18,14 @@ const TABLE: u32 = 3;
 const THREAD: u32 = 4;
 
 /// The most bytes of a name.
-const NAME_BYTES: usize = 255;
+const ITEM_NAME_BYTES: usize = 255;
 /// The largest index of a section.
 const LAST_INDEX: u32 = 65_535;
 
 /// An address that a layout gives, as a caller says it.
 #[repr(C)]
 #[derive(Clone, Copy)]
-pub struct Item<'a> {
+pub struct CallerItem<'a> {
     /// The address.
     pub address: u64,
     /// The name of the symbol, 1 to 255 bytes without a NUL. Of a section it is not looked at.
@@ -39,7 +39,7 @@ pub struct Item<'a> {
 }
 
 /// Lays out items, from the first to the last, and no other items; whether they can be laid out.
-pub(crate) fn lay_out(items: &[Item<'_>], layout: &mut Layout) -> bool
+pub(crate) fn lay_out(items: &[CallerItem<'_>], layout: &mut Layout) -> bool
     ensures { LaysOut items.now layout.new result }
 {
     *layout = Layout::new();
@@ -54,9 +54,9 @@ pub(crate) fn lay_out(items: &[Item<'_>], layout: &mut Layout) -> bool
 }
 
 /// Puts an item into a layout, behind those of its sort; whether it can be put there.
-fn put(item: &Item<'_>, layout: &mut Layout) -> bool
-    ensures { MatchBool result (Puts item.now layout.old layout.new)
-        ((new : Placed) → Puts item.now layout.old new → ⊥) }
+fn put(item: &CallerItem<'_>, layout: &mut Layout) -> bool
+    ensures { MatchBool result (LaysItem item.now layout.old layout.new)
+        ((new : Placed) → LaysItem item.now layout.old new → ⊥) }
 {
     match item_of(item) {
         Some(item) => layout.push(item).is_ok(),
@@ -65,8 +65,8 @@ fn put(item: &Item<'_>, layout: &mut Layout) -> bool
 }
 
 /// The item as a layout has it; None where its kind, its index or its name is none that it may have.
-fn item_of<'a>(item: &Item<'a>) -> Option<elf_layout::Item<'a>>
-    ensures { Gives item.now result }
+fn item_of<'a>(item: &CallerItem<'a>) -> Option<elf_layout::Item<'a>>
+    ensures { GivesItem item.now result }
 {
     let address = item.address;
     let name = item.name;
@@ -92,5 +92,5 @@ fn item_of<'a>(item: &Item<'a>) -> Option<elf_layout::Item<'a>>
 fn is_name(name: &[u8]) -> bool
     ensures { MatchBool result (IsName name.now) (IsName name.now → ⊥) }
 {
-    !name.is_empty() && name.len() <= NAME_BYTES && !name.contains(&0)
+    !name.is_empty() && name.len() <= ITEM_NAME_BYTES && !name.contains(&0)
 }

@@ -2,7 +2,7 @@
 ghost use Rattle.elfsee_c.specs.Limits.{GivesCaps, GivesLimits, budget_of};
 ghost use Rattle.std.specs.Prelude.{◌≡◌};
 
-use elf_table::{Cap, Caps, Style};
+use elf_headers::{Cap, Caps, Style};
 
 /// How many bytes of room a header takes.
 const HEADER_BYTES: usize = 64;
@@ -10,7 +10,7 @@ const HEADER_BYTES: usize = 64;
 /// How much may be read and shown, as a caller says it.
 #[repr(C)]
 #[derive(Clone, Copy)]
-pub struct Limits {
+pub struct CallerLimits {
     /// How many section headers, and as many program headers, are permitted: 1 to 65,279.
     pub headers: u16,
     /// How many bytes of a name a listing shows: 1 to 4,096. Other calls do not look at it.
@@ -22,7 +22,7 @@ pub struct Limits {
 }
 
 /// The read budget, where there is one.
-fn budget_of(limits: &Limits) -> Option<u64>
+fn budget_of(limits: &CallerLimits) -> Option<u64>
     ensures { result ≡ budget_of limits.now }
 {
     if limits.has_budget == 0 {
@@ -34,16 +34,16 @@ fn budget_of(limits: &Limits) -> Option<u64>
 
 /// What the limits permit with so many bytes of room: no more headers than the room holds. None where
 /// the number of headers is not permitted, or the room holds no header.
-pub(crate) fn limits_of(limits: &Limits, room: usize) -> Option<elf_table::Limits>
+pub(crate) fn limits_of(limits: &CallerLimits, room: usize) -> Option<elf_headers::Limits>
     ensures { GivesLimits limits.now room result }
 {
-    let given = elf_table::Limits::new(limits.headers, budget_of(limits))?;
+    let given = elf_headers::Limits::new(limits.headers, budget_of(limits))?;
     let headers = usize::from(given.headers).min(room / HEADER_BYTES);
-    elf_table::Limits::new(headers as u16, given.budget)
+    elf_headers::Limits::new(headers as u16, given.budget)
 }
 
 /// The same for a listing; None also where so many bytes of a name are not permitted.
-pub(crate) fn caps_of(limits: &Limits, room: usize) -> Option<Caps>
+pub(crate) fn caps_of(limits: &CallerLimits, room: usize) -> Option<Caps>
     ensures { GivesCaps limits.now room result }
 {
     let style = Style::standard(Cap::new(limits.name)?);

@@ -2,18 +2,18 @@
 ghost use Rattle.std.specs.Prelude.{◌≡◌, ◌≤◌, IfSome, length};
 ghost use Rattle.elf_model.specs.Cost.{listing_cost};
 ghost use Rattle.elf_headers.specs.Permitted.{style_of};
-ghost use Rattle.elfsee_c.specs.Shown.{Lists};
+ghost use Rattle.elfsee_c.specs.Shown.{ListsInMemory};
 
 use crate::lent_sink::LentSink;
 use crate::told::{Told, told_from};
+use elf_headers::{Caps, HeaderStore};
 use elf_listing::show;
 use elf_record::Parts;
 use elf_source::{Counted, MemorySource, Out};
-use elf_table::{Caps, HeaderStore};
 
 /// What a call that writes to memory did, and how many bytes of the file it asked for.
 #[derive(Clone, Copy)]
-pub(crate) struct Outcome {
+pub(crate) struct CallOutcome {
     pub(crate) told: Told,
     pub(crate) asked: u128,
 }
@@ -26,11 +26,11 @@ pub(crate) fn list(
     caps: Caps,
     parts: Parts,
     out: &mut [u8],
-    outcome: &mut Outcome,
+    outcome: &mut CallOutcome,
 ) -> usize
     requires { store.old.slots ≡ caps.limits.headers }
     ensures within { result ≤ length out.new }
-    ensures text { Lists file.now caps parts.0 out.new result outcome.new.told }
+    ensures text { ListsInMemory file.now caps parts.0 out.new result outcome.new.told }
     ensures cost { outcome.new.asked
         ≤ listing_cost file.now caps.limits.headers (style_of caps.style) parts.0 }
     ensures budget { IfSome caps.limits.budget (λ bytes. outcome.new.asked ≤ bytes) }
@@ -51,11 +51,12 @@ fn list_to_sink<'a>(
     caps: Caps,
     parts: Parts,
     out: &'a mut [u8],
-    outcome: &mut Outcome,
+    outcome: &mut CallOutcome,
 ) -> LentSink<'a>
     requires { store.old.slots ≡ caps.limits.headers }
     ensures same { result.buffer.ghost_name ≡ out.entry.ghost_name }
-    ensures text { Lists file.now caps parts.0 result.buffer.now result.len outcome.new.told }
+    ensures text { ListsInMemory file.now caps parts.0 result.buffer.now result.len
+        outcome.new.told }
     ensures cost { outcome.new.asked
         ≤ listing_cost file.now caps.limits.headers (style_of caps.style) parts.0 }
     ensures budget { IfSome caps.limits.budget (λ bytes. outcome.new.asked ≤ bytes) }

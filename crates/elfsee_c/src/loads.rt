@@ -5,7 +5,7 @@ ghost use Rattle.elfsee_c.specs.Ends.{TellsRead};
 
 use crate::end::End;
 use crate::tell::tell;
-use elf_rows::{Range, Rows, find_mapped, segment_dynamic};
+use elf_rows::{ByteRange, RowsLeft, find_mapped, segment_dynamic};
 
 /// Checks the dynamic entries of a segment, and sets `rows` before the first: as many as up to and
 /// with the first DT_NULL, without a string table (gABI 5, Dynamic Section).
@@ -17,7 +17,7 @@ use elf_rows::{Range, Rows, find_mapped, segment_dynamic};
 pub extern "C" fn elfsee_segment_dynamic(
     file: &[u8],
     segment: u16,
-    rows: &mut Rows,
+    rows: &mut RowsLeft,
     end: &mut End,
 ) -> u32
     ensures { TellsRead (ReadsSegmentDynamic file.now segment) result rows.old rows.new end.new }
@@ -36,7 +36,7 @@ pub extern "C" fn elfsee_mapped(
     file: &[u8],
     address: u64,
     size: u64,
-    range: &mut Range,
+    range: &mut ByteRange,
     end: &mut End,
 ) -> u32
     ensures { TellsRead (ReadsMapped file.now address size) result range.old range.new end.new }

@@ -4,14 +4,14 @@ ghost use Rattle.elfsee_c.specs.Ends.{TellsRead};
 
 use crate::end::End;
 use crate::tell::tell;
-use elf_archive::{MemberRow, Members, next_member, open_members};
+use elf_archive::{MemberRow, MembersLeft, next_member, open_members};
 
 /// Checks that a file that lies in memory is an archive, and sets `members` before its first member.
 ///
 /// Answers 0 where it is, and 1 where it is none, with the first check that fails in `end`: `Short`,
 /// `Thin` or `NotArchive`, at offset 0.
 #[unsafe(no_mangle)]
-pub extern "C" fn elfsee_members(file: &[u8], members: &mut Members, end: &mut End) -> u32
+pub extern "C" fn elfsee_members(file: &[u8], members: &mut MembersLeft, end: &mut End) -> u32
     ensures { TellsRead (OpensMembers file.now) result members.old members.new end.new }
 {
     tell(open_members(file), members, end)
@@ -25,7 +25,7 @@ pub extern "C" fn elfsee_members(file: &[u8], members: &mut Members, end: &mut E
 #[unsafe(no_mangle)]
 pub extern "C" fn elfsee_next_member(
     file: &[u8],
-    members: &mut Members,
+    members: &mut MembersLeft,
     member: &mut MemberRow,
     end: &mut End,
 ) -> u32

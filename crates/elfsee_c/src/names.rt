@@ -5,12 +5,12 @@ ghost use Rattle.elfsee_c.specs.Ends.{TellsRead};
 ghost use Rattle.elfsee_c.specs.Openings.{OpensNames, TellsOpened};
 
 use crate::end::End;
-use crate::limits::{Limits, limits_of};
+use crate::limits::{CallerLimits, limits_of};
 use crate::opening::tell_opened;
 use crate::tell::tell;
+use elf_headers::HeaderStore;
 use elf_record::Refusal;
-use elf_rows::{Range, find_name, names_in};
-use elf_table::HeaderStore;
+use elf_rows::{ByteRange, find_name, names_in};
 
 /// Finds where the name at an offset in a string table lies, without its NUL. The string table is
 /// the bytes of `strings`, as far as they lie within the file (gABI 4, String Table).
@@ -21,9 +21,9 @@ use elf_table::HeaderStore;
 #[unsafe(no_mangle)]
 pub extern "C" fn elfsee_name(
     file: &[u8],
-    strings: &Range,
+    strings: &ByteRange,
     offset: u64,
-    name: &mut Range,
+    name: &mut ByteRange,
     end: &mut End,
 ) -> u32
     ensures { TellsRead (FindsName file.now strings.now offset) result name.old name.new end.new }
@@ -40,9 +40,9 @@ pub extern "C" fn elfsee_name(
 #[unsafe(no_mangle)]
 pub extern "C" fn elfsee_section_names(
     file: &[u8],
-    limits: &Limits,
+    limits: &CallerLimits,
     room: &mut [u8],
-    strings: &mut Range,
+    strings: &mut ByteRange,
     end: &mut End,
 ) -> u32
     ensures { TellsOpened (OpensNames file.now limits.now (length room.old))
@@ -54,9 +54,9 @@ pub extern "C" fn elfsee_section_names(
 /// Loads the file and tells where they lie; None for a call with a number outside its range.
 fn open_names(
     file: &[u8],
-    limits: &Limits,
+    limits: &CallerLimits,
     room: &mut [u8],
-) -> Option<Result<Option<Range>, Refusal>>
+) -> Option<Result<Option<ByteRange>, Refusal>>
     ensures { OpensNames file.now limits.now (length room.old) result }
 {
     let limits = limits_of(limits, room.len())?;

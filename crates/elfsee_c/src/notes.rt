@@ -1,10 +1,10 @@
 //! The exports that go over the notes of a file in memory.
-ghost use Rattle.elf_rows.specs.NoteRows.{ReadsSectionNotes, ReadsSegmentNotes, StepsNote};
+ghost use Rattle.elf_rows.specs.NoteRows.{ReadsSectionNotes, ReadsSegmentNotes, TakesNote};
 ghost use Rattle.elfsee_c.specs.Ends.{TellsRead};
 
 use crate::end::End;
 use crate::tell::tell;
-use elf_rows::{Note, Notes, next_note, section_notes, segment_notes};
+use elf_rows::{Note, NotesLeft, next_note, section_notes, segment_notes};
 
 /// Checks that the notes of a section lie within the file, and sets `notes` before the first. No
 /// other section header is looked at (gABI 5, Note Section).
@@ -13,7 +13,12 @@ use elf_rows::{Note, Notes, next_note, section_notes, segment_notes};
 /// where a check fails that a listing makes before it reads the headers, as many of them permitted
 /// as can be, or where the section ends past the end of the file; the first that fails is in `end`.
 #[unsafe(no_mangle)]
-pub extern "C" fn elfsee_notes(file: &[u8], section: u16, notes: &mut Notes, end: &mut End) -> u32
+pub extern "C" fn elfsee_notes(
+    file: &[u8],
+    section: u16,
+    notes: &mut NotesLeft,
+    end: &mut End,
+) -> u32
     ensures { TellsRead (ReadsSectionNotes file.now section) result notes.old notes.new end.new }
 {
     tell(section_notes(file, section), notes, end)
@@ -25,7 +30,7 @@ pub extern "C" fn elfsee_notes(file: &[u8], section: u16, notes: &mut Notes, end
 pub extern "C" fn elfsee_segment_notes(
     file: &[u8],
     segment: u16,
-    notes: &mut Notes,
+    notes: &mut NotesLeft,
     end: &mut End,
 ) -> u32
     ensures { TellsRead (ReadsSegmentNotes file.now segment) result notes.old notes.new end.new }
@@ -40,11 +45,11 @@ pub extern "C" fn elfsee_segment_notes(
 #[unsafe(no_mangle)]
 pub extern "C" fn elfsee_next_note(
     file: &[u8],
-    notes: &mut Notes,
+    notes: &mut NotesLeft,
     note: &mut Note,
     end: &mut End,
 ) -> u32
-    ensures { TellsRead (StepsNote file.now notes.old notes.new) result note.old note.new end.new }
+    ensures { TellsRead (TakesNote file.now notes.old notes.new) result note.old note.new end.new }
 {
     tell(next_note(file, notes), note, end)
 }

@@ -1,5 +1,5 @@
 //! What opening a table of a file in memory answers.
-ghost use Rattle.elfsee_c.specs.Openings.{IsOpened};
+ghost use Rattle.elfsee_c.specs.Openings.{IsOpenedTable};
 
 use crate::end::End;
 use crate::tell::tell;
@@ -15,7 +15,7 @@ pub(crate) fn tell_opened<T: Copy>(
     place: &mut T,
     end: &mut End,
 ) -> u32
-    ensures { IsOpened result place.old place.new end.new opened }
+    ensures { IsOpenedTable result place.old place.new end.new opened }
 {
     match opened {
         Some(read) => tell(read, place, end),

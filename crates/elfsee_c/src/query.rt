@@ -3,7 +3,7 @@ ghost use Rattle.std.specs.Prelude.{◌≡◌, ◌≤◌, IfSome, MatchBool, len
 ghost use Rattle.elf_loader.specs.Lookups.{AreShort};
 ghost use Rattle.elf_model.specs.Loader.{asked_name};
 ghost use Rattle.elf_wanted.specs.Wants.{asked_of, the_wanted};
-ghost use Rattle.elfsee_c.specs.Queries.{IsPermitted, asked_version, asks_of, by_segments, wanted_by};
+ghost use Rattle.elfsee_c.specs.Queries.{IsPermitted, asked_version, asks_of, goes_by_segments, wanted_by};
 
 use elf_wanted::{Asked, Wanted};
 
@@ -38,7 +38,7 @@ impl<'a> Query<'a> {
 
     /// Whether it is looked up by the program headers.
     pub(crate) fn by_segments(&self) -> bool
-        ensures { result ≡ by_segments self.now.flags }
+        ensures { result ≡ goes_by_segments self.now.flags }
     {
         self.flags % 2 == BY_SEGMENTS
     }

@@ -1,10 +1,10 @@
 //! What a loader's lookup answers, as C sees it.
 ghost use Rattle.std.specs.Prelude.{◌≡◌, Some};
-ghost use Rattle.elfsee_c.specs.Resolved.{HasSymbol, SameSymbol, TellsVersion, nothing_tried};
+ghost use Rattle.elfsee_c.specs.Resolved.{HasSymbol, SameSymbol, TellsFoundVersion, nothing_resolved};
 
-use elf_loader::{FoundSymbol, FoundVersion, Lookup, VersionName};
+use elf_loader::{FoundSymbol, FoundVersion, SymbolLookup, VersionName};
 use elf_record::Refusal;
-use elf_rows::{Range, Symbol};
+use elf_rows::{ByteRange, Symbol};
 use elf_table::NameEnd;
 
 /// What a loader's lookup found; all 0 where it found nothing, but for the symbols that were tried.
@@ -19,7 +19,7 @@ pub struct Resolved {
     pub tried: u64,
     /// Where the name of its version lies in the file, or the first 256 bytes of it; no bytes where a
     /// version was asked for, where it has no name and where there are no versions.
-    pub version: Range,
+    pub version: ByteRange,
     /// 1 where the file has versions of symbols, else 0.
     pub has_version: u32,
     /// 1 where a name alone does not take the version, else 0.
@@ -41,7 +41,7 @@ pub struct Resolved {
 impl Resolved {
     /// Nothing was found, and no symbol tried.
     pub(crate) fn clear(&mut self)
-        ensures { self.new ≡ nothing_tried 0 }
+        ensures { self.new ≡ nothing_resolved 0 }
     {
         *self = Resolved {
             symbol: Symbol {
@@ -54,7 +54,7 @@ impl Resolved {
             },
             index: 0,
             tried: 0,
-            version: Range { at: 0, len: 0 },
+            version: ByteRange { at: 0, len: 0 },
             has_version: 0,
             is_hidden: 0,
             is_cut: 0,
@@ -68,9 +68,9 @@ impl Resolved {
 
     /// Tells of a symbol; of the name of its version `told` bytes are held.
     pub(crate) fn tell(&mut self, found: &FoundSymbol, told: u64)
-        requires { self.old ≡ nothing_tried 0 }
+        requires { self.old ≡ nothing_resolved 0 }
         ensures symbol { HasSymbol self.new found.now }
-        ensures version { TellsVersion self.new told found.now.version }
+        ensures version { TellsFoundVersion self.new told found.now.version }
     {
         self.symbol = Symbol::of(&found.symbol);
         self.index = found.index;
@@ -84,7 +84,7 @@ impl Resolved {
     /// Tells of a version.
     fn tell_version(&mut self, version: &FoundVersion, told: u64)
         requires none { (self.old.version ≡ record { at = 0; len = 0 }) × (self.old.is_cut ≡ 0) }
-        ensures version { TellsVersion self.new told (Some version.now) }
+        ensures version { TellsFoundVersion self.new told (Some version.now) }
         ensures others { SameSymbol self.old self.new }
     {
         let number = version.word % (1 << 15);
@@ -93,7 +93,7 @@ impl Resolved {
         self.words = version.index;
         self.number = number;
         if let VersionName::Told(end) = version.name {
-            self.version = Range {
+            self.version = ByteRange {
                 at: version.name_at,
                 len: told,
             };
@@ -106,7 +106,7 @@ impl Resolved {
 #[derive(Clone, Copy)]
 pub enum Resolution {
     /// A symbol was found, or none answers.
-    Answered(Lookup),
+    Answered(SymbolLookup),
     /// The file is refused, or the read budget is used up.
     Refused(Refusal),
     /// The limits, the room, the flags or the length of a name are outside their ranges.

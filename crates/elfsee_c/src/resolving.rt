@@ -4,16 +4,17 @@ ghost use Rattle.elf_model.specs.LoaderFind.{loader_cost};
 ghost use Rattle.elfsee_c.specs.Ends.{TellsNone};
 ghost use Rattle.elfsee_c.specs.Limits.{budget_of, headers_of};
 ghost use Rattle.elfsee_c.specs.Queries.{IsPermitted, asks_of, wanted_by};
-ghost use Rattle.elfsee_c.specs.Resolved.{IsResolved, Resolves, ResolvesIn, TellsResolved, file_of, nothing_tried};
+ghost use Rattle.elfsee_c.specs.Resolved.{IsResolved, Resolves, ResolvesIn, TellsResolved, file_of, nothing_resolved};
 
 use crate::counts::short;
 use crate::end::End;
-use crate::limits::{Limits, limits_of};
+use crate::limits::{CallerLimits, limits_of};
 use crate::query::Query;
 use crate::resolved::{Resolution, Resolved};
-use elf_loader::{Lookup, look_up};
+use elf_headers::{Fault, HeaderStore};
+use elf_loader::{SymbolLookup, look_up};
 use elf_source::{Counted, MemorySource};
-use elf_table::{Fault, HeaderStore, NameBuf};
+use elf_table::NameBuf;
 
 /// Looks a name up in a file that lies in memory, alone or with a version, as a loader of the GNU
 /// system does (gABI 5, Dynamic Linking; Linux Standard Base Core, Symbol Versioning): by the
@@ -29,7 +30,7 @@ use elf_table::{Fault, HeaderStore, NameBuf};
 #[unsafe(no_mangle)]
 pub extern "C" fn elfsee_look_up(
     file: &[u8],
-    limits: &Limits,
+    limits: &CallerLimits,
     flags: u32,
     name: &[u8],
     version: &[u8],
@@ -57,7 +58,7 @@ pub extern "C" fn elfsee_look_up(
 /// were asked for is written to `end`.
 fn resolve(
     file: &[u8],
-    limits: &Limits,
+    limits: &CallerLimits,
     query: &Query<'_>,
     room: &mut [u8],
     told: &mut NameBuf,
@@ -115,7 +116,7 @@ fn resolve_in(
 /// Tells what was found as numbers, and answers the status. Of the name of a version `told` bytes
 /// are held.
 fn tell_resolved(resolution: &Resolution, told: u64, resolved: &mut Resolved, end: &mut End) -> u32
-    requires nothing { resolved.old ≡ nothing_tried 0 }
+    requires nothing { resolved.old ≡ nothing_resolved 0 }
     requires none { TellsNone end.old }
     ensures tells { TellsResolved result resolved.new end.new told resolution.now }
     ensures written { end.new.written ≡ end.old.written }
@@ -123,11 +124,11 @@ fn tell_resolved(resolution: &Resolution, told: u64, resolved: &mut Resolved, en
     ensures none { end.new.none ≡ end.old.none }
 {
     match resolution {
-        Resolution::Answered(Lookup::Found(found)) => {
+        Resolution::Answered(SymbolLookup::Found(found)) => {
             resolved.tell(found, told);
             0
         }
-        Resolution::Answered(Lookup::Absent { tried }) => {
+        Resolution::Answered(SymbolLookup::Absent { tried }) => {
             resolved.tried = *tried;
             2
         }

@@ -2,15 +2,15 @@
 ghost use Rattle.std.specs.Prelude.{◌≡◌, ◌≤◌, IfSome, length};
 ghost use Rattle.elf_model.specs.Cost.{cost};
 ghost use Rattle.elfsee_c.specs.Limits.{budget_of, headers_of};
-ghost use Rattle.elfsee_c.specs.Shown.{IsShown, Shows};
+ghost use Rattle.elfsee_c.specs.Shown.{HasListing, ShowsInMemory};
 
 use crate::counts::short;
 use crate::end::End;
-use crate::limits::{Limits, caps_of};
-use crate::listing::{Outcome, list};
+use crate::limits::{CallerLimits, caps_of};
+use crate::listing::{CallOutcome, list};
 use crate::told::{Told, tell};
+use elf_headers::HeaderStore;
 use elf_record::Parts;
-use elf_table::HeaderStore;
 
 /// Lists a file that lies in memory into memory of the caller, as far as `parts` has it. `room` is
 /// where the file's headers lie meanwhile.
@@ -20,13 +20,14 @@ use elf_table::HeaderStore;
 #[unsafe(no_mangle)]
 pub extern "C" fn elfsee_show(
     file: &[u8],
-    limits: &Limits,
+    limits: &CallerLimits,
     parts: u16,
     room: &mut [u8],
     out: &mut [u8],
     end: &mut End,
 ) -> u32
-    ensures { IsShown file.now limits.now (length room.old) parts result out.old out.new end.new }
+    ensures { HasListing file.now limits.now
+        (length room.old) parts result out.old out.new end.new }
 {
     let told = show_to(file, limits, Parts(parts), room, out, end);
     tell(told, end)
@@ -35,13 +36,14 @@ pub extern "C" fn elfsee_show(
 /// Lists the file, and answers how that ended. The counts are written to `end`.
 fn show_to(
     file: &[u8],
-    limits: &Limits,
+    limits: &CallerLimits,
     parts: Parts,
     room: &mut [u8],
     out: &mut [u8],
     end: &mut End,
 ) -> Told
-    ensures shows { Shows file.now limits.now (length room.old) parts.0 out.old out.new end.new
+    ensures shows { ShowsInMemory file.now limits.now
+        (length room.old) parts.0 out.old out.new end.new
         result }
     ensures within { end.new.written ≤ length out.new }
     ensures cost { end.new.asked ≤ cost file.now (headers_of limits.now (length room.old))
@@ -54,7 +56,7 @@ fn show_to(
         return Told::BadCall;
     };
     let mut store = HeaderStore::over(room, caps.headers());
-    let mut outcome = Outcome {
+    let mut outcome = CallOutcome {
         told: Told::BadCall,
         asked: 0,
     };

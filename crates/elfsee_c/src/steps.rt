@@ -7,12 +7,14 @@ ghost use Rattle.elf_rows.specs.declared.dynamic.Dynamic.{Dynamic as OneDynamic}
 ghost use Rattle.elf_rows.specs.declared.relocations.Relocation.{Relocation as OneRelocation};
 ghost use Rattle.elf_rows.specs.declared.symbol.Symbol.{Symbol as OneSymbol};
 
-use elf_rows::{Dynamic, Relocation, Rows, Symbol, next_dynamic, next_relocations, next_symbols};
+use elf_rows::{
+    Dynamic, Relocation, RowsLeft, Symbol, next_dynamic, next_relocations, next_symbols,
+};
 
 /// Reads the next symbols to the front of `out`, as many as there are and as it has room for, steps
 /// over them, and answers how many (gABI 4, Symbol Table).
 #[unsafe(no_mangle)]
-pub extern "C" fn elfsee_next_symbols(file: &[u8], rows: &mut Rows, out: &mut [Symbol]) -> usize
+pub extern "C" fn elfsee_next_symbols(file: &[u8], rows: &mut RowsLeft, out: &mut [Symbol]) -> usize
     ensures steps { StepsRows (length file.now) 24 rows.old rows.new (length out.old) result }
     ensures read { (k : ℕ) (none : OneSymbol) → k < result →
         IsSymbol file.now (next_at rows.old 24 k) (slice_index_or out.new k none) }
@@ -24,7 +26,7 @@ pub extern "C" fn elfsee_next_symbols(file: &[u8], rows: &mut Rows, out: &mut [S
 #[unsafe(no_mangle)]
 pub extern "C" fn elfsee_next_relocations(
     file: &[u8],
-    rows: &mut Rows,
+    rows: &mut RowsLeft,
     out: &mut [Relocation],
 ) -> usize
     ensures steps { StepsRows (length file.now) 24 rows.old rows.new (length out.old) result }
@@ -36,7 +38,11 @@ pub extern "C" fn elfsee_next_relocations(
 
 /// Reads the next dynamic entries, as [`elfsee_next_symbols`] does symbols (gABI 5, Dynamic Section).
 #[unsafe(no_mangle)]
-pub extern "C" fn elfsee_next_dynamic(file: &[u8], rows: &mut Rows, out: &mut [Dynamic]) -> usize
+pub extern "C" fn elfsee_next_dynamic(
+    file: &[u8],
+    rows: &mut RowsLeft,
+    out: &mut [Dynamic],
+) -> usize
     ensures steps { StepsRows (length file.now) 16 rows.old rows.new (length out.old) result }
     ensures read { (k : ℕ) (none : OneDynamic) → k < result →
         IsDynamic file.now (next_at rows.old 16 k) (slice_index_or out.new k none) }

@@ -1,14 +1,14 @@
 //! The exports that open the rows of a section of a file in memory.
 ghost use Rattle.std.specs.Prelude.{length};
-ghost use Rattle.elf_rows.specs.declared.kind.Kind.TheVariants.{Symbols, Relocations, Dynamic};
+ghost use Rattle.elf_rows.specs.declared.kind.RowKind.TheVariants.{Symbols, Relocations, Dynamic};
 ghost use Rattle.elfsee_c.specs.Openings.{OpensRows, TellsOpened};
 
 use crate::end::End;
-use crate::limits::{Limits, limits_of};
+use crate::limits::{CallerLimits, limits_of};
 use crate::opening::tell_opened;
+use elf_headers::HeaderStore;
 use elf_record::Refusal;
-use elf_rows::{Kind, Rows, rows_in};
-use elf_table::HeaderStore;
+use elf_rows::{RowKind, RowsLeft, rows_in};
 
 /// Checks the table of symbols that a section of a file is, and sets `rows` before its first. The
 /// room is for the headers; of the limits their number is looked at alone (gABI 4, Symbol Table).
@@ -19,17 +19,17 @@ use elf_table::HeaderStore;
 #[unsafe(no_mangle)]
 pub extern "C" fn elfsee_symbols(
     file: &[u8],
-    limits: &Limits,
+    limits: &CallerLimits,
     section: u16,
     room: &mut [u8],
-    rows: &mut Rows,
+    rows: &mut RowsLeft,
     end: &mut End,
 ) -> u32
     ensures { TellsOpened (OpensRows Symbols file.now limits.now (length room.old) section)
         result rows.old rows.new end.new }
 {
     tell_opened(
-        open_rows(file, limits, section, room, Kind::Symbols),
+        open_rows(file, limits, section, room, RowKind::Symbols),
         rows,
         end,
     )
@@ -41,17 +41,17 @@ pub extern "C" fn elfsee_symbols(
 #[unsafe(no_mangle)]
 pub extern "C" fn elfsee_relocations(
     file: &[u8],
-    limits: &Limits,
+    limits: &CallerLimits,
     section: u16,
     room: &mut [u8],
-    rows: &mut Rows,
+    rows: &mut RowsLeft,
     end: &mut End,
 ) -> u32
     ensures { TellsOpened (OpensRows Relocations file.now limits.now (length room.old) section)
         result rows.old rows.new end.new }
 {
     tell_opened(
-        open_rows(file, limits, section, room, Kind::Relocations),
+        open_rows(file, limits, section, room, RowKind::Relocations),
         rows,
         end,
     )
@@ -63,17 +63,17 @@ pub extern "C" fn elfsee_relocations(
 #[unsafe(no_mangle)]
 pub extern "C" fn elfsee_dynamic(
     file: &[u8],
-    limits: &Limits,
+    limits: &CallerLimits,
     section: u16,
     room: &mut [u8],
-    rows: &mut Rows,
+    rows: &mut RowsLeft,
     end: &mut End,
 ) -> u32
     ensures { TellsOpened (OpensRows Dynamic file.now limits.now (length room.old) section)
         result rows.old rows.new end.new }
 {
     tell_opened(
-        open_rows(file, limits, section, room, Kind::Dynamic),
+        open_rows(file, limits, section, room, RowKind::Dynamic),
         rows,
         end,
     )
@@ -82,11 +82,11 @@ pub extern "C" fn elfsee_dynamic(
 /// Loads the file and checks the table; None for a call with a number outside its range.
 fn open_rows(
     file: &[u8],
-    limits: &Limits,
+    limits: &CallerLimits,
     section: u16,
     room: &mut [u8],
-    kind: Kind,
-) -> Option<Result<Option<Rows>, Refusal>>
+    kind: RowKind,
+) -> Option<Result<Option<RowsLeft>, Refusal>>
     ensures { OpensRows kind file.now limits.now (length room.old) section result }
 {
     let limits = limits_of(limits, room.len())?;

@@ -4,8 +4,8 @@ ghost use Rattle.elfsee_c.specs.Ends.{TellsNone};
 ghost use Rattle.elfsee_c.specs.Told.{IsStatus, told_from};
 
 use crate::end::End;
+use elf_headers::Stop;
 use elf_record::Refusal;
-use elf_table::Stop;
 
 /// What a call that writes to memory did.
 #[derive(Clone, Copy)]

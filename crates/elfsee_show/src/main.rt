@@ -5,14 +5,14 @@
 ghost use Rattle.std.specs.Prelude.{◌≡◌};
 
 use elf_fixtures::sample;
+use elf_headers::{Caps, HeaderRoom, HeaderStore};
 use elf_listing::show;
-use elf_listing_words::{Listing, Shown, WordsFault, shown_asked};
+use elf_listing_words::{ListingAsked, ShowRequest, WordsFault, shown_asked};
 use elf_program::{
     Ending, OUT_OF_MEMORY, OUTPUT_BYTES, end_answer, exit, open, read_words, tell_version,
     tell_words,
 };
 use elf_source::{Counted, MemorySource, Out, Source, WriteSink};
-use elf_table::{Caps, HeaderRoom, HeaderStore};
 use std::alloc::Global;
 use std::io::{self, BufWriter, Stderr, Write};
 use std::os::unix::fs::FileExt;
@@ -35,15 +35,18 @@ where
         Err(ending) => return Err(ending),
     };
     match shown_asked(rt.alloc(), words.as_slice()) {
-        Ok(Shown::Listed(listing)) => list(rt, &listing),
-        Ok(Shown::Version) => tell_version(rt),
+        Ok(ShowRequest::Listed(listing)) => list(rt, &listing),
+        Ok(ShowRequest::Version) => tell_version(rt),
         Err(WordsFault::Told(told)) => Err(tell_words(rt.alloc(), &told, words.as_slice(), errors)),
         Err(WordsFault::Memory) => Err(OUT_OF_MEMORY),
     }
 }
 
 /// Makes what memory is needed, opens the file, and lists it.
-fn list<R: Files + Print + AllocGlobal>(rt: &R, listing: &Listing<'_>) -> Result<Ending, Ending>
+fn list<R: Files + Print + AllocGlobal>(
+    rt: &R,
+    listing: &ListingAsked<'_>,
+) -> Result<Ending, Ending>
 where
     R::File: FileExt,
 {
@@ -69,7 +72,7 @@ where
 /// would hold the buffers of a listing twice, one for each kind of source.
 #[inline(never)]
 fn write_listing<S: Source + Drop, W: Write + Drop>(
-    listing: &Listing<'_>,
+    listing: &ListingAsked<'_>,
     source: S,
     mut store: HeaderStore<'_>,
     output: BufWriter<W>,

@@ -1,11 +1,11 @@
 -- What was written so far is the front of the section, and what is held the part behind it.
 use Rattle.std.proofs.Common.{◌≡◌, ℕ, ◌+◌, ◌-◌, ◌^◌, ◌≤◌, List, min, Some, Ok}
-use Rattle.elf_model.specs.Apply.{Patch, patches_of, patched}
+use Rattle.elf_model.specs.Apply.{StoredBytes, patches_of, patched}
 use Rattle.elf_model.specs.ApplyLaws.{AllInside}
 use Rattle.elf_model.specs.Bytes.{slice}
 use Rattle.elf_source.specs.Growth.{Grows}
 use Rattle.elf_source.specs.Source.{Reads}
-use Rattle.elf_apply.specs.InOrder.{Rises, UnderWay, end_of}
+use Rattle.elf_apply.specs.InOrder.{OffsetsRise, UnderWay, end_of}
 use Rattle.elf_apply.specs.Walk.{Goes, ReadsEntries, changes_left, changes_all, walk_left, walk_all, steps_left}
 use Rattle.elf_apply.proofs.in_order.write_in_order.Given as goal
 
@@ -19,7 +19,7 @@ invariant-entries g l = record {
   wrote : l.out.written ≡ min (l.fn.out.written + l.held.low) (2 ^ 128 - 1);
   still : Goes l.fn.src.seen.size l.target l.entries;
   reads : (file : List ℕ) → l.fn.src.seen.file ≡ Some file → ReadsEntries file l.target l.entries;
-  left : (file : List ℕ) → l.fn.src.seen.file ≡ Some file → (patches : List Patch) → patches_of (changes_all file l.target) ≡ Ok patches → AllInside l.size patches → Rises 0 patches
+  left : (file : List ℕ) → l.fn.src.seen.file ≡ Some file → (patches : List StoredBytes) → patches_of (changes_all file l.target) ≡ Ok patches → AllInside l.size patches → OffsetsRise 0 patches
       → UnderWay (slice file l.at l.size) (patched patches (slice file l.at l.size)) l.held (changes_left file l.target l.entries)
       l.fn.out l.out;
 }

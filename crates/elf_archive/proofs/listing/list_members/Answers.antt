@@ -5,7 +5,7 @@ use Rattle.elf_model.specs.Archive.{before_members}
 use Rattle.elf_source.proofs.GrowthLaws.{grows_not, grows_then}
 use Rattle.elf_source.proofs.ReadsLaws.{Reads-none, Reads-then}
 use Rattle.elf_headers.specs.Permitted.{style_of}
-use Rattle.elf_archive.specs.Members.{StandsIn}
+use Rattle.elf_archive.specs.Members.{WalkStandsIn}
 use Rattle.elf_archive.proofs.ConsumeLaws.{Consumes-then, still_whole}
 use Rattle.elf_archive.proofs.ListingLaws.{step_ends, step_within}
 use Rattle.elf_archive.proofs.WalkLaws.{walk_begins, walk_ends, walk_more, walk_stops}
@@ -40,7 +40,7 @@ members-preserved-then-any g c =
     let stands = rw c.in-Some.is at c.in_ok-refused.ensures.stands in
     let step = rw c.in-Some.is at c.in_ok-refused.ensures.within in
     record {
-      stands = subst (λ (n : ℕ). StandsIn n c.list_next.new.cursor) known.reads.keeps.same_size stands.0;
+      stands = subst (λ (n : ℕ). WalkStandsIn n c.list_next.new.cursor) known.reads.keeps.same_size stands.0;
       slots = c.in_ok-refused.ensures.slots ∙ known.slots;
       grows = grows_then known.grows c.in_ok-refused.ensures.grows;
       bytes = known.bytes + step.bytes;
@@ -62,7 +62,7 @@ members-preserved g c =
     let stands = rw c.in-Some.is at c.in_ok-refused.ensures.stands in
     let step = rw c.in-Some.is at c.in_ok-refused.ensures.within in
     record {
-      stands = subst (λ (n : ℕ). StandsIn n c.list_next.new.cursor) known.reads.keeps.same_size stands.0;
+      stands = subst (λ (n : ℕ). WalkStandsIn n c.list_next.new.cursor) known.reads.keeps.same_size stands.0;
       slots = c.in_ok-refused.ensures.slots ∙ known.slots;
       grows = grows_then known.grows c.in_ok-refused.ensures.grows;
       bytes = known.bytes + step.bytes;
@@ -95,7 +95,7 @@ pub list_next-requires-clause-whole : goal.list_next-requires-clause-whole
 list_next-requires-clause-whole g c = still_whole _ _ _ c.requires.whole c.members.invariant.reads
 
 pub list_next-requires-clause-stands : goal.list_next-requires-clause-stands
-list_next-requires-clause-stands g c = subst (λ (n : ℕ). StandsIn n c.members.cursor) (sym c.members.invariant.reads.keeps.same_size) c.members.invariant.stands
+list_next-requires-clause-stands g c = subst (λ (n : ℕ). WalkStandsIn n c.members.cursor) (sym c.members.invariant.reads.keeps.same_size) c.members.invariant.stands
 
 pub returns-in_err-refused-clause-allowed : goal.returns-in_err-refused-clause-allowed
 returns-in_err-refused-clause-allowed g c =

@@ -5,7 +5,7 @@ use Rattle.elf_source.specs.Growth.{Grows}
 use Rattle.elf_source.specs.Source.{Reads}
 use Rattle.elf_headers.specs.Permitted.{style_of}
 use Rattle.elf_model.specs.ArchiveCost.{allowance}
-use Rattle.elf_archive.specs.Members.{StandsIn}
+use Rattle.elf_archive.specs.Members.{WalkStandsIn}
 use Rattle.elf_archive.proofs.WalkLaws.{WalkSoFar}
 use Rattle.elf_archive.proofs.listing.list_members.Given as goal
 
@@ -15,7 +15,7 @@ invariant-members g l =
     let headers = l.fn.store.slots in
     let cap = l.fn.choice.style.cap.bytes in
     record {
-      stands : StandsIn size l.cursor;
+      stands : WalkStandsIn size l.cursor;
       slots : l.store.slots ≡ headers;
       grows : Grows l.fn.out l.out;
       bytes : ℕ;

@@ -1,6 +1,6 @@
 -- The name is read where there is one.
 use Rattle.std.proofs.Common.{◌∙◌, sym, arith}
-use Rattle.elf_model.specs.Explain.{told_name}
+use Rattle.elf_model.specs.Explain.{told_symbol_name}
 use Rattle.elf_table.specs.Tables.{strings_in}
 use Rattle.elf_headers.proofs.LedgerLaws.{Did-as, Did-none, Did-of}
 use Rattle.elf_explain.proofs.NamingLaws.{fault_tells, named, read_tells, unnamed}
@@ -20,7 +20,7 @@ returns-in-Ok g c =
 
 pub returns-in-Err : goal.returns-in-Err
 returns-in-Err g c =
-    fault_tells c.args.src.now c.read.new.src _ c.args.lacking.now.at c.read.new.name (λ file. told_name (strings_in file c.args.lacking.now.names) c.args.lacking.now.missing.name)
+    fault_tells c.args.src.now c.read.new.src _ c.args.lacking.now.at c.read.new.name (λ file. told_symbol_name (strings_in file c.args.lacking.now.names) c.args.lacking.now.missing.name)
     c.in-Err.fault c.unless_refused.result c.unless_refused.ensures c.read.ensures.reads c.in-Err.ensures.says
     (λ file held.
     let same = named (strings_in file c.args.lacking.now.names) c.args.lacking.now.missing.name c.if-off-eq0.false in

@@ -2,7 +2,7 @@
 use Rattle.std.proofs.Common.{ℕ, ◌/◌, length, sym, ap, ◌∙◌, arith}
 use Rattle.std.proofs.lemmas.Result.{err_from_is_err_and}
 use Rattle.elf_model.specs.Checks.{first_refusal, load_checks}
-use Rattle.elf_hash.specs.Lookups.{Passed, behind_bytes}
+use Rattle.elf_hash.specs.Lookups.{Passed, behind_headers_bytes}
 use Rattle.elf_headers.proofs.LoadLaws.{header_most, load_most, load_slots}
 use Rattle.elf_hash.proofs.FindLaws.{cost_behind, find_least, finds_header, finds_load, load_within, looked_passed}
 use Rattle.elf_headers.proofs.LedgerLaws.{Charges-then, Did-as, Did-of, Did-sized, Did-then}
@@ -37,7 +37,7 @@ returns-clause-did g c =
     let slots = load_slots c.in_ok-header.header c.header.new.src.seen.size c.args.store.now.slots in
     let headers = load_most c.in_ok-header.header c.header.new.src.seen.size c.args.store.now.slots in
     let loaded = Did-then (Did-of c.header.ensures.reads tt c.in_ok-header.ensures.read) (Did-of c.load.ensures.reads tt c.in_ok-loaded.ensures.held) in
-    let same = ap (λ (size : ℕ). behind_bytes (size / 4) (length c.args.wanted.now)) loaded.costs.reads.keeps.same_size in
+    let same = ap (λ (size : ℕ). behind_headers_bytes (size / 4) (length c.args.wanted.now)) loaded.costs.reads.keeps.same_size in
     Did-as _ (omega (arith, most, slots, same)) (Did-then loaded c.find_in.ensures.did)
     (λ file told costs.
     let belongs = told.0.1 told.0.0.1 in

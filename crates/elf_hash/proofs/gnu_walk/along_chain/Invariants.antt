@@ -4,7 +4,7 @@ use Rattle.elf_model.specs.Chains.{HashTable as Place}
 use Rattle.elf_model.specs.declared.causes.Refusal.{Refusal}
 use Rattle.elf_headers.specs.Ledger.{Did}
 use Rattle.elf_hash.specs.Counts.{IsGnu}
-use Rattle.elf_hash.specs.Walks.{Holds, walk_bytes}
+use Rattle.elf_hash.specs.Walks.{HoldsHash, walk_bytes}
 use Rattle.elf_hash.proofs.GnuSteps.{Along}
 use Rattle.elf_hash.proofs.gnu_walk.along_chain.Given as goal
 
@@ -16,7 +16,7 @@ invariant-loop-at g l = record {
   fits : 4 * l.read ≤ l.table.place.size;
   so_far : Did l.fn.src l.src None (walk_bytes 0 l.read l.tried (g.T.Trial.cost l.trial))
       (λ file. (at : Place) (says : ℕ → Result Bool Refusal) → IsGnu file at l.table → g.T.Trial.is_of l.trial file says
-      → Holds file at.place l.hash l.start → Along file at l.hash says l.read l.tried l.index l.at);
+      → HoldsHash file at.place l.hash l.start → Along file at l.hash says l.read l.tried l.index l.at);
 }
 
 abbrev pub decreases-loop-at : goal.decreases-loop-at

@@ -2,7 +2,7 @@
 use Rattle.std.proofs.lemmas.Result.{err_from_is_err_and}
 use Rattle.elf_source.proofs.PutsLaws.{TakesFront-more}
 use Rattle.elf_lines.proofs.Pieces.{TakesBefore-more, Puts-rest}
-use Rattle.elf_lines.specs.Pieces.{spelt, name_end}
+use Rattle.elf_lines.specs.Pieces.{spelt, name_tail}
 use Rattle.elf_lines.proofs.NameText.{named-pieces}
 use Rattle.elf_lines.proofs.named.show_named.Goals as goal
 
@@ -17,7 +17,7 @@ returns-in_err-begin_name g c =
 pub returns : goal.returns
 returns g c =
     let front = c.args.front in
-    let tail = name_end front.format c.args.is_cut in
+    let tail = name_tail front.format c.args.is_cut in
     let same = named-pieces front.format front.key.now front.line.items c.args.name.now c.args.is_cut in
     let before = TakesBefore-more tail (TakesBefore-more (spelt front.format c.args.name.now) c.in_ok-begin_name.ensures.puts) in
-    record { puts = rw same (Puts-rest _ c.show_spelt.result before (rw c.name_end.ensures.items at c.show_spelt.ensures.puts)) }
+    record { puts = rw same (Puts-rest _ c.show_spelt.result before (rw c.name_tail.ensures.items at c.show_spelt.ensures.puts)) }

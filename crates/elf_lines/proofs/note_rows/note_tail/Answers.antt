@@ -2,14 +2,14 @@
 use Rattle.std.proofs.Common.{◌≡◌, ℕ, nat_lt, if◌then◌else◌, List, [], ◌++◌, length, take, append_assoc}
 use Rattle.elf_model.specs.Text.{space, newline}
 use Rattle.elf_model.specs.Lines.{cut_mark, hex_bytes, note_tail, descriptor_text}
-use Rattle.elf_lines.specs.Notes.{described}
+use Rattle.elf_lines.specs.Notes.{note_end}
 use Rattle.elf_lines.proofs.note_rows.note_tail.Goals as goal
 
 regroup : (a b c d e : List ℕ) → (((a ++ b) ++ c) ++ d) ++ e ≡ a ++ ((b ++ (c ++ d)) ++ e)
 regroup a b c d e = simp append_assoc
 
 pub returns-in-Columns : goal.returns-in-Columns
-unfolding described note_tail descriptor_text
+unfolding note_end note_tail descriptor_text
 returns-in-Columns c = λ descriptor known.
     rw (
       c.in-Columns.is,

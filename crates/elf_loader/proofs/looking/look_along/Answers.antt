@@ -7,7 +7,7 @@ use Rattle.elf_hash.specs.declared.place.HashPlace.{HashPlace}
 use Rattle.elf_model.specs.Loader.{answers}
 use Rattle.elf_model.specs.LoaderFind.{walk_in}
 use Rattle.elf_loader.specs.Lookups.{trial_bytes}
-use Rattle.elf_loader.specs.NumberSets.{has}
+use Rattle.elf_loader.specs.NumberSets.{has_number}
 use Rattle.elf_loader.proofs.LookLaws.{looks_unwalked, looks_walked, walks_as}
 use Rattle.elf_wanted.specs.Wants.{the_wanted}
 use Rattle.elf_loader.proofs.looking.look_along.Goals as goal
@@ -20,8 +20,8 @@ returns-in_err-walked g c =
     rw (p.1, p.2)
     (Did-as _ (omega (arith, same)) c.in_err-walked.ensures
     (λ file walks costs told before is table first.
-    let walked = walks told (answers file told.symbols wanted (has c.args.numbers.now)) table (record { told = told.symbols; are = is.symbols; says_so = refl }) in
-    looks_unwalked file told wanted before (walk_in file told wanted (has c.args.numbers.now)) first c.args.name.now _ (walks_as file told wanted (has c.args.numbers.now) _ _ walked)))
+    let walked = walks told (answers file told.symbols wanted (has_number c.args.numbers.now)) table (record { told = told.symbols; are = is.symbols; says_so = refl }) in
+    looks_unwalked file told wanted before (walk_in file told wanted (has_number c.args.numbers.now)) first c.args.name.now _ (walks_as file told wanted (has_number c.args.numbers.now) _ _ walked)))
 
 pub returns : goal.returns
 returns g c =
@@ -29,7 +29,7 @@ returns g c =
     let same = ap (λ (p : HashPlace). walk_bytes 12 (p.size / 4) (p.size / 4) (trial_bytes wanted)) c.requires.place in
     Did-as _ (omega (arith, same)) (Did-then c.in_ok-walked.ensures c.answer_of.ensures)
     (λ file read costs told before is table first.
-    let walked = read.0 told (answers file told.symbols wanted (has c.args.numbers.now)) table (record { told = told.symbols; are = is.symbols; says_so = refl }) in
-    let walks = walks_as file told wanted (has c.args.numbers.now) _ _ walked in
-    let walk = walk_in file told wanted (has c.args.numbers.now) in
+    let walked = read.0 told (answers file told.symbols wanted (has_number c.args.numbers.now)) table (record { told = told.symbols; are = is.symbols; says_so = refl }) in
+    let walks = walks_as file told wanted (has_number c.args.numbers.now) _ _ walked in
+    let walk = walk_in file told wanted (has_number c.args.numbers.now) in
     looks_walked file told wanted before walk first c.answer_of.new.name c.in_ok-walked.walked _ walks (read.1 told walk before is walks.gives first))

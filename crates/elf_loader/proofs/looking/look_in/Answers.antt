@@ -2,7 +2,7 @@
 use Rattle.std.proofs.Common.{ℕ, ap, arith}
 use Rattle.std.proofs.lemmas.Result.{err_from_is_err_and}
 use Rattle.elf_headers.proofs.LedgerLaws.{Did-as, Did-then}
-use Rattle.elf_loader.specs.Lookups.{behind_bytes}
+use Rattle.elf_loader.specs.Lookups.{lookup_bytes}
 use Rattle.elf_loader.proofs.LookLaws.{counts_few, looks_counted, looks_uncounted, place_in}
 use Rattle.elf_wanted.specs.Wants.{the_wanted}
 use Rattle.elf_loader.proofs.looking.look_in.Goals as goal
@@ -20,7 +20,7 @@ pub returns : goal.returns
 returns g c =
     let few = counts_few c.args.scope.now.hash.kind in
     let first = c.in_ok-table.ensures.did in
-    let same = ap (λ (size : ℕ). behind_bytes 12 size (the_wanted c.args.wanted.now)) first.costs.reads.keeps.same_size in
+    let same = ap (λ (size : ℕ). lookup_bytes 12 size (the_wanted c.args.wanted.now)) first.costs.reads.keeps.same_size in
     Did-as _ (omega (arith, few, same)) (Did-then first c.look_in_table.ensures)
     (λ file read costs told is.
     let counts = read.0 told (place_in file told c.args.scope.now is) in

@@ -2,7 +2,7 @@
 use Rattle.std.proofs.Common.{ℕ, ap, arith}
 use Rattle.std.proofs.lemmas.Result.{err_from_is_err_and}
 use Rattle.elf_headers.proofs.LedgerLaws.{Did-as, Did-then}
-use Rattle.elf_loader.specs.Lookups.{behind_bytes}
+use Rattle.elf_loader.specs.Lookups.{lookup_bytes}
 use Rattle.elf_loader.proofs.LookLaws.{looks_scoped, looks_unscoped}
 use Rattle.elf_loader.proofs.ReadLaws.{ceiling_is}
 use Rattle.elf_wanted.specs.Wants.{the_wanted}
@@ -19,7 +19,7 @@ returns-in_err-scope-clause-did g c =
 pub returns-clause-did : goal.returns-clause-did
 returns-clause-did g c =
     let ceiling = ceiling_is c.args.src.now.seen.size c.args.store.now.slots (the_wanted c.args.wanted.now) in
-    let same = ap (λ (size : ℕ). behind_bytes 28 size (the_wanted c.args.wanted.now)) c.in_ok-scope.ensures.did.costs.reads.keeps.same_size in
+    let same = ap (λ (size : ℕ). lookup_bytes 28 size (the_wanted c.args.wanted.now)) c.in_ok-scope.ensures.did.costs.reads.keeps.same_size in
     Did-as _ (omega (arith, ceiling, same)) (Did-then c.in_ok-scope.ensures.did c.look_in.ensures)
     (λ file read costs.
     let found = read.0.finds in

@@ -2,7 +2,7 @@
 use Rattle.std.proofs.Common.{List, None, Some, Ok, Err, arith}
 use Rattle.std.proofs.lemmas.Result.{err_from_is_err_and}
 use Rattle.elf_headers.proofs.LedgerLaws.{Charges-none, Did-as, Did-none}
-use Rattle.elf_model.specs.Loader.{Reading, naming_of}
+use Rattle.elf_model.specs.Loader.{RecordReading, naming_of}
 use Rattle.elf_table.specs.Tables.{strings_in}
 use Rattle.elf_versions.proofs.WordLaws.{none-of}
 use Rattle.elf_loader.specs.Naming.{NamesBefore}
@@ -17,7 +17,7 @@ returns-in_default-clause-did g c =
     Did-as _ (omega arith) (Did-none c.args.src.now)
     (λ file read costs told others are.
     none-before file told others
-    (λ (all : List Reading). NamesBefore file c.args.src.now c.args.src.now (naming_of file c.args.number all) (naming_of file c.args.number others) (Ok None))
+    (λ (all : List RecordReading). NamesBefore file c.args.src.now c.args.src.now (naming_of file c.args.number all) (naming_of file c.args.number others) (Ok None))
     (names-none file c.args.src.now (naming_of file c.args.number others) (Charges-none c.args.src.now)) (rw none at are))
 
 pub returns-in_err-record-clause-did : goal.returns-in_err-record-clause-did
@@ -28,7 +28,7 @@ returns-in_err-record-clause-did g c =
     (Did-as _ (omega arith) c.in_err-record.ensures
     (λ file read costs told others are.
     one-before file told others given
-    (λ (all : List Reading). NamesBefore file c.args.src.now c.name_in_table.new.src (naming_of file c.args.number all) (naming_of file c.args.number others) (Err c.in_err-record.field-0.0))
+    (λ (all : List RecordReading). NamesBefore file c.args.src.now c.name_in_table.new.src (naming_of file c.args.number all) (naming_of file c.args.number others) (Err c.in_err-record.field-0.0))
     (λ one is. names-fault file (strings_in file given.names) _ _ _ (naming_of file c.args.number others) _ (read one others is)) are))
 
 pub returns-in_default-2-clause-did : goal.returns-in_default-2-clause-did
@@ -38,7 +38,7 @@ returns-in_default-2-clause-did g c =
     (Did-as _ (omega arith) did
     (λ file read costs told others are.
     one-before file told others c.in-Some.records
-    (λ (all : List Reading). NamesBefore file c.args.src.now c.name_in_table.new.src (naming_of file c.args.number all) (naming_of file c.args.number others) (Ok None))
+    (λ (all : List RecordReading). NamesBefore file c.args.src.now c.name_in_table.new.src (naming_of file c.args.number all) (naming_of file c.args.number others) (Ok None))
     (λ one is. read one others is) are))
 
 pub returns-clause-did : goal.returns-clause-did
@@ -49,5 +49,5 @@ returns-clause-did g c =
     (Did-as _ (omega arith) did
     (λ file read costs told others are.
     one-before file told others c.in-Some.records
-    (λ (all : List Reading). NamesBefore file c.args.src.now c.name_in_table.new.src (naming_of file c.args.number all) (naming_of file c.args.number others) (Ok (Some by)))
+    (λ (all : List RecordReading). NamesBefore file c.args.src.now c.name_in_table.new.src (naming_of file c.args.number all) (naming_of file c.args.number others) (Ok (Some by)))
     (λ one is. read one others is) are))

@@ -1,10 +1,10 @@
 -- So many records of the table have not the number, and the others are left.
 use Rattle.std.proofs.Common.{◌≡◌, ◌-◌, ◌*◌, ◌≤◌, List, None, false}
 use Rattle.elf_headers.specs.Ledger.{Did}
-use Rattle.elf_model.specs.Loader.{Reading, RecordTable as IsTableOf, naming_of, readings_of}
+use Rattle.elf_model.specs.Loader.{RecordReading, RecordTable as IsTableOf, naming_of, readings_of}
 use Rattle.elf_model.specs.Versions.{most_records}
 use Rattle.elf_scope.specs.Symbols.{IsRecordTable}
-use Rattle.elf_versions.specs.Reading.{Agrees, bytes_each}
+use Rattle.elf_versions.specs.Reading.{IsCursorOf, bytes_each}
 use Rattle.elf_loader.specs.Naming.{NamedAs}
 use Rattle.elf_loader.proofs.LeftReadings.{left_of}
 use Rattle.elf_loader.proofs.naming.name_in_table.Given as goal
@@ -19,7 +19,7 @@ invariant-records g l =
       each : l.cursor.each ≡ bytes_each l.records.kind;
       fewer : l.cursor.left ≤ most;
       so_far : Did l.fn.src l.src None ((most - l.cursor.left) * 28)
-          (λ file. Agrees file l.cursor × ((told : IsTableOf) (others : List Reading) → IsRecordTable file told l.records
+          (λ file. IsCursorOf file l.cursor × ((told : IsTableOf) (others : List RecordReading) → IsRecordTable file told l.records
           → NamedAs (most - l.cursor.left) (naming_of file l.number (readings_of file told others))
           (naming_of file l.number (left_of file told.strings others l.cursor))));
     }

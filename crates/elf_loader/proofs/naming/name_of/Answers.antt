@@ -3,7 +3,7 @@ use Rattle.std.proofs.Common.{[], ap, arith}
 use Rattle.std.proofs.lemmas.Result.{err_from_is_err_and}
 use Rattle.elf_headers.proofs.LedgerLaws.{Did-as, Did-then}
 use Rattle.elf_model.specs.Loader.{naming_of}
-use Rattle.elf_scope.specs.Symbols.{one_table}
+use Rattle.elf_scope.specs.Symbols.{table_if_any}
 use Rattle.elf_versions.proofs.WordLaws.{none-of}
 use Rattle.elf_loader.specs.Tables.{most_of, readings_before}
 use Rattle.elf_loader.proofs.NamingLaws.{fault-of, names-then, naming-nothing, some-of}
@@ -17,8 +17,8 @@ returns-in_err-named-clause-did g c =
     rw (p.1, p.2)
     (Did-as _ (omega (arith, pays)) c.in_err-named.ensures.did
     (λ file read costs told are.
-    let parts = part file told (one_table c.args.symbols.now.definitions) (one_table c.args.symbols.now.needs) are in
-    let e = read-parted file told (one_table c.args.symbols.now.definitions) (one_table c.args.symbols.now.needs) parts in
+    let parts = part file told (table_if_any c.args.symbols.now.definitions) (table_if_any c.args.symbols.now.needs) are in
+    let e = read-parted file told (table_if_any c.args.symbols.now.definitions) (table_if_any c.args.symbols.now.needs) parts in
     fault-of file c.args.src.now c.name_in_any.new.src _ _ (naming_of file c.args.number (readings_before file parts.back [])) _
     (ap (naming_of file c.args.number) e) (read parts.front (readings_before file parts.back []) parts.are_front)))
 
@@ -27,8 +27,8 @@ returns-in-Some-clause-did g c =
     let pays = sum-pays (most_of c.args.symbols.now.definitions) (most_of c.args.symbols.now.needs) 28 in
     Did-as _ (omega (arith, pays)) (rw c.in-Some.is at c.in_ok-named.ensures.did)
     (λ file read costs told are.
-    let parts = part file told (one_table c.args.symbols.now.definitions) (one_table c.args.symbols.now.needs) are in
-    let e = read-parted file told (one_table c.args.symbols.now.definitions) (one_table c.args.symbols.now.needs) parts in
+    let parts = part file told (table_if_any c.args.symbols.now.definitions) (table_if_any c.args.symbols.now.needs) are in
+    let e = read-parted file told (table_if_any c.args.symbols.now.definitions) (table_if_any c.args.symbols.now.needs) parts in
     some-of file c.args.src.now c.name_in_any.new.src _ _ (naming_of file c.args.number (readings_before file parts.back [])) c.in-Some.named
     (ap (naming_of file c.args.number) e) (read parts.front (readings_before file parts.back []) parts.are_front))
 
@@ -38,7 +38,7 @@ returns-clause-did g c =
     let pays = sum-pays (most_of c.args.symbols.now.definitions) (most_of c.args.symbols.now.needs) 28 in
     Did-as _ (omega (arith, pays)) (Did-then (rw none at c.in_ok-named.ensures.did) c.name_in_any-2.ensures.did)
     (λ file read costs told are.
-    let parts = part file told (one_table c.args.symbols.now.definitions) (one_table c.args.symbols.now.needs) are in
-    let e = read-parted file told (one_table c.args.symbols.now.definitions) (one_table c.args.symbols.now.needs) parts in
+    let parts = part file told (table_if_any c.args.symbols.now.definitions) (table_if_any c.args.symbols.now.needs) are in
+    let e = read-parted file told (table_if_any c.args.symbols.now.definitions) (table_if_any c.args.symbols.now.needs) parts in
     names-then file c.args.src.now c.name_in_any.new.src c.name_in_any-2.new.src _ _ (naming_of file c.args.number (readings_before file parts.back [])) (naming_of file c.args.number []) c.name_in_any-2.result
     (ap (naming_of file c.args.number) e) (naming-nothing file c.args.number) (read.0 parts.front (readings_before file parts.back []) parts.are_front) (read.1 parts.back [] parts.are_back))

@@ -4,7 +4,7 @@ use Rattle.elf_model.specs.Loader.{Asked, Wanted, wanted_of}
 use Rattle.elf_model.specs.LoaderAnswer.{loader_answer}
 use Rattle.elf_model.specs.LoaderFind.{loader_ceiling, loader_cost, loader_looked}
 use Rattle.elf_model.specs.Style.{looked_at}
-use Rattle.elf_loader.specs.Lookups.{AnswersLookup, AreShort}
+use Rattle.elf_loader.specs.Lookups.{AnswersLoaderLookup, AreShort}
 use Rattle.elf_run.specs.Answers.{WroteAnswer}
 use Rattle.elf_run.specs.Lookups.{resolved_answer}
 use Rattle.elf_run.proofs.LookupLaws.{lookup_answers, lookup_stopped, resolve_is, resolve_refuses, wanted_short}
@@ -27,7 +27,7 @@ returns-in-Ok-clause-runs g c =
     let is = resolve_is viewed limits.headers wanted in
     let name = ap (λ (w : Wanted). w.name) c.wanted_of-wanted.ensures in
     let asked = ap (λ (w : Wanted). w.asked) c.wanted_of-wanted.ensures in
-    let answers = subst (λ (a : Asked). AnswersLookup viewed a c.look_up-found.new.name (loader_looked viewed limits.headers wanted) c.in-Ok.lookup) (sym asked) finds.tells in
+    let answers = subst (λ (a : Asked). AnswersLoaderLookup viewed a c.look_up-found.new.name (loader_looked viewed limits.headers wanted) c.in-Ok.lookup) (sym asked) finds.tells in
     let wrote = c.show_resolved.ensures.text viewed (loader_looked viewed limits.headers wanted) answers in (
       finds.costs,
       rw is (

@@ -6,7 +6,7 @@ use Rattle.elf_model.specs.LoaderScope.{version_checks}
 use Rattle.elf_model.specs.Records.{section_at}
 use Rattle.elf_table.proofs.HashSectionLaws.{place_is}
 use Rattle.elf_record.specs.declared.ehdr.Ehdr.{Ehdr}
-use Rattle.elf_hash.specs.Kinds.{kind_of}
+use Rattle.elf_hash.specs.Kinds.{hash_kind_of}
 use Rattle.elf_scope.specs.Kinds.{least_bytes}
 use Rattle.elf_scope.proofs.SectionLaws.{section_is}
 use Rattle.elf_scope.proofs.SettleLaws.{refused_back, refused_front}
@@ -34,5 +34,5 @@ returns-clause-held c = λ bytes belongs.
     let told = c.in_ok-index.ensures.held bytes belongs in
     let hashed = rw c.least_bytes.ensures at told in
     let is = c.section-header.ensures.stands bytes belongs in
-    section_is bytes (kind_of c.args.kind) at _ _ _ hashed (c.in_ok-versions.ensures.held bytes at belongs (sym is.sh_link))
+    section_is bytes (hash_kind_of c.args.kind) at _ _ _ hashed (c.in_ok-versions.ensures.held bytes at belongs (sym is.sh_link))
     (ap (λ (h : Ehdr). h.e_machine) c.header.ensures.value ∙ belongs.header.e_machine) refl (c.place.ensures.value ∙ place_is bytes c.args.section _ _ belongs) is.sh_offset is.sh_size c.len.ensures refl refl refl refl refl refl

@@ -1,5 +1,5 @@
 -- The entry of the hash table decides.
-use Rattle.elf_hash.specs.Kinds.{kind_of}
+use Rattle.elf_hash.specs.Kinds.{hash_kind_of}
 use Rattle.elf_scope.proofs.ScopeLaws.{entries_find, entries_none}
 use Rattle.elf_scope.proofs.SectionLaws.{not_some}
 use Rattle.elf_model.specs.Records.{segment_at}
@@ -17,4 +17,4 @@ returns-clause-held c = λ bytes views are.
     let at = segment_at bytes c.args.segment in
     let all = c.hash_entry.ensures bytes at are in
     let told = rw c.in-Some.is at all in
-    entries_find bytes c.args.segment at (kind_of c.in-Some.kind, c.in-Some.row.at) told.0 _ (c.segment_scope.ensures.held bytes views are told.1)
+    entries_find bytes c.args.segment at (hash_kind_of c.in-Some.kind, c.in-Some.row.at) told.0 _ (c.segment_scope.ensures.held bytes views are told.1)

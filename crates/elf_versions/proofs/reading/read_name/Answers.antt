@@ -3,16 +3,16 @@ use Rattle.std.proofs.Common.{◌≡◌, ℕ, ◌+◌, ap, ◌∙◌, arith}
 use Rattle.std.proofs.lemmas.Result.{err_from_is_err_and}
 use Rattle.elf_model.specs.Bytes.{field}
 use Rattle.elf_headers.proofs.LedgerLaws.{Did-as, Did-none}
-use Rattle.elf_versions.specs.Words.{end_of_name}
+use Rattle.elf_versions.specs.Words.{end_of_named_record}
 use Rattle.elf_versions.proofs.WordLaws.{definition-index, own-index}
 use Rattle.elf_versions.proofs.reading.read_name.Goals as goal
 
 pub overflow_add-place : goal.overflow_add-place
-unfolding end_of_name
+unfolding end_of_named_record
 overflow_add-place g c = let inside = rw c.in-Definition.is at c.requires.inside in omega (arith, c.from.ensures, c.requires.low)
 
 pub read-requires-clause-inside : goal.read-requires-clause-inside
-unfolding end_of_name
+unfolding end_of_named_record
 read-requires-clause-inside g c = let inside = rw c.in-Definition.is at c.requires.inside in omega (arith, c.from.ensures)
 
 pub returns-in_ok-read-in-Definition : goal.returns-in_ok-read-in-Definition

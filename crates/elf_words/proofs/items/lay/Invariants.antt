@@ -1,6 +1,6 @@
 use Rattle.std.proofs.Common.{drop, Result}
-use Rattle.elf_model.specs.Placing.{Layout}
-use Rattle.elf_words.specs.Layouts.{Lays, no_items}
+use Rattle.elf_model.specs.Placing.{Layout, no_items}
+use Rattle.elf_words.specs.Layouts.{LaysWords}
 use Rattle.elf_words.specs.declared.requests.RequestFault.{RequestFault}
 use Rattle.clap.specs.Walk.{texts}
 use Rattle.elf_words.proofs.items.lay.Given as goal
@@ -8,4 +8,4 @@ use Rattle.elf_words.proofs.items.lay.Given as goal
 -- what the rest of the words gives behind the layout so far, all of them give
 abbrev pub invariant-loop-word : goal.invariant-loop-word
 invariant-loop-word l =
-    (result : Result Layout RequestFault) → Lays l.layout (texts (drop l.word-index l.words)) result → Lays no_items (texts l.words) result
+    (result : Result Layout RequestFault) → LaysWords l.layout (texts (drop l.word-index l.words)) result → LaysWords no_items (texts l.words) result

@@ -1,14 +1,14 @@
 -- The items that are left are put behind the layout so far.
 use Rattle.std.proofs.Common.{length, ◌-◌, ◌≤◌, drop}
-use Rattle.elf_model.specs.Placing.{Layout}
-use Rattle.elfsee_c.specs.Items.{Lays, no_items}
+use Rattle.elf_model.specs.Placing.{Layout, no_items}
+use Rattle.elfsee_c.specs.Items.{LaysItems}
 use Rattle.elfsee_c.proofs.items.lay_out.Given as goal
 
 abbrev pub invariant-loop-i : goal.invariant-loop-i
 invariant-loop-i l = record {
   within : l.i ≤ length l.items;
-  on : (new : Layout) → Lays l.layout (drop l.i l.items) new → Lays no_items l.items new;
-  back : (new : Layout) → Lays no_items l.items new → Lays l.layout (drop l.i l.items) new;
+  on : (new : Layout) → LaysItems l.layout (drop l.i l.items) new → LaysItems no_items l.items new;
+  back : (new : Layout) → LaysItems no_items l.items new → LaysItems l.layout (drop l.i l.items) new;
 }
 
 abbrev pub decreases-loop-i : goal.decreases-loop-i

@@ -6,7 +6,7 @@ use Rattle.elf_apply.specs.Walk.{Goes, beside_entry_cost}
 use Rattle.elf_apply.proofs.ReadLaws.{check_says, Says-more, Says-then}
 use Rattle.elf_apply.proofs.WalkSteps.{unread-left, cost-row, row-asks, row-goes, goes-same, steps-row, fault-asks, end-asks, row-stores, row-nothing, row-fails, reads-row, same-walked}
 use Rattle.elf_apply.specs.declared.walk.Entries.{Entries}
-use Rattle.elf_apply.specs.declared.walk.Step.{Step}
+use Rattle.elf_apply.specs.declared.walk.WalkStep.{WalkStep}
 use Rattle.elf_apply.proofs.walk.Entries.step.Goals as goal
 
 pub entry_change-requires : goal.entry_change-requires
@@ -92,7 +92,7 @@ returns-in-Ok-false-clause-asks g c =
 
 pub returns-in-Ok-false-clause-goes : goal.returns-in-Ok-false-clause-goes
 returns-in-Ok-false-clause-goes g c =
-    let P : ℕ → Type 0 = λ size. IfOk c.open.result (λ (step : Step). Goes size c.args.target.now c.open.new.self) in
+    let P : ℕ → Type 0 = λ size. IfOk c.open.result (λ (step : WalkStep). Goes size c.args.target.now c.open.new.self) in
     subst P c.requires.opened.size c.open.ensures.goes
 
 pub returns-in-Ok-false-clause-fewer : goal.returns-in-Ok-false-clause-fewer

@@ -6,7 +6,7 @@ use Rattle.elf_model.specs.Cost.{cost_where}
 use Rattle.elf_source.proofs.ReadsLaws.{Reads-then, Reads-to}
 use Rattle.elf_archive.proofs.AskLaws.{Asks-then, Asks-to, header_least, header_some, name_most, where_more, where_room}
 use Rattle.elf_model.specs.Archive.{Member, OneMember, Progress, next_member}
-use Rattle.elf_archive.specs.Members.{TellsMember, extent_of, member_of, names_of}
+use Rattle.elf_archive.specs.Members.{TellsMember, extent_of, member_of, extent_of_names}
 use Rattle.elf_archive.specs.declared.member.Member.{Member as Given}
 use Rattle.elf_archive.proofs.MemberLaws.{next-ends, next-member, tells-data, tells-name, behind-is}
 use Rattle.elf_archive.proofs.cursor.MemberCursor.advance.Goals as goal
@@ -43,7 +43,7 @@ returns-clause-tells g c = λ file held.
     let m : Member = member_of given c.read_name.new.name in
     let P : Progress → Type 0 = λ v. next_member file c.args.cap.bytes v ≡ OneMember m in
     let Q : Progress → Type 0 = λ v. c.read_header.new.header ≡ slice file v.at 60 in
-    let v : Progress = record { at = c.self.inside.at; index = c.self.inside.index; names = names_of c.self.inside.names } in
+    let v : Progress = record { at = c.self.inside.at; index = c.self.inside.index; names = extent_of_names c.self.inside.names } in
     let at : v.at ≡ c.args.self.now.at = ap (λ (u : Progress). u.at) c.self.view_is in (
       subst P c.self.view_is
           (next-member file c.args.cap.bytes (extent_of c.in_ok-extent.extent) v _ (omega (arith, sized)) (c.in_ok-extent.ensures.extent file held) (c.in_ok-is_cut.ensures.read file now header)),

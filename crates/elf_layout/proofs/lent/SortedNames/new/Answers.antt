@@ -3,7 +3,7 @@ use Rattle.std.proofs.lemmas.Bool.{cases_lt}
 use Rattle.std.proofs.lemmas.Cmp.{nat_list_cmp_total}
 use Rattle.elf_model.specs.ApplyCost.{longest}
 use Rattle.elf_layout.specs.Layouts.{IsName}
-use Rattle.elf_layout.specs.Lent.{Item, name_of, named}
+use Rattle.elf_layout.specs.Lent.{LentItem, lent_name, named}
 use Rattle.elf_layout.proofs.LentSteps.{below_more}
 use Rattle.elf_layout.proofs.NameSteps.{greater_is, longest_more, lends_front, some_item}
 use Rattle.elf_layout.proofs.lent.SortedNames.new.Goals as goal
@@ -21,15 +21,15 @@ loop-i-preserved c =
     let items = c.args.items.now in
     let i = c.loop-i.i in
     let follows = c.if-not-name_follows.ensures in
-    let d : Item = some_item items (omega (arith, c.loop-i-test.true)) in
+    let d : LentItem = some_item items (omega (arith, c.loop-i-test.true)) in
     let more = longest_more items i d c.loop-i-test.true in
     let long = ap length (c.name_at.ensures d) in
     record {
       within = omega (arith, c.loop-i-test.true);
-      below = below_more nat_list_cmp_total name_of items i c.loop-i.invariant.below follows.1;
+      below = below_more nat_list_cmp_total lent_name items i c.loop-i.invariant.below follows.1;
       names = λ k d less. elim (cases_lt k i) [
         | inl before ↦ c.loop-i.invariant.names k d before
-        | inr last ↦ subst (λ n. IsName (name_of (get_or items n d))) {x = i} (omega (arith, last, less)) (follows.0 d)
+        | inr last ↦ subst (λ n. IsName (lent_name (get_or items n d))) {x = i} (omega (arith, last, less)) (follows.0 d)
       ];
       longest = rw add-one (omega (arith, more, long, c.loop-i.invariant.longest, c.max-most.ensures, greater_is c.loop-i.most (length c.name_at.result.now)));
     }

@@ -5,7 +5,7 @@ use Rattle.std.proofs.lemmas.Result.{err_from_is_err_and}
 use Rattle.elf_model.specs.Dynamic.{dynamic_at}
 use Rattle.elf_lines.specs.Fronts.{front_of}
 use Rattle.elf_model.specs.LineFronts.{dynamic_front}
-use Rattle.elf_listing.specs.Strings.{strings_told, told_name}
+use Rattle.elf_listing.specs.Strings.{strings_told, string_told}
 use Rattle.elf_listing.proofs.RowLaws.{Writes-as}
 use Rattle.elf_listing.proofs.StringsTold.{entry_is, told_row, told_shown, Stopped-told}
 use Rattle.elf_listing.proofs.ListsLaws.{Lists-named, Lists-unread}
@@ -24,7 +24,7 @@ pub returns : goal.returns
 returns g c = Lists-named _ _ _ _ _ _ _ _ (omega arith) c.in_ok-end.ensures.fetches c.named_line.ensures (λ file held at of_kind row.
     let decoded = c.decode-entry.ensures.stands file c.args.row.now.at (c.whole_row.ensures ∙ row.bytes) in
     let here : c.args.row.now.at ≡ dynamic_at at c.args.row.now.index = omega (arith, row.here) in
-    let read = told_shown c.args.row.now.at _ _ (told_name (strings_told c.args.strings.now file) file c.args.self.now.style.cap.bytes c.args.row.now.at) (c.in_ok-end.ensures.read file held of_kind decoded) in
+    let read = told_shown c.args.row.now.at _ _ (string_told (strings_told c.args.strings.now file) file c.args.self.now.style.cap.bytes c.args.row.now.at) (c.in_ok-end.ensures.read file held of_kind decoded) in
     let front = c.dynamic_front.ensures.front file c.args.row.now.at decoded in
     rw (← c.in_ok-end.ensures.fetches.1)
     (Writes-as _ _ _ (entry_is file _ (style_of c.args.self.now.style) c.args.row.now.at c.args.row.now.index (dynamic_at at c.args.row.now.index) (strings_told c.args.strings.now file) front here ∙ ap (told_row (front_of c.dynamic_front.result) c.args.row.now.at) read.1)

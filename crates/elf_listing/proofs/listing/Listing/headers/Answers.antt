@@ -2,7 +2,7 @@
 use Rattle.elf_headers.specs.Permitted.{style_of}
 use Rattle.std.proofs.Common.{◌≡◌, ℕ, List, refl, arith}
 use Rattle.std.proofs.lemmas.Result.{err_from_is_err_and}
-use Rattle.elf_model.specs.Listing.{Item}
+use Rattle.elf_model.specs.Listing.{ListingItem}
 use Rattle.elf_headers.specs.declared.caps.Style.{Style}
 use Rattle.elf_table.specs.declared.file.File.{File}
 use Rattle.elf_listing.specs.Parts.{listed_by}
@@ -16,7 +16,7 @@ use Rattle.elf_listing.proofs.listing.Listing.headers.Goals as goal
 abbrev costs : Part → File → Style → ℕ → ℕ
 costs part f style = (listed_by part).cost f.loaded f.store.now style.cap.bytes
 
-abbrev shown : Part → Style → List ℕ → ℕ → List Item
+abbrev shown : Part → Style → List ℕ → ℕ → List ListingItem
 shown part style file i = (listed_by part).items file (style_of style) i
 
 pub headers-init : goal.headers-init

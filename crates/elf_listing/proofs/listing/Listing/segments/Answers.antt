@@ -9,7 +9,7 @@ use Rattle.elf_model.specs.Rows.{segment_row}
 use Rattle.elf_table.specs.Sections.{rows}
 use Rattle.elf_table.specs.Tables.{Rows}
 use Rattle.elf_listing.specs.Kinds.{rows_cost}
-use Rattle.elf_listing.specs.declared.rows.Kind.TheVariants.{Segments}
+use Rattle.elf_listing.specs.declared.rows.ListedAs.TheVariants.{Segments}
 use Rattle.elf_listing.specs.Parts.{segments_listed}
 use Rattle.elf_listing.proofs.FileShown.{viewed_segments}
 use Rattle.elf_listing.proofs.RowLaws.{Writes-as}

@@ -2,7 +2,7 @@
 use Rattle.elf_headers.specs.Permitted.{style_of}
 use Rattle.std.proofs.Common.{ℕ, ◌+◌, List, ◌++◌}
 use Rattle.std.proofs.lemmas.Result.{err_from_is_err_and}
-use Rattle.elf_model.specs.Listing.{Item}
+use Rattle.elf_model.specs.Listing.{ListingItem}
 use Rattle.elf_headers.specs.declared.caps.Style.{Style}
 use Rattle.elf_table.specs.declared.file.File.{File}
 use Rattle.elf_listing.specs.Parts.{segments_listed}
@@ -16,13 +16,13 @@ use Rattle.elf_listing.proofs.listing.Listing.tables.Goals as goal
 abbrev segments_cost : ℕ → File → Style → ℕ
 segments_cost parts f style = segments_listed parts f.loaded
 
-abbrev segments_shown : ℕ → File → Style → List ℕ → List Item
+abbrev segments_shown : ℕ → File → Style → List ℕ → List ListingItem
 segments_shown parts f style file = segment_part file (style_of style) parts
 
 abbrev pair_cost : ℕ → Part → Part → File → Style → ℕ
 pair_cost parts first second f style = cost_asked parts first f style + cost_asked parts second f style
 
-abbrev pair_items : ℕ → Part → Part → File → Style → List ℕ → List Item
+abbrev pair_items : ℕ → Part → Part → File → Style → List ℕ → List ListingItem
 pair_items parts first second f style file = items_asked parts first f style file ++ items_asked parts second f style file
 
 pub returns-in_err-part : goal.returns-in_err-part

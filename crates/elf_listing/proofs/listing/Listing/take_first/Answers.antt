@@ -7,7 +7,7 @@ use Rattle.elf_model.specs.HeaderTables.{file_sections, first_typed}
 use Rattle.elf_model.specs.Records.{section_at, sh_size}
 use Rattle.elf_model.specs.Tables.{all_checks}
 use Rattle.elf_model.specs.VersionRows.{first_of_type, version_table}
-use Rattle.elf_names.specs.Ahead.{Spends}
+use Rattle.elf_names.specs.Ahead.{SpendsCredit}
 use Rattle.elf_names.proofs.HeldLaws.{still_held}
 use Rattle.elf_names.proofs.SpendsLaws.{Spends-none, Spends-reads, Spends-then, Spends-to}
 use Rattle.elf_source.specs.Source.{Counting}
@@ -23,7 +23,7 @@ use Rattle.elf_listing.proofs.ViewedLaws.{still_viewed}
 use Rattle.elf_listing.proofs.listing.Listing.take_first.Goals as goal
 
 -- nothing was read
-spends_not : (src : Counting) (credit n : ℕ) → Spends src src credit credit n
+spends_not : (src : Counting) (credit n : ℕ) → SpendsCredit src src credit credit n
 spends_not src credit n = Spends-none src credit credit n (omega arith)
 
 -- an empty table lies within every source

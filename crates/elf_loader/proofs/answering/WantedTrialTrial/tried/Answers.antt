@@ -1,7 +1,7 @@
 -- The trial is what tells whether the symbol answers.
 use Rattle.std.proofs.Common.{arith}
 use Rattle.elf_headers.proofs.LedgerLaws.{Did-as}
-use Rattle.elf_loader.specs.NumberSets.{has}
+use Rattle.elf_loader.specs.NumberSets.{has_number}
 use Rattle.elf_wanted.specs.Wants.{the_wanted}
 use Rattle.elf_loader.proofs.AnswerLaws.{tries-as}
 use Rattle.elf_loader.proofs.answering.WantedTrialTrial.tried.Goals as goal
@@ -12,5 +12,5 @@ returns g c =
     record {
       did = Did-as _ (omega arith) c.answering.ensures
           (λ file read costs says is.
-          tries-as file t.symbols.now (the_wanted t.wanted.now) (has t.numbers.now) says c.args.index c.answering.result is (read is.told is.are));
+          tries-as file t.symbols.now (the_wanted t.wanted.now) (has_number t.numbers.now) says c.args.index c.answering.result is (read is.told is.are));
     }

@@ -2,7 +2,7 @@
 use Rattle.std.proofs.Common.{◌≡◌, ℕ, ◌+◌, ◌<◌, List, Some, length, ap, ◌∙◌, arith, length-take}
 use Rattle.elf_model.specs.Bytes.{slice}
 use Rattle.elf_model.proofs.Searches.{search-more, kept-more, found-here}
-use Rattle.elf_names.specs.Ahead.{Agrees}
+use Rattle.elf_names.specs.Ahead.{IsAheadOf}
 use Rattle.elf_names.proofs.HeldLaws.{piece-of_file}
 use Rattle.elf_names.proofs.SpendsLaws.{Spends-then}
 use Rattle.elf_names.proofs.read_ahead.ReadAhead.search.Goals as goal
@@ -54,7 +54,7 @@ loop-done-preserved g c =
     let until = i.ends in
     let added = c.add-in-loop-done.ensures in
     let part = c.part-piece.ensures.part in
-    let piece : (file : List ℕ) → c.args.src.now.seen.file ≡ Some file → Agrees file c.args.self.now → p ≡ slice file at (length p) =
+    let piece : (file : List ℕ) → c.args.src.now.seen.file ≡ Some file → IsAheadOf file c.args.self.now → p ≡ slice file at (length p) =
     λ file h a. piece-of_file file p held at _ _ (b.agrees file (i.spends.reads.keeps.same_file ∙ h) (i.held file h a)) (omega arith) begins (omega arith) size part in
     record {
       in_range = omega arith;

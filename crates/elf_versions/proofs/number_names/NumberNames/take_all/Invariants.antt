@@ -2,8 +2,8 @@
 use Rattle.std.proofs.Common.{◌≡◌, ◌-◌, ◌≤◌, List, ◌++◌, None}
 use Rattle.elf_headers.specs.Ledger.{Did}
 use Rattle.elf_model.specs.Versions.{Met}
-use Rattle.elf_versions.specs.NumberNames.{Names, behind_all}
-use Rattle.elf_versions.specs.Reading.{Agrees, unread, versions_left}
+use Rattle.elf_versions.specs.NumberNames.{NamesNumbers, behind_all}
+use Rattle.elf_versions.specs.Reading.{IsCursorOf, unread, versions_left}
 use Rattle.elf_versions.proofs.number_names.NumberNames.take_all.Given as goal
 
 abbrev pub invariant-records : goal.invariant-records
@@ -12,8 +12,8 @@ invariant-records g l = record {
   same_held : l.cursor.held ≡ l.fn.cursor.held;
   fewer : unread l.cursor ≤ unread l.fn.cursor;
   so_far : Did l.fn.src l.src None (unread l.fn.cursor - unread l.cursor)
-      (λ file. Agrees file l.fn.cursor → Agrees file l.cursor × ((records : List Met) → Names file records l.fn.self
-      → (seen : List Met) × (versions_left file l.fn.cursor ≡ behind_all seen (versions_left file l.cursor)) × Names file (records ++ seen) l.self));
+      (λ file. IsCursorOf file l.fn.cursor → IsCursorOf file l.cursor × ((records : List Met) → NamesNumbers file records l.fn.self
+      → (seen : List Met) × (versions_left file l.fn.cursor ≡ behind_all seen (versions_left file l.cursor)) × NamesNumbers file (records ++ seen) l.self));
 }
 
 abbrev pub decreases-records : goal.decreases-records

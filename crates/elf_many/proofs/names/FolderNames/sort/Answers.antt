@@ -5,7 +5,7 @@ use Rattle.std.specs.Ordering.{is_lt}
 use Rattle.elf_many.specs.Held.{piece}
 use Rattle.elf_many.specs.Order.{order}
 use Rattle.elf_many.proofs.HeldLaws.{answers_so, sorted_mapped}
-use Rattle.elf_many.proofs.names.Names.sort.Goals as goal
+use Rattle.elf_many.proofs.names.FolderNames.sort.Goals as goal
 
 pub invariant_of-self : goal.invariant_of-self
 invariant_of-self c = (

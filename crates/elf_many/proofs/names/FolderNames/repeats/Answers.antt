@@ -1,7 +1,7 @@
 use Rattle.std.proofs.Common.{rules, arith, ◌≡◌, ◌-◌, []}
 use Rattle.std.specs.Prelude.{bytes_eq, slice_index_or}
 use Rattle.elf_many.proofs.SortedLaws.{repeats_is}
-use Rattle.elf_many.proofs.names.Names.repeats.Goals as goal
+use Rattle.elf_many.proofs.names.FolderNames.repeats.Goals as goal
 
 pub returns : goal.returns
 returns c =

@@ -1,6 +1,6 @@
 use Rattle.std.proofs.Common.{rules, ◌≡◌, ◌++◌, ◌∷◌, [], length}
 use Rattle.elf_many.proofs.HeldLaws.{one_more}
-use Rattle.elf_many.proofs.names.Names.push.Goals as goal
+use Rattle.elf_many.proofs.names.FolderNames.push.Goals as goal
 
 pub returns-clause-pushed : goal.returns-clause-pushed
 returns-clause-pushed c =

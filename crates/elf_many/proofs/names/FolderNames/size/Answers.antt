@@ -1,7 +1,7 @@
 -- Names take as many bytes as lie there.
 use Rattle.std.proofs.Common.{rules, ◌≡◌, ◌∙◌, sym, length}
 use Rattle.elf_many.proofs.RoomLaws.{held_is}
-use Rattle.elf_many.proofs.names.Names.size.Goals as goal
+use Rattle.elf_many.proofs.names.FolderNames.size.Goals as goal
 
 pub returns : goal.returns
 returns c =

@@ -3,7 +3,7 @@ use Rattle.std.proofs.Common.{true, false, Ok, Err, ap, ◌∙◌, arith}
 use Rattle.std.proofs.lemmas.Result.{err_from_is_err_and}
 use Rattle.elf_headers.proofs.LedgerLaws.{Did-as, Did-of, Did-then}
 use Rattle.elf_hash.proofs.NamedLaws.{tries}
-use Rattle.elf_hash.proofs.named.NamedTrial.tried.Goals as goal
+use Rattle.elf_hash.proofs.named.NamedSymbolsTrial.tried.Goals as goal
 
 pub returns-in_err-is_wanted : goal.returns-in_err-is_wanted
 returns-in_err-is_wanted g c =
