@@ -125,6 +125,64 @@ fn layouts_have_bounds() {
     assert_eq!(apply(&[Item::section(1, 0), Item::section(1, 1)]), Err(Error::BadCall));
 }
 
+/// A section header: its type, offset, size, link, info and the size of an entry.
+fn section(kind: u8, offset: u8, size: u8, link: u8, info: u8, entry: u8) -> [u8; 64] {
+    let mut bytes = [0; 64];
+    (bytes[4], bytes[24], bytes[32]) = (kind, offset, size);
+    (bytes[40], bytes[44], bytes[56]) = (link, info, entry);
+    bytes
+}
+
+/// An object whose section 1 has a call with one relocation entry, of a type, for the undefined symbol `f`.
+fn call(kind: u8) -> Vec<u8> {
+    let mut bytes = header().to_vec();
+    (bytes[40], bytes[58], bytes[60]) = (0x98, 64, 5);
+    bytes.extend([0xe8, 0, 0, 0, 0, 0, 0, 0]);
+    for word in [1, 1 << 32 | u64::from(kind), (-4i64) as u64, 0, 0, 0, 0x10 << 32 | 1, 0, 0] {
+        bytes.extend(word.to_le_bytes());
+    }
+    bytes.extend(b"\0f\0\0\0\0\0\0");
+    bytes.extend([0; 64]);
+    for header in [
+        section(1, 0x40, 5, 0, 0, 0),
+        section(4, 0x48, 24, 3, 1, 24),
+        section(2, 0x60, 48, 4, 1, 24),
+        section(3, 0x90, 3, 0, 0, 0),
+    ] {
+        bytes.extend(header);
+    }
+    bytes
+}
+
+#[test]
+fn each_kind_of_item_is_its_own() {
+    let items = [
+        Item::define(b"f", 0x2000),
+        Item::entry(b"f", 0x2000),
+        Item::table(b"f", 0x2000),
+        Item::thread(b"f", 0x2000),
+    ];
+    // R_X86_64_PC32, PLT32, GOTPCREL and GOTTPOFF: which of the items each takes, and the cause where it takes none.
+    let types = [
+        (2, [true, false, false, false], Cause::Undefined),
+        (4, [true, true, false, false], Cause::Undefined),
+        (9, [false, false, true, false], Cause::Unsupported),
+        (22, [false, false, false, true], Cause::Unsupported),
+    ];
+    for (kind, takes, cause) in types {
+        for (item, is_taken) in items.into_iter().zip(takes) {
+            let (bytes, mut room, mut out) = (call(kind), [0; 320], [0; 5]);
+            let got = File::new(&bytes).apply(1, &[Item::section(1, 0x1000), item], &mut room, &mut out);
+            let wanted = if is_taken {
+                Ok(&[0xe8, 0xfb, 0x0f, 0, 0][..])
+            } else {
+                Err(Refused { cause, at: 0x48 }.into())
+            };
+            assert_eq!(got, wanted, "{kind} {item:?}");
+        }
+    }
+}
+
 #[test]
 fn what_is_not_there_is_absent() {
     let bytes = header();
