@@ -1,5 +1,5 @@
-//! The numbers of the standards, by their names in C: those of the gABI (Object Files), of the psABI for
-//! x86-64, and of the GNU system. Rows hold plain numbers, also such as have no name here.
+//! The numbers of the standards, by their names in C, in capitals: those of the gABI (Object Files), of the
+//! psABI for x86-64, and of the GNU system. Rows hold plain numbers, also such as have no name here.
 //!
 //! ```
 //! use elfsee::abi;
