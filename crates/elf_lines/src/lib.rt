@@ -21,6 +21,7 @@ mod section_rows;
 mod segment_rows;
 mod symbol_rows;
 mod told;
+mod trait_rows;
 mod version_rows;
 
 pub use buffers::LINES_BUFFER_BYTES;
@@ -40,4 +41,5 @@ pub use section_rows::section_front;
 pub use segment_rows::segment_row;
 pub use symbol_rows::{show_symbol, symbol_front};
 pub use told::show_told;
+pub use trait_rows::{column_name, column_word, show_lacking, show_traits};
 pub use version_rows::{symbol_version_front, version_front};

@@ -68,3 +68,8 @@ pub mod Checking
 pub mod Versions
 pub mod VersionLaws
 pub mod FixturesVersions
+pub mod Properties
+pub mod TraitNumbers
+pub mod Traits
+pub mod TraitWords
+pub mod TraitCost

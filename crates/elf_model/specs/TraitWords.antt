@@ -1,0 +1,172 @@
+-- The words of a file's traits, the line that has them in columns, and what is required of them.
+use Rattle.std.specs.Prelude.{ℕ, ◌==◌, ◌&&◌, nat_eq, Bool, true, false, List, [], ◌∷◌, ◌++◌, length, codes, Option, None, Some}
+use Rattle.std.specs.List.{starts_with}
+use Rattle.elf_model.specs.Fields.{Fields, LineFront, closed_line, front}
+use Rattle.elf_model.specs.Fields.Field.{Word}
+use Rattle.elf_model.specs.Lines.{named_line}
+use Rattle.elf_model.specs.Names.Shown.{Whole}
+use Rattle.elf_model.specs.declared.formats.Format.{Format}
+use Rattle.elf_model.specs.declared.traits.ProgramKind.{ProgramKind}
+use Rattle.elf_model.specs.declared.traits.ProgramKind.TheVariants as kind
+use Rattle.elf_model.specs.declared.traits.Relro.{Relro}
+use Rattle.elf_model.specs.declared.traits.Relro.TheVariants as relro
+use Rattle.elf_model.specs.declared.traits.SearchPath.{SearchPath}
+use Rattle.elf_model.specs.declared.traits.SearchPath.TheVariants as path
+use Rattle.elf_model.specs.declared.traits.SegmentTraits.{SegmentTraits}
+use Rattle.elf_model.specs.declared.traits.TraitColumn.{TraitColumn}
+use Rattle.elf_model.specs.declared.traits.TraitColumn.TheVariants as column
+use Rattle.elf_model.specs.declared.traits.Traits.{Traits}
+
+-- what a file is
+unfoldable pub kind_word : ProgramKind → List ℕ
+kind_word kind.Exec = codes "exec"
+kind_word kind.Pie = codes "pie"
+kind_word kind.Static = codes "static"
+kind_word kind.Lib = codes "lib"
+kind_word kind.Object = codes "object"
+kind_word kind.Core = codes "core"
+kind_word kind.Other = codes "other"
+
+-- what is not told, since the file has no program headers
+abbrev pub not_told : List ℕ
+not_told = codes "-"
+
+-- a word of what program headers tell
+abbrev pub segments_word : Option SegmentTraits → (SegmentTraits → List ℕ) → List ℕ
+segments_word None word = not_told
+segments_word (Some segments) word = word segments
+
+unfoldable pub relro_text : Relro → List ℕ
+relro_text relro.Full = codes "full"
+relro_text relro.Partial = codes "partial"
+relro_text relro.Absent = codes "none"
+
+-- one of two words
+abbrev pub either_word : Bool → (List ℕ) → (List ℕ) → List ℕ
+either_word true first second = first
+either_word false first second = second
+
+unfoldable pub relro_word : Option SegmentTraits → List ℕ
+relro_word segments = segments_word segments (λ s. relro_text s.relro)
+
+unfoldable pub stack_word : Option SegmentTraits → List ℕ
+stack_word segments = segments_word segments (λ s. either_word s.stack_executable (codes "exec") (codes "nx"))
+
+unfoldable pub pages_word : Option SegmentTraits → List ℕ
+pages_word segments = segments_word segments (λ s. either_word s.pages_writable (codes "wx") (codes "w^x"))
+
+unfoldable pub text_word : Option SegmentTraits → List ℕ
+text_word segments = segments_word segments (λ s. either_word s.text_patched (codes "patch") (codes "fixed"))
+
+-- the control flow that is checked: of branches, of returns, of both, or of neither
+unfoldable pub cet_word : Bool → Bool → List ℕ
+cet_word true true = codes "ibt+shstk"
+cet_word true false = codes "ibt"
+cet_word false true = codes "shstk"
+cet_word false false = codes "-"
+
+unfoldable pub canary_word : Bool → List ℕ
+canary_word canary = either_word canary (codes "canary") (codes "-")
+
+unfoldable pub fortify_word : Bool → List ℕ
+fortify_word fortify = either_word fortify (codes "fortify") (codes "-")
+
+unfoldable pub path_word : SearchPath → List ℕ
+path_word path.Runpath = codes "runpath"
+path_word path.Rpath = codes "rpath"
+path_word path.Absent = codes "-"
+
+-- THE LINE of a file's traits up to its path
+abbrev pub trait_fields : Traits → Fields
+trait_fields t = record {
+  letter = codes "T";
+  fields =
+      Word (codes "kind") 6 (kind_word t.kind)
+      ∷ Word (codes "relro") 7 (relro_word t.segments)
+      ∷ Word (codes "stack") 5 (stack_word t.segments)
+      ∷ Word (codes "pages") 5 (pages_word t.segments)
+      ∷ Word (codes "text") 5 (text_word t.segments)
+      ∷ Word (codes "cet") 9 (cet_word t.ibt t.shstk)
+      ∷ Word (codes "canary") 6 (canary_word t.canary)
+      ∷ Word (codes "fortify") 7 (fortify_word t.fortify)
+      ∷ Word (codes "rpath") 7 (path_word t.path)
+      ∷ [];
+}
+
+unfoldable pub trait_front : Format → Traits → LineFront
+trait_front format t = front format (codes "path") (trait_fields t)
+
+-- the line of a file: its traits, and its path
+abbrev pub trait_line : Format → Traits → List ℕ → List ℕ
+trait_line format traits its_path = named_line (trait_front format traits) (Whole its_path)
+
+-- the name of a column, and its word
+unfoldable pub column_name : TraitColumn → List ℕ
+column_name column.Kind = codes "kind"
+column_name column.Relro = codes "relro"
+column_name column.Stack = codes "stack"
+column_name column.Pages = codes "pages"
+column_name column.Text = codes "text"
+column_name column.Cet = codes "cet"
+column_name column.Canary = codes "canary"
+column_name column.Fortify = codes "fortify"
+column_name column.Path = codes "path"
+
+unfoldable pub column_word : Traits → TraitColumn → List ℕ
+column_word t column.Kind = kind_word t.kind
+column_word t column.Relro = relro_word t.segments
+column_word t column.Stack = stack_word t.segments
+column_word t column.Pages = pages_word t.segments
+column_word t column.Text = text_word t.segments
+column_word t column.Cet = cet_word t.ibt t.shstk
+column_word t column.Canary = canary_word t.canary
+column_word t column.Fortify = fortify_word t.fortify
+column_word t column.Path = path_word t.path
+
+-- WHAT IS REQUIRED of a file: a word of a column
+pub record Required : Type 0 where
+  pub column : TraitColumn
+  pub word : List ℕ
+
+-- a file has the word
+abbrev pub has_word : Traits → Required → Bool
+has_word t required =
+    length (column_word t required.column) == length required.word
+    && starts_with nat_eq (column_word t required.column) required.word
+
+-- words are required of programs and libraries alone
+unfoldable pub is_program : ProgramKind → Bool
+is_program kind.Exec = true
+is_program kind.Pie = true
+is_program kind.Static = true
+is_program kind.Lib = true
+is_program kind.Object = false
+is_program kind.Core = false
+is_program kind.Other = false
+
+-- the column of the first of some words that a file lacks
+unfoldable pub first_lacking : Traits → List Required → Option TraitColumn
+first_lacking t [] = None
+first_lacking t (required ∷ others) =
+    elim (has_word t required) [ true ↦ first_lacking t others | false ↦ Some required.column ]
+
+-- what a file lacks of what is required
+unfoldable pub lacking : Traits → List Required → Option TraitColumn
+lacking t required = elim (is_program t.kind) [ true ↦ first_lacking t required | false ↦ None ]
+
+-- the line of what a file lacks: the column's name, and the word that it has
+abbrev pub lacking_text : Traits → TraitColumn → List ℕ
+lacking_text t its_column = column_name its_column ++ codes "=" ++ column_word t its_column
+
+unfoldable pub lacking_line : Format → Traits → TraitColumn → List ℕ
+lacking_line format t its_column =
+    closed_line format (record { letter = codes "!"; fields = [] }) (Word (codes "trait") 0 (lacking_text t its_column))
+
+-- the lines of a file
+unfoldable pub traits_text : Format → Traits → List Required → List ℕ → List ℕ
+traits_text format t required its_path =
+    trait_line format t its_path ++ elim (lacking t required) [ None ↦ [] | Some its_column ↦ lacking_line format t its_column ]
+
+-- the exit status that a file's traits call for: 1 where it lacks a word
+unfoldable pub traits_status : Traits → List Required → ℕ
+traits_status t required = elim (lacking t required) [ None ↦ 0 | Some its_column ↦ 1 ]

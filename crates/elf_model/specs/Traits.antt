@@ -1,0 +1,260 @@
+-- HOW A FILE IS HARDENED, by its program headers and dynamic entries, as a loader sees it: each trait with the standard or the
+-- convention that it goes by. The definitions are over a file that tells of no section headers.
+use Rattle.std.specs.Prelude.{ℕ, zero, suc, ◌-◌, ◌/◌, ◌==◌, ◌&&◌, ◌||◌, nat_eq, nat_lt, not, is_some, min, max, if◌then◌else◌, Bool, true, false, List, [], ◌∷◌, ◌++◌, length, codes, Option, None, Some, unwrap_or, Result, Ok, Err}
+use Rattle.std.specs.List.{starts_with, ends_with}
+use Rattle.elf_model.specs.Bytes.{field}
+use Rattle.elf_model.specs.Chains.{HashTable}
+use Rattle.elf_model.specs.Checks.{first_refusal, header_checks, load_checks}
+use Rattle.elf_model.specs.Dynamic.{listed_value}
+use Rattle.elf_model.specs.Find.{first_that}
+use Rattle.elf_model.specs.GnuHash.{chain_word, ends_chain, gnu_bucket_at, gnu_first, gnu_nbucket, is_chained}
+use Rattle.elf_model.specs.Hash.{sysv_nchain}
+use Rattle.elf_model.specs.Loader.{Symbols, symbol_place}
+use Rattle.elf_model.specs.LoaderFind.{counts_check}
+use Rattle.elf_model.specs.LoaderScope.{GnuTable, SysvTable, Scope, dynamic_segment_index, scope_by_segments}
+use Rattle.elf_model.specs.Names.{Shown, shown}
+use Rattle.elf_model.specs.Names.Shown.{Whole, Cut}
+use Rattle.elf_model.specs.Numbers.{EM_X86_64, ET_REL, PT_LOAD, SHN_UNDEF, DT_SONAME, DT_RPATH, DT_RUNPATH}
+use Rattle.elf_model.specs.Properties.{GNU_PROPERTY_X86_FEATURE_1_IBT, GNU_PROPERTY_X86_FEATURE_1_SHSTK, features_in, property_list}
+use Rattle.elf_model.specs.Records.{e_type, e_machine, e_phnum, p_type, p_flags, p_offset, p_filesz, segment_at, st_name, st_shndx}
+use Rattle.elf_model.specs.Style.{without_sections}
+use Rattle.elf_model.specs.Tables.{DYNAMIC_SIZE}
+use Rattle.elf_model.specs.TraitNumbers.{ET_EXEC, ET_DYN, ET_CORE, PT_INTERP, PT_GNU_STACK, PT_GNU_RELRO, PF_X, PF_W, DT_TEXTREL, DT_BIND_NOW, DT_FLAGS, DT_FLAGS_1, DF_TEXTREL, DF_BIND_NOW, DF_1_NOW, DF_1_PIE, has_bits}
+use Rattle.elf_model.specs.declared.causes.Cause.{Cause}
+use Rattle.elf_model.specs.declared.causes.Cause.TheVariants.{NoHash}
+use Rattle.elf_model.specs.declared.causes.Refusal.{Refusal}
+use Rattle.elf_model.specs.declared.traits.ProgramKind.{ProgramKind}
+use Rattle.elf_model.specs.declared.traits.ProgramKind.TheVariants as kind
+use Rattle.elf_model.specs.declared.traits.Relro.{Relro}
+use Rattle.elf_model.specs.declared.traits.Relro.TheVariants as relro
+use Rattle.elf_model.specs.declared.traits.SearchPath.{SearchPath}
+use Rattle.elf_model.specs.declared.traits.SearchPath.TheVariants as path
+use Rattle.elf_model.specs.declared.traits.SegmentTraits.{SegmentTraits}
+use Rattle.elf_model.specs.declared.traits.Traits.{Traits}
+
+-- SEGMENTS. The program header of an index is of a type
+abbrev pub is_segment : List ℕ → (type index : ℕ) → Bool
+is_segment file type i = p_type file (segment_at file i) == type
+
+-- the first program header of a type
+abbrev pub segment_of : List ℕ → ℕ → Option ℕ
+segment_of file type = first_that (is_segment file type) 0 (e_phnum file)
+
+-- a segment has all of some permissions
+abbrev pub permits : List ℕ → (bits index : ℕ) → Bool
+permits file bits i = has_bits (p_flags file (segment_at file i)) bits
+
+-- STACK: a loader makes the stack executable where the first segment of its permissions is, and where there is none, as the
+-- files are that were made before there was such a segment (Linux Standard Base Core, Program Header)
+unfoldable pub is_stack_executable : List ℕ → Bool
+is_stack_executable file = elim (segment_of file PT_GNU_STACK) [ None ↦ true | Some i ↦ permits file PF_X i ]
+
+-- PAGES: a LOAD segment may be written and run (gABI 5, Segment Permissions)
+abbrev pub is_writable_code : List ℕ → ℕ → Bool
+is_writable_code file i = is_segment file PT_LOAD i && (permits file PF_W i && permits file PF_X i)
+
+unfoldable pub is_code_writable : List ℕ → Bool
+is_code_writable file = is_some (first_that (is_writable_code file) 0 (e_phnum file))
+
+-- DYNAMIC ENTRIES. The value of the first with a tag, in the first segment of such, up to and with the first that is DT_NULL
+unfoldable pub entry_value : List ℕ → ℕ → Option ℕ
+entry_value file tag = elim (dynamic_segment_index file) [
+  | None ↦ None
+  | Some i ↦ listed_value file (p_offset file (segment_at file i)) (p_filesz file (segment_at file i) / DYNAMIC_SIZE) tag
+]
+
+abbrev pub has_entry : List ℕ → ℕ → Bool
+has_entry file tag = is_some (entry_value file tag)
+
+-- the entry with a tag has all of some flags; one that is not there has none
+abbrev pub entry_has : List ℕ → (tag bits : ℕ) → Bool
+entry_has file tag bits = has_bits (unwrap_or (entry_value file tag) 0) bits
+
+-- all symbols are bound before the program begins (gABI 5, DT_BIND_NOW and DF_BIND_NOW; the GNU system's DF_1_NOW)
+unfoldable pub binds_now : List ℕ → Bool
+binds_now file = has_entry file DT_BIND_NOW || (entry_has file DT_FLAGS DF_BIND_NOW || entry_has file DT_FLAGS_1 DF_1_NOW)
+
+-- RELRO: a segment of the GNU system is made read-only once it is relocated; what is bound later stays writable
+unfoldable pub relro_of : List ℕ → Relro
+relro_of file = elim (is_some (segment_of file PT_GNU_RELRO)) [
+  | false ↦ relro.Absent
+  | true ↦ elim (binds_now file) [ true ↦ relro.Full | false ↦ relro.Partial ]
+]
+
+-- TEXT: relocations change a segment that is not writable (gABI 5, DT_TEXTREL and DF_TEXTREL)
+unfoldable pub is_text_patched : List ℕ → Bool
+is_text_patched file = has_entry file DT_TEXTREL || entry_has file DT_FLAGS DF_TEXTREL
+
+-- PATH: where libraries are looked for first. A loader passes over DT_RPATH where there is DT_RUNPATH (gABI 5, Shared Object
+-- Dependencies)
+unfoldable pub path_of : List ℕ → SearchPath
+path_of file = elim (has_entry file DT_RUNPATH) [
+  | true ↦ path.Runpath
+  | false ↦ elim (has_entry file DT_RPATH) [ true ↦ path.Rpath | false ↦ path.Absent ]
+]
+
+-- KIND. A file that may stand at any address is a library where it has a name as one; else a program where it asks for an
+-- interpreter, and where it says so (the GNU system's DF_1_PIE), which then asks for none
+unfoldable pub kind_of_shared : List ℕ → ProgramKind
+kind_of_shared file = elim (has_entry file DT_SONAME) [
+  | true ↦ kind.Lib
+  | false ↦ elim (is_some (segment_of file PT_INTERP)) [
+    | true ↦ kind.Pie
+    | false ↦ elim (entry_has file DT_FLAGS_1 DF_1_PIE) [ true ↦ kind.Static | false ↦ kind.Lib ]
+  ]
+]
+
+-- by the type of the file (gABI 4, ELF Header)
+unfoldable pub program_kind : List ℕ → ProgramKind
+program_kind file =
+    if e_type file == ET_DYN then kind_of_shared file
+    else if e_type file == ET_EXEC then (if is_some (segment_of file PT_INTERP) then kind.Exec else kind.Static)
+    else if e_type file == ET_REL then kind.Object
+    else if e_type file == ET_CORE then kind.Core
+    else kind.Other
+
+-- what program headers tell, where the file has any
+unfoldable pub segment_traits : List ℕ → Option SegmentTraits
+segment_traits file = elim (e_phnum file == 0) [
+  | true ↦ None
+  | false ↦
+      Some (record {
+        relro = relro_of file;
+        stack_executable = is_stack_executable file;
+        pages_writable = is_code_writable file;
+        text_patched = is_text_patched file;
+      })
+]
+
+-- CONTROL FLOW: the word of features of x86 in the first list of properties; other machines have other words under its number
+unfoldable pub feature_word : List ℕ → Result ℕ Refusal
+feature_word file = elim (e_machine file == EM_X86_64) [
+  | false ↦ Ok 0
+  | true ↦ elim (property_list file) [ Err refusal ↦ Err refusal | Ok None ↦ Ok 0 | Ok (Some list) ↦ features_in list ]
+]
+
+-- SYMBOLS. The dynamic symbols are those that a lookup of a loader knows; a file without a hash table has none
+abbrev pub has_none : Cause → Bool
+has_none NoHash = true
+has_none _ = false
+
+unfoldable pub known_symbols : List ℕ → Result (Option Scope) Refusal
+known_symbols file = elim (scope_by_segments file) [
+  | Ok scope ↦ elim (first_refusal (counts_check file scope ∷ [])) [ Some refusal ↦ Err refusal | None ↦ Ok (Some scope) ]
+  | Err refusal ↦ elim (has_none refusal.cause) [ true ↦ Ok None | false ↦ Err refusal ]
+]
+
+-- HOW MANY there are is told by the hash table alone. In the GNU system's: the symbols before `first`, and those of chains, of
+-- which the highest begins at the highest of the buckets' words
+unfoldable pub highest_start : List ℕ → (place count : ℕ) → ℕ
+highest_start file place zero = 0
+highest_start file place (suc n) = max (highest_start file place n) (field file (gnu_bucket_at file place n) 4)
+
+-- a chain ends at a symbol: the last of it, or one that is not there
+abbrev pub is_last_in : List ℕ → HashTable → ℕ → Bool
+is_last_in file table y = not (is_chained file table y) || ends_chain (chain_word file table.place y)
+
+unfoldable pub gnu_symbols : List ℕ → HashTable → ℕ
+gnu_symbols file table =
+    let start = highest_start file table.place (gnu_nbucket file table.place) in
+    if nat_lt start (gnu_first file table.place) then min (gnu_first file table.place) table.symbols
+    else elim (first_that (is_last_in file table) start (table.symbols - start)) [
+      | None ↦ table.symbols
+      | Some y ↦ suc y
+    ]
+
+-- in the gABI's as many as there are chains (gABI 5, Hash Table); no more than there is room for
+unfoldable pub symbol_count : List ℕ → Scope → ℕ
+symbol_count file scope = elim scope.kind [
+  | GnuTable ↦ gnu_symbols file scope.table
+  | SysvTable ↦ min (sysv_nchain file scope.table.place) scope.table.symbols
+]
+
+-- CANARY: the functions that guards of the stack call, and the word that they compare with (Linux Standard Base Core, libc)
+abbrev pub guards : List (List ℕ)
+guards = codes "__stack_chk_fail" ∷ codes "__stack_chk_guard" ∷ []
+
+unfoldable pub is_any_of : List (List ℕ) → List ℕ → Bool
+is_any_of [] name = false
+is_any_of (other ∷ others) name = (length name == length other && starts_with nat_eq name other) || is_any_of others name
+
+abbrev pub is_guard : List ℕ → Bool
+is_guard name = is_any_of guards name
+
+-- FORTIFY: the functions of the C library that check the size of what they write, as the GNU system names them
+unfoldable pub is_checked_call : List ℕ → Bool
+is_checked_call name = starts_with nat_eq name (codes "__") && (ends_with nat_eq name (codes "_chk") && not (is_guard name))
+
+-- how many bytes of a symbol's name are looked at: a longer one is none of those
+abbrev pub TRAIT_NAME_BYTES : ℕ
+TRAIT_NAME_BYTES = 63
+
+-- what symbols tell: that one is a guard's, that one that is undefined is a checked call's
+pub record SymbolMarks : Type 0 where
+  pub canary : Bool
+  pub fortify : Bool
+
+abbrev pub no_marks : SymbolMarks
+no_marks = record { canary = false; fortify = false }
+
+abbrev pub marked_by : SymbolMarks → List ℕ → Bool → SymbolMarks
+marked_by marks name undefined = record {
+  canary = marks.canary || is_guard name;
+  fortify = marks.fortify || (undefined && is_checked_call name);
+}
+
+-- with one more symbol, which stands at an offset, by what is shown of its name
+abbrev pub with_symbol : List ℕ → ℕ → SymbolMarks → Shown → SymbolMarks
+with_symbol file at marks (Whole name) = marked_by marks name (st_shndx file at == SHN_UNDEF)
+with_symbol file at marks (Cut front) = marks
+
+-- what so many symbols from an index on tell, beside those before; a fault of a name is at the symbol
+unfoldable pub marks_from : List ℕ → Symbols → SymbolMarks → (index count : ℕ) → Result SymbolMarks Refusal
+marks_from file symbols marks index zero = Ok marks
+marks_from file symbols marks index (suc count) =
+    let at = symbol_place symbols index in
+    elim (shown symbols.strings (st_name file at) TRAIT_NAME_BYTES) [
+      | Err cause ↦ Err (record { at = at; cause = cause })
+      | Ok name ↦ marks_from file symbols (with_symbol file at marks name) (suc index) count
+    ]
+
+-- what the symbols of a file tell, all but the first, which is none (gABI 4, Symbol Table)
+unfoldable pub symbol_marks : List ℕ → Option Scope → Result SymbolMarks Refusal
+symbol_marks file None = Ok no_marks
+symbol_marks file (Some scope) = marks_from file scope.symbols no_marks 1 (symbol_count file scope - 1)
+
+-- the traits, by the word of the features and what the symbols tell
+unfoldable pub traits_with : List ℕ → ℕ → SymbolMarks → Traits
+traits_with file word marks = record {
+  kind = program_kind file;
+  segments = segment_traits file;
+  ibt = has_bits word GNU_PROPERTY_X86_FEATURE_1_IBT;
+  shstk = has_bits word GNU_PROPERTY_X86_FEATURE_1_SHSTK;
+  canary = marks.canary;
+  fortify = marks.fortify;
+  path = path_of file;
+}
+
+-- the traits of a file that tells of no section headers, once its headers are loaded, or the first refusal: of what a lookup is
+-- made in, LOAD segments over each other and dynamic entries first; of the properties; of the symbols' names
+unfoldable pub loaded_traits : List ℕ → Result Traits Refusal
+loaded_traits file = elim (known_symbols file) [
+  | Err refusal ↦ Err refusal
+  | Ok scope ↦ elim (feature_word file) [
+    | Err refusal ↦ Err refusal
+    | Ok word ↦ elim (symbol_marks file scope) [
+      | Err refusal ↦ Err refusal
+      | Ok marks ↦ Ok (traits_with file word marks)
+    ]
+  ]
+]
+
+unfoldable pub traits_by_segments : List ℕ → ℕ → Result Traits Refusal
+traits_by_segments file headers = elim (first_refusal (header_checks file ++ load_checks file headers)) [
+  | Some refusal ↦ Err refusal
+  | None ↦ loaded_traits file
+]
+
+-- THE TRAITS OF A FILE, with so many headers permitted: whatever its section headers tell
+unfoldable pub traits_of : List ℕ → ℕ → Result Traits Refusal
+traits_of file headers = traits_by_segments (without_sections file) headers

@@ -1,0 +1,55 @@
+-- Worked examples of words that are required.
+use Rattle.std.specs.Prelude.{◌≡◌, [], ◌∷◌, codes, true, false, Some}
+use Rattle.elf_model.specs.declared.formats.Format.TheVariants.{Columns}
+use Rattle.elf_model.specs.TraitWords.{Required, traits_status, traits_text}
+use Rattle.elf_model.specs.declared.traits.ProgramKind.{ProgramKind}
+use Rattle.elf_model.specs.declared.traits.ProgramKind.TheVariants as kind
+use Rattle.elf_model.specs.declared.traits.Relro.TheVariants as relro
+use Rattle.elf_model.specs.declared.traits.SearchPath.TheVariants as path
+use Rattle.elf_model.specs.declared.traits.TraitColumn.TheVariants as column
+use Rattle.elf_model.specs.declared.traits.Traits.{Traits}
+
+-- a file of a kind with partial relocation and an executable stack
+abbrev weak : ProgramKind → Traits
+weak its_kind = record {
+  kind = its_kind;
+  segments = Some (record { relro = relro.Partial; stack_executable = true; pages_writable = false; text_patched = false });
+  ibt = false;
+  shstk = false;
+  canary = false;
+  fortify = true;
+  path = path.Rpath;
+}
+
+abbrev full : Required
+full = record { column = column.Relro; word = codes "full" }
+
+abbrev nx : Required
+nx = record { column = column.Stack; word = codes "nx" }
+
+abbrev rpath : Required
+rpath = record { column = column.Path; word = codes "rpath" }
+
+-- a program that lacks no word has its line alone; else the first word that it lacks has a line, and the status is 1
+abbrev pub RequiredRows : Type 0
+RequiredRows =
+    (traits_text Columns (weak kind.Pie) [] (codes "p") ≡ codes "T pie    partial exec  w^x   fixed -         -      fortify rpath   p\n")
+    × (traits_status (weak kind.Pie) [] ≡ 0)
+    × (traits_text Columns (weak kind.Pie) (rpath ∷ []) (codes "p") ≡ codes "T pie    partial exec  w^x   fixed -         -      fortify rpath   p\n")
+    × (traits_status (weak kind.Pie) (rpath ∷ []) ≡ 0)
+    × (traits_text Columns (weak kind.Pie) (rpath ∷ full ∷ nx ∷ []) (codes "p")
+    ≡ codes "T pie    partial exec  w^x   fixed -         -      fortify rpath   p\n! relro=partial\n")
+    × (traits_status (weak kind.Pie) (rpath ∷ full ∷ nx ∷ []) ≡ 1)
+    × (traits_text Columns (weak kind.Pie) (nx ∷ full ∷ []) (codes "p")
+    ≡ codes "T pie    partial exec  w^x   fixed -         -      fortify rpath   p\n! stack=exec\n")
+
+-- nothing is required of files that are no programs and no libraries
+abbrev pub NothingRequired : Type 0
+NothingRequired =
+    (traits_text Columns (weak kind.Core) (full ∷ []) (codes "p") ≡ codes "T core   partial exec  w^x   fixed -         -      fortify rpath   p\n")
+    × (traits_status (weak kind.Core) (full ∷ []) ≡ 0)
+    × (traits_status (weak kind.Object) (full ∷ []) ≡ 0)
+    × (traits_status (weak kind.Other) (full ∷ []) ≡ 0)
+    × (traits_status (weak kind.Lib) (full ∷ []) ≡ 1)
+    × (traits_status (weak kind.Static) (full ∷ []) ≡ 1)
+    × (traits_status (weak kind.Exec) (full ∷ []) ≡ 1)

@@ -1,0 +1,65 @@
+-- A small program to compute on, which has every trait, and what the worked examples are said by.
+use Rattle.std.specs.Prelude.{◌≡◌, ℕ, List, [], ◌∷◌, ◌++◌, codes, Ok, Err}
+use Rattle.elf_model.specs.declared.formats.Format.TheVariants.{Columns}
+use Rattle.elf_model.specs.Bytes.{little}
+use Rattle.elf_model.specs.Checking.{check_line}
+use Rattle.elf_model.specs.Fixtures.{zeros, symbol}
+use Rattle.elf_model.specs.FixturesHash.{words}
+use Rattle.elf_model.specs.FixturesSegments.{object}
+use Rattle.elf_model.specs.FixturesTables.{plain_note, program_header, tagged}
+use Rattle.elf_model.specs.TraitCost.{traits_cost}
+use Rattle.elf_model.specs.Traits.{traits_of}
+use Rattle.elf_model.specs.TraitWords.{trait_line}
+use Rattle.elf_model.specs.declared.states.FileState.TheVariants.{Refused}
+
+-- its program headers, from 0x40 on: all of it is loaded at address 0; the interpreter; the dynamic entries; the permissions of
+-- the stack; what is read-only once it is relocated; the notes
+unfoldable pub program_headers : List ℕ
+program_headers =
+    program_header 1 5 0 0 0x2a8 0x1000 ++ program_header 3 4 0x217 0x217 1 1 ++ program_header 2 6 0x238 0x238 0x70 8
+    ++ program_header 0x6474e551 6 0 0 0 16 ++ program_header 0x6474e552 4 0x238 0x238 0x70 1
+    ++ program_header 4 4 0x218 0x218 0x20 8
+
+-- its hash table of the GNU system, at 0x190, in which no symbol is: there are three, all before `first`
+unfoldable pub program_hash : List ℕ
+program_hash = words (1 ∷ 3 ∷ 1 ∷ 6 ∷ 0 ∷ 0 ∷ 0 ∷ 0 ∷ [])
+
+-- its symbols, at 0x1b0, which it needs of libraries, and their strings, at 0x1f8
+unfoldable pub program_symbols : List ℕ
+program_symbols = symbol 0 0 0 0 0 ++ symbol 1 0x12 0 0 0 ++ symbol 18 0x12 0 0 0
+
+unfoldable pub program_strings : List ℕ
+program_strings = zeros 1 ++ codes "__stack_chk_fail" ++ zeros 1 ++ codes "__printf_chk" ++ zeros 2
+
+-- a property with padding: its type, the size of its data, the data
+unfoldable pub property : (type datasz : ℕ) → List ℕ → List ℕ
+property type datasz content = little 4 type ++ little 4 datasz ++ content
+
+-- its note, at 0x218, whose list of properties begins at 0x228: both features of x86
+unfoldable pub program_note : List ℕ
+program_note = plain_note (codes "GNU" ++ zeros 1) (property 0xc0000002 4 (little 8 3)) 5
+
+-- its dynamic entries, at 0x238: GNU_HASH, STRTAB, SYMTAB, STRSZ, FLAGS, FLAGS_1, NULL
+unfoldable pub program_entries : List ℕ
+program_entries =
+    tagged 0x6ffffef5 0x190 ++ tagged 5 0x1f8 ++ tagged 6 0x1b0 ++ tagged 10 0x20 ++ tagged 30 8 ++ tagged 0x6ffffffb 0x8000001
+    ++ tagged 0 0
+
+-- A PROGRAM of 680 bytes without section headers
+unfoldable pub program : List ℕ
+program =
+    object 6 (program_headers ++ program_hash ++ program_symbols ++ program_strings ++ program_note ++ program_entries)
+
+-- the line of a file at a path, with eight headers permitted: its traits, or its refusal
+unfoldable pub told : List ℕ → List ℕ
+told file = elim (traits_of file 8) [
+  | Err refusal ↦ check_line Columns (Refused refusal) (codes "p")
+  | Ok traits ↦ trait_line Columns traits (codes "p")
+]
+
+abbrev pub Tells : List ℕ → List ℕ → Type 0
+Tells file line = told file ≡ line
+
+-- it asks for so many bytes
+abbrev pub Asks : List ℕ → ℕ → Type 0
+Asks file cost = traits_cost file 8 ≡ cost

@@ -1,0 +1,4 @@
+pub mod PropertyLaws
+pub mod ReadLaws
+pub mod HeadLaws
+pub mod WordLaws

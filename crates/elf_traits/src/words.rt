@@ -1,0 +1,21 @@
+//! Reads of words of four bytes.
+ghost use Rattle.std.specs.Prelude.{◌+◌, ◌≤◌};
+ghost use Rattle.elf_headers.specs.Ledger.{Did, IsRead, why_stopped};
+ghost use Rattle.elf_model.specs.Bytes.{field};
+
+use elf_headers::{Fault, fill};
+use elf_record::word;
+use elf_source::{Counted, Source};
+
+/// Reads the word at an offset, and only its four bytes.
+///
+/// # Errors
+/// A fault of the read, or a refusal for want of budget, at the offset.
+pub(crate) fn read_word<S: Source>(src: &mut Counted<S>, at: u64) -> Result<u32, Fault>
+    requires { at + 4 ≤ src.old.seen.size }
+    ensures { Did src.old src.new (why_stopped result) 4 (λ file. IsRead result (field file at 4)) }
+{
+    let mut bytes = [0; 4];
+    fill(src, at, &mut bytes)?;
+    Ok(word(&bytes))
+}
