@@ -58,9 +58,21 @@ fn traits_row(traits: Traits, format: Format) -> LineFront
     put_trait(&mut line, format, b"stack", 5, stack_word(traits.segments));
     put_trait(&mut line, format, b"pages", 5, pages_word(traits.segments));
     put_trait(&mut line, format, b"text", 5, text_word(traits.segments));
-    put_trait(&mut line, format, b"cet", 9, cet_word(traits.ibt, traits.shstk));
+    put_trait(
+        &mut line,
+        format,
+        b"cet",
+        9,
+        cet_word(traits.ibt, traits.shstk),
+    );
     put_trait(&mut line, format, b"canary", 6, canary_word(traits.canary));
-    put_trait(&mut line, format, b"fortify", 7, fortify_word(traits.fortify));
+    put_trait(
+        &mut line,
+        format,
+        b"fortify",
+        7,
+        fortify_word(traits.fortify),
+    );
     put_trait(&mut line, format, b"rpath", 7, path_word(traits.path));
     LineFront {
         line,

@@ -13,11 +13,11 @@ use Rattle.elf_model.specs.Records.{FILE_HEADER_SIZE, PROGRAM_HEADER_SIZE, e_mac
 use Rattle.elf_model.specs.Style.{without_sections}
 use Rattle.elf_model.specs.TableKinds.{segment_notes}
 use Rattle.elf_model.specs.Tables.{SYMBOL_SIZE, segment_dynamic_checks}
-use Rattle.elf_model.specs.Traits.{TRAIT_NAME_BYTES, known_symbols, symbol_count}
+use Rattle.elf_model.specs.Traits.{TRAIT_NAME_BYTES, known_symbols, hashed_symbol_count}
 
 -- the first table of dynamic entries, where its checks pass
-unfoldable pub entries_asked : List ℕ → ℕ
-entries_asked file = elim (dynamic_segment_index file) [
+unfoldable pub trait_entries_asked : List ℕ → ℕ
+trait_entries_asked file = elim (dynamic_segment_index file) [
   | None ↦ 0
   | Some i ↦ cost_where (pass (segment_dynamic_checks file (segment_at file i))) (p_filesz file (segment_at file i))
 ]
@@ -32,7 +32,7 @@ properties_asked file =
 -- the words of a hash table that tell how many symbols there are: its counts, the buckets' words, and a chain's
 unfoldable pub hash_words_asked : List ℕ → Scope → ℕ
 hash_words_asked file scope = elim scope.kind [
-  | GnuTable ↦ 16 + 4 * gnu_nbucket file scope.table.place + 4 * symbol_count file scope
+  | GnuTable ↦ 16 + 4 * gnu_nbucket file scope.table.place + 4 * hashed_symbol_count file scope
   | SysvTable ↦ 8
 ]
 
@@ -42,7 +42,7 @@ symbols_asked file = elim (known_symbols file) [
   | Err refusal ↦ 16
   | Ok None ↦ 0
   | Ok (Some scope) ↦
-      hash_words_asked file scope + (symbol_count file scope - 1) * (SYMBOL_SIZE + name_bytes TRAIT_NAME_BYTES)
+      hash_words_asked file scope + (hashed_symbol_count file scope - 1) * (SYMBOL_SIZE + name_bytes TRAIT_NAME_BYTES)
 ]
 
 -- HOW MANY BYTES the traits of a file ask for at most, where it tells of no section headers: the file header; the program
@@ -51,7 +51,7 @@ unfoldable pub segment_traits_cost : List ℕ → ℕ → ℕ
 segment_traits_cost file headers = elim (first_refusal (before_headers file headers)) [
   | Some refusal ↦ FILE_HEADER_SIZE
   | None ↦
-      FILE_HEADER_SIZE + segments_asked file + entries_asked file + properties_asked file + symbols_asked file
+      FILE_HEADER_SIZE + segments_asked file + trait_entries_asked file + properties_asked file + symbols_asked file
 ]
 
 unfoldable pub traits_cost : List ℕ → ℕ → ℕ

@@ -57,22 +57,22 @@ unfoldable pub is_code_writable : List ℕ → Bool
 is_code_writable file = is_some (first_that (is_writable_code file) 0 (e_phnum file))
 
 -- DYNAMIC ENTRIES. The value of the first with a tag, in the first segment of such, up to and with the first that is DT_NULL
-unfoldable pub entry_value : List ℕ → ℕ → Option ℕ
-entry_value file tag = elim (dynamic_segment_index file) [
+unfoldable pub dynamic_entry_value : List ℕ → ℕ → Option ℕ
+dynamic_entry_value file tag = elim (dynamic_segment_index file) [
   | None ↦ None
   | Some i ↦ listed_value file (p_offset file (segment_at file i)) (p_filesz file (segment_at file i) / DYNAMIC_SIZE) tag
 ]
 
-abbrev pub has_entry : List ℕ → ℕ → Bool
-has_entry file tag = is_some (entry_value file tag)
+abbrev pub has_dynamic_entry : List ℕ → ℕ → Bool
+has_dynamic_entry file tag = is_some (dynamic_entry_value file tag)
 
 -- the entry with a tag has all of some flags; one that is not there has none
 abbrev pub entry_has : List ℕ → (tag bits : ℕ) → Bool
-entry_has file tag bits = has_bits (unwrap_or (entry_value file tag) 0) bits
+entry_has file tag bits = has_bits (unwrap_or (dynamic_entry_value file tag) 0) bits
 
 -- all symbols are bound before the program begins (gABI 5, DT_BIND_NOW and DF_BIND_NOW; the GNU system's DF_1_NOW)
 unfoldable pub binds_now : List ℕ → Bool
-binds_now file = has_entry file DT_BIND_NOW || (entry_has file DT_FLAGS DF_BIND_NOW || entry_has file DT_FLAGS_1 DF_1_NOW)
+binds_now file = has_dynamic_entry file DT_BIND_NOW || (entry_has file DT_FLAGS DF_BIND_NOW || entry_has file DT_FLAGS_1 DF_1_NOW)
 
 -- RELRO: a segment of the GNU system is made read-only once it is relocated; what is bound later stays writable
 unfoldable pub relro_of : List ℕ → Relro
@@ -83,20 +83,20 @@ relro_of file = elim (is_some (segment_of file PT_GNU_RELRO)) [
 
 -- TEXT: relocations change a segment that is not writable (gABI 5, DT_TEXTREL and DF_TEXTREL)
 unfoldable pub is_text_patched : List ℕ → Bool
-is_text_patched file = has_entry file DT_TEXTREL || entry_has file DT_FLAGS DF_TEXTREL
+is_text_patched file = has_dynamic_entry file DT_TEXTREL || entry_has file DT_FLAGS DF_TEXTREL
 
 -- PATH: where libraries are looked for first. A loader passes over DT_RPATH where there is DT_RUNPATH (gABI 5, Shared Object
 -- Dependencies)
 unfoldable pub path_of : List ℕ → SearchPath
-path_of file = elim (has_entry file DT_RUNPATH) [
+path_of file = elim (has_dynamic_entry file DT_RUNPATH) [
   | true ↦ path.Runpath
-  | false ↦ elim (has_entry file DT_RPATH) [ true ↦ path.Rpath | false ↦ path.Absent ]
+  | false ↦ elim (has_dynamic_entry file DT_RPATH) [ true ↦ path.Rpath | false ↦ path.Absent ]
 ]
 
 -- KIND. A file that may stand at any address is a library where it has a name as one; else a program where it asks for an
 -- interpreter, and where it says so (the GNU system's DF_1_PIE), which then asks for none
 unfoldable pub kind_of_shared : List ℕ → ProgramKind
-kind_of_shared file = elim (has_entry file DT_SONAME) [
+kind_of_shared file = elim (has_dynamic_entry file DT_SONAME) [
   | true ↦ kind.Lib
   | false ↦ elim (is_some (segment_of file PT_INTERP)) [
     | true ↦ kind.Pie
@@ -164,8 +164,8 @@ gnu_symbols file table =
     ]
 
 -- in the gABI's as many as there are chains (gABI 5, Hash Table); no more than there is room for
-unfoldable pub symbol_count : List ℕ → Scope → ℕ
-symbol_count file scope = elim scope.kind [
+unfoldable pub hashed_symbol_count : List ℕ → Scope → ℕ
+hashed_symbol_count file scope = elim scope.kind [
   | GnuTable ↦ gnu_symbols file scope.table
   | SysvTable ↦ min (sysv_nchain file scope.table.place) scope.table.symbols
 ]
@@ -204,9 +204,9 @@ marked_by marks name undefined = record {
 }
 
 -- with one more symbol, which stands at an offset, by what is shown of its name
-abbrev pub with_symbol : List ℕ → ℕ → SymbolMarks → Shown → SymbolMarks
-with_symbol file at marks (Whole name) = marked_by marks name (st_shndx file at == SHN_UNDEF)
-with_symbol file at marks (Cut front) = marks
+abbrev pub marked_with_symbol : List ℕ → ℕ → SymbolMarks → Shown → SymbolMarks
+marked_with_symbol file at marks (Whole name) = marked_by marks name (st_shndx file at == SHN_UNDEF)
+marked_with_symbol file at marks (Cut front) = marks
 
 -- what so many symbols from an index on tell, beside those before; a fault of a name is at the symbol
 unfoldable pub marks_from : List ℕ → Symbols → SymbolMarks → (index count : ℕ) → Result SymbolMarks Refusal
@@ -215,13 +215,13 @@ marks_from file symbols marks index (suc count) =
     let at = symbol_place symbols index in
     elim (shown symbols.strings (st_name file at) TRAIT_NAME_BYTES) [
       | Err cause ↦ Err (record { at = at; cause = cause })
-      | Ok name ↦ marks_from file symbols (with_symbol file at marks name) (suc index) count
+      | Ok name ↦ marks_from file symbols (marked_with_symbol file at marks name) (suc index) count
     ]
 
 -- what the symbols of a file tell, all but the first, which is none (gABI 4, Symbol Table)
 unfoldable pub symbol_marks : List ℕ → Option Scope → Result SymbolMarks Refusal
 symbol_marks file None = Ok no_marks
-symbol_marks file (Some scope) = marks_from file scope.symbols no_marks 1 (symbol_count file scope - 1)
+symbol_marks file (Some scope) = marks_from file scope.symbols no_marks 1 (hashed_symbol_count file scope - 1)
 
 -- the traits, by the word of the features and what the symbols tell
 unfoldable pub traits_with : List ℕ → ℕ → SymbolMarks → Traits

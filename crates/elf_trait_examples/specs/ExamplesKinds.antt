@@ -3,7 +3,7 @@ use Rattle.std.specs.Prelude.{ℕ, List, [], ◌∷◌, ◌++◌, codes}
 use Rattle.elf_model.specs.Bytes.{little}
 use Rattle.elf_model.specs.Fixtures.{with_bytes, one_symbol_table}
 use Rattle.elf_model.specs.FixturesTables.{one_load, tagged}
-use Rattle.elf_trait_examples.specs.TraitFiles.{Asks, Tells, program}
+use Rattle.elf_trait_examples.specs.TraitFiles.{TraitsCost, TraitsAre, program_with_traits}
 
 -- the program without an interpreter, and with DF_1_NOW alone in FLAGS_1
 abbrev without_interpreter : List ℕ → List ℕ
@@ -18,41 +18,41 @@ typed type file = with_bytes 0x10 (little 2 type) file
 -- a program at any address, with an interpreter; one that says so and has none; a library, by its name or by neither
 abbrev pub SharedKinds : Type 0
 SharedKinds =
-    Tells program (codes "T pie    full    nx    w^x   fixed ibt+shstk canary fortify -       p\n")
-    × Asks program 880
-    × Tells (not_pie program) (codes "T pie    full    nx    w^x   fixed ibt+shstk canary fortify -       p\n")
-    × Tells (without_interpreter program) (codes "T static full    nx    w^x   fixed ibt+shstk canary fortify -       p\n")
-    × Tells (without_interpreter (not_pie program)) (codes "T lib    full    nx    w^x   fixed ibt+shstk canary fortify -       p\n")
-    × Tells (with_bytes 0x298 (tagged 14 0) program) (codes "T lib    full    nx    w^x   fixed ibt+shstk canary fortify -       p\n")
+    TraitsAre program_with_traits (codes "T pie    full    nx    w^x   fixed ibt+shstk canary fortify -       p\n")
+    × TraitsCost program_with_traits 880
+    × TraitsAre (not_pie program_with_traits) (codes "T pie    full    nx    w^x   fixed ibt+shstk canary fortify -       p\n")
+    × TraitsAre (without_interpreter program_with_traits) (codes "T static full    nx    w^x   fixed ibt+shstk canary fortify -       p\n")
+    × TraitsAre (without_interpreter (not_pie program_with_traits)) (codes "T lib    full    nx    w^x   fixed ibt+shstk canary fortify -       p\n")
+    × TraitsAre (with_bytes 0x298 (tagged 14 0) program_with_traits) (codes "T lib    full    nx    w^x   fixed ibt+shstk canary fortify -       p\n")
 
 -- a program at fixed addresses, with an interpreter or without one: that it says it may stand at any is of no account; files of
 -- other types; a file without program headers, and one without dynamic entries
 abbrev pub FixedKinds : Type 0
 FixedKinds =
-    Tells (typed 2 program) (codes "T exec   full    nx    w^x   fixed ibt+shstk canary fortify -       p\n")
-    × Tells (typed 2 (without_interpreter program)) (codes "T static full    nx    w^x   fixed ibt+shstk canary fortify -       p\n")
-    × Tells (typed 4 program) (codes "T core   full    nx    w^x   fixed ibt+shstk canary fortify -       p\n")
-    × Tells (typed 0xfe00 program) (codes "T other  full    nx    w^x   fixed ibt+shstk canary fortify -       p\n")
-    × Tells one_symbol_table (codes "T object -       -     -     -     -         -      -       -       p\n")
-    × Asks one_symbol_table 64
-    × Tells one_load (codes "T static none    exec  w^x   fixed -         -      -       -       p\n")
-    × Asks one_load 120
+    TraitsAre (typed 2 program_with_traits) (codes "T exec   full    nx    w^x   fixed ibt+shstk canary fortify -       p\n")
+    × TraitsAre (typed 2 (without_interpreter program_with_traits)) (codes "T static full    nx    w^x   fixed ibt+shstk canary fortify -       p\n")
+    × TraitsAre (typed 4 program_with_traits) (codes "T core   full    nx    w^x   fixed ibt+shstk canary fortify -       p\n")
+    × TraitsAre (typed 0xfe00 program_with_traits) (codes "T other  full    nx    w^x   fixed ibt+shstk canary fortify -       p\n")
+    × TraitsAre one_symbol_table (codes "T object -       -     -     -     -         -      -       -       p\n")
+    × TraitsCost one_symbol_table 64
+    × TraitsAre one_load (codes "T static none    exec  w^x   fixed -         -      -       -       p\n")
+    × TraitsCost one_load 120
 
 -- what section headers tell is not looked at: more of them than are permitted, and one whose table is not in the file
 abbrev pub SectionsDoNotTell : Type 0
 SectionsDoNotTell =
-    Tells (with_bytes 0x28 (little 8 0x40) (with_bytes 0x3a (little 2 64 ++ little 2 9) program))
+    TraitsAre (with_bytes 0x28 (little 8 0x40) (with_bytes 0x3a (little 2 64 ++ little 2 9) program_with_traits))
     (codes "T pie    full    nx    w^x   fixed ibt+shstk canary fortify -       p\n")
-    × Tells (with_bytes 0x28 (little 8 0xffff) (with_bytes 0x3a (little 2 64 ++ little 2 1) program))
+    × TraitsAre (with_bytes 0x28 (little 8 0xffff) (with_bytes 0x3a (little 2 64 ++ little 2 1) program_with_traits))
     (codes "T pie    full    nx    w^x   fixed ibt+shstk canary fortify -       p\n")
 
 -- files that are refused: by the file header, more program headers than are permitted, a LOAD segment over another, dynamic
 -- entries that are not whole, a filter without a word
 abbrev pub RefusedFiles : Type 0
 RefusedFiles =
-    Tells (with_bytes 4 (1 ∷ []) program) (codes "C refused      0000000000000004 class p\n")
-    × Tells (with_bytes 0x38 (little 2 9) program) (codes "C refused      0000000000000038 too-many-headers p\n")
-    × Asks (with_bytes 0x38 (little 2 9) program) 64
-    × Tells (with_bytes 0x78 (little 4 1) program) (codes "C refused      0000000000000078 load-overlap p\n")
-    × Tells (with_bytes 0xd0 (little 8 0x6f) program) (codes "C refused      00000000000000b0 size-not-whole p\n")
-    × Tells (with_bytes 0x198 (little 4 0) program) (codes "C refused      0000000000000238 hash-shape p\n")
+    TraitsAre (with_bytes 4 (1 ∷ []) program_with_traits) (codes "C refused      0000000000000004 class p\n")
+    × TraitsAre (with_bytes 0x38 (little 2 9) program_with_traits) (codes "C refused      0000000000000038 too-many-headers p\n")
+    × TraitsCost (with_bytes 0x38 (little 2 9) program_with_traits) 64
+    × TraitsAre (with_bytes 0x78 (little 4 1) program_with_traits) (codes "C refused      0000000000000078 load-overlap p\n")
+    × TraitsAre (with_bytes 0xd0 (little 8 0x6f) program_with_traits) (codes "C refused      00000000000000b0 size-not-whole p\n")
+    × TraitsAre (with_bytes 0x198 (little 4 0) program_with_traits) (codes "C refused      0000000000000238 hash-shape p\n")

@@ -14,8 +14,8 @@ use Rattle.elf_model.specs.declared.states.FileState.TheVariants.{Refused}
 
 -- its program headers, from 0x40 on: all of it is loaded at address 0; the interpreter; the dynamic entries; the permissions of
 -- the stack; what is read-only once it is relocated; the notes
-unfoldable pub program_headers : List ℕ
-program_headers =
+unfoldable pub headers_of_program : List ℕ
+headers_of_program =
     program_header 1 5 0 0 0x2a8 0x1000 ++ program_header 3 4 0x217 0x217 1 1 ++ program_header 2 6 0x238 0x238 0x70 8
     ++ program_header 0x6474e551 6 0 0 0 16 ++ program_header 0x6474e552 4 0x238 0x238 0x70 1
     ++ program_header 4 4 0x218 0x218 0x20 8
@@ -46,20 +46,20 @@ program_entries =
     ++ tagged 0 0
 
 -- A PROGRAM of 680 bytes without section headers
-unfoldable pub program : List ℕ
-program =
-    object 6 (program_headers ++ program_hash ++ program_symbols ++ program_strings ++ program_note ++ program_entries)
+unfoldable pub program_with_traits : List ℕ
+program_with_traits =
+    object 6 (headers_of_program ++ program_hash ++ program_symbols ++ program_strings ++ program_note ++ program_entries)
 
 -- the line of a file at a path, with eight headers permitted: its traits, or its refusal
-unfoldable pub told : List ℕ → List ℕ
-told file = elim (traits_of file 8) [
+unfoldable pub trait_line_of : List ℕ → List ℕ
+trait_line_of file = elim (traits_of file 8) [
   | Err refusal ↦ check_line Columns (Refused refusal) (codes "p")
   | Ok traits ↦ trait_line Columns traits (codes "p")
 ]
 
-abbrev pub Tells : List ℕ → List ℕ → Type 0
-Tells file line = told file ≡ line
+abbrev pub TraitsAre : List ℕ → List ℕ → Type 0
+TraitsAre file line = trait_line_of file ≡ line
 
 -- it asks for so many bytes
-abbrev pub Asks : List ℕ → ℕ → Type 0
-Asks file cost = traits_cost file 8 ≡ cost
+abbrev pub TraitsCost : List ℕ → ℕ → Type 0
+TraitsCost file cost = traits_cost file 8 ≡ cost

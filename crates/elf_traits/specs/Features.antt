@@ -10,10 +10,10 @@ use Rattle.elf_headers.specs.declared.fault.Fault.TheVariants.{Refused, Source}
 use Rattle.elf_traits.specs.declared.property.Head.{Head}
 
 -- a value is what the definitions tell, and so is a refusal, unless that is for want of budget
-abbrev pub Tells : {X : Type 0} → Result X Refusal → Result X Fault → Type 0
-Tells told (Ok value) = told ≡ Ok value
-Tells told (Err (Refused refusal)) = (IsBudget refusal → ⊥) → told ≡ Err refusal
-Tells told (Err (Source fault at)) = Unit {0}
+abbrev pub TellsFeatures : {X : Type 0} → Result X Refusal → Result X Fault → Type 0
+TellsFeatures told (Ok value) = told ≡ Ok value
+TellsFeatures told (Err (Refused refusal)) = (IsBudget refusal → ⊥) → told ≡ Err refusal
+TellsFeatures told (Err (Source fault at)) = Unit {0}
 
 -- the property with a head at an offset
 abbrev pub property_at : List ℕ → ℕ → Head → Property
