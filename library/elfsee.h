@@ -415,7 +415,9 @@ namespace elfsee {
 typedef struct ::elfsee_limits limits;
 typedef struct ::elfsee_end end;
 typedef struct ::elfsee_symbol symbol;
+typedef struct ::elfsee_range range;
 typedef struct ::elfsee_found found;
+typedef struct ::elfsee_resolved resolved;
 typedef struct ::elfsee_item item;
 typedef struct ::elfsee_job job;
 typedef struct ::elfsee_header header;
@@ -423,7 +425,6 @@ typedef struct ::elfsee_section section;
 typedef struct ::elfsee_segment segment;
 typedef struct ::elfsee_relocation relocation;
 typedef struct ::elfsee_dynamic dynamic;
-typedef struct ::elfsee_range range;
 typedef struct ::elfsee_rows rows;
 typedef struct ::elfsee_notes notes;
 typedef struct ::elfsee_note note;
