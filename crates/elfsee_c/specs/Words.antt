@@ -4,10 +4,10 @@ use Rattle.elf_model.specs.Causes.{cause_word}
 use Rattle.elf_model.specs.declared.causes.Cause.{Cause}
 use Rattle.elfsee_c.specs.Causes.{cause_number}
 
--- the cause of a number; none for 0, and for numbers above those of all causes
+-- the cause of a number; none for 0, for the two numbers that no cause has, and for those above all causes
 abbrev pub IsNumbered : ℕ → Option Cause → Type 0
 IsNumbered number (Some cause) = cause_number cause ≡ number
-IsNumbered number None = (number ≡ 0) ⊎ (((29 < number) × (number < 34)) ⊎ (36 < number))
+IsNumbered number None = (number ≡ 0) ⊎ (((29 < number) × (number < 32)) ⊎ (37 < number))
 
 -- a word is put at the front of some memory, where there is room for it, and else nothing is
 abbrev pub PutsFront : List ℕ → List ℕ → List ℕ → ℕ → Type 0
