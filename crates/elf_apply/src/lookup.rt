@@ -182,7 +182,8 @@ fn defined_value<S: Source>(
 ) -> Result<u64, Fault>
     requires within { StringsWithin src.old.seen.size symbol.now.names }
     ensures reads { Reads src.old src.new (lookup_cost layout.now.lookup layout.now.definitions) }
-    ensures says { IfErr result (Says src.old src.new (lookup_cost layout.now.lookup layout.now.definitions)) }
+    ensures says { IfErr result
+        (Says src.old src.new (lookup_cost layout.now.lookup layout.now.definitions)) }
     ensures told { (file : List ℕ) → src.old.seen.file ≡ Some file →
         IsSym file symbol.now.at symbol.now.fields → ValueOrRefusal result
         (named_or symbol.now.at (address_named (strings_in file symbol.now.names)
@@ -219,7 +220,8 @@ fn system_value<S: Source>(
 ) -> Result<u64, Fault>
     requires within { StringsWithin src.old.seen.size symbol.now.names }
     ensures reads { Reads src.old src.new (lookup_cost layout.now.lookup layout.now.linkage) }
-    ensures says { IfErr result (Says src.old src.new (lookup_cost layout.now.lookup layout.now.linkage)) }
+    ensures says { IfErr result
+        (Says src.old src.new (lookup_cost layout.now.lookup layout.now.linkage)) }
     ensures told { (file : List ℕ) → src.old.seen.file ≡ Some file →
         IsSym file symbol.now.at symbol.now.fields → ValueOrRefusal result
         (system_value file (strings_in file symbol.now.names) layout.now entry symbol.now.at) }
@@ -241,7 +243,8 @@ fn located_value<S: Source>(
 ) -> Result<u64, Fault>
     requires within { StringsWithin src.old.seen.size symbol.now.names }
     ensures reads { Reads src.old src.new (lookup_cost layout.now.lookup layout.now.definitions) }
-    ensures says { IfErr result (Says src.old src.new (lookup_cost layout.now.lookup layout.now.definitions)) }
+    ensures says { IfErr result
+        (Says src.old src.new (lookup_cost layout.now.lookup layout.now.definitions)) }
     ensures told { (file : List ℕ) → src.old.seen.file ≡ Some file →
         IsSym file symbol.now.at symbol.now.fields → ValueOrRefusal result
         (located_value file (strings_in file symbol.now.names) layout.now entry symbol.now.at) }

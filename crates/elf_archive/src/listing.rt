@@ -325,7 +325,8 @@ fn show_member<W: Sink>(
     format: Format,
     out: &mut Out<W>,
 ) -> Result<(), OutFault>
-    ensures puts { Puts out.old out.new result (member_line format (member_of member.now name.now)) }
+    ensures puts { Puts out.old out.new result
+        (member_line format (member_of member.now name.now)) }
 {
     let front = member_front(member.index, member.extent.at, member.extent.size, format);
     show_named(front, name.bytes(), member.is_cut, out)

@@ -50,7 +50,8 @@ impl GnuTable {
     /// Whether a symbol index is one from the first on and below the number of symbols, and its chain
     /// word lies within the table.
     pub(crate) fn has(&self, index: u64) -> bool
-        ensures is { result ≡ (not (nat_lt index self.now.first) && nat_lt index self.now.place.symbols
+        ensures is { result
+            ≡ (not (nat_lt index self.now.first) && nat_lt index self.now.place.symbols
             && not (nat_lt self.now.place.size (16 + 8 * self.now.nbloom + 4 * self.now.nbucket
             + 4 * (index - self.now.first) + 4))) }
         ensures lies { IsTrue result → (self.now.first ≤ index) × (index < self.now.place.symbols)
@@ -74,7 +75,8 @@ impl GnuTable {
     /// The file offset of the chain word of a symbol.
     pub(crate) fn chain_at(&self, index: u64) -> u64
         requires first { self.now.first ≤ index }
-        requires inside { 16 + 8 * self.now.nbloom + 4 * self.now.nbucket + 4 * (index - self.now.first) + 4
+        requires inside { 16 + 8 * self.now.nbloom + 4 * self.now.nbucket + 4
+            * (index - self.now.first) + 4
             ≤ self.now.place.size }
         ensures value { result ≡ self.now.place.at
             + (16 + 8 * self.now.nbloom + 4 * self.now.nbucket + 4 * (index - self.now.first)) }

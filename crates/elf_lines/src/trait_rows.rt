@@ -87,7 +87,8 @@ fn put_trait(line: &mut Line, format: Format, key: &[u8], width: usize, word: &'
     requires short { length word.now ≤ width }
     ensures items { line.new.items
         ≡ with_field format line.old.items (Word key.now width word.now) space }
-    ensures len { array_vec_len line.new ≤ array_vec_len line.old + text_room (length key.now) width }
+    ensures len { array_vec_len line.new ≤ array_vec_len line.old
+        + text_room (length key.now) width }
 {
     put_text(line, format, key, width, word.as_bytes(), b' ');
 }

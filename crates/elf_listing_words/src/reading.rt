@@ -44,7 +44,8 @@ fn read_by<'a, S: AsStr>(
     words: &'a [S],
 ) -> Result<ArgMatches<'a>, WordsFault>
     ensures read { (parts : PartWords) → app_of commands.old ≡ program parts → ArePartNames parts
-        → IfOk result (λ matches. AreRead (map S.text words.entry.now) (subcommand_rows_of matches)) }
+        → IfOk result
+        (λ matches. AreRead (map S.text words.entry.now) (subcommand_rows_of matches)) }
     ensures refused { (parts : PartWords) → app_of commands.old ≡ program parts
         → ArePartNames parts → IfErr result (AreRefused (map S.text words.entry.now)) }
 {

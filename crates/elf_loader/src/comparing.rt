@@ -30,7 +30,8 @@ pub(crate) fn compare_table<S: Source>(
     requires most { length version.now ≤ 4096 }
     requires within { RecordsWithin src.old.seen.size records.now }
     ensures { Did src.old src.new (why_stopped result)
-        (most_records records.now.kind records.now.table.count * (28 + pad64 (length version.now + 1)))
+        (most_records records.now.kind records.now.table.count
+        * (28 + pad64 (length version.now + 1)))
         (λ file. (told : IsTableOf) (others : List RecordReading) →
         IsRecordTable file told records.now →
         Compares src.old src.new (28 + pad64 (length version.now + 1)) numbers.old numbers.new

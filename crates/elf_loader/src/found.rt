@@ -94,7 +94,8 @@ fn found_version<S: Source>(
     requires below { found.0 < words.now.words.count }
     ensures { Did src.old src.new (why_stopped result)
         (telling_bytes (asked_of asked.now) (most_versions symbols.now))
-        (λ file. (scope : IsScopeOf) (told : AreWordsOf) → IsSymbols file scope.symbols symbols.now →
+        (λ file. (scope : IsScopeOf) (told : AreWordsOf) →
+        IsSymbols file scope.symbols symbols.now →
         IsWords told words.now → found.1 ≡ versym file (version_word_at told found.0) →
         FindsVersion file scope (asked_of asked.now) told found.0 src.old src.new name.new result) }
 {

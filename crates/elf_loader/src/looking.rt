@@ -165,7 +165,8 @@ fn look_along<S: Source>(
         + telling_bytes (asked_of wanted.now.asked) (most_versions scope.now.symbols))
         (λ file. (told : IsScopeOf) (before : ℕ) → IsScope file told scope.now →
         IsTable file told table.now → (asked_name (asked_of wanted.now.asked) ≡ None → before ≡ 0) →
-        LooksBehind file (the_wanted wanted.now) 12 (before * record_cost (asked_of wanted.now.asked))
+        LooksBehind file (the_wanted wanted.now) 12
+        (before * record_cost (asked_of wanted.now.asked))
         (looked_by file told (asked_of wanted.now.asked) before
         (walk_in file told (the_wanted wanted.now) (has_number numbers.now))) name.new src.old
         src.new result) }

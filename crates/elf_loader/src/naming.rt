@@ -40,7 +40,8 @@ pub(crate) fn name_in_table<S: Source>(
         (λ file. (told : IsTableOf) (others : List RecordReading) →
         IsRecordTable file told records.now →
         NamesOne file (strings_in file records.now.names) src.old src.new
-        (naming_of file number (readings_of file told others)) (naming_of file number others) result) }
+        (naming_of file number (readings_of file told others))
+        (naming_of file number others) result) }
 {
     let mut cursor = VersionCursor::one_by_one(records.kind, records.head, records.table);
     'records: while let Some(given) = cursor.advance(src)? {

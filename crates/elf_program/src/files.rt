@@ -16,7 +16,8 @@ pub fn open<R: Files>(rt: &R, path: &str) -> Result<StreamSource<OffsetReader<R:
 where
     R::File: FileExt,
     ensures { IfErr result (λ ending. (ending.0 ≡ 3)
-        × ((ending.1.now ≡ codes "elfsee: cannot open") ⊎ (ending.1.now ≡ codes "elfsee: read fault"))) }
+        × ((ending.1.now ≡ codes "elfsee: cannot open")
+        ⊎ (ending.1.now ≡ codes "elfsee: read fault"))) }
 {
     let Ok(found) = fs::metadata(rt, path) else {
         return Err(CANNOT_OPEN);

@@ -86,7 +86,8 @@ impl Flags for Parts {
     ghost exact = { ⊤ };
 
     ghost table = { (codes "HEADER", 1) ∷ (codes "SECTIONS", 2) ∷ (codes "SEGMENTS", 4)
-        ∷ (codes "SYMBOLS", 8) ∷ (codes "RELOCS", 16) ∷ (codes "NOTES", 32) ∷ (codes "DYNAMIC", 64) ∷ (codes "VERSIONS", 128) ∷ [] };
+        ∷ (codes "SYMBOLS", 8) ∷ (codes "RELOCS", 16) ∷ (codes "NOTES", 32) ∷ (codes "DYNAMIC", 64)
+        ∷ (codes "VERSIONS", 128) ∷ [] };
 
     ghost set_of = { λ parts. parts.0 };
 

@@ -107,10 +107,13 @@ fn show_found<W: Sink>(
     ensures fails { IfErr result (OutFails out.new) }
     ensures puts { (file : List ℕ) (at : ℕ) → IsSym file at found.now.symbol →
         found.now.machine ≡ e_machine file →
-        let front = symbol_front Columns true (e_machine file) file at found.now.section found.now.index in
-        let version = option_map (version_found (asked_of wanted.now.asked) name.now) found.now.version in
+        let front = symbol_front Columns true
+        (e_machine file) file at found.now.section found.now.index in
+        let version = option_map
+        (version_found (asked_of wanted.now.asked) name.now) found.now.version in
         Puts out.old out.new result
-        (named_line front (Whole wanted.now.name.now) ++ found_version_line found.now.index version) }
+        (named_line front (Whole wanted.now.name.now)
+        ++ found_version_line found.now.index version) }
 {
     let naming = NumberNaming {
         gnu: true,
@@ -146,7 +149,8 @@ fn show_version<W: Sink>(
 
 /// The name of a version, and whether it is cut.
 fn version_name<'a>(version: VersionName, asked: &Asked<'a>, name: &'a NameBuf) -> (&'a [u8], bool)
-    ensures { shown_as result.1 result.0.now ≡ name_shown (asked_name (asked_of asked.now)) name.now version }
+    ensures { shown_as result.1 result.0.now
+        ≡ name_shown (asked_name (asked_of asked.now)) name.now version }
 {
     match version {
         VersionName::Wanted => (asked.name().unwrap_or(&[]), false),

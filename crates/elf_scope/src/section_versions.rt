@@ -33,7 +33,8 @@ pub(crate) fn section_versions(file: &File<'_>, link: u32) -> Result<VersionTabl
     ensures held { (bytes : List ℕ) (at : ℕ) → Belongs bytes file.now.loaded file.now.store.now →
         sh_link bytes at ≡ link → Settles (version_checks bytes at)
         (AreVersions bytes (section_words bytes)
-        (records_of_type bytes SHT_GNU_VERDEF Definition (records_of_type bytes SHT_GNU_VERNEED NeededFile [])))
+        (records_of_type bytes SHT_GNU_VERDEF Definition
+        (records_of_type bytes SHT_GNU_VERNEED NeededFile [])))
         result }
     ensures within { IfOk result (VersionsLie file.now.loaded.size) }
     ensures refusal { IfErr result IsOfCheck }

@@ -93,7 +93,8 @@ impl<S: Source> Source for RangeSource<S> {
             (out.new ≡ take (length out.old) (drop at file)) }
         ensures faults { IfErr result (Faults (seen_range self.old) (seen_range self.new)) }
         ensures keeps { Keeps (seen_range self.old) (seen_range self.new) }
-        ensures passes { S.one_read self.old.below (self.old.start + at) (length out.old) self.new.below }
+        ensures passes { S.one_read self.old.below (self.old.start + at)
+            (length out.old) self.new.below }
     {
         self.source.fill(self.start + at, out)
     }

@@ -33,7 +33,8 @@ impl<R: Seek> SeekReader<R> {
     fn go(&mut self, at: u64) -> Result<(), ReaderFault>
         ensures stays { self.old.place ≡ Some at → (result ≡ Ok tt) × (self.new ≡ self.old) }
         ensures seeks { (self.old.place ≡ Some at → ⊥) →
-            MovesTo (R.stream_position self.old.inner) (R.stream_position self.new.inner) at result }
+            MovesTo (R.stream_position self.old.inner)
+            (R.stream_position self.new.inner) at result }
         ensures fails { IfErr result (λ _. self.new.place ≡ None) }
     {
         if self.place == Some(at) {

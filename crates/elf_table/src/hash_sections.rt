@@ -88,7 +88,8 @@ fn refused_front(
     least: u64,
     wide: bool,
 ) -> Option<Refusal>
-    ensures refusal { result ≡ first_refusal (front_checks least place size header.now linked wide) }
+    ensures refusal { result
+        ≡ first_refusal (front_checks least place size header.now linked wide) }
     ensures passes { MatchOption result (PassesFront least size header.now linked)
         (λ _. Unit {0}) }
 {

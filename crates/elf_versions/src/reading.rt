@@ -35,7 +35,8 @@ pub(crate) fn read_record<S: Source>(
     requires within { RowsWithin src.old.seen.size held.now.table }
     requires inside { stand.now.place + record_size stand.now.kind ≤ held.now.table.count }
     requires owner { stand.now.owner ≤ held.now.table.count }
-    ensures did { Did src.old src.new (why_stopped result) (unheld held.now (bytes_each stand.now.kind))
+    ensures did { Did src.old src.new (why_stopped result)
+        (unheld held.now (bytes_each stand.now.kind))
         (λ file. IsHeldOf file held.now → KnowsFiles file held.now.table.at stand.now →
         ReadsRecord file held.now.table.at held.now.table.count (stand_of stand.now) result) }
     ensures fits { IfOk result (StepFits held.now.table.count (bytes_each stand.now.kind)) }

@@ -94,7 +94,8 @@ pub(crate) fn refused_words(
     words: &RecordWords,
 ) -> Option<Refusal>
     requires { stand.now.place < 2 ^ 64 }
-    ensures is { result ≡ first_refusal (checks_of stand.now.kind size stand.now.place at words.now) }
+    ensures is { result
+        ≡ first_refusal (checks_of stand.now.kind size stand.now.place at words.now) }
     ensures passes { MatchOption result
         ((stand.now.place + end_of_named_record stand.now.kind words.now.aux ≤ size)
         × (number_in words.now.number < 1024)) (λ refusal. IsBudget refusal → ⊥) }

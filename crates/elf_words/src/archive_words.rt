@@ -62,7 +62,8 @@ fn member_parts_of(options: &ArgMatches<'_>) -> Option<Parts>
 /// this name.
 #[tactic(auto, unfolding(elf_model::specs::Text::name_of))]
 fn member_part_named(name: &str, gnu: bool) -> Option<Parts>
-    ensures some { IfSome result (λ parts. name_of (member_part_names gnu) parts.0 ≡ Some name.now) }
+    ensures some { IfSome result
+        (λ parts. name_of (member_part_names gnu) parts.0 ≡ Some name.now) }
     ensures none { result ≡ None → is_member_part gnu name.now ≡ false }
 {
     match name {

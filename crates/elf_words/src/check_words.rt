@@ -56,7 +56,8 @@ fn checking_of<'a>(options: &ArgMatches<'a>, paths: Vec<&'a str>) -> Option<Chec
 
 /// The paths that are asked for.
 fn paths_of<'a>(alloc: Global, options: &ArgMatches<'a>) -> Result<Vec<&'a str>, AllocError>
-    ensures { IfOk result (λ paths. texts paths.items ≡ path_words (rows_of (found_of options.now))) }
+    ensures { IfOk result
+        (λ paths. texts paths.items ≡ path_words (rows_of (found_of options.now))) }
 {
     match options.get_strs("PATH") {
         Some(words) => copied_words(alloc, words),
