@@ -9,7 +9,7 @@ use Rattle.elf_model.specs.Dynamic.{listed_value}
 use Rattle.elf_model.specs.Find.{first_that}
 use Rattle.elf_model.specs.GnuHash.{chain_word, ends_chain, gnu_bucket_at, gnu_first, gnu_nbucket, is_chained}
 use Rattle.elf_model.specs.Hash.{sysv_nchain}
-use Rattle.elf_model.specs.Loader.{Symbols, symbol_place}
+use Rattle.elf_model.specs.Loader.{Symbols, symbol_offset}
 use Rattle.elf_model.specs.LoaderFind.{counts_check}
 use Rattle.elf_model.specs.LoaderScope.{GnuTable, SysvTable, Scope, dynamic_segment_index, scope_by_segments}
 use Rattle.elf_model.specs.Names.{Shown, shown}
@@ -212,7 +212,7 @@ marked_with_symbol file at marks (Cut front) = marks
 unfoldable pub marks_from : List ℕ → Symbols → SymbolMarks → (index count : ℕ) → Result SymbolMarks Refusal
 marks_from file symbols marks index zero = Ok marks
 marks_from file symbols marks index (suc count) =
-    let at = symbol_place symbols index in
+    let at = symbol_offset symbols index in
     elim (shown symbols.strings (st_name file at) TRAIT_NAME_BYTES) [
       | Err cause ↦ Err (record { at = at; cause = cause })
       | Ok name ↦ marks_from file symbols (marked_with_symbol file at marks name) (suc index) count
