@@ -71,7 +71,7 @@ pub(crate) fn data_within(header: &[u8; MEMBER_HEADER_BYTES], at: u64, left: u64
     let Some(size) = size_within(header, left) else {
         return None;
     };
-    let name = name_in_data(&header[..NAME_BYTES]);
+    let name = name_in_data(&header[..NAME_FIELD_BYTES]);
     if size < name {
         return None;
     }

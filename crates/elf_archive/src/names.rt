@@ -49,7 +49,7 @@ pub(crate) fn read_name<S: Source>(
         header.now ≡ slice file at 60 →
         NameShown at result name.new (member_name file cap.bytes (extent_of_names names) at) }
 {
-    let field = &header[..NAME_BYTES];
+    let field = &header[..NAME_FIELD_BYTES];
     match bsd_name_size(field) {
         Some(size) => read_bsd(src, at + MEMBER_HEADER_BYTES as u64, size, cap, name),
         None => read_told(src, names, field, at, cap, name),

@@ -189,7 +189,7 @@ fn find_name(
     ensures { FindsMemberName file.now result
         (member_name file.now 4096 (extent_of_names names) at) }
 {
-    let field = &header[..NAME_BYTES];
+    let field = &header[..NAME_FIELD_BYTES];
     match bsd_name_size(field) {
         Some(size) => Ok(find_bsd(file, at + MEMBER_HEADER_BYTES as u64, size)),
         None => find_told(file, names, field, at),
