@@ -33,7 +33,7 @@ short_first file short =
     rw (below, few) refl
 
 reported : (budget : Option ℕ) (file : List ℕ) (headers : ℕ) (style : Style) (parts : ℕ) (refusal : Refusal) → first_refusal (header_checks file) ≡ Some refusal
-    → IsBudgeted budget file headers style parts (report_of (listing file headers style parts)) (Some refusal)
+    → IsBudgeted budget file headers style parts (report_of style.format (listing file headers style parts)) (Some refusal)
 reported None file headers style parts refusal first = record { text_is = refl; fault_is = sym (header_fault file headers style parts refusal first).1 }
 reported (Some bytes) file headers style parts refusal first = inl record { text_is = refl; fault_is = sym (header_fault file headers style parts refusal first).1 }
 
@@ -41,7 +41,7 @@ reported (Some bytes) file headers style parts refusal first = inl record { text
 short_state : (budget : Option ℕ) (file : List ℕ) (headers : ℕ) (style : Style) (parts : ℕ) (found : FileState) → length file < 64
     → found ≡ state_of budget file (Some (short_of file)) → IsStateOf budget file headers style parts found
 short_state budget file headers style parts found short is = record {
-  text = report_of (listing file headers style parts);
+  text = report_of style.format (listing file headers style parts);
   fault = Some (short_of file);
   listed = reported budget file headers style parts (short_of file) (short_first file short);
   state_is = is;

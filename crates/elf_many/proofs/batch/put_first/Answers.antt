@@ -8,5 +8,5 @@ use Rattle.elf_many.proofs.batch.put_first.Goals as goal
 pub loop-i-preserved : goal.loop-i-preserved
 loop-i-preserved c = record {
   front = grind (arith, common_steps);
-  within = subst IsWithinKept (sym c.in_ok-push.ensures.pushed) (few_more c.loop-i.to c.in-Some.name.now (λ some. c.is_enough.ensures.few (search rules) some) c.in-Some.ensures.2);
+  within = subst IsWithinKept (sym c.in_ok-push.ensures.pushed) (few_more c.loop-i.to c.in-Some.name.now (λ some. c.is_enough.ensures.few (search rules) some) c.in_ok-push.ensures.short);
 }

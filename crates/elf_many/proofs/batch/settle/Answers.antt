@@ -30,7 +30,7 @@ returns-else-not-is_whole-clause-order c =
 
 pub returns-then-not-is_whole-clause-settles : goal.returns-then-not-is_whole-clause-settles
 returns-then-not-is_whole-clause-settles c = record {
-  within = c.in_ok-put_first-is_whole.ensures.within;
+  within = c.in_ok-is_whole.ensures.within;
   enough = λ _ _. c.put_first.ensures.enough (search rules);
 }
 
@@ -38,6 +38,6 @@ pub returns-else-not-is_whole-clause-settles : goal.returns-else-not-is_whole-cl
 returns-else-not-is_whole-clause-settles c =
     let spare : c.put_each_once.new.to ≡ in_order c.args.kept.now = c.in_ok-put_each_once.ensures ∙ sym (permuted c.args.kept.now c.sort.new.self c.sort.ensures.permutation) in
     record {
-      within = c.in_ok-put_first-is_whole.ensures.within;
+      within = c.in_ok-is_whole.ensures.within;
       enough = λ had has. subst IsEnough (sym (c.put_first.ensures.whole (search rules) ∙ spare)) (had has);
     }

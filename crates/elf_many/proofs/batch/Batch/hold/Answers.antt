@@ -33,4 +33,4 @@ returns-in_ok-push-clause-room c = λ had.
     holds_more c.self.inside.kept c.push.new.self c.args.name.now c.self.inside.after.items c.self.inside.limit.items c.self.inside.more room c.in_ok-push.ensures.short enough c.in_ok-push.ensures.pushed
 
 pub returns-else-wants-clause-room : goal.returns-else-wants-clause-room
-returns-else-wants-clause-room c = λ had. rw (← c.self.view_is) (holds_still c.make_room.new.self c.in_ok-make_room.ensures.room (c.in_ok-make_room.ensures.enough had))
+returns-else-wants-clause-room c = λ had. holds_still c.make_room.new.self c.in_ok-make_room.ensures.room (c.in_ok-make_room.ensures.enough had)
