@@ -1,4 +1,8 @@
 -- The line with the version's name.
+use Rattle.std.proofs.Common.{subst}
+use Rattle.elf_model.specs.Lines.{named_line}
+use Rattle.elf_source.specs.Output.{Puts}
+use Rattle.elf_lines.specs.Pieces.{shown_as}
 use Rattle.elf_loader.specs.Finding.{version_found}
 use Rattle.elf_wanted.specs.Wants.{asked_of}
 use Rattle.elf_run.proofs.LookupLaws.{version_line}
@@ -7,4 +11,6 @@ use Rattle.elf_run.proofs.resolving.show_version.Goals as goal
 pub returns : goal.returns
 returns g c =
     let line = version_line c.args.index (version_found (asked_of c.args.asked.now) c.args.name.now c.args.version.now) in
-    record { puts = rw line (rw (c.symbol_version_front-front.ensures.front, c.version_name-is_cut.ensures) at c.show_named.ensures.puts) }
+    let shown = shown_as c.version_name-is_cut.result.1 c.version_name-is_cut.result.0.now in
+    let told = subst (λ f. Puts c.args.out.now c.show_named.new.out c.show_named.result (named_line f shown)) c.symbol_version_front-front.ensures.front c.show_named.ensures.puts in
+    record { puts = rw line (rw c.version_name-is_cut.ensures at told) }
