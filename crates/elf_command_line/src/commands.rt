@@ -61,7 +61,7 @@ const JSON: Word = Word {
 const FILE: Word = Word {
     name: "FILE",
     kind: WordKind::Needed,
-    help: "The file to read",
+    help: "The file to read; - is standard input",
 };
 
 // Whether the name is looked up as a loader of the GNU system does it.

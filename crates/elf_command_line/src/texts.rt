@@ -38,6 +38,7 @@ also --gnu, with it --by-segments, and apply --layout and --explain:
   --files0-from FILE
                 for check only: check the paths in FILE too, each ended by NUL
   --            end the options, so that FILE, PATH or NAME may begin with a hyphen
+FILE or PATH may be - for the file on standard input.
 
 Exit status:
   0  listed, found or applied; check: no file is at fault

@@ -6,7 +6,7 @@ ghost use Rattle.std.specs.IoError.{error_kind};
 
 use crate::checks::Checks;
 use elf_model::FileState;
-use elf_source::{Counted, OffsetReader, OutFault, Sink, StreamSource};
+use elf_source::{Counted, OffsetReader, OutFault, Sink, StreamSource, opened_path};
 use std::fs;
 use std::io::{Error, ErrorKind, Write};
 use std::os::unix::fs::FileExt;
@@ -42,7 +42,7 @@ where
     }
 }
 
-/// Opens a file that is read at offsets.
+/// Opens a file that is read at offsets; for `-` that on standard input.
 ///
 /// # Errors
 /// The state of a file that can't be opened, or whose length can't be found.
@@ -50,7 +50,7 @@ fn open<R: Files>(rt: &R, path: &str) -> Result<StreamSource<OffsetReader<R::Fil
 where
     R::File: FileExt,
 {
-    match fs::open(rt, path) {
+    match fs::open(rt, opened_path(path)) {
         Ok(file) => StreamSource::over(OffsetReader::new(file)).map_err(|_| FileState::Unread),
         Err(error) => Err(unopened(&error)),
     }

@@ -2,13 +2,13 @@
 ghost use Rattle.std.specs.Prelude.{◌≡◌, ◌⊎◌, IfErr, codes};
 
 use crate::endings::{CANNOT_OPEN, Ending, READ_FAULT};
-use elf_source::{OffsetReader, StreamSource};
+use elf_source::{OffsetReader, StreamSource, opened_path};
 use std::fs;
 use std::os::unix::fs::{FileExt, FileTypeExt};
 use std::rt::Files;
 
-/// Opens a file that can be read at an offset. Folders, pipes and sockets are not opened, so that
-/// opening never waits.
+/// Opens a file that can be read at an offset; for `-` that on standard input. Folders, pipes and
+/// sockets are not opened, so that opening never waits.
 ///
 /// # Errors
 /// How the program ends where there is no such file, or where its size can't be told.
@@ -19,6 +19,7 @@ where
         × ((ending.1.now ≡ codes "elfsee: cannot open")
         ⊎ (ending.1.now ≡ codes "elfsee: read fault"))) }
 {
+    let path = opened_path(path);
     let Ok(found) = fs::metadata(rt, path) else {
         return Err(CANNOT_OPEN);
     };
