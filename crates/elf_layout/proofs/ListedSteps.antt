@@ -18,7 +18,7 @@ use Rattle.std.proofs.lemmas.List.Sums.{count_by-le-length}
 use Rattle.std.proofs.lemmas.List.Elements.{All-nil, All-push}
 use Rattle.elf_model.specs.Placing.{Layout}
 use Rattle.elf_layout.specs.Listed.{AreAlike, GiveItems, HasTwice, IsFaulty, IsLastAlike, NeverFalls, SpellsAlike, with_item, with_items}
-use Rattle.elf_layout.specs.Layouts.{IsName}
+use Rattle.elf_layout.specs.Layouts.{HaveNames, IsName}
 use Rattle.elf_layout.specs.Lent.{Follows, LentItem as Lent, MayFollow, lent_name, name_order, named}
 use Rattle.elf_layout.specs.Spelled.{Spells}
 use Rattle.elf_layout.specs.declared.layout.Item.{Item}
@@ -138,6 +138,10 @@ names_twice items i e within sorted not is_name =
           let before : i - 1 < length items = omega (arith, within) in
           subst (λ x. name_order x (lent_name (get_or items i d)) ≡ Less) (ap (λ x. x.0) (named_at items (i - 1) d (as_named d) before)) (subst (λ x. name_order (get_or (named items) (i - 1) (as_named d)).0 x ≡ Less) (ap (λ x. x.0) (named_at items i d (as_named d) within)) (follows (as_named d) some)),
     )))
+
+-- the name of an item that is lent, of which each has one that it may have
+pub name_there : (items : List Lent) (i : ℕ) (e : Lent) → i < length items → HaveNames (named items) → IsName (lent_name (get_or items i e))
+name_there items i e within names = subst (λ (x : List ℕ × ℕ). IsName x.0) (named_at items i e (as_named e) within) (names i (as_named e) (omega (arith, within, long items)))
 
 -- sorted pairs have sorted keys
 then_falls : (a b : Ordering) → is_lt (ordering_then a b) ≡ false → a ≡ Less → ⊥

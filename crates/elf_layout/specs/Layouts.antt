@@ -13,6 +13,10 @@ use Rattle.elf_layout.specs.declared.layout.LayoutFault.TheVariants.{Full, Repea
 abbrev pub IsName : List ℕ → Type 0
 IsName name = (0 < length name) × (length name ≤ 255) × All (λ byte. byte ≢ 0) name
 
+-- each of some items has a name that it may have
+abbrev pub HaveNames : List (List ℕ × ℕ) → Type 0
+HaveNames items = All (λ item. IsName item.0) items
+
 -- the name of an item, where it has one
 abbrev pub OnName : Item → (List ℕ → Type 0) → Type 0
 OnName (Section index address) P = Unit {0}

@@ -8,7 +8,6 @@ use Rattle.std.specs.declared.cmp.Ordering.{Ordering}
 use Rattle.std.specs.declared.cmp.Ordering.TheVariants.{Less}
 use Rattle.elf_model.specs.Placing.{Layout, Searched}
 use Rattle.elf_layout.specs.Kept.{lent_as}
-use Rattle.elf_layout.specs.Layouts.{IsName, OnName}
 use Rattle.elf_layout.specs.Lent.{name_order}
 use Rattle.elf_layout.specs.Spelled.{Spells}
 use Rattle.elf_layout.specs.declared.addresses.LentLayout.{LentLayout}
@@ -99,10 +98,10 @@ HasTwice {K} items key = (i j : ℕ) × (i < j) × (j < length items) × ((d : K
 -- two items of an item's sort have its index, or its name
 abbrev pub IsRepeated : Layout → Item → Type 0
 IsRepeated items (Section index address) = HasTwice items.sections index
-IsRepeated items (Define name address) = IsName name.now → HasTwice items.definitions name.now
-IsRepeated items (Entry name address) = IsName name.now → HasTwice items.linkage name.now
-IsRepeated items (Table name address) = IsName name.now → HasTwice items.table name.now
-IsRepeated items (Thread name address) = IsName name.now → HasTwice items.thread name.now
+IsRepeated items (Define name address) = HasTwice items.definitions name.now
+IsRepeated items (Entry name address) = HasTwice items.linkage name.now
+IsRepeated items (Table name address) = HasTwice items.table name.now
+IsRepeated items (Thread name address) = HasTwice items.thread name.now
 
 -- two items are of one sort, and have one index or name
 abbrev pub AreAlike : Item → Item → Type 0

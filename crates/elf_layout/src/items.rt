@@ -6,7 +6,7 @@ ghost use Rattle.std.specs.Ordering.{nat_cmp};
 ghost use Rattle.std.specs.Str.Lines.{lines};
 ghost use Rattle.elf_model.specs.Placing.{Searched};
 ghost use Rattle.elf_layout.specs.Kept.{lent_as};
-ghost use Rattle.elf_layout.specs.Layouts.{IsName};
+ghost use Rattle.elf_layout.specs.Layouts.{HaveNames, IsName, OnName};
 ghost use Rattle.elf_layout.specs.Lent.{named, name_order};
 ghost use Rattle.elf_layout.specs.Listed.{AreAlike, AreReordered, AreSorted, Gathers, GiveItems};
 ghost use Rattle.elf_layout.specs.Listed.{HasTwice, IsLastAlike, IsRefused, IsRepeated, Lends};
@@ -51,6 +51,7 @@ pub struct Items<'a> {
 }
 
 impl<'a> Model for Items<'a> {
+    ghost use Rattle.elf_layout.specs.Layouts.{HaveNames};
     ghost use Rattle.elf_layout.specs.Lent.{named};
     ghost use Rattle.elf_model.specs.Placing.{Layout, Searched};
 
@@ -64,6 +65,10 @@ impl<'a> Model for Items<'a> {
       table = named i.table.items;
       thread = named i.thread.items;
     } };
+
+    ghost invariant = { λ i.
+        (HaveNames (named i.definitions.items) × HaveNames (named i.linkage.items))
+        × (HaveNames (named i.table.items) × HaveNames (named i.thread.items)) };
 }
 
 impl<'a> Items<'a> {
@@ -124,6 +129,7 @@ impl<'a> Items<'a> {
 
     /// Puts an item behind those of its sort.
     fn push(&mut self, item: Item<'a>) -> Result<(), AllocError>
+        requires { OnName item IsName }
         ensures { IfOk result (λ _. self.new ≡ with_item self.old item.entry) }
     {
         match item {
@@ -240,8 +246,10 @@ fn push_name<'a>(
     name: &'a [u8],
     address: u64,
 ) -> Result<(), AllocError>
-    ensures { IfOk result (λ _.
+    requires { IsName name.now }
+    ensures put { IfOk result (λ _.
         named items.new.items ≡ named items.old.items ++ (name.now, address) ∷ []) }
+    ensures names { HaveNames (named items.old.items) → HaveNames (named items.new.items) }
 {
     match items.push((name, address)) {
         Ok(()) => Ok(()),
@@ -261,7 +269,9 @@ fn push_sections(items: &mut Vec<(u16, u64)>, sections: &[(u16, u64)]) -> Result
 
 /// Puts names behind others.
 fn push_names<'a>(items: &mut Vec<Placed<'a>>, names: &'a [NamedAddress]) -> Result<(), AllocError>
-    ensures { IfOk result (λ _. named items.new.items ≡ named items.old.items ++ names.now) }
+    requires { HaveNames names.now }
+    ensures put { IfOk result (λ _. named items.new.items ≡ named items.old.items ++ names.now) }
+    ensures names { HaveNames (named items.old.items) → HaveNames (named items.new.items) }
 {
     for name in names {
         push_name(items, name.name(), name.address())?;
@@ -281,16 +291,17 @@ fn sort_sections(items: &mut Vec<(u16, u64)>)
 fn sort_names(items: &mut Vec<Placed<'_>>)
     ensures same { IsPermutation (named items.old.items) (named items.new.items) }
     ensures sorted { NeverFalls name_order (named items.new.items) }
+    ensures names { HaveNames (named items.old.items) → HaveNames (named items.new.items) }
 {
     items.sort_unstable();
 }
 
 /// Names in rising order, or one that two have.
 fn names<'a>(items: &'a [Placed<'a>]) -> Result<SortedNames<'a>, Placed<'a>>
-    requires { NeverFalls name_order (named items.now) }
+    requires sorted { NeverFalls name_order (named items.now) }
+    requires named { HaveNames (named items.now) }
     ensures names { IfOk result (λ names. names ≡ named items.now) }
-    ensures refused { IfErr result (λ item.
-        IsName item.0.now → HasTwice (named items.now) item.0.now) }
+    ensures refused { IfErr result (λ item. HasTwice (named items.now) item.0.now) }
 {
     match SortedNames::new(items) {
         Ok(names) => Ok(names),

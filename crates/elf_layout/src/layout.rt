@@ -2,8 +2,8 @@
 ghost use Rattle.std.specs.Prelude.{◌≡◌, ◌≤◌, ◌<◌, ◌^◌, [], length, MatchBool};
 ghost use Rattle.elf_model.specs.ApplyCost.{layout_names_cost};
 ghost use Rattle.elf_model.specs.Placing.{Compared, address_in, has_base};
-ghost use Rattle.elf_layout.specs.Layouts.{Adds, IsName, OnName, Pushes, HasKey, LacksKey};
-ghost use Rattle.elf_layout.specs.Layouts.{names_for};
+ghost use Rattle.elf_layout.specs.Layouts.{Adds, HasKey, HaveNames, IsName, LacksKey, OnName};
+ghost use Rattle.elf_layout.specs.Layouts.{Pushes, names_for};
 
 use crate::named::{NamedAddress, has_name, names_cost};
 use arrayvec::ArrayVec;
@@ -84,6 +84,7 @@ pub struct Layout {
 
 impl Model for Layout {
     ghost use Rattle.elf_model.specs.Placing.{Layout, Compared};
+    ghost use Rattle.elf_layout.specs.Layouts.{HaveNames};
 
     ghost Value = { Layout };
 
@@ -95,6 +96,9 @@ impl Model for Layout {
       table = l.table.items;
       thread = l.thread.items;
     } };
+
+    ghost invariant = { λ l. (HaveNames l.definitions.items × HaveNames l.entries.items)
+        × (HaveNames l.table.items × HaveNames l.thread.items) };
 }
 
 impl Layout {
@@ -134,21 +138,24 @@ impl Layout {
 
     /// The definitions, in the order in which they were given.
     pub fn definitions(&self) -> &[NamedAddress]
-        ensures { result.now ≡ self.now.definitions }
+        ensures items { result.now ≡ self.now.definitions }
+        ensures names { HaveNames result.now }
     {
         self.definitions.as_slice()
     }
 
     /// The procedure linkage table entries, in the order in which they were given.
     pub fn linkage(&self) -> &[NamedAddress]
-        ensures { result.now ≡ self.now.linkage }
+        ensures items { result.now ≡ self.now.linkage }
+        ensures names { HaveNames result.now }
     {
         self.entries.as_slice()
     }
 
     /// The global offset table entries, in the order in which they were given.
     pub fn table(&self) -> &[NamedAddress]
-        ensures { result.now ≡ self.now.table }
+        ensures items { result.now ≡ self.now.table }
+        ensures names { HaveNames result.now }
     {
         self.table.as_slice()
     }
@@ -156,7 +163,8 @@ impl Layout {
     /// The global offset table entries of offsets from the thread pointer, in the order in which they
     /// were given.
     pub fn thread(&self) -> &[NamedAddress]
-        ensures { result.now ≡ self.now.thread }
+        ensures items { result.now ≡ self.now.thread }
+        ensures names { HaveNames result.now }
     {
         self.thread.as_slice()
     }
@@ -263,8 +271,9 @@ fn push_named(
     name: &[u8],
     address: u64,
 ) -> Result<(), LayoutFault>
-    requires { length name.now ≤ 255 }
-    ensures { Adds 32 name.now address items.old.items items.new.items result }
+    requires { IsName name.now }
+    ensures adds { Adds 32 name.now address items.old.items items.new.items result }
+    ensures names { HaveNames items.old.items → HaveNames items.new.items }
 {
     if has_name(items.as_slice(), name) {
         return Err(LayoutFault::Repeat);

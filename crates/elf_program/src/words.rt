@@ -1,5 +1,7 @@
 //! The words of a program, and what is told of them.
-ghost use Rattle.std.specs.Prelude.{◌≡◌, ◌⊎◌, IfErr, [], codes};
+ghost use Rattle.std.specs.Prelude.{◌≡◌, ◌≢◌, ◌⊎◌, All, IfErr, IfOk, [], codes, string_bytes};
+ghost use Rattle.elf_source.specs.Output.{Puts};
+ghost use Rattle.elf_program.specs.Marked.{byte_beside, told_beside};
 
 use crate::endings::{BAD_WORDS, Ending, NOT_UTF8, OUT_OF_MEMORY};
 use crate::outputs::{ERROR_LINE_BYTES, write_rest};
@@ -72,7 +74,10 @@ fn tell(
 ///
 /// # Errors
 /// There is no memory for the text.
-fn marked_text(alloc: Global, words: &[String]) -> Result<String, AllocError> {
+fn marked_text(alloc: Global, words: &[String]) -> Result<String, AllocError>
+    ensures { All (λ word. All (λ byte. byte ≢ 10) (string_bytes word)) words.now →
+        IfOk result (λ text. string_bytes text ≡ []) }
+{
     if !words.iter().any(|word| word.as_str().contains('\n')) {
         return Ok(String::new(alloc));
     }
@@ -102,21 +107,35 @@ fn marked_word(alloc: Global, word: &str) -> Result<String, AllocError> {
     Ok(other)
 }
 
-/// Writes what is wrong with words, in which a newline stands as it is unless it is a word's.
+/// Writes what is wrong with words, by what is wrong with them where their newlines are changed: a
+/// newline that is changed there too is a word's, and is spelt. Where that has another length, each
+/// newline stands as it is.
 ///
 /// # Errors
-/// A fault of the output.
-fn show_marked<W: Sink>(text: &[u8], marked: &[u8], out: &mut Out<W>) -> Result<(), OutFault> {
+/// A fault of the output, with a front of the text written.
+fn show_marked<W: Sink>(text: &[u8], marked: &[u8], out: &mut Out<W>) -> Result<(), OutFault>
+    ensures { Puts out.old out.new result (told_beside text.now marked.now) }
+{
     if text.len() != marked.len() {
         return show_told(text, out);
     }
-    let mut begin = 0;
     for i in 0..text.len() {
-        if text[i] == b'\n' && marked[i] != b'\n' {
-            show_told(&text[begin..i], out)?;
-            out.put(NEWLINE.as_bytes())?;
-            begin = i + 1;
-        }
+        show_byte(text[i], marked[i], out)?;
     }
-    show_told(&text[begin..], out)
+    out.put(&[])
+}
+
+/// Writes a byte of a text: as it is where it is a newline, and the byte at its place in the other text
+/// is one too; else spelt as in a name.
+///
+/// # Errors
+/// A fault of the output, with a front of the byte's text written.
+#[tactic(auto, unfolding(crate::specs::Marked::byte_beside))]
+fn show_byte<W: Sink>(byte: u8, mark: u8, out: &mut Out<W>) -> Result<(), OutFault>
+    ensures { Puts out.old out.new result (byte_beside byte mark) }
+{
+    if byte == b'\n' && mark != b'\n' {
+        return out.put(NEWLINE.as_bytes());
+    }
+    show_told(&[byte], out)
 }

@@ -1,4 +1,6 @@
-use Rattle.std.proofs.lemmas.List.Sorted.{IsPermutation-map}
+use Rattle.std.proofs.lemmas.List.Sorted.{All-permutation, IsPermutation-map}
+use Rattle.elf_layout.specs.Layouts.{IsName}
+use Rattle.elf_layout.specs.Lent.{named}
 use Rattle.elf_layout.specs.Lent.{lent_name}
 use Rattle.elf_layout.proofs.ListedSteps.{names_sorted}
 use Rattle.elf_layout.proofs.items.sort_names.Goals as goal
@@ -8,3 +10,6 @@ returns-clause-same c = IsPermutation-map (λ item. (lent_name item, item.1)) _ 
 
 pub returns-clause-sorted : goal.returns-clause-sorted
 returns-clause-sorted c = names_sorted _ c.sort_unstable.ensures.sorted
+
+pub returns-clause-names : goal.returns-clause-names
+returns-clause-names c = All-permutation (λ item. IsName item.0) (named c.args.items.now.items) (named c.sort_unstable.new.self.items) (IsPermutation-map (λ item. (lent_name item, item.1)) _ _ c.sort_unstable.ensures.permutation)

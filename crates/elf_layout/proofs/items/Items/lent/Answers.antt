@@ -13,17 +13,17 @@ returns-in-Err-clause-refused c =
     subst (λ l. HasTwice l c.index.result.now.0) is (subst (HasTwice c.as_slice.result.now) key twice)
 
 pub returns-in-Err-names-clause-refused : goal.returns-in-Err-names-clause-refused
-returns-in-Err-names-clause-refused c = λ is_name.
-    subst (λ l. HasTwice l c.in-Err-names.name.now) (ap named c.as_slice-2.ensures.value ∙ ap (λ l. l.definitions) c.self.view_is) (c.in-Err-names.ensures.refused is_name)
+returns-in-Err-names-clause-refused c =
+    subst (λ l. HasTwice l c.in-Err-names.name.now) (ap named c.as_slice-2.ensures.value ∙ ap (λ l. l.definitions) c.self.view_is) (c.in-Err-names.ensures.refused)
 
 pub returns-in-Err-names-2-clause-refused : goal.returns-in-Err-names-2-clause-refused
-returns-in-Err-names-2-clause-refused c = λ is_name.
-    subst (λ l. HasTwice l c.in-Err-names-2.name.now) (ap named c.as_slice-3.ensures.value ∙ ap (λ l. l.linkage) c.self.view_is) (c.in-Err-names-2.ensures.refused is_name)
+returns-in-Err-names-2-clause-refused c =
+    subst (λ l. HasTwice l c.in-Err-names-2.name.now) (ap named c.as_slice-3.ensures.value ∙ ap (λ l. l.linkage) c.self.view_is) (c.in-Err-names-2.ensures.refused)
 
 pub returns-in-Err-names-3-clause-refused : goal.returns-in-Err-names-3-clause-refused
-returns-in-Err-names-3-clause-refused c = λ is_name.
-    subst (λ l. HasTwice l c.in-Err-names-3.name.now) (ap named c.as_slice-4.ensures.value ∙ ap (λ l. l.table) c.self.view_is) (c.in-Err-names-3.ensures.refused is_name)
+returns-in-Err-names-3-clause-refused c =
+    subst (λ l. HasTwice l c.in-Err-names-3.name.now) (ap named c.as_slice-4.ensures.value ∙ ap (λ l. l.table) c.self.view_is) (c.in-Err-names-3.ensures.refused)
 
 pub returns-in-Err-names-4-clause-refused : goal.returns-in-Err-names-4-clause-refused
-returns-in-Err-names-4-clause-refused c = λ is_name.
-    subst (λ l. HasTwice l c.in-Err-names-4.name.now) (ap named c.as_slice-5.ensures.value ∙ ap (λ l. l.thread) c.self.view_is) (c.in-Err-names-4.ensures.refused is_name)
+returns-in-Err-names-4-clause-refused c =
+    subst (λ l. HasTwice l c.in-Err-names-4.name.now) (ap named c.as_slice-5.ensures.value ∙ ap (λ l. l.thread) c.self.view_is) (c.in-Err-names-4.ensures.refused)

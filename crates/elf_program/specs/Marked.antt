@@ -1,0 +1,19 @@
+-- What is told of words, in which a newline of a word is spelt, and one between lines stands as it is.
+use Rattle.std.specs.Prelude.{ℕ, ◌==◌, ◌&&◌, if◌then◌else◌, List, [], ◌∷◌, ◌++◌, length}
+use Rattle.elf_model.specs.Text.{newline}
+use Rattle.elf_model.specs.Lines.{name_byte_text}
+use Rattle.elf_lines.specs.Told.{told_text}
+
+-- a byte of a text, by the byte at its place in another: where both are newlines it stands as it is, else it is spelt as in a name
+unfoldable pub byte_beside : ℕ → ℕ → List ℕ
+byte_beside byte mark = if byte == 10 && mark == 10 then newline else name_byte_text byte
+
+-- the bytes of a text, by those of another
+unfoldable pub bytes_beside : List ℕ → List ℕ → List ℕ
+bytes_beside [] marked = []
+bytes_beside (byte ∷ bytes) [] = []
+bytes_beside (byte ∷ bytes) (mark ∷ marks) = byte_beside byte mark ++ bytes_beside bytes marks
+
+-- A TEXT AS IT IS TOLD beside another: by its bytes where they are as many, else each newline stands as it is
+unfoldable pub told_beside : List ℕ → List ℕ → List ℕ
+told_beside text marked = if length text == length marked then bytes_beside text marked else told_text text
