@@ -6,7 +6,7 @@ _elfsee_options() {
     case $1 in
     show | sample | archive) set -- --headers --names --max-read --only --gnu --by-segments --json ;;
     check) set -- --headers --names --max-read --only --gnu --by-segments --json --files0-from ;;
-    find) set -- --headers --max-read --gnu --by-segments ;;
+    find) set -- --headers --max-read --gnu --by-segments --json ;;
     apply) set -- --headers --max-read --layout --explain ;;
     *) set -- ;;
     esac

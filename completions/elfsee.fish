@@ -81,7 +81,7 @@ complete -c elfsee -n "$listing; and __elfsee_lacks --gnu" -l gnu -d 'name the n
 complete -c elfsee -n '__fish_seen_subcommand_from find; and __elfsee_lacks --gnu' -l gnu -d 'look the name up as a loader of the GNU system does, and its version too'
 complete -c elfsee -n '__fish_seen_subcommand_from find; and __elfsee_lacks --by-segments' -l by-segments -d 'with --gnu: find the tables by the program headers'
 complete -c elfsee -n "$listing; and __elfsee_lacks --by-segments" -l by-segments -d 'find tables by the program headers'
-complete -c elfsee -n "$listing; and __elfsee_lacks --json" -l json -d 'write each line as a JSON object'
+complete -c elfsee -n "__fish_seen_subcommand_from show sample find check archive; and __elfsee_lacks --json" -l json -d 'write each line as a JSON object'
 complete -c elfsee -n '__fish_seen_subcommand_from check; and __elfsee_lacks --files0-from' -l files0-from -r -F -d 'check the paths in a file too, each ended by NUL'
 complete -c elfsee -n '__fish_seen_subcommand_from apply; and __elfsee_lacks --layout' -l layout -r -F -d 'take the items in a file too, one a line'
 complete -c elfsee -n '__fish_seen_subcommand_from apply; and __elfsee_lacks --explain' -l explain -d 'tell which item would help where an address is missing'

@@ -65,7 +65,8 @@ with_reading_options command = with_rule (with_rule command headers_option) max_
 
 abbrev pub find_command : App
 find_command =
-    with_rule (with_rule (with_rule (with_rule (with_reading_options (new_app (codes "find"))) gnu_option) by_segments_option) file_argument) name_argument
+    with_rule (with_rule (with_rule (with_rule (with_rule (with_reading_options (new_app (codes "find"))) gnu_option) by_segments_option) json_option)
+    file_argument) name_argument
 
 abbrev pub section_argument : Rule
 section_argument = record (new_rule (codes "SECTION")) { required = true; parser = Some (Signed (pos 0) (pos 65535)) }

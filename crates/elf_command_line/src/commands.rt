@@ -138,7 +138,7 @@ const FIND: Described = Described {
     name: "find",
     about: "Look a name up by the file's own hash table",
     more: FOUND,
-    words: &[HEADERS, MAX_READ, AS_LOADER, AS_LOADED, FILE, NAME],
+    words: &[HEADERS, MAX_READ, AS_LOADER, AS_LOADED, JSON, FILE, NAME],
 };
 
 const APPLY: Described = Described {

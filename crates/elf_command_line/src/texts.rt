@@ -17,7 +17,7 @@ Examples:
   elfsee version
 
 Options, before or behind FILE; find and apply have only --headers, --max-read and --, find
-also --gnu, with it --by-segments, and apply --layout and --explain:
+also --json and --gnu, with it --by-segments, and apply --layout and --explain:
   --headers N   permit N section headers, and as many program headers:
                 1 to 65279 [default: 4096]
   --names N     show N bytes of a name: 1 to 4096 [default: 256]

@@ -6,7 +6,9 @@ use Rattle.elf_model.specs.Fixtures.{zeros, with_bytes}
 use Rattle.elf_model.specs.FixturesHash.{words}
 use Rattle.elf_model.specs.FixturesVersions.{versioned_library, versioned_without_sections}
 use Rattle.elf_model.specs.Loader.{NoVersion, Version, DefaultVersion, wanted_of, is_complete}
+use Rattle.elf_model.specs.LoaderAnswer.{loader_answer}
 use Rattle.elf_model.specs.LoaderFind.{loader_ceiling}
+use Rattle.elf_model.specs.declared.formats.Format.TheVariants.{Columns, Object}
 use Rattle.elf_gnu_examples.specs.LoaderWords.{LoaderFinds, LoaderCosts, second_f, found_2}
 
 -- the text of a name alone, of a version behind one sign and behind two, and of versions that hold such signs
@@ -69,5 +71,16 @@ LoaderCeilings =
 -- the lookup of a name alone finds no hash table of the gABI in the library, with section headers or without
 abbrev pub OtherLookupsFindNoTable : Type 0
 OtherLookupsFindNoTable =
-    (find_answer versioned_library 8 (codes "f") ≡ record { text = codes "! 0000000000000028 no-hash\n"; status = 1 })
-    × (find_answer versioned_without_sections 8 (codes "f") ≡ record { text = codes "! 0000000000000028 no-hash\n"; status = 1 })
+    (find_answer Columns versioned_library 8 (codes "f") ≡ record { text = codes "! 0000000000000028 no-hash\n"; status = 1 })
+    × (find_answer Columns versioned_without_sections 8 (codes "f") ≡ record { text = codes "! 0000000000000028 no-hash\n"; status = 1 })
+
+-- a symbol, its version and the number as objects
+abbrev pub LoaderAnswersAreObjects : Type 0
+LoaderAnswersAreObjects =
+    loader_answer Object versioned_library 8 (codes "f@V1") ≡ record {
+      text =
+          codes "{\"line\":\"Y\",\"table\":2,\"index\":3,\"value\":680,\"size\":1,\"type\":\"FUNC\",\"binding\":\"GLOBAL\",\"visibility\":\"DEFAULT\",\"place\":7,\"name\":\"f\"}\n"
+          ++ codes "{\"line\":\"X\",\"table\":4,\"index\":3,\"number\":2,\"hidden\":\"H\",\"name\":\"V1\"}\n"
+          ++ codes "{\"line\":\"F\",\"answer\":\"found\",\"steps\":1}\n";
+      status = 0;
+    }

@@ -3,14 +3,15 @@ use Rattle.std.specs.Prelude.{◌≡◌, ℕ, List, codes}
 use Rattle.elf_model.specs.Loader.{wanted_of}
 use Rattle.elf_model.specs.LoaderAnswer.{loader_answer}
 use Rattle.elf_model.specs.LoaderFind.{loader_cost}
+use Rattle.elf_model.specs.declared.formats.Format.TheVariants.{Columns}
 
 -- a lookup in a file, with eight headers permitted, finds a symbol and writes these lines
 abbrev pub LoaderFinds : List ℕ → List ℕ → List ℕ → Type 0
-LoaderFinds file text lines = loader_answer file 8 text ≡ record { text = lines; status = 0 }
+LoaderFinds file text lines = loader_answer Columns file 8 text ≡ record { text = lines; status = 0 }
 
 -- it finds none, or is refused, and writes this line
 abbrev pub Fails : List ℕ → List ℕ → List ℕ → Type 0
-Fails file text line = loader_answer file 8 text ≡ record { text = line; status = 1 }
+Fails file text line = loader_answer Columns file 8 text ≡ record { text = line; status = 1 }
 
 -- it asks for so many bytes
 abbrev pub LoaderCosts : List ℕ → List ℕ → ℕ → Type 0

@@ -1,5 +1,6 @@
 //! Worked parting of texts, and lookups of long names, each computed by the prover.
 ghost use Rattle.elf_gnu_examples.specs.ExamplesWanted.{TextsAreParted, EmptyNamesAreNone, LongVersionsAreCut, LongNamesAsk, LoaderCeilings, OtherLookupsFindNoTable};
+ghost use Rattle.elf_gnu_examples.specs.ExamplesWanted.{LoaderAnswersAreObjects};
 
 /// A name alone, and with a version behind one sign or two.
 #[tactic(auto, unfolding(elf_model::proofs::OnLiterals::on_literals, elf_model::proofs::OnLoader::on_loader, crate::proofs::OnExamples::on_examples))]
@@ -35,4 +36,10 @@ pub fn ceilings()
 #[tactic(auto, unfolding(elf_model::proofs::OnLiterals::on_literals, elf_model::proofs::OnLoader::on_loader, crate::proofs::OnExamples::on_examples))]
 pub fn other_lookups_find_no_table()
     ensures { OtherLookupsFindNoTable }
+{}
+
+/// A symbol, its version and the number as objects.
+#[tactic(auto, unfolding(elf_model::proofs::OnLiterals::on_literals, elf_model::proofs::OnLoader::on_loader))]
+pub fn loader_answers_are_objects()
+    ensures { LoaderAnswersAreObjects }
 {}

@@ -17,18 +17,17 @@ pub struct NumberNaming {
 impl NumberNaming {
     ghost use Rattle.std.specs.Prelude.{◌≡◌, ◌==◌, ◌&&◌, false};
     ghost use Rattle.elf_model.specs.Numbers.{EM_X86_64};
-    ghost use Rattle.elf_model.specs.declared.formats.Format.TheVariants.{Columns};
 
-    /// The names of the standards alone, in columns.
-    pub fn standard(machine: u16) -> NumberNaming
+    /// The names of the standards alone.
+    pub fn standard(machine: u16, format: Format) -> NumberNaming
         ensures gnu { result.gnu ≡ false }
         ensures machine { result.machine ≡ machine }
-        ensures format { result.format ≡ Columns }
+        ensures format { result.format ≡ format }
     {
         NumberNaming {
             gnu: false,
             machine,
-            format: Format::Columns,
+            format,
         }
     }
 

@@ -9,7 +9,6 @@ ghost use Rattle.elf_model.specs.Lines.{named_line};
 ghost use Rattle.elf_model.specs.Names.Shown.{Whole};
 ghost use Rattle.elf_record.specs.Sym.{IsSym};
 ghost use Rattle.elf_lines.specs.Fronts.{front_of};
-ghost use Rattle.elf_model.specs.declared.formats.Format.TheVariants.{Columns};
 ghost use Rattle.elf_source.specs.Output.{OutFails, Puts};
 
 use crate::fields::{
@@ -18,6 +17,7 @@ use crate::fields::{
 use crate::name_tables::{name_of, name_of_either};
 use crate::named::show_named;
 use crate::naming::NumberNaming;
+use elf_model::Format;
 use elf_record::Sym;
 use elf_record::gnu_numbers::{SHN_X86_64_LCOMMON, STB_GNU_UNIQUE, STT_GNU_IFUNC};
 use elf_record::numbers::{
@@ -69,7 +69,7 @@ fn with_name(name: Option<&'static str>, number: u64) -> NamedNumber
     NamedNumber { name, number }
 }
 
-/// Writes the `Y` line of a symbol with its name, whole, as it is given.
+/// Writes the `Y` line of a symbol with its name, whole, as it is given, in the standards' names.
 ///
 /// # Errors
 /// A fault of the output, with a front of the line written.
@@ -78,15 +78,17 @@ pub fn show_symbol<W: Sink>(
     index: u64,
     symbol: &Sym,
     name: &[u8],
+    format: Format,
     out: &mut Out<W>,
 ) -> Result<(), OutFault>
     ensures puts { (file : List ℕ) (at : ℕ) → IsSym file at symbol.now →
-        let front = symbol_front Columns false (e_machine file) file at section index in
+        let front = symbol_front format false (e_machine file) file at section index in
         Puts out.old out.new result (named_line front (Whole name.now)) }
     ensures fails { IfErr result (OutFails out.new) }
     ensures grows { Grows out.old out.new }
 {
-    let front = symbol_front(section, index, symbol, NumberNaming::standard(0));
+    let naming = NumberNaming::standard(0, format);
+    let front = symbol_front(section, index, symbol, naming);
     show_named(front, name, false, out)
 }
 

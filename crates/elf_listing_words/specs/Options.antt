@@ -8,6 +8,7 @@ use Rattle.elf_model.specs.Listing.{HEADER, SECTIONS, SEGMENTS, SYMBOLS, RELOCS,
 use Rattle.elf_record.specs.declared.parts.Parts.{Parts}
 use Rattle.elf_headers.specs.declared.caps.Limits.{Limits}
 use Rattle.elf_headers.specs.declared.caps.Style.{Style}
+use Rattle.elf_model.specs.declared.formats.Format.{Format}
 use Rattle.elf_model.specs.declared.formats.Format.TheVariants.{Columns, Object}
 
 -- the parts that can be asked for, by their names: symbol versions in listings of the GNU system alone
@@ -56,12 +57,16 @@ asks_gnu rows = is_option_set (first_of (codes "gnu") rows)
 abbrev pub lacks_gnu : List Row → Bool
 lacks_gnu rows = is_option_set (first_of (codes "by-segments") rows) && not (asks_gnu rows)
 
+-- how a line is written, by whether objects are asked for
+abbrev pub asked_format : List Row → Format
+asked_format rows = if is_option_set (first_of (codes "json") rows) then Object else Columns
+
 -- how rows are shown, by the values of the options
 pub record IsStyle (rows : List Row) (style : Style) : Type 0 where
   pub cap : HasNumber (one_of (codes "names") rows) (Some style.cap.bytes)
   pub gnu : style.gnu ≡ asks_gnu rows
   pub by_segments : style.by_segments ≡ is_option_set (first_of (codes "by-segments") rows)
-  pub format : style.format ≡ (if is_option_set (first_of (codes "json") rows) then Object else Columns)
+  pub format : style.format ≡ asked_format rows
 
 -- the part with this name, or without a name all, of listings of the GNU system or of the standards' alone
 abbrev pub ArePartsOf : Bool → Option Text → Parts → Type 0

@@ -1,13 +1,13 @@
 //! The options of commands, and the parts of a listing.
 ghost use Rattle.std.specs.Prelude.{◌≡◌, ◌<◌, ◌^◌, ℕ, IfSome, None, Option, Some, false};
-ghost use Rattle.std.specs.Prelude.{codes, if◌then◌else◌, option_map};
-ghost use Rattle.elf_model.specs.declared.formats.Format.TheVariants.{Columns, Object};
+ghost use Rattle.std.specs.Prelude.{option_map};
 ghost use Rattle.clap.specs.Walk.{first_of, one_of, rows_of};
 ghost use Rattle.clap.specs.Words.{found_of};
 ghost use Rattle.elf_model.specs.Listing.{all_parts};
 ghost use Rattle.elf_model.specs.Text.{name_of};
 ghost use Rattle.elf_listing_words.specs.Options.{AreLimitOptions, AreParts, HasNumber, IsStyle};
-ghost use Rattle.elf_listing_words.specs.Options.{asks_gnu, is_part, is_option_set, lacks_gnu, part_names};
+ghost use Rattle.elf_listing_words.specs.Options.{asked_format, asks_gnu, is_part, is_option_set};
+ghost use Rattle.elf_listing_words.specs.Options.{lacks_gnu, part_names};
 ghost use Rattle.elf_record.specs.declared.parts.Parts.{Parts};
 ghost use Rattle.elf_headers.specs.declared.caps.Limits.{Limits};
 ghost use Rattle.elf_headers.specs.declared.caps.Style.{Style};
@@ -46,9 +46,8 @@ pub fn style_of(options: &ArgMatches<'_>) -> Option<Style>
 }
 
 /// How a line is written, by the options.
-fn format_of(options: &ArgMatches<'_>) -> Format
-    ensures { result ≡ (if is_option_set (first_of (codes "json") (rows_of (found_of options.now)))
-        then Object else Columns) }
+pub fn format_of(options: &ArgMatches<'_>) -> Format
+    ensures { result ≡ asked_format (rows_of (found_of options.now)) }
 {
     if is_set(options, "json") {
         Format::Object

@@ -7,6 +7,7 @@ use Rattle.elf_model.specs.Find.{looked}
 use Rattle.elf_model.specs.Hash.{Outcome, Found, Absent, Refused}
 use Rattle.elf_model.specs.LineFronts.{symbol_front}
 use Rattle.elf_model.specs.Lines.{named_line, steps_line, refusal_line}
+use Rattle.elf_model.specs.declared.formats.Format.{Format}
 use Rattle.elf_model.specs.declared.formats.Format.TheVariants.{Columns}
 use Rattle.elf_model.specs.Names.Shown.{Whole}
 use Rattle.elf_model.specs.Placing.{Layout}
@@ -15,11 +16,11 @@ use Rattle.elf_model.specs.declared.causes.Refusal.{Refusal}
 
 -- the text of a lookup's answer once so many names are compared: the symbol's line, under the wanted name, and the
 -- number; the number alone; the refusal
-abbrev pub lookup_text : List ℕ → List ℕ → Outcome → ℕ → List ℕ
-lookup_text file wanted (Found section index symbol) compared =
-    named_line (symbol_front Columns false (e_machine file) file symbol section index) (Whole wanted) ++ steps_line Columns true compared
-lookup_text file wanted Absent compared = steps_line Columns false compared
-lookup_text file wanted (Refused refusal) compared = refusal_line Columns refusal
+abbrev pub lookup_text : Format → List ℕ → List ℕ → Outcome → ℕ → List ℕ
+lookup_text format file wanted (Found section index symbol) compared =
+    named_line (symbol_front format false (e_machine file) file symbol section index) (Whole wanted) ++ steps_line format true compared
+lookup_text format file wanted Absent compared = steps_line format false compared
+lookup_text format file wanted (Refused refusal) compared = refusal_line format refusal
 
 -- 0 where the name is found
 abbrev pub lookup_status : Outcome → ℕ
@@ -28,10 +29,10 @@ lookup_status Absent = 1
 lookup_status (Refused refusal) = 1
 
 -- `find`: the lookup of a name in a file
-abbrev pub find_answer : List ℕ → ℕ → List ℕ → Answer
-find_answer file headers wanted =
+abbrev pub find_answer : Format → List ℕ → ℕ → List ℕ → Answer
+find_answer format file headers wanted =
     let lookup = looked file headers wanted in
-    record { text = lookup_text file wanted lookup.answer lookup.compared; status = lookup_status lookup.answer }
+    record { text = lookup_text format file wanted lookup.answer lookup.compared; status = lookup_status lookup.answer }
 
 -- the section's bytes as they are, or the refusal's line
 abbrev pub applied_text : Result (List ℕ) Refusal → List ℕ
@@ -50,13 +51,13 @@ apply_answer file headers section layout =
     record { text = applied_text result; status = applied_status result }
 
 -- an answer is the line of a refusal for want of budget alone, whose offset is below the file's length, with status 1
-pub record IsOutOfBudget (size : ℕ) (answer : Answer) : Type 0 where
+pub record IsOutOfBudget (format : Format) (size : ℕ) (answer : Answer) : Type 0 where
   pub refusal : Refusal
   pub for_budget : IsBudget refusal
   pub inside : refusal.at < size
-  pub answer_is : answer ≡ record { text = refusal_line Columns refusal; status = 1 }
+  pub answer_is : answer ≡ record { text = refusal_line format refusal; status = 1 }
 
 -- what is answered within a budget: all of it; or, where it costs more than the budget, that refusal
-abbrev pub IsAnswered : Option ℕ → (size cost : ℕ) → (whole answer : Answer) → Type 0
-IsAnswered None size cost whole answer = answer ≡ whole
-IsAnswered (Some budget) size cost whole answer = (answer ≡ whole) ⊎ ((budget < cost) × IsOutOfBudget size answer)
+abbrev pub IsAnswered : Format → Option ℕ → (size cost : ℕ) → (whole answer : Answer) → Type 0
+IsAnswered format None size cost whole answer = answer ≡ whole
+IsAnswered format (Some budget) size cost whole answer = (answer ≡ whole) ⊎ ((budget < cost) × IsOutOfBudget format size answer)

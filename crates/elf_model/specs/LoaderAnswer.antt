@@ -7,35 +7,35 @@ use Rattle.elf_model.specs.LineFronts.{symbol_front}
 use Rattle.elf_model.specs.Lines.{named_line, steps_line, refusal_line}
 use Rattle.elf_model.specs.Loader.{Wanted, wanted_of}
 use Rattle.elf_model.specs.LoaderFind.{FoundVersion, loader_looked}
-use Rattle.elf_model.specs.declared.formats.Format.TheVariants.{Columns}
+use Rattle.elf_model.specs.declared.formats.Format.{Format}
 use Rattle.elf_model.specs.Names.Shown.{Whole}
 use Rattle.elf_model.specs.Records.{e_machine}
 use Rattle.elf_model.specs.VersionRows.{symbol_version_front}
 
 -- the line of the version of the symbol of an index, where it has one
-unfoldable pub found_version_line : ℕ → Option FoundVersion → List ℕ
-found_version_line index None = []
-found_version_line index (Some version) = named_line (symbol_version_front Columns version.index index version.word) version.name
+unfoldable pub found_version_line : Format → ℕ → Option FoundVersion → List ℕ
+found_version_line format index None = []
+found_version_line format index (Some version) = named_line (symbol_version_front format version.index index version.word) version.name
 
 -- the text of an answer, once so many symbols are tried: the symbol's line, in the names of the GNU system and under the wanted
 -- name, its version's, and the number; the number alone; the refusal
-abbrev pub loader_text : List ℕ → List ℕ → Outcome → Option FoundVersion → ℕ → List ℕ
-loader_text file name (Found section index symbol) version tried =
-    named_line (symbol_front Columns true (e_machine file) file symbol section index) (Whole name)
-    ++ found_version_line index version
-    ++ steps_line Columns true tried
-loader_text file name Absent version tried = steps_line Columns false tried
-loader_text file name (Refused refusal) version tried = refusal_line Columns refusal
+abbrev pub loader_text : Format → List ℕ → List ℕ → Outcome → Option FoundVersion → ℕ → List ℕ
+loader_text format file name (Found section index symbol) version tried =
+    named_line (symbol_front format true (e_machine file) file symbol section index) (Whole name)
+    ++ found_version_line format index version
+    ++ steps_line format true tried
+loader_text format file name Absent version tried = steps_line format false tried
+loader_text format file name (Refused refusal) version tried = refusal_line format refusal
 
 -- `find` as a loader: what a lookup writes, and 0 where it finds a symbol
-unfoldable pub loader_answer_for : List ℕ → ℕ → Wanted → Answer
-loader_answer_for file headers wanted =
+unfoldable pub loader_answer_for : Format → List ℕ → ℕ → Wanted → Answer
+loader_answer_for format file headers wanted =
     let loader = loader_looked file headers wanted in
     record {
-      text = loader_text file wanted.name loader.lookup.answer loader.version loader.lookup.compared;
+      text = loader_text format file wanted.name loader.lookup.answer loader.version loader.lookup.compared;
       status = lookup_status loader.lookup.answer;
     }
 
 -- the same of a text NAME, NAME@VERSION or NAME@@VERSION
-abbrev pub loader_answer : List ℕ → ℕ → List ℕ → Answer
-loader_answer file headers text = loader_answer_for file headers (wanted_of text)
+abbrev pub loader_answer : Format → List ℕ → ℕ → List ℕ → Answer
+loader_answer format file headers text = loader_answer_for format file headers (wanted_of text)

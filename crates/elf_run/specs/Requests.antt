@@ -10,6 +10,8 @@ use Rattle.elf_model.specs.LoaderAnswer.{loader_answer}
 use Rattle.elf_model.specs.LoaderFind.{loader_ceiling, loader_cost}
 use Rattle.elf_model.specs.Placing.{Layout}
 use Rattle.elf_model.specs.Style.{looked_at}
+use Rattle.elf_model.specs.declared.formats.Format.{Format}
+use Rattle.elf_model.specs.declared.formats.Format.TheVariants.{Columns}
 use Rattle.elf_source.specs.Growth.{Grows}
 use Rattle.elf_source.specs.Source.{Counting}
 use Rattle.elf_source.specs.Output.{Written}
@@ -46,24 +48,24 @@ RunsShow caps parts old new before after result =
     (λ file. Answers before after result (IsShown caps.limits.budget file caps.limits.headers (style_of caps.style) parts)
     (WholeOrUsedUp caps.limits.budget old new result (show_answer_by file caps.limits.headers (style_of caps.style) parts)))
 
--- a lookup of a name
-abbrev pub RunsFind : Limits → List ℕ → Counting → Counting → Written → Written → Result ℕ Stop → Type 0
-RunsFind limits wanted old new before after result =
+-- a lookup of a name, which is answered in a format
+abbrev pub RunsFind : Limits → List ℕ → Format → Counting → Counting → Written → Written → Result ℕ Stop → Type 0
+RunsFind limits wanted format old new before after result =
     Runs old new before after result (AsksUpTo limits.budget old new (find_bytes old.seen.size limits.headers (length wanted)))
     (λ file. find_cost file limits.headers wanted)
     (λ file. Answers before after result
-    (IsAnswered limits.budget (length file) (find_cost file limits.headers wanted) (find_answer file limits.headers wanted))
-    (WholeOrUsedUp limits.budget old new result (find_answer file limits.headers wanted)))
+    (IsAnswered format limits.budget (length file) (find_cost file limits.headers wanted) (find_answer format file limits.headers wanted))
+    (WholeOrUsedUp limits.budget old new result (find_answer format file limits.headers wanted)))
 
 -- a lookup as a loader does it, of a name alone or with a version, by the program headers alone or not
-abbrev pub RunsResolve : Limits → List ℕ → Bool → Counting → Counting → Written → Written → Result ℕ Stop → Type 0
-RunsResolve limits text by_segments old new before after result =
+abbrev pub RunsResolve : Limits → List ℕ → Bool → Format → Counting → Counting → Written → Written → Result ℕ Stop → Type 0
+RunsResolve limits text by_segments format old new before after result =
     Runs old new before after result (AsksUpTo limits.budget old new (loader_ceiling old.seen.size limits.headers (wanted_of text)))
     (λ file. loader_cost (looked_at by_segments file) limits.headers (wanted_of text))
     (λ file. Answers before after result
-    (IsAnswered limits.budget (length file) (loader_cost (looked_at by_segments file) limits.headers (wanted_of text))
-    (loader_answer (looked_at by_segments file) limits.headers text))
-    (WholeOrUsedUp limits.budget old new result (loader_answer (looked_at by_segments file) limits.headers text)))
+    (IsAnswered format limits.budget (length file) (loader_cost (looked_at by_segments file) limits.headers (wanted_of text))
+    (loader_answer format (looked_at by_segments file) limits.headers text))
+    (WholeOrUsedUp limits.budget old new result (loader_answer format (looked_at by_segments file) limits.headers text)))
 
 -- a section with its relocations applied
 abbrev pub RunsApply : Limits → ℕ → Layout → Counting → Counting → Written → Written → Result ℕ Stop → Type 0
@@ -71,13 +73,14 @@ RunsApply limits section layout old new before after result =
     Runs old new before after result (AsksUpTo limits.budget old new (apply_ceiling old.seen.size limits.headers layout))
     (λ file. apply_cost_by_order file limits.headers section layout)
     (λ file. Answers before after result
-    (IsAnswered limits.budget (length file) (apply_cost_by_order file limits.headers section layout) (apply_answer file limits.headers section layout))
+    (IsAnswered Columns limits.budget (length file) (apply_cost_by_order file limits.headers section layout) (apply_answer file limits.headers section layout))
     (λ answer. ⊤))
 
 -- a task, within its limits
 abbrev pub RunsTask : Limits → Task → Counting → Counting → Written → Written → Result ℕ Stop → Type 0
 RunsTask limits (Show parts style) old new before after result = RunsShow (record { limits = limits; style = style }) parts.0 old new before after result
-RunsTask limits (Find wanted) old new before after result = RunsFind limits wanted.bytes.now old new before after result
-RunsTask limits (Resolve wanted by_segments) old new before after result = RunsResolve limits wanted.text.now by_segments old new before after result
+RunsTask limits (Find wanted format) old new before after result = RunsFind limits wanted.bytes.now format old new before after result
+RunsTask limits (Resolve wanted by_segments format) old new before after result =
+    RunsResolve limits wanted.text.now by_segments format old new before after result
 RunsTask limits (Apply section layout explain) old new before after result = RunsApply limits section layout.now old new before after result
 RunsTask limits (Place section addresses explain) old new before after result = RunsApply limits section addresses.now old new before after result

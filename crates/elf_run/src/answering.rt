@@ -4,7 +4,7 @@ ghost use Rattle.elf_run.specs.Requests.{RunsShow, RunsTask};
 
 use crate::applying::write_applied;
 use crate::finding::look_up;
-use crate::resolving::resolve;
+use crate::resolving::{LookupStyle, resolve};
 use elf_headers::{Caps, HeaderStore, Stop};
 use elf_layout::Addresses;
 use elf_listing::show;
@@ -35,11 +35,18 @@ pub fn run<S: Source, W: Sink>(
     let limits = request.limits;
     match request.task {
         Task::Show { parts, style } => list(src, store, Caps { limits, style }, parts, out),
-        Task::Find(wanted) => look_up(src, store, limits, wanted.bytes, out),
+        Task::Find { wanted, format } => look_up(src, store, limits, wanted.bytes, format, out),
         Task::Resolve {
             wanted,
             by_segments,
-        } => resolve(src, store, limits, wanted.text, by_segments, out),
+            format,
+        } => {
+            let style = LookupStyle {
+                by_segments,
+                format,
+            };
+            resolve(src, store, limits, wanted.text, style, out)
+        }
         Task::Apply {
             section,
             layout,

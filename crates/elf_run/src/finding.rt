@@ -27,19 +27,20 @@ pub(crate) fn look_up<S: Source, W: Sink>(
     store: &mut HeaderStore,
     limits: Limits,
     wanted: &[u8],
+    format: Format,
     out: &mut Out<W>,
 ) -> Result<u8, Stop>
     requires slots { (store.old.slots ≡ limits.headers) × (src.old.asked ≤ 2 ^ 127) }
     requires most { length wanted.now ≤ 4096 }
     ensures slots { store.new.slots ≡ store.old.slots }
-    ensures runs { RunsFind limits wanted.now src.old src.new out.old out.new result }
+    ensures runs { RunsFind limits wanted.now format src.old src.new out.old out.new result }
 {
     src.limit(limits.budget);
     let found = find(src, store, wanted);
     src.limit(None);
     match found {
-        Ok(lookup) => show_lookup(&lookup, wanted, out),
-        Err(fault) => Err(show_stop(fault.into(), Format::Columns, out)),
+        Ok(lookup) => show_lookup(&lookup, wanted, format, out),
+        Err(fault) => Err(show_stop(fault.into(), format, out)),
     }
 }
 
@@ -48,11 +49,16 @@ pub(crate) fn look_up<S: Source, W: Sink>(
 /// # Errors
 /// A fault of the output, with a front of the lines written.
 #[tactic(auto, using(crate::proofs::TaskLaws::front_then))]
-fn show_lookup<W: Sink>(lookup: &Lookup, wanted: &[u8], out: &mut Out<W>) -> Result<u8, Stop>
+fn show_lookup<W: Sink>(
+    lookup: &Lookup,
+    wanted: &[u8],
+    format: Format,
+    out: &mut Out<W>,
+) -> Result<u8, Stop>
     ensures grows { Grows out.old out.new }
     ensures fails { IfErr result (IsOfOutput out.new) }
     ensures text { (file : List ℕ) (looked : Looked) → Looks file looked lookup.now →
-        WroteAnswer out.old out.new result (answer_of_lookup file wanted.now looked) }
+        WroteAnswer out.old out.new result (answer_of_lookup format file wanted.now looked) }
 {
     match lookup {
         Lookup::Found {
@@ -61,12 +67,12 @@ fn show_lookup<W: Sink>(lookup: &Lookup, wanted: &[u8], out: &mut Out<W>) -> Res
             symbol,
             steps,
         } => {
-            show_symbol(*section, u64::from(*index), symbol, wanted, out)?;
-            show_steps(true, u64::from(*steps), Format::Columns, out)?;
+            show_symbol(*section, u64::from(*index), symbol, wanted, format, out)?;
+            show_steps(true, u64::from(*steps), format, out)?;
             Ok(0)
         }
         Lookup::Absent { steps } => {
-            show_steps(false, u64::from(*steps), Format::Columns, out)?;
+            show_steps(false, u64::from(*steps), format, out)?;
             Ok(1)
         }
     }

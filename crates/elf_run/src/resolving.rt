@@ -6,7 +6,6 @@ ghost use Rattle.elf_loader.specs.Finding.{name_shown, version_found};
 ghost use Rattle.elf_loader.specs.Lookups.{AnswersLoaderLookup};
 ghost use Rattle.elf_model.specs.LineFronts.{symbol_front};
 ghost use Rattle.elf_model.specs.Lines.{named_line};
-ghost use Rattle.elf_model.specs.declared.formats.Format.TheVariants.{Columns};
 ghost use Rattle.elf_model.specs.Loader.{asked_name};
 ghost use Rattle.elf_model.specs.LoaderAnswer.{found_version_line};
 ghost use Rattle.elf_model.specs.LoaderFind.{LoaderLookup};
@@ -29,9 +28,18 @@ use elf_source::{Counted, Out, OutFault, Sink, Source};
 use elf_table::{NameBuf, NameEnd};
 use elf_wanted::{Asked, Wanted, wanted_of};
 
+/// How a name is looked up, and how that is answered.
+#[derive(Clone, Copy)]
+pub(crate) struct LookupStyle {
+    /// Whether what it is looked up in is found by the program headers also where there are section
+    /// headers.
+    pub by_segments: bool,
+    /// How a line is written.
+    pub format: Format,
+}
+
 /// Looks a name up in a file as a loader does, alone or with a version: `text` is NAME, NAME@VERSION
-/// or NAME@@VERSION. With `by_segments` what it is looked up in is found by the program headers also
-/// where there are section headers. Writes the symbol's line, in the names of the GNU system, the line of its
+/// or NAME@@VERSION. Writes the symbol's line, in the names of the GNU system, the line of its
 /// version, where the file has versions, and how many symbols were tried; or that number alone where
 /// no symbol answers, or the line of the refusal. Answers the status: 0 where a symbol was found, else
 /// 1. The text has at most 4,096 bytes. Where there is a budget no more is read; afterwards no limit
@@ -45,22 +53,23 @@ pub(crate) fn resolve<S: Source, W: Sink>(
     store: &mut HeaderStore,
     limits: Limits,
     text: &[u8],
-    by_segments: bool,
+    style: LookupStyle,
     out: &mut Out<W>,
 ) -> Result<u8, Stop>
     requires slots { (store.old.slots ≡ limits.headers) × (src.old.asked ≤ 2 ^ 127) }
     requires most { length text.now ≤ 4096 }
     ensures slots { store.new.slots ≡ store.old.slots }
-    ensures runs { RunsResolve limits text.now by_segments src.old src.new out.old out.new result }
+    ensures runs { RunsResolve limits text.now style.by_segments style.format
+        src.old src.new out.old out.new result }
 {
     let wanted = wanted_of(text);
     let mut name = NameBuf::new();
     src.limit(limits.budget);
-    let found = look_up(src, store, &wanted, by_segments, &mut name);
+    let found = look_up(src, store, &wanted, style.by_segments, &mut name);
     src.limit(None);
     match found {
-        Ok(lookup) => show_resolved(&lookup, &wanted, &name, out),
-        Err(fault) => Err(show_stop(fault.into(), Format::Columns, out)),
+        Ok(lookup) => show_resolved(&lookup, &wanted, &name, style.format, out),
+        Err(fault) => Err(show_stop(fault.into(), style.format, out)),
     }
 }
 
@@ -72,22 +81,24 @@ fn show_resolved<W: Sink>(
     lookup: &SymbolLookup,
     wanted: &Wanted<'_>,
     name: &NameBuf,
+    format: Format,
     out: &mut Out<W>,
 ) -> Result<u8, Stop>
     ensures grows { Grows out.old out.new }
     ensures fails { IfErr result (IsOfOutput out.new) }
     ensures text { (file : List ℕ) (looked : LoaderLookup) →
         AnswersLoaderLookup file (asked_of wanted.now.asked) name.now looked lookup.now →
-        WroteAnswer out.old out.new result (resolved_answer file wanted.now.name.now looked) }
+        WroteAnswer out.old out.new result
+        (resolved_answer format file wanted.now.name.now looked) }
 {
     match lookup {
         SymbolLookup::Found(found) => {
-            show_found(found, wanted, name, out)?;
-            show_steps(true, found.tried, Format::Columns, out)?;
+            show_found(found, wanted, name, format, out)?;
+            show_steps(true, found.tried, format, out)?;
             Ok(0)
         }
         SymbolLookup::Absent { tried } => {
-            show_steps(false, *tried, Format::Columns, out)?;
+            show_steps(false, *tried, format, out)?;
             Ok(1)
         }
     }
@@ -101,31 +112,32 @@ fn show_found<W: Sink>(
     found: &FoundSymbol,
     wanted: &Wanted<'_>,
     name: &NameBuf,
+    format: Format,
     out: &mut Out<W>,
 ) -> Result<(), OutFault>
     ensures grows { Grows out.old out.new }
     ensures fails { IfErr result (OutFails out.new) }
     ensures puts { (file : List ℕ) (at : ℕ) → IsSym file at found.now.symbol →
         found.now.machine ≡ e_machine file →
-        let front = symbol_front Columns true
+        let front = symbol_front format true
         (e_machine file) file at found.now.section found.now.index in
         let version = option_map
         (version_found (asked_of wanted.now.asked) name.now) found.now.version in
         Puts out.old out.new result
         (named_line front (Whole wanted.now.name.now)
-        ++ found_version_line found.now.index version) }
+        ++ found_version_line format found.now.index version) }
 {
     let naming = NumberNaming {
         gnu: true,
         machine: found.machine,
-        format: Format::Columns,
+        format,
     };
     let front = symbol_front(found.section, found.index, &found.symbol, naming);
     show_named(front, wanted.name, false, out)?;
     let Some(version) = &found.version else {
         return Ok(());
     };
-    show_version(found.index, version, &wanted.asked, name, out)
+    show_version(found.index, version, &wanted.asked, name, format, out)
 }
 
 /// Writes the line of the version of the symbol of an index.
@@ -137,12 +149,13 @@ fn show_version<W: Sink>(
     version: &FoundVersion,
     asked: &Asked<'_>,
     name: &NameBuf,
+    format: Format,
     out: &mut Out<W>,
 ) -> Result<(), OutFault>
     ensures puts { let version = version_found (asked_of asked.now) name.now version.now in
-        Puts out.old out.new result (found_version_line index (Some version)) }
+        Puts out.old out.new result (found_version_line format index (Some version)) }
 {
-    let front = symbol_version_front(version.index, index, version.word, Format::Columns);
+    let front = symbol_version_front(version.index, index, version.word, format);
     let (bytes, is_cut) = version_name(version.name, asked, name);
     show_named(front, bytes, is_cut, out)
 }

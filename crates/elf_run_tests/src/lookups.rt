@@ -1,13 +1,15 @@
 //! Names looked up: the lines, the statuses, and where reads and writes fail.
 use crate::requests::{check_answer, check_outputs, check_reads, request, within};
 use elf_fixtures::{hash_with_cycle, hash_with_end, one_symbol_table};
+use elf_model::Format;
 use elf_words::{Request, Task, checked_name};
 use std::test::Fail;
 
 /// A lookup of a name, with so many headers permitted.
 fn lookup(headers: u16, name: &str) -> Result<Request<'_>, Fail> {
     let wanted = checked_name(name).ok_or("name")?;
-    request(headers, Task::Find(wanted))
+    let format = Format::Columns;
+    request(headers, Task::Find { wanted, format })
 }
 
 /// The line of the symbol `a` and the number of names compared.

@@ -3,6 +3,7 @@ use crate::requests::{LISTED, carry_out, listing, request};
 use elf_fixtures::{hash_with_cycle, one_symbol_table, overlapping_relocations, with_bytes};
 use elf_headers::HeaderRoom;
 use elf_layout::Layout;
+use elf_model::Format;
 use elf_program::outcome;
 use elf_source::TurnSource;
 use elf_words::{Request, Task, checked_name};
@@ -64,10 +65,12 @@ fn applying_in_two_files_in_turn_stays_below_its_bound(rt: HostRuntime) -> Resul
 #[test]
 fn a_lookup_in_two_files_in_turn_stays_below_its_bound(rt: HostRuntime) -> Result<(), Fail> {
     let more = with_bytes(hash_with_cycle(), 0x44, &[0xff; 4]);
-    let wanted = request(4, Task::Find(checked_name("c").ok_or("name")?))?;
+    let wanted = checked_name("c").ok_or("name")?;
+    let format = Format::Columns;
+    let lookup = request(4, Task::Find { wanted, format })?;
     // The file header, the section headers and the two counts; a step for each word of the file.
     let files = (hash_with_cycle().as_slice(), more.as_slice());
-    check_turns(&rt, &wanted, files, 76 + 256 + 106 * 92)
+    check_turns(&rt, &lookup, files, 76 + 256 + 106 * 92)
 }
 
 #[test]

@@ -21,15 +21,15 @@ budget_answer at = record { text = refusal_line Columns (record { at = at; cause
 abbrev pub TheCostSuffices : Type 0
 TheCostSuffices =
     (size cost : ℕ) (whole answer : Answer)
-    → (IsAnswered None size cost whole answer → answer ≡ whole) × (IsAnswered (Some cost) size cost whole answer → answer ≡ whole)
+    → (IsAnswered Columns None size cost whole answer → answer ≡ whole) × (IsAnswered Columns (Some cost) size cost whole answer → answer ≡ whole)
 
 -- within less the whole or that line is answered, whose offset is below the file's length, and nothing else
 abbrev pub LessMayEndAnAnswer : Type 0
 LessMayEndAnAnswer =
     (size cost budget : ℕ) (whole : Answer)
     → budget < cost
-    → IsAnswered (Some budget) size cost whole whole
-    × ((at : ℕ) → at < size → IsAnswered (Some budget) size cost whole (budget_answer at))
+    → IsAnswered Columns (Some budget) size cost whole whole
+    × ((at : ℕ) → at < size → IsAnswered Columns (Some budget) size cost whole (budget_answer at))
 
 -- a file's state without a budget is that of its report's fault
 abbrev pub StatesOfReports : Type 0

@@ -1,13 +1,14 @@
 -- Worked examples of the texts and statuses of `find`.
-use Rattle.std.specs.Prelude.{◌≡◌, ℕ, List, [], ◌∷◌, codes}
+use Rattle.std.specs.Prelude.{◌≡◌, ℕ, List, [], ◌∷◌, ◌++◌, codes}
 use Rattle.elf_model.specs.FindApplyAnswer.{find_answer}
 use Rattle.elf_model.specs.Fixtures.{one_symbol_table}
 use Rattle.elf_model.specs.FixturesHash.{hash_file, hash_with_cycle, hash_with_end}
+use Rattle.elf_model.specs.declared.formats.Format.TheVariants.{Columns, Object}
 use Rattle.elf_table_examples.specs.ExamplesHash.{hash_comes_last}
 
 -- the answer of a lookup
 abbrev pub LookupGives : List ℕ → List ℕ → List ℕ → ℕ → Type 0
-LookupGives file wanted text status = find_answer file 4 wanted ≡ record { text = text; status = status }
+LookupGives file wanted text status = find_answer Columns file 4 wanted ≡ record { text = text; status = status }
 
 -- names that are found, also where the index of the symbol is not the number of names compared, and in a section of symbols
 -- that is the first
@@ -31,4 +32,17 @@ abbrev pub RefusalIsWritten : Type 0
 RefusalIsWritten =
     LookupGives hash_with_cycle (codes "c") (codes "! 0000000000000048 hash-cycle\n") 1
     × LookupGives one_symbol_table (codes "c") (codes "! 0000000000000028 no-hash\n") 1
-    × (find_answer hash_with_cycle 3 (codes "a") ≡ record { text = codes "! 000000000000003c too-many-headers\n"; status = 1 })
+    × (find_answer Columns hash_with_cycle 3 (codes "a") ≡ record { text = codes "! 000000000000003c too-many-headers\n"; status = 1 })
+
+-- the same as objects
+abbrev pub AnswersAreObjects : Type 0
+AnswersAreObjects =
+    (find_answer Object hash_with_cycle 4 (codes "a") ≡ record {
+      text =
+          codes "{\"line\":\"Y\",\"table\":2,\"index\":1,\"value\":16,\"size\":0,\"type\":\"FUNC\",\"binding\":\"GLOBAL\",\"visibility\":\"DEFAULT\",\"place\":\"ABS\",\"name\":\"a\"}\n"
+          ++ codes "{\"line\":\"F\",\"answer\":\"found\",\"steps\":1}\n";
+      status = 0;
+    })
+    × (find_answer Object hash_with_end 4 (codes "c") ≡ record { text = codes "{\"line\":\"F\",\"answer\":\"absent\",\"steps\":2}\n"; status = 1 })
+    × (find_answer Object hash_with_cycle 4 (codes "c")
+    ≡ record { text = codes "{\"line\":\"!\",\"place\":72,\"cause\":\"hash-cycle\"}\n"; status = 1 })

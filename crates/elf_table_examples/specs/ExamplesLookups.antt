@@ -9,6 +9,7 @@ use Rattle.elf_model.specs.FixturesTables.{numbers_from}
 use Rattle.elf_model.specs.Hash.{sysv_hash, Refused}
 use Rattle.elf_table_examples.specs.ExamplesHash.{hash_comes_last, FindsSymbol, FindsNothing, RefusesLookup, ComparesNames}
 use Rattle.elf_model.specs.declared.causes.Cause.TheVariants.{Short, BadClass, TooManyHeaders, TableOutside, BadLink, EntrySize, NotStrings, NoHash, HashShape, HashIndex, HashCycle}
+use Rattle.elf_model.specs.declared.formats.Format.TheVariants.{Columns}
 
 -- names whose hash has each of its top four bits set on the way, one whose hash has all lower bits and none of these, and
 -- bytes above 127
@@ -95,14 +96,14 @@ RefusalsCompareNothing =
 -- the name that was wanted is written whole, and spelt as in a listing
 abbrev pub WantedNameIsWritten : Type 0
 WantedNameIsWritten =
-    (find_answer (with_strings_header 24 (little 8 0x1a8 ++ little 8 302) ++ (0 ∷ replicate 300 97 ++ zeros 1)) 4 (replicate 300 97)
+    (find_answer Columns (with_strings_header 24 (little 8 0x1a8 ++ little 8 302) ++ (0 ∷ replicate 300 97 ++ zeros 1)) 4 (replicate 300 97)
     ≡ record {
       text =
           codes "Y     2          1 0000000000000010 0000000000000000 FUNC    GLOBAL DEFAULT   ABS   " ++ replicate 300 97
           ++ codes "\nF found           1\n";
       status = 0;
     })
-    × (find_answer (with_strings_header 24 (little 8 0x1a8 ++ little 8 6) ++ (0 ∷ codes "a\\b" ++ 7 ∷ zeros 1)) 4 (codes "a\\b" ++ 7 ∷ [])
+    × (find_answer Columns (with_strings_header 24 (little 8 0x1a8 ++ little 8 6) ++ (0 ∷ codes "a\\b" ++ 7 ∷ zeros 1)) 4 (codes "a\\b" ++ 7 ∷ [])
     ≡ record {
       text =
           codes "Y     2          1 0000000000000010 0000000000000000 FUNC    GLOBAL DEFAULT   ABS   a\\\\b\\x07\n"

@@ -1,5 +1,6 @@
 //! Worked answers of lookups, each a theorem about the definitions that the prover computes.
-ghost use Rattle.elf_table_examples.specs.ExamplesAnswers.{FoundIsWritten, AbsentIsWritten, RefusalIsWritten};
+ghost use Rattle.elf_table_examples.specs.ExamplesAnswers.{FoundIsWritten, AbsentIsWritten, AnswersAreObjects};
+ghost use Rattle.elf_table_examples.specs.ExamplesAnswers.{RefusalIsWritten};
 
 /// Names that are found.
 #[tactic(auto, unfolding(elf_model::proofs::OnLiterals::on_literals, crate::proofs::OnExamples::on_examples))]
@@ -17,4 +18,10 @@ pub fn absent_is_written()
 #[tactic(auto, unfolding(elf_model::proofs::OnLiterals::on_literals, crate::proofs::OnExamples::on_examples))]
 pub fn refusal_is_written()
     ensures { RefusalIsWritten }
+{}
+
+/// The same as objects.
+#[tactic(auto, unfolding(elf_model::proofs::OnLiterals::on_literals, crate::proofs::OnExamples::on_examples))]
+pub fn answers_are_objects()
+    ensures { AnswersAreObjects }
 {}

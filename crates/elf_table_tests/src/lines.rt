@@ -2,6 +2,7 @@
 use crate::sources::printer_sink;
 use elf_fakes::Script;
 use elf_lines::show_symbol;
+use elf_model::Format;
 use elf_record::Sym;
 use elf_source::Out;
 
@@ -19,7 +20,7 @@ fn a_long_name_is_written_in_pieces(rt: HostRuntime) {
     let script = Script::new();
     let mut out = Out::new(printer_sink(999, &script, rt.alloc()));
     let name = [0x7f; 300];
-    assert!(rt; show_symbol(1, 1, &MAIN, &name, &mut out) == Ok(()));
+    assert!(rt; show_symbol(1, 1, &MAIN, &name, Format::Columns, &mut out) == Ok(()));
     // Five times 256 bytes, and the rest.
     assert!(rt; script.calls() == 6);
     let printer = out.into_inner().into_inner();

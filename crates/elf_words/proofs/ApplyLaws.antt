@@ -40,8 +40,8 @@ only_applying : (rows : List Row) (file : Option (Bor Text)) (task : Task) → I
     → (section : ℕ) × (layout : Layout) × (explain : Bool) × IsApplying (codes "apply") rows file section layout explain
 only_applying rows None (Show parts name) (are, parts_are, is) = cc
 only_applying rows (Some path) (Show parts name) (are, parts_are, is) = let e = is.0 in cc
-only_applying rows file (Find wanted) is = let e = is.find in cc
-only_applying rows file (Resolve wanted by_segments) is = let e = is.lookup.find in cc
+only_applying rows file (Find wanted format) is = let e = is.find in cc
+only_applying rows file (Resolve wanted by_segments format) is = let e = is.lookup.find in cc
 only_applying rows file (Apply section layout explain) is = (section, layout.now, explain, is)
 only_applying rows file (Place section addresses explain) is = absurd is
 

@@ -20,8 +20,8 @@ check_is_not_apply same = apart (get_or (codes "check") 0 0) (get_or (codes "app
 no_task : (rows : List Row) (file : Option (Bor Text)) (task : Task) → IsTask (codes "check") rows file task → ⊥
 no_task rows None (Show parts name) (are, parts_are, is) = cc
 no_task rows (Some path) (Show parts name) (are, parts_are, is) = let e = is.0 in cc
-no_task rows file (Find wanted) is = let e = is.find in cc
-no_task rows file (Resolve wanted by_segments) is = let e = is.lookup.find in cc
+no_task rows file (Find wanted format) is = let e = is.find in cc
+no_task rows file (Resolve wanted by_segments format) is = let e = is.lookup.find in cc
 no_task rows file (Apply section layout explain) is = check_is_not_apply is.apply
 no_task rows file (Place section addresses explain) is = absurd is
 
@@ -37,8 +37,8 @@ no_fault rows (Told told) has = check_is_not_apply has.0
 no_archive_task : (rows : List Row) (file : Option (Bor Text)) (task : Task) → IsTask (codes "archive") rows file task → ⊥
 no_archive_task rows None (Show parts name) (are, parts_are, is) = cc
 no_archive_task rows (Some path) (Show parts name) (are, parts_are, is) = let e = is.0 in cc
-no_archive_task rows file (Find wanted) is = let e = is.find in cc
-no_archive_task rows file (Resolve wanted by_segments) is = let e = is.lookup.find in cc
+no_archive_task rows file (Find wanted format) is = let e = is.find in cc
+no_archive_task rows file (Resolve wanted by_segments format) is = let e = is.lookup.find in cc
 no_archive_task rows file (Apply section layout explain) is = let e = is.apply in cc
 no_archive_task rows file (Place section addresses explain) is = absurd is
 

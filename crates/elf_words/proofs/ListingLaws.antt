@@ -17,8 +17,8 @@ module _ (command : Text) (rows : List Row) (not_apply : command ≢ codes "appl
       → AreLimitOptions rows limits → IsTask command rows file task → ⊥
   no_task none file limits (Show parts style) are (styled, parted, of_file) =
       none (record { file = file; limits = limits; parts = parts; style = style }) record { of_file = of_file; limits = are; style = styled; parts = parted }
-  no_task none file limits (Find wanted) are is = not_find is.find
-  no_task none file limits (Resolve wanted by_segments) are is = not_find is.lookup.find
+  no_task none file limits (Find wanted format) are is = not_find is.find
+  no_task none file limits (Resolve wanted by_segments format) are is = not_find is.lookup.find
   no_task none file limits (Apply section layout explain) are is = not_apply is.apply
   no_task none file limits (Place section addresses explain) are is = absurd is
 

@@ -3,10 +3,11 @@ use Rattle.std.specs.Prelude.{Bool, true, false, ◌≡◌, ◌<◌, ◌≤◌, 
 use Rattle.std.specs.Borrow.{Bor}
 use Rattle.clap.specs.Walk.{Row, Text, all_of, first_of, one_of}
 use Rattle.elf_model.specs.Loader.{is_complete, wanted_of}
+use Rattle.elf_model.specs.declared.formats.Format.{Format}
 use Rattle.elf_model.specs.NameLaws.{IsWanted}
 use Rattle.elf_model.specs.Placing.{Layout, no_items}
 use Rattle.elf_listing_words.specs.Listings.{IsOfFile}
-use Rattle.elf_listing_words.specs.Options.{AreLimitOptions, AreParts, HasNumber, IsStyle, asks_gnu, is_option_set, lacks_gnu}
+use Rattle.elf_listing_words.specs.Options.{AreLimitOptions, AreParts, HasNumber, IsStyle, asked_format, asks_gnu, is_option_set, lacks_gnu}
 use Rattle.elf_words.specs.Layouts.{LaysWords}
 use Rattle.elf_words.specs.declared.requests.Request.{Request}
 use Rattle.elf_words.specs.declared.requests.RequestFault.{RequestFault}
@@ -29,29 +30,31 @@ pub record IsText (gnu : Bool) (text : Text) : Type 0 where
   pub complete : gnu ≡ true → is_complete (wanted_of text) ≡ true
 
 -- a lookup in the file whose path stands among the values, of the text that stands there too, and by whether it is one of a
--- loader of the GNU system, as it is where the program headers alone are to be gone by
-pub record AsksLookup (command : Text) (rows : List Row) (file : Option (Bor Text)) (gnu : Bool) (text : Text) : Type 0 where
+-- loader of the GNU system, as it is where the program headers alone are to be gone by; answered as the options ask for
+pub record AsksLookup (command : Text) (rows : List Row) (file : Option (Bor Text)) (gnu : Bool) (text : Text) (format : Format) : Type 0 where
   pub find : command ≡ codes "find"
   pub by_gnu : asks_gnu rows ≡ gnu
   pub allowed : lacks_gnu rows ≡ false
   pub path : IsFileNamed rows file
   pub word : first_of (codes "NAME") rows ≡ Some text
+  pub written : format ≡ asked_format rows
 
 -- a name is looked up in the file's own SysV hash table
-abbrev pub IsFinding : Text → List Row → Option (Bor Text) → WantedName → Type 0
-IsFinding command rows file wanted = AsksLookup command rows file false wanted.bytes.now
+abbrev pub IsFinding : Text → List Row → Option (Bor Text) → WantedName → Format → Type 0
+IsFinding command rows file wanted format = AsksLookup command rows file false wanted.bytes.now format
 
 -- a symbol is looked up as a loader of the GNU system does it, by the program headers alone or not
-pub record IsResolving (command : Text) (rows : List Row) (file : Option (Bor Text)) (wanted : WantedSymbol) (by_segments : Bool) : Type 0 where
-  pub lookup : AsksLookup command rows file true wanted.text.now
+pub record IsResolving (command : Text) (rows : List Row) (file : Option (Bor Text)) (wanted : WantedSymbol) (by_segments : Bool) (format : Format) : Type 0 where
+  pub lookup : AsksLookup command rows file true wanted.text.now format
   pub viewed : by_segments ≡ is_option_set (first_of (codes "by-segments") rows)
 
 -- a task looks a text up, as a loader of the GNU system does it, by the program headers alone or not, or in the file's own SysV
--- hash table
-abbrev pub IsLookupTask : (gnu by_segments : Bool) → Text → Task → Type 0
-IsLookupTask gnu by_segments text (Find wanted) = (gnu ≡ false) × (wanted.bytes.now ≡ text)
-IsLookupTask gnu by_segments text (Resolve wanted viewed) = (gnu ≡ true) × (wanted.text.now ≡ text) × (viewed ≡ by_segments)
-IsLookupTask gnu by_segments text _ = ⊥
+-- hash table, and answers in this format
+abbrev pub IsLookupTask : (gnu by_segments : Bool) → Format → Text → Task → Type 0
+IsLookupTask gnu by_segments format text (Find wanted written) = (gnu ≡ false) × (wanted.bytes.now ≡ text) × (written ≡ format)
+IsLookupTask gnu by_segments format text (Resolve wanted viewed written) =
+    (gnu ≡ true) × (wanted.text.now ≡ text) × (viewed ≡ by_segments) × (written ≡ format)
+IsLookupTask gnu by_segments format text _ = ⊥
 
 -- the words for the items of a layout
 abbrev pub item_words : List Row → List Text
@@ -71,8 +74,8 @@ pub record IsApplying (command : Text) (rows : List Row) (file : Option (Bor Tex
 abbrev pub IsTask : Text → List Row → Option (Bor Text) → Task → Type 0
 IsTask command rows file (Show parts style) =
     IsStyle rows style × AreParts rows parts × IsOfFile command rows file
-IsTask command rows file (Find wanted) = IsFinding command rows file wanted
-IsTask command rows file (Resolve wanted by_segments) = IsResolving command rows file wanted by_segments
+IsTask command rows file (Find wanted format) = IsFinding command rows file wanted format
+IsTask command rows file (Resolve wanted by_segments format) = IsResolving command rows file wanted by_segments format
 IsTask command rows file (Apply section layout explain) = IsApplying command rows file section layout.now explain
 IsTask command rows file (Place section addresses explain) = ⊥
 

@@ -5,6 +5,7 @@ ghost use Rattle.elf_model.specs.NameLaws.{IsWanted};
 
 use elf_headers::{Limits, Style};
 use elf_layout::{Addresses, Layout};
+use elf_model::Format;
 use elf_record::Parts;
 use thiserror::Error;
 
@@ -30,13 +31,20 @@ pub enum Task<'a> {
         style: Style,
     },
     /// A name is looked up in it.
-    Find(WantedName<'a>),
+    Find {
+        /// The name.
+        wanted: WantedName<'a>,
+        /// How a line is written.
+        format: Format,
+    },
     /// A symbol is looked up in it as a loader of the GNU system looks it up.
     Resolve {
         /// The symbol.
         wanted: WantedSymbol<'a>,
         /// Whether the tables are found by the program headers also where there are section headers.
         by_segments: bool,
+        /// How a line is written.
+        format: Format,
     },
     /// One of its sections is written, with its relocations applied.
     Apply {

@@ -21,9 +21,10 @@ use crate::requests::{Request, RequestFault, Task};
 use clap::ArgMatches;
 use elf_layout::Layout;
 use elf_listing_words::{
-    WordsFault, asks_gnu, find_lacks_gnu, is_set, limits_of, listing_of, matches_of,
+    WordsFault, asks_gnu, find_lacks_gnu, format_of, is_set, limits_of, listing_of, matches_of,
     small_number_of, text_of, unasked,
 };
+use elf_model::Format;
 use std::alloc::Global;
 use std::convert::AsStr;
 
@@ -188,16 +189,17 @@ fn lookup<'a>(options: &ArgMatches<'a>) -> Result<Option<Request<'a>>, RequestFa
         return Ok(None);
     };
     let by_segments = is_set(options, "by-segments");
-    let Some(task) = lookup_of(word, asks_gnu(options), by_segments) else {
+    let Some(task) = lookup_of(word, asks_gnu(options), by_segments, format_of(options)) else {
         return Err(RequestFault::BadName);
     };
     Ok(in_file(options, task))
 }
 
 /// The lookup of a text, as a loader of the GNU system does it (`gnu`), by the program headers alone
-/// or not, or by the file's SysV hash table. None where the text is none that can be looked up so.
-fn lookup_of(text: &str, gnu: bool, by_segments: bool) -> Option<Task<'_>>
-    ensures some { IfSome result (IsLookupTask gnu by_segments text.now) }
+/// or not, or by the file's SysV hash table, which is answered in this format. None where the text is
+/// none that can be looked up so.
+fn lookup_of(text: &str, gnu: bool, by_segments: bool, format: Format) -> Option<Task<'_>>
+    ensures some { IfSome result (IsLookupTask gnu by_segments format text.now) }
     ensures none { result ≡ None → IsText gnu text.now → ⊥ }
 {
     if gnu {
@@ -205,9 +207,11 @@ fn lookup_of(text: &str, gnu: bool, by_segments: bool) -> Option<Task<'_>>
         return Some(Task::Resolve {
             wanted,
             by_segments,
+            format,
         });
     }
-    Some(Task::Find(checked_name(text)?))
+    let wanted = checked_name(text)?;
+    Some(Task::Find { wanted, format })
 }
 
 /// A section applied, within the limits and in the layout that are asked for.
