@@ -6,7 +6,7 @@ ghost use Rattle.elf_loader.specs.Finding.{name_shown, version_found};
 ghost use Rattle.elf_loader.specs.Lookups.{AnswersLoaderLookup};
 ghost use Rattle.elf_model.specs.LineFronts.{symbol_front};
 ghost use Rattle.elf_model.specs.Lines.{named_line};
-ghost use Rattle.elf_model.specs.declared.formats.Format.TheVariants.{Columns};
+ghost use Rattle.elf_model.specs.declared.formats.Format.TheVariants.{Columns as InColumns};
 ghost use Rattle.elf_model.specs.Loader.{asked_name};
 ghost use Rattle.elf_model.specs.LoaderAnswer.{found_version_line};
 ghost use Rattle.elf_model.specs.LoaderFind.{LoaderLookup};
@@ -21,7 +21,7 @@ ghost use Rattle.elf_run.specs.Requests.{RunsResolve};
 ghost use Rattle.elf_wanted.specs.Wants.{asked_of};
 
 use elf_headers::{HeaderStore, Limits, Stop};
-use elf_lines::{NumberNaming, show_named, symbol_front, symbol_version_front};
+use elf_lines::{Columns, LineFront, NumberNaming, show_named, symbol_front, symbol_version_front};
 use elf_listing::{show_steps, show_stop};
 use elf_loader::{FoundSymbol, FoundVersion, SymbolLookup, VersionName, look_up};
 use elf_model::Format;
@@ -107,7 +107,7 @@ fn show_found<W: Sink>(
     ensures fails { IfErr result (OutFails out.new) }
     ensures puts { (file : List ℕ) (at : ℕ) → IsSym file at found.now.symbol →
         found.now.machine ≡ e_machine file →
-        let front = symbol_front Columns true
+        let front = symbol_front InColumns true
         (e_machine file) file at found.now.section found.now.index in
         let version = option_map
         (version_found (asked_of wanted.now.asked) name.now) found.now.version in
@@ -118,10 +118,16 @@ fn show_found<W: Sink>(
     let naming = NumberNaming {
         gnu: true,
         machine: found.machine,
-        format: Format::Columns,
     };
-    let front = symbol_front(found.section, found.index, &found.symbol, naming);
-    show_named(front, wanted.name, false, out)?;
+    let mut front = LineFront::new();
+    symbol_front::<Columns>(
+        &mut front,
+        found.section,
+        found.index,
+        &found.symbol,
+        naming,
+    );
+    show_named(&mut front, wanted.name, false, out)?;
     let Some(version) = &found.version else {
         return Ok(());
     };
@@ -142,9 +148,10 @@ fn show_version<W: Sink>(
     ensures puts { let version = version_found (asked_of asked.now) name.now version.now in
         Puts out.old out.new result (found_version_line index (Some version)) }
 {
-    let front = symbol_version_front(version.index, index, version.word, Format::Columns);
+    let mut front = LineFront::new();
+    symbol_version_front::<Columns>(&mut front, version.index, index, version.word);
     let (bytes, is_cut) = version_name(version.name, asked, name);
-    show_named(front, bytes, is_cut, out)
+    show_named(&mut front, bytes, is_cut, out)
 }
 
 /// The name of a version, and whether it is cut.

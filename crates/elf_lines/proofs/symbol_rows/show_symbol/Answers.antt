@@ -17,10 +17,9 @@ any-machine machine other file at section index = refl
 
 pub returns-clause-puts : goal.returns-clause-puts
 returns-clause-puts g c = λ file at is.
-    let built = c.symbol_front-front.ensures.front file at is in
+    let built = c.symbol_front.ensures.front file at is in
     let named = c.standard.ensures in
     let same = built
-    ∙ ap (λ format. symbol_front format c.standard.result.gnu c.standard.result.machine file at c.args.section c.args.index) named.format
     ∙ ap (λ gnu. symbol_front Columns gnu c.standard.result.machine file at c.args.section c.args.index) named.gnu
     ∙ any-machine c.standard.result.machine (e_machine file) file at c.args.section c.args.index in
     subst (λ front. Puts c.args.out.now c.show_named.new.out c.show_named.result (named_line front (Whole c.args.name.now))) same c.show_named.ensures.puts
