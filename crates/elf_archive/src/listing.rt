@@ -21,7 +21,7 @@ use crate::cursor::MemberCursor;
 use crate::magic_strings::{begins_elf, magic};
 use crate::member::{Extent, Member};
 use elf_headers::{Caps, HeaderStore, Stop, Style};
-use elf_lines::{member_front, show_named, show_refusal};
+use elf_lines::{Columns, LineFront, Object, member_front, show_named, show_refusal};
 use elf_listing::{list, show_stop};
 use elf_model::Format;
 use elf_record::{Cause, Parts, Refusal};
@@ -328,6 +328,11 @@ fn show_member<W: Sink>(
     ensures puts { Puts out.old out.new result
         (member_line format (member_of member.now name.now)) }
 {
-    let front = member_front(member.index, member.extent.at, member.extent.size, format);
-    show_named(front, name.bytes(), member.is_cut, out)
+    let Extent { at, size } = member.extent;
+    let mut front = LineFront::new();
+    match format {
+        Format::Columns => member_front::<Columns>(&mut front, member.index, at, size),
+        Format::Object => member_front::<Object>(&mut front, member.index, at, size),
+    }
+    show_named(&mut front, name.bytes(), member.is_cut, out)
 }

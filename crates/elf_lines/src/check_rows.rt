@@ -8,48 +8,50 @@ ghost use Rattle.elf_source.specs.Output.{Puts};
 ghost use Rattle.elf_lines.specs.Fronts.{front_of};
 
 use crate::columns::{Line, put};
-use crate::fields::{LineFront, begin, put_closing, put_decimal, put_text, put_xword};
+use crate::fields::{
+    LineFront, begin, begin_named, put_closing, put_decimal, put_hexadecimal, put_text,
+};
 use crate::named::show_named;
+use crate::render::{Columns, Object, Render};
 use crate::rows::cause_word;
 use elf_model::{FileState, Format};
 use elf_source::{Out, OutFault, Sink};
 
 /// The `C` line of a file up to its path: its state, and where it is at fault and why.
 #[tactic(auto, unfolding(elf_model::specs::Checking::check_front))]
-fn check_row(state: FileState, format: Format) -> LineFront
-    ensures front { front_of result ≡ check_front format state }
-    ensures key { length result.key.now ≤ 16 }
+fn check_row<R: Render>(front: &mut LineFront, state: FileState)
+    ensures front { front_of front.new ≡ check_front R.FORMAT state }
+    ensures key { length front.new.key.now ≤ 16 }
 {
-    let mut line = begin(format, b"C");
-    put_text(
-        &mut line,
-        format,
+    begin_named::<R>(front, b"C", b"path");
+    put_text::<R>(
+        &mut front.line,
         b"state",
         12,
         state_word(state).as_bytes(),
         b' ',
     );
-    put_fault(&mut line, format, state);
-    LineFront {
-        line,
-        format,
-        key: b"path",
-    }
+    put_fault::<R>(&mut front.line, state);
 }
 
 /// Puts where a file is at fault and why; in columns a hyphen for a file that is not at fault.
 #[tactic(auto, unfolding(elf_model::specs::Fields::with_field))]
-fn put_fault(line: &mut Line, format: Format, state: FileState)
+fn put_fault<R: Render>(line: &mut Line, state: FileState)
     requires { array_vec_len line.old ≤ 100 }
-    ensures items { line.new.items ≡ with_fields format line.old.items (fault_fields state) }
+    ensures items { line.new.items ≡ with_fields R.FORMAT line.old.items (fault_fields state) }
 {
     if let FileState::Refused(refusal) = state {
-        let word = cause_word(refusal.cause).as_bytes();
-        put_xword(line, format, b"place", refusal.at, b' ');
-        put_text(line, format, b"cause", 0, word, b' ');
+        put_hexadecimal::<R>(line, b"place", 16, refusal.at, b' ');
+        put_text::<R>(
+            line,
+            b"cause",
+            0,
+            cause_word(refusal.cause).as_bytes(),
+            b' ',
+        );
         return;
     }
-    match format {
+    match R::FORMAT {
         Format::Columns => put(line, b"- "),
         Format::Object => {}
     }
@@ -83,7 +85,12 @@ pub fn show_check<W: Sink>(
 ) -> Result<(), OutFault>
     ensures puts { Puts out.old out.new result (check_line format state path.now) }
 {
-    show_named(check_row(state, format), path, false, out)
+    let mut front = LineFront::new();
+    match format {
+        Format::Columns => check_row::<Columns>(&mut front, state),
+        Format::Object => check_row::<Object>(&mut front, state),
+    }
+    show_named(&mut front, path, false, out)
 }
 
 /// Writes the last line of a check, which tells how many paths could not be named.
@@ -93,17 +100,21 @@ pub fn show_check<W: Sink>(
 pub fn show_unnamed<W: Sink>(count: u64, format: Format, out: &mut Out<W>) -> Result<(), OutFault>
     ensures puts { Puts out.old out.new result (unnamed_line format count) }
 {
-    out.put(&unnamed_row(count, format))
+    match format {
+        Format::Columns => out.put(&unnamed_row::<Columns>(count)),
+        Format::Object => out.put(&unnamed_row::<Object>(count)),
+    }
 }
 
 /// The last line of a check.
 #[tactic(auto, unfolding(elf_model::specs::Checking::unnamed_line))]
-fn unnamed_row(count: u64, format: Format) -> Line
-    ensures { result.items ≡ unnamed_line format count }
+fn unnamed_row<R: Render>(count: u64) -> Line
+    ensures { result.items ≡ unnamed_line R.FORMAT count }
 {
-    let mut line = begin(format, b"C");
-    put_text(&mut line, format, b"state", 12, b"unnamed", b' ');
-    put_decimal(&mut line, format, b"count", 10, count, b'\n');
-    put_closing(&mut line, format);
+    let mut line = Line::new();
+    begin::<R>(&mut line, b"C");
+    put_text::<R>(&mut line, b"state", 12, b"unnamed", b' ');
+    put_decimal::<R>(&mut line, b"count", 10, count, b'\n');
+    put_closing::<R>(&mut line);
     line
 }

@@ -1,8 +1,7 @@
 //! A line of a listing while it is put together, field by field.
 ghost use Rattle.std.specs.Prelude.{◌≡◌, ◌+◌, ◌<◌, ◌≤◌, ◌++◌, ◌∷◌, [], if◌then◌else◌, length, max};
-ghost use Rattle.std.specs.Prelude.{IfSome, unwrap_or, option_copied};
 ghost use Rattle.arrayvec.specs.ArrayVec.{array_vec_len};
-ghost use Rattle.elf_model.specs.Text.{digit, hex, space, spaces, left_in, right_in};
+ghost use Rattle.elf_model.specs.Text.{digit, hex, spaces, left_in, right_in};
 ghost use Rattle.elf_model.specs.NameTables.{number_sign};
 
 use arrayvec::ArrayVec;
@@ -61,34 +60,6 @@ pub(crate) fn put_left(line: &mut Line, width: usize, text: &[u8], end: u8)
     line.push(end);
 }
 
-/// Puts a name at the left of a column of this width, or the last hexadecimal digits of a number
-/// that has none, and a space.
-#[tactic(auto, using(crate::proofs::Digits::length_hex), unfolding(elf_model::specs::Text::left_in))]
-pub(crate) fn put_name_or_digits(
-    line: &mut Line,
-    width: usize,
-    digits: u32,
-    name: Option<&'static str>,
-    number: u64,
-)
-    requires room { array_vec_len line.old + (width + 1) ≤ 256 }
-    requires width { width ≤ 16 }
-    requires digits { digits ≤ width }
-    requires short { IfSome name (λ name. length name.now ≤ width) }
-    ensures items { let text = unwrap_or (option_copied name.entry) (hex digits number) in
-        line.new.items ≡ line.old.items ++ left_in width text ++ space }
-    ensures len { array_vec_len line.new ≡ array_vec_len line.old + (width + 1) }
-{
-    match name {
-        Some(name) => put_left(line, width, name.as_bytes(), b' '),
-        None => {
-            put_hex(line, digits, number);
-            put_spaces(line, width - digits as usize);
-            put(line, b" ");
-        }
-    }
-}
-
 /// Puts a decimal number at the right of a column of this width, and the byte that ends the column.
 /// A longer number is not cut.
 #[tactic(auto, unfolding(elf_model::specs::Text::right_in))]
@@ -103,16 +74,6 @@ pub(crate) fn put_right<I: Integer>(line: &mut Line, width: usize, number: I, en
     put_spaces(line, width.saturating_sub(text.len()));
     put(line, text);
     line.push(end);
-}
-
-/// Puts a number behind a sign of one at the left of a column of ten, and a space.
-#[tactic(auto, unfolding(elf_model::specs::NameTables::number_sign))]
-pub(crate) fn put_number_sign(line: &mut Line, number: u32)
-    requires { array_vec_len line.old + 12 ≤ 256 }
-    ensures items { line.new.items ≡ line.old.items ++ left_in 10 (number_sign number) ++ space }
-    ensures len { array_vec_len line.new ≤ array_vec_len line.old + 12 }
-{
-    put_left(line, 10, &number_sign(number), b' ');
 }
 
 /// A number behind a sign of one.
@@ -150,17 +111,6 @@ pub fn put_hex(line: &mut Line, digits: u32, number: u64)
         left -= 1;
         line.push(digit_of((number >> (4 * left)) % 16));
     }
-}
-
-/// Puts the last hexadecimal digits of a number, and the byte that ends the column.
-pub(crate) fn put_digits(line: &mut Line, digits: u32, number: u64, end: u8)
-    requires room { array_vec_len line.old + digits + 1 ≤ 256 }
-    requires digits { digits ≤ 16 }
-    ensures items { line.new.items ≡ line.old.items ++ hex digits number ++ end ∷ [] }
-    ensures len { array_vec_len line.new ≡ array_vec_len line.old + digits + 1 }
-{
-    put_hex(line, digits, number);
-    line.push(end);
 }
 
 #[tactic(auto, unfolding(elf_model::specs::Text::digit))]

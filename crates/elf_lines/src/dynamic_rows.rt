@@ -6,9 +6,9 @@ ghost use Rattle.elf_model.specs.LineFronts.{dynamic_front};
 ghost use Rattle.elf_record.specs.Dyn.{IsDyn};
 ghost use Rattle.elf_lines.specs.Fronts.{front_of};
 
-use crate::fields::{LineFront, NamedNumber, begin, put_decimal, put_name_or_hex, put_xword};
+use crate::fields::{LineFront, begin_named, put_decimal, put_hexadecimal, put_name_or_hex};
 use crate::name_tables::name_of_either;
-use elf_model::Format;
+use crate::render::Render;
 use elf_record::Dyn;
 use elf_record::gnu_numbers::{
     DT_AUDIT, DT_AUXILIARY, DT_CHECKSUM, DT_CONFIG, DT_DEPAUDIT, DT_FEATURE, DT_FILTER, DT_FLAGS_1,
@@ -25,33 +25,21 @@ use elf_record::numbers::{
     DT_SONAME, DT_STRSZ, DT_STRTAB, DT_SYMBOLIC, DT_SYMENT, DT_SYMTAB, DT_TEXTREL,
 };
 
-/// The `D` line of a dynamic entry up to the name: its index in its table, tag and value (gABI 5,
-/// Dynamic Section); `gnu` says whether tags of the GNU system have names. The space before the name
-/// is the last byte.
-pub fn dynamic_front(index: u64, entry: &Dyn, gnu: bool, format: Format) -> LineFront
+/// The `D` line of a dynamic entry up to the name, in place of what the front held: its index in its
+/// table, tag and value (gABI 5, Dynamic Section); `gnu` says whether tags of the GNU system have
+/// names.
+pub fn dynamic_front<R: Render>(front: &mut LineFront, index: u64, entry: &Dyn, gnu: bool)
     // A tag is read as a signed number, and shown as its bits.
     ensures front { (file : List ℕ) (at : ℕ) → IsDyn file at entry.now →
-        front_of result ≡ dynamic_front format gnu file at index }
-    ensures key { length result.key.now ≤ 16 }
+        front_of front.new ≡ dynamic_front R.FORMAT gnu file at index }
+    ensures key { length front.new.key.now ≤ 16 }
 {
-    let number = entry.d_tag.cast_unsigned();
-    let name = tag_name(number, gnu);
-    let mut line = begin(format, b"D");
-    put_decimal(&mut line, format, b"index", 5, index, b' ');
-    put_name_or_hex(
-        &mut line,
-        format,
-        b"tag",
-        16,
-        16,
-        NamedNumber { name, number },
-    );
-    put_xword(&mut line, format, b"value", entry.d_un, b' ');
-    LineFront {
-        line,
-        format,
-        key: b"string",
-    }
+    let tag = entry.d_tag.cast_unsigned();
+    begin_named::<R>(front, b"D", b"string");
+    let line = &mut front.line;
+    put_decimal::<R>(line, b"index", 5, index, b' ');
+    put_name_or_hex::<R>(line, b"tag", 16, 16, tag_name(tag, gnu), tag);
+    put_hexadecimal::<R>(line, b"value", 16, entry.d_un, b' ');
 }
 
 /// The name of a dynamic array tag.

@@ -174,5 +174,6 @@ fn show_around<W: Sink>(
     requires { length tail.now ≤ 256 }
     ensures puts { Puts out.old out.new result ((front.items ++ escaped name.now) ++ tail.now) }
 {
-    show_spelt(front, Format::Columns, name, tail, out)
+    let mut line = front;
+    show_spelt(&mut line, Format::Columns, name, tail, out)
 }

@@ -5,19 +5,21 @@ ghost use Rattle.elf_source.specs.Output.{Puts};
 
 use crate::columns::Line;
 use crate::fields::{begin, put_closing, put_decimal, put_text};
+use crate::render::{Columns, Object, Render};
 use elf_model::Format;
 use elf_source::{Out, OutFault, Sink};
 
 /// The `F` line, which ends a lookup: whether the name was found, and how many symbols were compared.
 #[tactic(auto, unfolding(elf_model::specs::Lines::steps_line))]
-pub fn steps_row(found: bool, steps: u64, format: Format) -> Line
-    ensures { result.items ≡ steps_line format found steps }
+fn steps_row<R: Render>(found: bool, steps: u64) -> Line
+    ensures { result.items ≡ steps_line R.FORMAT found steps }
 {
     let word = if found { "found" } else { "absent" };
-    let mut line = begin(format, b"F");
-    put_text(&mut line, format, b"answer", 6, word.as_bytes(), b' ');
-    put_decimal(&mut line, format, b"steps", 10, steps, b'\n');
-    put_closing(&mut line, format);
+    let mut line = Line::new();
+    begin::<R>(&mut line, b"F");
+    put_text::<R>(&mut line, b"answer", 6, word.as_bytes(), b' ');
+    put_decimal::<R>(&mut line, b"steps", 10, steps, b'\n');
+    put_closing::<R>(&mut line);
     line
 }
 
@@ -34,5 +36,8 @@ pub fn show_steps<W: Sink>(
 ) -> Result<(), OutFault>
     ensures puts { Puts out.old out.new result (steps_line format found steps) }
 {
-    out.put(&steps_row(found, steps, format))
+    match format {
+        Format::Columns => out.put(&steps_row::<Columns>(found, steps)),
+        Format::Object => out.put(&steps_row::<Object>(found, steps)),
+    }
 }

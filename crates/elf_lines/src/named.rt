@@ -20,43 +20,43 @@ use elf_source::{Out, OutFault, Sink};
 /// # Errors
 /// A fault of the output, with a front of the line written.
 pub fn show_named<W: Sink>(
-    front: LineFront,
+    front: &mut LineFront,
     name: &[u8],
     is_cut: bool,
     out: &mut Out<W>,
 ) -> Result<(), OutFault>
-    requires { length front.key.now ≤ 16 }
+    requires { length front.old.key.now ≤ 16 }
     ensures puts { Puts out.old out.new result
-        (named_line (front_of front) (shown_as is_cut name.now)) }
+        (named_line (front_of front.old) (shown_as is_cut name.now)) }
 {
-    let LineFront { line, format, key } = front;
-    let mut line = line;
-    begin_name(&mut line, format, key, out)?;
-    show_spelt(line, format, name, name_tail(format, is_cut), out)
+    let format = front.format;
+    begin_name(front, out)?;
+    show_spelt(
+        &mut front.line,
+        format,
+        name,
+        name_tail(format, is_cut),
+        out,
+    )
 }
 
-/// Puts what stands before a name of this key: nothing in columns. Where the line is full it is
-/// written, and begun anew.
+/// Puts what stands before a name: nothing in columns. Where the line is full it is written, and
+/// begun anew.
 ///
 /// # Errors
 /// A fault of the output, with a front of the line written.
 #[tactic(auto, unfolding(crate::specs::Pieces::name_start))]
-pub(crate) fn begin_name<W: Sink>(
-    line: &mut Line,
-    format: Format,
-    key: &[u8],
-    out: &mut Out<W>,
-) -> Result<(), OutFault>
-    requires { length key.now ≤ 16 }
-    ensures puts { let text = line.old.items ++ name_start format key.now in
-        PutsBefore out.old out.new result text line.new.items }
+pub(crate) fn begin_name<W: Sink>(front: &mut LineFront, out: &mut Out<W>) -> Result<(), OutFault>
+    requires { length front.old.key.now ≤ 16 }
+    ensures puts { let text = front.old.line.items ++ name_start front.old.format front.old.key.now in
+        PutsBefore out.old out.new result text front.new.line.items }
 {
-    match format {
+    match front.format {
         Format::Columns => Ok(()),
         Format::Object => {
-            make_room(line, 21, out)?;
-            put_key(line, key);
-            line.push(b'"');
+            make_room(&mut front.line, 21, out)?;
+            put_key(&mut front.line, front.key);
+            front.line.push(b'"');
             Ok(())
         }
     }
@@ -77,12 +77,12 @@ fn name_tail(format: Format, is_cut: bool) -> &'static [u8]
 }
 
 /// Writes what stands before a name, the name as it is spelt, and what stands behind it, which is
-/// at most 256 bytes long.
+/// at most 256 bytes long. The line is used on the way.
 ///
 /// # Errors
 /// A fault of the output, with a front of these bytes written.
 pub(crate) fn show_spelt<W: Sink>(
-    front: Line,
+    line: &mut Line,
     format: Format,
     name: &[u8],
     tail: &[u8],
@@ -90,13 +90,12 @@ pub(crate) fn show_spelt<W: Sink>(
 ) -> Result<(), OutFault>
     requires { length tail.now ≤ 256 }
     ensures puts { Puts out.old out.new result
-        ((front.items ++ spelt format name.now) ++ tail.now) }
+        ((line.old.items ++ spelt format name.now) ++ tail.now) }
 {
-    let mut line = front;
-    put_name(&mut line, format, name, out)?;
-    make_room(&mut line, tail.len(), out)?;
-    put(&mut line, tail);
-    out.put(&line)
+    put_name(line, format, name, out)?;
+    make_room(line, tail.len(), out)?;
+    put(line, tail);
+    out.put(line)
 }
 
 /// Puts a name behind a line: the bytes at its front that stand as they are at once, as far as

@@ -1,5 +1,4 @@
 //! How numbers are named.
-use elf_model::Format;
 use elf_record::numbers::EM_X86_64;
 
 /// How numbers are named in the lines of a file: by the names of the standards alone, or by those of
@@ -10,8 +9,6 @@ pub struct NumberNaming {
     pub gnu: bool,
     /// The machine of the file (gABI 4, ELF Header).
     pub machine: u16,
-    /// How a line is written.
-    pub format: Format,
 }
 
 impl NumberNaming {
@@ -19,15 +16,13 @@ impl NumberNaming {
     ghost use Rattle.elf_model.specs.Numbers.{EM_X86_64};
 
     /// The names of the standards alone.
-    pub fn standard(machine: u16, format: Format) -> NumberNaming
+    pub fn standard(machine: u16) -> NumberNaming
         ensures gnu { result.gnu ≡ false }
         ensures machine { result.machine ≡ machine }
-        ensures format { result.format ≡ format }
     {
         NumberNaming {
             gnu: false,
             machine,
-            format,
         }
     }
 

@@ -10,8 +10,9 @@ ghost use Rattle.elf_lines.specs.Notes.{IsDescriptor, note_end};
 ghost use Rattle.elf_lines.specs.Pieces.{shown_as};
 
 use crate::columns::{Line, put, put_where};
-use crate::fields::{LineFront, begin, put_half, put_word};
+use crate::fields::{LineFront, begin_named, put_half, put_hexadecimal};
 use crate::named::{begin_name, show_spelt};
+use crate::render::Render;
 use elf_model::Format;
 use elf_record::NoteHead;
 use elf_source::{Out, OutFault, Sink};
@@ -20,25 +21,21 @@ use hex::encode_to_slice;
 /// How many bytes of a note's descriptor are shown.
 const SHOWN_DESCRIPTOR: u32 = 32;
 
-/// The `N` line of a note up to the name: the index of its section or program header, type, and the
-/// sizes of its name and its descriptor in bytes (gABI 5, Note Section). The space before the name is
-/// the last byte.
+/// The `N` line of a note up to the name, in place of what the front held: the index of its section
+/// or program header, type, and the sizes of its name and its descriptor in bytes (gABI 5, Note
+/// Section).
 #[tactic(auto, unfolding(elf_model::specs::LineFronts::note_front))]
-pub fn note_front(index: u16, head: &NoteHead, format: Format) -> LineFront
-    ensures front { front_of result
-        ≡ note_front format index head.now.kind head.now.namesz head.now.descsz }
-    ensures key { length result.key.now ≤ 16 }
+pub fn note_front<R: Render>(front: &mut LineFront, index: u16, head: &NoteHead)
+    ensures front { front_of front.new
+        ≡ note_front R.FORMAT index head.now.kind head.now.namesz head.now.descsz }
+    ensures key { length front.new.key.now ≤ 16 }
 {
-    let mut line = begin(format, b"N");
-    put_half(&mut line, format, b"index", index, b' ');
-    put_word(&mut line, format, b"type", 8, head.kind);
-    put_word(&mut line, format, b"namesz", 8, head.namesz);
-    put_word(&mut line, format, b"descsz", 8, head.descsz);
-    LineFront {
-        line,
-        format,
-        key: b"name",
-    }
+    begin_named::<R>(front, b"N", b"name");
+    let line = &mut front.line;
+    put_half::<R>(line, b"index", index, b' ');
+    put_hexadecimal::<R>(line, b"type", 8, u64::from(head.kind), b' ');
+    put_hexadecimal::<R>(line, b"namesz", 8, u64::from(head.namesz), b' ');
+    put_hexadecimal::<R>(line, b"descsz", 8, u64::from(head.descsz), b' ');
 }
 
 /// Writes the `N` line of a note behind its front, with its name, which `is_cut` where it has more
@@ -48,7 +45,7 @@ pub fn note_front(index: u16, head: &NoteHead, format: Format) -> LineFront
 /// # Errors
 /// A fault of the output, with a front of the line written.
 pub fn show_note<W: Sink>(
-    front: LineFront,
+    front: &mut LineFront,
     name: &[u8],
     is_cut: bool,
     first_bytes: &[u8],
@@ -56,18 +53,17 @@ pub fn show_note<W: Sink>(
     out: &mut Out<W>,
 ) -> Result<(), OutFault>
     requires few { length first_bytes.now ≤ 32 }
-    requires key { length front.key.now ≤ 16 }
+    requires key { length front.old.key.now ≤ 16 }
     ensures grows { Grows out.old out.new }
     ensures fails { IfErr result (OutFails out.new) }
     ensures puts { (descriptor : List ℕ) → IsDescriptor first_bytes.now descsz descriptor →
         Puts out.old out.new result
-        (note_line (front_of front) (shown_as is_cut name.now) descriptor) }
+        (note_line (front_of front.old) (shown_as is_cut name.now) descriptor) }
 {
-    let LineFront { line, format, key } = front;
+    let format = front.format;
     let tail = note_tail(format, is_cut, first_bytes, descsz);
-    let mut line = line;
-    begin_name(&mut line, format, key, out)?;
-    show_spelt(line, format, name, &tail, out)
+    begin_name(front, out)?;
+    show_spelt(&mut front.line, format, name, &tail, out)
 }
 
 /// What stands behind a note's name: what tells that it was cut, the first bytes of its descriptor,

@@ -21,29 +21,40 @@ pub(crate) fn put_key(line: &mut Line, key: &[u8])
     put(line, b"\":");
 }
 
-/// Puts a number in decimal.
-pub(crate) fn put_number<I: Integer>(line: &mut Line, number: I)
-    requires { array_vec_len line.old + I.MAX_STR_LEN ≤ 256 }
-    ensures items { line.new.items ≡ line.old.items ++ I.text number }
-    ensures len { array_vec_len line.new ≤ array_vec_len line.old + I.MAX_STR_LEN }
+/// Puts a key, and a number in decimal.
+pub(crate) fn put_number<I: Integer>(line: &mut Line, key: &[u8], number: I)
+    requires { array_vec_len line.old + (length key.now + 4) + I.MAX_STR_LEN ≤ 256 }
+    ensures items { line.new.items ≡ line.old.items ++ member_key key.now ++ I.text number }
+    ensures len { array_vec_len line.new
+        ≤ array_vec_len line.old + (length key.now + 4) + I.MAX_STR_LEN }
 {
+    put_key(line, key);
     let mut buffer = Buffer::new();
     put(line, buffer.format(number).as_bytes());
 }
 
-/// Puts a name as a string, or a number.
-pub(crate) fn put_name_or_number(line: &mut Line, name: Option<&'static str>, number: u64)
-    requires number { array_vec_len line.old + 20 ≤ 256 }
-    requires room { IfSome name (λ name.
-        array_vec_len line.old + (length name.now + length name.now + 2) ≤ 256) }
+/// Puts a key, and a name as a string, or a number.
+pub(crate) fn put_name_or_number(
+    line: &mut Line,
+    key: &[u8],
+    name: Option<&'static str>,
+    number: u64,
+)
+    requires number { array_vec_len line.old + (length key.now + 4) + 20 ≤ 256 }
+    requires room { IfSome name (λ name. array_vec_len line.old + (length key.now + 4)
+        + (length name.now + length name.now + 2) ≤ 256) }
     ensures items { line.new.items
-        ≡ line.old.items ++ name_or_value (option_copied name.entry) number }
+        ≡ line.old.items ++ member_key key.now ++ name_or_value (option_copied name.entry) number }
     ensures len { (most : ℕ) → IfSome name.entry (λ name. length name.now ≤ most) →
-        array_vec_len line.new ≤ array_vec_len line.old + max (most + most + 2) 20 }
+        array_vec_len line.new
+        ≤ array_vec_len line.old + (length key.now + 4) + max (most + most + 2) 20 }
 {
     match name {
-        Some(name) => put_quoted(line, name.as_bytes()),
-        None => put_number(line, number),
+        Some(name) => {
+            put_key(line, key);
+            put_quoted(line, name.as_bytes());
+        }
+        None => put_number(line, key, number),
     }
 }
 

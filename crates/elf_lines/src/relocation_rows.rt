@@ -7,10 +7,11 @@ ghost use Rattle.elf_record.specs.Rela.{IsRela};
 ghost use Rattle.elf_lines.specs.Fronts.{front_of};
 
 use crate::fields::{
-    LineFront, begin, put_half, put_name_or_sign, put_signed, put_word, put_xword,
+    LineFront, begin_named, put_half, put_hexadecimal, put_name_or_sign, put_signed,
 };
 use crate::name_tables::name_of_either;
 use crate::naming::NumberNaming;
+use crate::render::Render;
 use elf_record::Rela;
 use elf_record::gnu_numbers::{
     R_X86_64_DTPMOD64, R_X86_64_DTPOFF32, R_X86_64_DTPOFF64, R_X86_64_GNU_VTENTRY,
@@ -27,28 +28,27 @@ use elf_record::numbers::{
     R_X86_64_PLT32, R_X86_64_RELATIVE,
 };
 
-/// The `R` line of a relocation entry up to the name: the index of its section, offset, type on this
-/// machine, symbol and addend (gABI 4, Relocation). The space before the name is the last byte.
+/// The `R` line of a relocation entry up to the name, in place of what the front held: the index of
+/// its section, offset, type on this machine, symbol and addend (gABI 4, Relocation).
 #[tactic(auto, unfolding(elf_model::specs::LineFronts::relocation_front))]
-pub fn relocation_front(section: u16, entry: &Rela, naming: NumberNaming) -> LineFront
-    ensures front { (file : List ℕ) (at : ℕ) → IsRela file at entry.now → front_of result
-        ≡ relocation_front naming.format naming.gnu naming.machine file at section }
-    ensures key { length result.key.now ≤ 16 }
+pub fn relocation_front<R: Render>(
+    front: &mut LineFront,
+    section: u16,
+    entry: &Rela,
+    naming: NumberNaming,
+)
+    ensures front { (file : List ℕ) (at : ℕ) → IsRela file at entry.now → front_of front.new
+        ≡ relocation_front R.FORMAT naming.gnu naming.machine file at section }
+    ensures key { length front.new.key.now ≤ 16 }
 {
-    let format = naming.format;
     let kind = entry.kind();
-    let name = name_on_machine(kind, naming);
-    let mut line = begin(format, b"R");
-    put_half(&mut line, format, b"table", section, b' ');
-    put_xword(&mut line, format, b"offset", entry.r_offset, b' ');
-    put_name_or_sign(&mut line, format, b"type", name, kind);
-    put_word(&mut line, format, b"symbol", 8, entry.symbol());
-    put_signed(&mut line, format, b"addend", entry.r_addend);
-    LineFront {
-        line,
-        format,
-        key: b"name",
-    }
+    begin_named::<R>(front, b"R", b"name");
+    let line = &mut front.line;
+    put_half::<R>(line, b"table", section, b' ');
+    put_hexadecimal::<R>(line, b"offset", 16, entry.r_offset, b' ');
+    put_name_or_sign::<R>(line, b"type", name_on_machine(kind, naming), kind);
+    put_hexadecimal::<R>(line, b"symbol", 8, u64::from(entry.symbol()), b' ');
+    put_signed::<R>(line, b"addend", entry.r_addend);
 }
 
 /// The name of a relocation type on the machine. Names are known for x86-64 alone.

@@ -8,10 +8,9 @@ ghost use Rattle.elf_record.specs.Ehdr.{IsEhdr};
 ghost use Rattle.elf_source.specs.Output.{Puts};
 
 use crate::columns::Line;
-use crate::fields::{
-    NamedNumber, begin, put_closing, put_half, put_name_or_hex, put_text, put_word, put_xword,
-};
+use crate::fields::{begin, put_closing, put_half, put_hexadecimal, put_name_or_hex, put_text};
 use crate::name_tables::name_of;
+use crate::render::{Columns, Object, Render};
 use elf_model::Format;
 use elf_record::numbers::{ET_CORE, ET_DYN, ET_EXEC, ET_NONE, ET_REL};
 use elf_record::{Cause, Ehdr, Refusal};
@@ -21,42 +20,42 @@ use elf_source::{Out, OutFault, Sink};
 /// section headers, flags, their numbers, and the section of the section names (gABI 4, ELF
 /// Header).
 #[tactic(auto, unfolding(elf_model::specs::Lines::header_line))]
-pub fn header_row(header: &Ehdr, format: Format) -> Line
-    ensures { (file : List ℕ) → IsEhdr file 0 header.now → result.items ≡ header_line format file }
+pub fn header_row<R: Render>(header: &Ehdr) -> Line
+    ensures { (file : List ℕ) → IsEhdr file 0 header.now →
+        result.items ≡ header_line R.FORMAT file }
 {
-    let number = u64::from(header.e_type);
-    let name = file_type_name(number);
-    let mut line = begin(format, b"H");
-    put_name_or_hex(
-        &mut line,
-        format,
-        b"type",
-        4,
-        4,
-        NamedNumber { name, number },
-    );
-    put_half(&mut line, format, b"machine", header.e_machine, b' ');
-    put_xword(&mut line, format, b"entry", header.e_entry, b' ');
-    put_xword(&mut line, format, b"phoff", header.e_phoff, b' ');
-    put_xword(&mut line, format, b"shoff", header.e_shoff, b' ');
-    put_word(&mut line, format, b"flags", 8, header.e_flags);
-    put_half(&mut line, format, b"phnum", header.e_phnum, b' ');
-    put_half(&mut line, format, b"shnum", header.e_shnum, b' ');
-    put_half(&mut line, format, b"shstrndx", header.e_shstrndx, b'\n');
-    put_closing(&mut line, format);
+    let kind = u64::from(header.e_type);
+    let mut line = Line::new();
+    begin::<R>(&mut line, b"H");
+    put_name_or_hex::<R>(&mut line, b"type", 4, 4, file_type_name(kind), kind);
+    put_half::<R>(&mut line, b"machine", header.e_machine, b' ');
+    put_hexadecimal::<R>(&mut line, b"entry", 16, header.e_entry, b' ');
+    put_hexadecimal::<R>(&mut line, b"phoff", 16, header.e_phoff, b' ');
+    put_hexadecimal::<R>(&mut line, b"shoff", 16, header.e_shoff, b' ');
+    put_hexadecimal::<R>(&mut line, b"flags", 8, u64::from(header.e_flags), b' ');
+    put_half::<R>(&mut line, b"phnum", header.e_phnum, b' ');
+    put_half::<R>(&mut line, b"shnum", header.e_shnum, b' ');
+    put_half::<R>(&mut line, b"shstrndx", header.e_shstrndx, b'\n');
+    put_closing::<R>(&mut line);
     line
 }
 
 /// The `!` line of a refusal: the file offset that it points to, and its cause.
 #[tactic(auto, unfolding(elf_model::specs::Lines::refusal_line))]
-pub fn refusal_row(refusal: Refusal, format: Format) -> Line
-    ensures { result.items ≡ refusal_line format refusal }
+fn refusal_row<R: Render>(refusal: Refusal) -> Line
+    ensures { result.items ≡ refusal_line R.FORMAT refusal }
 {
-    let mut line = begin(format, b"!");
-    put_xword(&mut line, format, b"place", refusal.at, b' ');
-    let word = cause_word(refusal.cause).as_bytes();
-    put_text(&mut line, format, b"cause", 0, word, b'\n');
-    put_closing(&mut line, format);
+    let mut line = Line::new();
+    begin::<R>(&mut line, b"!");
+    put_hexadecimal::<R>(&mut line, b"place", 16, refusal.at, b' ');
+    put_text::<R>(
+        &mut line,
+        b"cause",
+        0,
+        cause_word(refusal.cause).as_bytes(),
+        b'\n',
+    );
+    put_closing::<R>(&mut line);
     line
 }
 
@@ -72,7 +71,10 @@ pub fn show_refusal<W: Sink>(
 ) -> Result<(), OutFault>
     ensures puts { Puts out.old out.new result (refusal_line format refusal) }
 {
-    out.put(&refusal_row(refusal, format))
+    match format {
+        Format::Columns => out.put(&refusal_row::<Columns>(refusal)),
+        Format::Object => out.put(&refusal_row::<Object>(refusal)),
+    }
 }
 
 /// The word of a cause in a listing.

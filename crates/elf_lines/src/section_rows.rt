@@ -10,11 +10,10 @@ ghost use Rattle.elf_record.specs.Shdr.{IsShdr};
 ghost use Rattle.elf_lines.specs.Fronts.{front_of};
 
 use crate::columns::{Line, put_where};
-use crate::fields::{
-    LineFront, NamedNumber, begin, put_half, put_name_or_hex, put_text, put_word, put_xword,
-};
+use crate::fields::{LineFront, begin_named, put_half, put_hexadecimal, put_name_or_hex, put_text};
 use crate::name_tables::name_of_either;
 use crate::naming::NumberNaming;
+use crate::render::Render;
 use elf_record::gnu_numbers::{
     SHF_EXCLUDE, SHF_GNU_MBIND, SHF_GNU_RETAIN, SHF_X86_64_LARGE, SHT_GNU_ATTRIBUTES, SHT_GNU_HASH,
     SHT_GNU_LIBLIST, SHT_GNU_VERDEF, SHT_GNU_VERNEED, SHT_GNU_VERSYM, SHT_RELR, SHT_X86_64_UNWIND,
@@ -26,39 +25,31 @@ use elf_record::numbers::{
 };
 use elf_record::{SectionFlags, Shdr};
 
-/// The `S` line of a section header up to the name: its index, type, flags, address, file offset,
-/// size, link and info (gABI 4, Section Header). The space before the name is the last byte.
+/// The `S` line of a section header up to the name, in place of what the front held: its index,
+/// type, flags, address, file offset, size, link and info (gABI 4, Section Header).
 #[tactic(auto, unfolding(elf_model::specs::LineFronts::section_front))]
-pub fn section_front(index: u16, header: &Shdr, naming: NumberNaming) -> LineFront
-    ensures front { (file : List ℕ) (at : ℕ) → IsShdr file at header.now →
-        front_of result ≡ section_front naming.format naming.gnu naming.machine file at index }
-    ensures key { length result.key.now ≤ 16 }
+pub fn section_front<R: Render>(
+    front: &mut LineFront,
+    index: u16,
+    header: &Shdr,
+    naming: NumberNaming,
+)
+    ensures front { (file : List ℕ) (at : ℕ) → IsShdr file at header.now → front_of front.new
+        ≡ section_front R.FORMAT naming.gnu naming.machine file at index }
+    ensures key { length front.new.key.now ≤ 16 }
 {
-    let format = naming.format;
-    let number = u64::from(header.sh_type);
-    let name = section_type_name(number, naming);
+    let kind = u64::from(header.sh_type);
     let letters = section_letters(header.sh_flags, naming);
-    let mut line = begin(format, b"S");
-    put_half(&mut line, format, b"index", index, b' ');
-    put_name_or_hex(
-        &mut line,
-        format,
-        b"type",
-        13,
-        8,
-        NamedNumber { name, number },
-    );
-    put_text(&mut line, format, b"flags", 12, &letters, b' ');
-    put_xword(&mut line, format, b"address", header.sh_addr, b' ');
-    put_xword(&mut line, format, b"offset", header.sh_offset, b' ');
-    put_xword(&mut line, format, b"size", header.sh_size, b' ');
-    put_word(&mut line, format, b"link", 8, header.sh_link);
-    put_word(&mut line, format, b"info", 8, header.sh_info);
-    LineFront {
-        line,
-        format,
-        key: b"name",
-    }
+    begin_named::<R>(front, b"S", b"name");
+    let line = &mut front.line;
+    put_half::<R>(line, b"index", index, b' ');
+    put_name_or_hex::<R>(line, b"type", 13, 8, section_type_name(kind, naming), kind);
+    put_text::<R>(line, b"flags", 12, &letters, b' ');
+    put_hexadecimal::<R>(line, b"address", 16, header.sh_addr, b' ');
+    put_hexadecimal::<R>(line, b"offset", 16, header.sh_offset, b' ');
+    put_hexadecimal::<R>(line, b"size", 16, header.sh_size, b' ');
+    put_hexadecimal::<R>(line, b"link", 8, u64::from(header.sh_link), b' ');
+    put_hexadecimal::<R>(line, b"info", 8, u64::from(header.sh_info), b' ');
 }
 
 /// How many letters of flags are shown at most.

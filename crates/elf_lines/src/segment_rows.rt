@@ -8,12 +8,10 @@ ghost use Rattle.elf_model.specs.Lines.{segment_line};
 ghost use Rattle.elf_record.specs.Phdr.{IsPhdr};
 
 use crate::columns::Line;
-use crate::fields::{
-    NamedNumber, begin, put_closing, put_half, put_name_or_hex, put_text, put_xword,
-};
+use crate::fields::{begin, put_closing, put_half, put_hexadecimal, put_name_or_hex, put_text};
 use crate::name_tables::name_of_either;
+use crate::render::Render;
 use bitflags::Flags;
-use elf_model::Format;
 use elf_record::gnu_numbers::{
     PT_GNU_EH_FRAME, PT_GNU_PROPERTY, PT_GNU_RELRO, PT_GNU_SFRAME, PT_GNU_STACK,
 };
@@ -26,32 +24,25 @@ use elf_record::{Phdr, SegmentFlags};
 /// address, size in the file and in memory, and alignment (gABI 5, Program Header); `gnu` says
 /// whether types of the GNU system have names.
 #[tactic(auto, unfolding(elf_model::specs::Lines::segment_line))]
-pub fn segment_row(index: u16, header: &Phdr, gnu: bool, format: Format) -> Line
+pub fn segment_row<R: Render>(index: u16, header: &Phdr, gnu: bool) -> Line
     ensures { (file : List ℕ) (at : ℕ) → IsPhdr file at header.now →
-        result.items ≡ segment_line format gnu file at index }
+        result.items ≡ segment_line R.FORMAT gnu file at index }
 {
-    let number = u64::from(header.p_type);
-    let name = segment_type_name(number, gnu);
+    let kind = u64::from(header.p_type);
     let mut letters = Line::new();
     put_permissions(&mut letters, SegmentFlags(header.p_flags));
-    let mut line = begin(format, b"P");
-    put_half(&mut line, format, b"index", index, b' ');
-    put_name_or_hex(
-        &mut line,
-        format,
-        b"type",
-        8,
-        8,
-        NamedNumber { name, number },
-    );
-    put_text(&mut line, format, b"permissions", 3, &letters, b' ');
-    put_xword(&mut line, format, b"offset", header.p_offset, b' ');
-    put_xword(&mut line, format, b"vaddr", header.p_vaddr, b' ');
-    put_xword(&mut line, format, b"paddr", header.p_paddr, b' ');
-    put_xword(&mut line, format, b"filesz", header.p_filesz, b' ');
-    put_xword(&mut line, format, b"memsz", header.p_memsz, b' ');
-    put_xword(&mut line, format, b"align", header.p_align, b'\n');
-    put_closing(&mut line, format);
+    let mut line = Line::new();
+    begin::<R>(&mut line, b"P");
+    put_half::<R>(&mut line, b"index", index, b' ');
+    put_name_or_hex::<R>(&mut line, b"type", 8, 8, segment_type_name(kind, gnu), kind);
+    put_text::<R>(&mut line, b"permissions", 3, &letters, b' ');
+    put_hexadecimal::<R>(&mut line, b"offset", 16, header.p_offset, b' ');
+    put_hexadecimal::<R>(&mut line, b"vaddr", 16, header.p_vaddr, b' ');
+    put_hexadecimal::<R>(&mut line, b"paddr", 16, header.p_paddr, b' ');
+    put_hexadecimal::<R>(&mut line, b"filesz", 16, header.p_filesz, b' ');
+    put_hexadecimal::<R>(&mut line, b"memsz", 16, header.p_memsz, b' ');
+    put_hexadecimal::<R>(&mut line, b"align", 16, header.p_align, b'\n');
+    put_closing::<R>(&mut line);
     line
 }
 

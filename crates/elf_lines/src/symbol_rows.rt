@@ -12,11 +12,12 @@ ghost use Rattle.elf_lines.specs.Fronts.{front_of};
 ghost use Rattle.elf_source.specs.Output.{OutFails, Puts};
 
 use crate::fields::{
-    LineFront, NamedNumber, begin, put_decimal, put_half, put_name_or_decimal, put_xword,
+    LineFront, begin_named, put_decimal, put_half, put_hexadecimal, put_name_or_decimal,
 };
 use crate::name_tables::{name_of, name_of_either};
 use crate::named::show_named;
 use crate::naming::NumberNaming;
+use crate::render::{Columns, Object, Render};
 use elf_model::Format;
 use elf_record::Sym;
 use elf_record::gnu_numbers::{SHN_X86_64_LCOMMON, STB_GNU_UNIQUE, STT_GNU_IFUNC};
@@ -27,46 +28,65 @@ use elf_record::numbers::{
 };
 use elf_source::{Out, OutFault, Sink};
 
-/// The `Y` line of a symbol up to the name: the index of its section, its own index, value, size,
-/// type, binding, visibility and place (gABI 4, Symbol Table). The space before the name is the last
-/// byte.
+/// The `Y` line of a symbol up to the name, in place of what the front held: the index of its
+/// section, its own index, value, size, type, binding, visibility and place (gABI 4, Symbol Table).
 #[tactic(auto, unfolding(elf_model::specs::LineFronts::symbol_front))]
-pub fn symbol_front(section: u16, index: u64, symbol: &Sym, naming: NumberNaming) -> LineFront
-    ensures front { (file : List ℕ) (at : ℕ) → IsSym file at symbol.now → front_of result
-        ≡ symbol_front naming.format naming.gnu naming.machine file at section index }
-    ensures key { length result.key.now ≤ 16 }
+pub fn symbol_front<R: Render>(
+    front: &mut LineFront,
+    section: u16,
+    index: u64,
+    symbol: &Sym,
+    naming: NumberNaming,
+)
+    ensures front { (file : List ℕ) (at : ℕ) → IsSym file at symbol.now → front_of front.new
+        ≡ symbol_front R.FORMAT naming.gnu naming.machine file at section index }
+    ensures key { length front.new.key.now ≤ 16 }
 {
-    let format = naming.format;
     let kind = u64::from(symbol.kind());
     let binding = u64::from(symbol.binding());
     let visibility = u64::from(symbol.visibility());
     let place = u64::from(symbol.st_shndx);
-    let mut line = begin(format, b"Y");
-    put_half(&mut line, format, b"table", section, b' ');
-    put_decimal(&mut line, format, b"index", 10, index, b' ');
-    put_xword(&mut line, format, b"value", symbol.st_value, b' ');
-    put_xword(&mut line, format, b"size", symbol.st_size, b' ');
-    let named = with_name(symbol_type_name(kind, naming.gnu), kind);
-    put_name_or_decimal(&mut line, format, b"type", 7, named);
-    let named = with_name(binding_name(binding, naming.gnu), binding);
-    put_name_or_decimal(&mut line, format, b"binding", 6, named);
-    let named = with_name(visibility_name(visibility), visibility);
-    put_name_or_decimal(&mut line, format, b"visibility", 9, named);
-    let named = with_name(place_name(place, naming), place);
-    put_name_or_decimal(&mut line, format, b"place", 5, named);
-    LineFront {
+    begin_named::<R>(front, b"Y", b"name");
+    let line = &mut front.line;
+    put_half::<R>(line, b"table", section, b' ');
+    put_decimal::<R>(line, b"index", 10, index, b' ');
+    put_hexadecimal::<R>(line, b"value", 16, symbol.st_value, b' ');
+    put_hexadecimal::<R>(line, b"size", 16, symbol.st_size, b' ');
+    put_name_or_decimal::<R>(line, b"type", 7, symbol_type_name(kind, naming.gnu), kind);
+    put_name_or_decimal::<R>(
         line,
-        format,
-        key: b"name",
-    }
+        b"binding",
+        6,
+        binding_name(binding, naming.gnu),
+        binding,
+    );
+    put_name_or_decimal::<R>(
+        line,
+        b"visibility",
+        9,
+        visibility_name(visibility),
+        visibility,
+    );
+    put_name_or_decimal::<R>(line, b"place", 5, place_name(place, naming), place);
 }
 
-/// A number with its name, where it has one.
-fn with_name(name: Option<&'static str>, number: u64) -> NamedNumber
-    ensures name { result.name ≡ name.entry }
-    ensures number { result.number ≡ number }
+/// The same in a format that is known only where the program runs.
+pub fn symbol_front_in(
+    format: Format,
+    front: &mut LineFront,
+    section: u16,
+    index: u64,
+    symbol: &Sym,
+    naming: NumberNaming,
+)
+    ensures front { (file : List ℕ) (at : ℕ) → IsSym file at symbol.now → front_of front.new
+        ≡ symbol_front format naming.gnu naming.machine file at section index }
+    ensures key { length front.new.key.now ≤ 16 }
 {
-    NamedNumber { name, number }
+    match format {
+        Format::Columns => symbol_front::<Columns>(front, section, index, symbol, naming),
+        Format::Object => symbol_front::<Object>(front, section, index, symbol, naming),
+    }
 }
 
 /// Writes the `Y` line of a symbol with its name, whole, as it is given, in the standards' names.
@@ -87,9 +107,16 @@ pub fn show_symbol<W: Sink>(
     ensures fails { IfErr result (OutFails out.new) }
     ensures grows { Grows out.old out.new }
 {
-    let naming = NumberNaming::standard(0, format);
-    let front = symbol_front(section, index, symbol, naming);
-    show_named(front, name, false, out)
+    let mut front = LineFront::new();
+    symbol_front_in(
+        format,
+        &mut front,
+        section,
+        index,
+        symbol,
+        NumberNaming::standard(0),
+    );
+    show_named(&mut front, name, false, out)
 }
 
 /// The name of a symbol type.

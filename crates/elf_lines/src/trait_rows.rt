@@ -11,8 +11,9 @@ ghost use Rattle.elf_lines.specs.Rooms.{text_room};
 ghost use Rattle.elf_source.specs.Output.{Puts};
 
 use crate::columns::{Line, line_of, put};
-use crate::fields::{LineFront, begin, put_closing, put_text};
+use crate::fields::{LineFront, begin, begin_named, put_closing, put_text};
 use crate::named::show_named;
+use crate::render::{Columns, Object, Render};
 use elf_model::{Format, ProgramKind, Relro, SearchPath, SegmentTraits, TraitColumn, Traits};
 use elf_source::{Out, OutFault, Sink};
 
@@ -28,7 +29,12 @@ pub fn show_traits<W: Sink>(
 ) -> Result<(), OutFault>
     ensures puts { Puts out.old out.new result (trait_line format traits path.now) }
 {
-    show_named(traits_row(traits, format), path, false, out)
+    let mut front = LineFront::new();
+    match format {
+        Format::Columns => traits_row::<Columns>(&mut front, traits),
+        Format::Object => traits_row::<Object>(&mut front, traits),
+    }
+    show_named(&mut front, path, false, out)
 }
 
 /// Writes the line of what a file lacks: the name of a column, and the word that the file has in it.
@@ -43,67 +49,55 @@ pub fn show_lacking<W: Sink>(
 ) -> Result<(), OutFault>
     ensures puts { Puts out.old out.new result (lacking_line format traits column) }
 {
-    out.put(&lacking_row(traits, column, format))
+    match format {
+        Format::Columns => out.put(&lacking_row::<Columns>(traits, column)),
+        Format::Object => out.put(&lacking_row::<Object>(traits, column)),
+    }
 }
 
 /// The `T` line of a file up to its path.
 #[tactic(auto, unfolding(elf_model::specs::TraitWords::trait_front))]
-fn traits_row(traits: Traits, format: Format) -> LineFront
-    ensures front { front_of result ≡ trait_front format traits }
-    ensures key { length result.key.now ≤ 16 }
+fn traits_row<R: Render>(front: &mut LineFront, traits: Traits)
+    ensures front { front_of front.new ≡ trait_front R.FORMAT traits }
+    ensures key { length front.new.key.now ≤ 16 }
 {
-    let mut line = begin(format, b"T");
-    put_trait(&mut line, format, b"kind", 6, kind_word(traits.kind));
-    put_trait(&mut line, format, b"relro", 7, relro_word(traits.segments));
-    put_trait(&mut line, format, b"stack", 5, stack_word(traits.segments));
-    put_trait(&mut line, format, b"pages", 5, pages_word(traits.segments));
-    put_trait(&mut line, format, b"text", 5, text_word(traits.segments));
-    put_trait(
-        &mut line,
-        format,
-        b"cet",
-        9,
-        cet_word(traits.ibt, traits.shstk),
-    );
-    put_trait(&mut line, format, b"canary", 6, canary_word(traits.canary));
-    put_trait(
-        &mut line,
-        format,
-        b"fortify",
-        7,
-        fortify_word(traits.fortify),
-    );
-    put_trait(&mut line, format, b"rpath", 7, path_word(traits.path));
-    LineFront {
-        line,
-        format,
-        key: b"path",
-    }
+    begin_named::<R>(front, b"T", b"path");
+    let line = &mut front.line;
+    put_trait::<R>(line, b"kind", 6, kind_word(traits.kind));
+    put_trait::<R>(line, b"relro", 7, relro_word(traits.segments));
+    put_trait::<R>(line, b"stack", 5, stack_word(traits.segments));
+    put_trait::<R>(line, b"pages", 5, pages_word(traits.segments));
+    put_trait::<R>(line, b"text", 5, text_word(traits.segments));
+    put_trait::<R>(line, b"cet", 9, cet_word(traits.ibt, traits.shstk));
+    put_trait::<R>(line, b"canary", 6, canary_word(traits.canary));
+    put_trait::<R>(line, b"fortify", 7, fortify_word(traits.fortify));
+    put_trait::<R>(line, b"rpath", 7, path_word(traits.path));
 }
 
 /// Puts the word of a trait at the left of a column of this width, and a space.
-fn put_trait(line: &mut Line, format: Format, key: &[u8], width: usize, word: &'static str)
+fn put_trait<R: Render>(line: &mut Line, key: &[u8], width: usize, word: &'static str)
     requires room { array_vec_len line.old + text_room (length key.now) width ≤ 256 }
     requires short { length word.now ≤ width }
     ensures items { line.new.items
-        ≡ with_field format line.old.items (Word key.now width word.now) space }
+        ≡ with_field R.FORMAT line.old.items (Word key.now width word.now) space }
     ensures len { array_vec_len line.new ≤ array_vec_len line.old
         + text_room (length key.now) width }
 {
-    put_text(line, format, key, width, word.as_bytes(), b' ');
+    put_text::<R>(line, key, width, word.as_bytes(), b' ');
 }
 
 /// The line of what a file lacks.
 #[tactic(auto, unfolding(elf_model::specs::TraitWords::lacking_line))]
-fn lacking_row(traits: Traits, column: TraitColumn, format: Format) -> Line
-    ensures { result.items ≡ lacking_line format traits column }
+fn lacking_row<R: Render>(traits: Traits, column: TraitColumn) -> Line
+    ensures { result.items ≡ lacking_line R.FORMAT traits column }
 {
     let mut text = line_of(column_name(column).as_bytes());
     put(&mut text, b"=");
     put(&mut text, column_word(traits, column).as_bytes());
-    let mut line = begin(format, b"!");
-    put_text(&mut line, format, b"trait", 0, &text, b'\n');
-    put_closing(&mut line, format);
+    let mut line = Line::new();
+    begin::<R>(&mut line, b"!");
+    put_text::<R>(&mut line, b"trait", 0, &text, b'\n');
+    put_closing::<R>(&mut line);
     line
 }
 

@@ -3,70 +3,66 @@ ghost use Rattle.std.specs.Prelude.{◌≡◌, ◌≤◌, if◌then◌else◌, c
 ghost use Rattle.elf_lines.specs.Fronts.{front_of};
 ghost use Rattle.elf_model.specs.VersionRows.{kind_text, version_front, symbol_version_front};
 
-use crate::fields::{LineFront, begin, put_decimal, put_half, put_text, put_word};
+use crate::fields::{LineFront, begin_named, put_decimal, put_half, put_hexadecimal, put_text};
+use crate::render::{Columns, Object, Render};
 use elf_model::Format;
 use elf_record::VersionKind;
 
-/// The `V` line of a record of definitions or needs up to its name: the index of its section, its
-/// kind, number, flags and hash (Linux Standard Base Core, Symbol Versioning). The space before the
-/// name is the last byte.
+/// The `V` line of a record of definitions or needs up to its name, in place of what the front held:
+/// the index of its section, its kind, number, flags and hash (Linux Standard Base Core, Symbol
+/// Versioning).
 #[tactic(auto, unfolding(elf_model::specs::VersionRows::version_front))]
-pub fn version_front(
+pub fn version_front<R: Render>(
+    front: &mut LineFront,
     section: u16,
     kind: VersionKind,
     number: u16,
     flags: u16,
     hash: u32,
-    format: Format,
-) -> LineFront
-    ensures front { front_of result ≡ version_front format kind section number flags hash }
-    ensures key { length result.key.now ≤ 16 }
+)
+    ensures front { front_of front.new ≡ version_front R.FORMAT kind section number flags hash }
+    ensures key { length front.new.key.now ≤ 16 }
 {
-    let mut line = begin(format, b"V");
-    put_half(&mut line, format, b"index", section, b' ');
-    put_text(
-        &mut line,
-        format,
-        b"kind",
-        4,
-        kind_name(kind).as_bytes(),
-        b' ',
-    );
-    put_half(&mut line, format, b"number", number, b' ');
-    put_word(&mut line, format, b"flags", 4, u32::from(flags));
-    put_word(&mut line, format, b"hash", 8, hash);
-    LineFront {
-        line,
-        format,
-        key: b"name",
-    }
+    begin_named::<R>(front, b"V", b"name");
+    let line = &mut front.line;
+    put_half::<R>(line, b"index", section, b' ');
+    put_text::<R>(line, b"kind", 4, kind_name(kind).as_bytes(), b' ');
+    put_half::<R>(line, b"number", number, b' ');
+    put_hexadecimal::<R>(line, b"flags", 4, u64::from(flags), b' ');
+    put_hexadecimal::<R>(line, b"hash", 8, u64::from(hash), b' ');
 }
 
-/// The `X` line of a symbol's version up to its name: the index of the section of version numbers, the
-/// symbol's index, and the number with the mark of a hidden version, of the symbol's `word` (Linux
-/// Standard Base Core, Symbol Versioning). The space before the name is the last byte.
+/// The `X` line of a symbol's version up to its name, in place of what the front held: the index of
+/// the section of version numbers, the symbol's index, and the number with the mark of a hidden
+/// version, of the symbol's `word` (Linux Standard Base Core, Symbol Versioning).
 #[tactic(auto, unfolding(elf_model::specs::VersionRows::symbol_version_front))]
-pub fn symbol_version_front(section: u16, index: u64, word: u16, format: Format) -> LineFront
-    ensures front { front_of result ≡ symbol_version_front format section index word }
-    ensures key { length result.key.now ≤ 16 }
+pub fn symbol_version_front<R: Render>(front: &mut LineFront, section: u16, index: u64, word: u16)
+    ensures front { front_of front.new ≡ symbol_version_front R.FORMAT section index word }
+    ensures key { length front.new.key.now ≤ 16 }
 {
     let number = word % (1 << 15);
-    let mut line = begin(format, b"X");
-    put_half(&mut line, format, b"table", section, b' ');
-    put_decimal(&mut line, format, b"index", 10, index, b' ');
-    put_half(&mut line, format, b"number", number, b' ');
-    put_text(
-        &mut line,
-        format,
-        b"hidden",
-        1,
-        hidden_mark(word == number),
-        b' ',
-    );
-    LineFront {
-        line,
-        format,
-        key: b"name",
+    begin_named::<R>(front, b"X", b"name");
+    let line = &mut front.line;
+    put_half::<R>(line, b"table", section, b' ');
+    put_decimal::<R>(line, b"index", 10, index, b' ');
+    put_half::<R>(line, b"number", number, b' ');
+    put_text::<R>(line, b"hidden", 1, hidden_mark(word == number), b' ');
+}
+
+/// The same in a format that is known only where the program runs.
+pub fn symbol_version_front_in(
+    format: Format,
+    front: &mut LineFront,
+    section: u16,
+    index: u64,
+    word: u16,
+)
+    ensures front { front_of front.new ≡ symbol_version_front format section index word }
+    ensures key { length front.new.key.now ≤ 16 }
+{
+    match format {
+        Format::Columns => symbol_version_front::<Columns>(front, section, index, word),
+        Format::Object => symbol_version_front::<Object>(front, section, index, word),
     }
 }
 

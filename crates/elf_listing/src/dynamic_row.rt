@@ -11,8 +11,8 @@ ghost use Rattle.elf_listing.specs.declared.rows.ListedAs.TheVariants.{Dynamic};
 
 use crate::listing::Listing;
 use crate::row::whole_row;
-use elf_headers::{Fault, Stop, Style, refused};
-use elf_lines::dynamic_front;
+use elf_headers::{Fault, Stop, refused};
+use elf_lines::{LineFront, Render, dynamic_front};
 use elf_names::NameIndex;
 use elf_note::DynStrings;
 use elf_record::numbers::{DT_NEEDED, DT_RPATH, DT_RUNPATH, DT_SONAME};
@@ -37,18 +37,21 @@ pub enum EntryStrings<'f> {
 impl<S: Source, W: Sink> Listing<'_, '_, '_, S, W> {
     /// Shows the row of a dynamic entry: its `D` line with its string, or the refusal of the string
     /// table or of the string.
-    pub(crate) fn dynamic_row(
+    pub(crate) fn dynamic_row<R: Render>(
         &mut self,
+        front: &mut LineFront,
         row: &Row<'_>,
         strings: &EntryStrings<'_>,
     ) -> Result<(), Stop>
-        requires { RowFits self.old.src.now.seen.size (Dynamic strings.now) row.now }
+        requires format { R.FORMAT ≡ self.old.style.format }
+        requires row { RowFits self.old.src.now.seen.size (Dynamic strings.now) row.now }
         ensures { ListsRow self.old self.new result (Dynamic strings.now) row.now }
     {
-        let Style { gnu, format, .. } = self.style;
+        let gnu = self.style.gnu;
         let entry = Dyn::decode(whole_row(row));
         let end = self.read_string(&entry, strings, row.at)?;
-        self.named_line(dynamic_front(row.index, &entry, gnu, format), end)
+        dynamic_front::<R>(front, row.index, &entry, gnu);
+        self.named_line(front, end)
     }
 
     /// Reads the string that an entry at the file offset `at` tells of, which is empty where it

@@ -37,14 +37,12 @@ impl<S: Source, W: Sink> Listing<'_, '_, '_, S, W> {
     /// How numbers are named in the file's lines.
     pub(crate) fn naming(&self) -> NumberNaming
         ensures gnu { result.gnu ≡ self.now.style.gnu }
-        ensures format { result.format ≡ self.now.style.format }
         ensures machine { (file : List ℕ) → self.now.src.now.seen.file ≡ Some file →
             result.machine ≡ e_machine file }
     {
         NumberNaming {
             gnu: self.style.gnu,
             machine: self.file.loaded.header().e_machine,
-            format: self.style.format,
         }
     }
 }

@@ -6,7 +6,8 @@ ghost use Rattle.elf_listing.specs.Notes.{ListsNote, ListsNotes};
 use crate::listing::Listing;
 use crate::row::is_cut;
 use elf_headers::Stop;
-use elf_lines::{note_front, show_note};
+use elf_lines::{Columns, LineFront, Object, Render, note_front, show_note};
+use elf_model::Format;
 use elf_note::{NoteCursor, NoteRow};
 use elf_source::{Sink, Source};
 use elf_table::Table;
@@ -32,10 +33,30 @@ impl<S: Source, W: Sink> Listing<'_, '_, '_, S, W> {
         requires { length row.now.desc.now ≤ 32 }
         ensures { ListsNote self.old self.new result row.now index }
     {
+        match self.style.format {
+            Format::Columns => self.note_line::<Columns>(row, index),
+            Format::Object => self.note_line::<Object>(row, index),
+        }
+    }
+
+    /// Shows it in the rendering of the style.
+    fn note_line<R: Render>(&mut self, row: &NoteRow<'_>, index: u16) -> Result<(), Stop>
+        requires format { R.FORMAT ≡ self.old.style.format }
+        requires few { length row.now.desc.now ≤ 32 }
+        ensures { ListsNote self.old self.new result row.now index }
+    {
         let is_cut = is_cut(row.name_end);
         let name = self.name.bytes();
-        let front = note_front(index, &row.head, self.style.format);
-        show_note(front, name, is_cut, row.desc, row.head.descsz, self.out)?;
+        let mut front = LineFront::new();
+        note_front::<R>(&mut front, index, &row.head);
+        show_note(
+            &mut front,
+            name,
+            is_cut,
+            row.desc,
+            row.head.descsz,
+            self.out,
+        )?;
         Ok(())
     }
 }

@@ -1,11 +1,12 @@
 //! The name of a symbol's version, by its number.
+ghost use Rattle.std.specs.Prelude.{◌≡◌};
 ghost use Rattle.elf_listing.specs.Kinds.{ListsRow, RowFits};
 ghost use Rattle.elf_listing.specs.Numbered.{FetchesVersion, NumberedWithin};
 ghost use Rattle.elf_listing.specs.declared.rows.ListedAs.TheVariants.{Versions};
 
 use crate::listing::Listing;
 use elf_headers::{Fault, Stop, refused};
-use elf_lines::symbol_version_front;
+use elf_lines::{LineFront, Render, symbol_version_front};
 use elf_names::NameIndex;
 use elf_record::{Cause, u16_at};
 use elf_source::{Sink, Source};
@@ -26,19 +27,21 @@ pub struct Numbered {
 impl<S: Source, W: Sink> Listing<'_, '_, '_, S, W> {
     /// Shows the row of the version of a symbol: its `X` line with the name of its number, or the
     /// refusal of a number that has none at the entry (Linux Standard Base Core, Symbol Versioning).
-    pub(crate) fn version_number(
+    pub(crate) fn version_number<R: Render>(
         &mut self,
+        front: &mut LineFront,
         row: &Row<'_>,
         section: u16,
         numbered: &Numbered,
     ) -> Result<(), Stop>
-        requires { RowFits self.old.src.now.seen.size (Versions section numbered) row.now }
+        requires format { R.FORMAT ≡ self.old.style.format }
+        requires row { RowFits self.old.src.now.seen.size (Versions section numbered) row.now }
         ensures { ListsRow self.old self.new result (Versions section numbered.entry) row.now }
     {
-        let format = self.style.format;
         let word = u16_at(row.bytes, 0);
         let end = self.read_version(numbered, word % (1 << 15), row.at)?;
-        self.named_line(symbol_version_front(section, row.index, word, format), end)
+        symbol_version_front::<R>(front, section, row.index, word);
+        self.named_line(front, end)
     }
 
     /// Reads the name of a number, which is empty for 0 and 1. A refusal names `at`.

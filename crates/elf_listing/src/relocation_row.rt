@@ -1,5 +1,5 @@
 //! The row of a relocation entry, shown.
-ghost use Rattle.std.specs.Prelude.{IfSome};
+ghost use Rattle.std.specs.Prelude.{◌≡◌, IfSome};
 ghost use Rattle.elf_table.specs.Tables.{SymbolsWithin};
 ghost use Rattle.elf_listing.specs.Fetched.{FetchesSymbol};
 ghost use Rattle.elf_listing.specs.Kinds.{ListsRow, RowFits};
@@ -8,7 +8,7 @@ ghost use Rattle.elf_listing.specs.declared.rows.ListedAs.TheVariants.{Relocatio
 use crate::listing::Listing;
 use crate::row::whole_row;
 use elf_headers::{Fault, Stop, refused};
-use elf_lines::relocation_front;
+use elf_lines::{LineFront, Render, relocation_front};
 use elf_names::NameIndex;
 use elf_record::{Cause, Rela};
 use elf_source::{Sink, Source};
@@ -20,13 +20,15 @@ type Linked = Option<(Table, Names)>;
 impl<S: Source, W: Sink> Listing<'_, '_, '_, S, W> {
     /// Shows the row of a relocation entry of a section: its `R` line with the name of its symbol,
     /// or the refusal of its symbol at the entry's offset, or of the name at the symbol's.
-    pub(crate) fn relocation_row(
+    pub(crate) fn relocation_row<R: Render>(
         &mut self,
+        front: &mut LineFront,
         row: &Row<'_>,
         section: u16,
         linked: Linked,
     ) -> Result<(), Stop>
-        requires { let kind = Relocations section linked in
+        requires format { R.FORMAT ≡ self.old.style.format }
+        requires row { let kind = Relocations section linked in
             RowFits self.old.src.now.seen.size kind row.now }
         ensures { ListsRow self.old self.new result (Relocations section linked) row.now }
     {
@@ -34,7 +36,8 @@ impl<S: Source, W: Sink> Listing<'_, '_, '_, S, W> {
         let entry = Rela::decode(whole_row(row));
         let symbol = entry.symbol();
         let end = self.read_symbol(linked, symbol, row.at)?;
-        self.named_line(relocation_front(section, &entry, naming), end)
+        relocation_front::<R>(front, section, &entry, naming);
+        self.named_line(front, end)
     }
 
     /// Reads the name of the symbol of an index, which is empty for symbol 0 (gABI 4, Symbol

@@ -7,7 +7,7 @@ ghost use Rattle.elf_listing.specs.declared.rows.ListedAs.TheVariants.{Segments,
 
 use crate::listing::Listing;
 use elf_headers::Stop;
-use elf_lines::{LineFront, segment_row, show_named, symbol_front};
+use elf_lines::{LineFront, Render, segment_row, show_named, symbol_front};
 use elf_names::NameIndex;
 use elf_record::{Phdr, Sym};
 use elf_source::{Sink, Source};
@@ -15,24 +15,27 @@ use elf_table::{NameEnd, Names, Row};
 
 impl<S: Source, W: Sink> Listing<'_, '_, '_, S, W> {
     /// Shows the row of a program header: its `P` line.
-    pub(crate) fn segment_row(&mut self, row: &Row<'_>) -> Result<(), Stop>
-        requires { RowFits self.old.src.now.seen.size Segments row.now }
+    pub(crate) fn segment_row<R: Render>(&mut self, row: &Row<'_>) -> Result<(), Stop>
+        requires format { R.FORMAT ≡ self.old.style.format }
+        requires row { RowFits self.old.src.now.seen.size Segments row.now }
         ensures { ListsRow self.old self.new result Segments row.now }
     {
         let header = Phdr::decode(whole_row(row));
-        self.out.put(&segment_row(row.index as u16, &header, self.style.gnu, self.style.format))?;
+        self.out.put(&segment_row::<R>(row.index as u16, &header, self.style.gnu))?;
         Ok(())
     }
 
     /// Shows the row of a symbol of a section: its `Y` line with its name, or the name's refusal at
     /// the symbol's offset.
-    pub(crate) fn symbol_row(
+    pub(crate) fn symbol_row<R: Render>(
         &mut self,
+        front: &mut LineFront,
         row: &Row<'_>,
         section: u16,
         names: &Names,
     ) -> Result<(), Stop>
-        requires { RowFits self.old.src.now.seen.size (Symbols section names.now) row.now }
+        requires format { R.FORMAT ≡ self.old.style.format }
+        requires row { RowFits self.old.src.now.seen.size (Symbols section names.now) row.now }
         ensures { ListsRow self.old self.new result (Symbols section names.now) row.now }
     {
         let naming = self.naming();
@@ -43,13 +46,14 @@ impl<S: Source, W: Sink> Listing<'_, '_, '_, S, W> {
             off,
             at: row.at,
         })?;
-        self.named_line(symbol_front(section, row.index, &symbol, naming), end)
+        symbol_front::<R>(front, section, row.index, &symbol, naming);
+        self.named_line(front, end)
     }
 
-    /// Writes a line that ends in the name that was read.
-    pub(crate) fn named_line(&mut self, front: LineFront, end: NameEnd) -> Result<(), Stop>
-        requires { length front.key.now ≤ 16 }
-        ensures { ListsLine self.old self.new result (front_of front) end }
+    /// Writes a line that ends in the name that was read. Its front is used on the way.
+    pub(crate) fn named_line(&mut self, front: &mut LineFront, end: NameEnd) -> Result<(), Stop>
+        requires { length front.old.key.now ≤ 16 }
+        ensures { ListsLine self.old self.new result (front_of front.old) end }
     {
         show_named(front, self.name.bytes(), is_cut(end), self.out)?;
         Ok(())

@@ -1,4 +1,5 @@
 //! The rows of a table, shown one after another.
+ghost use Rattle.std.specs.Prelude.{◌≡◌};
 ghost use Rattle.elf_listing.specs.Kinds.{IsTableOf, ListsRow, ListsRows, RowFits};
 
 use crate::dynamic_row::EntryStrings;
@@ -6,6 +7,8 @@ use crate::listing::Listing;
 use crate::numbered::Numbered;
 use crate::row_cursor::RowCursor;
 use elf_headers::Stop;
+use elf_lines::{Columns, LineFront, Object, Render};
+use elf_model::Format;
 use elf_source::{Sink, Source};
 use elf_table::{Names, Row, Table};
 
@@ -49,27 +52,48 @@ impl<S: Source, W: Sink> Listing<'_, '_, '_, S, W> {
         requires { IsTableOf self.old.src.now.seen.size kind.now table }
         ensures { ListsRows self.old self.new result kind.now table }
     {
+        match self.style.format {
+            Format::Columns => self.rows_in::<Columns>(table, kind),
+            Format::Object => self.rows_in::<Object>(table, kind),
+        }
+    }
+
+    /// Shows them in the rendering of the style, one front of a line for all.
+    fn rows_in<R: Render>(&mut self, table: Table, kind: &ListedAs<'_>) -> Result<(), Stop>
+        requires format { R.FORMAT ≡ self.old.style.format }
+        requires table { IsTableOf self.old.src.now.seen.size kind.now table }
+        ensures { ListsRows self.old self.new result kind.now table }
+    {
+        let mut front = LineFront::new();
         let mut cursor = RowCursor::new(table, kind);
         'rows: while cursor.advance(self.src)? {
-            self.row(&cursor.row(), kind)?;
+            self.row::<R>(&mut front, &cursor.row(), kind)?;
         }
         Ok(())
     }
 
     /// Shows one row.
-    fn row(&mut self, row: &Row<'_>, kind: &ListedAs<'_>) -> Result<(), Stop>
-        requires { RowFits self.old.src.now.seen.size kind.now row.now }
+    fn row<R: Render>(
+        &mut self,
+        front: &mut LineFront,
+        row: &Row<'_>,
+        kind: &ListedAs<'_>,
+    ) -> Result<(), Stop>
+        requires format { R.FORMAT ≡ self.old.style.format }
+        requires row { RowFits self.old.src.now.seen.size kind.now row.now }
         ensures { ListsRow self.old self.new result kind.now row.now }
     {
         match kind {
-            ListedAs::Segments => self.segment_row(row),
-            ListedAs::Symbols { section, names } => self.symbol_row(row, *section, names),
-            ListedAs::Relocations { section, linked } => self.relocation_row(
-                row, *section, *linked,
+            ListedAs::Segments => self.segment_row::<R>(row),
+            ListedAs::Symbols { section, names } => self.symbol_row::<R>(
+                front, row, *section, names,
             ),
-            ListedAs::Dynamic { strings } => self.dynamic_row(row, strings),
-            ListedAs::Versions { section, numbered } => self.version_number(
-                row, *section, numbered,
+            ListedAs::Relocations { section, linked } => self.relocation_row::<R>(
+                front, row, *section, *linked,
+            ),
+            ListedAs::Dynamic { strings } => self.dynamic_row::<R>(front, row, strings),
+            ListedAs::Versions { section, numbered } => self.version_number::<R>(
+                front, row, *section, numbered,
             ),
         }
     }

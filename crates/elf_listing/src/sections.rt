@@ -1,5 +1,5 @@
 //! What is listed of a section.
-ghost use Rattle.std.specs.Prelude.{◌<◌};
+ghost use Rattle.std.specs.Prelude.{◌≡◌, ◌<◌};
 ghost use Rattle.elf_listing.specs.HeadersListed.{ListsHeader};
 ghost use Rattle.elf_listing.specs.declared.parts.Part.TheVariants.{Headers, Symbols};
 ghost use Rattle.elf_listing.specs.declared.parts.Part.TheVariants.{Relocations};
@@ -9,7 +9,8 @@ use crate::dynamic_row::EntryStrings;
 use crate::listing::Listing;
 use crate::rows::ListedAs;
 use elf_headers::Stop;
-use elf_lines::section_front;
+use elf_lines::{Columns, LineFront, Object, Render, section_front};
+use elf_model::Format;
 use elf_record::numbers::{SHT_DYNAMIC, SHT_NOTE, SHT_RELA};
 use elf_record::sizes::DYNAMIC_BYTES;
 use elf_source::{Sink, Source};
@@ -22,13 +23,27 @@ impl<S: Source, W: Sink> Listing<'_, '_, '_, S, W> {
         requires { section < self.old.file.store.now.loaded }
         ensures { ListsHeader Headers self.old self.new result section }
     {
+        match self.style.format {
+            Format::Columns => self.section_line::<Columns>(section),
+            Format::Object => self.section_line::<Object>(section),
+        }
+    }
+
+    /// Shows it in the rendering of the style.
+    fn section_line<R: Render>(&mut self, section: u16) -> Result<(), Stop>
+        requires format { R.FORMAT ≡ self.old.style.format }
+        requires below { section < self.old.file.store.now.loaded }
+        ensures { ListsHeader Headers self.old self.new result section }
+    {
         let naming = self.naming();
         let header = self.file.section(section);
         let place = self.file.place(section);
         let names = self.file.names();
         let off = header.sh_name;
         let end = self.read_section_name(names, off, place)?;
-        self.named_line(section_front(section, &header, naming), end)
+        let mut front = LineFront::new();
+        section_front::<R>(&mut front, section, &header, naming);
+        self.named_line(&mut front, end)
     }
 
     /// Shows the symbols of a section, where it holds symbols: a `Y` line each, or the first

@@ -8,7 +8,8 @@ use crate::dynamic_row::EntryStrings;
 use crate::listing::Listing;
 use crate::rows::ListedAs;
 use elf_headers::Stop;
-use elf_lines::segment_row;
+use elf_lines::{Columns, Object, Render, segment_row};
+use elf_model::Format;
 use elf_note::dynamic_strings;
 use elf_record::numbers::{PT_DYNAMIC, PT_NOTE};
 use elf_source::{Sink, Source};
@@ -33,8 +34,21 @@ impl<'f, S: Source, W: Sink> Listing<'_, '_, 'f, S, W> {
         requires { segment < self.old.file.store.now.segments }
         ensures { ListsHeader Segments self.old self.new result segment }
     {
+        match self.style.format {
+            Format::Columns => self.segment_line::<Columns>(segment),
+            Format::Object => self.segment_line::<Object>(segment),
+        }
+    }
+
+    /// Shows it in the rendering of the style.
+    fn segment_line<R: Render>(&mut self, segment: u16) -> Result<(), Stop>
+        requires format { R.FORMAT ≡ self.old.style.format }
+        requires below { segment < self.old.file.store.now.segments }
+        ensures { ListsHeader Segments self.old self.new result segment }
+    {
         let header = self.view().segment(segment);
-        self.out.put(&segment_row(segment, &header, self.style.gnu, self.style.format))?;
+        self.out
+            .put(&segment_row::<R>(segment, &header, self.style.gnu))?;
         Ok(())
     }
 

@@ -23,7 +23,7 @@ use crate::telling::show_stop;
 use crate::viewing::load_view;
 use bitflags::Flags;
 use elf_headers::{Caps, HeaderStore, Loaded, Stop, Style, header, load};
-use elf_lines::header_row;
+use elf_lines::{Columns, Object, header_row};
 use elf_model::Format;
 use elf_names::ReadAhead;
 use elf_record::{Ehdr, Parts};
@@ -126,7 +126,11 @@ fn list_header<W: Sink>(
     if !parts.contains(Parts::HEADER) {
         return Ok(());
     }
-    out.put(&header_row(header, format))?;
+    let line = match format {
+        Format::Columns => header_row::<Columns>(header),
+        Format::Object => header_row::<Object>(header),
+    };
+    out.put(&line)?;
     Ok(())
 }
 

@@ -8,7 +8,8 @@ ghost use Rattle.elf_listing.specs.declared.parts.Part.TheVariants.{Definitions,
 
 use crate::listing::Listing;
 use elf_headers::Stop;
-use elf_lines::version_front;
+use elf_lines::{Columns, LineFront, Object, Render, version_front};
+use elf_model::Format;
 use elf_names::NameIndex;
 use elf_record::VersionKind;
 use elf_record::gnu_numbers::{SHT_GNU_VERDEF, SHT_GNU_VERNEED};
@@ -83,21 +84,38 @@ impl<S: Source, W: Sink> Listing<'_, '_, '_, S, W> {
         requires { StringsWithin self.old.src.now.seen.size names }
         ensures { ListsRecord self.old self.new result given.now section names }
     {
-        let format = self.style.format;
+        match self.style.format {
+            Format::Columns => self.version_line::<Columns>(given, section, names),
+            Format::Object => self.version_line::<Object>(given, section, names),
+        }
+    }
+
+    /// Shows it in the rendering of the style.
+    fn version_line<R: Render>(
+        &mut self,
+        given: &VersionRecord,
+        section: u16,
+        names: Names,
+    ) -> Result<(), Stop>
+        requires format { R.FORMAT ≡ self.old.style.format }
+        requires within { StringsWithin self.old.src.now.seen.size names }
+        ensures { ListsRecord self.old self.new result given.now section names }
+    {
         let end = self.read_name(NameIndex {
             names,
             off: u64::from(given.name),
             at: given.named_at,
         })?;
-        let front = version_front(
+        let mut front = LineFront::new();
+        version_front::<R>(
+            &mut front,
             section,
             given.kind,
             given.number,
             given.flags,
             given.hash,
-            format,
         );
-        self.named_line(front, end)
+        self.named_line(&mut front, end)
     }
 }
 

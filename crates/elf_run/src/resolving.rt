@@ -20,7 +20,7 @@ ghost use Rattle.elf_run.specs.Requests.{RunsResolve};
 ghost use Rattle.elf_wanted.specs.Wants.{asked_of};
 
 use elf_headers::{HeaderStore, Limits, Stop};
-use elf_lines::{NumberNaming, show_named, symbol_front, symbol_version_front};
+use elf_lines::{LineFront, NumberNaming, show_named, symbol_front_in, symbol_version_front_in};
 use elf_listing::{show_steps, show_stop};
 use elf_loader::{FoundSymbol, FoundVersion, SymbolLookup, VersionName, look_up};
 use elf_model::Format;
@@ -130,10 +130,17 @@ fn show_found<W: Sink>(
     let naming = NumberNaming {
         gnu: true,
         machine: found.machine,
-        format,
     };
-    let front = symbol_front(found.section, found.index, &found.symbol, naming);
-    show_named(front, wanted.name, false, out)?;
+    let mut front = LineFront::new();
+    symbol_front_in(
+        format,
+        &mut front,
+        found.section,
+        found.index,
+        &found.symbol,
+        naming,
+    );
+    show_named(&mut front, wanted.name, false, out)?;
     let Some(version) = &found.version else {
         return Ok(());
     };
@@ -155,9 +162,10 @@ fn show_version<W: Sink>(
     ensures puts { let version = version_found (asked_of asked.now) name.now version.now in
         Puts out.old out.new result (found_version_line format index (Some version)) }
 {
-    let front = symbol_version_front(version.index, index, version.word, format);
+    let mut front = LineFront::new();
+    symbol_version_front_in(format, &mut front, version.index, index, version.word);
     let (bytes, is_cut) = version_name(version.name, asked, name);
-    show_named(front, bytes, is_cut, out)
+    show_named(&mut front, bytes, is_cut, out)
 }
 
 /// The name of a version, and whether it is cut.

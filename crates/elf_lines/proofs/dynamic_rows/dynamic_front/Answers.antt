@@ -7,14 +7,16 @@ use Rattle.elf_lines.proofs.dynamic_rows.dynamic_front.Goals as goal
 
 pub returns-clause-front : goal.returns-clause-front
 unfolding dynamic_front
-returns-clause-front c = λ file at is.
-    let bits : c.cast_unsigned-number.result ≡ d_tag file at = tag_bits c.args.entry.now.d_tag _ _ is.d_tag_bits is.d_tag_low c.cast_unsigned-number.ensures in
+returns-clause-front g c = λ file at is.
+    let bits : c.cast_unsigned-tag.result ≡ d_tag file at = tag_bits c.args.entry.now.d_tag _ _ is.d_tag_bits is.d_tag_low c.cast_unsigned-tag.ensures in
     rw (
-      c.put_xword.ensures.items,
+      c.put_hexadecimal.ensures.items,
       c.put_name_or_hex.ensures.items,
       c.put_decimal.ensures.items,
-      c.begin-line.ensures.items,
-      c.tag_name-name.ensures.name,
+      c.begin_named.ensures.items,
+      c.begin_named.ensures.format,
+      c.begin_named.ensures.key,
+      c.tag_name.ensures.name,
       bits,
       is.d_un,
     )

@@ -3,5 +3,5 @@ use Rattle.std.proofs.Common.{arith}
 use Rattle.elf_lines.proofs.fields.put_name_or_hex.Goals as goal
 
 pub returns-in-Object-clause-len : goal.returns-in-Object-clause-len
-returns-in-Object-clause-len c =
-    let most = c.put_name_or_number.ensures.len c.args.width c.requires.short in omega (arith, c.put_key.ensures.len)
+returns-in-Object-clause-len g c =
+    let most = c.put_name_or_number.ensures.len c.args.width c.requires.short in omega arith

@@ -9,14 +9,14 @@ use Rattle.elf_lines.proofs.named.show_named.Goals as goal
 pub returns-in_err-begin_name : goal.returns-in_err-begin_name
 returns-in_err-begin_name g c =
     let p = err_from_is_err_and c.from_residual.result c.from_residual.ensures.1 in rw (p.1, p.2) (
-    let front = c.args.front in
+    let front = c.args.front.now in
     let stopped = c.in_err-begin_name.ensures.puts in
     let same = named-pieces front.format front.key.now front.line.items c.args.name.now c.args.is_cut in
     record { puts = rw same (TakesFront-more _ _ (TakesFront-more _ _ stopped.0), stopped.1) })
 
 pub returns : goal.returns
 returns g c =
-    let front = c.args.front in
+    let front = c.args.front.now in
     let tail = name_tail front.format c.args.is_cut in
     let same = named-pieces front.format front.key.now front.line.items c.args.name.now c.args.is_cut in
     let before = TakesBefore-more tail (TakesBefore-more (spelt front.format c.args.name.now) c.in_ok-begin_name.ensures.puts) in

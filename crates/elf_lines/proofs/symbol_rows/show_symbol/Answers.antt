@@ -17,12 +17,11 @@ any-machine format machine other file at section index = refl
 
 pub returns-clause-puts : goal.returns-clause-puts
 returns-clause-puts g c = λ file at is.
-    let built = c.symbol_front-front.ensures.front file at is in
-    let named = c.standard-naming.ensures in
+    let built = c.symbol_front_in.ensures.front file at is in
+    let named = c.standard.ensures in
     let same = built
-    ∙ ap (λ format. symbol_front format c.standard-naming.result.gnu c.standard-naming.result.machine file at c.args.section c.args.index) named.format
-    ∙ ap (λ gnu. symbol_front c.args.format gnu c.standard-naming.result.machine file at c.args.section c.args.index) named.gnu
-    ∙ any-machine c.args.format c.standard-naming.result.machine (e_machine file) file at c.args.section c.args.index in
+    ∙ ap (λ gnu. symbol_front c.args.format gnu c.standard.result.machine file at c.args.section c.args.index) named.gnu
+    ∙ any-machine c.args.format c.standard.result.machine (e_machine file) file at c.args.section c.args.index in
     subst (λ front. Puts c.args.out.now c.show_named.new.out c.show_named.result (named_line front (Whole c.args.name.now))) same c.show_named.ensures.puts
 
 pub returns-clause-grows : goal.returns-clause-grows

@@ -12,5 +12,5 @@ pub returns : goal.returns
 returns g c =
     let line = version_line c.args.format c.args.index (version_found (asked_of c.args.asked.now) c.args.name.now c.args.version.now) in
     let shown = shown_as c.version_name-is_cut.result.1 c.version_name-is_cut.result.0.now in
-    let told = subst (λ f. Puts c.args.out.now c.show_named.new.out c.show_named.result (named_line f shown)) c.symbol_version_front-front.ensures.front c.show_named.ensures.puts in
+    let told = subst (λ f. Puts c.args.out.now c.show_named.new.out c.show_named.result (named_line f shown)) c.symbol_version_front_in.ensures.front c.show_named.ensures.puts in
     record { puts = rw line (rw c.version_name-is_cut.ensures at told) }

@@ -25,7 +25,7 @@ returns g c = Lists-named _ _ _ _ _ _ _ _ (omega arith) c.in_ok-end.ensures.fetc
     let decoded = c.decode-entry.ensures.stands file c.args.row.now.at (c.whole_row.ensures ∙ row.bytes) in
     let here : c.args.row.now.at ≡ dynamic_at at c.args.row.now.index = omega (arith, row.here) in
     let read = told_shown c.args.row.now.at _ _ (string_told (strings_told c.args.strings.now file) file c.args.self.now.style.cap.bytes c.args.row.now.at) (c.in_ok-end.ensures.read file held of_kind decoded) in
-    let front = c.dynamic_front.ensures.front file c.args.row.now.at decoded in
+    let front = rw c.requires.format at (c.dynamic_front.ensures.front file c.args.row.now.at decoded) in
     rw (← c.in_ok-end.ensures.fetches.1)
-    (Writes-as _ _ _ (entry_is file _ (style_of c.args.self.now.style) c.args.row.now.at c.args.row.now.index (dynamic_at at c.args.row.now.index) (strings_told c.args.strings.now file) front here ∙ ap (told_row (front_of c.dynamic_front.result) c.args.row.now.at) read.1)
+    (Writes-as _ _ _ (entry_is file _ (style_of c.args.self.now.style) c.args.row.now.at c.args.row.now.index (dynamic_at at c.args.row.now.index) (strings_told c.args.strings.now file) front here ∙ ap (told_row (front_of c.dynamic_front.new.front) c.args.row.now.at) read.1)
     (c.named_line.ensures.shows _ _ read.2)))

@@ -21,7 +21,7 @@ returns g c = Lists-named _ _ _ _ _ _ _ _ (omega arith) c.in_ok-end.ensures.fetc
     let decoded = c.decode-entry.ensures.stands file c.args.row.now.at (c.whole_row.ensures ∙ row.bytes) in
     let here : c.args.row.now.at ≡ sh_offset file (section_at file c.args.section) + c.args.row.now.index * 24 = omega (arith, of_kind.1, row.here) in
     let symbol = c.symbol-symbol.ensures ∙ ap (λ n. n / 2 ^ 32) decoded.r_info in
-    let front = rw (c.naming-naming.ensures.format, c.naming-naming.ensures.gnu, c.naming-naming.ensures.machine file held) at (c.relocation_front.ensures.front file c.args.row.now.at decoded) in
+    let front = rw (c.requires.format, c.naming-naming.ensures.gnu, c.naming-naming.ensures.machine file held) at (c.relocation_front.ensures.front file c.args.row.now.at decoded) in
     rw (← c.in_ok-end.ensures.fetches.1)
     (Writes-as _ _ _ (relocation_is file _ (style_of c.args.self.now.style) c.args.section (section_at file c.args.section) c.args.row.now.at _ c.args.row.now.index here front symbol)
     (c.named_line.ensures.shows _ _ (c.in_ok-end.ensures.read file (section_at file c.args.section) held of_kind.0))))

@@ -18,7 +18,7 @@ pub returns : goal.returns
 returns g c = Lists-named _ _ _ _ _ _ _ _ (omega arith) c.in_ok-end.ensures.fetches c.named_line.ensures (λ file held at of_kind row.
     let decoded = c.decode-symbol.ensures.stands file c.args.row.now.at (c.whole_row.ensures ∙ row.bytes) in
     let here : c.args.row.now.at ≡ sh_offset file (section_at file c.args.section) + c.args.row.now.index * 24 = omega (arith, of_kind.1, row.here) in
-    let front = rw (c.naming-naming.ensures.format, c.naming-naming.ensures.gnu, c.naming-naming.ensures.machine file held) at (c.symbol_front.ensures.front file c.args.row.now.at decoded) in
+    let front = rw (c.requires.format, c.naming-naming.ensures.gnu, c.naming-naming.ensures.machine file held) at (c.symbol_front.ensures.front file c.args.row.now.at decoded) in
     rw (← c.in_ok-end.ensures.fetches.1)
     (Writes-as _ _ _ (symbol_is file (style_of c.args.self.now.style) _ _ _ _ _ _ front of_kind.0 (c.from-off.ensures ∙ decoded.st_name) here)
     (c.named_line.ensures.shows _ _ (c.in_ok-end.ensures.read file held))))

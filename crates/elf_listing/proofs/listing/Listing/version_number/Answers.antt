@@ -18,5 +18,5 @@ pub returns : goal.returns
 returns g c = Lists-named _ _ _ _ _ _ _ _ (omega arith) c.in_ok-end.ensures.fetches c.named_line.ensures (λ file held at of_kind row.
     let word = word_is file _ c.args.row.now.at _ row.bytes c.u16_at-word.ensures in
     rw (sym row.here, ← c.in_ok-end.ensures.fetches.1)
-    (Writes-as _ _ _ (told_is file (style_of c.args.self.now.style) c.args.numbered.now c.args.section c.args.row.now.at c.args.row.now.index _ _ word c.symbol_version_front.ensures.front)
+    (Writes-as _ _ _ (told_is file (style_of c.args.self.now.style) c.args.numbered.now c.args.section c.args.row.now.at c.args.row.now.index _ _ word (rw c.requires.format at c.symbol_version_front.ensures.front))
     (c.named_line.ensures.shows _ _ (c.in_ok-end.ensures.read file held))))

@@ -11,7 +11,7 @@ use Rattle.elf_listing.specs.Kinds.{own_cost, row_items, rows_cost}
 use Rattle.elf_listing.specs.RowCursors.{reading, rows_listed}
 use Rattle.elf_listing.proofs.LoopLaws.{rows_none, rows_unread, account_begins, account_step, account_row, agrees_none, at_most, spent_unread, step_ends, step_gives, step_last, step_more, step_stopped, turn, turn_more, turn_stopped, with_credit}
 use Rattle.elf_source.proofs.GrowthLaws.{grows_not, grows_then}
-use Rattle.elf_listing.proofs.listing.Listing.rows.Goals as goal
+use Rattle.elf_listing.proofs.listing.Listing.rows_in.Goals as goal
 
 pub rows-init : goal.rows-init
 rows-init g c =
@@ -22,7 +22,7 @@ rows-init g c =
       counted = omega (arith, n.index, n.left);
       keeps = record { same_src = refl; same_out = refl; same_file = refl; same_style = refl };
       spends = Spends-none _ _ _ _ (omega arith);
-      asked = omega (arith, account_begins (reading c.new-cursor.result) c.args.table c.args.kind.now c.args.self.now.style.cap.bytes c.requires.entry n.failed n.unread n.left);
+      asked = omega (arith, account_begins (reading c.new-cursor.result) c.args.table c.args.kind.now c.args.self.now.style.cap.bytes c.requires.table.entry n.failed n.unread n.left);
       agrees = λ file held. agrees_none file (reading c.new-cursor.result) n.held;
       listed = λ file held. omega (arith, n.index, n.rows file);
       grows = grows_not _;
@@ -77,7 +77,7 @@ returns-in_err-row g c =
       shows = λ file held of_kind.
           let now = known.spends.reads.keeps.same_file ∙ held in
           let style = c.args.self.now.style in
-          let this = turn file style kind c.args.table old new c.row.result _ _ step c.row.ensures now (known.agrees file held) known.same_table c.requires.entry known.counted (known.listed file held) of_kind (known.text file held of_kind) in
+          let this = turn file style kind c.args.table old new c.row.result _ _ step c.row.ensures now (known.agrees file held) known.same_table c.requires.table.entry known.counted (known.listed file held) of_kind (known.text file held of_kind) in
           rw (p.1, p.2)
           (turn_stopped file style c.rows.self.style kind c.args.table old new c.row.result _ _ _ _ known.keeps.same_style this (row.shows file (a.reads.keeps.same_file ∙ now) c.args.table.at));
     }
@@ -121,7 +121,7 @@ rows-preserved g c =
       text = λ file held of_kind.
           let now = known.spends.reads.keeps.same_file ∙ held in
           let style = c.args.self.now.style in
-          let this = turn file style kind c.args.table old new c.row.result _ _ step c.row.ensures now (known.agrees file held) known.same_table c.requires.entry known.counted (known.listed file held) of_kind (known.text file held of_kind) in
+          let this = turn file style kind c.args.table old new c.row.result _ _ step c.row.ensures now (known.agrees file held) known.same_table c.requires.table.entry known.counted (known.listed file held) of_kind (known.text file held of_kind) in
           turn_more file style c.rows.self.style kind c.args.table old new c.row.result _ _ _ known.keeps.same_style this (row.shows file (a.reads.keeps.same_file ∙ now) c.args.table.at);
     }
 
@@ -147,23 +147,26 @@ invariant_of-self g c = record {
 }
 
 pub advance-requires : goal.advance-requires
-advance-requires g c = let known = c.rows.invariant in rw (known.same_table, known.spends.reads.keeps.same_size) c.requires.rows
+advance-requires g c = let known = c.rows.invariant in rw (known.same_table, known.spends.reads.keeps.same_size) c.requires.table.rows
 
 pub row-requires : goal.row-requires
 row-requires g c =
     let step = step_gives {old = c.rows.cursor} {new = c.advance.new.self} _ c.if-branch.true c.in_ok-advance.ensures.steps in
     let next = step.gives.next_index in omega (arith, next)
 
-pub row-requires-in-rows : goal.row-requires-in-rows
-row-requires-in-rows g c =
+pub row-requires-in-rows-clause-format : goal.row-requires-in-rows-clause-format
+row-requires-in-rows-clause-format g c = rw c.rows.invariant.keeps.same_style c.requires.format
+
+pub row-requires-in-rows-clause-row : goal.row-requires-in-rows-clause-row
+row-requires-in-rows-clause-row g c =
     let known = c.rows.invariant in
     let a = c.in_ok-advance.ensures in
     let gives = (step_gives {old = c.rows.cursor} {new = c.advance.new.self} _ c.if-branch.true a.steps).gives in
     let lends = c.row.ensures in
     record {
-      whole = ap length lends.its_bytes ∙ (gives.whole ∙ (ap (λ t. t.entry) known.same_table ∙ c.requires.entry));
-      within = rw (a.reads.keeps.same_size, known.spends.reads.keeps.same_size) c.requires.names;
-      fits = c.requires.fits _ (omega (arith, lends.its_index, gives.next_index, gives.one_less, known.counted));
+      whole = ap length lends.its_bytes ∙ (gives.whole ∙ (ap (λ t. t.entry) known.same_table ∙ c.requires.table.entry));
+      within = rw (a.reads.keeps.same_size, known.spends.reads.keeps.same_size) c.requires.table.names;
+      fits = c.requires.table.fits _ (omega (arith, lends.its_index, gives.next_index, gives.one_less, known.counted));
     }
 
 pub rows-smaller : goal.rows-smaller

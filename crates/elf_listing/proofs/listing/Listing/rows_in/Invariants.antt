@@ -8,7 +8,7 @@ use Rattle.elf_source.specs.Growth.{Grows}
 use Rattle.elf_listing.specs.Kinds.{own_cost, row_items, rows_cost, KindOf}
 use Rattle.elf_listing.specs.RowCursors.{reading, rows_to_give, rows_listed}
 use Rattle.elf_listing.specs.Shows.{SameFile, WroteItems}
-use Rattle.elf_listing.proofs.listing.Listing.rows.Given as goal
+use Rattle.elf_listing.proofs.listing.Listing.rows_in.Given as goal
 
 abbrev pub invariant-rows : goal.invariant-rows
 invariant-rows g l =

@@ -7,7 +7,7 @@ use Rattle.elf_lines.specs.Pieces.{shown_as}
 use Rattle.elf_listing.proofs.NotesShown.{named_as, note_is}
 use Rattle.elf_listing.proofs.RowLaws.{Whole-line, Stopped-line}
 use Rattle.elf_names.proofs.SpendsLaws.{Spends-none}
-use Rattle.elf_listing.proofs.listing.Listing.note_row.Goals as goal
+use Rattle.elf_listing.proofs.listing.Listing.note_line.Goals as goal
 
 pub returns-in_err-show_note : goal.returns-in_err-show_note
 returns-in_err-show_note g c = record {
@@ -18,7 +18,7 @@ returns-in_err-show_note g c = record {
       rw (p.1, p.2) (Spends-none _ _ _ _ (omega arith), c.in_err-show_note.ensures.fails);
   shows = λ note is.
       let p = err_from_is_err_and c.from_residual.result c.from_residual.ensures.1 in
-      let front = c.note_front-front.ensures.front in
+      let front = rw c.requires.format at c.note_front.ensures.front in
       let shown = named_as _ _ _ is.named ∙ ap (λ b. shown_as b c.args.self.now.name) (sym c.is_cut-is_cut.ensures)
       ∙ ap (shown_as c.is_cut-is_cut.result) (sym c.bytes-name.ensures.value) in
       let puts = c.in_err-show_note.ensures.puts note.descriptor (record { first_is = is.first_bytes; size_is = is.descsz }) in
@@ -33,7 +33,7 @@ returns g c = record {
   keeps = record { same_src = refl; same_out = refl; same_file = refl; same_style = refl };
   spent = (Spends-none _ _ _ _ (omega arith), tt);
   shows = λ note is.
-      let front = c.note_front-front.ensures.front in
+      let front = rw c.requires.format at c.note_front.ensures.front in
       let shown = named_as _ _ _ is.named ∙ ap (λ b. shown_as b c.args.self.now.name) (sym c.is_cut-is_cut.ensures)
       ∙ ap (shown_as c.is_cut-is_cut.result) (sym c.bytes-name.ensures.value) in
       let puts = c.in_ok-show_note.ensures.puts note.descriptor (record { first_is = is.first_bytes; size_is = is.descsz }) in

@@ -6,7 +6,7 @@ use Rattle.elf_listing.proofs.RowLaws.{Writes-as, Stopped-name}
 use Rattle.elf_listing.proofs.SectionCosts.{name_within}
 use Rattle.elf_listing.proofs.SectionShown.{section_is}
 use Rattle.elf_listing.proofs.ListsLaws.{Lists-named, Lists-unread}
-use Rattle.elf_listing.proofs.listing.Listing.section_row.Goals as goal
+use Rattle.elf_listing.proofs.listing.Listing.section_line.Goals as goal
 
 pub returns-in_err-end : goal.returns-in_err-end
 returns-in_err-end g c =
@@ -14,7 +14,7 @@ returns-in_err-end g c =
     rw (p.1, p.2) (Lists-unread _ _ _ _ _ _ (omega (arith, name_within c.names-names.result c.args.self.now.file.loaded.header.e_shstrndx c.args.self.now.style.cap.bytes c.names-names.ensures.unnamed)) c.in_err-end.ensures.fetches (λ file held.
     let belongs = c.args.self.now.loaded.belongs file held in
     let stands = c.section-header.ensures.stands file belongs in
-    let some : 0 < e_shnum file = omega (arith, c.requires, belongs.count, belongs.header.e_shnum) in
+    let some : 0 < e_shnum file = omega (arith, c.requires.below, belongs.count, belongs.header.e_shnum) in
     let place : c.place-place.result ≡ section_at file c.args.section = omega (arith, c.place-place.ensures.value, belongs.header.e_shoff) in
     rw (section_is file _ _ _ _ c.args.section (style_of c.args.self.now.style) (c.names-names.ensures.held file belongs) some place stands.sh_name refl, c.in_err-end.ensures.fetches.1)
     (Stopped-name _ _ _ _ [] _ (c.in_err-end.ensures.read file held))))
@@ -23,8 +23,8 @@ pub returns : goal.returns
 returns g c = Lists-named _ _ _ _ _ _ _ _ (omega (arith, name_within c.names-names.result c.args.self.now.file.loaded.header.e_shstrndx c.args.self.now.style.cap.bytes c.names-names.ensures.unnamed)) c.in_ok-end.ensures.fetches c.named_line.ensures (λ file held.
     let belongs = c.args.self.now.loaded.belongs file held in
     let stands = c.section-header.ensures.stands file belongs in
-    let front = rw (c.naming-naming.ensures.format, c.naming-naming.ensures.gnu, c.naming-naming.ensures.machine file held) at (c.section_front.ensures.front file (section_at file c.args.section) stands) in
-    let some : 0 < e_shnum file = omega (arith, c.requires, belongs.count, belongs.header.e_shnum) in
+    let front = rw (c.requires.format, c.naming-naming.ensures.gnu, c.naming-naming.ensures.machine file held) at (c.section_front.ensures.front file (section_at file c.args.section) stands) in
+    let some : 0 < e_shnum file = omega (arith, c.requires.below, belongs.count, belongs.header.e_shnum) in
     let place : c.place-place.result ≡ section_at file c.args.section = omega (arith, c.place-place.ensures.value, belongs.header.e_shoff) in
     rw (← c.in_ok-end.ensures.fetches.1)
     (Writes-as _ _ _ (section_is file _ _ _ _ c.args.section (style_of c.args.self.now.style) (c.names-names.ensures.held file belongs) some place stands.sh_name front)

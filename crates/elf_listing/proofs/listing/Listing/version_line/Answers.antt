@@ -4,7 +4,7 @@ use Rattle.elf_headers.specs.Permitted.{style_of}
 use Rattle.elf_listing.proofs.ListsLaws.{Lists-named, Lists-unread}
 use Rattle.elf_listing.proofs.RowLaws.{Stopped-name, Writes-as}
 use Rattle.elf_listing.proofs.VersionsShown.{record_is}
-use Rattle.elf_listing.proofs.listing.Listing.version_row.Goals as goal
+use Rattle.elf_listing.proofs.listing.Listing.version_line.Goals as goal
 
 pub returns-in_err-end : goal.returns-in_err-end
 returns-in_err-end g c =
@@ -17,6 +17,6 @@ returns-in_err-end g c =
 pub returns : goal.returns
 returns g c = Lists-named _ _ _ _ _ _ _ _ (omega arith) c.in_ok-end.ensures.fetches c.named_line.ensures (λ file met held is.
     let off = c.from.ensures in
-    let front = c.version_front-front.ensures.front in
+    let front = rw c.requires.format at c.version_front.ensures.front in
     rw (record_is file (style_of c.args.self.now.style) c.args.section _ met c.args.given.now is, ← off, ← front, ← c.in_ok-end.ensures.fetches.1)
     (c.named_line.ensures.shows _ _ (c.in_ok-end.ensures.read file held)))

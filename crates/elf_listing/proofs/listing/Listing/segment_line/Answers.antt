@@ -7,7 +7,7 @@ use Rattle.elf_listing.proofs.RowLaws.{Whole-line, Stopped-line}
 use Rattle.elf_listing.proofs.SegmentShown.{segment_line_is, views}
 use Rattle.elf_names.proofs.SpendsLaws.{Spends-none}
 use Rattle.elf_source.proofs.GrowthLaws.{grows_front}
-use Rattle.elf_listing.proofs.listing.Listing.segment_header.Goals as goal
+use Rattle.elf_listing.proofs.listing.Listing.segment_line.Goals as goal
 
 pub returns-in_err-put : goal.returns-in_err-put
 returns-in_err-put g c = record {
@@ -18,9 +18,9 @@ returns-in_err-put g c = record {
       rw (p.1, p.2) (Spends-none _ _ _ _ (omega arith), c.in_err-put.ensures.puts.1);
   shows = λ file held.
       let p = err_from_is_err_and c.from_residual.result c.from_residual.ensures.1 in
-      let viewed = views file _ _ _ (c.args.self.now.loaded.belongs file held) c.args.self.now.viewed held (omega (arith, c.requires)) in
+      let viewed = views file _ _ _ (c.args.self.now.loaded.belongs file held) c.args.self.now.viewed held (omega (arith, c.requires.below)) in
       let stands = c.segment-header.ensures.stands file (rw (c.view.ensures.loaded, c.view.ensures.store) viewed) in
-      let line = c.deref.ensures.0 ∙ c.segment_row.ensures file (segment_at file c.args.segment) stands in
+      let line = c.deref.ensures.0 ∙ (rw c.requires.format at (c.segment_row.ensures file (segment_at file c.args.segment) stands)) in
       rw (p.1, p.2, segment_line_is file _ (style_of c.args.self.now.style) c.args.segment line) (Stopped-line _ c.in_err-put.ensures.puts.0);
 }
 
@@ -30,8 +30,8 @@ returns g c = record {
   keeps = record { same_src = refl; same_out = refl; same_file = refl; same_style = refl };
   spent = (Spends-none _ _ _ _ (omega arith), tt);
   shows = λ file held.
-      let viewed = views file _ _ _ (c.args.self.now.loaded.belongs file held) c.args.self.now.viewed held (omega (arith, c.requires)) in
+      let viewed = views file _ _ _ (c.args.self.now.loaded.belongs file held) c.args.self.now.viewed held (omega (arith, c.requires.below)) in
       let stands = c.segment-header.ensures.stands file (rw (c.view.ensures.loaded, c.view.ensures.store) viewed) in
-      let line = c.deref.ensures.0 ∙ c.segment_row.ensures file (segment_at file c.args.segment) stands in
+      let line = c.deref.ensures.0 ∙ (rw c.requires.format at (c.segment_row.ensures file (segment_at file c.args.segment) stands)) in
       rw (segment_line_is file _ (style_of c.args.self.now.style) c.args.segment line) (Whole-line _ c.in_ok-put.ensures.puts.0);
 }
