@@ -1,4 +1,5 @@
 pub mod ChecksLaws
+pub mod ExtentLaws
 pub mod FindLaws
 pub mod GnuSteps
 pub mod LookupLaws

@@ -1,4 +1,5 @@
 pub mod Counts
+pub mod Extents
 pub mod Kinds
 pub mod Lookups
 pub mod Scopes

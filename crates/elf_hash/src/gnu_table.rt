@@ -2,6 +2,7 @@
 ghost use Rattle.std.specs.Prelude.{◌≡◌, ◌+◌, ◌-◌, ◌*◌, ◌/◌, ◌%◌, ◌<◌, ◌≤◌, ◌&&◌, nat_lt, not, IsTrue};
 
 use crate::place::HashPlace;
+use elf_table::Table;
 
 /// A hash table of the GNU system whose filter and buckets lie within its bytes: four counts of four
 /// bytes each, the filter's words, eight bytes each, then a word for each bucket and a chain word for
@@ -37,6 +38,19 @@ impl GnuTable {
     {
         let bucket = hash % self.nbucket;
         self.place.at + (16 + 8 * u64::from(self.nbloom) + 4 * u64::from(bucket))
+    }
+
+    /// The words of the buckets, rows of four bytes.
+    pub(crate) fn buckets(&self) -> Table
+        ensures value { result ≡ record {
+          at = self.now.place.at + (16 + 8 * self.now.nbloom);
+          count = self.now.nbucket;
+          entry = 4;
+        } }
+        ensures inside { result.at + result.count * 4 ≤ self.now.place.at + self.now.place.size }
+    {
+        let at = self.place.at + (16 + 8 * u64::from(self.nbloom));
+        Table::new(at, u64::from(self.nbucket), 4)
     }
 
     /// How many bytes stand before the chain words.

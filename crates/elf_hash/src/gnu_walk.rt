@@ -135,7 +135,7 @@ fn is_of_hash(word: u32, hash: u32) -> bool
 }
 
 /// Whether a chain word says that its symbol is the last of the chain.
-fn ends_chain(word: u32) -> bool
+pub(crate) fn ends_chain(word: u32) -> bool
     ensures { result ≡ ends_chain word }
 {
     word % 2 == 1

@@ -11,7 +11,7 @@ use elf_source::{Counted, Source};
 ///
 /// # Errors
 /// A fault of the read, or a refusal for want of budget, at the offset.
-pub(crate) fn read_word<S: Source>(src: &mut Counted<S>, at: u64) -> Result<u32, Fault>
+pub fn read_word<S: Source>(src: &mut Counted<S>, at: u64) -> Result<u32, Fault>
     requires { at + 4 ≤ src.old.seen.size }
     ensures { Did src.old src.new (why_stopped result) 4 (λ file. IsRead result (field file at 4)) }
 {

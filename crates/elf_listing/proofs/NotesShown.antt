@@ -85,8 +85,8 @@ before_none style index all left none before =
     rw (before.split ∙ ap (λ (x : List ListingItem). before.done ++ x) (ap (note_items style index) none ∙ none_left style index) ∙ append-nil before.done) before.whole
 
 -- a note as a row of a cursor shows it
-pub note_of : (align cap at : ℕ) (note : Note) (c : NoteReading) (row : NoteRow) (name : List ℕ) → ShowsNote c row → IsNoteFound align cap at note c.found name c.descriptor → IsNoteRow cap note row name
-note_of align cap at note c row name lends found = record {
+pub note_of : (file : List ℕ) (align cap at : ℕ) (note : Note) (c : NoteReading) (row : NoteRow) (name : List ℕ) → ShowsNote c row → IsNoteFound file align cap at note c.found name c.descriptor → IsNoteRow cap note row name
+note_of file align cap at note c row name lends found = record {
   named = rw lends.its_end found.shown_name;
   kind = ap (λ (x : NoteHead). x.kind) lends.its_head ∙ found.kind;
   namesz = ap (λ (x : NoteHead). x.namesz) lends.its_head ∙ found.namesz;
@@ -110,7 +110,7 @@ note_given file align style now old new name row answer is same shape steps lend
       agrees = step.agrees;
       gives = λ bytes held agrees.
           let tells = rw (same, shape) at (step.tells bytes held agrees) in
-          (tells.0, tells.1, note_of align style.cap.bytes old.ahead.at tells.0 new row name lends tells.2);
+          (tells.0, tells.1, note_of bytes align style.cap.bytes old.ahead.at tells.0 new row name lends tells.2);
     }
 
 -- the note that was next was shown, and then what is left behind it

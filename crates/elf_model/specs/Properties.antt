@@ -1,9 +1,10 @@
 -- Properties of a program (Linux Extensions to gABI, Program Property; x86-64 psABI, Program Property): the descriptor of a note
 -- of the GNU system is a list of them, each with a type, the size of its data, and the data, which is padded to 8 bytes.
-use Rattle.std.specs.Prelude.{ℕ, zero, suc, ◌+◌, ◌==◌, ◌&&◌, min, nat_lt, Bool, true, false, if◌then◌else◌, List, [], ◌∷◌, length, drop, Option, None, Some, Result, Ok, Err}
+use Rattle.std.specs.Prelude.{ℕ, zero, suc, ◌+◌, ◌==◌, ◌&&◌, min, nat_eq, nat_lt, Bool, true, false, if◌then◌else◌, List, [], ◌∷◌, length, drop, codes, Option, None, Some, Result, Ok, Err}
+use Rattle.std.specs.List.{starts_with}
 use Rattle.elf_model.specs.Bytes.{field, number, slice}
 use Rattle.elf_model.specs.Checks.{first_refusal, range_checks_of, unless_empty}
-use Rattle.elf_model.specs.Notes.{Note, NoteRow, note_align, note_rows, to_next, walked}
+use Rattle.elf_model.specs.Notes.{Note, NoteRow, before_nul, note_align, note_rows, to_next, walked}
 use Rattle.elf_model.specs.Numbers.{PT_NOTE}
 use Rattle.elf_model.specs.Records.{e_phnum, p_type, p_offset, p_filesz, p_align, segment_at}
 use Rattle.elf_model.specs.declared.causes.Cause.TheVariants.{NoteCut}
@@ -88,10 +89,15 @@ properties_from (suc most) offset rest =
 unfoldable pub properties_in : List ℕ → PropertyWalk
 properties_in descriptor = properties_from (suc (length descriptor)) 0 descriptor
 
--- a note of the GNU system that lists properties: its type, and its name, which is `GNU` and a NUL
+-- a name is `GNU` with its NUL: it has four bytes, and those before the first NUL are these
+abbrev pub is_gnu_name : List ℕ → Bool
+is_gnu_name name =
+    length name == 4 && (length (before_nul name) == 3 && starts_with nat_eq (before_nul name) (codes "GNU"))
+
+-- a note of the GNU system that lists properties: its type, and its name
 abbrev pub lists_properties : Note → Bool
 lists_properties note =
-    note.kind == NT_GNU_PROPERTY_TYPE_0 && (length note.name == 4 && number note.name == 0x554e47)
+    note.kind == NT_GNU_PROPERTY_TYPE_0 && is_gnu_name note.name
 
 -- the first such of some notes
 unfoldable pub first_listing : List NoteRow → Option NoteRow

@@ -96,7 +96,7 @@ pub found-tells : (file : List ℕ) (a cap : ℕ) (old new : Ahead) (head : Note
     → new.at ≡ old.at + note_size a head.namesz head.descsz (bytes_left old)
     → ((note : Note) → note.name ≡ slice file (old.at + 12) head.namesz → length note.name ≡ head.namesz → NameIs name_end name (note_shown cap note))
     → desc_at ≡ old.at + descriptor_start a head.namesz head.descsz → shown ≡ min head.descsz 32 → take shown desc ≡ slice file desc_at shown
-    → TellsNote a cap old.at name desc (notes_left a file old) (notes_left a file new) (Ok (Some (record { at = place; head = head; name_end = name_end; desc_at = desc_at; shown = shown })))
+    → TellsNote file a cap old.at name desc (notes_left a file old) (notes_left a file new) (Ok (Some (record { at = place; head = head; name_end = name_end; desc_at = desc_at; shown = shown })))
 found-tells file a cap old new head name_end name desc place desc_at shown here s ends h fits same moved named da sh db =
     let bytes : List ℕ = rest file old in
     let long : length bytes ≡ bytes_left old = slice-size file old.at (bytes_left old) (omega arith) in
@@ -118,6 +118,7 @@ found-tells file a cap old new head name_end name desc place desc_at shown here 
         shown_name = named (first_note a bytes) n1 nl;
         descriptor_at = rw (nl, dl) da;
         first_bytes = db ∙ ap (λ (x : ℕ). slice file x shown) da ∙ sym (first-bytes file (old.at + start) head.descsz shown sh) ∙ ap (take 32) (sym d1);
+        whole = d1 ∙ ap (λ (x : ℕ). slice file x head.descsz) (sym da) ∙ ap (slice file desc_at) (sym dl);
       },
     )
 
@@ -136,3 +137,9 @@ moved-by a at namesz descsz left behind place start moved p s fits b m =
   where
     sum : (x y z w : ℕ) → x + y + z + w ≡ x + (y + z + w)
     sum x y z w = omega arith
+
+-- what is left of a window once it moved over a note
+pub taken-size : (a : ℕ) (head : NoteHead) (old new : Ahead) → range_end new ≡ range_end old
+    → new.at ≡ old.at + note_size a head.namesz head.descsz (bytes_left old)
+    → bytes_left new + note_size a head.namesz head.descsz (bytes_left old) ≡ bytes_left old
+taken-size a head old new same moved = let size : ℕ = note_size a head.namesz head.descsz (bytes_left old) in omega (arith, same, moved)

@@ -10,7 +10,7 @@ use Rattle.elf_source.specs.Onward.{ReadsOnward}
 use Rattle.elf_source.specs.Source.{Seen, Counting}
 use Rattle.elf_headers.specs.Faults.{IsOfRead}
 use Rattle.elf_table.specs.Tables.{Rows}
-use Rattle.elf_table.specs.Windows.{Ahead, HoldsBytes, StillHolds, MovesOn, bytes_left, frontier}
+use Rattle.elf_table.specs.Windows.{Ahead, HoldsBytes, StillHolds, MovesOn, bytes_left, frontier, range_end}
 use Rattle.elf_headers.specs.declared.fault.Fault.{Fault}
 use Rattle.elf_headers.specs.declared.fault.Fault.TheVariants.{Refused}
 use Rattle.elf_table.specs.declared.names.NameEnd.{NameEnd}
@@ -74,8 +74,9 @@ note_size a namesz descsz left =
     let size = descriptor_start a namesz descsz + descsz in
     min (size + to_next a size) left
 
--- a note at an offset as it is found, with its name as it is shown and the first bytes of its descriptor
-pub record IsNoteFound (a cap at : ℕ) (note : Note) (found : FoundNote) (name descriptor : List ℕ) : Type 0 where
+-- a note of a file at an offset as it is found, with its name as it is shown and the first bytes of its descriptor, which is
+-- the file's at its place
+pub record IsNoteFound (file : List ℕ) (a cap at : ℕ) (note : Note) (found : FoundNote) (name descriptor : List ℕ) : Type 0 where
   pub its_place : found.at ≡ at
   pub namesz : found.head.namesz ≡ length note.name
   pub descsz : found.head.descsz ≡ length note.descriptor
@@ -83,21 +84,38 @@ pub record IsNoteFound (a cap at : ℕ) (note : Note) (found : FoundNote) (name 
   pub shown_name : NameIs found.name_end name (note_shown cap note)
   pub descriptor_at : found.desc_at ≡ at + descriptor_start a (length note.name) (length note.descriptor)
   pub first_bytes : descriptor ≡ take SHOWN_DESCRIPTOR note.descriptor
+  pub whole : note.descriptor ≡ slice file found.desc_at (length note.descriptor)
 
 -- the notes that were left are a note, as it is found, and those that are left
-abbrev pub GivesNote : ℕ → ℕ → ℕ → List ℕ → List ℕ → Walk → Walk → FoundNote → Type 0
-GivesNote a cap at name descriptor old new found = (note : Note) × (old ≡ with_note note new) × IsNoteFound a cap at note found name descriptor
+abbrev pub GivesNote : List ℕ → ℕ → ℕ → ℕ → List ℕ → List ℕ → Walk → Walk → FoundNote → Type 0
+GivesNote file a cap at name descriptor old new found =
+    (note : Note) × (old ≡ with_note note new) × IsNoteFound file a cap at note found name descriptor
 
 -- what a step over the next note says of the notes that were left and are left
-abbrev pub TellsNote : ℕ → ℕ → ℕ → List ℕ → List ℕ → Walk → Walk → Result (Option FoundNote) Fault → Type 0
-TellsNote a cap at name bytes old new (Ok (Some found)) = GivesNote a cap at name (take found.shown bytes) old new found
-TellsNote a cap at name bytes old new (Ok None) = old ≡ no_notes
-TellsNote a cap at name bytes old new (Err fault) = fault ≡ note_cut at → old ≡ cut_at at
+abbrev pub TellsNote : List ℕ → ℕ → ℕ → ℕ → List ℕ → List ℕ → Walk → Walk → Result (Option FoundNote) Fault → Type 0
+TellsNote file a cap at name bytes old new (Ok (Some found)) = GivesNote file a cap at name (take found.shown bytes) old new found
+TellsNote file a cap at name bytes old new (Ok None) = old ≡ no_notes
+TellsNote file a cap at name bytes old new (Err fault) = fault ≡ note_cut at → old ≡ cut_at at
 
 -- a note takes at least its head, and at the end nothing is left
 abbrev pub PassesNote : ℕ → ℕ → Option FoundNote → Type 0
 PassesNote before after (Some found) = (after + 12 ≤ before) × (found.at + 12 < 2 ^ 64) × (found.shown ≤ 32)
 PassesNote before after None = after ≡ 0
+
+-- a note takes its own bytes of those that are left, with its padding, and its descriptor ends among them
+pub record TakesItsBytes (a : ℕ) (old new : Ahead) (found : FoundNote) : Type 0 where
+  pub size : bytes_left new + note_size a found.head.namesz found.head.descsz (bytes_left old) ≡ bytes_left old
+  pub ends : found.desc_at + found.head.descsz ≤ range_end old
+
+abbrev pub TakesNoteBytes : ℕ → Ahead → Ahead → Option FoundNote → Type 0
+TakesNoteBytes a old new (Some found) = TakesItsBytes a old new found
+TakesNoteBytes a old new None = Unit {0}
+
+-- the same of a step of a cursor
+abbrev pub PassesOverNote : NoteReading → NoteReading → Result Bool Fault → Type 0
+PassesOverNote old new (Ok true) = TakesItsBytes old.align old.ahead new.ahead new.found
+PassesOverNote old new (Ok false) = Unit {0}
+PassesOverNote old new (Err fault) = Unit {0}
 
 -- where a step leaves a cursor: behind a note, at the end, or failed
 abbrev pub LeavesNote : NoteReading → NoteReading → Result Bool Fault → Type 0
@@ -109,7 +127,7 @@ LeavesNote old new (Err fault) = (new.failed ≡ Some fault) × (old.failed ≡ 
 -- left; or none; or they are cut here
 abbrev pub StepTells : List ℕ → ℕ → NoteReading → NoteReading → List ℕ → Result Bool Fault → Type 0
 StepTells file cap old new name (Ok true) =
-    GivesNote old.align cap old.ahead.at name new.descriptor (notes_left old.align file old.ahead) (notes_left old.align file new.ahead) new.found
+    GivesNote file old.align cap old.ahead.at name new.descriptor (notes_left old.align file old.ahead) (notes_left old.align file new.ahead) new.found
 StepTells file cap old new name (Ok false) = notes_left old.align file old.ahead ≡ no_notes
 StepTells file cap old new name (Err fault) = old.failed ≡ None → fault ≡ note_cut old.ahead.at → notes_left old.align file old.ahead ≡ cut_at old.ahead.at
 
@@ -125,6 +143,7 @@ pub record KeepsNotes (one_read : Seen → ℕ → ℕ → Seen → Type 0) (bef
 -- a step of a cursor, where it answers whether it gave a note
 pub record AdvancesNote (file : Option (List ℕ)) (cap : ℕ) (old new : NoteReading) (name : List ℕ) (result : Result Bool Fault) : Type 0 where
   pub leaves : LeavesNote old new result
+  pub passes : PassesOverNote old new result
   pub agrees : StillHolds file old.ahead new.ahead
   pub tells : (bytes : List ℕ) → file ≡ Some bytes → HoldsBytes bytes old.ahead → StepTells bytes cap old new name result
 

@@ -17,5 +17,5 @@ pub use cursor::NoteCursor;
 pub use dynamic::{DynCursor, dynamic_rows, entry_in};
 pub use row::NoteRow;
 pub use sizes::{gap_between, padding};
-pub use string_values::{DynStrings, dynamic_strings};
+pub use string_values::{DynStrings, dynamic_strings, first_of};
 pub use tail::are_zeros;

@@ -5,7 +5,8 @@ ghost use Rattle.elf_model.specs.Bytes.{slice};
 ghost use Rattle.elf_model.specs.Notes.{to_next};
 ghost use Rattle.elf_headers.specs.Faults.{IsOfRead};
 ghost use Rattle.elf_table.specs.Windows.{HoldsBytes, RangeWithin, bytes_left};
-ghost use Rattle.elf_note.specs.NoteCursors.{PassesNote, StopsNote, TellsNote, notes_left, note_cut};
+ghost use Rattle.elf_note.specs.NoteCursors.{PassesNote, StopsNote, TakesNoteBytes, TellsNote, notes_left};
+ghost use Rattle.elf_note.specs.NoteCursors.{note_cut};
 ghost use Rattle.elf_note.specs.WindowCalls.{HasLeft, Through};
 
 use crate::naming::read_name;
@@ -57,8 +58,9 @@ pub(crate) fn next_note<S: Source>(
     ensures went { Through S.one_read src.old src.new window.old window.new result }
     ensures stops { IfErr result (StopsNote window.old.at) }
     ensures passes { IfOk result (PassesNote (bytes_left window.old) (bytes_left window.new)) }
+    ensures sized { IfOk result (TakesNoteBytes align window.old window.new) }
     ensures tells { (file : List ℕ) → src.old.seen.file ≡ Some file → HoldsBytes file window.old →
-        TellsNote align cap.bytes window.old.at name.new desc.new
+        TellsNote file align cap.bytes window.old.at name.new desc.new
         (notes_left align file window.old) (notes_left align file window.new) result }
 {
     let at = window.at();

@@ -50,8 +50,8 @@ pub fn dynamic_strings<S: Source>(table: Table, src: &mut Counted<S>) -> Result<
     Ok(DynStrings { address, size })
 }
 
-// A value that was found, or that of an entry where it has the tag.
-fn first_of(found: Option<u64>, tag: u64, entry: &Dyn) -> Option<u64>
+/// A value that was found, or that of an entry where it has the tag.
+pub fn first_of(found: Option<u64>, tag: u64, entry: &Dyn) -> Option<u64>
     ensures { (file : List ℕ) (at : ℕ) → IsDyn file at entry.now →
         result ≡ first_value found (value_here file at tag) }
 {

@@ -30,7 +30,7 @@ use elf_table::SegmentView;
 /// no such segment, and where none of its entries tells of a hash table; before the latter the checks
 /// of [`SegmentView::dynamic`]; then those of the entries. Else a fault of a read, or a refusal for
 /// want of budget, at an entry's offset.
-pub(crate) fn by_segments<S: Source>(
+pub fn find_in_segments<S: Source>(
     src: &mut Counted<S>,
     view: &SegmentView<'_>,
 ) -> Result<Scope, Fault>

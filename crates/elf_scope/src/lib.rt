@@ -14,6 +14,7 @@ mod segment_symbols;
 mod symbols;
 mod versions;
 
+pub use by_segments::find_in_segments;
 pub use elf_hash::{HashKind, HashPlace};
 pub use scope::Scope;
 pub use scoping::find_scope;

@@ -6,7 +6,7 @@ ghost use Rattle.elf_scope.specs.Finding.{FindsLoaded, FindsScope, segments_byte
 ghost use Rattle.elf_scope.specs.Scopes.{ScopeLies};
 
 use crate::by_sections::by_sections;
-use crate::by_segments::by_segments;
+use crate::by_segments::find_in_segments;
 use crate::scope::Scope;
 use elf_headers::{Fault, HeaderStore, Loaded, header, load};
 use elf_source::{Counted, Source};
@@ -61,5 +61,5 @@ fn loaded_scope<S: Source>(
         return by_sections(&File { loaded, store });
     }
     loaded.load_segments(src, store)?;
-    by_segments(src, &SegmentView { loaded, store })
+    find_in_segments(src, &SegmentView { loaded, store })
 }

@@ -8,7 +8,7 @@ use Rattle.elf_model.specs.declared.causes.Cause.TheVariants.{TableOutside, Unma
 use Rattle.elf_record.specs.declared.ehdr.Ehdr.{Ehdr}
 use Rattle.elf_headers.specs.Load.{Views}
 use Rattle.elf_table.specs.Relocations.{RefusedBy}
-use Rattle.elf_table.specs.Sections.{checked, rows, rows_of, strings}
+use Rattle.elf_table.specs.Sections.{byte_rows, checked, rows, rows_of, strings}
 use Rattle.elf_headers.specs.Store.{segment_bytes}
 use Rattle.elf_table.specs.Tables.{Rows, Strings}
 use Rattle.elf_headers.specs.declared.fault.Fault.{Fault}
@@ -37,6 +37,10 @@ dynamic_of bytes at file_size place = rows_of file_size (p_offset bytes at) (p_f
 -- those of a segment of the file
 abbrev pub dynamic_table_at : List ℕ → ℕ → Result Rows Fault
 dynamic_table_at file at = dynamic_of file at (length file) at
+
+-- the bytes of the segment whose program header stands at an offset
+abbrev pub byte_table_at : List ℕ → ℕ → Result Rows Fault
+byte_table_at file at = byte_rows (length file) (p_offset file at) (p_filesz file at) at
 
 -- those of a segment, by its program header in the store
 abbrev pub dynamic_in : SegmentView → ℕ → Result Rows Fault

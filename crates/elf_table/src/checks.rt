@@ -3,7 +3,7 @@ ghost use Rattle.std.specs.Prelude.{◌≡◌, ℕ, ◌<◌, ◌≤◌, List, If
 ghost use Rattle.elf_model.specs.Checks.{is_symbol_table};
 ghost use Rattle.elf_record.specs.Shdr.{IsShdr};
 ghost use Rattle.elf_headers.specs.Faults.{IsOfCheck};
-ghost use Rattle.elf_table.specs.Sections.{rows_of, table_of, string_table_of};
+ghost use Rattle.elf_table.specs.Sections.{byte_rows, rows_of, table_of, string_table_of};
 ghost use Rattle.elf_table.specs.Tables.{RowsWithin, StringsWithin, size_of};
 
 use crate::names::Names;
@@ -59,6 +59,20 @@ pub(crate) fn checked_rows(
         return refused(place, Cause::TableOutside);
     }
     Ok(Table::new(offset, bytes / entry, entry))
+}
+
+/// `bytes` bytes from the offset `offset` on as rows of one byte, in a file of `size` bytes. None are
+/// not checked. A refusal names `place`.
+pub(crate) fn checked_bytes(offset: u64, bytes: u64, size: u64, place: u64) -> Result<Table, Fault>
+    ensures value { result ≡ byte_rows size offset bytes place }
+    ensures within { IfOk result (RowsWithin size) }
+    ensures single { IfOk result (λ table. table.entry ≡ 1) }
+    ensures refusal { IfErr result IsOfCheck }
+{
+    if bytes != 0 && ends_outside(size, offset, bytes) {
+        return refused(place, Cause::TableOutside);
+    }
+    Ok(Table::new(offset, bytes, 1))
 }
 
 /// The section as a string table, in a file of `size` bytes. Refusals name `place`.

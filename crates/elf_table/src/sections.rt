@@ -16,7 +16,7 @@ ghost use Rattle.elf_model.specs.VersionCost.{has_strings};
 ghost use Rattle.elf_headers.specs.Store.{row};
 ghost use Rattle.elf_table.specs.Tables.{RowsWithin, StringsWithin, SymbolsWithin, size_of};
 
-use crate::checks::{checked_strings, checked_table, holds_symbols};
+use crate::checks::{checked_bytes, checked_strings, checked_table, holds_symbols};
 use crate::file::File;
 use crate::names::Names;
 use crate::table::Table;
@@ -68,10 +68,7 @@ impl File<'_> {
         ensures value { result ≡ byte_rows self.now.loaded.size offset size at }
         ensures within { IfOk result (RowsWithin self.now.loaded.size) }
     {
-        if size != 0 && ends_outside(self.loaded.size(), offset, size) {
-            return refused(at, Cause::TableOutside);
-        }
-        Ok(Table::new(offset, size, 1))
+        checked_bytes(offset, size, self.loaded.size(), at)
     }
 
     /// The section as a table of rows of `entry` bytes, 1 to 4,096. One of size 0 is not checked. No

@@ -8,10 +8,11 @@ ghost use Rattle.elf_headers.specs.Faults.{IsOfCheck};
 ghost use Rattle.elf_headers.specs.Load.{Views};
 ghost use Rattle.elf_headers.specs.Store.{segment_bytes};
 ghost use Rattle.elf_table.specs.Tables.{RowsWithin, StringsWithin, size_of};
-ghost use Rattle.elf_table.specs.Views.{TellsSegment, dynamic_table_at, dynamic_in, filesz_in};
+ghost use Rattle.elf_table.specs.Views.{TellsSegment, byte_table_at, dynamic_table_at, dynamic_in};
+ghost use Rattle.elf_table.specs.Views.{filesz_in};
 ghost use Rattle.elf_table.specs.Views.{first_of_kind, rest_mapped, segment_place, strings_mapped};
 
-use crate::checks::checked_rows;
+use crate::checks::{checked_bytes, checked_rows};
 use crate::names::Names;
 use crate::segment_checks::{checked_mapped, checked_rest, maps};
 use crate::segment_view::SegmentView;
@@ -67,6 +68,27 @@ impl SegmentView<'_> {
             header.p_offset,
             header.p_filesz,
             DYNAMIC_BYTES,
+            self.loaded.size(),
+            self.place(segment),
+        )
+    }
+
+    /// The bytes of a segment, as rows of one byte; none are not checked. The segment's type is not
+    /// looked at. No bytes are read (gABI 5, Program Header).
+    ///
+    /// # Errors
+    /// `TableOutside` at the program header where the segment ends past the end of the file.
+    pub fn bytes(&self, segment: u16) -> Result<Table, Fault>
+        requires { segment < self.now.store.now.segments }
+        ensures held { TellsSegment self.now segment result byte_table_at }
+        ensures within { IfOk result (RowsWithin self.now.loaded.size) }
+        ensures single { IfOk result (λ table. table.entry ≡ 1) }
+        ensures refusal { IfErr result IsOfCheck }
+    {
+        let header = self.segment(segment);
+        checked_bytes(
+            header.p_offset,
+            header.p_filesz,
             self.loaded.size(),
             self.place(segment),
         )

@@ -1,4 +1,16 @@
+pub mod CauseLaws
+pub mod EntryLaws
+pub mod FeatureLaws
+pub mod FindingLaws
+pub mod HeadLaws
+pub mod HidingLaws
+pub mod KnownLaws
+pub mod ListLaws
+pub mod MarkLaws
 pub mod PropertyLaws
 pub mod ReadLaws
-pub mod HeadLaws
+pub mod SegmentLaws
+pub mod ShownLaws
+pub mod SpendLaws
+pub mod ValueLaws
 pub mod WordLaws

@@ -10,10 +10,10 @@ use Rattle.elf_headers.specs.declared.fault.Fault.TheVariants.{Refused, Source}
 use Rattle.elf_traits.specs.declared.property.Head.{Head}
 
 -- a value is what the definitions tell, and so is a refusal, unless that is for want of budget
-abbrev pub TellsFeatures : {X : Type 0} → Result X Refusal → Result X Fault → Type 0
-TellsFeatures told (Ok value) = told ≡ Ok value
-TellsFeatures told (Err (Refused refusal)) = (IsBudget refusal → ⊥) → told ≡ Err refusal
-TellsFeatures told (Err (Source fault at)) = Unit {0}
+abbrev pub TellsValue : {X : Type 0} → Result X Refusal → Result X Fault → Type 0
+TellsValue told (Ok value) = told ≡ Ok value
+TellsValue told (Err (Refused refusal)) = (IsBudget refusal → ⊥) → told ≡ Err refusal
+TellsValue told (Err (Source fault at)) = Unit {0}
 
 -- the property with a head at an offset
 abbrev pub property_at : List ℕ → ℕ → Head → Property

@@ -4,7 +4,7 @@ ghost use Rattle.elf_headers.specs.Ledger.{Did, why_stopped};
 ghost use Rattle.elf_model.specs.Bytes.{slice};
 ghost use Rattle.elf_model.specs.Notes.{to_next};
 ghost use Rattle.elf_model.specs.Properties.{features_in};
-ghost use Rattle.elf_traits.specs.Features.{TellsFeatures};
+ghost use Rattle.elf_traits.specs.Features.{TellsValue};
 
 use crate::property::{read_head, word_in};
 use elf_headers::Fault;
@@ -23,7 +23,7 @@ use elf_source::{Counted, Source};
 pub fn features_in<S: Source>(src: &mut Counted<S>, at: u64, size: u64) -> Result<u32, Fault>
     requires { at + size ≤ src.old.seen.size }
     ensures { Did src.old src.new (why_stopped result) size
-        (λ file. TellsFeatures
+        (λ file. TellsValue
         (features_in (record { place = at; bytes = slice file at size })) result) }
 {
     // No source is longer than a number of 64 bits tells.

@@ -3,7 +3,7 @@ ghost use Rattle.std.specs.Prelude.{◌≡◌, ◌+◌, ◌^◌, ◌<◌, ◌≤
 ghost use Rattle.elf_headers.specs.Ledger.{Did, why_stopped};
 ghost use Rattle.elf_traits.specs.Features.{ReadsHead, ReadsWord};
 
-use crate::words::read_word;
+use elf_hash::read_word;
 use elf_headers::{Fault, refused};
 use elf_record::Cause;
 use elf_source::{Counted, Source};

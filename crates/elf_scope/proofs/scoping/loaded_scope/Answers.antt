@@ -32,7 +32,7 @@ returns-clause-did g c =
     let bytes = segments_bytes_is c.args.loaded.header c.args.src.now.seen.size (sym shnum ∙ c.if-header-ne0.false) in
     let first = Did-of c.load_segments.ensures.reads tt c.in_ok-load_segments.ensures.held in
     let same = c.load_segments.ensures.reads.keeps.same_size in
-    Did-as _ (omega (arith, bytes, same)) (Did-then first c.by_segments.ensures.did)
+    Did-as _ (omega (arith, bytes, same)) (Did-then first c.find_in_segments.ensures.did)
     (λ file told costs belongs.
     let none = sym (shnum ∙ belongs.header.e_shnum) ∙ c.if-header-ne0.false in
     let cost = segments_cost file none in

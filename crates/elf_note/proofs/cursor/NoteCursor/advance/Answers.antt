@@ -34,7 +34,7 @@ returns-in-Ok-Some g c =
     (record {
       asks = asked none w.reads tt;
       keeps = kept none refl refl w.moves w.onward;
-      steps = record { leaves = (none, none, e.passes.0); agrees = w.agrees; tells = e.tells };
+      steps = record { leaves = (none, none, e.passes.0); passes = e.sized; agrees = w.agrees; tells = e.tells };
     })
 
 pub returns-in-Ok-None : goal.returns-in-Ok-None
@@ -46,7 +46,7 @@ returns-in-Ok-None g c =
     (record {
       asks = asked none w.reads tt;
       keeps = kept none refl refl w.moves w.onward;
-      steps = record { leaves = (none, none, e.passes); agrees = w.agrees; tells = e.tells };
+      steps = record { leaves = (none, none, e.passes); passes = tt; agrees = w.agrees; tells = e.tells };
     })
 
 pub returns-in-Err : goal.returns-in-Err
@@ -58,5 +58,5 @@ returns-in-Err g c =
     (record {
       asks = asked none w.reads w.says;
       keeps = kept none refl refl w.moves w.onward;
-      steps = record { leaves = (refl, λ going. e.stops); agrees = w.agrees; tells = λ file h a going. e.tells file h a };
+      steps = record { leaves = (refl, λ going. e.stops); passes = tt; agrees = w.agrees; tells = λ file h a going. e.tells file h a };
     })

@@ -3,7 +3,7 @@ use Rattle.std.proofs.Common.{arith}
 use Rattle.std.proofs.lemmas.Result.{err_from_is_err_and}
 use Rattle.elf_headers.proofs.LedgerLaws.{Did-as, Did-none, Did-stop}
 use Rattle.elf_scope.proofs.FoundLaws.{apart_finds, overlap_refused}
-use Rattle.elf_scope.proofs.by_segments.by_segments.Goals as goal
+use Rattle.elf_scope.proofs.by_segments.find_in_segments.Goals as goal
 
 pub returns-in_err-check_overlaps-clause-did : goal.returns-in_err-check_overlaps-clause-did
 returns-in_err-check_overlaps-clause-did g c =

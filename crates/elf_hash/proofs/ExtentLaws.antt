@@ -1,0 +1,204 @@
+-- How many symbols a hash table tells of, word by word.
+use Rattle.std.proofs.Common.{◌≡◌, ℕ, zero, suc, ◌+◌, ◌-◌, ◌*◌, ◌<◌, ◌≤◌, max, min, nat_lt, Bool, true, false, List, [], Option, None, Some, Result, Ok, refl, sym, ap, subst, ◌∙◌, arith, nat_cmp}
+use Rattle.std.specs.Ordering.{ord_max}
+use Rattle.std.proofs.lemmas.Bool.Decides.{nat_tests}
+use Rattle.elf_model.specs.Bytes.{field}
+use Rattle.elf_model.specs.Chains.{HashTable as Table}
+use Rattle.elf_model.specs.Find.{first_that}
+use Rattle.elf_model.specs.GnuHash.{chain_word, ends_chain, gnu_bucket_at, gnu_first, gnu_nbucket, is_chained}
+use Rattle.elf_model.specs.LoaderScope.{GnuTable, SysvTable, HashKind, Scope}
+use Rattle.elf_model.specs.Hash.{sysv_nchain}
+use Rattle.elf_model.specs.Traits.{gnu_symbols, hashed_symbol_count, highest_start, is_last_in}
+use Rattle.elf_source.specs.Source.{Counting}
+use Rattle.elf_headers.specs.Ledger.{Charges, IsRead}
+use Rattle.elf_headers.specs.declared.fault.Fault.{Fault}
+use Rattle.elf_headers.proofs.LedgerLaws.{Charges-more}
+use Rattle.elf_table.specs.Cursors.{Advances, EndsRows, GivesRow, HoldsRows, Reading, row_at, unread_bytes}
+use Rattle.elf_table.specs.Tables.{Rows, size_of}
+use Rattle.elf_hash.specs.Counts.{IsGnu, IsSysv}
+use Rattle.elf_hash.specs.Extents.{EndsChain, TellsExtent, extent_bytes, last_in}
+use Rattle.elf_hash.specs.declared.gnu_table.GnuTable.{GnuTable as Gnu}
+use Rattle.elf_hash.specs.declared.sysv_table.SysvTable.{SysvTable as Sysv}
+use Rattle.elf_hash.proofs.GnuSteps.{chain_is}
+
+-- the words of buckets, as a table
+abbrev pub buckets_of : Gnu → Rows
+buckets_of t = record { at = t.place.at + (16 + 8 * t.nbloom); count = t.nbucket; entry = 4 }
+
+-- where one stands
+pub bucket_stands : (file : List ℕ) (table : Table) (t : Gnu) (index : ℕ) → IsGnu file table t → row_at (buckets_of t) index ≡ gnu_bucket_at file table.place index
+bucket_stands file table t index is =
+    let start = is.place.start in
+    let filters = is.filters in
+    omega (arith, start, filters)
+
+-- a step that answered a row gave it, and one that answered none ended
+pub row_given : (file : Option (List ℕ)) (old new : Reading) (b : Bool) → b ≡ true → Advances file old new (Ok b) → GivesRow file old new
+row_given file old new true t s = s
+row_given file old new false t s = cc
+
+pub row_ended : (file : Option (List ℕ)) (old new : Reading) (b : Bool) → b ≡ false → Advances file old new (Ok b) → EndsRows old new
+row_ended file old new false t s = s
+row_ended file old new true t s = cc
+
+-- the greater of two numbers, as `max` answers it
+pub greater_is : (a b : ℕ) → ord_max nat_cmp a b ≡ max a b
+greater_is a b = grind (arith, nat_tests)
+
+-- no bucket is gone by; one more is
+pub highest_none : (file : List ℕ) (place : ℕ) → highest_start file place 0 ≡ 0
+unfolding highest_start
+highest_none file place = refl
+
+pub highest_next : (file : List ℕ) (place n word : ℕ) → word ≡ field file (gnu_bucket_at file place n) 4
+    → max (highest_start file place n) word ≡ highest_start file place (suc n)
+unfolding highest_start
+highest_next file place n word is = ap (max (highest_start file place n)) is
+
+module _ (file : List ℕ) (table : Table) where
+  abbrev test : ℕ → Bool
+  test y = is_last_in file table y
+
+  that_here : (first n : ℕ) → test first ≡ true → first_that test first (suc n) ≡ Some first
+  unfolding first_that
+  that_here first n t = rw (t, first_that) refl
+
+  that_more : (first n : ℕ) → test first ≡ false → first_that test first (suc n) ≡ first_that test (suc first) n
+  unfolding first_that
+  that_more first n t = rw (t, first_that) refl
+
+  that_none : (first : ℕ) → first_that test first 0 ≡ None
+  unfolding first_that
+  that_none first = refl
+
+  abbrev past : Option ℕ → ℕ
+  past None = table.symbols
+  past (Some y) = suc y
+
+  last_is : (start : ℕ) → last_in file table start ≡ past (first_that test start (table.symbols - start))
+  last_is start = go (first_that test start (table.symbols - start)) refl
+    where
+      go : (found : Option ℕ) → first_that test start (table.symbols - start) ≡ found → last_in file table start ≡ past found
+      go None e = rw (e, last_in) refl
+      go (Some y) e = rw (e, last_in) refl
+
+  pub last_here : (index : ℕ) → index < table.symbols → test index ≡ true → last_in file table index ≡ suc index
+  last_here index below t =
+      let left : table.symbols - index ≡ suc (table.symbols - suc index) = omega arith in
+      last_is index ∙ (ap (λ (n : ℕ). past (first_that test index n)) left ∙ ap past (that_here index (table.symbols - suc index) t))
+
+  pub last_more : (index : ℕ) → index < table.symbols → test index ≡ false → last_in file table index ≡ last_in file table (suc index)
+  last_more index below t =
+      let left : table.symbols - index ≡ suc (table.symbols - suc index) = omega arith in
+      last_is index ∙ (ap (λ (n : ℕ). past (first_that test index n)) left
+      ∙ (ap past (that_more index (table.symbols - suc index) t) ∙ sym (last_is (suc index))))
+
+  pub last_past : (index : ℕ) → table.symbols ≤ index → last_in file table index ≡ table.symbols
+  last_past index behind =
+      let none : table.symbols - index ≡ 0 = omega arith in
+      last_is index ∙ (ap (λ (n : ℕ). past (first_that test index n)) none ∙ ap past (that_none index))
+
+  -- what is found stands behind what is gone by
+  above : (first n : ℕ) → first + n ≤ table.symbols → 0 < n → first < past (first_that test first n)
+  above first zero within some = absurd (omega arith)
+  above first (suc n) within some = go (λ more. above (suc first) n (omega arith) more) (test first) refl
+    where
+      go : (0 < n → suc first < past (first_that test (suc first) n)) → (b : Bool) → test first ≡ b → first < past (first_that test first (suc n))
+      go more true t = let e = ap past (that_here first n t) in omega (arith, e)
+      go more false t = rest more n refl
+        where
+          rest : (0 < n → suc first < past (first_that test (suc first) n)) → (k : ℕ) → n ≡ k → first < past (first_that test first (suc n))
+          rest more zero none =
+              let e = ap past (that_more first n t) in
+              let last = ap (λ (m : ℕ). past (first_that test (suc first) m)) none in
+              let end = ap past (that_none (suc first)) in
+              omega (arith, e, last, end, within)
+          rest more (suc k) some =
+              let e = ap past (that_more first n t) in
+              let on = more (omega (arith, some)) in
+              omega (arith, e, on)
+
+  pub last_above : (index : ℕ) → index < table.symbols → index < last_in file table index
+  last_above index below =
+      let a = above index (table.symbols - index) (omega arith) (omega arith) in
+      let e = last_is index in
+      omega (arith, a, e)
+
+  -- a symbol that no chain word has, the last of a chain, and another
+  pub not_chained : (index : ℕ) → is_chained file table index ≡ false → test index ≡ true
+  not_chained index isnt = rw (isnt, is_last_in) refl
+
+  pub ends_there : (index : ℕ) → is_chained file table index ≡ true → ends_chain (chain_word file table.place index) ≡ true → test index ≡ true
+  ends_there index is ends = rw (is, ends, is_last_in) refl
+
+  pub goes_on : (index : ℕ) → is_chained file table index ≡ true → ends_chain (chain_word file table.place index) ≡ false → test index ≡ false
+  goes_on index is ends = rw (is, ends, is_last_in) refl
+
+  -- those of the whole table, by the highest of the buckets' words
+  module _ (start : ℕ) (is : start ≡ highest_start file table.place (gnu_nbucket file table.place)) where
+    pub none_chained : start < gnu_first file table.place → gnu_symbols file table ≡ min (gnu_first file table.place) table.symbols
+    unfolding gnu_symbols
+    none_chained low =
+        let less : nat_lt (highest_start file table.place (gnu_nbucket file table.place)) (gnu_first file table.place) ≡ true = grind (arith, is) in
+        rw (less, gnu_symbols) refl
+
+    pub some_chained : gnu_first file table.place ≤ start → gnu_symbols file table ≡ last_in file table start
+    unfolding gnu_symbols
+    some_chained high =
+        let less : nat_lt (highest_start file table.place (gnu_nbucket file table.place)) (gnu_first file table.place) ≡ false = grind (arith, is) in
+        rw (less, gnu_symbols) (ap (last_in file table) (sym is))
+
+module _ (file : List ℕ) (scope : Scope) where
+  pub gnu_count : scope.kind ≡ GnuTable → hashed_symbol_count file scope ≡ gnu_symbols file scope.table
+  unfolding hashed_symbol_count
+  gnu_count kind = rw (kind, hashed_symbol_count) refl
+
+  pub sysv_count : scope.kind ≡ SysvTable → hashed_symbol_count file scope ≡ min (sysv_nchain file scope.table.place) scope.table.symbols
+  unfolding hashed_symbol_count
+  sysv_count kind = rw (kind, hashed_symbol_count) refl
+
+  pub gnu_bytes : scope.kind ≡ GnuTable → extent_bytes file scope ≡ 4 * gnu_nbucket file scope.table.place + 4 * gnu_symbols file scope.table
+  gnu_bytes kind =
+      let count = gnu_count kind in
+      let is : extent_bytes file scope ≡ 4 * gnu_nbucket file scope.table.place + 4 * hashed_symbol_count file scope =
+      ap (λ (k : HashKind). elim k as (λ x. ℕ) [ GnuTable ↦ 4 * gnu_nbucket file scope.table.place + 4 * hashed_symbol_count file scope | SysvTable ↦ 0 ]) kind in
+      omega (arith, is, count)
+
+  pub sysv_bytes : scope.kind ≡ SysvTable → extent_bytes file scope ≡ 0
+  sysv_bytes kind = rw (kind, extent_bytes) refl
+
+-- what a cursor over buckets may ask for before the first
+pub unread_start : (c : Reading) (t : Gnu) → c.failed ≡ None → c.table ≡ buckets_of t → c.unread ≡ size_of c.table → unread_bytes c ≡ 4 * t.nbucket
+unread_start c t none is unread = rw (none, unread, is) (omega arith)
+
+-- a cursor that holds nothing agrees with every file
+pub agrees_none : (file : List ℕ) (c : Reading) → c.held ≡ [] → HoldsRows file c
+agrees_none file c none = rw none refl
+
+-- the chain word of a symbol, as it is read
+pub word_is : (file : List ℕ) (table : Table) (t : Gnu) (index word place : ℕ) → IsGnu file table t
+    → place ≡ t.place.at + (16 + 8 * t.nbloom + 4 * t.nbucket + 4 * (index - t.first)) → word ≡ field file place 4 → word ≡ chain_word file table.place index
+word_is file table t index word place is at read = read ∙ ap (λ (n : ℕ). field file n 4) (at ∙ chain_is file table index t is)
+
+-- a number that is read, in other words
+pub read_of : (result : Result ℕ Fault) (count other : ℕ) → count ≡ other → IsRead result count → IsRead result other
+read_of result count other same read = subst (λ n. IsRead result n) same read
+
+-- what is told of a table of either kind
+pub gnu_told : (file : List ℕ) (scope : Scope) (t : Gnu) {a b : Counting} {result : Result ℕ Fault} → scope.kind ≡ GnuTable → IsGnu file scope.table t
+    → EndsChain (4 * t.nbucket) (gnu_symbols file scope.table) a b result → TellsExtent file scope a b result
+gnu_told file scope t {result = result} kind is ends =
+    let bytes = gnu_bytes file scope kind in
+    record {
+      costs = Charges-more _ (omega (arith, bytes, is.buckets)) ends.costs;
+      tells = read_of result _ _ (sym (gnu_count file scope kind)) ends.tells;
+    }
+
+pub sysv_told : (file : List ℕ) (scope : Scope) (t : Sysv) {a b : Counting} {count : ℕ} → scope.kind ≡ SysvTable → IsSysv file scope.table t
+    → Charges a b None 0 → count ≡ min t.nchain t.place.symbols → TellsExtent file scope a b (Ok count)
+sysv_told file scope t kind is costs told =
+    let bytes = sysv_bytes file scope kind in
+    record {
+      costs = Charges-more _ (omega (arith, bytes)) costs;
+      tells = told ∙ (ap (λ (n : ℕ). min n t.place.symbols) is.chains ∙ (ap (min _) is.place.symbols ∙ sym (sysv_count file scope kind)));
+    }

@@ -1,0 +1,19 @@
+-- The chain is gone along up to a symbol index, and its end is what is told from there on.
+use Rattle.std.proofs.Common.{◌≡◌, ◌+◌, ◌-◌, ◌*◌, ◌≤◌, None}
+use Rattle.elf_headers.specs.Ledger.{Did}
+use Rattle.elf_hash.specs.Counts.{IsGnu}
+use Rattle.elf_hash.specs.Extents.{last_in}
+use Rattle.elf_model.specs.Chains.{HashTable as Place}
+use Rattle.elf_hash.proofs.extent.chain_end.Given as goal
+
+abbrev pub invariant-chain : goal.invariant-chain
+invariant-chain g l = record {
+  rises : l.fn.start ≤ l.index;
+  within : l.index - l.fn.start ≤ l.fn.table.place.symbols - l.fn.start;
+  fits : 4 * l.fn.table.nbucket + 4 * (l.index - l.fn.start) ≤ l.fn.table.place.size;
+  so_far : Did l.fn.src l.src None (4 * (l.index - l.fn.start))
+      (λ file. (at : Place) → IsGnu file at l.fn.table → last_in file at l.fn.start ≡ last_in file at l.index);
+}
+
+abbrev pub decreases-chain : goal.decreases-chain
+decreases-chain g l = l.fn.table.place.symbols - l.index

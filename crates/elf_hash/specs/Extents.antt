@@ -1,0 +1,34 @@
+-- How many symbols a hash table tells of, and what asking for it costs.
+use Rattle.std.specs.Prelude.{ℕ, suc, ◌+◌, ◌-◌, ◌*◌, List, None, Some, Result}
+use Rattle.elf_model.specs.Chains.{HashTable}
+use Rattle.elf_model.specs.Find.{first_that}
+use Rattle.elf_model.specs.GnuHash.{gnu_nbucket}
+use Rattle.elf_model.specs.LoaderScope.{GnuTable, SysvTable, Scope}
+use Rattle.elf_model.specs.Traits.{hashed_symbol_count, is_last_in}
+use Rattle.elf_source.specs.Source.{Counting}
+use Rattle.elf_headers.specs.Ledger.{Charges, IsRead, why_stopped}
+use Rattle.elf_headers.specs.declared.fault.Fault.{Fault}
+
+-- how many symbols there are up to the end of the chain that begins at a symbol index
+abbrev pub last_in : List ℕ → HashTable → ℕ → ℕ
+last_in file table start = elim (first_that (is_last_in file table) start (table.symbols - start)) [
+  | None ↦ table.symbols
+  | Some y ↦ suc y
+]
+
+-- a number of symbols is told, for a few bytes and no more than a chain word for each
+pub record EndsChain (few count : ℕ) (old new : Counting) (result : Result ℕ Fault) : Type 0 where
+  pub costs : Charges old new (why_stopped result) (few + 4 * count)
+  pub tells : IsRead result count
+
+-- how many bytes are asked for, behind the counts
+abbrev pub extent_bytes : List ℕ → Scope → ℕ
+extent_bytes file scope = elim scope.kind [
+  | GnuTable ↦ 4 * gnu_nbucket file scope.table.place + 4 * hashed_symbol_count file scope
+  | SysvTable ↦ 0
+]
+
+-- HOW MANY SYMBOLS a hash table tells of, in a known file
+pub record TellsExtent (file : List ℕ) (scope : Scope) (old new : Counting) (result : Result ℕ Fault) : Type 0 where
+  pub costs : Charges old new (why_stopped result) (extent_bytes file scope)
+  pub tells : IsRead result (hashed_symbol_count file scope)

@@ -1,0 +1,123 @@
+//! How many symbols a hash table tells of.
+ghost use Rattle.std.specs.Prelude.{◌≡◌, ℕ, ◌+◌, ◌-◌, ◌*◌, ◌<◌, ◌≤◌, List, length, IfOk};
+ghost use Rattle.elf_headers.specs.Ledger.{Did, IsRead, why_stopped};
+ghost use Rattle.elf_hash.specs.Counts.{IsGnu};
+ghost use Rattle.elf_hash.specs.Extents.{EndsChain, TellsExtent, last_in};
+ghost use Rattle.elf_hash.specs.Scopes.{IsTable, place_of_table};
+ghost use Rattle.elf_model.specs.Bytes.{field, slice};
+ghost use Rattle.elf_model.specs.Chains.{HashTable as Place};
+ghost use Rattle.elf_model.specs.LoaderScope.{Scope};
+ghost use Rattle.elf_model.specs.Traits.{gnu_symbols, highest_start};
+
+use crate::gnu_table::GnuTable;
+use crate::gnu_walk::ends_chain;
+use crate::reading::read_word;
+use crate::table::HashTable;
+use elf_headers::Fault;
+use elf_record::word;
+use elf_source::{Counted, Source};
+use elf_table::{Cursor, Row};
+
+/// How many symbols a hash table tells that there are, by its words alone, and no more than there is
+/// room for: of the gABI's (5, Hash Table) as many as there are chains; of the GNU system's those
+/// before the first that it knows, and those of chains, of which the highest begins at the highest of
+/// the buckets' words. It asks for the buckets' words and for those of that chain, each at most once;
+/// the table ends at or below the source's length.
+///
+/// # Errors
+/// A fault of a read, or a refusal for want of budget, at the offset that was asked for.
+pub fn symbol_extent<S: Source>(src: &mut Counted<S>, table: &HashTable) -> Result<u64, Fault>
+    requires within { (place_of_table table.now).at + (place_of_table table.now).size
+        ≤ src.old.seen.size }
+    ensures did { Did src.old src.new (why_stopped result) (place_of_table table.now).size
+        (λ file. (scope : Scope) → IsTable file scope table.now →
+        TellsExtent file scope src.old src.new result) }
+    ensures few { IfOk result (λ count. count ≤ (place_of_table table.now).symbols) }
+{
+    match table {
+        HashTable::Gnu(table) => gnu_extent(src, table),
+        HashTable::Sysv(table) => Ok(u64::from(table.nchain).min(table.place.symbols)),
+    }
+}
+
+/// The same of a table of the GNU system.
+///
+/// # Errors
+/// A fault of a read.
+fn gnu_extent<S: Source>(src: &mut Counted<S>, table: &GnuTable) -> Result<u64, Fault>
+    requires within { table.now.place.at + table.now.place.size ≤ src.old.seen.size }
+    ensures did { Did src.old src.new (why_stopped result) table.now.place.size
+        (λ file. (at : Place) → IsGnu file at table.now →
+        EndsChain (4 * table.now.nbucket) (gnu_symbols file at) src.old src.new result) }
+    ensures few { IfOk result (λ count. count ≤ table.now.place.symbols) }
+{
+    let start = highest_start(src, table)?;
+    if start < table.first {
+        return Ok(u64::from(table.first).min(table.place.symbols));
+    }
+    chain_end(src, table, u64::from(start))
+}
+
+/// The highest of the buckets' words.
+///
+/// # Errors
+/// A fault of a read.
+fn highest_start<S: Source>(src: &mut Counted<S>, table: &GnuTable) -> Result<u32, Fault>
+    requires within { table.now.place.at + table.now.place.size ≤ src.old.seen.size }
+    ensures did { Did src.old src.new (why_stopped result) (4 * table.now.nbucket)
+        (λ file. (at : Place) → IsGnu file at table.now →
+        IsRead result (highest_start file at.place table.now.nbucket)) }
+{
+    let mut cursor = Cursor::new(table.buckets());
+    let mut highest = 0;
+    'words: while cursor.advance(src)? {
+        let word = word_in(&cursor.row());
+        highest = highest.max(word);
+    }
+    Ok(highest)
+}
+
+/// The word whose bytes a row has, four of them.
+fn word_in(row: &Row<'_>) -> u32
+    requires { length row.now.bytes.now ≡ 4 }
+    ensures { (file : List ℕ) (at : ℕ) → row.now.bytes.now ≡ slice file at 4 →
+        result ≡ field file at 4 }
+{
+    word(row.bytes.first_chunk().unwrap())
+}
+
+/// How many symbols there are up to the end of the chain that begins at a symbol index: one more than
+/// the index of its last, or of the first on the way that no chain word has; no more than there are.
+///
+/// # Errors
+/// A fault of a read.
+fn chain_end<S: Source>(src: &mut Counted<S>, table: &GnuTable, start: u64) -> Result<u64, Fault>
+    requires within { table.now.place.at + table.now.place.size ≤ src.old.seen.size }
+    requires first { table.now.first ≤ start }
+    ensures did { Did src.old src.new (why_stopped result)
+        (table.now.place.size - 4 * table.now.nbucket)
+        (λ file. (at : Place) → IsGnu file at table.now →
+        EndsChain 0 (last_in file at start) src.old src.new result) }
+    ensures few { IfOk result (λ count. count ≤ table.now.place.symbols) }
+{
+    let mut index = start;
+    'chain: while index < table.place.symbols {
+        if !table.has(index) {
+            return Ok(next_below(index, table.place.symbols));
+        }
+        let word = read_word(src, table.chain_at(index))?;
+        index += 1;
+        if ends_chain(word) {
+            return Ok(index);
+        }
+    }
+    Ok(table.place.symbols)
+}
+
+/// The number behind one that is below another.
+fn next_below(index: u64, count: u64) -> u64
+    requires { index < count }
+    ensures { result ≡ index + 1 }
+{
+    index + 1
+}

@@ -1,0 +1,44 @@
+-- No symbols are known, or how many there are, and what they tell.
+use Rattle.std.proofs.Common.{ℕ, ◌-◌, ◌*◌, ap, arith}
+use Rattle.std.proofs.lemmas.Result.{err_from_is_err_and}
+use Rattle.elf_headers.proofs.LedgerLaws.{Charges-more, Charges-then, Did-as, Did-none, Did-then}
+use Rattle.elf_scope.proofs.SectionLaws.{not_some}
+use Rattle.elf_traits.proofs.FindingLaws.{marks_none, marks_some, rest_asked, rows_most}
+use Rattle.elf_traits.proofs.MarkLaws.{marks_as, read_marks}
+use Rattle.elf_traits.proofs.finding.known_marks.Goals as goal
+
+pub returns-in_default : goal.returns-in_default
+returns-in_default g c =
+    let none = not_some _ c.in_default.not-Some in
+    Did-as _ (omega arith) (Did-none c.args.src.now)
+    (λ file told costs known. record { costs = costs _ (omega arith); finds = marks_none file (rw none at known) _ c.no_marks.ensures })
+
+pub returns-in_err-count : goal.returns-in_err-count
+returns-in_err-count g c =
+    let p = err_from_is_err_and c.from_residual.result c.from_residual.ensures.1 in
+    let lies = rw c.in-Some.is at c.requires in
+    rw (p.1, p.2)
+    (Did-as _ (omega (arith, lies.table)) c.in_err-count.ensures.did
+    (λ file told costs known.
+    let are = rw c.in-Some.is at known in
+    let extent = told are.scope are.table in
+    let asked = rest_asked file are.scope are.told in
+    record { costs = Charges-more _ (omega (arith, asked)) extent.costs; finds = read_marks _ _ extent.tells }))
+
+pub returns : goal.returns
+returns g c =
+    let lies = rw c.in-Some.is at c.requires in
+    let few = c.in_ok-count.ensures.few in
+    let most = rows_most c.in-Some.known c.args.src.now.seen.size c.in_ok-count.count lies few in
+    let same = c.in_ok-count.ensures.did.costs.reads.keeps.same_size in
+    Did-as _ (omega (arith, lies.table, most)) (Did-then c.in_ok-count.ensures.did c.symbol_marks.ensures)
+    (λ file told costs known.
+    let are = rw c.in-Some.is at known in
+    let extent = told.0 are.scope are.table in
+    let marks = told.1 are.scope.symbols are.symbols in
+    let asked = rest_asked file are.scope are.told in
+    let count = ap (λ (n : ℕ). (n - 1) * 88) extent.tells in
+    record {
+      costs = Charges-then _ (omega (arith, asked, count)) extent.costs c.symbol_marks.ensures.costs;
+      finds = marks_as _ _ _ (marks_some file are.scope are.told c.in_ok-count.count extent.tells) marks;
+    })

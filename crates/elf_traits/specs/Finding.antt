@@ -1,0 +1,57 @@
+-- The traits of a file, stage by stage, and what asking for them costs.
+use Rattle.std.specs.Prelude.{ℕ, ◌+◌, ◌-◌, ◌*◌, ◌/◌, List, None, Some, Result, Ok, Err}
+use Rattle.elf_model.specs.Names.{name_bytes}
+use Rattle.elf_model.specs.Tables.{SYMBOL_SIZE}
+use Rattle.elf_model.specs.TraitCost.{properties_asked, segment_traits_cost, symbols_asked, trait_entries_asked, traits_cost}
+use Rattle.elf_model.specs.Traits.{SymbolMarks, TRAIT_NAME_BYTES, hashed_symbol_count, known_symbols, loaded_traits, symbol_marks, traits_by_segments, traits_of}
+use Rattle.elf_model.specs.declared.causes.Refusal.{Refusal}
+use Rattle.elf_model.specs.declared.traits.Traits.{Traits}
+use Rattle.elf_source.specs.Source.{Counting}
+use Rattle.elf_headers.specs.Ledger.{Charges, why_stopped}
+use Rattle.elf_headers.specs.declared.fault.Fault.{Fault}
+use Rattle.elf_hash.specs.Extents.{extent_bytes}
+use Rattle.elf_scope.specs.Segments.{entries_asked}
+use Rattle.elf_traits.specs.Features.{TellsValue}
+use Rattle.elf_traits.specs.Marks.{TellsMarks}
+use Rattle.elf_traits.specs.declared.marks.Marks.{Marks}
+
+-- how many bytes symbols ask for in a file of this size: the words of their hash table, and each with its name
+abbrev pub marks_bytes : ℕ → ℕ
+marks_bytes size = size + size / 24 * 88
+
+-- how many bytes are asked for behind the program headers, so many of them, in a file of this size
+abbrev pub view_bytes : (segments size : ℕ) → ℕ
+view_bytes segments size = size + 16 + size + (segments * size + size) + marks_bytes size
+
+-- the same of a known file, behind the counts of its hash table
+abbrev pub marks_asked : List ℕ → ℕ
+marks_asked file = elim (known_symbols file) [
+  | Err refusal ↦ 0
+  | Ok None ↦ 0
+  | Ok (Some scope) ↦
+      extent_bytes file scope + (hashed_symbol_count file scope - 1) * (SYMBOL_SIZE + name_bytes TRAIT_NAME_BYTES)
+]
+
+-- what the symbols of a file tell, where they are known
+abbrev pub marks_told : List ℕ → Result SymbolMarks Refusal
+marks_told file = elim (known_symbols file) [ Err refusal ↦ Err refusal | Ok scope ↦ symbol_marks file scope ]
+
+-- WHAT THE SYMBOLS of a known file tell
+pub record FindsMarks (file : List ℕ) (old new : Counting) (result : Result Marks Fault) : Type 0 where
+  pub costs : Charges old new (why_stopped result) (marks_asked file)
+  pub finds : TellsMarks (marks_told file) result
+
+-- THE TRAITS of a known file, whose program headers are loaded
+pub record FindsViewed (file : List ℕ) (old new : Counting) (result : Result Traits Fault) : Type 0 where
+  pub costs : Charges old new (why_stopped result) (entries_asked file + trait_entries_asked file + properties_asked file + symbols_asked file)
+  pub finds : TellsValue (loaded_traits file) result
+
+-- of one that tells of no section headers
+pub record FindsShown (file : List ℕ) (headers : ℕ) (old new : Counting) (result : Result Traits Fault) : Type 0 where
+  pub costs : Charges old new (why_stopped result) (segment_traits_cost file headers)
+  pub finds : TellsValue (traits_by_segments file headers) result
+
+-- of any
+pub record FindsTraits (file : List ℕ) (headers : ℕ) (old new : Counting) (result : Result Traits Fault) : Type 0 where
+  pub costs : Charges old new (why_stopped result) (traits_cost file headers)
+  pub finds : TellsValue (traits_of file headers) result

@@ -1,0 +1,109 @@
+//! The traits of a file.
+ghost use Rattle.std.specs.Prelude.{◌≡◌, ℕ, ◌<◌, ◌^◌, Ok};
+ghost use Rattle.elf_headers.specs.Ledger.{Did, why_stopped};
+ghost use Rattle.elf_headers.specs.Load.{Views};
+ghost use Rattle.elf_model.specs.Records.{e_shnum};
+ghost use Rattle.elf_model.specs.TraitCost.{traits_ceiling};
+ghost use Rattle.elf_traits.specs.Finding.{FindsMarks, FindsShown, FindsTraits, FindsViewed};
+ghost use Rattle.elf_traits.specs.Finding.{marks_bytes, view_bytes};
+ghost use Rattle.elf_traits.specs.Known.{KnownLie, TellsKnown};
+
+use crate::entries::trait_entries;
+use crate::known::{KnownSymbols, known_symbols};
+use crate::marks::{Marks, no_marks};
+use crate::notes::feature_word;
+use crate::symbols::symbol_marks;
+use crate::traits::traits_with;
+use elf_hash::symbol_extent;
+use elf_headers::{Fault, HeaderStore, header, load, refused};
+use elf_model::Traits;
+use elf_record::Cause;
+use elf_source::{Counted, Source};
+use elf_table::SegmentView;
+
+/// How a file is hardened, as a loader of the GNU system sees it: by its program headers, its first
+/// segment of dynamic entries, the first list of properties in its notes, and its dynamic symbols,
+/// which are those that its hash table tells of. What its header tells of section headers is hidden
+/// meanwhile. The program headers are loaded into the store.
+///
+/// Where the source's file is known the traits are the file's own, and so is the refusal; no more is
+/// asked for than they cost, also where the source fails.
+///
+/// # Errors
+/// The first that fails: the checks of [`header`] and of [`load`]; `LoadOverlap` at the program header
+/// of a LOAD segment that lies over another; those of the first segment of dynamic entries; those of
+/// the hash table, of the symbols and of their strings, each at the dynamic entry that tells of it;
+/// of a file of x86-64 `TableOutside` at the program header of a segment of notes that ends past the
+/// end of the file, and `NoteCut` where no note stands before a list of properties, or no property in
+/// it; a fault of a symbol's name, at the symbol. Else a fault of the source, or `Budget` where a
+/// limit has no room for a read, at the offset that was asked for.
+pub fn find_traits<S: Source>(
+    src: &mut Counted<S>,
+    store: &mut HeaderStore,
+) -> Result<Traits, Fault>
+    ensures did { Did src.old src.new (why_stopped result)
+        (traits_ceiling src.old.seen.size store.old.slots)
+        (λ file. FindsTraits file store.old.slots src.old src.new result) }
+    ensures slots { store.new.slots ≡ store.old.slots }
+{
+    let hides = src.hides();
+    src.hide_sections(true);
+    let found = shown_traits(src, store);
+    src.hide_sections(hides);
+    found
+}
+
+/// The traits of the file that the source shows, which tells of no section headers.
+///
+/// # Errors
+/// Those of [`find_traits`].
+fn shown_traits<S: Source>(src: &mut Counted<S>, store: &mut HeaderStore) -> Result<Traits, Fault>
+    ensures did { Did src.old src.new (why_stopped result)
+        (traits_ceiling src.old.seen.size store.old.slots)
+        (λ file. e_shnum file ≡ 0 →
+        FindsShown file store.old.slots src.old src.new result) }
+    ensures slots { store.new.slots ≡ store.old.slots }
+{
+    let header = header(src)?;
+    if header.e_shnum != 0 {
+        return refused(0x3c, Cause::TooManyHeaders);
+    }
+    let loaded = load(src, store, &header)?;
+    loaded.load_segments(src, store)?;
+    view_traits(src, &SegmentView { loaded, store })
+}
+
+/// The traits of a file whose program headers are loaded.
+///
+/// # Errors
+/// Those of [`find_traits`] behind the load.
+fn view_traits<S: Source>(src: &mut Counted<S>, view: &SegmentView<'_>) -> Result<Traits, Fault>
+    requires size { view.now.loaded.size ≡ src.old.seen.size }
+    requires small { view.now.loaded.size < 2 ^ 63 }
+    ensures { Did src.old src.new (why_stopped result)
+        (view_bytes view.now.store.now.segments src.old.seen.size)
+        (λ file. Views file view.now.loaded view.now.store.now →
+        FindsViewed file src.old src.new result) }
+{
+    let known = known_symbols(src, view)?;
+    let entries = trait_entries(src, view)?;
+    let word = feature_word(src, view)?;
+    let marks = known_marks(src, known)?;
+    Ok(traits_with(view, &entries, word, marks))
+}
+
+/// What the symbols that a loader knows tell, if there are such.
+///
+/// # Errors
+/// Those of [`symbol_marks`]. Else a fault of a read.
+fn known_marks<S: Source>(src: &mut Counted<S>, known: Option<KnownSymbols>) -> Result<Marks, Fault>
+    requires { KnownLie src.old.seen.size known }
+    ensures { Did src.old src.new (why_stopped result) (marks_bytes src.old.seen.size)
+        (λ file. TellsKnown file (Ok known) → FindsMarks file src.old src.new result) }
+{
+    let Some(known) = known else {
+        return Ok(no_marks());
+    };
+    let count = symbol_extent(src, &known.table)?;
+    symbol_marks(src, &known.symbols, count)
+}

@@ -1,0 +1,76 @@
+//! What the program headers of a file tell of how it is hardened.
+ghost use Rattle.std.specs.Prelude.{◌≡◌, ℕ, List, is_some};
+ghost use Rattle.elf_model.specs.Find.{first_that};
+ghost use Rattle.elf_model.specs.Records.{e_phnum, segment_at};
+ghost use Rattle.elf_model.specs.Traits.{is_code_writable, is_stack_executable, is_writable_code};
+ghost use Rattle.elf_model.specs.Traits.{segment_of};
+ghost use Rattle.elf_record.specs.Phdr.{IsPhdr};
+ghost use Rattle.elf_headers.specs.Load.{Views};
+
+use crate::flags::has_bits;
+use elf_record::Phdr;
+use elf_record::numbers::PT_LOAD;
+use elf_table::SegmentView;
+
+/// The type of the segment with the permissions of the stack (Linux Standard Base Core, Program
+/// Header).
+const PT_GNU_STACK: u32 = 0x6474_e551;
+/// A segment's permission to be run (gABI 5, Segment Permissions).
+const PF_X: u64 = 1;
+/// A segment's permission to be written.
+const PF_W: u64 = 2;
+
+/// Whether there is a program header of a type.
+pub(crate) fn has_segment(view: &SegmentView<'_>, kind: u32) -> bool
+    ensures { (file : List ℕ) → Views file view.now.loaded view.now.store.now →
+        result ≡ is_some (segment_of file kind) }
+{
+    view.first_segment(kind).is_some()
+}
+
+/// Whether a loader makes the stack executable: by the first segment with its permissions, and where
+/// there is none (Linux Standard Base Core, Program Header).
+#[tactic(auto, unfolding(elf_model::specs::Traits::is_stack_executable))]
+pub(crate) fn is_stack_executable(view: &SegmentView<'_>) -> bool
+    ensures { (file : List ℕ) → Views file view.now.loaded view.now.store.now →
+        result ≡ is_stack_executable file }
+{
+    let Some(segment) = view.first_segment(PT_GNU_STACK) else {
+        return true;
+    };
+    has_bits(u64::from(view.segment(segment).p_flags), PF_X)
+}
+
+/// Whether a LOAD segment may be written and run (gABI 5, Segment Permissions).
+#[tactic(auto, unfolding(elf_model::specs::Traits::is_code_writable))]
+pub(crate) fn is_code_writable(view: &SegmentView<'_>) -> bool
+    ensures { (file : List ℕ) → Views file view.now.loaded view.now.store.now →
+        result ≡ is_code_writable file }
+{
+    first_writable_code(view).is_some()
+}
+
+/// The index of the first LOAD segment that may be written and run, if there is one.
+fn first_writable_code(view: &SegmentView<'_>) -> Option<u16>
+    ensures { (file : List ℕ) → Views file view.now.loaded view.now.store.now →
+        result ≡ first_that (is_writable_code file) 0 (e_phnum file) }
+{
+    let count = view.segments();
+    let mut segment = 0;
+    'segments: while segment < count {
+        if is_writable_code(&view.segment(segment)) {
+            return Some(segment);
+        }
+        segment += 1;
+    }
+    None
+}
+
+/// Whether a segment is a LOAD segment that may be written and run.
+fn is_writable_code(header: &Phdr) -> bool
+    ensures { (file : List ℕ) (i : ℕ) → IsPhdr file (segment_at file i) header.now →
+        result ≡ is_writable_code file i }
+{
+    let flags = u64::from(header.p_flags);
+    header.p_type == PT_LOAD && has_bits(flags, PF_W) && has_bits(flags, PF_X)
+}
