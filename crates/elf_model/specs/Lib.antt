@@ -2,6 +2,7 @@ pub mod Bytes
 pub mod Records
 pub mod Numbers
 pub mod Names
+pub mod Choice
 pub mod Style
 pub mod Searches
 pub mod Notes
@@ -25,6 +26,7 @@ pub mod TableKinds
 pub mod Report
 pub mod ListingLaws
 pub mod StyleLaws
+pub mod ChoiceLaws
 pub mod OverlapLaws
 pub mod Cost
 pub mod Budget

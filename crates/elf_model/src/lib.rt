@@ -7,6 +7,7 @@
 mod apply_laws;
 mod archive_laws;
 mod causes;
+mod choice_laws;
 mod cost_laws;
 mod dynamic;
 mod formats;

@@ -1,7 +1,9 @@
-//! What a loader of the GNU system looks up: a name, or a name and a version, as a text asks for them.
-//! No call takes memory.
+//! What a loader of the GNU system looks up: a name, or a name and a version, as a text asks for them; and
+//! texts in order, among which a name is looked for. No call takes memory.
 #![tactic(auto)]
 
+mod names;
 mod wanted;
 
+pub use names::{SortedTexts, sort_texts};
 pub use wanted::{Asked, Wanted, wanted_of};

@@ -1,0 +1,14 @@
+-- Texts in order.
+use Rattle.std.specs.Prelude.{ℕ, List, map}
+use Rattle.std.specs.Borrow.{Bor}
+use Rattle.std.specs.Cmp.Lexicographic.{slice_cmp}
+use Rattle.std.specs.List.Sorted.{IsSorted}
+use Rattle.std.specs.Ordering.{nat_cmp}
+
+-- texts by their bytes
+abbrev pub texts_of : List (Bor (List ℕ)) → List (List ℕ)
+texts_of texts = map (λ text. text.now) texts
+
+-- no text is below the one before it, by their bytes as numbers, from the first on
+abbrev pub NeverFall : List (Bor (List ℕ)) → Type 0
+NeverFall texts = IsSorted (λ text other. slice_cmp nat_cmp text.now other.now) texts

@@ -1,0 +1,62 @@
+//! Some texts in order, among which a name is looked for.
+ghost use Rattle.std.specs.Prelude.{◌≡◌, bytes_eq};
+ghost use Rattle.std.specs.List.{list_any};
+ghost use Rattle.std.specs.List.Sorted.{IsPermutation};
+ghost use Rattle.elf_model.specs.Choice.{most_bytes};
+ghost use Rattle.elf_wanted.specs.Names.{NeverFall, texts_of};
+
+use std::marker::Model;
+
+/// Texts in the rising order of their bytes, which a caller lends. One may come more than once.
+#[derive(Drop)]
+pub struct SortedTexts<'a> {
+    texts: &'a [&'a [u8]],
+}
+
+impl<'a> Model for SortedTexts<'a> {
+    ghost use Rattle.std.specs.Prelude.{List, ℕ};
+    ghost use Rattle.elf_wanted.specs.Names.{NeverFall, texts_of};
+
+    ghost Value = { List (List ℕ) };
+
+    ghost view = { λ s. texts_of s.texts.now };
+
+    ghost invariant = { λ s. NeverFall s.texts.now };
+}
+
+/// Puts texts into the rising order of their bytes.
+pub fn sort_texts(texts: &mut [&[u8]])
+    ensures same { IsPermutation (texts_of texts.old) (texts_of texts.new) }
+    ensures sorted { NeverFall texts.new }
+{
+    texts.sort_unstable();
+}
+
+impl<'a> SortedTexts<'a> {
+    /// Sorted texts, to look in.
+    pub fn new(texts: &'a [&'a [u8]]) -> SortedTexts<'a>
+        requires { NeverFall texts.now }
+        ensures { result ≡ texts_of texts.now }
+    {
+        SortedTexts { texts }
+    }
+
+    /// Whether one of the texts has these bytes. It compares as many as the logarithm of their number.
+    pub fn has(&self, text: &[u8]) -> bool
+        ensures { result ≡ list_any (bytes_eq text.now) self.now }
+    {
+        self.texts.binary_search(&text).is_ok()
+    }
+
+    /// How many bytes the longest text has.
+    #[tactic(auto, unfolding(elf_model::specs::Choice::most_bytes))]
+    pub fn longest(&self) -> usize
+        ensures { result ≡ most_bytes self.now }
+    {
+        let mut most = 0;
+        for text in self.texts {
+            most = text.len().max(most);
+        }
+        most
+    }
+}
