@@ -1,10 +1,9 @@
 -- A text that is told beside another, byte by byte.
-use Rattle.std.proofs.Common.{◌≡◌, ◌≢◌, ℕ, ◌+◌, ◌<◌, ◌≤◌, ◌==◌, ◌&&◌, true, false, inl, inr, codes, List, [], ◌∷◌, ◌++◌, length, drop, get_or, refl, sym, ap, subst, ◌∙◌, arith}
+use Rattle.std.proofs.Common.{◌≡◌, ◌≢◌, ℕ, ◌+◌, ◌<◌, ◌≤◌, ◌==◌, ◌&&◌, true, false, inl, inr, codes, List, [], ◌∷◌, ◌++◌, length, drop, get_or, refl, subst, arith}
 use Rattle.std.proofs.Common.{append-nil, add-one, drop-cons}
 use Rattle.std.proofs.lemmas.List.{drop_all}
 use Rattle.std.proofs.lemmas.Bool.{cases_Bool}
 use Rattle.std.proofs.lemmas.Bool.Decides.{nat_tests}
-use Rattle.elf_model.specs.Text.{newline}
 use Rattle.elf_model.specs.Lines.{name_byte_text}
 use Rattle.elf_lines.specs.Told.{told_byte, told_text}
 use Rattle.elf_lines.specs.Pieces.{TakesBefore}

@@ -1,8 +1,8 @@
 -- What was written and what is left are the text at each turn.
-use Rattle.std.proofs.Common.{◌≡◌, ◌≢◌, ◌==◌, ◌+◌, length, get_or, refl, sym, subst, arith, true, false}
+use Rattle.std.proofs.Common.{◌≡◌, ◌≢◌, length, sym, subst, arith}
 use Rattle.std.proofs.lemmas.Bool.Decides.{nat_tests}
 use Rattle.std.proofs.lemmas.Result.{err_from_is_err_and}
-use Rattle.elf_source.specs.Output.{Puts, TakesFront}
+use Rattle.elf_source.specs.Output.{Puts}
 use Rattle.elf_lines.specs.Pieces.{TakesBefore}
 use Rattle.elf_lines.proofs.Pieces.{Puts-rest}
 use Rattle.elf_program.specs.Marked.{bytes_beside, told_beside}
