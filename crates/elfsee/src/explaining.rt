@@ -1,6 +1,15 @@
 //! What would help behind a refusal of a section, told on standard error.
+ghost use Rattle.std.specs.Prelude.{◌≡◌, ◌≤◌, ◌^◌, ℕ, List, None, Some, IfErr, false};
+ghost use Rattle.elf_model.specs.Explain.{explained};
+ghost use Rattle.elf_model.specs.ExplainLine.{explanation};
+ghost use Rattle.elf_source.specs.Source.{Reads, SetsLimit};
+ghost use Rattle.elf_listing.specs.Reports.{Leaves};
+ghost use Rattle.elf_listing.specs.Shows.{StopSays};
+ghost use Rattle.elf_explain.specs.Explained.{explain_bytes, may_lack};
+ghost use Rattle.elfsee.specs.Explaining.{AsksRest, WroteUpTo, asks_why, lack_in, budget_left};
+
 use elf_explain::explain;
-use elf_headers::HeaderStore;
+use elf_headers::{HeaderStore, Stop};
 use elf_layout::Addresses;
 use elf_lines::show_lack;
 use elf_program::{ERROR_LINE_BYTES, write_rest};
@@ -21,7 +30,12 @@ pub fn tell_why<S: Source>(
     src: &mut Counted<S>,
     store: &mut HeaderStore<'_>,
     errors: Stderr,
-) {
+)
+    ensures slots { store.new.slots ≡ store.old.slots }
+    ensures quiet { asks_why request.now.task ≡ false → src.new ≡ src.old }
+    ensures asks { AsksRest request.now.limits.budget src.old src.new
+        (explain_bytes store.old.slots) }
+{
     if asks_why(request) {
         if let Ok(errors) = BufWriter::with_capacity(alloc, ERROR_LINE_BYTES, errors) {
             tell_into(request, refusal, src, store, errors);
@@ -36,16 +50,46 @@ fn tell_into<S: Source>(
     src: &mut Counted<S>,
     store: &mut HeaderStore<'_>,
     errors: BufWriter<Stderr>,
-) {
+)
+    ensures slots { store.new.slots ≡ store.old.slots }
+    ensures asks { AsksRest request.now.limits.budget src.old src.new
+        (explain_bytes store.old.slots) }
+{
     let mut out = Out::new(WriteSink::new(errors));
-    limit_rest(src, request.limits.budget);
-    tell_lack(request, refusal, src, store, &mut out);
-    src.limit(None);
+    let _ = tell_rest(request, refusal, src, store, &mut out);
     let _ = write_rest(out.into_inner().into_inner(), true);
 }
 
+/// Writes what would help where a request to apply was refused, within the rest of the read budget.
+/// Afterwards no limit is set on the source.
+///
+/// # Errors
+/// A refusal of the file, or because the budget is used up; a fault of the source or of the output. A
+/// front of the line was written.
+fn tell_rest<S: Source, W: Sink>(
+    request: &Request<'_>,
+    refusal: Refusal,
+    src: &mut Counted<S>,
+    store: &mut HeaderStore<'_>,
+    out: &mut Out<W>,
+) -> Result<(), Stop>
+    ensures slots { store.new.slots ≡ store.old.slots }
+    ensures asks { AsksRest request.now.limits.budget src.old src.new
+        (explain_bytes store.old.slots) }
+    ensures leaves { Leaves src.old src.new }
+    ensures tells { (file : List ℕ) → src.old.seen.file ≡ Some file →
+        WroteUpTo out.old out.new result (explanation (lack_in file request.now.task refusal)) }
+{
+    limit_rest(src, request.limits.budget);
+    let told = tell_lack(request, refusal, src, store, out);
+    src.limit(None);
+    told
+}
+
 /// Sets what is left of a budget for the whole account as the limit.
-fn limit_rest<S: Source>(src: &mut Counted<S>, budget: Option<u64>) {
+fn limit_rest<S: Source>(src: &mut Counted<S>, budget: Option<u64>)
+    ensures { SetsLimit src.old src.new (budget_left budget src.old.asked) }
+{
     match budget {
         None => src.limit(None),
         Some(bytes) => {
@@ -56,7 +100,10 @@ fn limit_rest<S: Source>(src: &mut Counted<S>, budget: Option<u64>) {
 }
 
 /// Whether a request asks what would help.
-fn asks_why(request: &Request<'_>) -> bool {
+#[tactic(auto, unfolding(crate::specs::Explaining::asks_why))]
+fn asks_why(request: &Request<'_>) -> bool
+    ensures { result ≡ asks_why request.now.task }
+{
     match request.task {
         Task::Apply { explain, .. } => explain,
         Task::Place { explain, .. } => explain,
@@ -65,13 +112,22 @@ fn asks_why(request: &Request<'_>) -> bool {
 }
 
 /// Writes the line of what the layout of a request lacks, if there is something.
+///
+/// # Errors
+/// As [`write_lack`].
+#[tactic(auto, unfolding(crate::specs::Explaining::lack_in))]
 fn tell_lack<S: Source, W: Sink>(
     request: &Request<'_>,
     refusal: Refusal,
     src: &mut Counted<S>,
     store: &mut HeaderStore<'_>,
     out: &mut Out<W>,
-) {
+) -> Result<(), Stop>
+    ensures slots { store.new.slots ≡ store.old.slots }
+    ensures reads { Reads src.old src.new (explain_bytes store.old.slots) }
+    ensures tells { (file : List ℕ) → src.old.seen.file ≡ Some file →
+        WroteUpTo out.old out.new result (explanation (lack_in file request.now.task refusal)) }
+{
     match request.task {
         Task::Apply {
             section,
@@ -79,18 +135,22 @@ fn tell_lack<S: Source, W: Sink>(
             ..
         } => {
             let addresses = Addresses::fixed(layout);
-            write_lack(src, store, section, &addresses, refusal, out);
+            write_lack(src, store, section, &addresses, refusal, out)
         }
         Task::Place {
             section,
             addresses,
             ..
         } => write_lack(src, store, section, addresses, refusal, out),
-        _ => {}
+        _ => Ok(()),
     }
 }
 
 /// Writes the line of what a layout lacks, if there is something.
+///
+/// # Errors
+/// A refusal of the file, or for want of budget; a fault of the source or of the output. A front of the
+/// line was written.
 fn write_lack<S: Source, W: Sink>(
     src: &mut Counted<S>,
     store: &mut HeaderStore<'_>,
@@ -98,9 +158,17 @@ fn write_lack<S: Source, W: Sink>(
     layout: &Addresses<'_>,
     refusal: Refusal,
     out: &mut Out<W>,
-) {
+) -> Result<(), Stop>
+    ensures slots { store.new.slots ≡ store.old.slots }
+    ensures unread { may_lack refusal.cause ≡ false → src.new ≡ src.old }
+    ensures reads { Reads src.old src.new (explain_bytes store.old.slots) }
+    ensures says { IfErr result (StopSays src.old src.new out.new (explain_bytes store.old.slots)) }
+    ensures tells { (file : List ℕ) → src.old.seen.file ≡ Some file →
+        WroteUpTo out.old out.new result (explanation (explained file section layout.now refusal)) }
+{
     let mut name = NameBuf::new();
-    if let Ok(Some((missing, end))) = explain(src, store, section, layout, refusal, &mut name) {
-        let _ = show_lack(missing, name.bytes(), end == NameEnd::Cut, out);
+    if let Some((missing, end)) = explain(src, store, section, layout, refusal, &mut name)? {
+        show_lack(missing, name.bytes(), end == NameEnd::Cut, out)?;
     }
+    Ok(())
 }

@@ -1,6 +1,8 @@
 //! A section applied with the items of a file.
-ghost use Rattle.std.specs.Prelude.{◌≡◌, [], IfOk};
-ghost use Rattle.elf_layout.specs.Listed.{AreSorted};
+ghost use Rattle.std.specs.Prelude.{◌≡◌, [], Ok, Err, IfErr, IfOk};
+ghost use Rattle.elf_model.specs.Placing.{Layout as Given};
+ghost use Rattle.elf_layout.specs.Listed.{AreReordered, AreSorted, Gathers};
+ghost use Rattle.elfsee.specs.Layouts.{EndsItems, EndsLine, PlacesIn};
 
 use crate::answer_request;
 use elf_layout::{Addresses, Items, ItemsFault, Layout, LentLayout, TextEnd, read_text};
@@ -84,7 +86,10 @@ fn sorted_items<'a>(
     text: &'a str,
     end: TextEnd,
 ) -> Result<Items<'a>, ItemsFault>
-    ensures { IfOk result AreSorted }
+    ensures sorted { IfOk result AreSorted }
+    ensures same { IfOk result (λ items. (given : Given)
+        × Gathers layout.now text.now end (Ok given) × AreReordered given items) }
+    ensures refused { IfErr result (λ fault. Gathers layout.now text.now end (Err fault)) }
 {
     let mut items = match Items::gather(alloc, layout, text, end) {
         Ok(items) => items,
@@ -107,22 +112,38 @@ where
     R::File: FileExt,
 {
     let addresses = Addresses::lent(lent);
-    let task = Task::Place {
-        section,
-        addresses: &addresses,
-        explain,
-    };
-    let request = Request {
+    let request = placed(asked, section, &addresses, explain);
+    answer_request(rt, &request, errors)
+}
+
+/// What is asked for of the file of another request: that one of its sections is applied in these
+/// addresses.
+fn placed<'a>(
+    asked: &Request<'a>,
+    section: u16,
+    addresses: &'a Addresses<'a>,
+    explain: bool,
+) -> Request<'a>
+    ensures file { result.file ≡ asked.now.file }
+    ensures limits { result.limits ≡ asked.now.limits }
+    ensures task { PlacesIn section addresses.now explain result.task }
+{
+    Request {
         file: asked.file,
         limits: asked.limits,
-        task,
-    };
-    answer_request(rt, &request, errors)
+        task: Task::Place {
+            section,
+            addresses,
+            explain,
+        },
+    }
 }
 
 /// How the program ends where the items of a file have a fault. What is wrong with a line is written to
 /// `errors`; where it can't be, the status alone tells.
-fn told(alloc: Global, errors: Stderr, fault: ItemsFault) -> Ending {
+fn told(alloc: Global, errors: Stderr, fault: ItemsFault) -> Ending
+    ensures { EndsItems fault result.0 result.1.now }
+{
     match fault {
         ItemsFault::Read => (2, "elfsee: cannot read layout"),
         ItemsFault::TooLarge => (2, "elfsee: layout too large"),
@@ -133,7 +154,9 @@ fn told(alloc: Global, errors: Stderr, fault: ItemsFault) -> Ending {
 }
 
 /// Writes what is wrong with a line, and answers how the program ends.
-fn tell_line(alloc: Global, mut errors: Stderr, what: &str, line: u64) -> Ending {
+fn tell_line(alloc: Global, mut errors: Stderr, what: &str, line: u64) -> Ending
+    ensures { EndsLine result.0 result.1.now }
+{
     let Ok(text) = format!(in alloc; "elfsee: {what} in line {line}\n") else {
         return OUT_OF_MEMORY;
     };

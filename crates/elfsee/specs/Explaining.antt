@@ -1,0 +1,35 @@
+-- What is told behind a refusal of a section, and what that asks for.
+use Rattle.std.specs.Prelude.{ℕ, ◌+◌, ◌-◌, ◌≤◌, max, Bool, false, List, Option, None, Result, Ok, Err, IfSome, option_map}
+use Rattle.elf_model.specs.Explain.{Lack, explained}
+use Rattle.elf_model.specs.declared.causes.Refusal.{Refusal}
+use Rattle.elf_source.specs.Source.{Counting}
+use Rattle.elf_source.specs.Output.{Written, Takes, TakesFront}
+use Rattle.elf_headers.specs.declared.stop.Stop.{Stop}
+use Rattle.elf_words.specs.declared.requests.Task.{Task}
+use Rattle.elf_words.specs.declared.requests.Task.TheVariants.{Apply, Place}
+
+-- whether a task asks what would help
+unfoldable pub asks_why : Task → Bool
+asks_why (Apply section layout explain) = explain
+asks_why (Place section addresses explain) = explain
+asks_why _ = false
+
+-- what the layout of a task lacks where a section was refused in it
+unfoldable pub lack_in : List ℕ → Task → Refusal → Option Lack
+lack_in file (Apply section layout explain) refusal = explained file section layout.now refusal
+lack_in file (Place section addresses explain) refusal = explained file section addresses.now refusal
+lack_in file _ refusal = None
+
+-- what is left of a budget for a whole account
+abbrev pub budget_left : Option ℕ → ℕ → Option ℕ
+budget_left budget asked = option_map (λ bytes. bytes - asked) budget
+
+-- WHAT IS ASKED FOR beside what was asked before: no more than n bytes, and within what is left of the budget for all of it
+pub record AsksRest (budget : Option ℕ) (old new : Counting) (n : ℕ) : Type 0 where
+  pub most : new.asked ≤ old.asked + n
+  pub within : IfSome budget (λ bytes. new.asked ≤ max old.asked bytes)
+
+-- a text was told, or a front of it where the call stopped
+abbrev pub WroteUpTo : {X : Type 0} → Written → Written → Result X Stop → List ℕ → Type 0
+WroteUpTo old new (Ok x) text = Takes old new text
+WroteUpTo old new (Err stop) text = TakesFront old new text
