@@ -57,7 +57,8 @@ enum {
 /* The parts of a listing; other bits have no meaning. */
 enum {
     ELFSEE_HEADER = 1, ELFSEE_SECTIONS = 2, ELFSEE_SEGMENTS = 4, ELFSEE_SYMBOLS = 8,
-    ELFSEE_RELOCS = 16, ELFSEE_NOTES = 32, ELFSEE_DYNAMIC = 64, ELFSEE_ALL = 127
+    ELFSEE_RELOCS = 16, ELFSEE_NOTES = 32, ELFSEE_DYNAMIC = 64, ELFSEE_ALL = 127,
+    ELFSEE_VERSIONS = 128 /* of elfsee_list with ELFSEE_GNU alone */
 };
 
 /* Why a file is refused; 0 is no cause. elfsee_cause_word has the words. */
@@ -119,6 +120,26 @@ uint32_t elfsee_show(const uint8_t *file, size_t file_len, const struct elfsee_l
                      uint16_t parts, uint8_t *room, size_t room_len, uint8_t *out, size_t out_len,
                      struct elfsee_end *end);
 
+/* Which listing elfsee_list makes. A later version may have more fields behind these. */
+struct elfsee_listing {
+    uint16_t parts; /* the sum of some parts */
+    uint16_t flags; /* the sum of some of ELFSEE_BY_SEGMENTS, ELFSEE_GNU and ELFSEE_JSON */
+};
+
+/* Lists a file as elfsee_show does, in the style that `listing` asks for, of which `listing_len` bytes
+ * are there: sizeof(struct elfsee_listing) of the header that the caller was compiled with. So a caller
+ * of a later header may use this library as long as the fields that it does not know are 0, and one of
+ * this header a later library.
+ *  OK, REFUSED, FULL: as of elfsee_show. With ELFSEE_BY_SEGMENTS tables are found by the program headers,
+ *    with ELFSEE_GNU numbers of the GNU system have names too, and with ELFSEE_JSON each line is an object.
+ *  BAD_CALL: exactly where it is of elfsee_show, and for a `listing_len` of less than 4, a byte of
+ *    `listing` behind the fourth that is not 0, flags that are none of these, and parts of more than
+ *    ELFSEE_ALL, or with ELFSEE_GNU of more than ELFSEE_ALL + ELFSEE_VERSIONS.
+ * Always: written <= out_len; `asked` is at most the listing's cost, and the budget. */
+uint32_t elfsee_list(const uint8_t *file, size_t file_len, const struct elfsee_limits *limits,
+                     const struct elfsee_listing *listing, size_t listing_len, uint8_t *room,
+                     size_t room_len, uint8_t *out, size_t out_len, struct elfsee_end *end);
+
 /* A symbol, field by field (gABI, Symbol Table). */
 struct elfsee_symbol {
     uint64_t value, size;
@@ -152,10 +173,12 @@ uint32_t elfsee_find(const uint8_t *file, size_t file_len, const struct elfsee_l
                      uint8_t *room, size_t room_len, const uint8_t *name, size_t name_len,
                      struct elfsee_found *found, struct elfsee_end *end);
 
-/* How a loader's lookup is made; the numbers add up. */
+/* How a loader's lookup or a listing is made; the numbers add up. */
 enum {
     ELFSEE_BY_SEGMENTS = 1, /* by the program headers, also where there are section headers */
-    ELFSEE_DEFAULT_ONLY = 2 /* the version that is asked for is to be the symbol's default version */
+    ELFSEE_DEFAULT_ONLY = 2, /* a lookup: the version that is asked for is to be the symbol's default one */
+    ELFSEE_GNU = 4, /* a listing: with the names of the GNU system, and its symbol versions */
+    ELFSEE_JSON = 8 /* a listing: each line is a JSON object */
 };
 
 /* What a loader's lookup found; all 0 where it found nothing, but for `tried`. */
@@ -414,6 +437,7 @@ uint32_t elfsee_section_names(const uint8_t *file, size_t file_len,
 namespace elfsee {
 typedef struct ::elfsee_limits limits;
 typedef struct ::elfsee_end end;
+typedef struct ::elfsee_listing listing;
 typedef struct ::elfsee_symbol symbol;
 typedef struct ::elfsee_range range;
 typedef struct ::elfsee_found found;

@@ -21,6 +21,9 @@ static void calls(void) {
     FIELD(elfsee_end, asked);
     FIELD(elfsee_end, cause);
     FIELD(elfsee_end, none);
+    WHOLE(elfsee_listing);
+    FIELD(elfsee_listing, parts);
+    FIELD(elfsee_listing, flags);
     WHOLE(elfsee_found);
     FIELD(elfsee_found, symbol);
     FIELD(elfsee_found, index);

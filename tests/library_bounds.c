@@ -782,6 +782,34 @@ static int any_show(void) {
     return take_back(&some_room) & take_back(&some_out) & all;
 }
 
+/* A listing in any style: the struct has any bytes, and any number of them. */
+static int any_list(void) {
+    struct lent file = changed(next() & 1 ? &object : &library);
+    struct lent some_room = lend(next() % (64 * 50), next() & 1), some_out = lend(next() % 20000, next() & 1);
+    struct lent asked = lend(next() % 4 ? 4 * (next() % 4) : next() % 16, 0);
+    struct elfsee_limits limits = any_limits();
+    struct elfsee_end end = ODD;
+    uint8_t asks[16] = {0};
+    size_t i, zeros = 1;
+    for (i = 0; i < asked.len; i += 1)
+        asks[i] = (uint8_t)(i >= 4 ? next() % 40 == 0 : next() % 3 ? next() % 16 : i % 2 ? 0 : next());
+    if (asked.len) memcpy(asked.bytes, asks, asked.len);
+    uint32_t status = elfsee_list(file.bytes, file.len, &limits, (const void *)asked.bytes, asked.len,
+                                  some_room.bytes, some_room.len, some_out.bytes, some_out.len, &end);
+    unsigned parts = asks[0] | (unsigned)asks[1] << 8, flags = asks[2] | (unsigned)asks[3] << 8;
+    for (i = 4; i < asked.len; i += 1) zeros &= asks[i] == 0;
+    int bad = limits.headers < 1 || limits.headers > 65279 || limits.name < 1 || limits.name > 4096 ||
+              some_room.len < 64 || asked.len < 4 || !zeros || flags & ~13u || parts > (flags & 4 ? 255u : 127u);
+    int all = status <= ELFSEE_BAD_CALL && status != ELFSEE_ABSENT && bad == (status == ELFSEE_BAD_CALL) &&
+              end.written <= some_out.len && end.none == 0 && (end.cause != 0) == (status == ELFSEE_REFUSED) &&
+              (status == ELFSEE_REFUSED || end.at == 0) && (!limits.has_budget || end.asked <= limits.budget);
+    all &= end.asked <= elfsee_cost(file.len, &limits) && (!bad || (end.asked == 0 && end.written == 0));
+    all &= status != ELFSEE_FULL || end.written == some_out.len;
+    take_back(&file);
+    take_back(&asked);
+    return take_back(&some_room) & take_back(&some_out) & all;
+}
+
 static int any_find(void) {
     struct lent file = changed(&library), name = lend_copy(library.bytes, next() % 300, next() & 1);
     struct lent some_room = lend(next() % (64 * 50), next() & 1);
@@ -1050,6 +1078,7 @@ int main(int argc, char **argv) {
     many("headers of changed files", any_header, tries);
     many("segments of changed files, at any address", any_mapped, tries);
     many("listings of changed files, with any limits", any_show, tries);
+    many("listings of changed files in any style, asked for by any bytes", any_list, tries);
     many("lookups in changed files, with any limits", any_find, tries);
     many("a loader's lookups in changed files, with any flags", any_look_up, tries);
     many("the bytes of sections of changed files", any_bytes, tries);

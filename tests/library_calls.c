@@ -1,6 +1,7 @@
 /* Calls the library as the lines of standard input say, for tests/library. A line is one of
  *
  *     show HEADERS NAME BUDGET PARTS PATH
+ *     list HEADERS NAME BUDGET PARTS FLAGS PATH        as elfsee_list does it
  *     find HEADERS BUDGET NAME PATH          NAME in hexadecimal digits, or -
  *     resolve HEADERS BUDGET FLAGS NAME VERSION PATH   both in hexadecimal digits, or -
  *     apply HEADERS BUDGET SECTION ITEMS PATH
@@ -115,6 +116,42 @@ static void show_again(const struct lent *file, const struct elfsee_limits *limi
     expect(!memcmp(again.out.bytes, whole->out.bytes, (size_t)again.end.written),
            "another text with other room");
     take_back(&again.out);
+}
+
+/* The listing in a style. Behind the struct there are zeros, as many as the turn says, as of a later version's
+ * fields: they must not matter. */
+static struct shown list_into(const struct lent *file, const struct elfsee_limits *limits,
+                              const struct elfsee_listing *asked, size_t room_len, size_t out_len) {
+    struct shown shown = {lend(out_len, turn & 1), {7, 7, 7, 7, 7}, 0};
+    size_t asked_len = sizeof *asked + (turn & 3) * 4;
+    struct lent room = lend(room_len, turn & 2), listing = lend(asked_len, turn & 4);
+    turn++;
+    memset(listing.bytes, 0, asked_len);
+    memcpy(listing.bytes, asked, sizeof *asked);
+    shown.status = elfsee_list(file->bytes, file->len, limits, (const void *)listing.bytes, asked_len, room.bytes,
+                               room.len, shown.out.bytes, out_len, &shown.end);
+    expect(!memcmp(listing.bytes, asked, sizeof *asked), "the struct was written");
+    expect(take_back(&listing), "the struct was written outside");
+    expect(is_whole(&shown.out), "out was written outside");
+    expect(take_back(&room), "room was written outside");
+    expect(shown.end.written <= out_len, "more written than lent");
+    expect(shown.end.none == 0, "none is not 0");
+    return shown;
+}
+
+static void list(const struct lent *file, char **words) {
+    struct elfsee_limits limits = limits_of(words[0], words[1], words[2]);
+    struct elfsee_listing asked = {(uint16_t)atoi(words[3]), (uint16_t)atoi(words[4])};
+    size_t room_len = HEADER_BYTES * (size_t)limits.headers, out_len = 1 << 16;
+    struct shown shown = list_into(file, &limits, &asked, room_len, out_len);
+    while (shown.status == ELFSEE_FULL) {
+        expect(shown.end.written == out_len, "full, and not written to the end");
+        take_back(&shown.out);
+        out_len *= 4;
+        shown = list_into(file, &limits, &asked, room_len, out_len);
+    }
+    answer(shown.status, &shown.end, elfsee_cost(file->len, &limits), shown.out.bytes, (size_t)shown.end.written);
+    take_back(&shown.out);
 }
 
 static void show(const struct lent *file, char **words) {
@@ -620,6 +657,7 @@ static void split(char *line, char **words, size_t count) {
 static void answer_line(char *line) {
     char *words[7];
     size_t count = !strncmp(line, "show ", 5)      ? 5
+                   : !strncmp(line, "list ", 5)    ? 6
                    : !strncmp(line, "find ", 5)    ? 4
                    : !strncmp(line, "resolve ", 8) ? 6
                    : !strncmp(line, "apply ", 6)   ? 5
@@ -631,6 +669,7 @@ static void answer_line(char *line) {
     split(line, words, count);
     struct lent file = read_file(words[count]);
     if (!strcmp(words[0], "show")) show(&file, words + 1);
+    if (!strcmp(words[0], "list")) list(&file, words + 1);
     if (!strcmp(words[0], "find")) find(&file, words + 1);
     if (!strcmp(words[0], "resolve")) resolve(&file, words + 1);
     if (!strcmp(words[0], "apply")) apply(&file, words + 1);

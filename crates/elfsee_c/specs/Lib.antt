@@ -1,4 +1,5 @@
 pub mod Applied
+pub mod Asked
 pub mod Causes
 pub mod Costs
 pub mod Ends

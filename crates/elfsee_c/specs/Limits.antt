@@ -1,10 +1,11 @@
 -- What limits and room permit.
 use Rattle.elf_headers.specs.Permitted.{style_of}
-use Rattle.elf_model.specs.Style.{standard}
 use Rattle.std.specs.Prelude.{ℕ, ◌≡◌, ◌≤◌, ◌/◌, ◌==◌, min, true, false, Option, None, Some}
 use Rattle.elf_headers.specs.Permitted.{AreHeaders, AreNameBytes}
 use Rattle.elf_headers.specs.declared.caps.Caps.{Caps}
 use Rattle.elf_headers.specs.declared.caps.Limits.{Limits as Permitted}
+use Rattle.elfsee_c.specs.Asked.{caller_style}
+use Rattle.elfsee_c.specs.declared.asked.CallerListing.{CallerListing}
 use Rattle.elfsee_c.specs.declared.limits.CallerLimits.{CallerLimits}
 
 -- the read budget, where there is one
@@ -29,8 +30,8 @@ GivesLimits limits room None = AreInRange limits room → ⊥
 GivesLimits limits room (Some permitted) = AreInRange limits room × (permitted.headers ≡ headers_of limits room) × (permitted.budget ≡ budget_of limits)
 
 -- the same for a listing
-abbrev pub GivesCaps : CallerLimits → ℕ → Option Caps → Type 0
-GivesCaps limits room None = AreCaps limits room → ⊥
-GivesCaps limits room (Some caps) =
+abbrev pub GivesCaps : CallerLimits → ℕ → CallerListing → Option Caps → Type 0
+GivesCaps limits room listing None = AreCaps limits room → ⊥
+GivesCaps limits room listing (Some caps) =
     AreCaps limits room × (caps.limits.headers ≡ headers_of limits room) × (caps.limits.budget ≡ budget_of limits)
-    × (style_of caps.style ≡ standard limits.name)
+    × (style_of caps.style ≡ caller_style listing limits.name)

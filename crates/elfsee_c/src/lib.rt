@@ -4,6 +4,7 @@
 
 mod applied;
 mod applying;
+mod asked;
 mod causes;
 mod contents;
 mod cost;

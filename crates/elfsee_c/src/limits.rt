@@ -2,7 +2,8 @@
 ghost use Rattle.elfsee_c.specs.Limits.{GivesCaps, GivesLimits, budget_of};
 ghost use Rattle.std.specs.Prelude.{◌≡◌};
 
-use elf_headers::{Cap, Caps, Style};
+use crate::asked::CallerListing;
+use elf_headers::{Cap, Caps};
 
 /// How many bytes of room a header takes.
 const HEADER_BYTES: usize = 64;
@@ -42,11 +43,11 @@ pub(crate) fn limits_of(limits: &CallerLimits, room: usize) -> Option<elf_header
     elf_headers::Limits::new(headers as u16, given.budget)
 }
 
-/// The same for a listing; None also where so many bytes of a name are not permitted.
-pub(crate) fn caps_of(limits: &CallerLimits, room: usize) -> Option<Caps>
-    ensures { GivesCaps limits.now room result }
+/// The same for a listing that is asked for; None also where so many bytes of a name are not permitted.
+pub(crate) fn caps_of(limits: &CallerLimits, room: usize, listing: CallerListing) -> Option<Caps>
+    ensures { GivesCaps limits.now room listing result }
 {
-    let style = Style::standard(Cap::new(limits.name)?);
+    let style = listing.style(Cap::new(limits.name)?);
     let limits = limits_of(limits, room)?;
     Some(Caps { limits, style })
 }

@@ -1,15 +1,18 @@
-//! The export that lists a file in memory.
+//! The exports that list a file in memory.
 ghost use Rattle.std.specs.Prelude.{◌≡◌, ◌≤◌, IfSome, length};
-ghost use Rattle.elf_model.specs.Cost.{cost};
-ghost use Rattle.elfsee_c.specs.Limits.{budget_of, headers_of};
-ghost use Rattle.elfsee_c.specs.Shown.{HasListing, ShowsInMemory};
+ghost use Rattle.elf_model.specs.Cost.{listing_cost};
+ghost use Rattle.elfsee_c.specs.Asked.{AsksListing, caller_style, parts_in, style_in};
+ghost use Rattle.elfsee_c.specs.Limits.{AreCaps, budget_of, headers_of};
+ghost use Rattle.elfsee_c.specs.Shown.{HasAskedListing, HasListing, ShowsInMemory};
 
+use crate::asked::{CallerListing, listing_of};
 use crate::counts::short;
 use crate::end::End;
 use crate::limits::{CallerLimits, caps_of};
 use crate::listing::{CallOutcome, list};
 use crate::told::{Told, tell};
 use elf_headers::HeaderStore;
+use elf_model::Format;
 use elf_record::Parts;
 
 /// Lists a file that lies in memory into memory of the caller, as far as `parts` has it. `room` is
@@ -29,30 +32,88 @@ pub extern "C" fn elfsee_show(
     ensures { HasListing file.now limits.now
         (length room.old) parts result out.old out.new end.new }
 {
-    let told = show_to(file, limits, Parts(parts), room, out, end);
+    let listing = CallerListing {
+        parts: Parts(parts),
+        gnu: false,
+        by_segments: false,
+        format: Format::Columns,
+    };
+    let told = show_to(file, limits, listing, room, out, end);
     tell(told, end)
+}
+
+/// Lists a file that lies in memory into memory of the caller, as `asked` says: the bytes of a struct
+/// of two numbers of 16 bits, the parts, and the sum of flags: 1 finds tables by the program headers
+/// also where there are section headers, 4 names the numbers of the GNU system too, and has the symbol
+/// versions as a part, and 8 writes each line as a JSON object. `room` is where the file's headers lie
+/// meanwhile.
+///
+/// Answers 0 where it was listed, 1 where it is refused or the budget is used up, 3 where the listing
+/// has more bytes than `out`, 4 where the limits or the room are outside their ranges, or `asked` has
+/// fewer than 4 bytes, a flag or a part that such a listing has not, or behind its fourth byte one that
+/// is not 0.
+#[unsafe(no_mangle)]
+pub extern "C" fn elfsee_list(
+    file: &[u8],
+    limits: &CallerLimits,
+    asked: &[u8],
+    room: &mut [u8],
+    out: &mut [u8],
+    end: &mut End,
+) -> u32
+    ensures { HasAskedListing file.now limits.now
+        (length room.old) asked.now result out.old out.new end.new }
+{
+    let told = list_to(file, limits, asked, room, out, end);
+    tell(told, end)
+}
+
+/// Lists the file as the bytes of a struct ask for, and answers how that ended. The counts are written
+/// to `end`.
+fn list_to(
+    file: &[u8],
+    limits: &CallerLimits,
+    asked: &[u8],
+    room: &mut [u8],
+    out: &mut [u8],
+    end: &mut End,
+) -> Told
+    ensures shows { let room = length room.old in
+        ShowsInMemory (AreCaps limits.now room × AsksListing asked.now) file.now limits.now room
+        (style_in asked.now limits.now.name) (parts_in asked.now) out.old out.new end.new result }
+    ensures within { end.new.written ≤ length out.new }
+    ensures cost { end.new.asked ≤ listing_cost file.now (headers_of limits.now (length room.old))
+        (style_in asked.now limits.now.name) (parts_in asked.now) }
+    ensures budget { IfSome (budget_of limits.now) (λ bytes. end.new.asked ≤ bytes) }
+    ensures clear { (end.new.cause ≡ 0) × (end.new.at ≡ 0) × (end.new.none ≡ 0) }
+{
+    end.clear();
+    match listing_of(asked) {
+        Some(listing) => show_to(file, limits, listing, room, out, end),
+        None => Told::BadCall,
+    }
 }
 
 /// Lists the file, and answers how that ended. The counts are written to `end`.
 fn show_to(
     file: &[u8],
     limits: &CallerLimits,
-    parts: Parts,
+    listing: CallerListing,
     room: &mut [u8],
     out: &mut [u8],
     end: &mut End,
 ) -> Told
-    ensures shows { ShowsInMemory file.now limits.now
-        (length room.old) parts.0 out.old out.new end.new
-        result }
+    ensures shows { let room = length room.old in
+        ShowsInMemory (AreCaps limits.now room) file.now limits.now room
+        (caller_style listing limits.now.name) listing.parts.0 out.old out.new end.new result }
     ensures within { end.new.written ≤ length out.new }
-    ensures cost { end.new.asked ≤ cost file.now (headers_of limits.now (length room.old))
-        limits.now.name parts.0 }
+    ensures cost { end.new.asked ≤ listing_cost file.now (headers_of limits.now (length room.old))
+        (caller_style listing limits.now.name) listing.parts.0 }
     ensures budget { IfSome (budget_of limits.now) (λ bytes. end.new.asked ≤ bytes) }
     ensures clear { (end.new.cause ≡ 0) × (end.new.at ≡ 0) × (end.new.none ≡ 0) }
 {
     end.clear();
-    let Some(caps) = caps_of(limits, room.len()) else {
+    let Some(caps) = caps_of(limits, room.len(), listing) else {
         return Told::BadCall;
     };
     let mut store = HeaderStore::over(room, caps.headers());
@@ -60,7 +121,7 @@ fn show_to(
         told: Told::BadCall,
         asked: 0,
     };
-    end.written = list(file, &mut store, caps, parts, out, &mut outcome) as u64;
+    end.written = list(file, &mut store, caps, listing.parts, out, &mut outcome) as u64;
     end.asked = short(outcome.asked);
     outcome.told
 }

@@ -51,7 +51,7 @@ if TYPE_CHECKING:
     import mmap
 
 __all__ = [
-    "ALL", "DYNAMIC", "HEADER", "NOTES", "RELOCS", "SECTIONS", "SEGMENTS", "SYMBOLS",
+    "ALL", "DYNAMIC", "HEADER", "NOTES", "RELOCS", "SECTIONS", "SEGMENTS", "SYMBOLS", "VERSIONS",
     "Absent", "Cause", "Dynamic", "File", "Full", "Header", "Layout", "Listing", "Lookup", "Member",
     "Note", "Refused", "Relocation", "Resolved", "Section", "Segment", "Symbol", "SymbolVersion", "VERSION",
     "spelt",
@@ -64,8 +64,8 @@ __all__ += [
     "word_of",
 ]
 
-# The parts of a listing.
-HEADER, SECTIONS, SEGMENTS, SYMBOLS, RELOCS, NOTES, DYNAMIC = (1 << bit for bit in range(7))
+# The parts of a listing; VERSIONS is one with the names of the GNU system alone.
+HEADER, SECTIONS, SEGMENTS, SYMBOLS, RELOCS, NOTES, DYNAMIC, VERSIONS = (1 << bit for bit in range(8))
 ALL = 127
 # The permitted range of each limit, and what it is where nobody says.
 MOST_HEADERS, MOST_NAME, MOST_NUMBER = 65279, 4096, (1 << 64) - 1
@@ -143,6 +143,7 @@ def _struct(name: str, *fields: Tuple[Any, str]) -> Any:
 
 _Limits = _struct("elfsee_limits", (_U16, "headers name"), (_U32, "has_budget"), (_U64, "budget"))
 _End = _struct("elfsee_end", (_U64, "at written asked"), (_U32, "cause none"))
+_Listing = _struct("elfsee_listing", (_U16, "parts flags"))
 _Symbol = _struct("elfsee_symbol", (_U64, "value size"), (_U32, "name"), (_U16, "section"),
                   (_U8, "info other"))
 _Found = _struct("elfsee_found", (_Symbol, "symbol"), (_U32, "index steps"), (_U16, "section none"),
@@ -169,7 +170,7 @@ _Notes = _struct("elfsee_notes", (_U64, "at left align"), (_U32, "header none"))
 _Note = _struct("elfsee_note", (_U64, "at name_at desc_at"), (_U32, "namesz descsz type header"))
 _Members = _struct("elfsee_members", (_U64, "at"), (_Range, "names"), (_U32, "has_names none"))
 _Member = _struct("elfsee_member", (_U64, "at"), (_Range, "content name"), (_U32, "is_cut none"))
-STRUCTS = (_Limits, _End, _Symbol, _Range, _Found, _Resolved, _Item, _Job, _Header, _Section, _Segment,
+STRUCTS = (_Limits, _End, _Listing, _Symbol, _Range, _Found, _Resolved, _Item, _Job, _Header, _Section, _Segment,
            _Relocation, _Dynamic, _Rows, _Notes, _Note, _Members, _Member)
 
 # The same as forms of `struct`, of the rows that are read in batches.
@@ -192,6 +193,7 @@ _CALLS: Mapping[str, Tuple[Any, ...]] = {
     "room": (_U64, *_FILE, _U16),
     "cost": (_U64, _U64, _to(_Limits)),
     "show": (_U32, *_FILE, _to(_Limits), _U8, *_ROOM, *_OUT, _to(_End)),
+    "list": (_U32, *_FILE, _to(_Limits), _to(_Listing), ctypes.c_size_t, *_ROOM, *_OUT, _to(_End)),
     "find": (_U32, *_FILE, _to(_Limits), *_ROOM, *_FILE, _to(_Found), _to(_End)),
     "look_up": (_U32, *_FILE, _to(_Limits), _U32, *_FILE, *_FILE, *_ROOM, _to(_Resolved), _to(_End)),
     "apply": (_U32, *_FILE, _to(_Limits), _to(_Job), *_ROOM, *_OUT, _to(_End)),
@@ -474,8 +476,8 @@ class Listing(NamedTuple):
     asked: int
 
 
-# How a loader's lookup is made.
-_BY_SEGMENTS, _DEFAULT_ONLY = 1, 2
+# How a loader's lookup and a listing are made.
+_BY_SEGMENTS, _DEFAULT_ONLY, _GNU, _JSON = 1, 2, 4, 8
 
 _NOTHING: Mapping[Any, int] = types.MappingProxyType({})
 
@@ -612,31 +614,43 @@ class File:
         cost: int = _library.elfsee_cost(len(self.data), _limits_of(self._headers, name_cap, self._budget))
         return cost
 
-    def show(self, parts: int = ALL, name_cap: int = DEFAULT_NAME, most: int = 1 << 30) -> Listing:
-        """A listing of some parts, with so many bytes of a name. It is what the program elfsee prints,
-        byte for byte, and a refusal is its last line: this raises no Refused. Full is raised where
-        it has more than `most` bytes. Where the memory is too little, it is made four times as large
-        and the listing begins anew."""
+    def show(self, parts: Optional[int] = None, name_cap: int = DEFAULT_NAME, most: int = 1 << 30, *,
+             gnu: bool = False, by_segments: bool = False, json: bool = False) -> Listing:
+        """A listing of some parts, or of all, with so many bytes of a name. It is what the program elfsee
+        prints, byte for byte, and a refusal is its last line: this raises no Refused. `gnu`,
+        `by_segments` and `json` are the program's options of these names: numbers of the GNU system have
+        names, and the symbol versions are a part; tables are found by the program headers; each line is a
+        JSON object. Full is raised where it has more than `most` bytes. Where the memory is too little,
+        it is made four times as large and the listing begins anew."""
         data, end = self.data, _End()
+        if parts is None:
+            parts = ALL + VERSIONS if gnu else ALL
+        flags = (_BY_SEGMENTS if by_segments else 0) + (_GNU if gnu else 0) + (_JSON if json else 0)
         limits = _limits_of(self._headers, name_cap, self._budget)
         _within("parts", parts, 0, 65535)
         length = min(_within("most", most, 0, 1 << 62), (1 << 16) + len(data) // 4)
         while True:
             out = ctypes.create_string_buffer(max(length, 1))
-            status = _library.elfsee_show(data, len(data), limits, parts, *self._lent(), out, length, end)
+            lent = (*self._lent(), out, length, end)
+            if flags:
+                listing = _Listing(parts, flags)
+                status = _library.elfsee_list(data, len(data), limits, listing, ctypes.sizeof(listing), *lent)
+            else:
+                status = _library.elfsee_show(data, len(data), limits, parts, *lent)
             if status != _FULL:
                 break
             if length == most:
                 raise Full("the listing has more than %d bytes" % most)
             length = min(most, 4 * length)
         if status == _BAD_CALL:
-            raise ValueError("elfsee_show takes no such arguments")
+            raise ValueError("a listing takes no such arguments")
         refused = Refused(end.cause, end.at) if status == _REFUSED else None
         return Listing(ctypes.string_at(out, end.written).decode("ascii"), refused, end.asked)
 
-    def text(self, parts: int = ALL, name_cap: int = DEFAULT_NAME, most: int = 1 << 30) -> str:
+    def text(self, parts: Optional[int] = None, name_cap: int = DEFAULT_NAME, most: int = 1 << 30, *,
+             gnu: bool = False, by_segments: bool = False, json: bool = False) -> str:
         """The text of `show`."""
-        return self.show(parts, name_cap, most).text
+        return self.show(parts, name_cap, most, gnu=gnu, by_segments=by_segments, json=json).text
 
     def find(self, name: Name) -> Lookup:
         """Looks a name up by the file's own SysV hash table: the first symbol of that name in its

@@ -1,6 +1,7 @@
 //! Each call of the crate from a command line.
 //!
 //!     calls show FILE [PART]      the listing, or one part of it
+//!     calls list FILE STYLE..     the listing with some of gnu, by-segments and json
 //!     calls asked FILE            how many bytes of the file the listing asks for
 //!     calls find FILE NAME        the symbol and the steps
 //!     calls resolve FILE NAME[@[@]VERSION] [by-segments]
@@ -43,6 +44,24 @@ fn show(file: &File, parts: u16, is_counted: bool) -> Result<(), Error> {
                 println!("{}", listing.asked);
                 return Ok(());
             }
+            Ok(listing) => {
+                print!("{}", listing.text);
+                return listing.refused.map_or(Ok(()), |refused| Err(refused.into()));
+            }
+        }
+    }
+}
+
+/// A listing in a style, with all parts that it has.
+fn list(file: &File, words: &[String]) -> Result<(), Error> {
+    let has = |word: &str| words.iter().any(|one| one == word);
+    let style = elfsee::Style { gnu: has("gnu"), by_segments: has("by-segments"), json: has("json") };
+    let parts = if style.gnu { elfsee::ALL | elfsee::VERSIONS } else { elfsee::ALL };
+    let (mut room, mut out) = (vec![0; file.room()], vec![0; 4096]);
+    loop {
+        match file.show_in(style, parts, &mut room, &mut out) {
+            Err(Error::Full) => out = vec![0; 2 * out.len()],
+            Err(error) => return Err(error),
             Ok(listing) => {
                 print!("{}", listing.text);
                 return listing.refused.map_or(Ok(()), |refused| Err(refused.into()));
@@ -251,6 +270,7 @@ fn main() {
         let done = match &words[0][..] {
             "show" => show(&file, part(words.get(2)), false),
             "asked" => show(&file, elfsee::ALL, true),
+            "list" => list(&file, &words[2..]),
             "find" => find(&file, words[2].as_bytes()),
             "resolve" => resolve(&file, &wanted(&words[2], words.len() > 3)),
             "contents" => contents(&file),
@@ -260,7 +280,7 @@ fn main() {
         };
         if let Err(error) = done {
             ended = 1;
-            if words[0] != "show" {
+            if words[0] != "show" && words[0] != "list" {
                 println!("! {error}");
             }
         }

@@ -66,8 +66,30 @@ pub const RELOCS: u16 = 16;
 pub const NOTES: u16 = 32;
 /// The dynamic entries.
 pub const DYNAMIC: u16 = 64;
-/// All parts of a listing.
+/// All parts of a listing in the standards' names.
 pub const ALL: u16 = 127;
+/// The symbol versions, of listings with the names of the GNU system alone.
+pub const VERSIONS: u16 = 128;
+
+/// How a listing is made; by default as [`File::show`] makes it.
+#[derive(Clone, Copy, Debug, Default, PartialEq, Eq)]
+pub struct Style {
+    /// Whether numbers of the GNU system have names, and [`VERSIONS`] is a part.
+    pub gnu: bool,
+    /// Whether tables are found by the program headers also where there are section headers.
+    pub by_segments: bool,
+    /// Whether each line is a JSON object.
+    pub json: bool,
+}
+
+impl Style {
+    fn flags(self) -> u16 {
+        let flags = u32::from(self.by_segments) * raw::BY_SEGMENTS
+            + u32::from(self.gnu) * raw::GNU
+            + u32::from(self.json) * raw::JSON;
+        flags as u16
+    }
+}
 
 impl raw::Symbol {
     /// Its type: STT_FUNC and the like (gABI, Symbol Table).
@@ -328,12 +350,52 @@ impl<'a> File<'a> {
                 &mut end,
             )
         };
-        if status == raw::FULL || status == raw::BAD_CALL {
-            return Err(error_of(status, &end));
-        }
-        let text = core::str::from_utf8(written(out, &end)).unwrap_or("");
-        let refused = (status == raw::REFUSED).then(|| Refused::of(&end));
-        Ok(Listing { text, refused, asked: end.asked })
+        listed(status, out, &end)
+    }
+
+    /// The same in a style: with names of the numbers of the GNU system, by the program headers, or each
+    /// line as a JSON object. With the names of the GNU system [`VERSIONS`] is a part too.
+    /// [`Error::BadCall`] for parts that such a listing has not.
+    ///
+    /// ```
+    /// use elfsee::{Style, ALL, VERSIONS};
+    ///
+    /// # fn main() -> Result<(), Box<dyn std::error::Error>> {
+    /// let bytes = std::fs::read("/proc/self/exe")?;
+    /// let file = elfsee::File::new(&bytes);
+    /// let (mut room, mut out) = (vec![0; file.room()], vec![0; 1 << 26]);
+    /// let style = Style { gnu: true, json: true, ..Style::default() };
+    /// let listing = file.show_in(style, ALL | VERSIONS, &mut room, &mut out)?;
+    /// assert!(listing.text.starts_with("{\"line\":\"H\","));
+    /// # Ok(())
+    /// # }
+    /// ```
+    pub fn show_in<'o>(
+        &self,
+        style: Style,
+        parts: u16,
+        room: &mut [u8],
+        out: &'o mut [u8],
+    ) -> Result<Listing<'o>, Error> {
+        let mut end = raw::End::default();
+        let listing = raw::Listing { parts, flags: style.flags() };
+        // SAFETY: slices' own pointers and lengths, of which none that is written overlaps another, and
+        // structs that are initialised, one of them with its own size.
+        let status = unsafe {
+            raw::elfsee_list(
+                self.bytes.as_ptr(),
+                self.bytes.len(),
+                &self.limits,
+                &listing,
+                core::mem::size_of_val(&listing),
+                room.as_mut_ptr(),
+                room.len(),
+                out.as_mut_ptr(),
+                out.len(),
+                &mut end,
+            )
+        };
+        listed(status, out, &end)
     }
 
     /// Looks a name up by the file's own SysV hash table: the first symbol of that name in its chain,
@@ -807,6 +869,16 @@ fn table_of<R>(status: u32, table: R, end: &raw::End) -> Result<Option<R>, Error
         raw::ABSENT => Ok(None),
         _ => Err(error_of(status, end)),
     }
+}
+
+/// The listing that a call wrote, by its status.
+fn listed<'o>(status: u32, out: &'o [u8], end: &raw::End) -> Result<Listing<'o>, Error> {
+    if status == raw::FULL || status == raw::BAD_CALL {
+        return Err(error_of(status, end));
+    }
+    let text = core::str::from_utf8(written(out, end)).unwrap_or("");
+    let refused = (status == raw::REFUSED).then(|| Refused::of(end));
+    Ok(Listing { text, refused, asked: end.asked })
 }
 
 /// The bytes of `out` that a call wrote.

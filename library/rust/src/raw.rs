@@ -13,6 +13,8 @@ pub const BAD_CALL: u32 = 4;
 
 pub const BY_SEGMENTS: u32 = 1;
 pub const DEFAULT_ONLY: u32 = 2;
+pub const GNU: u32 = 4;
+pub const JSON: u32 = 8;
 
 pub const SECTION: u32 = 0;
 pub const DEFINE: u32 = 1;
@@ -27,6 +29,13 @@ pub struct Limits {
     pub name: u16,
     pub has_budget: u32,
     pub budget: u64,
+}
+
+#[repr(C)]
+#[derive(Clone, Copy, Debug, Default, PartialEq, Eq)]
+pub struct Listing {
+    pub parts: u16,
+    pub flags: u16,
 }
 
 #[repr(C)]
@@ -247,6 +256,18 @@ extern "C" {
         file_len: usize,
         limits: *const Limits,
         parts: u16,
+        room: *mut u8,
+        room_len: usize,
+        out: *mut u8,
+        out_len: usize,
+        end: *mut End,
+    ) -> u32;
+    pub fn elfsee_list(
+        file: *const u8,
+        file_len: usize,
+        limits: *const Limits,
+        listing: *const Listing,
+        listing_len: usize,
         room: *mut u8,
         room_len: usize,
         out: *mut u8,
