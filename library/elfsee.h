@@ -26,7 +26,8 @@
  * IN C++ each struct is a type of the namespace elfsee too, as elfsee::header: some share their names with
  * a call, which hides them.
  *
- * ROOM is where the headers of a file lie while a call runs, 64 bytes each. A call permits as many
+ * ROOM is where the headers of a file lie while a call runs, 64 bytes each; the calls that open rows write
+ * nothing to it. A call permits as many
  * headers as `limits` says, or as many as the room holds, whichever is less; a file with more is
  * refused with ELFSEE_TOO_MANY_HEADERS. elfsee_room says how much is wanted so that the room is not
  * what a file is refused for.
@@ -315,7 +316,9 @@ struct elfsee_rows {
 /* The symbols of a section, its relocation entries with addends, or its dynamic entries up to and
  * with the first of tag 0. Each runs the checks that a listing runs before the table's first row,
  * and sets `rows` before that row; of the limits it looks at `headers` alone. OK, REFUSED,
- * BAD_CALL; ABSENT where there is no such section or it holds no such rows. `asked` is 0. */
+ * BAD_CALL; ABSENT where there is no such section or it holds no such rows. `asked` is 0. The headers
+ * are read where they stand, no more than five, however many there are: nothing is written to `room`,
+ * which any number of these calls may share, also at once. */
 uint32_t elfsee_symbols(const uint8_t *file, size_t file_len, const struct elfsee_limits *limits,
                         uint16_t section, uint8_t *room, size_t room_len, struct elfsee_rows *rows,
                         struct elfsee_end *end);
@@ -344,6 +347,42 @@ size_t elfsee_next_relocations(const uint8_t *file, size_t file_len, struct elfs
                                struct elfsee_relocation *out, size_t out_len);
 size_t elfsee_next_dynamic(const uint8_t *file, size_t file_len, struct elfsee_rows *rows,
                            struct elfsee_dynamic *out, size_t out_len);
+
+/* ROWS WITHIN A BUDGET. Many tables may lie at the same bytes, so that the rows of a file are far more than the
+ * file has bytes. `asked` is a number of the caller's, which adds up how many bytes all calls that are lent it
+ * asked for: begin with 0. Where `limits` has a budget it never passes that, if it does not before: a call
+ * that would make it is refused with ELFSEE_BUDGET. Without a budget it is counted alone, up to 2^64 - 1. Of
+ * names nothing is counted.
+ *
+ * The dynamic entries of a section or of a segment, as elfsee_dynamic and elfsee_segment_dynamic open them:
+ * each entry up to and with the first of tag 0 counts 16 bytes. Where they are more than the budget has left,
+ * so many as it has count, and the refusal is at the first behind these. The second looks at the budget
+ * of the limits alone. */
+uint32_t elfsee_dynamic_within(const uint8_t *file, size_t file_len,
+                               const struct elfsee_limits *limits, uint16_t section,
+                               const uint8_t *room, size_t room_len, uint64_t *asked,
+                               struct elfsee_rows *rows, struct elfsee_end *end);
+uint32_t elfsee_segment_dynamic_within(const uint8_t *file, size_t file_len,
+                                       const struct elfsee_limits *limits, uint16_t segment,
+                                       uint64_t *asked, struct elfsee_rows *rows,
+                                       struct elfsee_end *end);
+
+/* The next rows, as elfsee_next_symbols and its kin read them, and no more than the budget has left: a
+ * symbol or a relocation entry counts 24 bytes, a dynamic entry 16. Where the budget ended it, `end` has
+ * ELFSEE_BUDGET and the offset of the next row; else its cause is 0. Of the limits the budget is looked at
+ * alone. */
+size_t elfsee_next_symbols_within(const uint8_t *file, size_t file_len,
+                                  const struct elfsee_limits *limits, uint64_t *asked,
+                                  struct elfsee_rows *rows, struct elfsee_symbol *out,
+                                  size_t out_len, struct elfsee_end *end);
+size_t elfsee_next_relocations_within(const uint8_t *file, size_t file_len,
+                                      const struct elfsee_limits *limits, uint64_t *asked,
+                                      struct elfsee_rows *rows, struct elfsee_relocation *out,
+                                      size_t out_len, struct elfsee_end *end);
+size_t elfsee_next_dynamic_within(const uint8_t *file, size_t file_len,
+                                  const struct elfsee_limits *limits, uint64_t *asked,
+                                  struct elfsee_rows *rows, struct elfsee_dynamic *out,
+                                  size_t out_len, struct elfsee_end *end);
 
 /* A place in a table of notes: plain numbers, as those of elfsee_rows. */
 struct elfsee_notes {
@@ -422,7 +461,8 @@ uint32_t elfsee_name(const uint8_t *file, size_t file_len, const struct elfsee_r
 uint32_t elfsee_mapped(const uint8_t *file, size_t file_len, uint64_t address, uint64_t size,
                        struct elfsee_range *range, struct elfsee_end *end);
 
-/* Where the string table of section headers' names lies. OK, ABSENT, REFUSED, BAD_CALL. */
+/* Where the string table of section headers' names lies. OK, ABSENT, REFUSED, BAD_CALL. Nothing is
+ * written to `room`. */
 uint32_t elfsee_section_names(const uint8_t *file, size_t file_len,
                               const struct elfsee_limits *limits, uint8_t *room, size_t room_len,
                               struct elfsee_range *strings, struct elfsee_end *end);

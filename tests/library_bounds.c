@@ -595,6 +595,51 @@ static int any_steps(void) {
     return take_back(&lent) && count <= want && all;
 }
 
+/* The same within any budget, and with any number of bytes that were asked for before. */
+static int any_steps_within(void) {
+    size_t want = next() % 20, count;
+    struct elfsee_rows rows = any_rows(library.len), old = rows;
+    struct elfsee_limits limits = {1, 1, next() % 3, any(4 * library.len)};
+    struct lent lent = lend(24 * want, 0);
+    struct elfsee_end end = ODD;
+    uint64_t asked = any(4 * library.len), before = asked, size = 24;
+    switch (next() % 3) {
+    case 0:
+        count = elfsee_next_symbols_within(library.bytes, library.len, &limits, &asked, &rows,
+                                           (struct elfsee_symbol *)(void *)lent.bytes, want, &end);
+        break;
+    case 1:
+        count = elfsee_next_relocations_within(library.bytes, library.len, &limits, &asked, &rows,
+                                               (struct elfsee_relocation *)(void *)lent.bytes, want, &end);
+        break;
+    default:
+        size = 16;
+        count = elfsee_next_dynamic_within(library.bytes, library.len, &limits, &asked, &rows,
+                                           (struct elfsee_dynamic *)(void *)lent.bytes, want, &end);
+    }
+    if (!take_back(&lent) || count > want || !lie_inside(&old, &rows, count, size, library.len)) return 0;
+    if (asked < before || (limits.has_budget && before <= limits.budget && asked > limits.budget)) return 0;
+    return end.cause == 0 || (end.cause == ELFSEE_BUDGET && limits.has_budget && count < want);
+}
+
+/* Dynamic entries that are opened within any budget. */
+static int any_opening_within(void) {
+    struct elfsee_rows rows = any_rows(library.len);
+    struct elfsee_limits limits = {(uint16_t)next(), 1, next() % 3, any(4 * library.len)};
+    struct lent lent = lend(64 * (next() % 40), 0);
+    struct elfsee_end end = ODD;
+    uint64_t asked = any(4 * library.len), before = asked;
+    uint16_t header = (uint16_t)any(40);
+    uint32_t status;
+    if (next() % 2)
+        status = elfsee_segment_dynamic_within(library.bytes, library.len, &limits, header, &asked, &rows, &end);
+    else
+        status = elfsee_dynamic_within(library.bytes, library.len, &limits, header, lent.bytes, lent.len, &asked, &rows,
+                                       &end);
+    if (!take_back(&lent) || status > ELFSEE_BAD_CALL || status == ELFSEE_FULL) return 0;
+    return asked >= before && !(limits.has_budget && before <= limits.budget && asked > limits.budget);
+}
+
 /* Notes from any place on: each lies in the file behind the one before, until they end or are cut. */
 static int any_notes(void) {
     struct elfsee_notes notes = {any(library.len), any(library.len), next() % 10, 7, 7}, old = notes;
@@ -1070,6 +1115,8 @@ int main(int argc, char **argv) {
     sections();
     small_section();
     many("next rows, by any numbers", any_steps, tries);
+    many("next rows within any budget", any_steps_within, tries);
+    many("dynamic entries opened within any budget", any_opening_within, tries);
     many("notes, by any numbers", any_notes, tries);
     first_members();
     cut_archives();

@@ -346,6 +346,66 @@ static int say_name(struct walk *walk, const struct elfsee_range *strings, uint6
     return 1;
 }
 
+/* The rows that were opened, stepped over once more within a budget: each row counts, `size` bytes of the file; with
+ * a budget for one row less, the last is what it ends before. `kind` is what they are. */
+enum kind { OF_SYMBOLS, OF_RELOCATIONS, OF_DYNAMIC };
+
+static size_t step_within(struct walk *walk, enum kind kind, const struct elfsee_limits *limits, uint64_t *asked,
+                          struct elfsee_rows *rows, struct elfsee_end *end) {
+    const struct lent *file = walk->file;
+    struct elfsee_symbol symbols[9];
+    struct elfsee_relocation relocations[9];
+    struct elfsee_dynamic entries[9];
+    if (kind == OF_SYMBOLS)
+        return elfsee_next_symbols_within(file->bytes, file->len, limits, asked, rows, symbols, 9, end);
+    if (kind == OF_RELOCATIONS)
+        return elfsee_next_relocations_within(file->bytes, file->len, limits, asked, rows, relocations, 9, end);
+    return elfsee_next_dynamic_within(file->bytes, file->len, limits, asked, rows, entries, 9, end);
+}
+
+static void try_within(struct walk *walk, enum kind kind, const struct elfsee_rows *opened) {
+    uint64_t size = kind == OF_DYNAMIC ? 16 : 24, less;
+    for (less = 0; less < 2; less += 1) {
+        struct elfsee_limits limits = {1, 1, 1, 0};
+        struct elfsee_rows rows = *opened;
+        struct elfsee_end end = {7, 7, 7, 7, 7};
+        uint64_t asked = 0, total = 0;
+        size_t count = 9;
+        if (less > opened->count) return;
+        limits.budget = size * opened->count - less;
+        while (count == 9) total += count = step_within(walk, kind, &limits, &asked, &rows, &end);
+        expect(total == opened->count - less && asked == size * total && rows.index == total, "rows within a budget");
+        expect(end.cause == (less ? ELFSEE_BUDGET : 0) && end.at == (less ? opened->at + size * total : 0) &&
+                   end.written == 0 && end.asked == 0 && end.none == 0, "the end of rows within a budget");
+    }
+}
+
+/* Dynamic entries that were opened, opened once more within a budget. */
+static uint32_t open_within(struct walk *walk, const struct elfsee_limits *limits, int is_segment, uint16_t header,
+                            uint64_t *asked, struct elfsee_rows *rows, struct elfsee_end *end) {
+    const struct lent *file = walk->file;
+    if (is_segment) return elfsee_segment_dynamic_within(file->bytes, file->len, limits, header, asked, rows, end);
+    return elfsee_dynamic_within(file->bytes, file->len, limits, header, walk->room.bytes, walk->room.len, asked, rows,
+                                 end);
+}
+
+static void try_opening(struct walk *walk, int is_segment, uint16_t header, const struct elfsee_rows *opened) {
+    uint64_t less;
+    for (less = 0; less < 2 && less <= opened->count; less += 1) {
+        struct elfsee_limits limits = walk->limits;
+        struct elfsee_rows rows = {7, 7, 7, 7, 7, 7}, old = rows;
+        struct elfsee_end end = {7, 7, 7, 7, 7};
+        uint64_t asked = 5, looked = opened->count - less;
+        uint32_t status;
+        limits.has_budget = 1;
+        limits.budget = 5 + 16 * opened->count - less;
+        status = open_within(walk, &limits, is_segment, header, &asked, &rows, &end);
+        expect(status == (less ? ELFSEE_REFUSED : ELFSEE_OK), "an opening within a budget");
+        expect(!memcmp(&rows, less ? &old : opened, sizeof rows) && asked == 5 + 16 * looked, "what it opens and counts");
+        expect(end.cause == (less ? ELFSEE_BUDGET : 0) && end.at == (less ? opened->at + 16 * looked : 0), "its end");
+    }
+}
+
 /* The symbols of a section, and whether all could be named. */
 static int say_symbols(struct walk *walk, uint16_t section) {
     struct elfsee_rows rows = {7, 7, 7, 7, 7, 7};
@@ -354,6 +414,7 @@ static int say_symbols(struct walk *walk, uint16_t section) {
                                      walk->room.bytes, walk->room.len, &rows, &walk->end);
     size_t i, count;
     if (status != ELFSEE_OK) return status == ELFSEE_ABSENT;
+    try_within(walk, OF_SYMBOLS, &rows);
     for (;;) {
         uint64_t index = rows.index;
         count = elfsee_next_symbols(walk->file->bytes, walk->file->len, &rows, some, 100);
@@ -379,6 +440,7 @@ static int say_relocations(struct walk *walk, uint16_t section) {
     size_t i, count = 7;
     memset(&header, 7, sizeof header);
     if (status != ELFSEE_OK) return status == ELFSEE_ABSENT;
+    try_within(walk, OF_RELOCATIONS, &rows);
     status = elfsee_section(walk->file->bytes, walk->file->len, section, &header, &walk->end);
     /* A table of entries without addends is no part of a listing. */
     if (status || header.type == 9) return status == ELFSEE_OK;
@@ -403,6 +465,8 @@ static int say_dynamic(struct walk *walk, uint16_t section) {
                                      walk->room.bytes, walk->room.len, &rows, &walk->end);
     uint64_t index = 0;
     if (status != ELFSEE_OK) return status == ELFSEE_ABSENT;
+    try_within(walk, OF_DYNAMIC, &rows);
+    try_opening(walk, 0, section, &rows);
     for (; elfsee_next_dynamic(walk->file->bytes, walk->file->len, &rows, &entry, 1); index += 1) {
         struct elfsee_range strings = {rows.strings_at, rows.strings_len};
         say(walk, "D %" PRIu64 " %" PRIi64 " %" PRIu64 " ", index, entry.tag, entry.value);
@@ -436,6 +500,8 @@ static int say_segment_dynamic(struct walk *walk, uint16_t segment) {
     uint64_t index = 0, address = 0, size = 0;
     if (status != ELFSEE_OK) return status == ELFSEE_ABSENT;
     expect(rows.strings_at == 0 && rows.strings_len == 0, "strings of a segment's entries");
+    try_within(walk, OF_DYNAMIC, &rows);
+    try_opening(walk, 1, segment, &rows);
     int told = strings_told(walk, rows, &address, &size);
     for (; elfsee_next_dynamic(file->bytes, file->len, &rows, &entry, 1); index += 1) {
         say(walk, "D %" PRIu64 " %" PRIi64 " %" PRIu64 " ", index, entry.tag, entry.value);

@@ -91,6 +91,18 @@ static void call_dynamic(void) {
     elfsee_segment_dynamic(file, file_len, section, &rows, &end);
 }
 
+static void call_within(void) {
+    struct elfsee_symbol symbol;
+    struct elfsee_relocation relocation;
+    struct elfsee_dynamic entry;
+    uint64_t asked = 0;
+    elfsee_dynamic_within(file, file_len, &LIMITS, section, room, ROOM, &asked, &rows, &end);
+    elfsee_next_dynamic_within(file, file_len, &LIMITS, &asked, &rows, &entry, 1, &end);
+    elfsee_segment_dynamic_within(file, file_len, &LIMITS, section, &asked, &rows, &end);
+    elfsee_next_symbols_within(file, file_len, &LIMITS, &asked, &rows, &symbol, 1, &end);
+    elfsee_next_relocations_within(file, file_len, &LIMITS, &asked, &rows, &relocation, 1, &end);
+}
+
 static void call_notes(void) {
     struct elfsee_notes notes;
     struct elfsee_note note;
@@ -159,6 +171,7 @@ static const struct {
              {"look_up", call_look_up, 0},
              {"apply", call_apply, 1},     {"symbols", call_symbols, 1}, {"relocations", call_relocations, 1},
              {"dynamic", call_dynamic, 1},     {"headers", call_headers, 1},
+             {"within", call_within, 1},
              {"notes", call_notes, 1},     {"members", call_members, 0}};
 enum { COUNT = sizeof CALLS / sizeof *CALLS };
 

@@ -1,4 +1,4 @@
 pub mod CheckedLaws
 pub mod FoundNames
+pub mod ListedLaws
 pub mod NoteSteps
-mod LoadLaws

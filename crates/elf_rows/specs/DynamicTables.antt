@@ -1,6 +1,5 @@
 -- The dynamic entries of a section of a file in memory.
 use Rattle.std.specs.Prelude.{ℕ, ◌≡◌, ◌<◌, ◌⊎◌, List, Result, Ok, Err}
-use Rattle.elf_model.specs.Dynamic.{dynamic_count}
 use Rattle.elf_headers.specs.declared.fault.Fault.{Fault}
 use Rattle.elf_table.specs.Sections.{string_table_at, strings, table_at}
 use Rattle.elf_table.specs.Tables.{Rows as Table, Strings}
@@ -15,7 +14,3 @@ IsDynamicTable file header (Ok found) = (table_at file header 16 ≡ Ok found.0)
 IsDynamicTable file header (Err fault) =
     (table_at file header 16 ≡ Err fault)
     ⊎ ((table : Table) × (table_at file header 16 ≡ Ok table) × (0 < table.count) × (string_table_at file header ≡ Err fault))
-
--- the entries of a table that are listed
-abbrev pub listed_table : List ℕ → Table → Table
-listed_table file table = record { at = table.at; count = dynamic_count file table.at table.count; entry = table.entry }

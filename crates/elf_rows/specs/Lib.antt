@@ -2,6 +2,7 @@ pub mod Checked
 pub mod DynamicTables
 pub mod Entries
 pub mod Headers
+pub mod ListedEntries
 pub mod MappedBytes
 pub mod Names
 pub mod NoteRows

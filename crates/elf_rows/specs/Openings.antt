@@ -1,18 +1,18 @@
 -- What opening a table of a file in memory answers.
 use Rattle.std.specs.Prelude.{ℕ, ◌≡◌, ◌<◌, ◌≤◌, ◌==◌, ◌⊎◌, Bool, true, false, List, ◌++◌, Option, None, Some, Result, Ok, Err, option_map}
-use Rattle.elf_model.specs.Checks.{first_refusal, header_checks, load_checks, is_symbol_table}
+use Rattle.elf_model.specs.Checks.{first_refusal, header_checks, load_checks, section_name_checks, is_symbol_table}
 use Rattle.elf_model.specs.Numbers.{SHT_RELA, SHT_DYNAMIC}
 use Rattle.elf_model.specs.Records.{e_shnum, sh_type, section_at}
 use Rattle.elf_model.specs.declared.causes.Refusal.{Refusal}
-use Rattle.elf_headers.specs.Load.{Opened, Belongs}
-use Rattle.elf_headers.specs.Store.{Stored}
 use Rattle.elf_headers.specs.declared.fault.Fault.{Fault}
 use Rattle.elf_headers.specs.declared.fault.Fault.TheVariants.{Refused}
 use Rattle.elf_table.specs.Relocations.{AreRelocations, Relocates}
 use Rattle.elf_table.specs.Sections.{symbols_at, section_names}
 use Rattle.elf_table.specs.Tables.{Rows as Table, Strings}
-use Rattle.elf_rows.specs.DynamicTables.{IsDynamicTable, listed_table}
+use Rattle.elf_rows.specs.DynamicTables.{IsDynamicTable}
+use Rattle.elf_rows.specs.ListedEntries.{all_listed}
 use Rattle.elf_rows.specs.Rows.{rows_from_first}
+use Rattle.elf_rows.specs.declared.held.HeldFile.{HeldFile}
 use Rattle.elf_rows.specs.declared.kind.RowKind.{RowKind}
 use Rattle.elf_rows.specs.declared.kind.RowKind.TheVariants.{Symbols, Relocations, Dynamic}
 use Rattle.elf_rows.specs.declared.name.ByteRange.{ByteRange}
@@ -22,10 +22,15 @@ use Rattle.elf_rows.specs.declared.rows.RowsLeft.{RowsLeft}
 abbrev pub load_refused : List ℕ → ℕ → Option Refusal
 load_refused file headers = first_refusal (header_checks file ++ load_checks file headers)
 
--- a file's section headers are loaded, or the first check that fails
-abbrev pub LoadsFile : List ℕ → Result Opened Refusal → Stored → Type 0
-LoadsFile file (Ok loaded) store = (load_refused file store.slots ≡ None) × Belongs file loaded store
-LoadsFile file (Err refusal) store = load_refused file store.slots ≡ Some refusal
+-- a file passes those checks, or the first of them that fails
+abbrev pub LoadsFile : List ℕ → ℕ → Result HeldFile Refusal → Type 0
+LoadsFile file headers (Ok held) = (load_refused file headers ≡ None) × (held.bytes.now ≡ file)
+LoadsFile file headers (Err refusal) = load_refused file headers ≡ Some refusal
+
+-- the string table of a file's section names, whose checks pass; or the first of them that fails
+abbrev pub NamesSections : List ℕ → Result (Option Strings) Refusal → Type 0
+NamesSections file (Ok names) = (first_refusal (section_name_checks file) ≡ None) × (names ≡ section_names file)
+NamesSections file (Err refusal) = first_refusal (section_name_checks file) ≡ Some refusal
 
 -- a section whose header stands at an offset holds rows of a kind, by its type
 abbrev pub holds : RowKind → List ℕ → ℕ → Bool
@@ -45,7 +50,7 @@ AreOpenedRows Symbols file at rows = (table : Table) × (names : Strings) × (sy
 AreOpenedRows Relocations file at rows =
     (table : Table) × (linked : Option (Table × Strings)) × (table.entry ≡ 24) × AreRelocations file at table linked × (rows ≡ rows_from_first table (linked_names linked))
 AreOpenedRows Dynamic file at rows =
-    (table : Table) × (names : Strings) × IsDynamicTable file at (Ok (table, names)) × (rows ≡ rows_from_first (listed_table file table) names)
+    (table : Table) × (names : Strings) × IsDynamicTable file at (Ok (table, names)) × (rows ≡ all_listed file (rows_from_first table names))
 
 -- the first check of such a table that fails
 abbrev pub RefusesRows : RowKind → List ℕ → ℕ → Fault → Type 0

@@ -1,67 +1,67 @@
-//! The dynamic entries of a section that are listed.
-ghost use Rattle.std.specs.Prelude.{◌≡◌, ◌==◌, ◌+◌, ◌*◌, ◌<◌, ◌≤◌, ℕ, List, IfOk, IfErr, length};
-ghost use Rattle.elf_model.specs.Dynamic.{dynamic_count};
+//! The dynamic entries of a table that are listed.
+ghost use Rattle.std.specs.Prelude.{◌≡◌, ◌==◌, ◌+◌, ◌*◌, ◌<◌, ◌≤◌, length};
 ghost use Rattle.elf_model.specs.Numbers.{DT_NULL};
-ghost use Rattle.elf_model.specs.Records.{d_tag, section_at};
-ghost use Rattle.elf_headers.specs.Faults.{IsOfCheck};
-ghost use Rattle.elf_headers.specs.Load.{Belongs};
-ghost use Rattle.elf_table.specs.Tables.{RowsWithin};
-ghost use Rattle.elf_rows.specs.DynamicTables.{IsDynamicTable, listed_table};
-ghost use Rattle.elf_rows.specs.Rows.{rows_from_first};
+ghost use Rattle.elf_model.specs.Records.{d_tag};
+ghost use Rattle.elf_rows.specs.ListedEntries.{CountsListed, ListsWithin, all_listed};
 
 use crate::bytes::chunk_at;
 use crate::rows::RowsLeft;
-use elf_headers::Fault;
-use elf_record::Dyn;
 use elf_record::numbers::DT_NULL;
-use elf_record::sizes::DYNAMIC_BYTES;
-use elf_table::{File, Names, Table};
+use elf_record::{Cause, Dyn, Refusal};
 
-/// The table of a section and the string table that it links to; no bytes of an empty one.
-///
-/// # Errors
-/// The first check that fails, of the table and then of the string table.
-pub(crate) fn dynamic_table(found: &File<'_>, section: u16) -> Result<(Table, Names), Fault>
-    requires { section < found.now.store.now.loaded }
-    ensures held { (file : List ℕ) → Belongs file found.now.loaded found.now.store.now →
-        IsDynamicTable file (section_at file section) result }
-    ensures within { IfOk result (λ table. RowsWithin found.now.loaded.size table.0) }
-    ensures entry { IfOk result (λ table. table.0.entry ≡ 16) }
-    ensures refusal { IfErr result IsOfCheck }
+/// Of rows that are all entries of a table those that are listed: up to and with the first DT_NULL, or
+/// all.
+pub(crate) fn listed_rows(file: &[u8], all: RowsLeft) -> RowsLeft
+    requires { 0 < all.count → all.at + all.count * 16 ≤ length file.now }
+    ensures { result ≡ all_listed file.now all }
 {
-    let table = found.table(section, DYNAMIC_BYTES)?;
-    if table.is_empty() {
-        return Ok((table, Names::new(0, 0)));
+    let mut rows = all;
+    match listed_count(file, all.at, all.count, all.count) {
+        Some(count) => rows.count = count,
+        // No more are listed than there are.
+        None => (),
     }
-    let names = found.strings(section)?;
-    Ok((table, names))
-}
-
-/// A place before the first entry, with as many as are listed.
-pub(crate) fn listed_rows(file: &[u8], table: Table, names: Names) -> RowsLeft
-    requires within { RowsWithin (length file.now) table }
-    requires entry { table.entry ≡ 16 }
-    ensures { result ≡ rows_from_first (listed_table file.now table) names }
-{
-    let mut rows = RowsLeft::of(table, names);
-    rows.count = listed(file, rows.at, rows.count);
     rows
 }
 
-/// How many of `count` entries from the offset `at` on are listed: up to and with the first
-/// DT_NULL, or all.
-pub(crate) fn listed(file: &[u8], at: u64, count: u64) -> u64
+/// The same, where no more than `most` entries have to be looked at.
+///
+/// # Errors
+/// `Budget` where more have to be, at the first of these.
+pub(crate) fn listed_within(file: &[u8], all: RowsLeft, most: u64) -> Result<RowsLeft, Refusal>
+    requires { 0 < all.count → all.at + all.count * 16 ≤ length file.now }
+    ensures { ListsWithin file.now all most result }
+{
+    let mut rows = all;
+    match listed_count(file, all.at, all.count, most) {
+        Some(count) => {
+            rows.count = count;
+            Ok(rows)
+        }
+        None => Err(Refusal {
+            at: all.at + 16 * most,
+            cause: Cause::Budget,
+        }),
+    }
+}
+
+/// How many of `count` entries from the offset `at` on are listed; None where they are more than
+/// `most`.
+fn listed_count(file: &[u8], at: u64, count: u64, most: u64) -> Option<u64>
     requires { 0 < count → at + count * 16 ≤ length file.now }
-    ensures { result ≡ dynamic_count file.now at count }
+    ensures { CountsListed file.now at count most result }
 {
     let mut done = 0;
     while done < count {
+        if done == most {
+            return None;
+        }
         if is_null(file, (at + 16 * done) as usize) {
-            return done + 1;
+            return Some(done + 1);
         }
         done += 1;
     }
-    count
+    Some(count)
 }
 
 /// Whether the entry at an offset of the file has the tag DT_NULL.

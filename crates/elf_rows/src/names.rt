@@ -1,24 +1,24 @@
 //! Where the string table of the section names lies.
 ghost use Rattle.elf_rows.specs.Openings.{ReadsSectionNames};
 
-use crate::loading::load_file;
+use crate::loading::held_file;
 use crate::name::ByteRange;
-use elf_headers::HeaderStore;
 use elf_record::Refusal;
-use elf_table::File;
 
-/// Loads a file that lies in memory into the store, and tells where the string table of the section
-/// names lies; None where there is none (gABI 4, ELF Header).
+/// Where the string table of the section names of a file that lies in memory lies; None where there is
+/// none (gABI 4, ELF Header).
 ///
 /// # Errors
 /// The first check that fails of those that a listing makes until the section headers are loaded,
-/// with as many headers permitted as the store has slots.
-pub fn names_in(file: &[u8], store: &mut HeaderStore) -> Result<Option<ByteRange>, Refusal>
-    ensures { ReadsSectionNames file.now store.old.slots result }
+/// with so many headers permitted.
+pub fn names_in(file: &[u8], headers: u16) -> Result<Option<ByteRange>, Refusal>
+    ensures { ReadsSectionNames file.now headers result }
 {
-    let loaded = load_file(file, store)?;
-    let found = File { loaded, store };
-    match found.names() {
+    let held = match held_file(file, headers) {
+        Ok(held) => held,
+        Err(refusal) => return Err(refusal),
+    };
+    match held.names {
         Some(names) => Ok(Some(ByteRange {
             at: names.at(),
             len: names.size(),

@@ -39,7 +39,7 @@ impl RowsLeft {
     }
 
     /// How many entries of `entry` bytes are next in a file of `size` bytes, no more than `room`.
-    pub(crate) fn next(&self, size: usize, entry: u64, room: usize) -> usize
+    pub fn next(&self, size: usize, entry: u64, room: usize) -> usize
         requires { 0 < entry }
         ensures { result ≡ min (rows_left size self.now entry) room }
     {

@@ -1,9 +1,10 @@
 //! The dynamic entries of a segment that are listed.
 ghost use Rattle.std.specs.Prelude.{ℕ};
-ghost use Rattle.elf_rows.specs.SegmentDynamic.{AreSegmentEntries, ReadsSegmentDynamic};
+ghost use Rattle.elf_rows.specs.ListedEntries.{ReadsListed};
+ghost use Rattle.elf_rows.specs.SegmentDynamic.{AreSegmentEntries, FindsEntries, ReadsSegmentDynamic};
 ghost use Rattle.elf_rows.specs.declared.segment.Segment.{Segment as IsOne};
 
-use crate::dynamic_table::listed;
+use crate::dynamic_table::{listed_rows, listed_within};
 use crate::rows::RowsLeft;
 use crate::segment::{Segment, segment_at, segment_place};
 use elf_headers::ends_outside;
@@ -24,6 +25,41 @@ use elf_record::{Cause, Refusal};
 pub fn segment_dynamic(file: &[u8], segment: u16) -> Result<Option<RowsLeft>, Refusal>
     ensures { ReadsSegmentDynamic file.now segment result }
 {
+    match segment_table(file, segment)? {
+        Some(all) => Ok(Some(listed_rows(file, all))),
+        None => Ok(None),
+    }
+}
+
+/// The same as [`segment_dynamic`], where no more than `most` entries have to be looked at to know
+/// which are listed.
+///
+/// # Errors
+/// As for [`segment_dynamic`], and then `Budget` where more have to be, at the first of these.
+pub fn segment_dynamic_within(
+    file: &[u8],
+    segment: u16,
+    most: u64,
+) -> Result<Option<RowsLeft>, Refusal>
+    ensures { ReadsListed (ReadsSegmentDynamic file.now segment) most result }
+{
+    match segment_table(file, segment)? {
+        Some(all) => {
+            let rows = listed_within(file, all, most)?;
+            Ok(Some(rows))
+        }
+        None => Ok(None),
+    }
+}
+
+/// A place before the first of all entries of a segment of type DYNAMIC, listed or not; None where
+/// there is no such segment.
+///
+/// # Errors
+/// As for [`segment_dynamic`].
+fn segment_table(file: &[u8], segment: u16) -> Result<Option<RowsLeft>, Refusal>
+    ensures { FindsEntries file.now segment result }
+{
     let Some(place) = segment_place(file, segment)? else {
         return Ok(None);
     };
@@ -34,7 +70,7 @@ pub fn segment_dynamic(file: &[u8], segment: u16) -> Result<Option<RowsLeft>, Re
     entries(file, place as u64, &header)
 }
 
-/// The dynamic entries that a program header tells of, where its checks pass. Refusals name `place`.
+/// All entries that a program header tells of, where its checks pass. Refusals name `place`.
 fn entries(file: &[u8], place: u64, header: &Segment) -> Result<Option<RowsLeft>, Refusal>
     ensures { AreSegmentEntries file.now place header.now.offset header.now.filesz result }
 {
@@ -53,7 +89,7 @@ fn entries(file: &[u8], place: u64, header: &Segment) -> Result<Option<RowsLeft>
     }
     Ok(Some(RowsLeft {
         at,
-        count: listed(file, at, bytes / DYNAMIC_BYTES),
+        count: bytes / DYNAMIC_BYTES,
         index: 0,
         entry: DYNAMIC_BYTES,
         strings_at: 0,

@@ -1,40 +1,45 @@
 //! The rows of a section, behind the checks of its table.
-ghost use Rattle.std.specs.Prelude.{◌≡◌, ◌<◌, ℕ, List, IfErr, length};
+ghost use Rattle.std.specs.Prelude.{◌≡◌, ◌<◌, IfErr};
 ghost use Rattle.elf_model.specs.Records.{section_at};
 ghost use Rattle.elf_headers.specs.Faults.{IsOfCheck};
-ghost use Rattle.elf_headers.specs.Load.{Belongs};
+ghost use Rattle.elf_rows.specs.declared.kind.RowKind.TheVariants.{Dynamic};
+ghost use Rattle.elf_rows.specs.ListedEntries.{ReadsListed};
 ghost use Rattle.elf_rows.specs.Openings.{OpensTable, ReadsRows, linked_names};
 
-use crate::dynamic_table::{dynamic_table, listed_rows};
+use crate::dynamic_table::{listed_rows, listed_within};
+use crate::held::HeldFile;
 use crate::kind::{RowKind, holds};
-use crate::loading::load_file;
+use crate::loading::held_file;
 use crate::rows::RowsLeft;
-use elf_headers::{Fault, HeaderStore};
+use elf_headers::Fault;
 use elf_record::Refusal;
-use elf_table::{File, Names, Table};
+use elf_table::{Names, Table};
 
-/// Loads a file that lies in memory into the store, checks the table of a kind that a section is,
-/// and gives a place before its first row; None where the file has no such section or it holds no
-/// such rows. With relocation entries the string table is that of the symbols that they refer to,
-/// and of dynamic entries there are as many as up to and with the first DT_NULL.
+/// Checks the table of a kind that a section of a file that lies in memory is, and gives a place
+/// before its first row; None where the file has no such section or it holds no such rows. With
+/// relocation entries the string table is that of the symbols that they refer to, and of dynamic
+/// entries there are as many as up to and with the first DT_NULL. No more section headers are read
+/// than those of the section names, of the section, and of what it links to.
 ///
 /// # Errors
-/// The first check that fails of those that a listing makes up to the table's first row, with as
-/// many headers permitted as the store has slots.
+/// The first check that fails of those that a listing makes up to the table's first row, with so
+/// many headers permitted.
 pub fn rows_in(
     file: &[u8],
-    store: &mut HeaderStore,
+    headers: u16,
     section: u16,
     kind: RowKind,
 ) -> Result<Option<RowsLeft>, Refusal>
-    ensures { ReadsRows kind file.now store.old.slots section result }
+    ensures { ReadsRows kind file.now headers section result }
 {
-    let loaded = load_file(file, store)?;
-    let found = File { loaded, store };
-    if section >= found.sections() || !holds(&found.section(section), kind) {
+    let held = match held_file(file, headers) {
+        Ok(held) => held,
+        Err(refusal) => return Err(refusal),
+    };
+    if section >= held.sections() || !holds(&held.section(section), kind) {
         return Ok(None);
     }
-    match opened(file, &found, section, kind) {
+    match opened(&held, section, kind) {
         Ok(rows) => Ok(Some(rows)),
         Err(Fault::Refused(refusal)) => Err(refusal),
         // No check is a fault of the source.
@@ -42,28 +47,59 @@ pub fn rows_in(
     }
 }
 
-/// The rows of a section of a loaded file.
+/// Checks the table of dynamic entries that a section of a file that lies in memory is, as [`rows_in`]
+/// does, where no more than `most` entries have to be looked at to know which are listed.
+///
+/// # Errors
+/// As for [`rows_in`], and then `Budget` where more have to be, at the first of these.
+pub fn dynamic_within(
+    file: &[u8],
+    headers: u16,
+    section: u16,
+    most: u64,
+) -> Result<Option<RowsLeft>, Refusal>
+    ensures { ReadsListed (ReadsRows Dynamic file.now headers section) most result }
+{
+    let held = match held_file(file, headers) {
+        Ok(held) => held,
+        Err(refusal) => return Err(refusal),
+    };
+    if section >= held.sections() || !holds(&held.section(section), RowKind::Dynamic) {
+        return Ok(None);
+    }
+    match held.dynamic(section) {
+        Ok(found) => match listed_within(file, RowsLeft::of(found.0, found.1), most) {
+            Ok(rows) => Ok(Some(rows)),
+            Err(refusal) => Err(refusal),
+        },
+        Err(Fault::Refused(refusal)) => Err(refusal),
+        // No check is a fault of the source.
+        Err(Fault::Source { .. }) => Ok(None),
+    }
+}
+
+/// The rows of a section of a file.
 ///
 /// # Errors
 /// The first check of its table that fails.
-fn opened(file: &[u8], found: &File<'_>, section: u16, kind: RowKind) -> Result<RowsLeft, Fault>
-    requires below { section < found.now.store.now.loaded }
-    requires same { Belongs file.now found.now.loaded found.now.store.now }
-    ensures opens { OpensTable kind file.now (section_at file.now section) result }
+fn opened(held: &HeldFile<'_>, section: u16, kind: RowKind) -> Result<RowsLeft, Fault>
+    requires { section < held.now.header.e_shnum }
+    ensures opens { let file = held.now.bytes.now in
+        OpensTable kind file (section_at file section) result }
     ensures refusal { IfErr result IsOfCheck }
 {
     match kind {
         RowKind::Symbols => {
-            let (table, names) = found.symbols(section)?;
+            let (table, names) = held.symbols(section)?;
             Ok(RowsLeft::of(table, names))
         }
         RowKind::Relocations => {
-            let (table, linked) = found.relocations(section)?;
+            let (table, linked) = held.relocations(section)?;
             Ok(RowsLeft::of(table, names_of(linked)))
         }
         RowKind::Dynamic => {
-            let (table, names) = dynamic_table(found, section)?;
-            Ok(listed_rows(file, table, names))
+            let (table, names) = held.dynamic(section)?;
+            Ok(listed_rows(held.bytes, RowsLeft::of(table, names)))
         }
     }
 }

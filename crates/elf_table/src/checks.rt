@@ -12,14 +12,14 @@ use elf_headers::{Fault, ends_outside, refused};
 use elf_record::numbers::{SHT_DYNSYM, SHT_STRTAB, SHT_SYMTAB};
 use elf_record::{Cause, Shdr};
 
-/// The section as a table of rows of `entry` bytes, in a file of `size` bytes. Refusals name
-/// `place`.
-pub(crate) fn checked_table(
-    header: &Shdr,
-    size: u64,
-    place: u64,
-    entry: u64,
-) -> Result<Table, Fault>
+/// The section as a table of rows of `entry` bytes, 1 to 4,096, in a file of `size` bytes. One of size
+/// 0 is not checked. No bytes are read.
+///
+/// # Errors
+/// The first check that fails, at the offset `place`: `EntrySize` where sh_entsize is another size,
+/// `SizeNotWhole` where sh_size is no multiple of it, `TableOutside` where the section ends past the
+/// end of the file.
+pub fn checked_table(header: &Shdr, size: u64, place: u64, entry: u64) -> Result<Table, Fault>
     requires { (0 < entry) × (entry ≤ 4096) }
     ensures value { (bytes : List ℕ) (at : ℕ) → IsShdr bytes at header.now →
         result ≡ table_of bytes at size place entry }
@@ -75,8 +75,12 @@ pub(crate) fn checked_bytes(offset: u64, bytes: u64, size: u64, place: u64) -> R
     Ok(Table::new(offset, bytes, 1))
 }
 
-/// The section as a string table, in a file of `size` bytes. Refusals name `place`.
-pub(crate) fn checked_strings(header: &Shdr, size: u64, place: u64) -> Result<Names, Fault>
+/// The section as a string table, in a file of `size` bytes. No bytes are read (gABI 4, String Table).
+///
+/// # Errors
+/// The first check that fails, at the offset `place`: `NotStrings` where the section is of another
+/// type, `TableOutside` where it ends past the end of the file.
+pub fn checked_strings(header: &Shdr, size: u64, place: u64) -> Result<Names, Fault>
     ensures value { (bytes : List ℕ) (at : ℕ) → IsShdr bytes at header.now →
         result ≡ string_table_of bytes at size place }
     ensures within { IfOk result (StringsWithin size) }

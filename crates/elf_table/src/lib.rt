@@ -21,7 +21,7 @@ mod table;
 mod window;
 
 pub use buffers::TABLE_BUFFER_BYTES;
-pub use checks::holds_symbols;
+pub use checks::{checked_strings, checked_table, holds_symbols};
 pub use cursor::Cursor;
 pub use elf_headers::{
     Cap, Caps, Fault, HeaderRoom, HeaderStore, Limits, Loaded, Stop, Style, fill, header, load,

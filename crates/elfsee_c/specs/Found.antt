@@ -8,6 +8,7 @@ use Rattle.elf_hash.specs.declared.lookup.Lookup.TheVariants.{Found as IsThere, 
 use Rattle.elfsee_c.specs.Ends.{TellsCause, TellsNone}
 use Rattle.elfsee_c.specs.Limits.{AreInRange, budget_of, headers_of}
 use Rattle.elf_rows.specs.Symbols.{HasFields}
+use Rattle.elf_rows.specs.declared.symbol.Symbol.{Symbol}
 use Rattle.elfsee_c.specs.Wants.{IsWanting}
 use Rattle.elfsee_c.specs.declared.end.End.{End}
 use Rattle.elfsee_c.specs.declared.found.LookupNumbers.{LookupNumbers}
@@ -15,10 +16,14 @@ use Rattle.elfsee_c.specs.declared.found.Looked.{Looked}
 use Rattle.elfsee_c.specs.declared.found.Looked.TheVariants.{Answered, Refused, BadCall}
 use Rattle.elfsee_c.specs.declared.limits.CallerLimits.{CallerLimits}
 
+-- a symbol of zeros, where none was found
+abbrev pub no_symbol : Symbol
+no_symbol = record { value = 0; size = 0; name = 0; section = 0; info = 0; other = 0 }
+
 -- nothing was found behind so many steps
 abbrev pub nothing_behind : ℕ → LookupNumbers
 nothing_behind steps = record {
-  symbol = record { value = 0; size = 0; name = 0; section = 0; info = 0; other = 0 };
+  symbol = no_symbol;
   index = 0;
   steps = steps;
   section = 0;

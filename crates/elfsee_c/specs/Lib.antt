@@ -13,4 +13,5 @@ pub mod Resolved
 pub mod Shown
 pub mod Told
 pub mod Wants
+pub mod Within
 pub mod Words

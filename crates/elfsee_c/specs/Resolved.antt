@@ -15,6 +15,7 @@ use Rattle.elf_model.specs.Versions.{number_in}
 use Rattle.elf_rows.specs.Symbols.{HasFields}
 use Rattle.elf_table.specs.declared.names.NameEnd.{NameEnd}
 use Rattle.elf_table.specs.declared.names.NameEnd.TheVariants.{Whole, Cut}
+use Rattle.elfsee_c.specs.Found.{no_symbol}
 use Rattle.elfsee_c.specs.Ends.{TellsCause, TellsNone}
 use Rattle.elfsee_c.specs.Limits.{AreInRange, budget_of, headers_of}
 use Rattle.elfsee_c.specs.Queries.{QueryAsked, IsPermitted, goes_by_segments, wanted_by}
@@ -28,7 +29,7 @@ use Rattle.elfsee_c.specs.declared.resolved.Resolved.{Resolved}
 -- nothing was found, and so many symbols were tried
 abbrev pub nothing_resolved : ℕ → Resolved
 nothing_resolved tried = record {
-  symbol = record { value = 0; size = 0; name = 0; section = 0; info = 0; other = 0 };
+  symbol = no_symbol;
   index = 0;
   tried = tried;
   version = record { at = 0; len = 0 };

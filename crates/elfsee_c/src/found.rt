@@ -1,6 +1,6 @@
 //! What a lookup answers, as C sees it.
 ghost use Rattle.std.specs.Prelude.{◌≡◌};
-ghost use Rattle.elfsee_c.specs.Found.{nothing_behind};
+ghost use Rattle.elfsee_c.specs.Found.{no_symbol, nothing_behind};
 
 use elf_hash::Lookup;
 use elf_record::Refusal;
@@ -30,20 +30,27 @@ impl LookupNumbers {
         ensures { self.new ≡ nothing_behind 0 }
     {
         *self = LookupNumbers {
-            symbol: Symbol {
-                value: 0,
-                size: 0,
-                name: 0,
-                section: 0,
-                info: 0,
-                other: 0,
-            },
+            symbol: no_symbol(),
             index: 0,
             steps: 0,
             section: 0,
             none: 0,
             none_behind: 0,
         };
+    }
+}
+
+/// A symbol of zeros, where none was found.
+pub(crate) fn no_symbol() -> Symbol
+    ensures { result ≡ no_symbol }
+{
+    Symbol {
+        value: 0,
+        size: 0,
+        name: 0,
+        section: 0,
+        info: 0,
+        other: 0,
     }
 }
 

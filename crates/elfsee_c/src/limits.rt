@@ -23,7 +23,7 @@ pub struct CallerLimits {
 }
 
 /// The read budget, where there is one.
-fn budget_of(limits: &CallerLimits) -> Option<u64>
+pub(crate) fn budget_of(limits: &CallerLimits) -> Option<u64>
     ensures { result ≡ budget_of limits.now }
 {
     if limits.has_budget == 0 {

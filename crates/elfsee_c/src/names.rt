@@ -8,7 +8,6 @@ use crate::end::End;
 use crate::limits::{CallerLimits, limits_of};
 use crate::opening::tell_opened;
 use crate::tell::tell;
-use elf_headers::HeaderStore;
 use elf_record::Refusal;
 use elf_rows::{ByteRange, find_name, names_in};
 
@@ -31,8 +30,8 @@ pub extern "C" fn elfsee_name(
     tell(find_name(file, *strings, offset), name, end)
 }
 
-/// Tells where the string table of the section names lies. The room is for the headers; of the
-/// limits their number is looked at alone (gABI 4, ELF Header).
+/// Tells where the string table of the section names lies. So many headers are permitted as the limits
+/// say, and as the room has 64 bytes for; no byte of it is looked at (gABI 4, ELF Header).
 ///
 /// Answers 0 where there is one, 2 where there is none, 1 where a check fails that a listing makes
 /// until the section headers are loaded, with the first that does in `end`, and 4 for limits
@@ -41,25 +40,24 @@ pub extern "C" fn elfsee_name(
 pub extern "C" fn elfsee_section_names(
     file: &[u8],
     limits: &CallerLimits,
-    room: &mut [u8],
+    room: &[u8],
     strings: &mut ByteRange,
     end: &mut End,
 ) -> u32
-    ensures { TellsOpened (OpensNames file.now limits.now (length room.old))
+    ensures { TellsOpened (OpensNames file.now limits.now (length room.now))
         result strings.old strings.new end.new }
 {
-    tell_opened(open_names(file, limits, room), strings, end)
+    tell_opened(open_names(file, limits, room.len()), strings, end)
 }
 
-/// Loads the file and tells where they lie; None for a call with a number outside its range.
+/// Where they lie, with so many bytes of room; None for a call with a number outside its range.
 fn open_names(
     file: &[u8],
     limits: &CallerLimits,
-    room: &mut [u8],
+    room: usize,
 ) -> Option<Result<Option<ByteRange>, Refusal>>
-    ensures { OpensNames file.now limits.now (length room.old) result }
+    ensures { OpensNames file.now limits.now room result }
 {
-    let limits = limits_of(limits, room.len())?;
-    let mut store = HeaderStore::over(room, limits.headers);
-    Some(names_in(file, &mut store))
+    let limits = limits_of(limits, room)?;
+    Some(names_in(file, limits.headers))
 }

@@ -2,6 +2,7 @@
 ghost use Rattle.std.specs.Prelude.{◌≡◌, Some};
 ghost use Rattle.elfsee_c.specs.Resolved.{HasSymbol, SameSymbol, TellsFoundVersion, nothing_resolved};
 
+use crate::found::no_symbol;
 use elf_loader::{FoundSymbol, FoundVersion, SymbolLookup, VersionName};
 use elf_record::Refusal;
 use elf_rows::{ByteRange, Symbol};
@@ -44,14 +45,7 @@ impl Resolved {
         ensures { self.new ≡ nothing_resolved 0 }
     {
         *self = Resolved {
-            symbol: Symbol {
-                value: 0,
-                size: 0,
-                name: 0,
-                section: 0,
-                info: 0,
-                other: 0,
-            },
+            symbol: no_symbol(),
             index: 0,
             tried: 0,
             version: ByteRange { at: 0, len: 0 },

@@ -6,12 +6,13 @@ ghost use Rattle.elfsee_c.specs.Openings.{OpensRows, TellsOpened};
 use crate::end::End;
 use crate::limits::{CallerLimits, limits_of};
 use crate::opening::tell_opened;
-use elf_headers::HeaderStore;
 use elf_record::Refusal;
 use elf_rows::{RowKind, RowsLeft, rows_in};
 
-/// Checks the table of symbols that a section of a file is, and sets `rows` before its first. The
-/// room is for the headers; of the limits their number is looked at alone (gABI 4, Symbol Table).
+/// Checks the table of symbols that a section of a file is, and sets `rows` before its first. So many
+/// headers are permitted as the limits say, and as the room has 64 bytes for; no byte of it is looked at.
+/// Of the section headers no more are read than those of the section names, of the section, and of
+/// what it links to (gABI 4, Symbol Table).
 ///
 /// Answers 0 where the checks pass, 2 where the file has no such section or it holds no symbols, 1
 /// where a check fails that a listing makes up to the table's first row, with the first that does
@@ -21,15 +22,15 @@ pub extern "C" fn elfsee_symbols(
     file: &[u8],
     limits: &CallerLimits,
     section: u16,
-    room: &mut [u8],
+    room: &[u8],
     rows: &mut RowsLeft,
     end: &mut End,
 ) -> u32
-    ensures { TellsOpened (OpensRows Symbols file.now limits.now (length room.old) section)
+    ensures { TellsOpened (OpensRows Symbols file.now limits.now (length room.now) section)
         result rows.old rows.new end.new }
 {
     tell_opened(
-        open_rows(file, limits, section, room, RowKind::Symbols),
+        open_rows(file, limits, section, room.len(), RowKind::Symbols),
         rows,
         end,
     )
@@ -43,15 +44,15 @@ pub extern "C" fn elfsee_relocations(
     file: &[u8],
     limits: &CallerLimits,
     section: u16,
-    room: &mut [u8],
+    room: &[u8],
     rows: &mut RowsLeft,
     end: &mut End,
 ) -> u32
-    ensures { TellsOpened (OpensRows Relocations file.now limits.now (length room.old) section)
+    ensures { TellsOpened (OpensRows Relocations file.now limits.now (length room.now) section)
         result rows.old rows.new end.new }
 {
     tell_opened(
-        open_rows(file, limits, section, room, RowKind::Relocations),
+        open_rows(file, limits, section, room.len(), RowKind::Relocations),
         rows,
         end,
     )
@@ -65,31 +66,30 @@ pub extern "C" fn elfsee_dynamic(
     file: &[u8],
     limits: &CallerLimits,
     section: u16,
-    room: &mut [u8],
+    room: &[u8],
     rows: &mut RowsLeft,
     end: &mut End,
 ) -> u32
-    ensures { TellsOpened (OpensRows Dynamic file.now limits.now (length room.old) section)
+    ensures { TellsOpened (OpensRows Dynamic file.now limits.now (length room.now) section)
         result rows.old rows.new end.new }
 {
     tell_opened(
-        open_rows(file, limits, section, room, RowKind::Dynamic),
+        open_rows(file, limits, section, room.len(), RowKind::Dynamic),
         rows,
         end,
     )
 }
 
-/// Loads the file and checks the table; None for a call with a number outside its range.
+/// Checks the table, with so many bytes of room; None for a call with a number outside its range.
 fn open_rows(
     file: &[u8],
     limits: &CallerLimits,
     section: u16,
-    room: &mut [u8],
+    room: usize,
     kind: RowKind,
 ) -> Option<Result<Option<RowsLeft>, Refusal>>
-    ensures { OpensRows kind file.now limits.now (length room.old) section result }
+    ensures { OpensRows kind file.now limits.now room section result }
 {
-    let limits = limits_of(limits, room.len())?;
-    let mut store = HeaderStore::over(room, limits.headers);
-    Some(rows_in(file, &mut store, section, kind))
+    let limits = limits_of(limits, room)?;
+    Some(rows_in(file, limits.headers, section, kind))
 }

@@ -186,7 +186,7 @@ def _to(kind: Any) -> Any:
 
 
 _TABLE = (*_FILE, _to(_Limits), _U16, *_ROOM, _to(_Rows), _to(_End))
-_STEP = (*_FILE, _to(_Rows), *_OUT)
+_STEP = (*_FILE, _to(_Limits), _to(_U64), _to(_Rows), *_OUT, _to(_End))
 _CALLS: Mapping[str, Tuple[Any, ...]] = {
     "version": (_U32,),
     "cause_word": (ctypes.c_size_t, _U32, *_OUT),
@@ -204,14 +204,14 @@ _CALLS: Mapping[str, Tuple[Any, ...]] = {
     "section_names": (_U32, *_FILE, _to(_Limits), *_ROOM, _to(_Range), _to(_End)),
     "symbols": (_U32, *_TABLE),
     "relocations": (_U32, *_TABLE),
-    "dynamic": (_U32, *_TABLE),
-    "next_symbols": (ctypes.c_size_t, *_STEP),
-    "next_relocations": (ctypes.c_size_t, *_STEP),
-    "next_dynamic": (ctypes.c_size_t, *_STEP),
+    "dynamic_within": (_U32, *_FILE, _to(_Limits), _U16, *_ROOM, _to(_U64), _to(_Rows), _to(_End)),
+    "next_symbols_within": (ctypes.c_size_t, *_STEP),
+    "next_relocations_within": (ctypes.c_size_t, *_STEP),
+    "next_dynamic_within": (ctypes.c_size_t, *_STEP),
     "name": (_U32, *_FILE, _to(_Range), _U64, _to(_Range), _to(_End)),
     "notes": (_U32, *_FILE, _U16, _to(_Notes), _to(_End)),
     "segment_notes": (_U32, *_FILE, _U16, _to(_Notes), _to(_End)),
-    "segment_dynamic": (_U32, *_FILE, _U16, _to(_Rows), _to(_End)),
+    "segment_dynamic_within": (_U32, *_FILE, _to(_Limits), _U16, _to(_U64), _to(_Rows), _to(_End)),
     "mapped": (_U32, *_FILE, _U64, _U64, _to(_Range), _to(_End)),
     "next_note": (_U32, *_FILE, _to(_Notes), _to(_Note), _to(_End)),
     "members": (_U32, *_FILE, _to(_Members), _to(_End)),
@@ -546,12 +546,36 @@ def _always(strings: Places) -> Callable[[int], Places]:
     return told
 
 
+class _Asked:
+    """How many bytes of the file one call of a File asks for, over all tables that it goes through."""
+
+    def __init__(self, budget: Optional[int]) -> None:
+        self.count = _U64(0)
+        self.most = MOST_NUMBER if budget is None else budget
+
+    def left(self) -> int:
+        """How many bytes may still be asked for."""
+        return self.most - int(self.count.value)
+
+    def leave(self, left: int) -> None:
+        """So many may be still."""
+        self.count.value = self.most - left
+
+    def take(self, size: int, at: int) -> None:
+        """Counts so many bytes; they are wanted for what stands at an offset of the file."""
+        left = self.left() - size
+        if left < 0:
+            raise Refused(Cause.BUDGET, at)
+        self.leave(left)
+
+
 class File:
     """A file in memory, and what may be asked of it.
 
     `source` is a path (str or os.PathLike), or the file's bytes. `headers` is how many section
-    headers, and as many program headers, are permitted: 1 to 65,279. `budget` is how many bytes a
-    listing, a lookup or an applied section may each ask for: any number of them where it is None.
+    headers, and as many program headers, are permitted: 1 to 65,279. `budget` is how many bytes each
+    call may ask for, as a listing, a lookup, an applied section, or all rows of one iterator: any number
+    of them where it is None. Of rows their own bytes count, those of their headers and of their names.
     `longest_name` is how long a name of a row may be: names in rows are never cut, and one that is
     longer raises Full.
 
@@ -571,6 +595,7 @@ class File:
         self._content: Optional[bytes] = _content(source)
         self._room: int = _library.elfsee_room(self._content, len(self._content), headers)
         self._sections: Optional[Sequence[Numbers]] = None
+        self._shared: Any = None
 
     def __enter__(self) -> "File":
         return self
@@ -580,7 +605,7 @@ class File:
 
     def close(self) -> None:
         """Lets the file's bytes go. A second time it does nothing."""
-        self._content, self._sections = None, None
+        self._content, self._sections, self._shared = None, None, None
 
     # -----------------------------------------------------------------------
     # Calls of the library.
@@ -595,6 +620,12 @@ class File:
     def _lent(self) -> Tuple[Any, int]:
         """Room for one call: threads that share a file share no room."""
         return ctypes.create_string_buffer(self._room), self._room
+
+    def _unwritten(self) -> Tuple[Any, int]:
+        """Room for the calls that write nothing to it, as those that open rows: it is the same for all."""
+        if self._shared is None:
+            self._shared = ctypes.create_string_buffer(self._room)
+        return self._shared, self._room
 
     def _call(self, name: str, *arguments: Any) -> Tuple[int, Any]:
         """The status of a call, OK or ABSENT or FULL, and how it ended."""
@@ -728,17 +759,20 @@ class File:
         """Where the string table of the section names lies; it has no bytes where there is none. This
         runs the checks that every listing of headers begins with."""
         names = _Range()
-        status, _ = self._call("section_names", self._limits, *self._lent(), names)
+        status, _ = self._call("section_names", self._limits, *self._unwritten(), names)
         return (0, 0) if status == _ABSENT else (names.at, names.at + names.len)
 
-    def _section_rows(self) -> Sequence[Numbers]:
+    def _section_rows(self, asked: _Asked) -> Sequence[Numbers]:
         """All section headers, as numbers in the order of `Section` behind its name; the place in the
         string table of the names is the first."""
         if self._sections is None:
             self._names_of_sections()
+        header = self.header
+        asked.take(64 * header.shnum, header.shoff)
+        if self._sections is None:
             row = _Section()
             rows: List[Numbers] = []
-            for index in range(self.header.shnum):
+            for index in range(header.shnum):
                 self._call("section", index, row)
                 rows.append((row.name, row.type, row.flags, row.addr, row.offset, row.size, row.link,
                              row.info, row.addralign, row.entsize))
@@ -747,9 +781,11 @@ class File:
 
     def sections(self) -> Iterator[Section]:
         """The section headers in their order, section 0 too."""
-        strings, header = self._names_of_sections(), self.header
-        for index, (name, *numbers) in enumerate(self._section_rows()):
-            text = self._name(strings, name, header.shoff + 64 * index) if header.shstrndx else b""
+        strings, header, asked = self._names_of_sections(), self.header, _Asked(self._budget)
+        for index, (name, *numbers) in enumerate(self._section_rows(asked)):
+            place = header.shoff + 64 * index
+            text = self._name(strings, name, place) if header.shstrndx else b""
+            asked.take(len(text) + 1, place)
             yield Section(index, text, *numbers)
 
     def content(self, section: int) -> Optional[bytes]:
@@ -758,6 +794,7 @@ class File:
         found = _Range()
         status, _ = self._call("section_bytes", _within("section", section, 0, 65535), found)
         if status == _OK:
+            _Asked(self._budget).take(found.len, found.at)
             return self.data[found.at:found.at + found.len]
         if section >= self.header.shnum:
             raise Absent("there is no section %d" % section)
@@ -766,8 +803,9 @@ class File:
     def segments(self) -> Iterator[Segment]:
         """The program headers in their order."""
         self._names_of_sections()
-        row = _Segment()
-        for index in range(self.header.phnum):
+        row, header, asked = _Segment(), self.header, _Asked(self._budget)
+        for index in range(header.phnum):
+            asked.take(56, header.phoff + 56 * index)
             self._call("segment", index, row)
             yield Segment(index, row.type, row.flags, row.offset, row.vaddr, row.paddr, row.filesz,
                           row.memsz, row.align)
@@ -775,29 +813,33 @@ class File:
     # -----------------------------------------------------------------------
     # Tables.
 
-    def _tables(self, section: Optional[int], kinds: Sequence[int]) -> Sequence[int]:
+    def _tables(self, section: Optional[int], kinds: Sequence[int], asked: _Asked) -> Sequence[int]:
         """The section that is asked for, or all sections of some types."""
         if section is not None:
             return [_within("section", section, 0, 65535)]
-        return [index for index, row in enumerate(self._section_rows()) if row[1] in kinds]
+        return [index for index, row in enumerate(self._section_rows(asked)) if row[1] in kinds]
 
-    def _opened(self, call: str, table: int) -> Any:
+    def _opened(self, call: str, table: int, *counts: Any) -> Any:
         """A table's rows, behind its checks."""
         rows = _Rows()
-        status, _ = self._call(call, self._limits, table, *self._lent(), rows)
+        status, _ = self._call(call, self._limits, table, *self._unwritten(), *counts, rows)
         if status == _ABSENT:
-            raise Absent("%d holds no %s" % (table, call))
+            raise Absent("%d holds no %s" % (table, call.split("_")[0]))
         return rows
 
-    def _batches(self, call: str, rows: Any, form: str) -> Iterator[Iterator[Numbers]]:
+    def _batches(self, call: str, rows: Any, form: str, asked: _Asked) -> Iterator[Iterator[Numbers]]:
         """The rows that are left, in batches. Each is to be gone through before the next is asked for."""
-        data, step, size = self.data, getattr(_library, "elfsee_" + call), struct.calcsize(form)
-        out = bytearray(size * BATCH)
+        data, end, size = self.data, _End(), struct.calcsize(form)
+        step = getattr(_library, "elfsee_" + call + "_within")
+        most = max(1, min(BATCH, rows.count))
+        out = bytearray(size * most)
         lent, view = (ctypes.c_char * len(out)).from_buffer(out), memoryview(out)
-        count = BATCH
-        while count == BATCH:
-            count = step(data, len(data), rows, lent, BATCH)
+        count = most
+        while count == most:
+            count = step(data, len(data), self._limits, asked.count, rows, lent, most, end)
             yield struct.iter_unpack(form, view[:size * count])
+        if end.cause:
+            raise Refused(end.cause, end.at)
 
     def _name(self, strings: Places, offset: int, entry: int) -> bytes:
         """The name at an offset of the string table from the first of two places to the other, which
@@ -818,48 +860,62 @@ class File:
     def symbols(self, section: Optional[int] = None) -> Iterator[Symbol]:
         """The symbols of a section, or of all symbol tables in the order of the sections, symbol 0
         too. Absent where that section holds none."""
-        for table in self._tables(section, (SHT_SYMTAB, SHT_DYNSYM)):
-            yield from self._symbols_of(table)
+        asked = _Asked(self._budget)
+        for table in self._tables(section, (SHT_SYMTAB, SHT_DYNSYM), asked):
+            yield from self._symbols_of(table, asked)
 
-    def _symbols_of(self, table: int) -> Iterator[Symbol]:
+    def _symbols_of(self, table: int, asked: _Asked) -> Iterator[Symbol]:
         rows = self._opened("symbols", table)
         data, find, longest = self.data, self.data.find, self._longest + 1
         make: Callable[..., Any] = tuple.__new__
         strings, at, index = (rows.strings_at, rows.strings_at + rows.strings_len), rows.at, 0
         first, last = strings
-        for batch in self._batches("next_symbols", rows, _SYMBOL_FORM):
+        for batch in self._batches("next_symbols", rows, _SYMBOL_FORM, asked):
+            left = asked.left()
             for value, size, name, section, info, other in batch:
                 # `_name`, with no call where all is well.
                 start = first + name
                 stop = start + longest
                 end = find(0, start, stop if stop < last else last)
                 text = data[start:end] if end >= 0 else self._name(strings, name, at + 24 * index)
+                left -= len(text) + 1
+                if left < 0:
+                    raise Refused(Cause.BUDGET, at + 24 * index)
                 yield make(Symbol, (text, value, size, section, info, other, table, index))
                 index += 1
+            asked.leave(left)
 
     def relocations(self, section: Optional[int] = None) -> Iterator[Relocation]:
         """The relocation entries of a section, or of all RELA sections in their order. Absent where that
         section holds none; so does one of type REL, whose entries are not read."""
-        for table in self._tables(section, (SHT_RELA,)):
-            yield from self._relocations_of(table)
+        asked = _Asked(self._budget)
+        for table in self._tables(section, (SHT_RELA,), asked):
+            yield from self._relocations_of(table, asked)
 
-    def _relocations_of(self, table: int) -> Iterator[Relocation]:
+    def _relocations_of(self, table: int, asked: _Asked) -> Iterator[Relocation]:
         rows = self._opened("relocations", table)
         # What an empty table links to is not looked at.
         if not rows.count:
             return
-        at, index, name_of = rows.at, 0, self._symbol_names(table)
+        at, index, name_of = rows.at, 0, self._symbol_names(table, asked)
         make: Callable[..., Any] = tuple.__new__
-        for batch in self._batches("next_relocations", rows, _RELOCATION_FORM):
+        for batch in self._batches("next_relocations", rows, _RELOCATION_FORM, asked):
+            left = asked.left()
             for offset, info, addend in batch:
                 symbol = info >> 32
-                name = name_of(symbol, at + 24 * index) if symbol else b""
+                name = b""
+                if symbol:
+                    name = name_of(symbol, at + 24 * index)
+                    left -= 24 + len(name) + 1
+                    if left < 0:
+                        raise Refused(Cause.BUDGET, at + 24 * index)
                 yield make(Relocation, (offset, info & 0xffffffff, symbol, addend, name, table, index))
                 index += 1
+            asked.leave(left)
 
-    def _symbol_names(self, table: int) -> Callable[[int, int], bytes]:
+    def _symbol_names(self, table: int, asked: _Asked) -> Callable[[int, int], bytes]:
         """What names the symbol of an index, for an entry at an offset, in a table of entries."""
-        sections = self._section_rows()
+        sections = self._sections if self._sections is not None else self._section_rows(asked)
         link = sections[table][6]
         symbols: Any = None
         if link < len(sections) and sections[link][1] in (SHT_SYMTAB, SHT_DYNSYM):
@@ -879,12 +935,14 @@ class File:
 
     def notes(self) -> Iterator[Note]:
         """The notes of all sections, or in a file without sections of all segments."""
-        sections = self._section_rows()
+        asked = _Asked(self._budget)
+        sections = self._section_rows(asked)
         call, headers = ("notes", len(sections)) if sections else ("segment_notes", self.header.phnum)
         for table in range(headers):
             notes, note = _Notes(), _Note()
             if self._call(call, table, notes)[0] == _OK:
                 while self._call("next_note", notes, note)[0] == _OK:
+                    asked.take(12 + note.namesz + note.descsz, note.at)
                     name = self.data[note.name_at:note.name_at + note.namesz].split(b"\0", 1)[0]
                     desc = self.data[note.desc_at:note.desc_at + note.descsz]
                     yield Note(name, note.type, desc, note.namesz, note.descsz, table)
@@ -892,11 +950,12 @@ class File:
     def members(self) -> Iterator[Member]:
         """The members of an archive, as a static library, in their order. The index of symbols, of the
         name `/`, and the table of names, `//`, are members too."""
-        members, member = _Members(), _Member()
+        members, member, asked = _Members(), _Member(), _Asked(self._budget)
         self._call("members", members)
         content = memoryview(self.data)
         while self._call("next_member", members, member)[0] == _OK:
             name, (at, size) = member.name, (member.content.at, member.content.len)
+            asked.take(60 + name.len, member.at)
             yield Member(self.data[name.at:name.at + name.len], member.at, at, size, member.is_cut != 0,
                          content[at:at + size])
 
@@ -912,32 +971,38 @@ class File:
     def dynamic(self, section: Optional[int] = None) -> Iterator[Dynamic]:
         """The dynamic entries of a section, or of all of them, up to and with the first of tag NULL. In
         a file without sections those of its segments. Absent where that section holds none."""
-        if section is None and not self._section_rows():
+        asked = _Asked(self._budget)
+        tables = self._tables(section, (SHT_DYNAMIC,), asked)
+        if section is None and not self._sections:
             for table in range(self.header.phnum):
                 rows = _Rows()
-                if self._call("segment_dynamic", table, rows)[0] == _OK:
-                    yield from self._entries(rows, table, self._mapped_strings(rows))
+                if self._call("segment_dynamic_within", self._limits, table, asked.count, rows)[0] == _OK:
+                    yield from self._entries(rows, table, self._mapped_strings(rows, asked), asked)
             return
-        for table in self._tables(section, (SHT_DYNAMIC,)):
-            rows = self._opened("dynamic", table)
-            yield from self._entries(rows, table, _always((rows.strings_at, rows.strings_at + rows.strings_len)))
+        for table in tables:
+            rows = self._opened("dynamic_within", table, asked.count)
+            strings = _always((rows.strings_at, rows.strings_at + rows.strings_len))
+            yield from self._entries(rows, table, strings, asked)
 
-    def _entries(self, rows: Any, table: int, strings: Callable[[int], Places]) -> Iterator[Dynamic]:
+    def _entries(self, rows: Any, table: int, strings: Callable[[int], Places],
+                 asked: _Asked) -> Iterator[Dynamic]:
         """The dynamic entries of a table; `strings` tells the string table for the entry at an offset."""
         at, index = rows.at, 0
-        for batch in self._batches("next_dynamic", rows, _DYNAMIC_FORM):
+        for batch in self._batches("next_dynamic", rows, _DYNAMIC_FORM, asked):
             for tag, value in batch:
-                entry = at + 16 * index
-                text = self._name(strings(entry), value, entry) if tag in STRING_TAGS else None
+                entry, text = at + 16 * index, None
+                if tag in STRING_TAGS:
+                    text = self._name(strings(entry), value, entry)
+                    asked.take(len(text) + 1, entry)
                 yield Dynamic(tag, value, text, table, index)
                 index += 1
 
-    def _mapped_strings(self, rows: Any) -> Callable[[int], Places]:
+    def _mapped_strings(self, rows: Any, asked: _Asked) -> Callable[[int], Places]:
         """What tells the string table of a segment's dynamic entries, which its first entries of two
         tags place in memory, for the entry at an offset."""
         again = _Rows(rows.at, rows.count, 0, rows.entry, 0, 0)
         first: Dict[int, int] = {}
-        for batch in self._batches("next_dynamic", again, _DYNAMIC_FORM):
+        for batch in self._batches("next_dynamic", again, _DYNAMIC_FORM, asked):
             for tag, value in batch:
                 if tag in (DT_STRTAB, DT_STRSZ):
                     first.setdefault(tag, value)

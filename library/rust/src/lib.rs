@@ -48,8 +48,9 @@ pub use members::{Member, Members};
 pub use names::{spelt, HasName, Named, Names, Spelt};
 pub use notes::{Note, Notes};
 pub use raw::{Dynamic, Header, Range, Relocation, Section, Segment, Symbol};
-pub use rows::{DynamicEntries, Relocations, Rows, Symbols};
+pub use rows::{DynamicEntries, Relocations, Rows, Symbols, Within};
 
+use core::cell::Cell;
 use core::marker::PhantomData;
 
 /// The part of a listing that is the file header.
@@ -127,8 +128,8 @@ pub struct Limits {
     pub headers: u16,
     /// Bytes of a name that a listing shows: 1 to 4,096.
     pub name: u16,
-    /// How many bytes of the file a listing, a lookup or an applied section may ask for, where that is
-    /// limited.
+    /// How many bytes of the file a listing, a lookup or an applied section may ask for, and rows that are read
+    /// within it, where that is limited.
     pub budget: Option<u64>,
 }
 
@@ -751,6 +752,51 @@ impl<'a> File<'a> {
         let status = unsafe {
             raw::elfsee_segment_dynamic(self.bytes.as_ptr(), self.bytes.len(), segment, &mut rows, &mut end)
         };
+        let rows = row_of(status, rows, &end)?;
+        Ok(rows.map(|rows| Rows::new(self.bytes, rows)))
+    }
+
+    /// As [`File::dynamic`] does, within the budget of the limits: an opening looks at each entry up to the first of
+    /// tag NULL, which counts 16 bytes in `asked`, over all calls that are lent it, as [`Rows::within`] too.
+    pub fn dynamic_within(
+        &self,
+        section: u16,
+        room: &mut [u8],
+        asked: &Cell<u64>,
+    ) -> Result<Option<DynamicEntries<'a>>, Error> {
+        let (mut rows, mut end, mut count) = (raw::Rows::default(), raw::End::default(), asked.get());
+        // SAFETY: as in `show`.
+        let status = unsafe {
+            raw::elfsee_dynamic_within(
+                self.bytes.as_ptr(),
+                self.bytes.len(),
+                &self.limits,
+                section,
+                room.as_ptr(),
+                room.len(),
+                &mut count,
+                &mut rows,
+                &mut end,
+            )
+        };
+        asked.set(count);
+        let rows = table_of(status, rows, &end)?;
+        Ok(rows.map(|rows| Rows::new(self.bytes, rows)))
+    }
+
+    /// As [`File::segment_dynamic`] does, within the budget of the limits as [`File::dynamic_within`] does.
+    pub fn segment_dynamic_within(
+        &self,
+        segment: u16,
+        asked: &Cell<u64>,
+    ) -> Result<Option<DynamicEntries<'a>>, Refused> {
+        let (mut rows, mut end, mut count) = (raw::Rows::default(), raw::End::default(), asked.get());
+        let (file, len) = (self.bytes.as_ptr(), self.bytes.len());
+        // SAFETY: as in `header`.
+        let status = unsafe {
+            raw::elfsee_segment_dynamic_within(file, len, &self.limits, segment, &mut count, &mut rows, &mut end)
+        };
+        asked.set(count);
         let rows = row_of(status, rows, &end)?;
         Ok(rows.map(|rows| Rows::new(self.bytes, rows)))
     }

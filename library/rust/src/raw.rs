@@ -369,6 +369,56 @@ extern "C" {
         rows: *mut Rows,
         end: *mut End,
     ) -> u32;
+    pub fn elfsee_dynamic_within(
+        file: *const u8,
+        file_len: usize,
+        limits: *const Limits,
+        section: u16,
+        room: *const u8,
+        room_len: usize,
+        asked: *mut u64,
+        rows: *mut Rows,
+        end: *mut End,
+    ) -> u32;
+    pub fn elfsee_segment_dynamic_within(
+        file: *const u8,
+        file_len: usize,
+        limits: *const Limits,
+        segment: u16,
+        asked: *mut u64,
+        rows: *mut Rows,
+        end: *mut End,
+    ) -> u32;
+    pub fn elfsee_next_symbols_within(
+        file: *const u8,
+        file_len: usize,
+        limits: *const Limits,
+        asked: *mut u64,
+        rows: *mut Rows,
+        out: *mut Symbol,
+        out_len: usize,
+        end: *mut End,
+    ) -> usize;
+    pub fn elfsee_next_relocations_within(
+        file: *const u8,
+        file_len: usize,
+        limits: *const Limits,
+        asked: *mut u64,
+        rows: *mut Rows,
+        out: *mut Relocation,
+        out_len: usize,
+        end: *mut End,
+    ) -> usize;
+    pub fn elfsee_next_dynamic_within(
+        file: *const u8,
+        file_len: usize,
+        limits: *const Limits,
+        asked: *mut u64,
+        rows: *mut Rows,
+        out: *mut Dynamic,
+        out_len: usize,
+        end: *mut End,
+    ) -> usize;
     pub fn elfsee_next_symbols(
         file: *const u8,
         file_len: usize,

@@ -1,5 +1,7 @@
 //! The rows of a table, one after another.
 
+use core::cell::Cell;
+
 use crate::error::Refused;
 use crate::names::{HasName, Named, Names};
 use crate::raw;
@@ -12,26 +14,49 @@ pub(crate) mod sealed {
     pub trait Fetch: Copy + Default {
         /// Fetches up to so many next rows, and tells how many.
         fn fetch(file: &[u8], rows: &mut super::raw::Rows, out: &mut [Self]) -> usize;
+
+        /// The same within a budget. Where that ended it the second answer says so.
+        fn fetch_within(
+            file: &[u8],
+            limits: &super::raw::Limits,
+            asked: &mut u64,
+            rows: &mut super::raw::Rows,
+            out: &mut [Self],
+        ) -> (usize, super::raw::End);
     }
 }
 
 use sealed::Fetch;
 
 macro_rules! fetched {
-    ($row:ty, $call:path) => {
+    ($row:ty, $call:path, $within:path) => {
         impl Fetch for $row {
             fn fetch(file: &[u8], rows: &mut raw::Rows, out: &mut [Self]) -> usize {
                 // SAFETY: a slice's own pointer and length, a struct that is initialised, and `out`
                 // and `rows`, which nothing else refers to.
                 unsafe { $call(file.as_ptr(), file.len(), rows, out.as_mut_ptr(), out.len()) }
             }
+
+            fn fetch_within(
+                file: &[u8],
+                limits: &raw::Limits,
+                asked: &mut u64,
+                rows: &mut raw::Rows,
+                out: &mut [Self],
+            ) -> (usize, raw::End) {
+                let mut end = raw::End::default();
+                let (place, room) = (out.as_mut_ptr(), out.len());
+                // SAFETY: as in `fetch`.
+                let count = unsafe { $within(file.as_ptr(), file.len(), limits, asked, rows, place, room, &mut end) };
+                (count, end)
+            }
         }
     };
 }
 
-fetched!(raw::Symbol, raw::elfsee_next_symbols);
-fetched!(raw::Relocation, raw::elfsee_next_relocations);
-fetched!(raw::Dynamic, raw::elfsee_next_dynamic);
+fetched!(raw::Symbol, raw::elfsee_next_symbols, raw::elfsee_next_symbols_within);
+fetched!(raw::Relocation, raw::elfsee_next_relocations, raw::elfsee_next_relocations_within);
+fetched!(raw::Dynamic, raw::elfsee_next_dynamic, raw::elfsee_next_dynamic_within);
 
 /// The rows of a table of symbols, relocation entries or dynamic entries: an iterator. Its rows are numbers, and hold
 /// no borrow of it; [`Rows::names`] and [`Rows::named`] have their names.
@@ -77,6 +102,35 @@ impl<'a, R: Fetch> Rows<'a, R> {
     pub fn names(&self) -> Names<'a> {
         let strings = raw::Range { at: self.rows.strings_at, len: self.rows.strings_len };
         Names::new(self.file, strings)
+    }
+
+    /// The rows that are left, within a budget: what each takes of the file counts in `asked`, over all tables whose
+    /// rows are lent it, and those that [`File::dynamic_within`](crate::File::dynamic_within) opens. The first row
+    /// that would pass `budget` is refused, with the cause `budget`, and the last. Names count nothing.
+    ///
+    /// ```
+    /// # fn main() -> Result<(), Box<dyn std::error::Error>> {
+    /// use std::cell::Cell;
+    ///
+    /// let bytes = std::fs::read("/proc/self/exe")?;
+    /// let file = elfsee::File::new(&bytes);
+    /// let (mut room, asked) = (vec![0; file.room()], Cell::new(0));
+    /// for (index, _) in file.sections(&mut room)? {
+    ///     let Some(symbols) = file.symbols(index, &mut room)? else { continue };
+    ///     let total = symbols.total();
+    ///     assert_eq!(symbols.clone().within(1_000_000_000, &asked).count() as u64, total);
+    ///     assert!(symbols.within(0, &asked).next().map_or(true, |row| row.is_err()));
+    /// }
+    /// assert!(asked.get() % 24 == 0);
+    /// # Ok(())
+    /// # }
+    /// ```
+    pub fn within<'c>(self, budget: u64, asked: &'c Cell<u64>) -> Within<'a, 'c, R> {
+        let passed = self.rows.index.saturating_sub((self.fetched - self.next) as u64);
+        let rows = raw::Rows { index: passed, ..self.rows };
+        let limits = raw::Limits { has_budget: 1, budget, ..raw::Limits::default() };
+        let batch = [R::default(); BATCH];
+        Within { file: self.file, rows, limits, asked, batch, next: 0, fetched: 0, refused: None, is_over: false }
     }
 
     /// The row of an index, wherever the iterator is; none where the table has no such row.
@@ -146,6 +200,41 @@ impl<'a, R: Fetch> Iterator for Rows<'a, R> {
         let row = self.batch[..self.fetched].get(self.next).copied()?;
         self.next += 1;
         Some(row)
+    }
+}
+
+/// Rows within a budget, as [`Rows::within`] gives them: an iterator, which ends behind the row that the budget
+/// refuses.
+#[derive(Clone, Debug)]
+pub struct Within<'a, 'c, R> {
+    file: &'a [u8],
+    rows: raw::Rows,
+    limits: raw::Limits,
+    asked: &'c Cell<u64>,
+    batch: [R; BATCH],
+    next: usize,
+    fetched: usize,
+    refused: Option<Refused>,
+    is_over: bool,
+}
+
+impl<R: Fetch> Iterator for Within<'_, '_, R> {
+    type Item = Result<R, Refused>;
+
+    fn next(&mut self) -> Option<Self::Item> {
+        if self.next == self.fetched && !self.is_over {
+            let mut asked = self.asked.get();
+            let (count, end) = R::fetch_within(self.file, &self.limits, &mut asked, &mut self.rows, &mut self.batch);
+            self.asked.set(asked);
+            (self.next, self.fetched) = (0, count);
+            self.is_over = count < BATCH;
+            self.refused = (end.cause != 0).then(|| Refused::of(&end));
+        }
+        if self.next == self.fetched {
+            return self.refused.take().map(Err);
+        }
+        self.next += 1;
+        Some(Ok(self.batch[self.next - 1]))
     }
 }
 

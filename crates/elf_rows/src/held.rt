@@ -1,0 +1,69 @@
+//! A file that lies in memory, whose headers passed the checks of a load.
+ghost use Rattle.std.specs.Prelude.{◌≡◌, ◌+◌, ◌<◌, ◌≤◌, length};
+ghost use Rattle.elf_model.specs.Records.{e_shnum, section_at};
+ghost use Rattle.elf_record.specs.Ehdr.{IsEhdr};
+ghost use Rattle.elf_record.specs.Shdr.{IsShdr};
+ghost use Rattle.elf_headers.specs.Load.{Passes};
+ghost use Rattle.elf_table.specs.Sections.{section_names};
+
+use crate::bytes::chunk_at;
+use elf_record::sizes::SECTION_HEADER_BYTES;
+use elf_record::{Ehdr, Shdr};
+use elf_table::Names;
+
+/// A file that lies in memory, whose headers lie within it. A section header is read where it stands,
+/// and only where it is asked for.
+#[derive(Clone, Copy)]
+pub(crate) struct HeldFile<'a> {
+    /// The file.
+    pub(crate) bytes: &'a [u8],
+    /// Its header.
+    pub(crate) header: Ehdr,
+    /// The string table of the section names; None where e_shnum or e_shstrndx is 0.
+    pub(crate) names: Option<Names>,
+    pub(crate) ghost same: { IsEhdr bytes.now 0 header },
+    pub(crate) ghost within: { Passes (length bytes.now) 65535 header },
+    pub(crate) ghost named: { names ≡ section_names bytes.now },
+}
+
+/// The section header at an offset of the file.
+pub(crate) fn section_header(file: &[u8], at: usize) -> Shdr
+    requires { at + 64 ≤ length file.now }
+    ensures { IsShdr file.now at result }
+{
+    Shdr::decode(chunk_at(file, at))
+}
+
+impl HeldFile<'_> {
+    /// The file's length in bytes.
+    pub(crate) fn size(&self) -> u64
+        ensures { result ≡ length self.now.bytes.now }
+    {
+        self.bytes.len() as u64
+    }
+
+    /// How many section headers there are.
+    pub(crate) fn sections(&self) -> u16
+        ensures value { result ≡ e_shnum self.now.bytes.now }
+        ensures same { result ≡ self.now.header.e_shnum }
+    {
+        self.header.e_shnum
+    }
+
+    /// The file offset of the section header of an index (gABI 4, Section Header).
+    pub(crate) fn place(&self, section: u16) -> u64
+        requires { section < self.now.header.e_shnum }
+        ensures value { result ≡ section_at self.now.bytes.now section }
+        ensures within { result + 64 ≤ length self.now.bytes.now }
+    {
+        self.header.e_shoff + SECTION_HEADER_BYTES * u64::from(section)
+    }
+
+    /// The section header of an index (gABI 4, Section Header).
+    pub(crate) fn section(&self, section: u16) -> Shdr
+        requires { section < self.now.header.e_shnum }
+        ensures { IsShdr self.now.bytes.now (section_at self.now.bytes.now section) result }
+    {
+        section_header(self.bytes, self.place(section) as usize)
+    }
+}

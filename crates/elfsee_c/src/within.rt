@@ -1,0 +1,169 @@
+//! The exports that read rows within a budget: what they read counts, over all tables.
+ghost use Rattle.std.specs.Prelude.{◌≡◌, ◌≤◌, ◌<◌, ℕ, IfSome, length, slice_index_or};
+ghost use Rattle.elf_rows.specs.Entries.{IsDynamic, IsRelocation};
+ghost use Rattle.elf_rows.specs.Rows.{next_at};
+ghost use Rattle.elf_rows.specs.SegmentDynamic.{ReadsSegmentDynamic};
+ghost use Rattle.elf_rows.specs.Symbols.{IsSymbol};
+ghost use Rattle.elf_rows.specs.declared.dynamic.Dynamic.{Dynamic as OneDynamic};
+ghost use Rattle.elf_rows.specs.declared.kind.RowKind.TheVariants.{Dynamic as DynamicRows};
+ghost use Rattle.elf_rows.specs.declared.relocations.Relocation.{Relocation as OneRelocation};
+ghost use Rattle.elf_rows.specs.declared.symbol.Symbol.{Symbol as OneSymbol};
+ghost use Rattle.elfsee_c.specs.Limits.{budget_of};
+ghost use Rattle.elfsee_c.specs.Openings.{OpensRows};
+ghost use Rattle.elfsee_c.specs.Within.{OpensAlways, OpensEntries, StepsBudgeted, TellsEntries};
+
+use crate::end::End;
+use crate::limits::{CallerLimits, limits_of};
+use crate::opening::tell_opened;
+use crate::spent::{count_bytes, count_entries, entries_left, room_left, tell_rest};
+use elf_record::Refusal;
+use elf_rows::{
+    Dynamic, Relocation, RowsLeft, Symbol, dynamic_within, next_dynamic, next_relocations,
+    next_symbols, segment_dynamic_within,
+};
+
+/// Checks the table of dynamic entries that a section of a file is, as
+/// [`elfsee_dynamic`](crate::tables::elfsee_dynamic) does, within the budget of the limits: each entry
+/// up to and with the first DT_NULL counts 16 bytes in `asked`, which adds up what was asked for by all
+/// calls that are lent it (gABI 5, Dynamic Section).
+///
+/// Answers as that call does, and 1 with `Budget` in `end`, at the first entry that was not looked at,
+/// where `asked` would pass the budget. Without a budget it is counted and nothing more.
+#[unsafe(no_mangle)]
+pub extern "C" fn elfsee_dynamic_within(
+    file: &[u8],
+    limits: &CallerLimits,
+    section: u16,
+    room: &[u8],
+    asked: &mut u64,
+    rows: &mut RowsLeft,
+    end: &mut End,
+) -> u32
+    ensures tells { TellsEntries (OpensRows DynamicRows file.now limits.now (length room.now) section)
+        limits.now asked.old asked.new result rows.old rows.new end.new }
+    ensures budget { IfSome (budget_of limits.now) (λ bytes. asked.old ≤ bytes → asked.new ≤ bytes) }
+{
+    let most = entries_left(limits, *asked);
+    let opened = open_within(file, limits, section, room.len(), most);
+    count_entries(&opened, most, asked);
+    tell_opened(opened, rows, end)
+}
+
+/// Checks the dynamic entries of a segment, as
+/// [`elfsee_segment_dynamic`](crate::loads::elfsee_segment_dynamic) does, within the budget of the
+/// limits as [`elfsee_dynamic_within`] does (gABI 5, Dynamic Section).
+#[unsafe(no_mangle)]
+pub extern "C" fn elfsee_segment_dynamic_within(
+    file: &[u8],
+    limits: &CallerLimits,
+    segment: u16,
+    asked: &mut u64,
+    rows: &mut RowsLeft,
+    end: &mut End,
+) -> u32
+    ensures tells { TellsEntries (OpensAlways (ReadsSegmentDynamic file.now segment))
+        limits.now asked.old asked.new result rows.old rows.new end.new }
+    ensures budget { IfSome (budget_of limits.now) (λ bytes. asked.old ≤ bytes → asked.new ≤ bytes) }
+{
+    let most = entries_left(limits, *asked);
+    let opened = open_segment_within(file, segment, most);
+    count_entries(&opened, most, asked);
+    tell_opened(opened, rows, end)
+}
+
+/// Reads the next symbols, as [`elfsee_next_symbols`](crate::steps::elfsee_next_symbols) does, and no
+/// more than the budget of the limits has left: each counts 24 bytes in `asked`. Where more rows are
+/// left, and room for them, the budget ended it: then `Budget` is in `end`, at the next row.
+#[unsafe(no_mangle)]
+pub extern "C" fn elfsee_next_symbols_within(
+    file: &[u8],
+    limits: &CallerLimits,
+    asked: &mut u64,
+    rows: &mut RowsLeft,
+    out: &mut [Symbol],
+    end: &mut End,
+) -> usize
+    ensures steps { StepsBudgeted (length file.now) 24 limits.now asked.old asked.new
+        rows.old rows.new (length out.old) result end.new }
+    ensures budget { IfSome (budget_of limits.now) (λ bytes. asked.old ≤ bytes → asked.new ≤ bytes) }
+    ensures read { (k : ℕ) (none : OneSymbol) → k < result →
+        IsSymbol file.now (next_at rows.old 24 k) (slice_index_or out.new k none) }
+{
+    let room = room_left(limits, *asked, 24, out.len());
+    let count = next_symbols(file, rows, &mut out[..room]);
+    count_bytes(24 * count as u128, asked);
+    tell_rest(file.len(), rows, 24, out.len() - count, end);
+    count
+}
+
+/// Reads the next relocation entries, as [`elfsee_next_symbols_within`] does symbols.
+#[unsafe(no_mangle)]
+pub extern "C" fn elfsee_next_relocations_within(
+    file: &[u8],
+    limits: &CallerLimits,
+    asked: &mut u64,
+    rows: &mut RowsLeft,
+    out: &mut [Relocation],
+    end: &mut End,
+) -> usize
+    ensures steps { StepsBudgeted (length file.now) 24 limits.now asked.old asked.new
+        rows.old rows.new (length out.old) result end.new }
+    ensures budget { IfSome (budget_of limits.now) (λ bytes. asked.old ≤ bytes → asked.new ≤ bytes) }
+    ensures read { (k : ℕ) (none : OneRelocation) → k < result →
+        IsRelocation file.now (next_at rows.old 24 k) (slice_index_or out.new k none) }
+{
+    let room = room_left(limits, *asked, 24, out.len());
+    let count = next_relocations(file, rows, &mut out[..room]);
+    count_bytes(24 * count as u128, asked);
+    tell_rest(file.len(), rows, 24, out.len() - count, end);
+    count
+}
+
+/// Reads the next dynamic entries, as [`elfsee_next_symbols_within`] does symbols; each counts 16 bytes.
+#[unsafe(no_mangle)]
+pub extern "C" fn elfsee_next_dynamic_within(
+    file: &[u8],
+    limits: &CallerLimits,
+    asked: &mut u64,
+    rows: &mut RowsLeft,
+    out: &mut [Dynamic],
+    end: &mut End,
+) -> usize
+    ensures steps { StepsBudgeted (length file.now) 16 limits.now asked.old asked.new
+        rows.old rows.new (length out.old) result end.new }
+    ensures budget { IfSome (budget_of limits.now) (λ bytes. asked.old ≤ bytes → asked.new ≤ bytes) }
+    ensures read { (k : ℕ) (none : OneDynamic) → k < result →
+        IsDynamic file.now (next_at rows.old 16 k) (slice_index_or out.new k none) }
+{
+    let room = room_left(limits, *asked, 16, out.len());
+    let count = next_dynamic(file, rows, &mut out[..room]);
+    count_bytes(16 * count as u128, asked);
+    tell_rest(file.len(), rows, 16, out.len() - count, end);
+    count
+}
+
+/// Checks the table of dynamic entries of which no more than `most` are looked at, with so many bytes
+/// of room; None for a call with a number outside its range.
+fn open_within(
+    file: &[u8],
+    limits: &CallerLimits,
+    section: u16,
+    room: usize,
+    most: u64,
+) -> Option<Result<Option<RowsLeft>, Refusal>>
+    ensures { OpensEntries (OpensRows DynamicRows file.now limits.now room section) most result }
+{
+    let limits = limits_of(limits, room)?;
+    Some(dynamic_within(file, limits.headers, section, most))
+}
+
+/// Checks the dynamic entries of a segment of which no more than `most` are looked at; never None.
+fn open_segment_within(
+    file: &[u8],
+    segment: u16,
+    most: u64,
+) -> Option<Result<Option<RowsLeft>, Refusal>>
+    ensures { OpensEntries (OpensAlways (ReadsSegmentDynamic file.now segment)) most result }
+{
+    Some(segment_dynamic_within(file, segment, most))
+}
