@@ -1,7 +1,7 @@
 -- Entries of bytes, and of bytes behind them.
-use Rattle.std.proofs.Common.{◌≡◌, ◌≢◌, ℕ, zero, suc, ◌+◌, ◌<◌, ◌≤◌, All, List, [], ◌∷◌, ◌++◌, length, take, drop, get_or, refl, ap, sym, ◌∙◌, arith, subst, append_assoc, append-nil, length-append}
+use Rattle.std.proofs.Common.{◌≡◌, ◌≢◌, ℕ, zero, suc, ◌<◌, All, List, [], ◌∷◌, ◌++◌, length, take, drop, get_or, refl, ap, sym, ◌∙◌, arith, append_assoc, append-nil}
 use Rattle.std.proofs.lemmas.List.Elements.{All-head, All-tail}
-use Rattle.elf_many.specs.Entries.{EntryIsFound, LastIsFound, all_entries, whole_entries, last_entry, rest_from}
+use Rattle.elf_many.specs.Entries.{EntryIsFound, LastIsFound, whole_entries, last_entry, rest_from}
 
 -- the entries of bytes and of others behind them are those of the first, then those of the others with what is left before them
 pub entries_join : (front a b : List ℕ) → whole_entries front (a ++ b) ≡ whole_entries front a ++ whole_entries (rest_from front a) b

@@ -1,5 +1,5 @@
 -- An entry is put, and those before it were.
-use Rattle.std.proofs.Common.{◌-◌, ◌+◌, ◌∙◌, refl, arith, drop, take, length}
+use Rattle.std.proofs.Common.{◌-◌, ◌+◌, ◌∙◌, refl, arith, drop, take}
 use Rattle.elf_many.proofs.GatherLaws.{put_none, put_one, put_step, put_whole}
 use Rattle.elf_many.proofs.folders.put_all.Goals as goal
 
