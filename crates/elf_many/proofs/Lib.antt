@@ -9,3 +9,5 @@ pub mod HeldLaws
 pub mod RoomLaws
 pub mod SortedLaws
 pub mod StackedLaws
+pub mod EntryLaws
+pub mod GatherLaws

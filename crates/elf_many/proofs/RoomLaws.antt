@@ -1,11 +1,11 @@
 -- How much names take.
-use Rattle.std.proofs.Common.{◌≡◌, ℕ, zero, suc, ◌+◌, ◌-◌, ◌<◌, ◌≤◌, ◌⊎◌, inl, inr, Bool, true, List, [], ◌∷◌, ◌++◌, length, take, drop, map, refl, ap, sym, ◌∙◌, arith, subst, length-append, length-take-le, length-drop}
+use Rattle.std.proofs.Common.{◌≡◌, ℕ, ◌+◌, ◌<◌, ◌≤◌, inl, inr, Bool, true, List, [], ◌∷◌, ◌++◌, length, drop, map, refl, ap, sym, ◌∙◌, arith, subst, length-append, length-take-le, length-drop}
 use Rattle.std.proofs.lemmas.List.Elements.{All-head, All-tail}
 use Rattle.std.proofs.lemmas.List.Sums.{sum_by-cons, sum_by_push}
 use Rattle.std.specs.Prelude.{All, sum_by}
 use Rattle.std.specs.declared.cmp.Ordering.{Ordering}
 use Rattle.std.specs.declared.cmp.Ordering.TheVariants.{Less, Equal, Greater}
-use Rattle.elf_many.specs.Held.{IsEnough, IsFew, IsSettled, IsWithinKept, LeavesRoom, bytes_held, piece}
+use Rattle.elf_many.specs.Held.{IsEnough, IsFew, IsWithinKept, LeavesRoom, bytes_held, piece}
 use Rattle.elf_many.specs.Kept.{HoldsWithin, Kept}
 use Rattle.elf_many.specs.Order.{order, put_by}
 use Rattle.elf_many.specs.Passes.{in_order}

@@ -1,4 +1,6 @@
 pub mod Checked
+pub mod Entries
+pub mod Gathered
 pub mod Held
 pub mod Joined
 pub mod Kept

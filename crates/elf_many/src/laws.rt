@@ -1,4 +1,5 @@
 //! Laws of the definitions.
+ghost use Rattle.elf_many.specs.Entries.{EntryIsFound, LastIsFound};
 ghost use Rattle.elf_many.specs.Pass.{PassKeeps};
 ghost use Rattle.elf_many.specs.Passes.{AllNames, OrderAscends};
 
@@ -17,4 +18,14 @@ pub fn order_ascends()
 /// order of their bytes, each once, however many names each of them keeps.
 pub fn all_names()
     ensures { AllNames }
+{}
+
+/// An entry that ends in NUL is found, and those behind it are those of the bytes behind it.
+pub fn entry_is_found()
+    ensures { EntryIsFound }
+{}
+
+/// Bytes without NUL are one entry, if there are any.
+pub fn last_is_found()
+    ensures { LastIsFound }
 {}

@@ -23,7 +23,7 @@ pub use batch::{Batch, FolderName, Put};
 pub use checking::check;
 pub use checks::Checks;
 pub use entries::{ends_at, entry_end};
-pub use laws::{all_names, order_ascends, pass_keeps};
+pub use laws::{all_names, entry_is_found, last_is_found, order_ascends, pass_keeps};
 pub use lists::{ListFault, check_list};
 pub use names::{FOLDER_NAME_BYTES, FolderNames, KEPT_BYTES, KEPT_NAMES};
 pub use path::{PATH_BYTES, PathText, join};

@@ -16,6 +16,7 @@ pub type PathText = ArrayVec<u8, 4096>;
 pub fn join(path: &mut PathText, name: &[u8]) -> bool
     ensures joined { result ≡ true → path.new.items ≡ joined_path path.old.items name.now }
     ensures full { result ≡ false → path.new ≡ path.old }
+    ensures fits { result ≡ true → array_vec_len path.old + length name.now < 4096 }
     ensures room { array_vec_len path.old + length name.now < 4096 → result ≡ true }
 {
     if path.len() + name.len() >= PATH_BYTES {

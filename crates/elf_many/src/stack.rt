@@ -1,5 +1,5 @@
 //! Names that wait, the last one first.
-ghost use Rattle.std.specs.Prelude.{◌≡◌, ◌≤◌, ◌<◌, List, ℕ, IfOk, IfSome, OnOk, [], take, length, true, false};
+ghost use Rattle.std.specs.Prelude.{◌≡◌, ◌≤◌, ◌<◌, All, List, ℕ, IfOk, IsSomeAnd, OnOk, [], take, length};
 ghost use Rattle.elf_many.specs.Stacked.{pushed, stacked};
 
 use crate::batch::FolderName;
@@ -45,6 +45,13 @@ impl Stack {
         self.bytes.clear();
     }
 
+    /// Forgets the names behind so many bytes.
+    pub fn truncate(&mut self, len: usize)
+        ensures { self.new ≡ take len self.old }
+    {
+        self.bytes.truncate(len);
+    }
+
     /// How many bytes the names take.
     pub fn len(&self) -> usize
         ensures { result ≡ length self.now }
@@ -55,9 +62,11 @@ impl Stack {
     /// Puts a name on the others.
     ///
     /// # Errors
-    /// Where memory is refused, or the name has more than 255 bytes.
+    /// Where memory is refused, or the name has more than 255 bytes; the names before stay.
     fn push(&mut self, name: &[u8]) -> Result<(), AllocError>
-        ensures { OnOk result (self.new ≡ pushed self.old name.now) }
+        ensures pushed { OnOk result (self.new ≡ pushed self.old name.now) }
+        ensures short { OnOk result (length name.now ≤ 255) }
+        ensures stays { take (length self.old) self.new ≡ self.old }
     {
         let Ok(len) = u8::try_from(name.len()) else {
             return Err(AllocError);
@@ -73,10 +82,12 @@ impl Stack {
     /// last one here.
     ///
     /// # Errors
-    /// Where memory is refused.
+    /// Where memory is refused; the names before stay.
     pub fn push_first(&mut self, names: &FolderNames, count: usize) -> Result<(), AllocError>
         requires { count ≤ length names.now }
-        ensures { OnOk result (self.new ≡ stacked (take count names.now) self.old) }
+        ensures stacked { OnOk result (self.new ≡ stacked (take count names.now) self.old) }
+        ensures short { OnOk result (All (λ name. length name ≤ 255) (take count names.now)) }
+        ensures stays { take (length self.old) self.new ≡ self.old }
     {
         let mut left = count;
         while left > 0 {
@@ -92,7 +103,7 @@ impl Stack {
     /// Takes the last name.
     pub fn pop(&mut self) -> Option<FolderName>
         ensures { (below name : List ℕ) → self.old ≡ pushed below name → length name ≤ 255 →
-            IfSome result (λ last. last.items ≡ name) × (self.new ≡ below) }
+            IsSomeAnd result (λ last. last.items ≡ name) × (self.new ≡ below) }
     {
         let Some(last) = self.bytes.len().checked_sub(1) else {
             return None;

@@ -251,7 +251,9 @@ fn keep(
         level.after.clear();
         let _ = level.after.try_extend_from_slice(last);
     }
+    let taken = stack.len();
     if stack.push_first(names, count).is_err() {
+        stack.truncate(taken);
         return Err(FileState::Memory);
     }
     if is_first { Ok(unnamed) } else { Ok(0) }

@@ -1,5 +1,5 @@
 -- A name more, where those before it are not enough.
-use Rattle.std.proofs.Common.{rules, arith, ◌≡◌, sym, subst}
+use Rattle.std.proofs.Common.{rules, arith, sym, subst}
 use Rattle.std.proofs.lemmas.Grind.{common_steps}
 use Rattle.elf_many.specs.Held.{IsWithinKept}
 use Rattle.elf_many.proofs.RoomLaws.{few_more}

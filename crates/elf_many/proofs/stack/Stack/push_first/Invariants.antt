@@ -1,4 +1,4 @@
-use Rattle.std.proofs.Common.{◌≡◌, ◌≤◌, take, drop}
+use Rattle.std.proofs.Common.{◌≡◌, ◌≤◌, All, length, take, drop}
 use Rattle.elf_many.specs.Stacked.{stacked}
 use Rattle.elf_many.proofs.stack.Stack.push_first.Given as goal
 
@@ -6,4 +6,9 @@ abbrev pub decreases-loop-left : goal.decreases-loop-left
 decreases-loop-left l = l.left
 
 abbrev pub invariant-loop-left : goal.invariant-loop-left
-invariant-loop-left l = (l.left ≤ l.count) × (l.self ≡ stacked (drop l.left (take l.count l.names)) l.fn.self)
+invariant-loop-left l = record {
+  within : l.left ≤ l.count;
+  stack : l.self ≡ stacked (drop l.left (take l.count l.names)) l.fn.self;
+  short : All (λ name. length name ≤ 255) (drop l.left (take l.count l.names));
+  stays : take (length l.fn.self) l.self ≡ l.fn.self;
+}
